@@ -1,0 +1,12 @@
+pub mod Branches
+pub mod CurrentLemmas
+pub mod Digits
+pub mod DrawLemmas
+pub mod Finds
+pub mod Kept
+pub mod Maps
+pub mod Recorded
+pub mod Repeats
+pub mod Shown
+pub mod StaysSound
+pub mod Steps

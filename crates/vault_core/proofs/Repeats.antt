@@ -1,0 +1,276 @@
+-- What was answered to a request is answered again.
+use Rattle.std.proofs.Common.{◌≡◌, ◌+◌, is_some, ℕ, Bool, true, false, cond, Option, Some, None, List, [], ◌∷◌, not, is_none, refl, sym, ap, ◌∙◌, subst, inl, inr, ◌==◌, ◌&&◌, nat_lt}
+use Rattle.std.specs.Option.{option_map_or}
+use Rattle.std.specs.FinMap as map
+use Rattle.std.specs.Cmp.{first_so, second_so, tied_itself}
+use Rattle.std.specs.Cmp.Lexicographic.{texts_ties}
+use Rattle.std.specs.Ordering.{is_eq}
+use Rattle.vault_pan.specs.CardText.{same, fits}
+use Rattle.vault_core.specs.Draw.{chosen}
+use Rattle.vault_core.specs.Keys.{Bytes, bytes_cmp}
+use Rattle.vault_core.specs.Laws.{command_of, IsSameRequest, RepeatsAnswerFirst}
+use Rattle.vault_core.specs.Merchants.{most_merchants, granted, grant, set_from, set_to, new_merchant}
+use Rattle.vault_core.specs.Outcome.{Outcome, unchanged, refused, moved, of_merchant}
+use Rattle.vault_core.specs.Proper.{IsProper, AllProper}
+use Rattle.vault_core.specs.Repeats.{current, is_repeat, is_number_of, is_reusable, reusable, same_use}
+use Rattle.vault_core.specs.Runs.{run}
+use Rattle.vault_core.specs.Sound.{Sound}
+use Rattle.vault_core.specs.Table.{after, token_request}
+use Rattle.vault_core.specs.Tokens.{most_tokens, came_before, repeated, new_request, given_again, made_new, drawn, new_entry, life_asked, with_record, tokenize}
+use Rattle.vault_core.specs.Vault.{Vault, Merchant, merchant_at, entry_at, record_at, has_right, made, time_at}
+use Rattle.vault_core.specs.declared.command.Command.{Command}
+use Rattle.vault_core.specs.declared.command.Command.TheVariants.{SetMerchant, Grant, Tokenize}
+use Rattle.vault_core.specs.declared.command.TokenRequest.{TokenRequest}
+use Rattle.vault_core.specs.declared.refusal.TheConstants.{NO_MERCHANT, NO_RIGHT, WRONG_USE, NUMBER_REUSED, FULL, NO_CANDIDATE, TOO_MANY_MERCHANTS}
+use Rattle.vault_core.specs.declared.reply.Reply.{Reply}
+use Rattle.vault_core.specs.declared.reply.Reply.TheVariants.{Token, Refused}
+use Rattle.vault_core.specs.declared.right.Right.TheVariants as right
+use Rattle.vault_core.specs.declared.row.Entry.{Entry}
+use Rattle.vault_core.specs.declared.row.Record.{Record}
+use Rattle.vault_core.specs.declared.usage.Use.{Use}
+use Rattle.vault_core.specs.declared.usage.Use.TheVariants.{Single, Multi}
+use Rattle.vault_core.proofs.Branches.{by_test, by_option}
+use Rattle.vault_core.proofs.CurrentLemmas.{current-some, same-is}
+use Rattle.vault_core.proofs.DrawLemmas.{chosen-is_good}
+use Rattle.vault_core.proofs.Finds.{some_same}
+use Rattle.vault_core.proofs.Maps.{bytes_total, bytes_exact, entry_total, entry_exact, record_total, record_exact, tied, get-insert_same, get-insert_other}
+use Rattle.vault_core.proofs.StaysSound.{sound-after}
+
+-- the entry is still there with its expires, and with its number or erased
+abbrev pub KeptEntry : Bytes → Entry → Option Entry → Type 0
+KeptEntry token e found =
+    (e' : Entry) × (found ≡ Some e') × (e'.expires ≡ e.expires)
+    × ((pan : Bytes) → is_number_of pan token e.number ≡ true → is_number_of pan token e'.number ≡ true)
+
+pub same-entry : (token : Bytes) (e : Entry) (found : Option Entry) → found ≡ Some e → KeptEntry token e found
+same-entry token e found h = (e, h, refl, λ pan x. x)
+
+-- records and entries stay
+pub record Keeps (old new : Vault) : Type 0 where
+  pub records : (caller : Bytes) (request : ℕ) (r : Record) → record_at old caller request ≡ Some r → record_at new caller request ≡ Some r
+  pub entries : (m token : Bytes) (e : Entry) → entry_at old m token ≡ Some e → KeptEntry token e (entry_at new m token)
+
+keeps-refl : (V : Vault) → Keeps V V
+keeps-refl V = record { records = λ caller request r e. e; entries = λ m token e' e. same-entry token e' (entry_at V m token) e }
+
+-- only merchants change
+keeps-row : (V : Vault) (merchants : map.FinMap bytes_cmp Merchant) → Keeps V (record V { merchants = merchants })
+keeps-row V merchants = record { records = λ caller request r e. e; entries = λ m token e' e. same-entry token e' (entry_at V m token) e }
+
+-- what the vault has of a request that was answered
+pub record Remembers (V : Vault) (a : TokenRequest) (token : Bytes) (expires : ℕ) : Type 0 where
+  held : Record
+  entry : Entry
+  record_is : record_at V a.caller a.request ≡ Some held
+  entry_is : entry_at V held.merchant held.token ≡ Some entry
+  repeat : is_repeat a.merchant a.usage a.pan held entry ≡ true
+  token_is : held.token ≡ token
+  expires_is : entry.expires ≡ expires
+
+both-true : (a b c : Bool) → a ≡ true → b ≡ true → c ≡ true → (a && b && c) ≡ true
+both-true a b c p q r = ap (λ x. x && b && c) p ∙ ap (λ x. x && c) q ∙ r
+
+pub still_remembers : (old new : Vault) → Keeps old new → (a : TokenRequest) (token : Bytes) (expires : ℕ)
+    → Remembers old a token expires → Remembers new a token expires
+still_remembers old new keeps a token expires h =
+    let k = keeps.entries h.held.merchant h.held.token h.entry h.entry_is in
+    record {
+      held = h.held;
+      entry = k.0;
+      record_is = keeps.records _ _ _ h.record_is;
+      entry_is = k.1;
+      repeat = both-true (same h.held.merchant a.merchant) (same_use h.held.usage a.usage) (is_number_of a.pan h.held.token k.0.number)
+        (first_so _ _ (first_so _ _ h.repeat)) (second_so _ _ (first_so _ _ h.repeat)) (k.3 a.pan (second_so _ _ h.repeat));
+      token_is = h.token_is;
+      expires_is = k.2 ∙ h.expires_is;
+    }
+
+pub same-refl : (xs : Bytes) → same xs xs ≡ true
+same-refl xs = texts_ties xs xs ∙ ap (λ r. is_eq r) (tied_itself bytes_total xs)
+
+same_use-refl : (u : Use) → same_use u u ≡ true
+same_use-refl Single = refl
+same_use-refl Multi = refl
+
+insert-keeps_record : (V : Vault) (caller : Bytes) (request : ℕ) (r : Record) → record_at V caller request ≡ None
+    → (caller' : Bytes) (request' : ℕ) (r' : Record) → record_at V caller' request' ≡ Some r'
+    → map.get (map.insert V.records (caller, request) r) (caller', request') ≡ Some r'
+insert-keeps_record V caller request r none caller' request' r' e =
+    elim (tied record_exact (caller', request') (caller, request)) [
+      | inl same ↦ let clash = sym e ∙ ap (map.get V.records) same ∙ none in cc
+      | inr apart ↦ get-insert_other record_total record_exact V.records (caller, request) r (caller', request') apart ∙ e
+    ]
+
+insert-keeps_entry : (V : Vault) (m token : Bytes) (entry : Entry) → entry_at V m token ≡ None
+    → (m' token' : Bytes) (e' : Entry) → entry_at V m' token' ≡ Some e'
+    → map.get (map.insert V.entries (m, token) entry) (m', token') ≡ Some e'
+insert-keeps_entry V m token entry none m' token' e' e =
+    elim (tied entry_exact (m', token') (m, token)) [
+      | inl same ↦ let clash = sym e ∙ ap (map.get V.entries) same ∙ none in cc
+      | inr apart ↦ get-insert_other entry_total entry_exact V.entries (m, token) entry (m', token') apart ∙ e
+    ]
+
+none_is : (o : Option Entry) → is_none o ≡ true → o ≡ None
+none_is None h = refl
+none_is (Some x) h = cc
+
+chosen-none : (V : Vault) (a : TokenRequest) (token : Bytes) → chosen V a.merchant a.pan a.digits ≡ Some token
+    → entry_at V a.merchant token ≡ None
+chosen-none V a token drew = none_is _ (second_so _ _ (chosen-is_good V a.merchant a.pan a.digits token drew))
+
+-- an outcome keeps what the vault held, and an answer with a token is remembered
+record IsFaithful (V : Vault) (a : TokenRequest) (o : Outcome) : Type 0 where
+  keeps : Keeps V o.after
+  remembers : (token : Bytes) (expires : ℕ) → o.reply ≡ Token token expires → Remembers o.after a token expires
+
+refusal : (V : Vault) (a : TokenRequest) (n : ℕ) → IsFaithful V a (unchanged V (Refused n))
+refusal V a n = record { keeps = keeps-refl V; remembers = λ token expires e. absurd (cc) }
+
+fresh-repeat : (a : TokenRequest) (token : Bytes) (entry : Entry) → is_number_of a.pan token entry.number ≡ true
+    → is_repeat a.merchant a.usage a.pan (record { merchant = a.merchant; token = token; usage = a.usage }) entry ≡ true
+fresh-repeat a token entry number = both-true _ _ _ (same-refl a.merchant) (same_use-refl a.usage) number
+
+number-again : (pan token : Bytes) (o : Option Bytes) → option_map_or (λ number. same number pan) o false ≡ true
+    → is_number_of pan token o ≡ true
+number-again pan token None h = cc
+number-again pan token (Some number) h = h
+
+token-same : (t t' : Bytes) (x x' : ℕ) → ◌≡◌ {A = Reply} (Token t x) (Token t' x') → (t ≡ t') × (x ≡ x')
+token-same t t' x x' h = (cc, cc)
+
+faithful-again : (V : Vault) (a : TokenRequest) (known : Merchant) → record_at V a.caller a.request ≡ None
+    → (usage : Use) (held : Bytes × Entry)
+    → reusable usage (current V a.merchant a.pan (time_at known a.moment)) ≡ Some held
+    → IsFaithful V a (given_again V a known held)
+faithful-again V a known none Single held h = absurd (cc)
+faithful-again V a known none Multi held h =
+    let found = current-some V a.merchant a.pan (time_at known a.moment) held h in
+    let r : Record = record { merchant = a.merchant; token = held.0; usage = a.usage } in
+    record {
+      keeps = record { records = insert-keeps_record V a.caller a.request r none; entries = λ m t e' e. same-entry t e' (entry_at V m t) e };
+      remembers = λ token expires e.
+          let parts = token-same held.0 token held.1.expires expires e in
+          record {
+            held = r;
+            entry = held.1;
+            record_is = get-insert_same record_total record_exact V.records (a.caller, a.request) r;
+            entry_is = found.0;
+            repeat = fresh-repeat a held.0 held.1 (number-again a.pan held.0 held.1.number (second_so _ _ (first_so _ _ found.1)));
+            token_is = parts.0;
+            expires_is = parts.1;
+          };
+    }
+
+faithful-new : (V : Vault) (a : TokenRequest) (known : Merchant) → record_at V a.caller a.request ≡ None
+    → (token : Bytes) → chosen V a.merchant a.pan a.digits ≡ Some token → IsFaithful V a (made_new V a known token)
+faithful-new V a known none token drew =
+    let r : Record = record { merchant = a.merchant; token = token; usage = a.usage } in
+    let entry = new_entry a known in
+    record {
+      keeps = record {
+        records = insert-keeps_record V a.caller a.request r none;
+        entries = λ m t e' e. same-entry t e' _ (insert-keeps_entry V a.merchant token entry (chosen-none V a token drew) m t e' e);
+      };
+      remembers = λ token' expires e.
+          let parts = token-same token token' entry.expires expires e in
+          record {
+            held = r;
+            entry = entry;
+            record_is = get-insert_same record_total record_exact V.records (a.caller, a.request) r;
+            entry_is = get-insert_same entry_total entry_exact V.entries (a.merchant, token) entry;
+            repeat = fresh-repeat a token entry (same-refl a.pan);
+            token_is = parts.0;
+            expires_is = parts.1;
+          };
+    }
+
+faithful-tokenize : (V : Vault) → Sound V → (a : TokenRequest) → IsFaithful V a (tokenize V a)
+faithful-tokenize V s a =
+    by_option (IsFaithful V a) (record_at V a.caller a.request) (came_before V a) (of_merchant V a.merchant (new_request V a))
+    (λ r held. by_option (IsFaithful V a) (entry_at V r.merchant r.token) (repeated V a r) (refused V NUMBER_REUSED)
+    (λ entry here. by_test (IsFaithful V a) (is_repeat a.merchant a.usage a.pan r entry) (unchanged V (Token r.token entry.expires)) (refused V NUMBER_REUSED)
+    (λ repeat.
+    record {
+      keeps = keeps-refl V;
+      remembers = λ token expires is.
+          let parts = token-same r.token token entry.expires expires is in
+          record { held = r; entry = entry; record_is = held; entry_is = here; repeat = repeat; token_is = parts.0; expires_is = parts.1 };
+    })
+    (λ _. refusal V a NUMBER_REUSED))
+    (λ _. refusal V a NUMBER_REUSED))
+    (λ none.
+    by_option (IsFaithful V a) (merchant_at V a.merchant) (new_request V a) (refused V NO_MERCHANT)
+    (λ known is. by_test (IsFaithful V a) (not (has_right V a.caller a.merchant right.Tokenize)) (refused V NO_RIGHT) (offered known)
+    (λ _. refusal V a NO_RIGHT)
+    (λ _. by_test (IsFaithful V a) (life_asked a known == 0) (refused V WRONG_USE) (given known)
+    (λ _. refusal V a WRONG_USE)
+    (λ life. by_option (IsFaithful V a) (reusable a.usage (current V a.merchant a.pan (time_at known a.moment))) (given_again V a known) (drawn V a known)
+    (λ held h. faithful-again V a known none a.usage held h)
+    (λ _. by_test (IsFaithful V a) (made V a.merchant == most_tokens) (refused V FULL) (picked known)
+    (λ _. refusal V a FULL)
+    (λ room. by_option (IsFaithful V a) (chosen V a.merchant a.pan a.digits) (made_new V a known) (refused V NO_CANDIDATE)
+    (λ token drew. faithful-new V a known none token drew)
+    (λ _. refusal V a NO_CANDIDATE))))))
+    (λ _. refusal V a NO_MERCHANT))
+  where
+    picked : Merchant → Outcome
+    picked known = option_map_or (made_new V a known) (chosen V a.merchant a.pan a.digits) (refused V NO_CANDIDATE)
+
+    given : Merchant → Outcome
+    given known = option_map_or (given_again V a known) (reusable a.usage (current V a.merchant a.pan (time_at known a.moment))) (drawn V a known)
+
+    offered : Merchant → Outcome
+    offered known = cond (life_asked a known == 0) (refused V WRONG_USE) (given known)
+
+abbrev KeepsAfter : Vault → Outcome → Type 0
+KeepsAfter V o = Keeps V o.after
+
+-- a command keeps records and entries
+pub keeps-after : (V : Vault) → Sound V → (c : Command) → Keeps V (after V c)
+keeps-after V s (SetMerchant m single multi now) = set-keeps (merchant_at V m)
+  where
+  set-keeps : (o : Option Merchant) → Keeps V (set_from V m single multi now o).after
+  set-keeps None =
+      by_test (KeepsAfter V) (nat_lt (map.len V.merchants) most_merchants) (set_to V m (new_merchant single multi now)) (refused V TOO_MANY_MERCHANTS)
+      (λ _. keeps-row V _) (λ _. keeps-refl V)
+  set-keeps (Some known) = keeps-row V _
+keeps-after V s (Grant caller m right now) =
+    by_option (KeepsAfter V) (merchant_at V m) (granted V caller m right now) (refused V NO_MERCHANT)
+    (λ known e. record { records = λ caller request r e. e; entries = λ m t e' e. same-entry t e' (entry_at V m t) e }) (λ _. keeps-refl V)
+keeps-after V s (Tokenize caller m request usage pan digits now) =
+    (faithful-tokenize V s (token_request caller m request usage pan digits now)).keeps
+
+remembered : (V : Vault) → Sound V → (cs : List Command) → AllProper cs → (a : TokenRequest) (token : Bytes) (expires : ℕ)
+    → Remembers V a token expires → Remembers (run cs V) a token expires
+remembered V s [] p a token expires h = h
+remembered V s (c ∷ cs) p a token expires h =
+    remembered (after V c) (sound-after V s c p.0) cs p.1 a token expires
+    (still_remembers V (after V c) (keeps-after V s c) a token expires h)
+
+-- what is remembered is answered
+answered : (V : Vault) (a : TokenRequest) (token : Bytes) (expires : ℕ) → Remembers V a token expires
+    → (tokenize V a).reply ≡ Token token expires
+answered V a token expires h =
+    ap (λ (o : Option Record). (option_map_or (came_before V a) o (of_merchant V a.merchant (new_request V a))).reply) h.record_is
+    ∙ ap (λ (o : Option Entry). (option_map_or (repeated V a h.held) o (refused V NUMBER_REUSED)).reply) h.entry_is
+    ∙ ap (λ b. (cond b (unchanged V (Token h.held.token h.entry.expires)) (refused V NUMBER_REUSED)).reply) h.repeat
+    ∙ (λ i. Token (h.token_is i) (h.expires_is i))
+
+same-request : (V : Vault) (first again : TokenRequest) (token : Bytes) (expires : ℕ) → IsSameRequest first again
+    → Remembers V first token expires → Remembers V again token expires
+same-request V first again token expires is h = record {
+  held = h.held;
+  entry = h.entry;
+  record_is = ap (map.get V.records) (λ i. (is.caller i, is.number i)) ∙ h.record_is;
+  entry_is = h.entry_is;
+  repeat = (λ i. is_repeat (is.merchant i) (is.usage i) (is.pan i) h.held h.entry) ∙ h.repeat;
+  token_is = h.token_is;
+  expires_is = h.expires_is;
+}
+
+pub repeats : RepeatsAnswerFirst
+repeats V first again between token expires s p between_proper is told =
+    let told_first = (faithful-tokenize V s first).remembers token expires told in
+    let V1 = after V (command_of first) in
+    let later = remembered V1 (sound-after V s (command_of first) p) between between_proper first token expires told_first in
+    answered (run between V1) again token expires (same-request (run between V1) first again token expires is later)

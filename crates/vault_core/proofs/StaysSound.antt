@@ -1,0 +1,238 @@
+-- Every command leaves a sound vault sound.
+use Rattle.std.proofs.Common.{◌≡◌, ℕ, ◌+◌, ◌<◌, ◌≤◌, Bool, true, false, cond, Option, Some, None, List, [], ◌∷◌, max, not, is_some, is_none, refl, sym, ap, ◌∙◌, subst, arith, nat_lt, ◌==◌, ◌&&◌, zero, suc, lit≤}
+use Rattle.std.specs.Prelude.{map}
+use Rattle.std.specs.Option.{option_map_or}
+use Rattle.std.specs.FinMap as map
+use Rattle.std.specs.Cmp.{first_so, second_so}
+use Rattle.std.specs.List.{AllByRecursion, range_with_len}
+use Rattle.std.proofs.lemmas.Bool.Decides.{nat_tests}
+use Rattle.vault_pan.specs.CardText.{IsPan, IsNumber, IsToken, fits, same}
+use Rattle.vault_pan.specs.Luhn.{passes_check}
+use Rattle.vault_pan.specs.Draw.{IsDrawing, candidate_digits}
+use Rattle.vault_pan.proofs.DrawLemmas.{candidate_digits-fits, candidate_digits-IsNumber}
+use Rattle.vault_core.specs.Draw.{chosen, candidates, is_good}
+use Rattle.vault_core.specs.Keys.{Bytes, bytes_cmp}
+use Rattle.vault_core.specs.Laws.{StaysSound}
+use Rattle.vault_core.specs.Merchants.{most_merchants, granted, grant, set_from, set_to, new_merchant}
+use Rattle.vault_core.specs.Name.{IsName}
+use Rattle.vault_core.specs.Outcome.{Outcome, unchanged, refused, moved, of_merchant}
+use Rattle.vault_core.specs.Proper.{IsProper, AllProper}
+use Rattle.vault_core.specs.Repeats.{current, is_repeat, is_reusable, reusable, same_use}
+use Rattle.vault_core.specs.Runs.{run}
+use Rattle.vault_core.specs.Scalar.{IsLife, IsMoment, IsRequest}
+use Rattle.vault_core.specs.Sound.{Sound, IsSoundMerchant, IsSoundEntry, IsCount}
+use Rattle.vault_core.specs.Table.{outcome, after, token_request}
+use Rattle.vault_core.specs.Tokens.{most_tokens, came_before, repeated, new_request, given_again, made_new, drawn, new_entry, life_asked, with_record, tokenize}
+use Rattle.vault_core.specs.Vault.{Vault, Merchant, merchant_at, entry_at, record_at, has_right, made, time_at, life_for}
+use Rattle.vault_core.specs.declared.command.Command.{Command}
+use Rattle.vault_core.specs.declared.command.Command.TheVariants.{SetMerchant, Grant, Tokenize}
+use Rattle.vault_core.specs.declared.command.TokenRequest.{TokenRequest}
+use Rattle.vault_core.specs.declared.refusal.TheConstants.{NO_MERCHANT, NO_RIGHT, WRONG_USE, NUMBER_REUSED, FULL, NO_CANDIDATE, TOO_MANY_MERCHANTS}
+use Rattle.vault_core.specs.declared.reply.Reply.TheVariants.{Token}
+use Rattle.vault_core.specs.declared.right.Right.{Right}
+use Rattle.vault_core.specs.declared.right.Right.TheVariants as right
+use Rattle.vault_core.specs.declared.row.Entry.{Entry}
+use Rattle.vault_core.specs.declared.row.Record.{Record}
+use Rattle.vault_core.specs.declared.usage.Use.{Use}
+use Rattle.vault_core.specs.declared.usage.Use.TheVariants.{Single, Multi}
+use Rattle.vault_core.proofs.Branches.{by_test, by_option}
+use Rattle.vault_core.proofs.CurrentLemmas.{current-none, current-some, same-is}
+use Rattle.vault_core.proofs.DrawLemmas.{chosen-is_good}
+use Rattle.vault_core.proofs.Finds.{find-holds, some_same}
+use Rattle.vault_core.proofs.Maps.{bytes_total, bytes_exact, entry_total, entry_exact, get-insert_same}
+use Rattle.vault_core.proofs.Steps.{sound-merchant, sound-right, sound-record, sound-entry, IsSole}
+
+-- the vault that an outcome leaves is sound
+abbrev SoundAfter : Outcome → Type 0
+SoundAfter o = Sound o.after
+
+-- a merchant that is known is set
+known-set : (V : Vault) → Sound V → (m : Bytes) (known new : Merchant) → merchant_at V m ≡ Some known
+    → IsSoundMerchant m new → known.moment ≤ new.moment
+    → Sound (record V { merchants = map.insert V.merchants m new })
+known-set V s m known new is fine later =
+    let count = map.len-insert bytes_total V.merchants m new ∙ ap (λ o. cond (is_some o) (map.len V.merchants) (map.len V.merchants + 1)) is in
+    let few = s.few in
+    sound-merchant V s m new fine
+    (λ old e. let h : known ≡ old = some_same (sym is ∙ e) in let at = ap (λ (x : Merchant). x.moment) h in omega arith)
+    (omega (arith, count))
+
+sound-moved : (V : Vault) → Sound V → (m : Bytes) (known : Merchant) (now : ℕ) → merchant_at V m ≡ Some known
+    → IsMoment now → Sound (moved V m known now)
+sound-moved V s m known now is moment =
+    let old = s.merchants m known is in
+    let before = old.moment in
+    known-set V s m known (record known { moment = time_at known now }) is
+    (record { name = old.name; single = old.single; multi = old.multi; moment = omega arith; given = old.given; denied = old.denied })
+    (omega arith)
+
+sound-grant : (V : Vault) → Sound V → (caller m : Bytes) (right : Right) (now : ℕ)
+    → IsName caller → IsMoment now → Sound (after V (Grant caller m right now))
+sound-grant V s caller m right now name moment =
+    by_option SoundAfter (merchant_at V m) (granted V caller m right now) (refused V NO_MERCHANT)
+    (λ known e. sound-right (moved V m known now) (sound-moved V s m known now e moment) caller m right
+    (record known { moment = time_at known now }) name (get-insert_same bytes_total bytes_exact V.merchants m _))
+    (λ none. s)
+
+at_most : (b : Bool) (n : ℕ) → cond b n (n + 1) ≤ n + 1
+at_most true n = omega arith
+at_most false n = omega arith
+
+below-true : (a b : ℕ) → nat_lt a b ≡ true → a < b
+below-true a b h = grind (arith, nat_tests)
+
+sound-set : (V : Vault) → Sound V → (m : Bytes) (single multi now : ℕ)
+    → IsName m → IsLife single → IsLife multi → IsMoment now → (o : Option Merchant) → merchant_at V m ≡ o
+    → SoundAfter (set_from V m single multi now o)
+sound-set V s m single multi now name life life' moment None e =
+    by_test SoundAfter (nat_lt (map.len V.merchants) most_merchants) (set_to V m (new_merchant single multi now)) (refused V TOO_MANY_MERCHANTS)
+    (λ few.
+    let below = below-true _ _ few in
+    let count = map.len-insert bytes_total V.merchants m (new_merchant single multi now) in
+    let most = at_most (map.contains_key V.merchants m) (map.len V.merchants) in
+    sound-merchant V s m (new_merchant single multi now)
+    (record { name = name; single = life; multi = life'; moment = moment; given = omega arith; denied = omega arith })
+    (λ old at. let clash = sym e ∙ at in cc)
+    (omega (arith, count, most, below)))
+    (λ many. s)
+sound-set V s m single multi now name life life' moment (Some known) e =
+    let old = s.merchants m known e in
+    let before = old.moment in
+    known-set V s m known (record known { single_life = single; multi_life = multi; moment = time_at known now }) e
+    (record { name = old.name; single = life; multi = life'; moment = omega arith; given = old.given; denied = old.denied })
+    (omega arith)
+
+all-drawn : (digits pan : Bytes) → IsDrawing digits → IsNumber pan → (a n : ℕ) → a + n ≤ 20
+    → AllByRecursion (λ token. IsNumber token × (fits token pan ≡ true)) (map (λ k. candidate_digits digits k pan) (range_with_len a n))
+all-drawn digits pan d p a zero le = tt
+all-drawn digits pan d p a (suc n) le = (
+  (candidate_digits-IsNumber digits a pan d (omega arith) p, candidate_digits-fits digits a pan d (omega arith) p),
+  all-drawn digits pan d p (a + 1) n (omega arith),
+)
+
+chosen-fits : (V : Vault) (m pan digits token : Bytes) → IsDrawing digits → IsNumber pan
+    → chosen V m pan digits ≡ Some token → IsNumber token × (fits token pan ≡ true)
+unfolding chosen
+chosen-fits V m pan digits token d p e =
+    find-holds (λ token. IsNumber token × (fits token pan ≡ true)) (is_good V m) (candidates digits pan) token (all-drawn digits pan d p 0 20 (lit≤ tt)) e
+
+fails-check : (b : Bool) → not b ≡ true → b ≡ false
+fails-check true h = cc
+fails-check false h = refl
+
+pub life-bounds : (usage : Use) (single multi : ℕ) → IsLife single → IsLife multi → IsLife (life_for usage single multi)
+life-bounds Single single multi a b = a
+life-bounds Multi single multi a b = b
+
+not-zero : (n : ℕ) → (n == 0) ≡ false → 0 < n
+not-zero n h = grind (arith, nat_tests)
+
+-- the number of an entry that can be given again
+pub sole : (V : Vault) (a : TokenRequest) (known : Merchant) (token : Bytes) (usage : Use) → usage ≡ a.usage
+    → reusable usage (current V a.merchant a.pan (time_at known a.moment)) ≡ None
+    → IsSole (moved V a.merchant known a.moment) a.merchant token (new_entry a known) (time_at known a.moment)
+sole V a known token Single same_usage none pan other e found old new =
+    let multi = first_so _ _ (first_so _ _ new) in
+    let clash = ap (λ u. same_use u Multi) same_usage ∙ multi in cc
+sole V a known token Multi same_usage none pan other e found old new =
+    let number = same-is a.pan pan (second_so _ _ (first_so _ _ new)) in
+    let fails = current-none V a.merchant a.pan other (time_at known a.moment) e none found in
+    let clash = sym fails ∙ subst (λ (x : Bytes). is_reusable x (time_at known a.moment) e ≡ true) (sym number) old in
+    cc
+
+-- the parts of what is asked are values of their types
+abbrev IsProperRequest : TokenRequest → Type 0
+IsProperRequest a =
+    IsName a.caller × IsName a.merchant × IsRequest a.request × IsPan a.pan × IsDrawing a.digits × IsMoment a.moment
+
+sound-again : (V : Vault) → Sound V → (a : TokenRequest) → IsProperRequest a → (known : Merchant)
+    → merchant_at V a.merchant ≡ Some known → (usage : Use) → usage ≡ a.usage → (held : Bytes × Entry)
+    → reusable usage (current V a.merchant a.pan (time_at known a.moment)) ≡ Some held
+    → Sound (given_again V a known held).after
+sound-again V s a p known is Single same_usage held h = absurd (cc)
+sound-again V s a p known is Multi same_usage held h =
+    let found = current-some V a.merchant a.pan (time_at known a.moment) held h in
+    let multi = is-multi held.1.usage (first_so _ _ (first_so _ _ found.1)) in
+    sound-record (moved V a.merchant known a.moment) (sound-moved V s a.merchant known a.moment is p.5) a.caller a.request
+    (record { merchant = a.merchant; token = held.0; usage = a.usage }) p.0 p.2
+    (held.1, found.0, multi ∙ same_usage)
+  where
+    is-multi : (u : Use) → same_use u Multi ≡ true → u ≡ Multi
+    is-multi Single e = cc
+    is-multi Multi e = refl
+
+sound-new : (V : Vault) → Sound V → (a : TokenRequest) → IsProperRequest a → (known : Merchant)
+    → merchant_at V a.merchant ≡ Some known → (life_asked a known == 0) ≡ false
+    → reusable a.usage (current V a.merchant a.pan (time_at known a.moment)) ≡ None
+    → (made V a.merchant == most_tokens) ≡ false
+    → (token : Bytes) → chosen V a.merchant a.pan a.digits ≡ Some token
+    → Sound (made_new V a known token).after
+sound-new V s a p known is offered none room token drew =
+    let old = s.merchants a.merchant known is in
+    let good = chosen-is_good V a.merchant a.pan a.digits token drew in
+    let shape = chosen-fits V a.merchant a.pan a.digits token p.4 p.3.0 drew in
+    let lives = not-zero (life_asked a known) offered in
+    let short = life-bounds a.usage known.single_life known.multi_life old.single old.multi in
+    let few = not-full (made V a.merchant) (s.made_few a.merchant) room in
+    let later : Merchant = record known { moment = time_at known a.moment } in
+    let fine : IsSoundEntry token (new_entry a known) later = record {
+      token_fails = (shape.0, fails-check (passes_check token) (first_so _ _ good));
+      number = (p.3, shape.1);
+      birth = omega arith;
+      lives = omega arith;
+      life = omega arith;
+      revoked = tt;
+    } in
+    let V1 = moved V a.merchant known a.moment in
+    let s2 = sound-entry V1 (sound-moved V s a.merchant known a.moment is p.5) a.merchant token (new_entry a known) later
+    (get-insert_same bytes_total bytes_exact V.merchants a.merchant later) fine (none_is (entry_at V a.merchant token) (second_so _ _ good)) few
+    (sole V a known token a.usage refl none)
+    in
+    sound-record (record V1 { entries = map.insert V.entries (a.merchant, token) (new_entry a known) }) s2 a.caller a.request
+    (record { merchant = a.merchant; token = token; usage = a.usage }) p.0 p.2
+    (new_entry a known, get-insert_same entry_total entry_exact V.entries (a.merchant, token) (new_entry a known), refl)
+  where
+    not-full : (n : ℕ) → n ≤ 1000000 → (n == 1000000) ≡ false → n < 1000000
+    not-full n le h = grind (arith, nat_tests)
+
+    none_is : (o : Option Entry) → is_none o ≡ true → o ≡ None
+    none_is None h = refl
+    none_is (Some x) h = cc
+
+sound-tokenize : (V : Vault) → Sound V → (a : TokenRequest) → IsProperRequest a → SoundAfter (tokenize V a)
+sound-tokenize V s a p =
+    by_option SoundAfter (record_at V a.caller a.request) (came_before V a) (of_merchant V a.merchant (new_request V a))
+    (λ r _. by_option SoundAfter (entry_at V r.merchant r.token) (repeated V a r) (refused V NUMBER_REUSED)
+    (λ entry _. by_test SoundAfter (is_repeat a.merchant a.usage a.pan r entry) (unchanged V (Token r.token entry.expires)) (refused V NUMBER_REUSED) (λ _. s) (λ _. s))
+    (λ _. s))
+    (λ _. by_option SoundAfter (merchant_at V a.merchant) (new_request V a) (refused V NO_MERCHANT)
+    (λ known is. by_test SoundAfter (not (has_right V a.caller a.merchant right.Tokenize)) (refused V NO_RIGHT) (offered known)
+    (λ _. s)
+    (λ _. by_test SoundAfter (life_asked a known == 0) (refused V WRONG_USE) (given known)
+    (λ _. s)
+    (λ life. by_option SoundAfter (reusable a.usage (current V a.merchant a.pan (time_at known a.moment))) (given_again V a known) (drawn V a known)
+    (λ held h. sound-again V s a p known is a.usage refl held h)
+    (λ none. by_test SoundAfter (made V a.merchant == most_tokens) (refused V FULL) (picked known)
+    (λ _. s)
+    (λ room. by_option SoundAfter (chosen V a.merchant a.pan a.digits) (made_new V a known) (refused V NO_CANDIDATE)
+    (λ token drew. sound-new V s a p known is life none room token drew)
+    (λ _. s))))))
+    (λ _. s))
+  where
+    picked : Merchant → Outcome
+    picked known = option_map_or (made_new V a known) (chosen V a.merchant a.pan a.digits) (refused V NO_CANDIDATE)
+
+    given : Merchant → Outcome
+    given known = option_map_or (given_again V a known) (reusable a.usage (current V a.merchant a.pan (time_at known a.moment))) (drawn V a known)
+
+    offered : Merchant → Outcome
+    offered known = cond (life_asked a known == 0) (refused V WRONG_USE) (given known)
+
+pub sound-after : (V : Vault) → Sound V → (c : Command) → IsProper c → Sound (after V c)
+sound-after V s (SetMerchant m single multi now) p = sound-set V s m single multi now p.0 p.1 p.2 p.3 (merchant_at V m) refl
+sound-after V s (Grant caller m right now) p = sound-grant V s caller m right now p.0 p.2
+sound-after V s (Tokenize caller m request usage pan digits now) p = sound-tokenize V s (token_request caller m request usage pan digits now) p
+
+pub stays_sound : StaysSound
+stays_sound V [] s p = s
+stays_sound V (c ∷ cs) s p = stays_sound (after V c) cs (sound-after V s c p.0) p.1

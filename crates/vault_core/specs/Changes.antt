@@ -1,0 +1,106 @@
+-- Changes, and the vault with them.
+use Rattle.std.specs.Prelude.{◌≡◌, ℕ, ◌+◌, Bool, true, false, Option, Some, None, max, is_none, if◌then◌else◌}
+use Rattle.std.specs.FinMap as map
+use Rattle.std.specs.FinSet as set
+use Rattle.vault_core.specs.Keys.{Bytes, bytes_cmp, entry_cmp, record_cmp, right_cmp}
+use Rattle.vault_core.specs.Outcome.{Outcome}
+use Rattle.vault_core.specs.Sound.{Sound}
+use Rattle.vault_core.specs.Table.{outcome}
+use Rattle.vault_core.specs.Vault.{Vault, Merchant, entry_at}
+use Rattle.vault_core.specs.Window.{IsWindow}
+use Rattle.vault_core.specs.declared.changes.Changes.{Changes}
+use Rattle.vault_core.specs.declared.changes.Count.{Count}
+use Rattle.vault_core.specs.declared.changes.Count.TheVariants.{Made, Given, Denied}
+use Rattle.vault_core.specs.declared.changes.Lives.{Lives}
+use Rattle.vault_core.specs.declared.command.Command.{Command}
+use Rattle.vault_core.specs.declared.reply.Reply.{Reply}
+use Rattle.vault_core.specs.declared.right.Right.{Right}
+use Rattle.vault_core.specs.declared.row.Entry.{Entry}
+use Rattle.vault_core.specs.declared.row.MerchantRow.{MerchantRow}
+use Rattle.vault_core.specs.declared.row.Record.{Record}
+use Rattle.vault_core.specs.declared.window.Window.{Window}
+
+-- the merchant with its new lives and moment, and its counts as they were
+abbrev pub merchant_with : Lives → Option Merchant → Merchant
+merchant_with x None =
+    record { single_life = x.single_life; multi_life = x.multi_life; moment = x.moment; given = 0; denied = 0 }
+merchant_with x (Some old) =
+    record old { single_life = x.single_life; multi_life = x.multi_life; moment = x.moment }
+
+-- one more number given or denied; how many tokens were made follows from the entries
+abbrev pub raised : Option Count → Merchant → Merchant
+raised None merchant = merchant
+raised (Some Made) merchant = merchant
+raised (Some Given) merchant = record merchant { given = merchant.given + 1 }
+raised (Some Denied) merchant = record merchant { denied = merchant.denied + 1 }
+
+abbrev pub with_merchant : map.FinMap bytes_cmp Merchant → Option Count → Option Lives → map.FinMap bytes_cmp Merchant
+with_merchant merchants count None = merchants
+with_merchant merchants count (Some x) =
+    map.insert merchants x.merchant (raised count (merchant_with x (map.get merchants x.merchant)))
+
+abbrev pub with_entry : map.FinMap entry_cmp Entry → Option (Bytes × Bytes × Entry) → map.FinMap entry_cmp Entry
+with_entry entries None = entries
+with_entry entries (Some x) = map.insert entries (x.0, x.1) x.2
+
+abbrev pub with_record : map.FinMap record_cmp Record → Option (Bytes × ℕ × Record) → map.FinMap record_cmp Record
+with_record records None = records
+with_record records (Some x) = map.insert records (x.0, x.1) x.2
+
+abbrev pub with_right : set.FinSet right_cmp → Option (Bytes × Bytes × Right × Bool) → set.FinSet right_cmp
+with_right rights None = rights
+with_right rights (Some x) =
+    if x.3 then set.insert rights (x.0, (x.1, x.2)) else set.remove rights (x.0, (x.1, x.2))
+
+-- a vault with the changes in it
+abbrev pub plus : Vault → Changes → Vault
+plus V ch = record {
+  merchants = with_merchant V.merchants ch.count ch.lives;
+  entries = with_entry V.entries ch.entry;
+  records = with_record V.records ch.recorded;
+  rights = with_right V.rights ch.right;
+}
+
+abbrev pub is_made : Option Count → Bool
+is_made None = false
+is_made (Some Made) = true
+is_made (Some Given) = false
+is_made (Some Denied) = false
+
+-- the merchant whose made count goes up
+abbrev pub made_raised : Option Count → Option Lives → Option Bytes
+made_raised count None = None
+made_raised count (Some x) = if is_made count then Some x.merchant else None
+
+-- the merchant that gets an entry for a token that it never had
+abbrev pub newly : Vault → Option (Bytes × Bytes × Entry) → Option Bytes
+newly V None = None
+newly V (Some x) = if is_none (entry_at V x.0 x.1) then Some x.0 else None
+
+-- the made count goes up exactly where a new entry comes, and the vault stays sound
+pub record Fit (V : Vault) (ch : Changes) : Type 0 where
+  pub counted : made_raised ch.count ch.lives ≡ newly V ch.entry
+  pub sound : Sound (plus V ch)
+
+-- the answer of an outcome, and the changes that make its vault
+pub record Yields (V : Vault) (o : Outcome) (d : Reply × Changes) : Type 0 where
+  pub replies : d.0 ≡ o.reply
+  pub counted : made_raised d.1.count d.1.lives ≡ newly V d.1.entry
+  pub changes : plus V d.1 ≡ o.after
+
+-- of whatever sound vault the window is, the decision is the command's outcome
+abbrev pub Decides : Window → Command → Reply × Changes → Type 0
+Decides w c d = (V : Vault) → Sound V → IsWindow V c w → Yields V (outcome V c) d
+
+-- of whatever sound vault the window is, the changes fit it
+abbrev pub FitsVault : Window → Command → Changes → Type 0
+FitsVault w c ch = (V : Vault) → Sound V → IsWindow V c w → Fit V ch
+
+-- nothing changes
+abbrev pub no_changes : Changes
+no_changes = record { lives = None; count = None; entry = None; recorded = None; right = None }
+
+-- the merchant's lives as they are, and its moment moved
+abbrev pub moved_lives : Bytes → MerchantRow → ℕ → Lives
+moved_lives m row now =
+    record { merchant = m; single_life = row.single_life; multi_life = row.multi_life; moment = max row.moment now }

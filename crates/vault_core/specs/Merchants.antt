@@ -1,0 +1,45 @@
+-- Merchants that are set, and rights that are given.
+use Rattle.std.specs.Prelude.{ℕ, Option, Some, None, nat_lt, if◌then◌else◌}
+use Rattle.std.specs.FinMap as map
+use Rattle.std.specs.FinSet as set
+use Rattle.vault_core.specs.Keys.{Bytes}
+use Rattle.vault_core.specs.Outcome.{Outcome, refused, of_merchant, moved}
+use Rattle.vault_core.specs.Vault.{Vault, Merchant, merchant_at, time_at}
+use Rattle.vault_core.specs.declared.refusal.TheConstants.{TOO_MANY_MERCHANTS}
+use Rattle.vault_core.specs.declared.reply.Reply.TheVariants.{Done}
+use Rattle.vault_core.specs.declared.right.Right.{Right}
+
+-- the most merchants of a vault
+abbrev pub most_merchants : ℕ
+most_merchants = 10000
+
+abbrev pub set_to : Vault → Bytes → Merchant → Outcome
+set_to V m merchant = record { reply = Done; after = record V { merchants = map.insert V.merchants m merchant } }
+
+-- a new merchant, whose moment is the one handed in
+abbrev pub new_merchant : ℕ → ℕ → ℕ → Merchant
+new_merchant single multi now =
+    record { single_life = single; multi_life = multi; moment = now; given = 0; denied = 0 }
+
+-- a merchant that is known gets new lives and its moment moves; a new one is refused where there is no room
+abbrev pub set_from : Vault → Bytes → ℕ → ℕ → ℕ → Option Merchant → Outcome
+set_from V m single multi now (Some old) =
+    set_to V m (record old { single_life = single; multi_life = multi; moment = time_at old now })
+set_from V m single multi now None =
+    if nat_lt (map.len V.merchants) most_merchants
+    then set_to V m (new_merchant single multi now)
+    else refused V TOO_MANY_MERCHANTS
+
+-- a merchant is set
+abbrev pub set_merchant : Vault → Bytes → ℕ → ℕ → ℕ → Outcome
+set_merchant V m single multi now = set_from V m single multi now (merchant_at V m)
+
+abbrev pub granted : Vault → Bytes → Bytes → Right → ℕ → Merchant → Outcome
+granted V caller m right now merchant = record {
+  reply = Done;
+  after = record (moved V m merchant now) { rights = set.insert V.rights (caller, (m, right)) };
+}
+
+-- a right is given, also where it was there before
+abbrev pub grant : Vault → Bytes → Bytes → Right → ℕ → Outcome
+grant V caller m right now = of_merchant V m (granted V caller m right now)

@@ -1,0 +1,15 @@
+-- What a source gave.
+use Rattle.std.specs.Prelude.{◌≡◌, ℕ, List, replicate, false}
+use Rattle.vault_core.specs.declared.source.FixedSource.{FixedSource}
+
+-- the one pair, as often as it was given
+abbrev pub pairs_of : FixedSource → List (ℕ × List ℕ)
+pairs_of s = replicate s.given (s.now, s.digits)
+
+-- it gave this pair so often, has it still so often to give, and never refused
+pub record GivesStill (s : FixedSource) (times more : ℕ) (moment : ℕ) (drawn : List ℕ) : Type 0 where
+  pub gave : pairs_of s ≡ replicate times (moment, drawn)
+  pub left_is : s.left ≡ more
+  pub fresh : s.refused ≡ false
+  pub moment_is : s.now ≡ moment
+  pub drawn_is : s.digits ≡ drawn

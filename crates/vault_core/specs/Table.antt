@@ -1,0 +1,32 @@
+-- What each command answers, and the vault that it leaves.
+use Rattle.std.specs.Prelude.{ℕ}
+use Rattle.vault_core.specs.Keys.{Bytes}
+use Rattle.vault_core.specs.Merchants.{set_merchant, grant}
+use Rattle.vault_core.specs.Outcome.{Outcome}
+use Rattle.vault_core.specs.Tokens.{tokenize}
+use Rattle.vault_core.specs.Vault.{Vault}
+use Rattle.vault_core.specs.declared.command.Command.{Command}
+use Rattle.vault_core.specs.declared.command.Command.TheVariants.{SetMerchant, Grant, Tokenize}
+use Rattle.vault_core.specs.declared.command.TokenRequest.{TokenRequest}
+use Rattle.vault_core.specs.declared.reply.Reply.{Reply}
+use Rattle.vault_core.specs.declared.usage.Use.{Use}
+
+-- the parts of a Tokenize
+abbrev pub token_request : Bytes → Bytes → ℕ → Use → Bytes → Bytes → ℕ → TokenRequest
+token_request caller m request usage pan digits now =
+    record { caller = caller; merchant = m; request = request; usage = usage; pan = pan; digits = digits; moment = now }
+
+-- the first case that applies
+abbrev pub outcome : Vault → Command → Outcome
+outcome V (SetMerchant m single multi now) = set_merchant V m single multi now
+outcome V (Grant caller m right now) = grant V caller m right now
+outcome V (Tokenize caller m request usage pan digits now) =
+    tokenize V (token_request caller m request usage pan digits now)
+
+-- what a command is answered
+abbrev pub reply : Vault → Command → Reply
+reply V c = (outcome V c).reply
+
+-- the vault that a command leaves
+abbrev pub after : Vault → Command → Vault
+after V c = (outcome V c).after

@@ -1,0 +1,68 @@
+-- A vault: four finite maps.
+use Rattle.std.specs.Prelude.{ℕ, ◌&&◌, Bool, Option, max, is_none, is_some, nat_lt}
+use Rattle.std.specs.FinMap as map
+use Rattle.std.specs.FinSet as set
+use Rattle.std.specs.Ordering.{eq_by_cmp}
+use Rattle.vault_core.specs.Keys.{Bytes, bytes_cmp, entry_cmp, record_cmp, right_cmp}
+use Rattle.vault_core.specs.declared.right.Right.{Right}
+use Rattle.vault_core.specs.declared.row.Entry.{Entry}
+use Rattle.vault_core.specs.declared.row.Record.{Record}
+use Rattle.vault_core.specs.declared.usage.Use.{Use}
+use Rattle.vault_core.specs.declared.usage.Use.TheVariants.{Single, Multi}
+
+-- how long a merchant's tokens live, when it last changed, and how often a number was given or denied
+pub record Merchant : Type 0 where
+  pub single_life : ℕ
+  pub multi_life : ℕ
+  pub moment : ℕ
+  pub given : ℕ
+  pub denied : ℕ
+
+-- merchants by name, entries by merchant and token, records by caller and request number, and the
+-- rights of callers at merchants
+pub record Vault : Type 0 where
+  pub merchants : map.FinMap bytes_cmp Merchant
+  pub entries : map.FinMap entry_cmp Entry
+  pub records : map.FinMap record_cmp Record
+  pub rights : set.FinSet right_cmp
+
+-- the empty vault
+abbrev pub empty_vault : Vault
+empty_vault = record { merchants = map.empty; entries = map.empty; records = map.empty; rights = set.empty }
+
+-- the merchant of a name
+abbrev pub merchant_at : Vault → Bytes → Option Merchant
+merchant_at V m = map.get V.merchants m
+
+-- what a merchant's token stands for
+abbrev pub entry_at : Vault → Bytes → Bytes → Option Entry
+entry_at V m token = map.get V.entries (m, token)
+
+-- what a caller's request was answered
+abbrev pub record_at : Vault → Bytes → ℕ → Option Record
+record_at V caller request = map.get V.records (caller, request)
+
+-- whether a caller has a right at a merchant
+abbrev pub has_right : Vault → Bytes → Bytes → Right → Bool
+has_right V caller m right = set.contains V.rights (caller, (m, right))
+
+-- the entries of one merchant
+abbrev pub entries_of : Vault → Bytes → map.FinMap entry_cmp Entry
+entries_of V m = map.retain_keys V.entries (λ key. eq_by_cmp bytes_cmp m key.0)
+
+-- how many tokens a merchant has, counted afresh
+abbrev pub made : Vault → Bytes → ℕ
+made V m = map.len (entries_of V m)
+
+-- the moment of a command: the merchant's, unless the one handed in is later
+abbrev pub time_at : Merchant → ℕ → ℕ
+time_at merchant now = max merchant.moment now
+
+-- the life of a use
+abbrev pub life_for : Use → ℕ → ℕ → ℕ
+life_for Single single multi = single
+life_for Multi single multi = multi
+
+-- an entry that is neither erased nor revoked nor expired
+abbrev pub is_live : Entry → ℕ → Bool
+is_live entry at = is_some entry.number && is_none entry.revoked && nat_lt at entry.expires

@@ -1,0 +1,68 @@
+-- The rows that a command needs.
+use Rattle.std.specs.Prelude.{◌≡◌, ℕ, Option, Some, None, false, option_map}
+use Rattle.std.specs.Option.{option_map_or}
+use Rattle.std.specs.FinMap as map
+use Rattle.vault_core.specs.Draw.{chosen}
+use Rattle.vault_core.specs.Keys.{Bytes}
+use Rattle.vault_core.specs.Repeats.{recorded, current, reusable}
+use Rattle.vault_core.specs.Scalar.{IsLife}
+use Rattle.vault_core.specs.Table.{token_request}
+use Rattle.vault_core.specs.Vault.{Vault, Merchant, merchant_at, has_right, made, time_at, life_for}
+use Rattle.vault_core.specs.declared.command.Command.{Command}
+use Rattle.vault_core.specs.declared.command.Command.TheVariants.{SetMerchant, Grant, Tokenize}
+use Rattle.vault_core.specs.declared.command.TokenRequest.{TokenRequest}
+use Rattle.vault_core.specs.declared.right.Right.TheVariants as right
+use Rattle.vault_core.specs.declared.row.MerchantRow.{MerchantRow}
+use Rattle.vault_core.specs.declared.window.Window.{Window}
+
+-- a merchant with the number of its tokens
+abbrev pub row_of : Vault → Bytes → Merchant → MerchantRow
+row_of V m merchant = record {
+  single_life = merchant.single_life;
+  multi_life = merchant.multi_life;
+  moment = merchant.moment;
+  made = made V m;
+  given = merchant.given;
+  denied = merchant.denied;
+}
+
+-- the row of a merchant's name
+abbrev pub row_at : Vault → Bytes → Option MerchantRow
+row_at V m = option_map (row_of V m) (merchant_at V m)
+
+-- the moment of a command at a merchant: the one handed in where the merchant isn't known
+abbrev pub moment_at : Vault → Bytes → ℕ → ℕ
+moment_at V m now = option_map_or (λ merchant. time_at merchant now) (merchant_at V m) now
+
+-- what the vault holds at the places that a Tokenize needs
+pub record ShowsRequest (V : Vault) (a : TokenRequest) (w : Window) : Type 0 where
+  pub merchant : w.merchant ≡ row_at V a.merchant
+  pub right : w.right ≡ has_right V a.caller a.merchant right.Tokenize
+  pub before : w.recorded ≡ recorded V a.caller a.request
+  pub held : w.current ≡ reusable a.usage (current V a.merchant a.pan (moment_at V a.merchant a.moment))
+  pub candidate : w.candidate ≡ chosen V a.merchant a.pan a.digits
+
+-- the window shows what the vault holds at the places that the command needs
+abbrev pub IsWindow : Vault → Command → Window → Type 0
+IsWindow V (SetMerchant m single multi now) w =
+    (w.merchant ≡ row_at V m) × (w.merchants ≡ map.len V.merchants)
+IsWindow V (Grant caller m right now) w = w.merchant ≡ row_at V m
+IsWindow V (Tokenize caller m request usage pan digits now) w =
+    ShowsRequest V (token_request caller m request usage pan digits now) w
+
+-- nothing is shown
+abbrev pub empty_window : Window
+empty_window =
+    record { merchant = None; merchants = 0; right = false; recorded = None; current = None; candidate = None }
+
+-- the window of a Tokenize shows a merchant that is known
+pub record ShowsMerchant (V : Vault) (a : TokenRequest) (known : Merchant) (w : Window) (row : MerchantRow) : Type 0 where
+  pub known_as : merchant_at V a.merchant ≡ Some known
+  pub single : row.single_life ≡ known.single_life
+  pub multi : row.multi_life ≡ known.multi_life
+  pub moment : row.moment ≡ known.moment
+  pub made_is : row.made ≡ made V a.merchant
+  pub right : w.right ≡ has_right V a.caller a.merchant right.Tokenize
+  pub held : w.current ≡ reusable a.usage (current V a.merchant a.pan (time_at known a.moment))
+  pub life : IsLife (life_for a.usage known.single_life known.multi_life)
+  pub candidate : w.candidate ≡ chosen V a.merchant a.pan a.digits

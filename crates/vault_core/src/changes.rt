@@ -1,0 +1,65 @@
+//! The few rows of a vault that one command changes.
+ghost use Rattle.std.specs.Prelude.{◌≡◌, ◌↔◌, IsTrue};
+
+use crate::moment::Moment;
+use crate::name::{Caller, MerchantId};
+use crate::request::RequestNo;
+use crate::right::Right;
+use crate::row::{Entry, Record};
+use vault_pan::token::Token;
+
+/// The lives and the moment that a merchant has from now on.
+#[derive(Clone, Copy, Debug)]
+pub struct Lives {
+    pub merchant: MerchantId,
+    pub single_life: u64,
+    pub multi_life: u64,
+    pub moment: Moment,
+}
+
+/// Which count of the merchant goes up by one.
+#[derive(Clone, Copy, Debug, PartialEq, Eq)]
+pub enum Count {
+    Made,
+    Given,
+    Denied,
+}
+
+/// What a command changes.
+#[derive(Clone, Copy, Debug)]
+pub struct Changes {
+    pub lives: Option<Lives>,
+    pub count: Option<Count>,
+    pub entry: Option<(MerchantId, Token, Entry)>,
+    pub recorded: Option<(Caller, RequestNo, Record)>,
+    /// A right that is there from now on, or isn't.
+    pub right: Option<(Caller, MerchantId, Right, bool)>,
+}
+
+impl Changes {
+    ghost use Rattle.vault_core.specs.Changes.{no_changes};
+
+    /// No changes.
+    pub fn none() -> Changes
+        ensures { result ≡ no_changes }
+    {
+        Changes {
+            lives: None,
+            count: None,
+            entry: None,
+            recorded: None,
+            right: None,
+        }
+    }
+
+    /// Whether nothing changes.
+    pub fn is_none(&self) -> bool
+        ensures { IsTrue result ↔ (self.now ≡ no_changes) }
+    {
+        self.lives.is_none()
+            && self.count.is_none()
+            && self.entry.is_none()
+            && self.recorded.is_none()
+            && self.right.is_none()
+    }
+}

@@ -1,0 +1,73 @@
+//! The commands of a vault.
+ghost use Rattle.std.specs.Prelude.{IsTrue, ◌↔◌, ◌≤◌};
+ghost use Rattle.vault_core.specs.Scalar.{IsLife};
+
+use crate::moment::Moment;
+use crate::name::{Caller, MerchantId};
+use crate::request::RequestNo;
+use crate::right::Right;
+use crate::usage::Use;
+use vault_pan::draw::Digits;
+use vault_pan::pan::Pan;
+
+/// The longest life of a token, 100 years in seconds.
+pub const LONGEST_LIFE: u64 = 3155760000;
+
+/// What can be asked of a vault.
+#[derive(Clone, Copy, Debug)]
+pub enum Command {
+    /// Makes a merchant, or sets its lives anew.
+    SetMerchant {
+        merchant: MerchantId,
+        single_life: u64,
+        multi_life: u64,
+        now: Moment,
+    },
+    /// Gives a caller a right at a merchant.
+    Grant {
+        caller: Caller,
+        merchant: MerchantId,
+        right: Right,
+        now: Moment,
+    },
+    /// Asks for a token in place of a card number.
+    Tokenize {
+        caller: Caller,
+        merchant: MerchantId,
+        request: RequestNo,
+        usage: Use,
+        pan: Pan,
+        digits: Digits,
+        now: Moment,
+    },
+}
+
+/// The parts of a Tokenize.
+#[derive(Clone, Copy, Debug)]
+pub struct TokenRequest {
+    pub caller: Caller,
+    pub merchant: MerchantId,
+    pub request: RequestNo,
+    pub usage: Use,
+    pub pan: Pan,
+    pub digits: Digits,
+    pub moment: Moment,
+}
+
+impl Command {
+    ghost use Rattle.vault_core.specs.Proper.{HasLivesInRange};
+
+    /// Whether the lives of a SetMerchant are at most the longest one; true of every other command.
+    pub fn proper(&self) -> bool
+        ensures { IsTrue result ↔ HasLivesInRange self.now }
+    {
+        match *self {
+            Command::SetMerchant {
+                single_life,
+                multi_life,
+                ..
+            } => single_life <= LONGEST_LIFE && multi_life <= LONGEST_LIFE,
+            _ => true,
+        }
+    }
+}

@@ -1,0 +1,67 @@
+//! What a command answers, and what it changes.
+ghost use Rattle.vault_core.specs.Changes.{Decides, FitsVault};
+ghost use Rattle.vault_core.specs.Proper.{IsProper};
+
+mod answer;
+mod merchant;
+mod token;
+
+use crate::changes::Changes;
+use crate::command::{Command, TokenRequest};
+use crate::reply::Reply;
+use crate::window::Window;
+use merchant::{grant, set_merchant};
+use token::tokenize;
+
+/// The answer to a command and what it changes, from the rows that it needs.
+///
+/// A SetMerchant is refused by 18, a Grant by 7, a Tokenize by 10, 7, 8, 9, 11 and 12, of which the
+/// first that applies is answered.
+pub fn decide(w: &Window, c: &Command) -> (Reply, Changes)
+    requires { IsProper c.now }
+    ensures settles { Decides w.now c.now result }
+    ensures fits { FitsVault w.now c.now result.1 }
+{
+    settled(w, c)
+}
+
+/// Each command in its own function.
+fn settled(w: &Window, c: &Command) -> (Reply, Changes)
+    requires { IsProper c.now }
+    ensures { Decides w.now c.now result }
+{
+    match *c {
+        Command::SetMerchant {
+            merchant,
+            single_life,
+            multi_life,
+            now,
+        } => set_merchant(w, merchant, single_life, multi_life, now),
+        Command::Grant {
+            caller,
+            merchant,
+            right,
+            now,
+        } => grant(w, caller, merchant, right, now),
+        Command::Tokenize {
+            caller,
+            merchant,
+            request,
+            usage,
+            pan,
+            digits,
+            now,
+        } => {
+            let asked = TokenRequest {
+                caller,
+                merchant,
+                request,
+                usage,
+                pan,
+                digits,
+                moment: now,
+            };
+            tokenize(w, &asked)
+        }
+    }
+}

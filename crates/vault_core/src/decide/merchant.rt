@@ -1,0 +1,75 @@
+//! Merchants that are set, and rights that are given.
+ghost use Rattle.vault_core.specs.Changes.{Decides};
+ghost use Rattle.vault_core.specs.Scalar.{IsLife};
+
+use crate::changes::{Changes, Lives};
+use crate::command::Command;
+use crate::decide::answer::{moved, refused};
+use crate::moment::Moment;
+use crate::name::{Caller, MerchantId};
+use crate::refusal::{NO_MERCHANT, TOO_MANY_MERCHANTS};
+use crate::reply::Reply;
+use crate::right::Right;
+use crate::window::Window;
+
+/// The most merchants of a vault.
+const MOST_MERCHANTS: u64 = 10000;
+
+/// A merchant is set.
+pub fn set_merchant(
+    w: &Window,
+    merchant: MerchantId,
+    single_life: u64,
+    multi_life: u64,
+    now: Moment,
+) -> (Reply, Changes)
+    requires single { IsLife single_life }
+    requires multi { IsLife multi_life }
+    ensures { Decides w.now (Command.SetMerchant merchant single_life multi_life now) result }
+{
+    let moment = match w.merchant {
+        Some(row) => row.moment.later(now),
+        None => {
+            if w.merchants >= MOST_MERCHANTS {
+                return refused(TOO_MANY_MERCHANTS);
+            }
+            now
+        }
+    };
+    let lives = Lives {
+        merchant,
+        single_life,
+        multi_life,
+        moment,
+    };
+    (
+        Reply::Done,
+        Changes {
+            lives: Some(lives),
+            ..Changes::none()
+        },
+    )
+}
+
+/// A right is given.
+pub fn grant(
+    w: &Window,
+    caller: Caller,
+    merchant: MerchantId,
+    right: Right,
+    now: Moment,
+) -> (Reply, Changes)
+    ensures { Decides w.now (Command.Grant caller merchant right now) result }
+{
+    let Some(row) = w.merchant else {
+        return refused(NO_MERCHANT);
+    };
+    (
+        Reply::Done,
+        Changes {
+            lives: Some(moved(merchant, &row, now)),
+            right: Some((caller, merchant, right, true)),
+            ..Changes::none()
+        },
+    )
+}

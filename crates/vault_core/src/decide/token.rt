@@ -1,0 +1,122 @@
+//! Tokens that are asked for.
+ghost use Rattle.std.specs.Prelude.{◌≡◌};
+ghost use Rattle.vault_core.specs.Changes.{Decides, Yields, no_changes, moved_lives};
+ghost use Rattle.vault_core.specs.Repeats.{is_repeat as is_repeat_lem};
+ghost use Rattle.vault_core.specs.Tokens.{new_request as new_request_lem};
+ghost use Rattle.vault_core.specs.Vault.{Vault, Merchant, life_for};
+ghost use Rattle.vault_core.specs.Window.{ShowsMerchant};
+
+use crate::changes::{Changes, Count};
+use crate::command::{Command, TokenRequest};
+use crate::decide::answer::{moved, refused};
+use crate::refusal::{FULL, NO_CANDIDATE, NO_MERCHANT, NO_RIGHT, NUMBER_REUSED, WRONG_USE};
+use crate::reply::Reply;
+use crate::row::{Entry, MerchantRow, Record};
+use crate::usage::Use;
+use crate::window::Window;
+use vault_pan::token::Token;
+
+/// The most tokens of a merchant, erased ones too.
+const MOST_TOKENS: u64 = 1000000;
+
+/// A token is asked for.
+pub fn tokenize(w: &Window, asked: &TokenRequest) -> (Reply, Changes)
+    ensures { Decides w.now (Command.Tokenize asked.now.caller asked.now.merchant asked.now.request asked.now.usage asked.now.pan asked.now.digits asked.now.moment) result }
+{
+    if let Some((earlier, entry)) = w.recorded {
+        if !is_repeat(asked, &earlier, &entry) {
+            return refused(NUMBER_REUSED);
+        }
+        let reply = Reply::Token {
+            token: earlier.token,
+            expires: entry.expires,
+        };
+        return (reply, Changes::none());
+    }
+    let Some(row) = w.merchant else {
+        return refused(NO_MERCHANT);
+    };
+    new_request(w, asked, &row)
+}
+
+/// Whether a request comes again with its merchant, use and number.
+fn is_repeat(asked: &TokenRequest, earlier: &Record, entry: &Entry) -> bool
+    ensures { result ≡ is_repeat_lem asked.now.merchant asked.now.usage asked.now.pan earlier.now entry.now }
+{
+    let same_number = match entry.number {
+        Some(number) => number == asked.pan,
+        None => earlier.token.fits(&asked.pan),
+    };
+    earlier.merchant == asked.merchant && earlier.usage == asked.usage && same_number
+}
+
+/// A new request at a merchant that is known.
+fn new_request(w: &Window, asked: &TokenRequest, row: &MerchantRow) -> (Reply, Changes)
+    ensures { (V : Vault) (known : Merchant)
+        → ShowsMerchant V asked.now known w.now row.now
+        → Yields V (new_request_lem V asked.now known) result }
+{
+    if !w.right {
+        return refused(NO_RIGHT);
+    }
+    let life = life_of(row, asked.usage);
+    if life == 0 {
+        return refused(WRONG_USE);
+    }
+    if let Some((token, entry)) = w.current {
+        return again(asked, row, token, &entry);
+    }
+    if row.made == MOST_TOKENS {
+        return refused(FULL);
+    }
+    let Some(token) = w.candidate else {
+        return refused(NO_CANDIDATE);
+    };
+    let birth = row.moment.later(asked.moment);
+    let entry = Entry {
+        number: Some(asked.pan),
+        usage: asked.usage,
+        birth,
+        expires: birth.seconds().saturating_add(life),
+        revoked: None,
+    };
+    let (reply, changes) = again(asked, row, token, &entry);
+    let changes = Changes {
+        count: Some(Count::Made),
+        entry: Some((asked.merchant, token, entry)),
+        ..changes
+    };
+    (reply, changes)
+}
+
+/// How long a merchant's tokens of this use live.
+fn life_of(row: &MerchantRow, usage: Use) -> u64
+    ensures { result ≡ life_for usage row.now.single_life row.now.multi_life }
+{
+    match usage {
+        Use::Single => row.single_life,
+        Use::Multi => row.multi_life,
+    }
+}
+
+/// The token of an entry is given, and the request is recorded.
+fn again(asked: &TokenRequest, row: &MerchantRow, token: Token, entry: &Entry) -> (Reply, Changes)
+    ensures value { result.0 ≡ Reply.Token token entry.now.expires }
+    ensures changes { result.1 ≡ record no_changes { lives = Some (moved_lives asked.now.merchant row.now asked.now.moment); recorded = Some (asked.now.caller, asked.now.request, record { merchant = asked.now.merchant; token = token; usage = asked.now.usage }) } }
+{
+    let record = Record {
+        merchant: asked.merchant,
+        token,
+        usage: asked.usage,
+    };
+    let changes = Changes {
+        lives: Some(moved(asked.merchant, row, asked.moment)),
+        recorded: Some((asked.caller, asked.request, record)),
+        ..Changes::none()
+    };
+    let reply = Reply::Token {
+        token,
+        expires: entry.expires,
+    };
+    (reply, changes)
+}

@@ -1,0 +1,110 @@
+//! Names of callers and merchants.
+ghost use Rattle.std.specs.Prelude.{◌≡◌, IfOk, IsOk, ◌↔◌};
+ghost use Rattle.vault_core.specs.Name.{IsName};
+
+use crate::refusal::BAD_NAME;
+use std::marker::Model;
+use vault_pan::short::Short;
+
+/// The name of a caller, a till or a back office. Contracts see its bytes.
+#[derive(Clone, Copy, Debug, PartialEq, Eq, PartialOrd, Ord)]
+pub struct Caller {
+    text: Short<16>,
+}
+
+impl Model for Caller {
+    ghost use Rattle.std.specs.Prelude.{ℕ, List};
+    ghost use Rattle.vault_core.specs.Name.{IsName};
+
+    ghost Value = { List ℕ };
+
+    ghost view = { λ c. c.text };
+
+    ghost invariant = { λ c. IsName c.text };
+
+    ghost inverse = { λ name. record { text = name } };
+}
+
+/// The name of a merchant. Contracts see its bytes.
+#[derive(Clone, Copy, Debug, PartialEq, Eq, PartialOrd, Ord)]
+pub struct MerchantId {
+    text: Short<16>,
+}
+
+impl Model for MerchantId {
+    ghost use Rattle.std.specs.Prelude.{ℕ, List};
+    ghost use Rattle.vault_core.specs.Name.{IsName};
+
+    ghost Value = { List ℕ };
+
+    ghost view = { λ m. m.text };
+
+    ghost invariant = { λ m. IsName m.text };
+
+    ghost inverse = { λ name. record { text = name } };
+}
+
+/// A text is no name.
+#[derive(Clone, Copy, Debug, PartialEq, Eq)]
+pub struct BadName;
+
+impl BadName {
+    /// The number of the refusal, 4.
+    pub fn number(self) -> u8
+        ensures { result ≡ BAD_NAME }
+    {
+        BAD_NAME
+    }
+}
+
+/// The bytes of a name.
+fn read_name(text: &[u8]) -> Result<Short<16>, BadName>
+    ensures name { IsOk result ↔ IsName text.now }
+    ensures value { IfOk result (λ name. name ≡ text.now) }
+{
+    let valid = text.iter().all(|b| b.is_ascii_lowercase() || b.is_ascii_digit() || *b == b'-');
+    if text.is_empty() || text.len() > 16 || !valid {
+        return Err(BadName);
+    }
+    let mut name = Short::new();
+    name.extend(text);
+    Ok(name)
+}
+
+impl Caller {
+    /// Reads a name: 1 to 16 small letters, digits and hyphens; else 4 BadName.
+    pub fn read(text: &[u8]) -> Result<Caller, BadName>
+        ensures name { IsOk result ↔ IsName text.now }
+        ensures value { IfOk result (λ name. name ≡ text.now) }
+    {
+        let text = read_name(text)?;
+        Ok(Caller { text })
+    }
+
+    /// The bytes of the name.
+    pub fn bytes(&self) -> &[u8]
+        ensures value { result.now ≡ self.now }
+        ensures name { IsName self.now }
+    {
+        self.text.bytes()
+    }
+}
+
+impl MerchantId {
+    /// Reads a name: 1 to 16 small letters, digits and hyphens; else 4 BadName.
+    pub fn read(text: &[u8]) -> Result<MerchantId, BadName>
+        ensures name { IsOk result ↔ IsName text.now }
+        ensures value { IfOk result (λ name. name ≡ text.now) }
+    {
+        let text = read_name(text)?;
+        Ok(MerchantId { text })
+    }
+
+    /// The bytes of the name.
+    pub fn bytes(&self) -> &[u8]
+        ensures value { result.now ≡ self.now }
+        ensures name { IsName self.now }
+    {
+        self.text.bytes()
+    }
+}

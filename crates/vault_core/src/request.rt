@@ -1,0 +1,91 @@
+//! The numbers of requests.
+ghost use Rattle.std.specs.Prelude.{◌≡◌, ◌≤◌, IsTrue, IsOk, IfOk, ◌↔◌, All, length};
+ghost use Rattle.std.specs.Char.{IsAsciiDigit};
+ghost use Rattle.std.specs.Str.Parse.{digits_value};
+ghost use Rattle.vault_core.specs.Scalar.{IsRequest, IsRequestText};
+
+use crate::refusal::BAD_REQUEST_NUMBER;
+use std::marker::Model;
+
+/// The greatest request number.
+pub const LAST_REQUEST: u64 = 9223372036854775807;
+
+/// The number that a caller gives a request. Contracts see the number.
+#[derive(Clone, Copy, Debug, PartialEq, Eq, PartialOrd, Ord)]
+pub struct RequestNo {
+    number: u64,
+}
+
+impl Model for RequestNo {
+    ghost use Rattle.std.specs.Prelude.{ℕ};
+    ghost use Rattle.vault_core.specs.Scalar.{IsRequest};
+
+    ghost Value = { ℕ };
+
+    ghost view = { λ r. r.number };
+
+    ghost invariant = { λ r. IsRequest r.number };
+
+    ghost inverse = { λ n. record { number = n } };
+}
+
+/// A text is no request number.
+#[derive(Clone, Copy, Debug, PartialEq, Eq)]
+pub struct BadRequestNumber;
+
+impl BadRequestNumber {
+    /// The number of the refusal, 5.
+    pub fn number(self) -> u8
+        ensures { result ≡ BAD_REQUEST_NUMBER }
+    {
+        BAD_REQUEST_NUMBER
+    }
+}
+
+/// Whether all bytes are digits.
+fn are_digits(text: &[u8]) -> bool
+    ensures { IsTrue result ↔ All IsAsciiDigit text.now }
+{
+    text.iter().all(|byte| byte.is_ascii_digit())
+}
+
+/// The number that up to 19 digits write.
+fn value_of(digits: &[u8]) -> u64
+    requires few { length digits.now ≤ 19 }
+    requires digits { All IsAsciiDigit digits.now }
+    ensures { result ≡ digits_value 10 digits.now }
+{
+    let mut number = 0u64;
+    for digit in digits {
+        number = number * 10 + u64::from(*digit - b'0');
+    }
+    number
+}
+
+impl RequestNo {
+    /// Reads a request number: 1 to 19 digits without a leading zero; else 5 BadRequestNumber.
+    pub fn read(text: &[u8]) -> Result<RequestNo, BadRequestNumber>
+        ensures request { IsOk result ↔ IsRequestText text.now }
+        ensures value { IfOk result (λ r. r ≡ digits_value 10 text.now) }
+    {
+        if text.is_empty() || text.len() > 19 || text[0] == b'0' {
+            return Err(BadRequestNumber);
+        }
+        if !are_digits(text) {
+            return Err(BadRequestNumber);
+        }
+        let number = value_of(text);
+        if number > LAST_REQUEST {
+            return Err(BadRequestNumber);
+        }
+        Ok(RequestNo { number })
+    }
+
+    /// The number.
+    pub fn get(self) -> u64
+        ensures value { result ≡ self }
+        ensures request { IsRequest self }
+    {
+        self.number
+    }
+}

@@ -1,0 +1,44 @@
+//! The rights of callers.
+ghost use Rattle.std.specs.Prelude.{◌≡◌, IfSome, IfNone, codes};
+ghost use Rattle.vault_core.specs.Words.{right_word};
+
+/// What a caller may do at a merchant. The numbers stand in the stored rows.
+#[derive(Clone, Copy, Debug, PartialEq, Eq, PartialOrd, Ord)]
+pub enum Right {
+    Tokenize = 1,
+    Detokenize,
+    View,
+    Revoke,
+    Purge,
+    Audit,
+}
+
+impl Right {
+    ghost use Rattle.vault_core.specs.declared.right.Right.{Right};
+
+    /// All rights, in the order of their numbers.
+    pub const ALL: [Right; 6] = [
+        Right::Tokenize,
+        Right::Detokenize,
+        Right::View,
+        Right::Revoke,
+        Right::Purge,
+        Right::Audit,
+    ];
+
+    /// Reads a right's word, its name in small letters.
+    pub fn read(text: &[u8]) -> Option<Right>
+        ensures word { IfSome result (λ right. text.now ≡ right_word right) }
+        ensures none { IfNone result ((right : Right) → ¬ (text.now ≡ right_word right)) }
+    {
+        match text {
+            b"tokenize" => Some(Right::Tokenize),
+            b"detokenize" => Some(Right::Detokenize),
+            b"view" => Some(Right::View),
+            b"revoke" => Some(Right::Revoke),
+            b"purge" => Some(Right::Purge),
+            b"audit" => Some(Right::Audit),
+            _ => None,
+        }
+    }
+}

@@ -1,0 +1,93 @@
+//! Where moments and drawn digits come from.
+ghost use Rattle.std.specs.Prelude.{◌≡◌, ℕ, ◌+◌, ◌<◌, ◌^◌, true, [], ◌∷◌, ◌++◌, IfOk, OnOk, OnErr, IsErr};
+
+use crate::moment::Moment;
+use vault_pan::draw::Digits;
+
+/// A source has no pair to give.
+#[derive(Clone, Copy, Debug, PartialEq, Eq)]
+pub struct SourceFault;
+
+/// Gives a moment and drawn digits, one pair for each command. Contracts see the pairs that it gave.
+pub trait Source {
+    ghost use Rattle.std.specs.Prelude.{ℕ, List, Bool};
+
+    ghost given: { Self → List (ℕ × List ℕ) };
+
+    ghost count_left: { Self → ℕ };
+
+    ghost has_refused: { Self → Bool };
+
+    /// The next pair.
+    fn next(&mut self) -> Result<(Moment, Digits), SourceFault>
+        ensures gives { IfOk result (λ pair. given self.new ≡ given self.old ++ (pair.0, pair.1) ∷ []) }
+        ensures counts { OnOk result (count_left self.old ≡ count_left self.new + 1) }
+        ensures goes_on { OnOk result (has_refused self.new ≡ has_refused self.old) }
+        ensures keeps { OnErr result (given self.new ≡ given self.old) }
+        ensures refuses { OnErr result (has_refused self.new ≡ true) }
+        ensures spent { count_left self.old ≡ 0 → IsErr result };
+
+    /// At most how many pairs it will give.
+    fn left(&self) -> u64
+        ensures { result ≡ count_left self.now };
+
+    /// Whether it once had no pair to give.
+    fn refused(&self) -> bool
+        ensures { result ≡ has_refused self.now };
+}
+
+/// Gives one moment and one set of digits a number of times.
+#[derive(Clone, Copy, Debug)]
+pub struct FixedSource {
+    now: Moment,
+    digits: Digits,
+    given: u64,
+    left: u64,
+    refused: bool,
+    ghost counted: { given + left < 2 ^ 64 },
+}
+
+impl FixedSource {
+    ghost use Rattle.vault_core.specs.Sources.{GivesStill};
+
+    /// Gives this moment and these digits this many times.
+    pub fn new(now: Moment, digits: Digits, times: u64) -> FixedSource
+        ensures { GivesStill result 0 times now digits }
+    {
+        FixedSource {
+            now,
+            digits,
+            given: 0,
+            left: times,
+            refused: false,
+        }
+    }
+}
+
+impl Source for FixedSource {
+    ghost use Rattle.vault_core.specs.Sources.{pairs_of};
+
+    ghost given = { pairs_of };
+
+    ghost count_left = { λ s. s.left };
+
+    ghost has_refused = { λ s. s.refused };
+
+    fn next(&mut self) -> Result<(Moment, Digits), SourceFault> {
+        if self.left == 0 {
+            self.refused = true;
+            return Err(SourceFault);
+        }
+        self.left -= 1;
+        self.given += 1;
+        Ok((self.now, self.digits))
+    }
+
+    fn left(&self) -> u64 {
+        self.left
+    }
+
+    fn refused(&self) -> bool {
+        self.refused
+    }
+}

@@ -1,0 +1,43 @@
+//! The uses of tokens.
+ghost use Rattle.std.specs.Prelude.{◌≡◌, IfOk, OnErr, codes};
+ghost use Rattle.vault_core.specs.Words.{use_word};
+
+use crate::refusal::BAD_USE;
+
+/// What a token stands for.
+#[derive(Clone, Copy, Debug, PartialEq, Eq)]
+pub enum Use {
+    /// One transaction: each new request gets a new token.
+    Single,
+    /// One card number over several transactions.
+    Multi,
+}
+
+/// A text is no use.
+#[derive(Clone, Copy, Debug, PartialEq, Eq)]
+pub struct BadUse;
+
+impl BadUse {
+    /// The number of the refusal, 19.
+    pub fn number(self) -> u8
+        ensures { result ≡ BAD_USE }
+    {
+        BAD_USE
+    }
+}
+
+impl Use {
+    ghost use Rattle.vault_core.specs.declared.usage.Use.{Use};
+
+    /// Reads `single` or `multi`; else 19 BadUse.
+    pub fn read(text: &[u8]) -> Result<Use, BadUse>
+        ensures word { IfOk result (λ usage. text.now ≡ use_word usage) }
+        ensures none { OnErr result ((usage : Use) → ¬ (text.now ≡ use_word usage)) }
+    {
+        match text {
+            b"single" => Ok(Use::Single),
+            b"multi" => Ok(Use::Multi),
+            _ => Err(BadUse),
+        }
+    }
+}

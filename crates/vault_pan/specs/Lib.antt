@@ -1,0 +1,6 @@
+pub mod CardText
+pub mod Draw
+pub mod Luhn
+pub mod Pan
+pub mod Short
+pub mod Shown

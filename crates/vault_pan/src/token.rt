@@ -1,0 +1,135 @@
+//! Tokens.
+ghost use Rattle.std.specs.Prelude.{◌≡◌};
+ghost use Rattle.vault_pan.specs.Pan.{ReadsToken};
+ghost use Rattle.vault_pan.specs.CardText.{IsToken, fits};
+
+use crate::luhn::passes;
+use crate::pan::{LEAST_DIGITS, MOST_DIGITS, Pan};
+use crate::refusal;
+use crate::short::Short;
+use crate::text::as_text;
+use std::error::Error;
+use std::fmt;
+use std::marker::Model;
+
+/// A token: 10 to 19 digits that fail the check. Contracts see its ASCII digits.
+///
+/// It is no card number, so printing shows it.
+#[derive(Clone, Copy, PartialEq, Eq, PartialOrd, Ord)]
+pub struct Token {
+    text: Short<MOST_DIGITS>,
+}
+
+impl Model for Token {
+    ghost use Rattle.std.specs.Prelude.{ℕ, List};
+    ghost use Rattle.vault_pan.specs.CardText.{IsToken};
+
+    ghost Value = { List ℕ };
+
+    ghost view = { λ t. t.text };
+
+    ghost invariant = { λ t. IsToken t.text };
+
+    ghost inverse = { λ digits. record { text = digits } };
+}
+
+impl Token {
+    /// Reads a token, which has no separators. What is none is refused by 3 `BadToken`.
+    pub fn read(text: &[u8]) -> Result<Token, BadToken>
+        ensures { ReadsToken text.now result }
+    {
+        if !(LEAST_DIGITS..=MOST_DIGITS).contains(&text.len()) {
+            return Err(BadToken);
+        }
+        if !text.iter().all(|byte| byte.is_ascii_digit()) {
+            return Err(BadToken);
+        }
+        if passes(text) {
+            return Err(BadToken);
+        }
+        let mut digits = Short::new();
+        digits.extend(text);
+        Ok(Token { text: digits })
+    }
+
+    /// The token of digits that are one.
+    pub(crate) fn of(digits: Short<MOST_DIGITS>) -> Token
+        requires { IsToken digits }
+        ensures { result ≡ digits }
+    {
+        Token { text: digits }
+    }
+
+    /// The ASCII digits.
+    pub fn digits(&self) -> &[u8]
+        ensures value { result.now ≡ self.now }
+        ensures token { IsToken self.now }
+    {
+        self.text.bytes()
+    }
+
+    /// The digits as a text.
+    pub fn as_str(&self) -> &str
+        ensures { result.now ≡ self.now }
+    {
+        as_text(self.digits())
+    }
+
+    /// Whether the token has the number's length and its last four digits.
+    pub fn fits(&self, p: &Pan) -> bool
+        ensures { result ≡ fits self.now p.now }
+    {
+        let token = self.digits();
+        let number = p.digits();
+        token.len() == number.len() && token[token.len() - 4..] == number[p.len() - 4..]
+    }
+}
+
+impl fmt::Display for Token {
+    ghost use Rattle.std.specs.Prelude.{Some};
+
+    ghost output = { λ token. Some token };
+
+    fn fmt<W: fmt::Write>(&self, f: &mut fmt::Formatter<W>) -> fmt::Result {
+        f.write_str(self.as_str())
+    }
+}
+
+impl fmt::Debug for Token {
+    ghost use Rattle.std.specs.Prelude.{Some};
+    ghost use Rattle.vault_pan.specs.Shown.{shown_token};
+
+    ghost debug_output = { λ token. Some (shown_token token) };
+
+    fn fmt<W: fmt::Write>(&self, f: &mut fmt::Formatter<W>) -> fmt::Result {
+        let digits = self.as_str();
+        write!(f, "Token({digits})")
+    }
+}
+
+/// A text is no token.
+#[derive(Clone, Copy, Debug, PartialEq, Eq)]
+pub struct BadToken;
+
+impl BadToken {
+    ghost use Rattle.vault_pan.specs.Pan.{bad_token_number};
+
+    /// The number of this refusal in `refusal`.
+    pub fn number(self) -> u8
+        ensures { result ≡ bad_token_number }
+    {
+        refusal::BAD_TOKEN
+    }
+}
+
+impl fmt::Display for BadToken {
+    ghost use Rattle.std.specs.Prelude.{Some, codes};
+
+    ghost output = { λ _. Some (codes "not a token") };
+
+    fn fmt<W: fmt::Write>(&self, f: &mut fmt::Formatter<W>) -> fmt::Result {
+        write!(f, "not a token")
+    }
+}
+
+impl Error for BadToken {}

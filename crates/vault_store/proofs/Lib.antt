@@ -1,0 +1,3 @@
+pub mod Drawn
+pub mod Held
+pub mod ShownLemmas

@@ -1,0 +1,4 @@
+pub mod Added
+pub mod Reads
+pub mod Rows
+pub mod Shown

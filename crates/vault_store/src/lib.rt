@@ -1,0 +1,6 @@
+//! Tables that hold a vault, and the vault over them.
+#![tactic(auto)]
+
+pub mod memory;
+pub mod tables;
+pub mod window;

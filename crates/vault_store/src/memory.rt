@@ -1,0 +1,3 @@
+//! Tables in memory.
+
+mod rows;

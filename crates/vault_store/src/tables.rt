@@ -1,0 +1,107 @@
+//! Tables that hold a vault, whichever way.
+ghost use Rattle.std.specs.Prelude.{◌≡◌, ◌≤◌, Bool, true, false, Option, Some, None, IfOk, OnOk, IsOk, Err, option_map};
+ghost use Rattle.std.specs.FinMap as map;
+ghost use Rattle.vault_core.specs.Changes.{Fit, plus};
+ghost use Rattle.vault_core.specs.Repeats.{current};
+ghost use Rattle.vault_core.specs.Sound.{Sound};
+ghost use Rattle.vault_core.specs.Vault.{Vault, entry_at, has_right, record_at};
+ghost use Rattle.vault_core.specs.Window.{moment_at, row_at};
+ghost use Rattle.vault_store.specs.Added.{AddsNothing};
+ghost use Rattle.vault_store.specs.Reads.{IsAllowed, Keeps, KeepsOnMemory};
+
+use std::alloc::AllocError;
+use vault_core::changes::Changes;
+use vault_core::moment::Moment;
+use vault_core::name::{Caller, MerchantId};
+use vault_core::request::RequestNo;
+use vault_core::right::Right;
+use vault_core::row::{Entry, MerchantRow, Record};
+use vault_pan::pan::Pan;
+use vault_pan::token::Token;
+
+/// Why a call of the tables gave nothing.
+#[derive(Clone, Copy, Debug, PartialEq, Eq)]
+pub enum TablesFault {
+    /// Memory was refused; nothing changed, and the tables may be used.
+    Memory,
+    /// The store failed.
+    Store,
+}
+
+impl From<AllocError> for TablesFault {
+    ghost use Rattle.vault_store.specs.declared.tables.TablesFault.TheVariants.{Memory};
+
+    ghost from_gives = { λ e f. f ≡ Memory };
+
+    fn from(_error: AllocError) -> TablesFault {
+        TablesFault::Memory
+    }
+}
+
+/// Tables that hold a vault.
+///
+/// Contracts see which vaults the tables hold. What a read tells is true where the disk is honest:
+/// it returned what was written, and nobody else wrote it. Tables also say whether their reads, and
+/// their writes that add nothing, may be refused memory, and whether they may fail.
+pub trait Tables {
+    ghost use Rattle.std.specs.Prelude.{Bool};
+    ghost use Rattle.vault_core.specs.Vault.{Vault};
+
+    ghost holds: { Self → Vault → Type 0 };
+
+    ghost is_honest: { Self → Type 0 };
+
+    ghost may_refuse: { Bool };
+
+    ghost may_fail: { Bool };
+
+    /// The row of a merchant.
+    fn merchant(&mut self, m: MerchantId) -> Result<Option<MerchantRow>, TablesFault>
+        ensures honest { is_honest self.new → is_honest self.old }
+        ensures told { is_honest self.new → IfOk result (λ found. (V : Vault) → holds self.old V → Sound V → found ≡ row_at V m) }
+        ensures kept { Keeps result (holds self.old) (holds self.new) }
+        ensures allowed { IsAllowed may_refuse may_fail result };
+
+    /// How many merchants there are.
+    fn merchants(&mut self) -> Result<u64, TablesFault>
+        ensures honest { is_honest self.new → is_honest self.old }
+        ensures told { is_honest self.new → IfOk result (λ found. (V : Vault) → holds self.old V → Sound V → found ≡ map.len V.merchants) }
+        ensures kept { Keeps result (holds self.old) (holds self.new) }
+        ensures allowed { IsAllowed may_refuse may_fail result };
+
+    /// Whether a caller has a right at a merchant.
+    fn right(&mut self, c: Caller, m: MerchantId, r: Right) -> Result<bool, TablesFault>
+        ensures honest { is_honest self.new → is_honest self.old }
+        ensures told { is_honest self.new → IfOk result (λ found. (V : Vault) → holds self.old V → Sound V → found ≡ has_right V c m r) }
+        ensures kept { Keeps result (holds self.old) (holds self.new) }
+        ensures allowed { IsAllowed may_refuse may_fail result };
+
+    /// The record of a caller's request.
+    fn recorded(&mut self, c: Caller, n: RequestNo) -> Result<Option<Record>, TablesFault>
+        ensures honest { is_honest self.new → is_honest self.old }
+        ensures told { is_honest self.new → IfOk result (λ found. (V : Vault) → holds self.old V → Sound V → found ≡ record_at V c n) }
+        ensures kept { Keeps result (holds self.old) (holds self.new) }
+        ensures allowed { IsAllowed may_refuse may_fail result };
+
+    /// What a merchant's token stands for.
+    fn entry(&mut self, m: MerchantId, t: Token) -> Result<Option<Entry>, TablesFault>
+        ensures honest { is_honest self.new → is_honest self.old }
+        ensures told { is_honest self.new → IfOk result (λ found. (V : Vault) → holds self.old V → Sound V → found ≡ entry_at V m t) }
+        ensures kept { Keeps result (holds self.old) (holds self.new) }
+        ensures allowed { IsAllowed may_refuse may_fail result };
+
+    /// The multi-use token of a card number that is live at a moment, which isn't before the merchant's.
+    fn current(&mut self, m: MerchantId, p: Pan, at: Moment) -> Result<Option<Token>, TablesFault>
+        ensures honest { is_honest self.new → is_honest self.old }
+        ensures told { is_honest self.new → IfOk result (λ found. (V : Vault) → holds self.old V → Sound V → moment_at V m at ≡ at → found ≡ option_map (λ held. held.0) (current V m p at)) }
+        ensures kept { Keeps result (holds self.old) (holds self.new) }
+        ensures allowed { IsAllowed may_refuse may_fail result };
+
+    /// Makes the changes, all of them or none. Contracts ask that they fit the vault.
+    fn write(&mut self, ch: &Changes) -> Result<(), TablesFault>
+        ensures honest { is_honest self.new → is_honest self.old }
+        ensures done { is_honest self.new → OnOk result ((V : Vault) → holds self.old V → Sound V → Fit V ch.now → holds self.new (plus V ch.now)) }
+        ensures kept { KeepsOnMemory result (holds self.old) (holds self.new) }
+        ensures allowed { (V : Vault) → holds self.old V → Fit V ch.now → AddsNothing V (plus V ch.now) → IsAllowed may_refuse may_fail result }
+        ensures sturdy { may_fail ≡ false → ¬ (result ≡ Err TablesFault.Store) };
+}

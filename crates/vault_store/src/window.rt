@@ -1,0 +1,160 @@
+//! The rows of the tables that one command needs.
+ghost use Rattle.std.specs.Prelude.{◌≡◌, IfOk, option_map};
+ghost use Rattle.std.specs.Option.{option_map_or};
+ghost use Rattle.vault_core.specs.Draw.{chosen};
+ghost use Rattle.vault_core.specs.Repeats.{current, recorded, reusable as reusable_lem};
+ghost use Rattle.vault_core.specs.Sound.{Sound};
+ghost use Rattle.vault_core.specs.Vault.{Vault};
+ghost use Rattle.vault_core.specs.Window.{IsWindow, ShowsRequest, moment_at, row_at};
+ghost use Rattle.vault_store.specs.Reads.{IsAllowed, Keeps};
+ghost use Rattle.vault_store.specs.Rows.{row_moment};
+
+use crate::tables::{Tables, TablesFault};
+use vault_core::command::{Command, TokenRequest};
+use vault_core::moment::Moment;
+use vault_core::right::Right;
+use vault_core::row::{Entry, MerchantRow, Record};
+use vault_core::usage::Use;
+use vault_core::window::Window;
+use vault_pan::draw::candidate;
+use vault_pan::token::Token;
+
+/// The window of a command: what the tables hold at the places that it needs.
+pub fn window<T: Tables>(tables: &mut T, c: &Command) -> Result<Window, TablesFault>
+    ensures honest { T.is_honest tables.new → T.is_honest tables.old }
+    ensures told { T.is_honest tables.new → IfOk result (λ found. (V : Vault) → T.holds tables.old V → Sound V → IsWindow V c.now found) }
+    ensures kept { Keeps result (T.holds tables.old) (T.holds tables.new) }
+    ensures allowed { IsAllowed T.may_refuse T.may_fail result }
+{
+    match *c {
+        Command::SetMerchant { merchant, .. } => {
+            let row = tables.merchant(merchant)?;
+            let merchants = tables.merchants()?;
+            Ok(Window {
+                merchant: row,
+                merchants,
+                ..Window::empty()
+            })
+        }
+        Command::Grant { merchant, .. } => {
+            let row = tables.merchant(merchant)?;
+            Ok(Window {
+                merchant: row,
+                ..Window::empty()
+            })
+        }
+        Command::Tokenize {
+            caller,
+            merchant,
+            request,
+            usage,
+            pan,
+            digits,
+            now,
+        } => {
+            let asked = TokenRequest {
+                caller,
+                merchant,
+                request,
+                usage,
+                pan,
+                digits,
+                moment: now,
+            };
+            request_window(tables, &asked)
+        }
+    }
+}
+
+/// The window of a Tokenize.
+fn request_window<T: Tables>(tables: &mut T, asked: &TokenRequest) -> Result<Window, TablesFault>
+    ensures honest { T.is_honest tables.new → T.is_honest tables.old }
+    ensures told { T.is_honest tables.new → IfOk result (λ found. (V : Vault) → T.holds tables.old V → Sound V → ShowsRequest V asked.now found) }
+    ensures kept { Keeps result (T.holds tables.old) (T.holds tables.new) }
+    ensures allowed { IsAllowed T.may_refuse T.may_fail result }
+{
+    let merchant = tables.merchant(asked.merchant)?;
+    let right = tables.right(asked.caller, asked.merchant, Right::Tokenize)?;
+    let recorded = recorded_entry(tables, asked)?;
+    let current = reusable(tables, asked, moment_of(&merchant, asked.moment))?;
+    let candidate = first_good(tables, asked)?;
+    Ok(Window {
+        merchant,
+        right,
+        recorded,
+        current,
+        candidate,
+        ..Window::empty()
+    })
+}
+
+/// The moment of a command at a merchant.
+fn moment_of(merchant: &Option<MerchantRow>, now: Moment) -> Moment
+    ensures { result ≡ row_moment merchant.now now }
+{
+    match merchant {
+        Some(row) => row.moment.later(now),
+        None => now,
+    }
+}
+
+/// The record of the request, with its entry.
+fn recorded_entry<T: Tables>(
+    tables: &mut T,
+    asked: &TokenRequest,
+) -> Result<Option<(Record, Entry)>, TablesFault>
+    ensures honest { T.is_honest tables.new → T.is_honest tables.old }
+    ensures told { T.is_honest tables.new → IfOk result (λ found. (V : Vault) → T.holds tables.old V → Sound V → found ≡ recorded V asked.now.caller asked.now.request) }
+    ensures kept { Keeps result (T.holds tables.old) (T.holds tables.new) }
+    ensures allowed { IsAllowed T.may_refuse T.may_fail result }
+{
+    let Some(earlier) = tables.recorded(asked.caller, asked.request)? else {
+        return Ok(None);
+    };
+    match tables.entry(earlier.merchant, earlier.token)? {
+        Some(entry) => Ok(Some((earlier, entry))),
+        None => Ok(None),
+    }
+}
+
+/// The live multi-use token of the number, with its entry, where one is asked for.
+fn reusable<T: Tables>(
+    tables: &mut T,
+    asked: &TokenRequest,
+    at: Moment,
+) -> Result<Option<(Token, Entry)>, TablesFault>
+    ensures honest { T.is_honest tables.new → T.is_honest tables.old }
+    ensures told { T.is_honest tables.new → IfOk result (λ found. (V : Vault) → T.holds tables.old V → Sound V → moment_at V asked.now.merchant at ≡ at → found ≡ reusable_lem asked.now.usage (current V asked.now.merchant asked.now.pan at)) }
+    ensures kept { Keeps result (T.holds tables.old) (T.holds tables.new) }
+    ensures allowed { IsAllowed T.may_refuse T.may_fail result }
+{
+    match asked.usage {
+        Use::Single => Ok(None),
+        Use::Multi => {
+            let Some(token) = tables.current(asked.merchant, asked.pan, at)? else {
+                return Ok(None);
+            };
+            match tables.entry(asked.merchant, token)? {
+                Some(entry) => Ok(Some((token, entry))),
+                None => Ok(None),
+            }
+        }
+    }
+}
+
+/// The first candidate of the draw that fails the check and that the merchant never had.
+fn first_good<T: Tables>(tables: &mut T, asked: &TokenRequest) -> Result<Option<Token>, TablesFault>
+    ensures honest { T.is_honest tables.new → T.is_honest tables.old }
+    ensures told { T.is_honest tables.new → IfOk result (λ found. (V : Vault) → T.holds tables.old V → Sound V → found ≡ chosen V asked.now.merchant asked.now.pan asked.now.digits) }
+    ensures kept { Keeps result (T.holds tables.old) (T.holds tables.new) }
+    ensures allowed { IsAllowed T.may_refuse T.may_fail result }
+{
+    for k in 0..20 {
+        if let Some(token) = candidate(&asked.digits, k, &asked.pan) {
+            if tables.entry(asked.merchant, token)?.is_none() {
+                return Ok(Some(token));
+            }
+        }
+    }
+    Ok(None)
+}
