@@ -55,19 +55,53 @@ pub struct TokenRequest {
 }
 
 impl Command {
-    ghost use Rattle.vault_core.specs.Proper.{HasLivesInRange};
+    ghost use Rattle.vault_core.specs.Proper.{HasLivesInRange, IsProper};
 
     /// Whether the lives of a SetMerchant are at most the longest one; true of every other command.
     pub fn proper(&self) -> bool
-        ensures { IsTrue result ↔ HasLivesInRange self.now }
+        ensures lives { IsTrue result ↔ HasLivesInRange self.now }
+        ensures parts { IsTrue result ↔ IsProper self.now }
     {
+        // Each part is read, since what its type promises is known where it was.
         match *self {
             Command::SetMerchant {
+                merchant,
                 single_life,
                 multi_life,
+                now,
+            } => {
+                let _merchant = merchant.bytes();
+                let _now = now.seconds();
+                single_life <= LONGEST_LIFE && multi_life <= LONGEST_LIFE
+            }
+            Command::Grant {
+                caller,
+                merchant,
+                now,
                 ..
-            } => single_life <= LONGEST_LIFE && multi_life <= LONGEST_LIFE,
-            _ => true,
+            } => {
+                let _caller = caller.bytes();
+                let _merchant = merchant.bytes();
+                let _now = now.seconds();
+                true
+            }
+            Command::Tokenize {
+                caller,
+                merchant,
+                request,
+                pan,
+                digits,
+                now,
+                ..
+            } => {
+                let _caller = caller.bytes();
+                let _merchant = merchant.bytes();
+                let _request = request.get();
+                let _pan = pan.digits();
+                let _digits = digits.values();
+                let _now = now.seconds();
+                true
+            }
         }
     }
 }

@@ -1,6 +1,6 @@
 //! What a command answers, and what it changes.
 ghost use Rattle.vault_core.specs.Changes.{Decides, FitsVault};
-ghost use Rattle.vault_core.specs.Proper.{IsProper};
+ghost use Rattle.vault_core.specs.Proper.{HasLivesInRange, IsProper};
 
 mod answer;
 mod merchant;
@@ -18,10 +18,12 @@ use token::tokenize;
 /// A SetMerchant is refused by 18, a Grant by 7, a Tokenize by 10, 7, 8, 9, 11 and 12, of which the
 /// first that applies is answered.
 pub fn decide(w: &Window, c: &Command) -> (Reply, Changes)
-    requires { IsProper c.now }
+    requires { HasLivesInRange c.now }
     ensures settles { Decides w.now c.now result }
     ensures fits { FitsVault w.now c.now result.1 }
 {
+    let proper = c.proper();
+    prove!(proper);
     settled(w, c)
 }
 

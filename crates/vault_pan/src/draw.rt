@@ -57,6 +57,14 @@ impl Digits {
         copied.copy_from_slice(values);
         Some(Digits { values: copied })
     }
+
+    /// The values, in order.
+    pub fn values(&self) -> &[u8]
+        ensures value { result.now ≡ self.now }
+        ensures drawing { IsDrawing self.now }
+    {
+        &self.values
+    }
 }
 
 impl fmt::Debug for Digits {

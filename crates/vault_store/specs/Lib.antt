@@ -1,4 +1,5 @@
 pub mod Added
+pub mod Applied
 pub mod Reads
 pub mod Rows
 pub mod Shown

@@ -3,4 +3,5 @@
 
 pub mod memory;
 pub mod tables;
+pub mod vault;
 pub mod window;

@@ -1,0 +1,10 @@
+pub mod BodyLemmas
+pub mod FieldFacts
+pub mod HeadFacts
+pub mod MerchantLemmas
+pub mod NamesTokens
+pub mod Outcomes
+pub mod RouteLemmas
+pub mod SegmentLemmas
+pub mod Unique
+pub mod WantedLemmas

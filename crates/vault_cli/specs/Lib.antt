@@ -1,0 +1,16 @@
+pub mod Answer
+pub mod Body
+pub mod Closing
+pub mod Faults
+pub mod Fields
+pub mod Finding
+pub mod FirstAnswer
+pub mod Messages
+pub mod Occurrences
+pub mod Parts
+pub mod Reply
+pub mod Route
+pub mod Status
+pub mod Templates
+pub mod Unwanted
+pub mod Wanted

@@ -1,0 +1,40 @@
+-- What a command leaves of a vault over tables.
+use Rattle.std.specs.Prelude.{◌≡◌, ℕ, Bool, true, false, Result, Ok, Err}
+use Rattle.vault_core.specs.Sound.{Sound}
+use Rattle.vault_core.specs.Vault.{Vault as Content}
+use Rattle.vault_store.specs.declared.vault.Fault.{Fault}
+use Rattle.vault_store.specs.declared.vault.Fault.TheVariants.{Memory, Store, Reopen}
+use Rattle.vault_store.specs.declared.vault.Vault.{Vault}
+
+-- the tables of a vault
+abbrev pub tables_of : {T : Type 0} → Vault T → T
+tables_of vault = vault.tables
+
+-- the store failed once
+abbrev pub is_broken : {T : Type 0} → Vault T → Bool
+is_broken vault = vault.broken
+
+-- the tables hold this vault, and it is sound
+abbrev pub Contains : {T : Type 0} → (T → Content → Type 0) → Vault T → Content → Type 0
+Contains holds vault V = holds vault.tables V × Sound V
+
+-- after 21 and 22 the vault is broken, after all else it isn't
+abbrev pub breaks : {X : Type 0} → Result X Fault → Bool
+breaks (Ok x) = false
+breaks (Err Memory) = false
+breaks (Err Store) = true
+breaks (Err Reopen) = true
+
+-- the numbers of the faults
+abbrev pub fault_number : Fault → ℕ
+fault_number Memory = 20
+fault_number Store = 21
+fault_number Reopen = 22
+
+-- over tables that are never refused memory for what adds nothing it isn't refused, and over tables
+-- that never fail it doesn't fail
+abbrev pub IsAllowedFault : {X : Type 0} → Bool → Bool → Result X Fault → Type 0
+IsAllowedFault may_refuse may_fail (Ok x) = Unit {0}
+IsAllowedFault may_refuse may_fail (Err Memory) = ¬ (may_refuse ≡ false)
+IsAllowedFault may_refuse may_fail (Err Store) = ¬ (may_fail ≡ false)
+IsAllowedFault may_refuse may_fail (Err Reopen) = ⊥

@@ -1,0 +1,126 @@
+//! The vault: commands that are decided, and written before they are answered.
+ghost use Rattle.std.specs.Prelude.{◌≡◌, ◌↔◌, false, true, Err, IfOk};
+ghost use Rattle.vault_core.specs.Proper.{HasLivesInRange};
+ghost use Rattle.vault_core.specs.Sound.{Sound};
+ghost use Rattle.vault_core.specs.Table.{after as after_lem, reply as reply_lem};
+ghost use Rattle.vault_core.specs.Vault.{Vault as Content};
+ghost use Rattle.vault_store.specs.Added.{AddsNothing};
+ghost use Rattle.vault_store.specs.Reads.{IsAllowed, KeepsOnMemory};
+
+use crate::tables::{Tables, TablesFault};
+use crate::window::window;
+use vault_core::command::Command;
+use vault_core::decide::decide;
+use vault_core::reply::Reply;
+
+/// Why a command wasn't answered.
+#[derive(Clone, Copy, Debug, PartialEq, Eq)]
+pub enum Fault {
+    /// 20: memory was refused; nothing changed, and the vault may be used.
+    Memory,
+    /// 21: the store failed; the vault is broken from now on.
+    Store,
+    /// 22: the vault was broken already; nothing changed.
+    Reopen,
+}
+
+impl Fault {
+    ghost use Rattle.vault_store.specs.Applied.{fault_number};
+
+    /// The number of the fault: 20, 21 or 22.
+    pub fn number(self) -> u8
+        ensures { result ≡ fault_number self }
+    {
+        match self {
+            Fault::Memory => 20,
+            Fault::Store => 21,
+            Fault::Reopen => 22,
+        }
+    }
+}
+
+/// A vault over tables.
+#[derive(Drop)]
+pub struct Vault<T> {
+    tables: T,
+    broken: bool,
+}
+
+impl<T: Tables> Vault<T> {
+    ghost use Rattle.vault_store.specs.Applied.{Contains, IsAllowedFault, breaks, is_broken, tables_of};
+
+    /// The vault that tables hold.
+    pub fn new(tables: T) -> Vault<T>
+        requires { (V : Content) → T.holds tables V → Sound V }
+        ensures tables { tables_of result ≡ tables }
+        ensures fresh { is_broken result ≡ false }
+        ensures sound { (V : Content) → T.holds tables V → Contains T.holds result V }
+    {
+        Vault {
+            tables,
+            broken: false,
+        }
+    }
+
+    /// Answers a command, after what it changes was written.
+    pub fn apply(&mut self, c: &Command) -> Result<Reply, Fault>
+        requires { HasLivesInRange c.now }
+        ensures honest { T.is_honest (tables_of self.new) → T.is_honest (tables_of self.old) }
+        ensures answered { T.is_honest (tables_of self.new) → IfOk result (λ reply. (V : Content) → Contains T.holds self.old V
+            → (reply ≡ reply_lem V c.now) × Contains T.holds self.new (after_lem V c.now)) }
+        ensures memory { result ≡ Err Fault.Memory → (V : Content) → Contains T.holds self.old V → Contains T.holds self.new V }
+        ensures reopen { (result ≡ Err Fault.Reopen) ↔ (is_broken self.old ≡ true) }
+        ensures unchanged { result ≡ Err Fault.Reopen → tables_of self.new ≡ tables_of self.old }
+        ensures broken { is_broken self.new ≡ breaks result }
+        ensures allowed { is_broken self.old ≡ false → T.is_honest (tables_of self.new)
+            → (V : Content) → Contains T.holds self.old V → AddsNothing V (after_lem V c.now)
+            → IsAllowedFault T.may_refuse T.may_fail result }
+        ensures sturdy { T.may_fail ≡ false → ¬ (result ≡ Err Fault.Store) }
+    {
+        if self.broken {
+            return Err(Fault::Reopen);
+        }
+        match answer(&mut self.tables, c) {
+            Ok(reply) => Ok(reply),
+            Err(TablesFault::Memory) => Err(Fault::Memory),
+            Err(TablesFault::Store) => {
+                self.broken = true;
+                Err(Fault::Store)
+            }
+        }
+    }
+
+    /// Whether the store failed, so that every command is answered 22.
+    pub fn broken(&self) -> bool
+        ensures { result ≡ is_broken self.now }
+    {
+        self.broken
+    }
+
+    /// The tables.
+    pub fn into_tables(self) -> T
+        ensures { result ≡ tables_of self }
+    {
+        let Vault { tables, broken: _ } = self;
+        tables
+    }
+}
+
+/// The answer to a command, after what it changes was written. What changes nothing writes nothing.
+fn answer<T: Tables>(tables: &mut T, c: &Command) -> Result<Reply, TablesFault>
+    requires { HasLivesInRange c.now }
+    ensures honest { T.is_honest tables.new → T.is_honest tables.old }
+    ensures told { T.is_honest tables.new → IfOk result (λ reply. (V : Content) → T.holds tables.old V → Sound V
+        → (reply ≡ reply_lem V c.now) × T.holds tables.new (after_lem V c.now) × Sound (after_lem V c.now)) }
+    ensures kept { KeepsOnMemory result (T.holds tables.old) (T.holds tables.new) }
+    ensures allowed { T.is_honest tables.new → (V : Content) → T.holds tables.old V → Sound V → AddsNothing V (after_lem V c.now)
+        → IsAllowed T.may_refuse T.may_fail result }
+    ensures sturdy { T.may_fail ≡ false → ¬ (result ≡ Err TablesFault.Store) }
+{
+    let seen = window(tables, c)?;
+    let (reply, changes) = decide(&seen, c);
+    if !changes.is_none() {
+        tables.write(&changes)?;
+    }
+    Ok(reply)
+}
