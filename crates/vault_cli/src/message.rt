@@ -126,3 +126,6 @@ pub fn first_message(bytes: &[u8]) -> Result<Option<Message<'_>>, WireFault>
         },
     }
 }
+
+#[cfg(test)]
+mod tests;

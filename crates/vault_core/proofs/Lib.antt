@@ -2,6 +2,7 @@ pub mod Branches
 pub mod CurrentLemmas
 pub mod Digits
 pub mod DrawLemmas
+pub mod Empty
 pub mod Finds
 pub mod Kept
 pub mod Maps

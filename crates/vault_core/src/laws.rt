@@ -1,5 +1,12 @@
 //! Laws over every list of commands from a sound vault.
+ghost use Rattle.vault_core.specs.Sound.{Sound};
+ghost use Rattle.vault_core.specs.Vault.{empty_vault};
 ghost use Rattle.vault_core.specs.Laws.{StaysSound, TokensFail, NumbersNeverShare, RepeatsAnswerFirst};
+
+/// The empty vault is sound.
+pub fn empty_is_sound()
+    ensures { Sound empty_vault }
+{}
 
 /// Every vault that commands leave is sound.
 pub fn stays_sound()

@@ -2,7 +2,7 @@
 use vault_pan::token::Token;
 
 /// What a command is answered.
-#[derive(Clone, Copy, Debug)]
+#[derive(Clone, Copy, Debug, PartialEq, Eq)]
 pub enum Reply {
     Done,
     /// A token, and the first second, since 1970, at which it isn't live.

@@ -16,16 +16,6 @@ pub enum Right {
 impl Right {
     ghost use Rattle.vault_core.specs.declared.right.Right.{Right};
 
-    /// All rights, in the order of their numbers.
-    pub const ALL: [Right; 6] = [
-        Right::Tokenize,
-        Right::Detokenize,
-        Right::View,
-        Right::Revoke,
-        Right::Purge,
-        Right::Audit,
-    ];
-
     /// Reads a right's word, its name in small letters.
     pub fn read(text: &[u8]) -> Option<Right>
         ensures word { IfSome result (λ right. text.now ≡ right_word right) }

@@ -6,7 +6,7 @@ use vault_pan::pan::Pan;
 use vault_pan::token::Token;
 
 /// A merchant, with the counts of its tokens made, numbers given and numbers denied.
-#[derive(Clone, Copy, Debug)]
+#[derive(Clone, Copy, Debug, PartialEq, Eq)]
 pub struct MerchantRow {
     /// How many seconds a single-use token lives; 0 where they aren't offered.
     pub single_life: u64,
@@ -20,7 +20,7 @@ pub struct MerchantRow {
 }
 
 /// What a token stands for.
-#[derive(Clone, Copy, Debug)]
+#[derive(Clone, Copy, Debug, PartialEq, Eq)]
 pub struct Entry {
     /// The card number, unless it is erased.
     pub number: Option<Pan>,
@@ -32,7 +32,7 @@ pub struct Entry {
 }
 
 /// What an accepted request was answered.
-#[derive(Clone, Copy, Debug)]
+#[derive(Clone, Copy, Debug, PartialEq, Eq)]
 pub struct Record {
     pub merchant: MerchantId,
     pub token: Token,

@@ -1,3 +1,11 @@
+pub mod AddsLemmas
 pub mod Drawn
+pub mod EmptyLemmas
 pub mod Held
+pub mod LiveLemmas
+pub mod MadeLemmas
+pub mod MerchantLemmas
+pub mod Results
+pub mod RightOrder
+pub mod ShownKeysLemmas
 pub mod ShownLemmas

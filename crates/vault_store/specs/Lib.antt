@@ -1,5 +1,10 @@
 pub mod Added
 pub mod Applied
+pub mod Held
+pub mod Live
 pub mod Reads
 pub mod Rows
 pub mod Shown
+pub mod ShownKeys
+pub mod ShownMerchants
+pub mod Written

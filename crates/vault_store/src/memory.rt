@@ -1,3 +1,103 @@
 //! Tables in memory.
+ghost use Rattle.std.specs.Prelude.{false};
+ghost use Rattle.vault_core.specs.Vault.{empty_vault};
 
+mod current;
+mod merchant;
+mod rights;
 mod rows;
+mod write;
+
+use crate::tables::{Tables, TablesFault};
+use current::live_token;
+use rows::{put, put_back};
+use std::alloc::Global;
+use std::collections::{BTreeMap, BTreeSet};
+use vault_core::changes::Changes;
+use vault_core::moment::Moment;
+use vault_core::name::{Caller, MerchantId};
+use vault_core::request::RequestNo;
+use vault_core::right::Right;
+use vault_core::row::{Entry, MerchantRow, Record};
+use vault_pan::pan::Pan;
+use vault_pan::token::Token;
+use write::write_record;
+
+/// Tables in memory. Their reads, and their writes that add nothing, are never refused.
+#[derive(Drop)]
+pub struct MemTables {
+    merchants: BTreeMap<MerchantId, MerchantRow>,
+    entries: BTreeMap<(MerchantId, Token), Entry>,
+    records: BTreeMap<(Caller, RequestNo), Record>,
+    rights: BTreeSet<(Caller, (MerchantId, Right))>,
+}
+
+impl MemTables {
+    ghost use Rattle.vault_store.specs.Held.{IsHeld};
+
+    /// Tables of the empty vault, which take no memory yet.
+    pub fn new(alloc: Global) -> MemTables
+        ensures { IsHeld result empty_vault }
+    {
+        MemTables {
+            merchants: BTreeMap::new(alloc),
+            entries: BTreeMap::new(alloc),
+            records: BTreeMap::new(alloc),
+            rights: BTreeSet::new(alloc),
+        }
+    }
+}
+
+impl Tables for MemTables {
+    ghost use Rattle.vault_store.specs.Held.{IsHeld};
+
+    ghost holds = { IsHeld };
+
+    ghost is_honest = { λ _. Unit {0} };
+
+    ghost may_refuse = { false };
+
+    ghost may_fail = { false };
+
+    fn merchant(&mut self, m: MerchantId) -> Result<Option<MerchantRow>, TablesFault> {
+        Ok(self.merchants.get(&m).copied())
+    }
+
+    fn merchants(&mut self) -> Result<u64, TablesFault> {
+        Ok(self.merchants.len() as u64)
+    }
+
+    fn right(&mut self, c: Caller, m: MerchantId, r: Right) -> Result<bool, TablesFault> {
+        Ok(self.rights.contains(&(c, (m, r))))
+    }
+
+    fn recorded(&mut self, c: Caller, n: RequestNo) -> Result<Option<Record>, TablesFault> {
+        Ok(self.records.get(&(c, n)).copied())
+    }
+
+    fn entry(&mut self, m: MerchantId, t: Token) -> Result<Option<Entry>, TablesFault> {
+        Ok(self.entries.get(&(m, t)).copied())
+    }
+
+    fn current(&mut self, m: MerchantId, p: Pan, at: Moment) -> Result<Option<Token>, TablesFault> {
+        Ok(live_token(&self.entries, m, &p, at))
+    }
+
+    fn write(&mut self, ch: &Changes) -> Result<(), TablesFault> {
+        let Some((merchant, token, entry)) = ch.entry else {
+            write_record(&mut self.records, &mut self.rights, &mut self.merchants, ch)?;
+            return Ok(());
+        };
+        let was = put(&mut self.entries, (merchant, token), entry)?;
+        if let Err(refused) = write_record(
+            &mut self.records,
+            &mut self.rights,
+            &mut self.merchants,
+            ch,
+        ) {
+            put_back(&mut self.entries, (merchant, token), was);
+            return Err(TablesFault::from(refused));
+        }
+        Ok(())
+    }
+}

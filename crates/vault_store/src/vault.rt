@@ -49,12 +49,11 @@ pub struct Vault<T> {
 impl<T: Tables> Vault<T> {
     ghost use Rattle.vault_store.specs.Applied.{Contains, IsAllowedFault, breaks, is_broken, tables_of};
 
-    /// The vault that tables hold.
+    /// The vault that tables hold. Nothing is promised of tables that hold no sound vault.
     pub fn new(tables: T) -> Vault<T>
-        requires { (V : Content) → T.holds tables V → Sound V }
         ensures tables { tables_of result ≡ tables }
         ensures fresh { is_broken result ≡ false }
-        ensures sound { (V : Content) → T.holds tables V → Contains T.holds result V }
+        ensures contains { (V : Content) → T.holds tables V → Sound V → Contains T.holds result V }
     {
         Vault {
             tables,

@@ -1,5 +1,5 @@
 //! Rows that are put into an ordered map, and taken back.
-ghost use Rattle.std.specs.Prelude.{◌≡◌, IfOk, OnErr, None, IsSome};
+ghost use Rattle.std.specs.Prelude.{◌≡◌, IfOk, OnOk, OnErr, None};
 ghost use Rattle.std.specs.FinMap as map;
 ghost use Rattle.std.specs.BTreeMap as tree;
 ghost use Rattle.vault_store.specs.Shown.{Shows};
@@ -8,9 +8,13 @@ use std::alloc::AllocError;
 use std::collections::BTreeMap;
 
 /// Puts a row at a key, and gives the one that stood there. Only a new key can be refused.
-pub fn put<K: Ord + Drop, V: Drop>(rows: &mut BTreeMap<K, V>, key: K, row: V) -> Result<Option<V>, AllocError>
+pub fn put<K: Ord + Drop, V: Drop>(
+    rows: &mut BTreeMap<K, V>,
+    key: K,
+    row: V,
+) -> Result<Option<V>, AllocError>
     ensures was { IfOk result (λ was. was ≡ tree.get K.cmp rows.old key) }
-    ensures ok { IfOk result (λ was. (F : map.FinMap K.cmp V) → Shows K.cmp rows.old F → Shows K.cmp rows.new (map.insert F key row)) }
+    ensures ok { OnOk result ((F : map.FinMap K.cmp V) → Shows K.cmp rows.old F → Shows K.cmp rows.new (map.insert F key row)) }
     ensures new { OnErr result (tree.get K.cmp rows.old key ≡ None) }
     ensures err { OnErr result ((F : map.FinMap K.cmp V) → Shows K.cmp rows.old F → Shows K.cmp rows.new F) }
 {
@@ -19,7 +23,6 @@ pub fn put<K: Ord + Drop, V: Drop>(rows: &mut BTreeMap<K, V>, key: K, row: V) ->
 
 /// Puts back the row that stood at a key before another was put there.
 pub fn put_back<K: Ord + Drop, V: Drop>(rows: &mut BTreeMap<K, V>, key: K, was: Option<V>)
-    requires { IsSome (tree.get K.cmp rows.old key) }
     ensures { map.IsAntisymmetric K.cmp → (F : map.FinMap K.cmp V) (row : V) → was ≡ map.get F key
         → Shows K.cmp rows.old (map.insert F key row) → Shows K.cmp rows.new F }
 {

@@ -1,0 +1,9 @@
+#!/bin/sh
+# Proves the program with what it stands on, and leaves it as bin/vault.
+set -eu
+cd "$(dirname "$0")"
+mkdir -p bin
+(cd crates/vault_cli && rt run -- trial --now 1000 --digits 0 till-1 shop1 60 < ../../examples/first-token.http)
+echo
+cp crates/vault_cli/out/vault_cli bin/vault
+echo "bin/vault is built and proved"

@@ -1,0 +1,28 @@
+-- Facts about results.
+use Rattle.std.proofs.Common.{◌≡◌, Result, Ok, Err, Bool, true, false, not, refl}
+use Rattle.std.specs.Prelude.{OnErr}
+use Rattle.vault_core.specs.Vault.{Vault}
+use Rattle.vault_store.specs.Reads.{KeepsOnMemory, StillHolds}
+use Rattle.vault_store.specs.declared.tables.TablesFault.{TablesFault}
+use Rattle.vault_store.specs.declared.tables.TablesFault.TheVariants.{Memory, Store}
+
+-- what holds holds on Err
+pub on_err : {T E P : Type 0} (r : Result T E) → P → OnErr r P
+on_err (Ok x) p = tt
+on_err (Err e) p = p
+
+-- what keeps the vaults that the tables hold keeps them on want of memory
+pub keeps : {X : Type 0} (r : Result X TablesFault) (before now : Vault → Type 0) → StillHolds before now → KeepsOnMemory r before now
+keeps (Ok x) before now h = tt
+keeps (Err Memory) before now h = h
+keeps (Err Store) before now h = tt
+
+-- a test that says whether something is missing
+pub is_false : (b c d : Bool) → b ≡ not c → c ≡ d → b ≡ true → d ≡ false
+is_false b c true is same set = cc
+is_false b c false is same set = refl
+
+pub is_true : (b c d : Bool) → b ≡ not c → c ≡ d → b ≡ false → d ≡ true
+is_true b c true is same unset = refl
+is_true b true false is same unset = cc
+is_true b false false is same unset = cc

@@ -1,0 +1,53 @@
+use Rattle.std.proofs.Common.{sym, ap, ◌∙◌, subst, Err}
+use Rattle.vault_core.proofs.Maps.{entry_exact}
+use Rattle.vault_core.specs.Changes.{with_entry}
+use Rattle.vault_core.specs.Keys.{entry_cmp}
+use Rattle.vault_store.specs.Held.{IsHeld}
+use Rattle.vault_store.specs.Shown.{Shows}
+use Rattle.vault_store.proofs.AddsLemmas.{adds_entry}
+use Rattle.vault_store.proofs.Results.{keeps}
+use Rattle.vault_store.proofs.memory.MemTablesTables.write.Goals as goal
+
+pub returns-in_err-was-clause-kept : goal.returns-in_err-was-clause-kept
+returns-in_err-was-clause-kept c =
+    keeps c.from_residual-in_err-was.result (IsHeld c.args.self.now) _
+    (λ V held. record {
+      merchants = held.merchants;
+      entries = c.in_err-was.ensures.err V.entries held.entries;
+      records = held.records;
+      rights = held.rights;
+    })
+
+pub returns-in_err-was-clause-allowed : goal.returns-in_err-was-clause-allowed
+returns-in_err-was-clause-allowed c V held fit adds =
+    let x = c.in-Some in
+    absurd (adds_entry V c.args.ch.now (x.merchant, x.token, x.entry) x.is
+    (sym (held.entries.at (x.merchant, x.token)) ∙ c.in_err-was.ensures.new) adds)
+
+pub returns-in-Err-clause-kept : goal.returns-in-Err-clause-kept
+returns-in-Err-clause-kept c =
+    keeps {X = Unit {0}} (Err c.from.result) (IsHeld c.args.self.now) _
+    (λ V held.
+    let x = c.in-Some in
+    let put = c.in_ok-was.ensures in
+    let kept = c.in-Err.ensures.kept V (record { records_are = held.records; others = record { rights_are = held.rights; merchants_are = held.merchants } }) in
+    record {
+      merchants = kept.others.merchants_are;
+      entries =
+          c.put_back.ensures entry_exact V.entries x.entry (put.was ∙ held.entries.at (x.merchant, x.token))
+          (put.ok V.entries held.entries);
+      records = kept.records_are;
+      rights = kept.others.rights_are;
+    })
+
+pub returns-clause-done : goal.returns-clause-done
+returns-clause-done c _ V held sound fit =
+    let rest = c.in_default-write_record.ensures.done V (record { records_are = held.records; others = record { rights_are = held.rights; merchants_are = held.merchants } }) sound fit in
+    record {
+      merchants = rest.others.merchants_are;
+      entries =
+          subst (λ F. Shows entry_cmp c.put.new.rows F) (sym (ap (with_entry V.entries) c.in-Some.is))
+          (c.in_ok-was.ensures.ok V.entries held.entries);
+      records = rest.records_are;
+      rights = rest.others.rights_are;
+    }

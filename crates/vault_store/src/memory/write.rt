@@ -1,0 +1,70 @@
+//! Changes that are made, all of them or none: what was put is taken back where a later step is refused.
+ghost use Rattle.std.specs.Prelude.{OnOk, OnErr, IsOk};
+ghost use Rattle.vault_core.specs.Changes.{Fit, plus};
+ghost use Rattle.vault_core.specs.Sound.{Sound};
+ghost use Rattle.vault_core.specs.Vault.{Vault};
+ghost use Rattle.vault_store.specs.Added.{AddsNothing};
+ghost use Rattle.vault_store.specs.Written.{HoldsRecords, HoldsRights};
+
+use crate::memory::merchant::put_merchant;
+use crate::memory::rights::{give, take_away};
+use crate::memory::rows::{put, put_back};
+use std::alloc::AllocError;
+use std::collections::{BTreeMap, BTreeSet};
+use vault_core::changes::Changes;
+use vault_core::name::{Caller, MerchantId};
+use vault_core::request::RequestNo;
+use vault_core::right::Right;
+use vault_core::row::{MerchantRow, Record};
+
+/// Writes the record, the right and the merchant of the changes, or nothing.
+pub fn write_record(
+    records: &mut BTreeMap<(Caller, RequestNo), Record>,
+    rights: &mut BTreeSet<(Caller, (MerchantId, Right))>,
+    merchants: &mut BTreeMap<MerchantId, MerchantRow>,
+    ch: &Changes,
+) -> Result<(), AllocError>
+    ensures done { OnOk result ((V : Vault) → HoldsRecords records.old rights.old merchants.old V → Sound V → Fit V ch.now → HoldsRecords records.new rights.new merchants.new (plus V ch.now)) }
+    ensures kept { OnErr result ((V : Vault) → HoldsRecords records.old rights.old merchants.old V → HoldsRecords records.new rights.new merchants.new V) }
+    ensures allowed { (V : Vault) → HoldsRecords records.old rights.old merchants.old V → AddsNothing V (plus V ch.now) → IsOk result }
+{
+    let Some((caller, request, recorded)) = ch.recorded else {
+        return write_right(rights, merchants, ch);
+    };
+    let was = put(records, (caller, request), recorded)?;
+    if let Err(refused) = write_right(rights, merchants, ch) {
+        put_back(records, (caller, request), was);
+        return Err(refused);
+    }
+    Ok(())
+}
+
+/// Writes the right and the merchant of the changes, or nothing. A right is taken away last, since
+/// that takes no memory and needn't be undone.
+fn write_right(
+    rights: &mut BTreeSet<(Caller, (MerchantId, Right))>,
+    merchants: &mut BTreeMap<MerchantId, MerchantRow>,
+    ch: &Changes,
+) -> Result<(), AllocError>
+    ensures done { OnOk result ((V : Vault) → HoldsRights rights.old merchants.old V → Sound V → Fit V ch.now → HoldsRights rights.new merchants.new (plus V ch.now)) }
+    ensures kept { OnErr result ((V : Vault) → HoldsRights rights.old merchants.old V → HoldsRights rights.new merchants.new V) }
+    ensures allowed { (V : Vault) → HoldsRights rights.old merchants.old V → AddsNothing V (plus V ch.now) → IsOk result }
+{
+    let Some((caller, merchant, right, is_given)) = ch.right else {
+        return put_merchant(merchants, ch);
+    };
+    let key = (caller, (merchant, right));
+    if !is_given {
+        put_merchant(merchants, ch)?;
+        take_away(rights, &key);
+        return Ok(());
+    }
+    let is_new = give(rights, key)?;
+    if let Err(refused) = put_merchant(merchants, ch) {
+        if is_new {
+            take_away(rights, &key);
+        }
+        return Err(refused);
+    }
+    Ok(())
+}
