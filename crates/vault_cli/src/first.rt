@@ -93,7 +93,12 @@ fn reply_of<T: Tables>(
 }
 
 /// The text of a reply to a message.
-fn reply_text(alloc: Global, routes: &Routes, message: &Message<'_>, reply: &Reply) -> Result<Vec<u8>, AllocError>
+fn reply_text(
+    alloc: Global,
+    routes: &Routes,
+    message: &Message<'_>,
+    reply: &Reply,
+) -> Result<Vec<u8>, AllocError>
     ensures { IfOk result (λ out. out.items ≡ text_of message.now reply.now) }
 {
     let status = status_of(reply);

@@ -19,14 +19,13 @@ pub mod reply;
 pub mod route;
 pub mod run;
 pub mod status;
-pub mod trial;
 mod tree;
+pub mod trial;
 pub mod wanted;
 
 use run::{no_words, run};
-use std::env;
-use std::io;
 use std::process::ExitCode;
+use std::{env, io};
 
 /// The words that the program was started with.
 fn words(rt: &HostRuntime) -> io::Result<Vec<String>> {
@@ -38,13 +37,7 @@ fn main(rt: HostRuntime) -> ExitCode {
     let mut output = rt.stdout();
     let mut errors = rt.stderr();
     let status = match words(&rt) {
-        Ok(words) => run(
-            &rt,
-            words.as_slice(),
-            &mut input,
-            &mut output,
-            &mut errors,
-        ),
+        Ok(words) => run(&rt, words.as_slice(), &mut input, &mut output, &mut errors),
         Err(error) => no_words(&error, &mut errors),
     };
     ExitCode::from(status)

@@ -128,3 +128,6 @@ fn stopped<E: Write>(errors: &mut E, fault: u8) -> u8
     let _ = writeln!(errors, "vault: stopped {fault}");
     STOPPED
 }
+
+#[cfg(test)]
+mod tests;

@@ -146,7 +146,15 @@ fn request_command(
         return Err(Unwanted::Refused(BAD_FIELDS));
     };
     let request = RequestNo::read(request)?;
-    body_command(alloc, message.body(), caller, merchant, request, now, digits)
+    body_command(
+        alloc,
+        message.body(),
+        caller,
+        merchant,
+        request,
+        now,
+        digits,
+    )
 }
 
 /// The command of a body that asks for a token, with the parts that were read before.

@@ -3,5 +3,7 @@
 
 pub mod memory;
 pub mod tables;
+#[cfg(test)]
+mod tests;
 pub mod vault;
 pub mod window;

@@ -15,13 +15,13 @@ pub returns-clause-answered : goal.returns-clause-answered
 returns-clause-answered g c honest =
     IfOk-weaker c.reply_text.result _ _
     (λ out text V held.
-        let r = c.in_ok-reply.ensures.answered honest V held in
-        (after_wanted V r.0, r.2, r.0, (r.1, refl), text ∙ ap (text_of c.args.message.now) r.3))
+    let r = c.in_ok-reply.ensures.answered honest V held in
+    (after_wanted V r.0, r.2, r.0, (r.1, refl), text ∙ ap (text_of c.args.message.now) r.3))
     c.reply_text.ensures
 
 pub returns-clause-refused : goal.returns-clause-refused
 returns-clause-refused g c honest =
     on_err c.reply_text.result _
     (λ V held.
-        let r = c.in_ok-reply.ensures.answered honest V held in
-        (after_wanted V r.0, r.2, inr (r.0, (r.1, refl))))
+    let r = c.in_ok-reply.ensures.answered honest V held in
+    (after_wanted V r.0, r.2, inr (r.0, (r.1, refl))))

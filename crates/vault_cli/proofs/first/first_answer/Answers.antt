@@ -13,10 +13,10 @@ returns-in-Ok-Some-clause-answered g c honest =
     let drawn = c.args.digits in
     IfOk-weaker c.answer.result _ _
     (λ out h V held.
-        let x = h V held in
-        let P : Parts → Type 0 = λ p. Leaves p now drawn V x.0 x.2 × (out.items ≡ text_of p (reply_to V x.2)) in
-        let of = subst P found.2 (x.3, x.4) in
-        (x.0, x.1, inl (found.0, x.2, found.1, of.0, of.1)))
+    let x = h V held in
+    let P : Parts → Type 0 = λ p. Leaves p now drawn V x.0 x.2 × (out.items ≡ text_of p (reply_to V x.2)) in
+    let of = subst P found.2 (x.3, x.4) in
+    (x.0, x.1, inl (found.0, x.2, found.1, of.0, of.1)))
     (c.answer.ensures.answered honest)
 
 pub returns-in-Ok-Some-clause-refused : goal.returns-in-Ok-Some-clause-refused
@@ -26,11 +26,14 @@ returns-in-Ok-Some-clause-refused g c honest =
     let drawn = c.args.digits in
     on_err_more c.answer.result _ _
     (λ h V held.
-        let x = h V held in
-        (x.0, x.1, elim x.2 [
-          | inl same ↦ inl same
-          | inr left ↦ inr (found.0, left.0, found.1, subst (λ p. Leaves p now drawn V x.0 left.0) found.2 left.1)
-        ]))
+    let x = h V held in (
+      x.0,
+      x.1,
+      elim x.2 [
+        | inl same ↦ inl same
+        | inr left ↦ inr (found.0, left.0, found.1, subst (λ p. Leaves p now drawn V x.0 left.0) found.2 left.1)
+      ],
+    ))
     (c.answer.ensures.refused honest)
 
 pub returns-in-Ok-None-clause-answered : goal.returns-in-Ok-None-clause-answered

@@ -15,7 +15,13 @@ returns-clause-wanted c =
     let read = c.in_ok-request.ensures in
     wanted_by (wants c.body.result.now c.in_ok-request.request)
     (WantsRequest c.args.message.now c.args.caller c.args.merchant c.args.now c.args.digits)
-    (λ r h. inl (c.in-Some.request.now, sym c.in-Some.ensures, inl (read.request.0 refl,
+    (λ r h. inl (
+      c.in-Some.request.now,
+      sym c.in-Some.ensures,
+      inl (
+        read.request.0 refl,
         subst (λ body. wants body (digits_value 10 c.in-Some.request.now) r) c.body.ensures
-        (subst (λ request. wants c.body.result.now request r) read.value h))))
+            (subst (λ request. wants c.body.result.now request r) read.value h),
+      ),
+    ))
     c.body_command.result c.body_command.ensures.wanted

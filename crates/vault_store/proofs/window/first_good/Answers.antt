@@ -23,10 +23,10 @@ returns-then-is_none-clause-told g c honest V held sound =
     let inv = c.loop-k.invariant in
     let token = c.in-Some.ensures in
     let new : entry_at V a.merchant c.in-Some.token ≡ None =
-        sym (c.in_ok-entry.ensures.told honest V (inv.kept V held) sound)
-        ∙ none_is c.in_ok-entry.field-0 (c.is_none.ensures ∙ ap not c.if-is_none.true) in
+    sym (c.in_ok-entry.ensures.told honest V (inv.kept V held) sound)
+    ∙ none_is c.in_ok-entry.field-0 (c.is_none.ensures ∙ ap not c.if-is_none.true) in
     let good = chosen_from-good V a.merchant a.pan a.digits c.loop-k.k c.loop-k-test.true
-        (ap passes_check (sym token.0) ∙ token.1) (ap (entry_at V a.merchant) (sym token.0) ∙ new) in
+    (ap passes_check (sym token.0) ∙ token.1) (ap (entry_at V a.merchant) (sym token.0) ∙ new) in
     ap Some token.0 ∙ sym (inv.passed (c.in_ok-entry.ensures.honest honest) V held sound ∙ good)
 
 pub loop-k-preserved : goal.loop-k-preserved
@@ -48,7 +48,7 @@ loop-k-preserved g c =
                 let found = sym (told.told honest V (inv.kept V held) sound) ∙ there.1 in
                 inv.passed (told.honest honest) V held sound
                 ∙ chosen_from-taken V a.merchant a.pan a.digits c.loop-k.k there.0 c.loop-k-test.true
-                    (ap (entry_at V a.merchant) (sym token.0) ∙ found);
+                (ap (entry_at V a.merchant) (sym token.0) ∙ found);
           }
       | in_default w ↦
           record {

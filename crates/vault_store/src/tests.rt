@@ -1,0 +1,229 @@
+//! Lists of commands over tables in memory: worked cases, with tokens and moments worked out by hand.
+use crate::memory::MemTables;
+use crate::tables::Tables;
+use crate::vault::Vault;
+use std::process::Abort;
+use vault_core::command::Command;
+use vault_core::moment::Moment;
+use vault_core::name::{Caller, MerchantId};
+use vault_core::reply::Reply;
+use vault_core::request::RequestNo;
+use vault_core::right::Right;
+use vault_core::usage::Use;
+use vault_pan::draw::Digits;
+use vault_pan::pan::Pan;
+use vault_pan::token::Token;
+
+const NUMBER: &[u8] = b"4111111111111111";
+
+const OTHER_NUMBER: &[u8] = b"4222222222222";
+
+/// The moment of a number of seconds.
+fn moment(rt: &impl Abort, seconds: u64) -> Moment {
+    Moment::new(seconds).expect(rt, "a moment")
+}
+
+/// The name of a merchant.
+fn merchant(rt: &impl Abort, name: &[u8]) -> MerchantId {
+    MerchantId::read(name).expect(rt, "a name")
+}
+
+/// The caller of all commands.
+fn till(rt: &impl Abort) -> Caller {
+    Caller::read(b"till-1").expect(rt, "a name")
+}
+
+/// A vault with `shop1`, set at 1000 with these lives, where `till-1` may ask for tokens.
+fn vault<H: AllocGlobal + Abort>(rt: &H, single_life: u64, multi_life: u64) -> Vault<MemTables> {
+    let mut vault = Vault::new(MemTables::new(rt.alloc()));
+    let now = moment(rt, 1000);
+    let set = Command::SetMerchant {
+        merchant: merchant(rt, b"shop1"),
+        single_life,
+        multi_life,
+        now,
+    };
+    assert!(rt; set.proper());
+    assert!(rt; matches!(vault.apply(&set), Ok(Reply::Done)));
+    let grant = Command::Grant {
+        caller: till(rt),
+        merchant: merchant(rt, b"shop1"),
+        right: Right::Tokenize,
+        now,
+    };
+    assert!(rt; matches!(vault.apply(&grant), Ok(Reply::Done)));
+    vault
+}
+
+/// A Tokenize of `till-1`.
+#[derive(Clone, Copy)]
+struct Asked {
+    shop: &'static [u8],
+    request: &'static [u8],
+    usage: Use,
+    number: &'static [u8],
+    /// The value of all 300 digits.
+    digit: u8,
+    now: u64,
+}
+
+/// Request 7 at `shop1`: the number for a single use, with zeros, at 1000.
+const FIRST: Asked = Asked {
+    shop: b"shop1",
+    request: b"7",
+    usage: Use::Single,
+    number: NUMBER,
+    digit: 0,
+    now: 1000,
+};
+
+/// The reply to a Tokenize.
+fn reply<T: Tables>(rt: &impl Abort, vault: &mut Vault<T>, asked: &Asked) -> Reply {
+    let command = Command::Tokenize {
+        caller: till(rt),
+        merchant: merchant(rt, asked.shop),
+        request: RequestNo::read(asked.request).expect(rt, "a request number"),
+        usage: asked.usage,
+        pan: Pan::read(asked.number).expect(rt, "a card number"),
+        digits: Digits::new([asked.digit; 300].as_slice()).expect(rt, "digits"),
+        now: moment(rt, asked.now),
+    };
+    vault.apply(&command).expect(rt, "an answer")
+}
+
+/// Whether a Tokenize is answered with this token and expires.
+fn gives<T: Tables>(
+    rt: &impl Abort,
+    vault: &mut Vault<T>,
+    asked: &Asked,
+    token: &[u8],
+    expires: u64,
+) -> bool {
+    let token = Token::read(token).expect(rt, "a token");
+    reply(rt, vault, asked) == Reply::Token { token, expires }
+}
+
+/// Whether a Tokenize is refused with this number.
+fn refuses<T: Tables>(rt: &impl Abort, vault: &mut Vault<T>, asked: &Asked, number: u8) -> bool {
+    reply(rt, vault, asked) == Reply::Refused(number)
+}
+
+/// How many tokens `shop1` has.
+fn made(rt: &impl Abort, vault: Vault<MemTables>) -> u64 {
+    let mut tables = vault.into_tables();
+    let row = tables.merchant(merchant(rt, b"shop1")).expect(rt, "a row");
+    row.expect(rt, "shop1").made
+}
+
+#[test]
+fn a_taken_candidate_is_not_drawn_again_and_a_repeat_answers_the_first_token(rt: HostRuntime) {
+    let mut vault = vault(&rt, 60, 0);
+    assert!(rt; gives(&rt, &mut vault, &FIRST, b"0000000000001111", 1060));
+    let second = Asked {
+        request: b"8",
+        ..FIRST
+    };
+    assert!(rt; refuses(&rt, &mut vault, &second, 12));
+    let again = Asked { digit: 5, ..FIRST };
+    assert!(rt; gives(&rt, &mut vault, &again, b"0000000000001111", 1060));
+    assert_eq!(rt; made(&rt, vault), 1);
+}
+
+#[test]
+fn a_request_number_that_was_used_otherwise_is_refused(rt: HostRuntime) {
+    let mut vault = vault(&rt, 60, 100);
+    assert!(rt; gives(&rt, &mut vault, &FIRST, b"0000000000001111", 1060));
+    let number = Asked {
+        number: OTHER_NUMBER,
+        ..FIRST
+    };
+    let shop = Asked {
+        shop: b"shop2",
+        ..FIRST
+    };
+    let usage = Asked {
+        usage: Use::Multi,
+        ..FIRST
+    };
+    assert!(rt; refuses(&rt, &mut vault, &number, 10));
+    assert!(rt; refuses(&rt, &mut vault, &shop, 10));
+    assert!(rt; refuses(&rt, &mut vault, &usage, 10));
+    assert_eq!(rt; made(&rt, vault), 1);
+}
+
+#[test]
+fn a_live_multi_use_token_is_given_again(rt: HostRuntime) {
+    let mut vault = vault(&rt, 60, 100);
+    let first = Asked {
+        request: b"1",
+        usage: Use::Multi,
+        ..FIRST
+    };
+    assert!(rt; gives(&rt, &mut vault, &first, b"0000000000001111", 1100));
+    let second = Asked {
+        request: b"2",
+        digit: 1,
+        now: 1010,
+        ..first
+    };
+    assert!(rt; gives(&rt, &mut vault, &second, b"0000000000001111", 1100));
+    assert!(rt; gives(&rt, &mut vault, &first, b"0000000000001111", 1100));
+    assert_eq!(rt; made(&rt, vault), 1);
+}
+
+#[test]
+fn an_expired_multi_use_token_is_drawn_anew(rt: HostRuntime) {
+    let mut vault = vault(&rt, 60, 100);
+    let first = Asked {
+        request: b"1",
+        usage: Use::Multi,
+        ..FIRST
+    };
+    assert!(rt; gives(&rt, &mut vault, &first, b"0000000000001111", 1100));
+    let last_second = Asked {
+        request: b"2",
+        digit: 1,
+        now: 1099,
+        ..first
+    };
+    assert!(rt; gives(&rt, &mut vault, &last_second, b"0000000000001111", 1100));
+    let expired = Asked {
+        request: b"3",
+        digit: 1,
+        now: 1100,
+        ..first
+    };
+    assert!(rt; gives(&rt, &mut vault, &expired, b"1111111111111111", 1200));
+    assert_eq!(rt; made(&rt, vault), 2);
+}
+
+#[test]
+fn a_moment_never_falls_with_the_clock(rt: HostRuntime) {
+    let mut vault = vault(&rt, 60, 0);
+    let later = Asked { now: 2000, ..FIRST };
+    assert!(rt; gives(&rt, &mut vault, &later, b"0000000000001111", 2060));
+    let earlier = Asked {
+        request: b"8",
+        digit: 1,
+        now: 1500,
+        ..FIRST
+    };
+    assert!(rt; gives(&rt, &mut vault, &earlier, b"1111111111111111", 2060));
+}
+
+#[test]
+fn an_unknown_merchant_and_a_use_that_is_not_offered_are_refused(rt: HostRuntime) {
+    let mut vault = vault(&rt, 60, 0);
+    let shop = Asked {
+        shop: b"shop2",
+        ..FIRST
+    };
+    let usage = Asked {
+        usage: Use::Multi,
+        ..FIRST
+    };
+    assert!(rt; refuses(&rt, &mut vault, &shop, 7));
+    assert!(rt; refuses(&rt, &mut vault, &usage, 9));
+    assert!(rt; !vault.broken());
+    assert_eq!(rt; made(&rt, vault), 0);
+}
