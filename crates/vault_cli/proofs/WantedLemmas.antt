@@ -1,5 +1,5 @@
 -- What is wanted, step by step.
-use Rattle.std.proofs.Common.{◌≡◌, ℕ, List, Result, Ok, Err, Some, inl, inr, refl, sym, ap, ◌∙◌, subst, true, false}
+use Rattle.std.proofs.Common.{◌≡◌, ℕ, List, Result, Ok, Err, Some, inl, inr, refl, sym, ap, ◌∙◌, subst, true}
 use Rattle.std.specs.Result.{IsErrAnd}
 use Rattle.vault_pan.specs.CardText.{IsCardText, IsNumber, digits_of}
 use Rattle.vault_pan.specs.Luhn.{passes_check}

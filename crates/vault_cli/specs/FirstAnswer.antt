@@ -1,5 +1,5 @@
 -- The answer to the first message of some bytes, and the vault that it leaves.
-use Rattle.std.specs.Prelude.{◌≡◌, ℕ, ◌⊎◌, ◌==◌, List, [], Option, None, Result, Ok, Err, option_map, if◌then◌else◌}
+use Rattle.std.specs.Prelude.{◌≡◌, ℕ, ◌⊎◌, ◌==◌, List, [], Option, None, Ok, Err, option_map, if◌then◌else◌}
 use Rattle.vault_core.specs.Table.{reply, after}
 use Rattle.vault_core.specs.Vault.{Vault as Content}
 use Rattle.vault_core.specs.declared.reply.Reply.{Reply}

@@ -1,5 +1,5 @@
 -- The vault of a trial.
-use Rattle.std.specs.Prelude.{◌≡◌, ℕ, ◌⊎◌, List, [], ◌∷◌, map, Option}
+use Rattle.std.specs.Prelude.{ℕ, ◌⊎◌, List, [], ◌∷◌, map, Option}
 use Rattle.std.specs.Io.KnownBytes.{Appends, Consumes, IsAtEnd}
 use Rattle.vault_core.specs.Table.{after}
 use Rattle.vault_core.specs.Vault.{Vault as Content, empty_vault}

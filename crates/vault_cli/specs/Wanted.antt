@@ -1,5 +1,5 @@
 -- What a message asks for: a command, or the number of the first refusal that applies.
-use Rattle.std.specs.Prelude.{◌≡◌, ℕ, ◌⊎◌, List, codes, true, Option, Some, Result, Ok, Err}
+use Rattle.std.specs.Prelude.{◌≡◌, ℕ, ◌⊎◌, List, codes, true, Some, Result, Ok, Err}
 use Rattle.std.specs.Str.Parse.{digits_value}
 use Rattle.vault_pan.specs.CardText.{IsCardText, IsNumber, digits_of}
 use Rattle.vault_pan.specs.Luhn.{passes_check}

@@ -18,12 +18,22 @@ pub enum InputFault {
 }
 
 impl From<AllocError> for InputFault {
+    ghost use Rattle.std.specs.Prelude.{◌≡◌};
+    ghost use Rattle.vault_cli.specs.declared.input.InputFault.TheVariants.{Memory};
+
+    ghost from_gives = { λ _ fault. fault ≡ Memory };
+
     fn from(_refused: AllocError) -> InputFault {
         InputFault::Memory
     }
 }
 
 impl From<Error> for InputFault {
+    ghost use Rattle.std.specs.Prelude.{◌≡◌};
+    ghost use Rattle.vault_cli.specs.declared.input.InputFault.TheVariants.{Read as ReadFault};
+
+    ghost from_gives = { λ _ fault. fault ≡ ReadFault };
+
     fn from(_failed: Error) -> InputFault {
         InputFault::Read
     }

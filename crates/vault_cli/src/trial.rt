@@ -143,12 +143,22 @@ fn send<W: Write>(output: &mut W, bytes: &[u8]) -> Result<(), TrialFault>
 }
 
 impl From<AllocError> for TrialFault {
+    ghost use Rattle.std.specs.Prelude.{◌≡◌};
+    ghost use Rattle.vault_cli.specs.declared.trial.TrialFault.TheVariants.{Memory};
+
+    ghost from_gives = { λ _ fault. fault ≡ Memory };
+
     fn from(_refused: AllocError) -> TrialFault {
         TrialFault::Memory
     }
 }
 
 impl From<InputFault> for TrialFault {
+    ghost use Rattle.std.specs.Prelude.{◌≡◌};
+    ghost use Rattle.vault_cli.specs.TrialFaults.{input_ended};
+
+    ghost from_gives = { λ fault ended. ended ≡ input_ended fault };
+
     fn from(fault: InputFault) -> TrialFault {
         match fault {
             InputFault::Memory => TrialFault::Memory,

@@ -138,6 +138,13 @@ fn a_drawing_is_300_digits(rt: HostRuntime) {
 }
 
 #[test]
+fn a_drawing_keeps_its_values_in_order(rt: HostRuntime) {
+    let drawn = drawing(&rt, &[1, 2, 3], 7);
+    assert_eq!(rt; drawn.values().len(), 300);
+    assert!(rt; drawn.values().starts_with(&[1, 2, 3, 7, 7]));
+}
+
+#[test]
 fn a_candidate_is_its_groups_first_digits_and_the_numbers_last_four(rt: HostRuntime) {
     let zeros = drawing(&rt, &[], 0);
     let ones = drawing(&rt, &[], 1);

@@ -1,5 +1,5 @@
 -- The live multi-use token of a number, read in two steps.
-use Rattle.std.proofs.Common.{◌≡◌, ℕ, Option, Some, None, refl, sym, ap, ◌∙◌, subst}
+use Rattle.std.proofs.Common.{◌≡◌, ℕ, Option, Some, None, sym, ap, ◌∙◌}
 use Rattle.std.specs.Prelude.{option_map}
 use Rattle.vault_core.specs.Keys.{Bytes}
 use Rattle.vault_core.specs.Repeats.{current}

@@ -1,5 +1,5 @@
 -- What an ordered map shows after a row was put in, or taken back.
-use Rattle.std.proofs.Common.{◌≡◌, ◌+◌, ◌⊎◌, inl, inr, ℕ, Bool, true, false, cond, Option, Some, None, Result, Ok, Err, is_some, refl, sym, ap, ◌∙◌, subst, arith}
+use Rattle.std.proofs.Common.{◌≡◌, ◌+◌, inl, inr, ℕ, cond, Option, Some, None, Result, Ok, Err, is_some, sym, ap, ◌∙◌, arith}
 use Rattle.std.specs.Prelude.{IsSome, OnOk, OnErr, IfOk}
 use Rattle.std.specs.FinMap as map
 use Rattle.std.specs.BTreeMap as rows

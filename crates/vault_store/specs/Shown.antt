@@ -1,5 +1,5 @@
 -- How an ordered map shows a finite map.
-use Rattle.std.specs.Prelude.{◌≡◌, Option}
+use Rattle.std.specs.Prelude.{◌≡◌}
 use Rattle.std.specs.FinMap as map
 use Rattle.std.specs.BTreeMap as rows
 use Rattle.std.specs.declared.cmp.Ordering.{Ordering}

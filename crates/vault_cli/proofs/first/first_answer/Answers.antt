@@ -1,9 +1,8 @@
-use Rattle.std.proofs.Common.{◌≡◌, ◌⊎◌, ℕ, List, inl, inr, refl, subst, sym, ap, ◌∙◌}
+use Rattle.std.proofs.Common.{◌≡◌, inl, inr, refl, subst}
 use Rattle.std.proofs.lemmas.Result.{IfOk-weaker}
-use Rattle.vault_core.specs.Vault.{Vault}
 use Rattle.vault_cli.specs.FirstAnswer.{Leaves, reply_to, text_of}
-use Rattle.vault_cli.specs.Parts.{Parts, parts_of}
-use Rattle.vault_cli.proofs.Outcomes.{on_err, on_err_more}
+use Rattle.vault_cli.specs.Parts.{Parts}
+use Rattle.vault_cli.proofs.Outcomes.{on_err_more}
 use Rattle.vault_cli.proofs.first.first_answer.Goals as goal
 
 pub returns-in-Ok-Some-clause-answered : goal.returns-in-Ok-Some-clause-answered

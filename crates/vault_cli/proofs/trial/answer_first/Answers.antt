@@ -1,4 +1,4 @@
-use Rattle.std.proofs.Common.{◌≡◌, ℕ, List, subst}
+use Rattle.std.proofs.Common.{ℕ, List, subst}
 use Rattle.std.specs.Io.KnownBytes.{Appends}
 use Rattle.vault_cli.specs.FirstAnswer.{IsFirstAnswer}
 use Rattle.vault_cli.specs.Trial.{trial_vault}

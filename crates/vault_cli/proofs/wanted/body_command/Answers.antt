@@ -1,4 +1,4 @@
-use Rattle.std.proofs.Common.{◌≡◌, sym, inl, inr, refl, subst, ap, ◌∙◌, Err, Ok, ℕ, List}
+use Rattle.std.proofs.Common.{sym, inl, inr, refl, subst, ap, ◌∙◌, Err, Ok, ℕ, List}
 use Rattle.std.specs.Prelude.{string_bytes}
 use Rattle.vault_pan.specs.Pan.{ReadsPan, fault_number}
 use Rattle.vault_cli.specs.Wanted.{Wanted, WantsBody}

@@ -1,7 +1,5 @@
-use Rattle.std.proofs.Common.{◌≡◌, Option, Some, None, sym, ap, ◌∙◌}
-use Rattle.std.specs.Prelude.{option_map}
+use Rattle.std.proofs.Common.{sym, ap, ◌∙◌}
 use Rattle.vault_core.specs.Repeats.{current, reusable}
-use Rattle.vault_core.specs.Vault.{Vault, entry_at}
 use Rattle.vault_store.proofs.Held.{held_pair, held_none}
 use Rattle.vault_store.proofs.window.reusable.Goals as goal
 
