@@ -1,12 +1,11 @@
 -- The live multi-use token of a number.
-use Rattle.std.proofs.Common.{◌≡◌, ◌⊎◌, inl, inr, ℕ, Bool, true, false, Some, None, Option, cond, option_map, sym, ◌∙◌, ap, refl, subst}
-use Rattle.std.specs.Prelude.{find}
+use Rattle.std.proofs.Common.{◌≡◌, inl, inr, ℕ, true, false, Some, None, Option, cond, option_map, sym, ◌∙◌, ap, refl, subst}
 use Rattle.std.specs.FinMap as map
 use Rattle.std.specs.Cmp.{Equal-is, tied_itself}
 use Rattle.std.specs.Cmp.Lexicographic.{texts_ties, slice_cmp}
 use Rattle.std.specs.Ordering.{nat_cmp, eq_by_cmp, is_eq}
 use Rattle.vault_pan.specs.CardText.{same}
-use Rattle.vault_core.specs.Keys.{Bytes, bytes_cmp, entry_cmp}
+use Rattle.vault_core.specs.Keys.{Bytes, bytes_cmp}
 use Rattle.vault_core.specs.Repeats.{current, is_reusable}
 use Rattle.vault_core.specs.Vault.{Vault, entry_at, entries_of}
 use Rattle.vault_core.specs.declared.row.Entry.{Entry}

@@ -1,7 +1,7 @@
 -- Entries stay, with their numbers or erased.
-use Rattle.std.proofs.Common.{◌≡◌, Option, Some, None, List, [], ◌∷◌, refl, ◌∙◌, subst, sym, ap}
+use Rattle.std.proofs.Common.{◌≡◌, Option, Some, None, List, [], ◌∷◌, ◌∙◌, subst, sym}
 use Rattle.vault_core.specs.Keys.{Bytes}
-use Rattle.vault_core.specs.Laws.{NumbersNeverShare, HasOrErased, IsOrErased}
+use Rattle.vault_core.specs.Laws.{NumbersNeverShare, IsOrErased}
 use Rattle.vault_core.specs.Proper.{AllProper}
 use Rattle.vault_core.specs.Repeats.{is_number_of}
 use Rattle.std.specs.Prelude.{true}

@@ -1,7 +1,6 @@
 -- The record of a request with its entry.
 use Rattle.std.proofs.Common.{◌≡◌, ℕ, Option, Some, None, refl, sym, ap, ◌∙◌, subst}
 use Rattle.std.specs.Prelude.{option_map, option_and_then}
-use Rattle.std.specs.FinMap as map
 use Rattle.vault_core.specs.Keys.{Bytes}
 use Rattle.vault_core.specs.Repeats.{recorded}
 use Rattle.vault_core.specs.Sound.{Sound}
@@ -42,4 +41,3 @@ recorded-some V caller request x is = go (record_at V caller request) refl
     go (Some r) e =
         let h = entered r (entry_at V r.merchant r.token) (sym (ap (option_and_then (λ (r : Record). option_map (λ (entry : Entry). (r, entry)) (entry_at V r.merchant r.token))) e) ∙ is) in
         (e ∙ ap Some h.0, subst (λ (y : Record). entry_at V y.merchant y.token ≡ Some x.1) h.0 h.1)
-

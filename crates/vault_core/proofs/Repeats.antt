@@ -1,27 +1,27 @@
 -- What was answered to a request is answered again.
-use Rattle.std.proofs.Common.{◌≡◌, ◌+◌, is_some, ℕ, Bool, true, false, cond, Option, Some, None, List, [], ◌∷◌, not, is_none, refl, sym, ap, ◌∙◌, subst, inl, inr, ◌==◌, ◌&&◌, nat_lt}
+use Rattle.std.proofs.Common.{◌≡◌, ℕ, Bool, true, false, cond, Option, Some, None, List, [], ◌∷◌, not, is_none, refl, sym, ap, ◌∙◌, inl, inr, ◌==◌, ◌&&◌, nat_lt}
 use Rattle.std.specs.Option.{option_map_or}
 use Rattle.std.specs.FinMap as map
 use Rattle.std.specs.Cmp.{first_so, second_so, tied_itself}
 use Rattle.std.specs.Cmp.Lexicographic.{texts_ties}
 use Rattle.std.specs.Ordering.{is_eq}
-use Rattle.vault_pan.specs.CardText.{same, fits}
+use Rattle.vault_pan.specs.CardText.{same}
 use Rattle.vault_core.specs.Draw.{chosen}
 use Rattle.vault_core.specs.Keys.{Bytes, bytes_cmp}
 use Rattle.vault_core.specs.Laws.{command_of, IsSameRequest, RepeatsAnswerFirst}
-use Rattle.vault_core.specs.Merchants.{most_merchants, granted, grant, set_from, set_to, new_merchant}
-use Rattle.vault_core.specs.Outcome.{Outcome, unchanged, refused, moved, of_merchant}
-use Rattle.vault_core.specs.Proper.{IsProper, AllProper}
-use Rattle.vault_core.specs.Repeats.{current, is_repeat, is_number_of, is_reusable, reusable, same_use}
+use Rattle.vault_core.specs.Merchants.{most_merchants, granted, set_from, set_to, new_merchant}
+use Rattle.vault_core.specs.Outcome.{Outcome, unchanged, refused, of_merchant}
+use Rattle.vault_core.specs.Proper.{AllProper}
+use Rattle.vault_core.specs.Repeats.{current, is_repeat, is_number_of, reusable, same_use}
 use Rattle.vault_core.specs.Runs.{run}
 use Rattle.vault_core.specs.Sound.{Sound}
 use Rattle.vault_core.specs.Table.{after, token_request}
-use Rattle.vault_core.specs.Tokens.{most_tokens, came_before, repeated, new_request, given_again, made_new, drawn, new_entry, life_asked, with_record, tokenize}
+use Rattle.vault_core.specs.Tokens.{most_tokens, came_before, repeated, new_request, given_again, made_new, drawn, new_entry, life_asked, tokenize}
 use Rattle.vault_core.specs.Vault.{Vault, Merchant, merchant_at, entry_at, record_at, has_right, made, time_at}
 use Rattle.vault_core.specs.declared.command.Command.{Command}
 use Rattle.vault_core.specs.declared.command.Command.TheVariants.{SetMerchant, Grant, Tokenize}
 use Rattle.vault_core.specs.declared.command.TokenRequest.{TokenRequest}
-use Rattle.vault_core.specs.declared.refusal.TheConstants.{NO_MERCHANT, NO_RIGHT, WRONG_USE, NUMBER_REUSED, FULL, NO_CANDIDATE, TOO_MANY_MERCHANTS}
+use Rattle.vault_core.specs.Refusals.{no_merchant, no_right, wrong_use, number_reused, full, no_candidate, too_many_merchants}
 use Rattle.vault_core.specs.declared.reply.Reply.{Reply}
 use Rattle.vault_core.specs.declared.reply.Reply.TheVariants.{Token, Refused}
 use Rattle.vault_core.specs.declared.right.Right.TheVariants as right
@@ -30,10 +30,9 @@ use Rattle.vault_core.specs.declared.row.Record.{Record}
 use Rattle.vault_core.specs.declared.usage.Use.{Use}
 use Rattle.vault_core.specs.declared.usage.Use.TheVariants.{Single, Multi}
 use Rattle.vault_core.proofs.Branches.{by_test, by_option}
-use Rattle.vault_core.proofs.CurrentLemmas.{current-some, same-is}
+use Rattle.vault_core.proofs.CurrentLemmas.{current-some}
 use Rattle.vault_core.proofs.DrawLemmas.{chosen-is_good}
-use Rattle.vault_core.proofs.Finds.{some_same}
-use Rattle.vault_core.proofs.Maps.{bytes_total, bytes_exact, entry_total, entry_exact, record_total, record_exact, tied, get-insert_same, get-insert_other}
+use Rattle.vault_core.proofs.Maps.{bytes_total, entry_total, entry_exact, record_total, record_exact, tied, get-insert_same, get-insert_other}
 use Rattle.vault_core.proofs.StaysSound.{sound-after}
 
 -- the entry is still there with its expires, and with its number or erased
@@ -80,7 +79,7 @@ still_remembers old new keeps a token expires h =
       record_is = keeps.records _ _ _ h.record_is;
       entry_is = k.1;
       repeat = both-true (same h.held.merchant a.merchant) (same_use h.held.usage a.usage) (is_number_of a.pan h.held.token k.0.number)
-        (first_so _ _ (first_so _ _ h.repeat)) (second_so _ _ (first_so _ _ h.repeat)) (k.3 a.pan (second_so _ _ h.repeat));
+          (first_so _ _ (first_so _ _ h.repeat)) (second_so _ _ (first_so _ _ h.repeat)) (k.3 a.pan (second_so _ _ h.repeat));
       token_is = h.token_is;
       expires_is = k.2 ∙ h.expires_is;
     }
@@ -187,8 +186,8 @@ faithful-new V a known none token drew =
 faithful-tokenize : (V : Vault) → Sound V → (a : TokenRequest) → IsFaithful V a (tokenize V a)
 faithful-tokenize V s a =
     by_option (IsFaithful V a) (record_at V a.caller a.request) (came_before V a) (of_merchant V a.merchant (new_request V a))
-    (λ r held. by_option (IsFaithful V a) (entry_at V r.merchant r.token) (repeated V a r) (refused V NUMBER_REUSED)
-    (λ entry here. by_test (IsFaithful V a) (is_repeat a.merchant a.usage a.pan r entry) (unchanged V (Token r.token entry.expires)) (refused V NUMBER_REUSED)
+    (λ r held. by_option (IsFaithful V a) (entry_at V r.merchant r.token) (repeated V a r) (refused V number_reused)
+    (λ entry here. by_test (IsFaithful V a) (is_repeat a.merchant a.usage a.pan r entry) (unchanged V (Token r.token entry.expires)) (refused V number_reused)
     (λ repeat.
     record {
       keeps = keeps-refl V;
@@ -196,31 +195,31 @@ faithful-tokenize V s a =
           let parts = token-same r.token token entry.expires expires is in
           record { held = r; entry = entry; record_is = held; entry_is = here; repeat = repeat; token_is = parts.0; expires_is = parts.1 };
     })
-    (λ _. refusal V a NUMBER_REUSED))
-    (λ _. refusal V a NUMBER_REUSED))
+    (λ _. refusal V a number_reused))
+    (λ _. refusal V a number_reused))
     (λ none.
-    by_option (IsFaithful V a) (merchant_at V a.merchant) (new_request V a) (refused V NO_MERCHANT)
-    (λ known is. by_test (IsFaithful V a) (not (has_right V a.caller a.merchant right.Tokenize)) (refused V NO_RIGHT) (offered known)
-    (λ _. refusal V a NO_RIGHT)
-    (λ _. by_test (IsFaithful V a) (life_asked a known == 0) (refused V WRONG_USE) (given known)
-    (λ _. refusal V a WRONG_USE)
+    by_option (IsFaithful V a) (merchant_at V a.merchant) (new_request V a) (refused V no_merchant)
+    (λ known is. by_test (IsFaithful V a) (not (has_right V a.caller a.merchant right.Tokenize)) (refused V no_right) (offered known)
+    (λ _. refusal V a no_right)
+    (λ _. by_test (IsFaithful V a) (life_asked a known == 0) (refused V wrong_use) (given known)
+    (λ _. refusal V a wrong_use)
     (λ life. by_option (IsFaithful V a) (reusable a.usage (current V a.merchant a.pan (time_at known a.moment))) (given_again V a known) (drawn V a known)
     (λ held h. faithful-again V a known none a.usage held h)
-    (λ _. by_test (IsFaithful V a) (made V a.merchant == most_tokens) (refused V FULL) (picked known)
-    (λ _. refusal V a FULL)
-    (λ room. by_option (IsFaithful V a) (chosen V a.merchant a.pan a.digits) (made_new V a known) (refused V NO_CANDIDATE)
+    (λ _. by_test (IsFaithful V a) (made V a.merchant == most_tokens) (refused V full) (picked known)
+    (λ _. refusal V a full)
+    (λ room. by_option (IsFaithful V a) (chosen V a.merchant a.pan a.digits) (made_new V a known) (refused V no_candidate)
     (λ token drew. faithful-new V a known none token drew)
-    (λ _. refusal V a NO_CANDIDATE))))))
-    (λ _. refusal V a NO_MERCHANT))
+    (λ _. refusal V a no_candidate))))))
+    (λ _. refusal V a no_merchant))
   where
     picked : Merchant → Outcome
-    picked known = option_map_or (made_new V a known) (chosen V a.merchant a.pan a.digits) (refused V NO_CANDIDATE)
+    picked known = option_map_or (made_new V a known) (chosen V a.merchant a.pan a.digits) (refused V no_candidate)
 
     given : Merchant → Outcome
     given known = option_map_or (given_again V a known) (reusable a.usage (current V a.merchant a.pan (time_at known a.moment))) (drawn V a known)
 
     offered : Merchant → Outcome
-    offered known = cond (life_asked a known == 0) (refused V WRONG_USE) (given known)
+    offered known = cond (life_asked a known == 0) (refused V wrong_use) (given known)
 
 abbrev KeepsAfter : Vault → Outcome → Type 0
 KeepsAfter V o = Keeps V o.after
@@ -229,13 +228,13 @@ KeepsAfter V o = Keeps V o.after
 pub keeps-after : (V : Vault) → Sound V → (c : Command) → Keeps V (after V c)
 keeps-after V s (SetMerchant m single multi now) = set-keeps (merchant_at V m)
   where
-  set-keeps : (o : Option Merchant) → Keeps V (set_from V m single multi now o).after
-  set-keeps None =
-      by_test (KeepsAfter V) (nat_lt (map.len V.merchants) most_merchants) (set_to V m (new_merchant single multi now)) (refused V TOO_MANY_MERCHANTS)
-      (λ _. keeps-row V _) (λ _. keeps-refl V)
-  set-keeps (Some known) = keeps-row V _
+    set-keeps : (o : Option Merchant) → Keeps V (set_from V m single multi now o).after
+    set-keeps None =
+        by_test (KeepsAfter V) (nat_lt (map.len V.merchants) most_merchants) (set_to V m (new_merchant single multi now)) (refused V too_many_merchants)
+        (λ _. keeps-row V _) (λ _. keeps-refl V)
+    set-keeps (Some known) = keeps-row V _
 keeps-after V s (Grant caller m right now) =
-    by_option (KeepsAfter V) (merchant_at V m) (granted V caller m right now) (refused V NO_MERCHANT)
+    by_option (KeepsAfter V) (merchant_at V m) (granted V caller m right now) (refused V no_merchant)
     (λ known e. record { records = λ caller request r e. e; entries = λ m t e' e. same-entry t e' (entry_at V m t) e }) (λ _. keeps-refl V)
 keeps-after V s (Tokenize caller m request usage pan digits now) =
     (faithful-tokenize V s (token_request caller m request usage pan digits now)).keeps
@@ -252,8 +251,8 @@ answered : (V : Vault) (a : TokenRequest) (token : Bytes) (expires : ℕ) → Re
     → (tokenize V a).reply ≡ Token token expires
 answered V a token expires h =
     ap (λ (o : Option Record). (option_map_or (came_before V a) o (of_merchant V a.merchant (new_request V a))).reply) h.record_is
-    ∙ ap (λ (o : Option Entry). (option_map_or (repeated V a h.held) o (refused V NUMBER_REUSED)).reply) h.entry_is
-    ∙ ap (λ b. (cond b (unchanged V (Token h.held.token h.entry.expires)) (refused V NUMBER_REUSED)).reply) h.repeat
+    ∙ ap (λ (o : Option Entry). (option_map_or (repeated V a h.held) o (refused V number_reused)).reply) h.entry_is
+    ∙ ap (λ b. (cond b (unchanged V (Token h.held.token h.entry.expires)) (refused V number_reused)).reply) h.repeat
     ∙ (λ i. Token (h.token_is i) (h.expires_is i))
 
 same-request : (V : Vault) (first again : TokenRequest) (token : Bytes) (expires : ℕ) → IsSameRequest first again

@@ -1,13 +1,12 @@
 -- The merchant that the window of a Tokenize shows.
 use Rattle.std.proofs.Common.{◌≡◌, Option, Some, None, refl, sym, ap, ◌∙◌}
 use Rattle.std.specs.Prelude.{option_map}
-use Rattle.vault_core.specs.Keys.{Bytes}
 use Rattle.vault_core.specs.Sound.{Sound}
 use Rattle.vault_core.specs.Repeats.{current, reusable}
 use Rattle.vault_core.specs.Vault.{Vault, Merchant, merchant_at}
 use Rattle.std.specs.Option.{option_map_or}
 use Rattle.vault_core.specs.Vault.{time_at}
-use Rattle.vault_core.specs.Window.{ShowsRequest, ShowsMerchant, row_of, row_at}
+use Rattle.vault_core.specs.Window.{ShowsRequest, ShowsMerchant, row_of}
 use Rattle.vault_core.specs.declared.command.TokenRequest.{TokenRequest}
 use Rattle.vault_core.specs.declared.row.MerchantRow.{MerchantRow}
 use Rattle.vault_core.specs.declared.window.Window.{Window}
@@ -17,19 +16,21 @@ pub shows_merchant : (V : Vault) → Sound V → (a : TokenRequest) (w : Window)
     → w.merchant ≡ Some row → (known : Merchant) × ShowsMerchant V a known w row
 shows_merchant V s a w row shows is = go (merchant_at V a.merchant) refl
   where
-  go : (o : Option Merchant) → merchant_at V a.merchant ≡ o → (known : Merchant) × ShowsMerchant V a known w row
-  go None h = let clash = sym (sym shows.merchant ∙ is) ∙ ap (option_map (row_of V a.merchant)) h in cc
-  go (Some known) h =
-      let same = sym (sym shows.merchant ∙ is) ∙ ap (option_map (row_of V a.merchant)) h in
-      let old = s.merchants a.merchant known h in
-      (known, record {
-        known_as = h;
-        single = cc;
-        multi = cc;
-        moment = cc;
-        made_is = cc;
-        right = shows.right;
-        held = shows.held ∙ ap (λ (o : Option Merchant). reusable a.usage (current V a.merchant a.pan (option_map_or (λ merchant. time_at merchant a.moment) o a.moment))) h;
-        candidate = shows.candidate;
-        life = life-bounds a.usage known.single_life known.multi_life old.single old.multi;
-      })
+    go : (o : Option Merchant) → merchant_at V a.merchant ≡ o → (known : Merchant) × ShowsMerchant V a known w row
+    go None h = let clash = sym (sym shows.merchant ∙ is) ∙ ap (option_map (row_of V a.merchant)) h in cc
+    go (Some known) h =
+        let same = sym (sym shows.merchant ∙ is) ∙ ap (option_map (row_of V a.merchant)) h in
+        let old = s.merchants a.merchant known h in (
+          known,
+          record {
+            known_as = h;
+            single = cc;
+            multi = cc;
+            moment = cc;
+            made_is = cc;
+            right = shows.right;
+            held = shows.held ∙ ap (λ (o : Option Merchant). reusable a.usage (current V a.merchant a.pan (option_map_or (λ merchant. time_at merchant a.moment) o a.moment))) h;
+            candidate = shows.candidate;
+            life = life-bounds a.usage known.single_life known.multi_life old.single old.multi;
+          },
+        )

@@ -1,38 +1,36 @@
 -- Every command leaves a sound vault sound.
-use Rattle.std.proofs.Common.{◌≡◌, ℕ, ◌+◌, ◌<◌, ◌≤◌, Bool, true, false, cond, Option, Some, None, List, [], ◌∷◌, max, not, is_some, is_none, refl, sym, ap, ◌∙◌, subst, arith, nat_lt, ◌==◌, ◌&&◌, zero, suc, lit≤}
+use Rattle.std.proofs.Common.{◌≡◌, ℕ, ◌+◌, ◌<◌, ◌≤◌, Bool, true, false, cond, Option, Some, None, [], ◌∷◌, not, is_some, is_none, refl, sym, ap, ◌∙◌, subst, arith, nat_lt, ◌==◌, zero, suc, lit≤}
 use Rattle.std.specs.Prelude.{map}
 use Rattle.std.specs.Option.{option_map_or}
 use Rattle.std.specs.FinMap as map
 use Rattle.std.specs.Cmp.{first_so, second_so}
 use Rattle.std.specs.List.{AllByRecursion, range_with_len}
 use Rattle.std.proofs.lemmas.Bool.Decides.{nat_tests}
-use Rattle.vault_pan.specs.CardText.{IsPan, IsNumber, IsToken, fits, same}
+use Rattle.vault_pan.specs.CardText.{IsPan, IsNumber, fits}
 use Rattle.vault_pan.specs.Luhn.{passes_check}
 use Rattle.vault_pan.specs.Draw.{IsDrawing, candidate_digits}
 use Rattle.vault_pan.proofs.DrawLemmas.{candidate_digits-fits, candidate_digits-IsNumber}
 use Rattle.vault_core.specs.Draw.{chosen, candidates, is_good}
-use Rattle.vault_core.specs.Keys.{Bytes, bytes_cmp}
+use Rattle.vault_core.specs.Keys.{Bytes}
 use Rattle.vault_core.specs.Laws.{StaysSound}
-use Rattle.vault_core.specs.Merchants.{most_merchants, granted, grant, set_from, set_to, new_merchant}
+use Rattle.vault_core.specs.Merchants.{most_merchants, granted, set_from, set_to, new_merchant}
 use Rattle.vault_core.specs.Name.{IsName}
 use Rattle.vault_core.specs.Outcome.{Outcome, unchanged, refused, moved, of_merchant}
-use Rattle.vault_core.specs.Proper.{IsProper, AllProper}
+use Rattle.vault_core.specs.Proper.{IsProper}
 use Rattle.vault_core.specs.Repeats.{current, is_repeat, is_reusable, reusable, same_use}
-use Rattle.vault_core.specs.Runs.{run}
 use Rattle.vault_core.specs.Scalar.{IsLife, IsMoment, IsRequest}
-use Rattle.vault_core.specs.Sound.{Sound, IsSoundMerchant, IsSoundEntry, IsCount}
-use Rattle.vault_core.specs.Table.{outcome, after, token_request}
-use Rattle.vault_core.specs.Tokens.{most_tokens, came_before, repeated, new_request, given_again, made_new, drawn, new_entry, life_asked, with_record, tokenize}
+use Rattle.vault_core.specs.Sound.{Sound, IsSoundMerchant, IsSoundEntry}
+use Rattle.vault_core.specs.Table.{after, token_request}
+use Rattle.vault_core.specs.Tokens.{most_tokens, came_before, repeated, new_request, given_again, made_new, drawn, new_entry, life_asked, tokenize}
 use Rattle.vault_core.specs.Vault.{Vault, Merchant, merchant_at, entry_at, record_at, has_right, made, time_at, life_for}
 use Rattle.vault_core.specs.declared.command.Command.{Command}
 use Rattle.vault_core.specs.declared.command.Command.TheVariants.{SetMerchant, Grant, Tokenize}
 use Rattle.vault_core.specs.declared.command.TokenRequest.{TokenRequest}
-use Rattle.vault_core.specs.declared.refusal.TheConstants.{NO_MERCHANT, NO_RIGHT, WRONG_USE, NUMBER_REUSED, FULL, NO_CANDIDATE, TOO_MANY_MERCHANTS}
+use Rattle.vault_core.specs.Refusals.{no_merchant, no_right, wrong_use, number_reused, full, no_candidate, too_many_merchants}
 use Rattle.vault_core.specs.declared.reply.Reply.TheVariants.{Token}
 use Rattle.vault_core.specs.declared.right.Right.{Right}
 use Rattle.vault_core.specs.declared.right.Right.TheVariants as right
 use Rattle.vault_core.specs.declared.row.Entry.{Entry}
-use Rattle.vault_core.specs.declared.row.Record.{Record}
 use Rattle.vault_core.specs.declared.usage.Use.{Use}
 use Rattle.vault_core.specs.declared.usage.Use.TheVariants.{Single, Multi}
 use Rattle.vault_core.proofs.Branches.{by_test, by_option}
@@ -69,7 +67,7 @@ sound-moved V s m known now is moment =
 sound-grant : (V : Vault) → Sound V → (caller m : Bytes) (right : Right) (now : ℕ)
     → IsName caller → IsMoment now → Sound (after V (Grant caller m right now))
 sound-grant V s caller m right now name moment =
-    by_option SoundAfter (merchant_at V m) (granted V caller m right now) (refused V NO_MERCHANT)
+    by_option SoundAfter (merchant_at V m) (granted V caller m right now) (refused V no_merchant)
     (λ known e. sound-right (moved V m known now) (sound-moved V s m known now e moment) caller m right
     (record known { moment = time_at known now }) name (get-insert_same bytes_total bytes_exact V.merchants m _))
     (λ none. s)
@@ -85,7 +83,7 @@ sound-set : (V : Vault) → Sound V → (m : Bytes) (single multi now : ℕ)
     → IsName m → IsLife single → IsLife multi → IsMoment now → (o : Option Merchant) → merchant_at V m ≡ o
     → SoundAfter (set_from V m single multi now o)
 sound-set V s m single multi now name life life' moment None e =
-    by_test SoundAfter (nat_lt (map.len V.merchants) most_merchants) (set_to V m (new_merchant single multi now)) (refused V TOO_MANY_MERCHANTS)
+    by_test SoundAfter (nat_lt (map.len V.merchants) most_merchants) (set_to V m (new_merchant single multi now)) (refused V too_many_merchants)
     (λ few.
     let below = below-true _ _ few in
     let count = map.len-insert bytes_total V.merchants m (new_merchant single multi now) in
@@ -202,31 +200,31 @@ sound-new V s a p known is offered none room token drew =
 sound-tokenize : (V : Vault) → Sound V → (a : TokenRequest) → IsProperRequest a → SoundAfter (tokenize V a)
 sound-tokenize V s a p =
     by_option SoundAfter (record_at V a.caller a.request) (came_before V a) (of_merchant V a.merchant (new_request V a))
-    (λ r _. by_option SoundAfter (entry_at V r.merchant r.token) (repeated V a r) (refused V NUMBER_REUSED)
-    (λ entry _. by_test SoundAfter (is_repeat a.merchant a.usage a.pan r entry) (unchanged V (Token r.token entry.expires)) (refused V NUMBER_REUSED) (λ _. s) (λ _. s))
+    (λ r _. by_option SoundAfter (entry_at V r.merchant r.token) (repeated V a r) (refused V number_reused)
+    (λ entry _. by_test SoundAfter (is_repeat a.merchant a.usage a.pan r entry) (unchanged V (Token r.token entry.expires)) (refused V number_reused) (λ _. s) (λ _. s))
     (λ _. s))
-    (λ _. by_option SoundAfter (merchant_at V a.merchant) (new_request V a) (refused V NO_MERCHANT)
-    (λ known is. by_test SoundAfter (not (has_right V a.caller a.merchant right.Tokenize)) (refused V NO_RIGHT) (offered known)
+    (λ _. by_option SoundAfter (merchant_at V a.merchant) (new_request V a) (refused V no_merchant)
+    (λ known is. by_test SoundAfter (not (has_right V a.caller a.merchant right.Tokenize)) (refused V no_right) (offered known)
     (λ _. s)
-    (λ _. by_test SoundAfter (life_asked a known == 0) (refused V WRONG_USE) (given known)
+    (λ _. by_test SoundAfter (life_asked a known == 0) (refused V wrong_use) (given known)
     (λ _. s)
     (λ life. by_option SoundAfter (reusable a.usage (current V a.merchant a.pan (time_at known a.moment))) (given_again V a known) (drawn V a known)
     (λ held h. sound-again V s a p known is a.usage refl held h)
-    (λ none. by_test SoundAfter (made V a.merchant == most_tokens) (refused V FULL) (picked known)
+    (λ none. by_test SoundAfter (made V a.merchant == most_tokens) (refused V full) (picked known)
     (λ _. s)
-    (λ room. by_option SoundAfter (chosen V a.merchant a.pan a.digits) (made_new V a known) (refused V NO_CANDIDATE)
+    (λ room. by_option SoundAfter (chosen V a.merchant a.pan a.digits) (made_new V a known) (refused V no_candidate)
     (λ token drew. sound-new V s a p known is life none room token drew)
     (λ _. s))))))
     (λ _. s))
   where
     picked : Merchant → Outcome
-    picked known = option_map_or (made_new V a known) (chosen V a.merchant a.pan a.digits) (refused V NO_CANDIDATE)
+    picked known = option_map_or (made_new V a known) (chosen V a.merchant a.pan a.digits) (refused V no_candidate)
 
     given : Merchant → Outcome
     given known = option_map_or (given_again V a known) (reusable a.usage (current V a.merchant a.pan (time_at known a.moment))) (drawn V a known)
 
     offered : Merchant → Outcome
-    offered known = cond (life_asked a known == 0) (refused V WRONG_USE) (given known)
+    offered known = cond (life_asked a known == 0) (refused V wrong_use) (given known)
 
 pub sound-after : (V : Vault) → Sound V → (c : Command) → IsProper c → Sound (after V c)
 sound-after V s (SetMerchant m single multi now) p = sound-set V s m single multi now p.0 p.1 p.2 p.3 (merchant_at V m) refl

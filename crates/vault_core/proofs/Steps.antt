@@ -1,18 +1,16 @@
 -- What keeps a vault sound.
-use Rattle.std.proofs.Common.{◌≡◌, ℕ, ◌+◌, ◌<◌, ◌≤◌, Bool, true, false, cond, Option, Some, None, List, ◌⊎◌, inl, inr, refl, sym, ap, ◌∙◌, subst, arith, rules, not, ◌&&◌, ◌||◌}
+use Rattle.std.proofs.Common.{◌≡◌, ℕ, ◌<◌, ◌≤◌, true, Option, Some, None, inl, inr, refl, sym, ap, ◌∙◌, subst, arith, ◌||◌}
 use Rattle.std.specs.FinMap as map
 use Rattle.std.specs.FinSet as set
-use Rattle.std.specs.Prelude.{IsSome}
 use Rattle.std.specs.Ordering.{eq_by_cmp, is_eq}
 use Rattle.std.specs.Cmp.{tied_itself}
 use Rattle.std.proofs.lemmas.Bool.Decides.{nat_tests}
-use Rattle.std.proofs.lemmas.Grind.{common_steps}
-use Rattle.vault_core.specs.Keys.{Bytes, bytes_cmp, entry_cmp, record_cmp, right_cmp}
+use Rattle.vault_core.specs.Keys.{Bytes, bytes_cmp}
 use Rattle.vault_core.specs.Name.{IsName}
 use Rattle.vault_core.specs.Repeats.{is_reusable}
-use Rattle.vault_core.specs.Scalar.{IsLife, IsMoment, IsRequest}
-use Rattle.vault_core.specs.Sound.{Sound, IsSoundMerchant, IsSoundEntry, IsNumber, IsRevocation, IsEntryOf, IsCount}
-use Rattle.vault_core.specs.Vault.{Vault, Merchant, merchant_at, entry_at, record_at, has_right, made}
+use Rattle.vault_core.specs.Scalar.{IsRequest}
+use Rattle.vault_core.specs.Sound.{Sound, IsSoundMerchant, IsSoundEntry, IsNumber, IsRevocation, IsEntryOf}
+use Rattle.vault_core.specs.Vault.{Vault, Merchant, merchant_at, entry_at, has_right, made}
 use Rattle.vault_core.specs.declared.row.Entry.{Entry}
 use Rattle.vault_core.specs.declared.row.Record.{Record}
 use Rattle.vault_core.specs.declared.right.Right.{Right}

@@ -1,5 +1,5 @@
 -- Changes, and the vault with them.
-use Rattle.std.specs.Prelude.{◌≡◌, ℕ, ◌+◌, Bool, true, false, Option, Some, None, max, is_none, if◌then◌else◌}
+use Rattle.std.specs.Prelude.{◌≡◌, ℕ, ◌+◌, Bool, true, false, Option, Some, None, max, is_none, IsSome, if◌then◌else◌}
 use Rattle.std.specs.FinMap as map
 use Rattle.std.specs.FinSet as set
 use Rattle.vault_core.specs.Keys.{Bytes, bytes_cmp, entry_cmp, record_cmp, right_cmp}
@@ -13,7 +13,9 @@ use Rattle.vault_core.specs.declared.changes.Count.{Count}
 use Rattle.vault_core.specs.declared.changes.Count.TheVariants.{Made, Given, Denied}
 use Rattle.vault_core.specs.declared.changes.Lives.{Lives}
 use Rattle.vault_core.specs.declared.command.Command.{Command}
+use Rattle.vault_core.specs.declared.command.Command.TheVariants.{SetMerchant, Grant, Tokenize}
 use Rattle.vault_core.specs.declared.reply.Reply.{Reply}
+use Rattle.vault_core.specs.declared.reply.Reply.TheVariants.{Done, Token, Refused}
 use Rattle.vault_core.specs.declared.right.Right.{Right}
 use Rattle.vault_core.specs.declared.row.Entry.{Entry}
 use Rattle.vault_core.specs.declared.row.MerchantRow.{MerchantRow}
@@ -104,3 +106,15 @@ no_changes = record { lives = None; count = None; entry = None; recorded = None;
 abbrev pub moved_lives : Bytes → MerchantRow → ℕ → Lives
 moved_lives m row now =
     record { merchant = m; single_life = row.single_life; multi_life = row.multi_life; moment = max row.moment now }
+
+-- the window shows that the request was recorded before
+abbrev pub CameBefore : Window → Command → Type 0
+CameBefore w (SetMerchant m single multi now) = ⊥
+CameBefore w (Grant caller m right now) = ⊥
+CameBefore w (Tokenize caller m request usage pan digits now) = IsSome w.recorded
+
+-- a refusal changes nothing
+abbrev pub RefusesQuietly : Reply → Changes → Type 0
+RefusesQuietly Done ch = Unit {0}
+RefusesQuietly (Token token expires) ch = Unit {0}
+RefusesQuietly (Refused number) ch = ch ≡ no_changes

@@ -1,6 +1,6 @@
 -- The keys of the vault's maps, in order.
 use Rattle.std.specs.Prelude.{ℕ, List}
-use Rattle.std.specs.Ordering.{nat_cmp, ordering_then, on}
+use Rattle.std.specs.Ordering.{nat_cmp, ordering_then}
 use Rattle.std.specs.Cmp.Lexicographic.{slice_cmp}
 use Rattle.std.specs.declared.cmp.Ordering.{Ordering}
 use Rattle.vault_core.specs.declared.right.Right.{Right}

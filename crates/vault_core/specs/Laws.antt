@@ -10,7 +10,6 @@ use Rattle.vault_core.specs.Vault.{Vault, entry_at}
 use Rattle.vault_core.specs.declared.command.Command.{Command}
 use Rattle.vault_core.specs.declared.command.Command.TheVariants.{Tokenize}
 use Rattle.vault_core.specs.declared.command.TokenRequest.{TokenRequest}
-use Rattle.vault_core.specs.declared.reply.Reply.{Reply}
 use Rattle.vault_core.specs.declared.reply.Reply.TheVariants.{Token}
 use Rattle.vault_core.specs.declared.row.Entry.{Entry}
 

@@ -6,6 +6,7 @@ pub mod Merchants
 pub mod Name
 pub mod Outcome
 pub mod Proper
+pub mod Refusals
 pub mod Repeats
 pub mod Runs
 pub mod Scalar

@@ -5,7 +5,7 @@ use Rattle.std.specs.FinSet as set
 use Rattle.vault_core.specs.Keys.{Bytes}
 use Rattle.vault_core.specs.Outcome.{Outcome, refused, of_merchant, moved}
 use Rattle.vault_core.specs.Vault.{Vault, Merchant, merchant_at, time_at}
-use Rattle.vault_core.specs.declared.refusal.TheConstants.{TOO_MANY_MERCHANTS}
+use Rattle.vault_core.specs.Refusals.{too_many_merchants}
 use Rattle.vault_core.specs.declared.reply.Reply.TheVariants.{Done}
 use Rattle.vault_core.specs.declared.right.Right.{Right}
 
@@ -28,7 +28,7 @@ set_from V m single multi now (Some old) =
 set_from V m single multi now None =
     if nat_lt (map.len V.merchants) most_merchants
     then set_to V m (new_merchant single multi now)
-    else refused V TOO_MANY_MERCHANTS
+    else refused V too_many_merchants
 
 -- a merchant is set
 abbrev pub set_merchant : Vault → Bytes → ℕ → ℕ → ℕ → Outcome

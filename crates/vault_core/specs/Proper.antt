@@ -1,5 +1,5 @@
 -- Commands whose parts are values of their types.
-use Rattle.std.specs.Prelude.{ℕ, List, [], ◌∷◌}
+use Rattle.std.specs.Prelude.{List, [], ◌∷◌}
 use Rattle.vault_pan.specs.CardText.{IsPan}
 use Rattle.vault_pan.specs.Draw.{IsDrawing}
 use Rattle.vault_core.specs.Name.{IsName}

@@ -1,5 +1,5 @@
 -- Moments, lives and request numbers.
-use Rattle.std.specs.Prelude.{◌≡◌, ◌≢◌, ℕ, ◌≤◌, List, All, length, slice_index}
+use Rattle.std.specs.Prelude.{◌≢◌, ℕ, ◌≤◌, List, All, length, slice_index}
 use Rattle.std.specs.Char.{IsAsciiDigit}
 use Rattle.std.specs.Str.Parse.{digits_value}
 

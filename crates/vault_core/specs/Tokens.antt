@@ -1,5 +1,5 @@
 -- A token is asked for.
-use Rattle.std.specs.Prelude.{ℕ, ◌+◌, ◌==◌, Option, Some, None, not, if◌then◌else◌}
+use Rattle.std.specs.Prelude.{ℕ, ◌+◌, ◌==◌, Some, None, not, if◌then◌else◌}
 use Rattle.std.specs.Option.{option_map_or}
 use Rattle.std.specs.FinMap as map
 use Rattle.vault_core.specs.Draw.{chosen}
@@ -8,7 +8,7 @@ use Rattle.vault_core.specs.Outcome.{Outcome, unchanged, refused, of_merchant, m
 use Rattle.vault_core.specs.Repeats.{is_repeat, current, reusable}
 use Rattle.vault_core.specs.Vault.{Vault, Merchant, entry_at, record_at, has_right, made, time_at, life_for}
 use Rattle.vault_core.specs.declared.command.TokenRequest.{TokenRequest}
-use Rattle.vault_core.specs.declared.refusal.TheConstants.{NO_RIGHT, WRONG_USE, NUMBER_REUSED, FULL, NO_CANDIDATE}
+use Rattle.vault_core.specs.Refusals.{no_right, wrong_use, number_reused, full, no_candidate}
 use Rattle.vault_core.specs.declared.reply.Reply.TheVariants.{Token}
 use Rattle.vault_core.specs.declared.right.Right.TheVariants as right
 use Rattle.vault_core.specs.declared.row.Entry.{Entry}
@@ -52,16 +52,16 @@ made_new V a merchant token =
 abbrev pub drawn : Vault → TokenRequest → Merchant → Outcome
 drawn V a merchant =
     if made V a.merchant == most_tokens
-    then refused V FULL
-    else option_map_or (made_new V a merchant) (chosen V a.merchant a.pan a.digits) (refused V NO_CANDIDATE)
+    then refused V full
+    else option_map_or (made_new V a merchant) (chosen V a.merchant a.pan a.digits) (refused V no_candidate)
 
 -- a new request at a merchant: 8 without the right, 9 where the use isn't offered
 abbrev pub new_request : Vault → TokenRequest → Merchant → Outcome
 new_request V a merchant =
     if not (has_right V a.caller a.merchant right.Tokenize)
-    then refused V NO_RIGHT
+    then refused V no_right
     else if life_asked a merchant == 0
-    then refused V WRONG_USE
+    then refused V wrong_use
     else option_map_or (given_again V a merchant)
     (reusable a.usage (current V a.merchant a.pan (time_at merchant a.moment))) (drawn V a merchant)
 
@@ -70,11 +70,11 @@ abbrev pub repeated : Vault → TokenRequest → Record → Entry → Outcome
 repeated V a r entry =
     if is_repeat a.merchant a.usage a.pan r entry
     then unchanged V (Token r.token entry.expires)
-    else refused V NUMBER_REUSED
+    else refused V number_reused
 
 -- a request that was recorded: a repeat, or 10
 abbrev pub came_before : Vault → TokenRequest → Record → Outcome
-came_before V a r = option_map_or (repeated V a r) (entry_at V r.merchant r.token) (refused V NUMBER_REUSED)
+came_before V a r = option_map_or (repeated V a r) (entry_at V r.merchant r.token) (refused V number_reused)
 
 -- a token is asked for: a request that was recorded, or a new one
 abbrev pub tokenize : Vault → TokenRequest → Outcome

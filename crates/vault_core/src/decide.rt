@@ -1,5 +1,6 @@
 //! What a command answers, and what it changes.
-ghost use Rattle.vault_core.specs.Changes.{Decides, FitsVault};
+ghost use Rattle.std.specs.Prelude.{◌≡◌};
+ghost use Rattle.vault_core.specs.Changes.{CameBefore, Decides, FitsVault, RefusesQuietly, no_changes};
 ghost use Rattle.vault_core.specs.Proper.{HasLivesInRange, IsProper};
 
 mod answer;
@@ -21,6 +22,8 @@ pub fn decide(w: &Window, c: &Command) -> (Reply, Changes)
     requires { HasLivesInRange c.now }
     ensures settles { Decides w.now c.now result }
     ensures fits { FitsVault w.now c.now result.1 }
+    ensures refusals { RefusesQuietly result.0 result.1 }
+    ensures repeats { CameBefore w.now c.now → result.1 ≡ no_changes }
 {
     let proper = c.proper();
     prove!(proper);
@@ -30,7 +33,9 @@ pub fn decide(w: &Window, c: &Command) -> (Reply, Changes)
 /// Each command in its own function.
 fn settled(w: &Window, c: &Command) -> (Reply, Changes)
     requires { IsProper c.now }
-    ensures { Decides w.now c.now result }
+    ensures settles { Decides w.now c.now result }
+    ensures refusals { RefusesQuietly result.0 result.1 }
+    ensures repeats { CameBefore w.now c.now → result.1 ≡ no_changes }
 {
     match *c {
         Command::SetMerchant {

@@ -11,23 +11,19 @@ pub fn empty_is_sound()
 /// Every vault that commands leave is sound.
 pub fn stays_sound()
     ensures { StaysSound }
-{
-}
+{}
 
 /// No token passes the card check.
 pub fn tokens_fail()
     ensures { TokensFail }
-{
-}
+{}
 
 /// No two card numbers ever share a merchant's token.
 pub fn numbers_never_share()
     ensures { NumbersNeverShare }
-{
-}
+{}
 
 /// A repeated request is answered its first token and expires.
 pub fn repeats_answer_first()
     ensures { RepeatsAnswerFirst }
-{
-}
+{}

@@ -13,8 +13,7 @@ pub mod request;
 pub mod right;
 pub mod row;
 pub mod source;
-pub mod usage;
-pub mod window;
-
 #[cfg(test)]
 mod tests;
+pub mod usage;
+pub mod window;

@@ -1,6 +1,7 @@
 //! Moments.
 ghost use Rattle.std.specs.Prelude.{◌≡◌, IsOk, IfOk, ◌↔◌, max};
 ghost use Rattle.vault_core.specs.Scalar.{IsMoment};
+ghost use Rattle.vault_core.specs.Refusals.{bad_moment};
 
 use crate::refusal::BAD_MOMENT;
 use std::marker::Model;
@@ -34,7 +35,7 @@ pub struct BadMoment;
 impl BadMoment {
     /// The number of the refusal, 6.
     pub fn number(self) -> u8
-        ensures { result ≡ BAD_MOMENT }
+        ensures { result ≡ bad_moment }
     {
         BAD_MOMENT
     }

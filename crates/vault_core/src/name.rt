@@ -1,6 +1,7 @@
 //! Names of callers and merchants.
 ghost use Rattle.std.specs.Prelude.{◌≡◌, IfOk, IsOk, ◌↔◌};
 ghost use Rattle.vault_core.specs.Name.{IsName};
+ghost use Rattle.vault_core.specs.Refusals.{bad_name};
 
 use crate::refusal::BAD_NAME;
 use std::marker::Model;
@@ -51,7 +52,7 @@ pub struct BadName;
 impl BadName {
     /// The number of the refusal, 4.
     pub fn number(self) -> u8
-        ensures { result ≡ BAD_NAME }
+        ensures { result ≡ bad_name }
     {
         BAD_NAME
     }

@@ -3,6 +3,7 @@ ghost use Rattle.std.specs.Prelude.{◌≡◌, ◌≤◌, IsTrue, IsOk, IfOk, �
 ghost use Rattle.std.specs.Char.{IsAsciiDigit};
 ghost use Rattle.std.specs.Str.Parse.{digits_value};
 ghost use Rattle.vault_core.specs.Scalar.{IsRequest, IsRequestText};
+ghost use Rattle.vault_core.specs.Refusals.{bad_request_number};
 
 use crate::refusal::BAD_REQUEST_NUMBER;
 use std::marker::Model;
@@ -36,7 +37,7 @@ pub struct BadRequestNumber;
 impl BadRequestNumber {
     /// The number of the refusal, 5.
     pub fn number(self) -> u8
-        ensures { result ≡ BAD_REQUEST_NUMBER }
+        ensures { result ≡ bad_request_number }
     {
         BAD_REQUEST_NUMBER
     }

@@ -65,7 +65,7 @@ impl FixedSource {
 }
 
 impl Source for FixedSource {
-    ghost use Rattle.vault_core.specs.Sources.{pairs_of};
+    ghost use Rattle.vault_core.specs.Sources.{pairs_of, GivesItsOwn};
 
     ghost given = { pairs_of };
 
@@ -73,7 +73,15 @@ impl Source for FixedSource {
 
     ghost has_refused = { λ s. s.refused };
 
-    fn next(&mut self) -> Result<(Moment, Digits), SourceFault> {
+    fn next(&mut self) -> Result<(Moment, Digits), SourceFault>
+        ensures gives { IfOk result (λ pair. pairs_of self.new ≡ pairs_of self.old ++ (pair.0, pair.1) ∷ []) }
+        ensures counts { OnOk result (self.old.left ≡ self.new.left + 1) }
+        ensures goes_on { OnOk result (self.new.refused ≡ self.old.refused) }
+        ensures keeps { OnErr result (pairs_of self.new ≡ pairs_of self.old) }
+        ensures refuses { OnErr result (self.new.refused ≡ true) }
+        ensures spent { self.old.left ≡ 0 → IsErr result }
+        ensures its_own { GivesItsOwn self.old self.new result }
+    {
         if self.left == 0 {
             self.refused = true;
             return Err(SourceFault);

@@ -1,6 +1,7 @@
 //! The uses of tokens.
 ghost use Rattle.std.specs.Prelude.{◌≡◌, IfOk, OnErr, codes};
 ghost use Rattle.vault_core.specs.Words.{use_word};
+ghost use Rattle.vault_core.specs.Refusals.{bad_use};
 
 use crate::refusal::BAD_USE;
 
@@ -20,7 +21,7 @@ pub struct BadUse;
 impl BadUse {
     /// The number of the refusal, 19.
     pub fn number(self) -> u8
-        ensures { result ≡ BAD_USE }
+        ensures { result ≡ bad_use }
     {
         BAD_USE
     }

@@ -1,5 +1,5 @@
 //! Merchants that are set, and rights that are given.
-ghost use Rattle.vault_core.specs.Changes.{Decides};
+ghost use Rattle.vault_core.specs.Changes.{Decides, RefusesQuietly};
 ghost use Rattle.vault_core.specs.Scalar.{IsLife};
 
 use crate::changes::{Changes, Lives};
@@ -25,7 +25,8 @@ pub fn set_merchant(
 ) -> (Reply, Changes)
     requires single { IsLife single_life }
     requires multi { IsLife multi_life }
-    ensures { Decides w.now (Command.SetMerchant merchant single_life multi_life now) result }
+    ensures settles { Decides w.now (Command.SetMerchant merchant single_life multi_life now) result }
+    ensures refusals { RefusesQuietly result.0 result.1 }
 {
     let moment = match w.merchant {
         Some(row) => row.moment.later(now),
@@ -59,7 +60,8 @@ pub fn grant(
     right: Right,
     now: Moment,
 ) -> (Reply, Changes)
-    ensures { Decides w.now (Command.Grant caller merchant right now) result }
+    ensures settles { Decides w.now (Command.Grant caller merchant right now) result }
+    ensures refusals { RefusesQuietly result.0 result.1 }
 {
     let Some(row) = w.merchant else {
         return refused(NO_MERCHANT);

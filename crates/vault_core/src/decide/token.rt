@@ -1,6 +1,6 @@
 //! Tokens that are asked for.
-ghost use Rattle.std.specs.Prelude.{◌≡◌};
-ghost use Rattle.vault_core.specs.Changes.{Decides, Yields, no_changes, moved_lives};
+ghost use Rattle.std.specs.Prelude.{◌≡◌, IsSome};
+ghost use Rattle.vault_core.specs.Changes.{Decides, RefusesQuietly, Yields, no_changes, moved_lives};
 ghost use Rattle.vault_core.specs.Repeats.{is_repeat as is_repeat_lem};
 ghost use Rattle.vault_core.specs.Tokens.{new_request as new_request_lem};
 ghost use Rattle.vault_core.specs.Vault.{Vault, Merchant, life_for};
@@ -21,7 +21,9 @@ const MOST_TOKENS: u64 = 1000000;
 
 /// A token is asked for.
 pub fn tokenize(w: &Window, asked: &TokenRequest) -> (Reply, Changes)
-    ensures { Decides w.now (Command.Tokenize asked.now.caller asked.now.merchant asked.now.request asked.now.usage asked.now.pan asked.now.digits asked.now.moment) result }
+    ensures settles { Decides w.now (Command.Tokenize asked.now.caller asked.now.merchant asked.now.request asked.now.usage asked.now.pan asked.now.digits asked.now.moment) result }
+    ensures refusals { RefusesQuietly result.0 result.1 }
+    ensures repeats { IsSome w.now.recorded → result.1 ≡ no_changes }
 {
     if let Some((earlier, entry)) = w.recorded {
         if !is_repeat(asked, &earlier, &entry) {
@@ -52,9 +54,10 @@ fn is_repeat(asked: &TokenRequest, earlier: &Record, entry: &Entry) -> bool
 
 /// A new request at a merchant that is known.
 fn new_request(w: &Window, asked: &TokenRequest, row: &MerchantRow) -> (Reply, Changes)
-    ensures { (V : Vault) (known : Merchant)
+    ensures yields { (V : Vault) (known : Merchant)
         → ShowsMerchant V asked.now known w.now row.now
         → Yields V (new_request_lem V asked.now known) result }
+    ensures refusals { RefusesQuietly result.0 result.1 }
 {
     if !w.right {
         return refused(NO_RIGHT);

@@ -5,7 +5,7 @@ use Rattle.vault_core.proofs.decide.decide.Goals as goal
 
 pub returns-clause-fits : goal.returns-clause-fits
 returns-clause-fits c V sound window =
-    let done = c.settled.ensures V sound window in
+    let done = c.settled.ensures.settles V sound window in
     record {
       counted = done.counted;
       sound = subst Sound (sym done.changes) (sound-after V sound c.args.c.now (c.proper-proper.ensures.parts.0 (c.proper-proper.ensures.lives.1 c.requires)));

@@ -1,4 +1,4 @@
-use Rattle.std.proofs.Common.{◌≡◌, ◌≢◌, ◌≤◌, ◌<◌, ℕ, All, length, get_or, arith, refl}
+use Rattle.std.proofs.Common.{◌≢◌, ◌<◌, All, length, get_or, arith, refl}
 use Rattle.std.proofs.lemmas.Grind.{common_steps}
 use Rattle.std.specs.Char.{IsAsciiDigit}
 use Rattle.vault_core.proofs.Digits.{value_positive}
