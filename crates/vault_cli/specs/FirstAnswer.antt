@@ -1,5 +1,5 @@
 -- The answer to the first message of some bytes, and the vault that it leaves.
-use Rattle.std.specs.Prelude.{◌≡◌, ℕ, ◌⊎◌, ◌==◌, List, [], Option, None, Ok, Err, option_map, if◌then◌else◌}
+use Rattle.std.specs.Prelude.{true, ◌≡◌, ℕ, ◌⊎◌, ◌==◌, List, [], Option, None, Ok, Err, option_map, if◌then◌else◌}
 use Rattle.vault_core.specs.Table.{reply, after}
 use Rattle.vault_core.specs.Vault.{Vault as Content}
 use Rattle.vault_core.specs.declared.reply.Reply.{Reply}
@@ -7,10 +7,12 @@ use Rattle.vault_core.specs.declared.reply.Reply.TheVariants.{Refused}
 use Rattle.vault_cli.specs.Answer.{answer_bytes}
 use Rattle.vault_cli.specs.Messages.{Request, BeginsWith, HasNoMessage}
 use Rattle.vault_cli.specs.Parts.{Parts, parts_of, closes}
-use Rattle.vault_cli.specs.Reply.{body_text}
+use Rattle.vault_cli.specs.Faults.{number_of}
+use Rattle.vault_cli.specs.Reply.{body_text, refusal_text}
 use Rattle.vault_cli.specs.Route.{methods_of, route_of}
-use Rattle.vault_cli.specs.Status.{status_of}
+use Rattle.vault_cli.specs.Status.{status_for, status_of}
 use Rattle.vault_cli.specs.Wanted.{Wanted, Wants}
+use Rattle.vault_cli.specs.declared.fault.WireFault.{WireFault}
 
 -- a command is answered by the vault, and a refusal of the message by its number
 abbrev pub reply_to : Content → Wanted → Reply
@@ -44,3 +46,7 @@ IsFirstAnswer bytes now drawn V out W =
 abbrev pub IsBeforeOrAfter : List ℕ → ℕ → List ℕ → Content → Content → Type 0
 IsBeforeOrAfter bytes now drawn V W =
     (W ≡ V) ⊎ ((m : Request) × (r : Wanted) × BeginsWith bytes m × Leaves (parts_of m) now drawn V W r)
+
+-- the text of a fault of the bytes, after which the connection closes
+abbrev pub fault_text : WireFault → List ℕ
+fault_text e = answer_bytes (status_for (number_of e)) None (refusal_text (number_of e)) true

@@ -1,5 +1,5 @@
 -- The vault of a trial.
-use Rattle.std.specs.Prelude.{ℕ, ◌⊎◌, List, [], ◌∷◌, map, Option}
+use Rattle.std.specs.Prelude.{◌≡◌, ℕ, ◌⊎◌, List, [], ◌∷◌, map, Option}
 use Rattle.std.specs.Io.KnownBytes.{Appends, Consumes, IsAtEnd}
 use Rattle.vault_core.specs.Table.{after}
 use Rattle.vault_core.specs.Vault.{Vault as Content, empty_vault}
@@ -7,8 +7,10 @@ use Rattle.vault_core.specs.declared.command.Command.{Command}
 use Rattle.vault_core.specs.declared.command.Command.TheVariants.{SetMerchant, Grant}
 use Rattle.vault_core.specs.declared.right.Right.{Right}
 use Rattle.vault_core.specs.declared.right.Right.TheVariants.{Tokenize, Detokenize, View, Revoke, Purge, Audit}
-use Rattle.vault_cli.specs.FirstAnswer.{IsFirstAnswer}
+use Rattle.vault_cli.specs.FirstAnswer.{IsFirstAnswer, fault_text}
 use Rattle.vault_cli.specs.Input.{IsSettled}
+use Rattle.vault_cli.specs.Messages.{HasNoMessage, IsOpen, Stands}
+use Rattle.vault_cli.specs.declared.fault.WireFault.{WireFault}
 
 -- all rights
 abbrev pub all_rights : List Right
@@ -31,6 +33,13 @@ grants caller m now rights = map (λ right. Grant caller m right now) rights
 abbrev pub trial_vault : List ℕ → List ℕ → ℕ → ℕ → Content
 trial_vault caller m life now = left_by_all empty_vault (SetMerchant m life 0 now ∷ grants caller m now all_rights)
 
+-- the first message is answered, and no bytes go out only where it is still open; or a fault stands at the
+-- front of the bytes, and its answer goes out and the vault stays as it was
+abbrev pub IsTrialAnswer : List ℕ → ℕ → List ℕ → Content → List ℕ → Content → Type 0
+IsTrialAnswer bytes now drawn V out W =
+    (IsFirstAnswer bytes now drawn V out W × (HasNoMessage bytes → IsOpen bytes))
+    ⊎ ((e : WireFault) × Stands e bytes × (out ≡ fault_text e) × (W ≡ V))
+
 -- the bytes that were read settle the first message or are all that there are, and what went out is the answer to it
 pub record IsTrial (read_old read_new sent_old sent_new : Option (List ℕ)) (V : Content) (now : ℕ) (drawn : List ℕ) : Type 0 where
   pub bytes : List ℕ
@@ -38,5 +47,5 @@ pub record IsTrial (read_old read_new sent_old sent_new : Option (List ℕ)) (V 
   pub after : Content
   pub read : Consumes read_old read_new bytes
   pub settled : IsSettled bytes ⊎ IsAtEnd read_new
-  pub answer : IsFirstAnswer bytes now drawn V out after
+  pub answer : IsTrialAnswer bytes now drawn V out after
   pub sent : Appends sent_old sent_new out

@@ -2,14 +2,15 @@
 ghost use Rattle.std.specs.Prelude.{◌≡◌, ◌⊎◌, false, IfOk, OnErr, option_map};
 ghost use Rattle.vault_core.specs.Vault.{Vault as Content};
 ghost use Rattle.vault_store.specs.Applied.{Contains, is_broken, tables_of};
-ghost use Rattle.vault_cli.specs.FirstAnswer.{IsBeforeOrAfter, IsFirstAnswer, Leaves, after_wanted, methods_at, reply_to, text_of};
+ghost use Rattle.vault_cli.specs.FirstAnswer.{IsBeforeOrAfter, IsFirstAnswer, Leaves, after_wanted, fault_text, methods_at, reply_to, text_of};
 ghost use Rattle.vault_cli.specs.Wanted.{Wanted, Wants};
 
 use crate::answer::answer_text;
+use crate::fault::WireFault;
 use crate::message::{Message, first_message};
-use crate::reply::body_of;
+use crate::reply::{body_of, refusal_text};
 use crate::route::Routes;
-use crate::status::status_of;
+use crate::status::{status_for, status_of};
 use crate::wanted::{Unwanted, command_of};
 use http::StatusCode;
 use std::alloc::{AllocError, Global};
@@ -40,6 +41,15 @@ pub fn first_answer<T: Tables>(
         Ok(None) => Ok(Vec::new(alloc)),
         Err(_) => Ok(Vec::new(alloc)),
     }
+}
+
+/// The answer to a fault of the bytes, with which the connection closes.
+pub fn fault_answer(alloc: Global, fault: WireFault) -> Result<Vec<u8>, AllocError>
+    ensures { IfOk result (λ out. out.items ≡ fault_text fault) }
+{
+    let number = fault.number();
+    let body = refusal_text(alloc, number)?;
+    answer_text(alloc, status_for(number), None, &body, true)
 }
 
 /// The answer to a message.

@@ -6,10 +6,11 @@ ghost use Rattle.vault_core.specs.Scalar.{IsLife};
 ghost use Rattle.vault_core.specs.Vault.{Vault as Content};
 ghost use Rattle.vault_store.specs.Applied.{Contains, is_broken};
 ghost use Rattle.vault_store.specs.Held.{IsHeld};
-ghost use Rattle.vault_cli.specs.Trial.{IsTrial, left_by, trial_vault as trial_vault_lem};
+ghost use Rattle.vault_cli.specs.Trial.{IsTrial, IsTrialAnswer, left_by, trial_vault as trial_vault_lem};
 
-use crate::first::first_answer;
+use crate::first::{fault_answer, first_answer};
 use crate::input::{InputFault, first_bytes};
+use crate::message::first_message;
 use std::alloc::{AllocError, Global};
 use std::io::{Read, Write};
 use vault_core::command::Command;
@@ -112,7 +113,7 @@ fn give(vault: &mut Vault<MemTables>, trial: &Trial, right: Right) -> Result<(),
     change(vault, &grant)
 }
 
-/// Reads the first message of the input, and writes its answer.
+/// Reads the first message of the input and writes its answer, or that of the fault at its front.
 pub fn answer_first<R: Read, W: Write>(
     alloc: Global,
     trial: &Trial,
@@ -125,8 +126,25 @@ pub fn answer_first<R: Read, W: Write>(
 {
     let mut vault = trial_vault(alloc, trial)?;
     let bytes = first_bytes(alloc, input)?;
-    let answer = first_answer(alloc, &bytes, &mut vault, trial.moment, trial.digits)?;
+    let answer = trial_answer(alloc, trial, &mut vault, &bytes)?;
     send(output, &answer)
+}
+
+/// The answer to the first message of the bytes, or to the fault at their front.
+fn trial_answer(
+    alloc: Global,
+    trial: &Trial,
+    vault: &mut Vault<MemTables>,
+    bytes: &[u8],
+) -> Result<Vec<u8>, AllocError>
+    requires { is_broken vault.old ≡ false }
+    ensures { IfOk result (λ out. (V : Content) → Contains IsHeld vault.old V
+        → (W : Content) × IsTrialAnswer bytes.now trial.now.moment trial.now.digits V out.items W) }
+{
+    match first_message(bytes) {
+        Ok(_) => first_answer(alloc, bytes, vault, trial.moment, trial.digits),
+        Err(fault) => fault_answer(alloc, fault),
+    }
 }
 
 /// Writes all bytes, and hands them on.

@@ -173,7 +173,42 @@ fn input_without_a_whole_message_is_not_answered(rt: HostRuntime) {
         )
         .is(DONE, "", "")
     );
-    assert!(rt; trial(&rt, "0", b"POST / HTTP/1.1\r\nA b\r\n\r\n").is(DONE, "", ""));
+}
+
+#[test]
+fn a_fault_of_the_bytes_is_answered_and_closes(rt: HostRuntime) {
+    let bad_head =
+        "HTTP/1.1 400 Bad Request\r\nContent-Type: application/json\r\nContent-Length: 14\r\nConnection: close\r\n\r\n{\"refused\":50}";
+    assert!(rt; trial(&rt, "0", b"POST / HTTP/1.1\r\nA b\r\n\r\n").is(DONE, bad_head, ""));
+    let no_coding =
+        "HTTP/1.1 411 Length Required\r\nContent-Type: application/json\r\nContent-Length: 14\r\nConnection: close\r\n\r\n{\"refused\":53}";
+    assert!(rt;
+        trial(
+            &rt,
+            "0",
+            b"POST / HTTP/1.1\r\nTransfer-Encoding: chunked\r\n\r\n"
+        )
+        .is(DONE, no_coding, "")
+    );
+}
+
+#[test]
+fn a_length_that_is_wrong_is_answered_and_closes(rt: HostRuntime) {
+    let bad_length =
+        "HTTP/1.1 400 Bad Request\r\nContent-Type: application/json\r\nContent-Length: 14\r\nConnection: close\r\n\r\n{\"refused\":52}";
+    assert!(rt;
+        trial(
+            &rt,
+            "0",
+            b"POST / HTTP/1.1\r\nContent-Length: 44\r\nContent-Length: 44\r\n\r\n"
+        )
+        .is(DONE, bad_length, "")
+    );
+    let too_large =
+        "HTTP/1.1 413 Payload Too Large\r\nContent-Type: application/json\r\nContent-Length: 14\r\nConnection: close\r\n\r\n{\"refused\":54}";
+    assert!(rt;
+        trial(&rt, "0", b"POST / HTTP/1.1\r\nContent-Length: 4097\r\n\r\n").is(DONE, too_large, "")
+    );
 }
 
 #[test]
