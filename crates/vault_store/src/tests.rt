@@ -1,7 +1,8 @@
 //! Lists of commands over tables in memory: worked cases, with tokens and moments worked out by hand.
 use crate::memory::MemTables;
 use crate::tables::Tables;
-use crate::vault::Vault;
+use crate::vault::{Fault, Vault};
+use crate::window::window;
 use std::process::Abort;
 use vault_core::command::Command;
 use vault_core::moment::Moment;
@@ -226,4 +227,31 @@ fn an_unknown_merchant_and_a_use_that_is_not_offered_are_refused(rt: HostRuntime
     assert!(rt; refuses(&rt, &mut vault, &usage, 9));
     assert!(rt; !vault.broken());
     assert_eq!(rt; made(&rt, vault), 0);
+}
+
+#[test]
+fn each_fault_has_its_number(rt: HostRuntime) {
+    assert_eq!(rt; Fault::Memory.number(), 20);
+    assert_eq!(rt; Fault::Store.number(), 21);
+    assert_eq!(rt; Fault::Reopen.number(), 22);
+}
+
+/// How many merchants the window of a command shows.
+fn merchants_seen<T: Tables>(tables: &mut T, command: &Command) -> Option<u64> {
+    match window(tables, command) {
+        Ok(seen) => Some(seen.merchants),
+        Err(_) => None,
+    }
+}
+
+#[test]
+fn a_window_shows_how_many_merchants_there_are(rt: HostRuntime) {
+    let mut tables = vault(&rt, 60, 100).into_tables();
+    let another = Command::SetMerchant {
+        merchant: merchant(&rt, b"shop2"),
+        single_life: 1,
+        multi_life: 2,
+        now: moment(&rt, 3000),
+    };
+    assert_eq!(rt; merchants_seen(&mut tables, &another), Some(1));
 }

@@ -1,7 +1,7 @@
 //! The program on words and bytes: worked messages, byte for byte, and what is refused.
 ghost use Rattle.std.specs.Prelude.{◌<◌, length};
 
-use super::{BAD_WORDS, DONE, REFUSED, STOPPED, run};
+use super::{BAD_WORDS, DONE, REFUSED, STOPPED, no_words, run};
 use std::io::{Error, ErrorKind, Read, Result, Write};
 use std::process::Abort;
 
@@ -313,6 +313,22 @@ fn help_is_given_with_status_0(rt: HostRuntime) {
     assert_eq!(rt; ran.status, DONE);
     assert!(rt; !ran.output.is_empty());
     assert!(rt; ran.errors.is_empty());
+}
+
+#[test]
+fn words_that_are_no_text_are_bad(rt: HostRuntime) {
+    let mut errors = Vec::new(rt.alloc());
+    let status = no_words(&Error::from(ErrorKind::InvalidData), &mut errors);
+    assert_eq!(rt; status, BAD_WORDS);
+    assert!(rt; errors.as_slice() == b"vault: bad words\n".as_slice());
+}
+
+#[test]
+fn words_without_memory_stop_with_20(rt: HostRuntime) {
+    let mut errors = Vec::new(rt.alloc());
+    let status = no_words(&Error::from(ErrorKind::OutOfMemory), &mut errors);
+    assert_eq!(rt; status, STOPPED);
+    assert!(rt; errors.as_slice() == b"vault: stopped 20\n".as_slice());
 }
 
 /// A reader and writer whose every call fails.
