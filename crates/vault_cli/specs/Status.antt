@@ -30,6 +30,9 @@ status_for n =
 abbrev pub status_of : Reply → ℕ
 status_of reply.Done = 200
 status_of (reply.Token token expires) = 200
+status_of (reply.Number number) = 200
+status_of (reply.Shown masked usage birth expires state) = 200
+status_of (reply.Counts made given denied) = 200
 status_of (reply.Refused n) = status_for n
 
 -- the reason that this service writes behind a status code, and nothing behind a code that it does not answer with

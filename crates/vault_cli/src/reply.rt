@@ -1,6 +1,6 @@
 //! The JSON text of a reply.
-ghost use Rattle.std.specs.Prelude.{◌≡◌, ◌++◌, codes, IfOk};
-ghost use Rattle.vault_cli.specs.Reply.{body_text, refusal_text as refused_text};
+ghost use Rattle.std.specs.Prelude.{◌≡◌, ◌++◌, IfOk, decimal};
+ghost use Rattle.vault_cli.specs.Reply.{body_text, refusal_text as refused_text, shown_text as shown_lem};
 
 use std::alloc::{AllocError, Global};
 use vault_core::reply::Reply;
@@ -12,13 +12,48 @@ pub fn refusal_text(alloc: Global, number: u8) -> Result<Vec<u8>, AllocError>
     Ok(format!(in alloc; "{{\"refused\":{number}}}")?.into_bytes())
 }
 
-// The text with digits behind it, and the end of their text and of the object.
-fn with_digits(mut text: Vec<u8>, digits: &[u8]) -> Result<Vec<u8>, AllocError>
-    ensures { IfOk result (λ v. v.items ≡ text.items ++ digits.now ++ codes "\"}") }
+// The text with a member's text behind it, and what comes next.
+fn with(mut text: Vec<u8>, value: &[u8], next: &[u8]) -> Result<Vec<u8>, AllocError>
+    ensures { IfOk result (λ v. v.items ≡ text.items ++ value.now ++ next.now) }
 {
-    text.extend_from_slice(digits)?;
-    text.extend_from_slice(b"\"}")?;
+    text.extend_from_slice(value)?;
+    text.extend_from_slice(next)?;
     Ok(text)
+}
+
+// The text with a number's digits behind it, and what comes next.
+fn numbered(alloc: Global, text: Vec<u8>, number: u64, next: &[u8]) -> Result<Vec<u8>, AllocError>
+    ensures { IfOk result (λ v. v.items ≡ text.items ++ decimal number ++ next.now) }
+{
+    let digits = format!(in alloc; "{number}")?;
+    with(text, digits.as_bytes(), next)
+}
+
+// The text of what a token stands for, by its words.
+fn shown_text(
+    alloc: Global,
+    masked: &[u8],
+    usage: &[u8],
+    birth: u64,
+    expires: u64,
+    state: &[u8],
+) -> Result<Vec<u8>, AllocError>
+    ensures { IfOk result (λ v. v.items ≡ shown_lem masked.now usage.now birth expires state.now) }
+{
+    let text = Vec::from_slice(alloc, b"{\"birth\":")?;
+    let text = numbered(alloc, text, birth, b",\"expires\":")?;
+    let text = numbered(alloc, text, expires, b",\"masked\":\"")?;
+    let text = with(text, masked, b"\",\"state\":\"")?;
+    let text = with(text, state, b"\",\"use\":\"")?;
+    Ok(with(text, usage, b"\"}")?)
+}
+
+// The text of a merchant's counts.
+fn counts_text(alloc: Global, made: u64, given: u64, denied: u64) -> Result<Vec<u8>, AllocError>
+    ensures { IfOk result (λ v. v.items ≡ body_text (Reply.Counts made given denied)) }
+{
+    let text = format!(in alloc; "{{\"denied\":{denied},\"given\":{given},\"made\":{made}}}")?;
+    Ok(text.into_bytes())
 }
 
 /// The text of a reply: an object with its members in the order of their names, and no space.
@@ -29,8 +64,35 @@ pub fn body_of(alloc: Global, reply: &Reply) -> Result<Vec<u8>, AllocError>
         Reply::Done => Vec::from_slice(alloc, b"{\"done\":true}"),
         Reply::Token { token, expires } => {
             let text = format!(in alloc; "{{\"expires\":{expires},\"token\":\"")?;
-            with_digits(text.into_bytes(), token.digits())
+            with(text.into_bytes(), token.digits(), b"\"}")
         }
+        Reply::Number(number) => {
+            let text = Vec::from_slice(alloc, b"{\"number\":\"")?;
+            with(text, number.digits(), b"\"}")
+        }
+        Reply::Shown {
+            masked,
+            usage,
+            birth,
+            expires,
+            state,
+        } => {
+            let usage = usage.word().as_bytes();
+            let state = state.word().as_bytes();
+            shown_text(
+                alloc,
+                masked.text(),
+                usage,
+                birth.seconds(),
+                *expires,
+                state,
+            )
+        }
+        Reply::Counts {
+            made,
+            given,
+            denied,
+        } => counts_text(alloc, *made, *given, *denied),
         Reply::Refused(number) => refusal_text(alloc, *number),
     }
 }
@@ -39,12 +101,19 @@ pub fn body_of(alloc: Global, reply: &Reply) -> Result<Vec<u8>, AllocError>
 mod tests {
     use super::*;
     use std::test::Fail;
+    use vault_core::moment::Moment;
+    use vault_core::reply::State;
+    use vault_core::usage::Use;
+    use vault_pan::mask::mask;
+    use vault_pan::pan::Pan;
     use vault_pan::token::Token;
 
     #[test]
     fn a_reply_is_one_line_of_json(rt: HostRuntime) -> Result<(), Fail> {
         let token = Token::read(b"0000000000001111")?;
-        let cases: [(Reply, &[u8]); 3] = [
+        let number = Pan::read(b"4111111111111111")?;
+        let birth = Moment::new(1000).expect(&rt, "a moment");
+        let cases: [(Reply, &[u8]); 6] = [
             (Reply::Done, b"{\"done\":true}"),
             (
                 Reply::Token {
@@ -52,6 +121,25 @@ mod tests {
                     expires: 1060,
                 },
                 b"{\"expires\":1060,\"token\":\"0000000000001111\"}",
+            ),
+            (Reply::Number(number), b"{\"number\":\"4111111111111111\"}"),
+            (
+                Reply::Shown {
+                    masked: mask(&number),
+                    usage: Use::Single,
+                    birth,
+                    expires: 1060,
+                    state: State::Live,
+                },
+                b"{\"birth\":1000,\"expires\":1060,\"masked\":\"411111******1111\",\"state\":\"live\",\"use\":\"single\"}",
+            ),
+            (
+                Reply::Counts {
+                    made: 1,
+                    given: 2,
+                    denied: 0,
+                },
+                b"{\"denied\":0,\"given\":2,\"made\":1}",
             ),
             (Reply::Refused(57), b"{\"refused\":57}"),
         ];

@@ -24,7 +24,7 @@ mapped_some f None y e = cc
 mapped_some f (Some x) y e = (x, refl, some_same e)
 
 -- a merchant's entries are those of the vault under its name
-get-entries_of : (V : Vault) (m : Bytes) (key : Bytes × Bytes)
+pub get-entries_of : (V : Vault) (m : Bytes) (key : Bytes × Bytes)
     → map.get (entries_of V m) key ≡ cond (eq_by_cmp bytes_cmp m key.0) (map.get V.entries key) None
 get-entries_of V m key = get-retained entry_total entry_exact V.entries (λ k. eq_by_cmp bytes_cmp m k.0) key
 

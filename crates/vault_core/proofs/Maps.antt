@@ -1,5 +1,5 @@
 -- Look-ups in the vault's maps after an insertion.
-use Rattle.std.proofs.Common.{◌≡◌, ◌+◌, ℕ, zero, suc, Bool, true, false, cond, Some, None, ◌⊎◌, inl, inr, refl, sym, ap, ◌∙◌, subst, is_some}
+use Rattle.std.proofs.Common.{◌≡◌, ◌≢◌, ◌+◌, ℕ, zero, suc, Bool, true, false, cond, Some, None, ◌⊎◌, inl, inr, refl, sym, ap, ◌∙◌, subst, is_some}
 use Rattle.std.specs.FinMap as map
 use Rattle.std.specs.FinMap.{FinMap, IsAntisymmetric}
 use Rattle.std.specs.Ordering.{eq_by_cmp, is_eq, nat_cmp, ordering_then}
@@ -70,6 +70,16 @@ tied {R = R} exact q k =
       | Greater ↦ λ e. inr refl
     ] refl
 
+-- keys that differ don't tie
+pub untied : {K : Type 0} {R : K → K → Ordering} → IsAntisymmetric R → (q k : K) → q ≢ k → eq_by_cmp R q k ≡ false
+untied exact q k apart = elim (tied exact q k) [ inl same ↦ absurd (apart same) | inr is ↦ is ]
+
+-- the same insertion in two maps that agree at a key
+pub get-insert_both : {K X : Type 0} {R : K → K → Ordering} → IsTotalOrder R → (m n : FinMap R X) (k : K) (v : X) (q : K)
+    → map.get m q ≡ map.get n q → map.get (map.insert m k v) q ≡ map.get (map.insert n k v) q
+get-insert_both {R = R} o m n k v q same =
+    map.get-insert o m k v q ∙ ap (cond (eq_by_cmp R q k) (Some v)) same ∙ sym (map.get-insert o n k v q)
+
 module _ {K X : Type 0} {R : K → K → Ordering} (o : IsTotalOrder R) (exact : IsAntisymmetric R) where
   pub get-insert_same : (m : FinMap R X) (k : K) (v : X) → map.get (map.insert m k v) k ≡ Some v
   get-insert_same m k v =
@@ -137,3 +147,16 @@ module _ {K X : Type 0} {R : K → K → Ordering} (o : IsTotalOrder R) (exact :
       ∙ map.len-insert o (map.retain_keys m p) k v
       ∙ ap (λ x. cond (is_some x) (map.len (map.retain_keys m p)) (map.len (map.retain_keys m p) + 1))
       (get-retained m p k ∙ ap (λ b. cond b (map.get m k) None) passes ∙ none)
+
+  -- a key that is there is none more
+  pub retained-len_same : (m : FinMap R X) (k : K) (v : X) (p : K → Bool) (old : X) → map.get m k ≡ Some old
+      → map.len (map.retain_keys (map.insert m k v) p) ≡ map.len (map.retain_keys m p)
+  retained-len_same m k v p old there = by_pass (p k) refl
+    where
+      by_pass : (b : Bool) → p k ≡ b → map.len (map.retain_keys (map.insert m k v) p) ≡ map.len (map.retain_keys m p)
+      by_pass true passes =
+          ap map.len (retained-yes m k v p passes)
+          ∙ map.len-insert o (map.retain_keys m p) k v
+          ∙ ap (λ x. cond (is_some x) (map.len (map.retain_keys m p)) (map.len (map.retain_keys m p) + 1))
+          (get-retained m p k ∙ ap (λ b. cond b (map.get m k) None) passes ∙ there)
+      by_pass false fails = ap map.len (retained-no m k v p fails)

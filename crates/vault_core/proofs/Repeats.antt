@@ -1,5 +1,5 @@
 -- What was answered to a request is answered again.
-use Rattle.std.proofs.Common.{◌≡◌, ℕ, Bool, true, false, cond, Option, Some, None, List, [], ◌∷◌, not, is_none, refl, sym, ap, ◌∙◌, inl, inr, ◌==◌, ◌&&◌, nat_lt}
+use Rattle.std.proofs.Common.{◌≡◌, ℕ, Bool, true, false, cond, Option, Some, None, List, [], ◌∷◌, not, is_none, refl, sym, ap, ◌∙◌, subst, inl, inr, ◌==◌, ◌&&◌, nat_lt}
 use Rattle.std.specs.Option.{option_map_or}
 use Rattle.std.specs.FinMap as map
 use Rattle.std.specs.Cmp.{first_so, second_so, tied_itself}
@@ -8,22 +8,25 @@ use Rattle.std.specs.Ordering.{is_eq}
 use Rattle.vault_pan.specs.CardText.{same}
 use Rattle.vault_core.specs.Draw.{chosen}
 use Rattle.vault_core.specs.Keys.{Bytes, bytes_cmp}
-use Rattle.vault_core.specs.Laws.{command_of, IsSameRequest, RepeatsAnswerFirst}
-use Rattle.vault_core.specs.Merchants.{most_merchants, granted, set_from, set_to, new_merchant}
-use Rattle.vault_core.specs.Outcome.{Outcome, unchanged, refused, of_merchant}
+use Rattle.vault_core.specs.Laws.{IsSameRequest, RepeatsAnswerFirst}
+use Rattle.vault_core.specs.Merchants.{most_merchants, granted, withdrawn, set_from, set_to, new_merchant}
+use Rattle.vault_core.specs.Outcome.{Outcome, unchanged, refused, of_merchant, of_token}
 use Rattle.vault_core.specs.Proper.{AllProper}
+use Rattle.vault_core.specs.Redeem.{most_count, redeem}
 use Rattle.vault_core.specs.Repeats.{current, is_repeat, is_number_of, reusable, same_use}
+use Rattle.vault_core.specs.Retire.{retired, revoked_at}
 use Rattle.vault_core.specs.Runs.{run}
+use Rattle.vault_core.specs.Show.{shown, counted}
 use Rattle.vault_core.specs.Sound.{Sound}
-use Rattle.vault_core.specs.Table.{after, token_request}
+use Rattle.vault_core.specs.Table.{after, command_of, token_request}
 use Rattle.vault_core.specs.Tokens.{most_tokens, came_before, repeated, new_request, given_again, made_new, drawn, new_entry, life_asked, tokenize}
 use Rattle.vault_core.specs.Vault.{Vault, Merchant, merchant_at, entry_at, record_at, has_right, made, time_at}
 use Rattle.vault_core.specs.declared.command.Command.{Command}
-use Rattle.vault_core.specs.declared.command.Command.TheVariants.{SetMerchant, Grant, Tokenize}
+use Rattle.vault_core.specs.declared.command.Command.TheVariants.{SetMerchant, Grant, Withdraw, Tokenize, Detokenize, View, Revoke, Audit}
 use Rattle.vault_core.specs.declared.command.TokenRequest.{TokenRequest}
 use Rattle.vault_core.specs.Refusals.{no_merchant, no_right, wrong_use, number_reused, full, no_candidate, too_many_merchants}
 use Rattle.vault_core.specs.declared.reply.Reply.{Reply}
-use Rattle.vault_core.specs.declared.reply.Reply.TheVariants.{Token, Refused}
+use Rattle.vault_core.specs.declared.reply.Reply.TheVariants.{Token, Refused, Counts}
 use Rattle.vault_core.specs.declared.right.Right.TheVariants as right
 use Rattle.vault_core.specs.declared.row.Entry.{Entry}
 use Rattle.vault_core.specs.declared.row.Record.{Record}
@@ -32,8 +35,10 @@ use Rattle.vault_core.specs.declared.usage.Use.TheVariants.{Single, Multi}
 use Rattle.vault_core.proofs.Branches.{by_test, by_option}
 use Rattle.vault_core.proofs.CurrentLemmas.{current-some}
 use Rattle.vault_core.proofs.DrawLemmas.{chosen-is_good}
+use Rattle.vault_core.proofs.Finds.{some_same}
 use Rattle.vault_core.proofs.Maps.{bytes_total, entry_total, entry_exact, record_total, record_exact, tied, get-insert_same, get-insert_other}
 use Rattle.vault_core.proofs.StaysSound.{sound-after}
+use Rattle.vault_core.proofs.Walks.{by_redeem, by_token}
 
 -- the entry is still there with its expires, and with its number or erased
 abbrev pub KeptEntry : Bytes → Entry → Option Entry → Type 0
@@ -55,6 +60,30 @@ keeps-refl V = record { records = λ caller request r e. e; entries = λ m token
 -- only merchants change
 keeps-row : (V : Vault) (merchants : map.FinMap bytes_cmp Merchant) → Keeps V (record V { merchants = merchants })
 keeps-row V merchants = record { records = λ caller request r e. e; entries = λ m token e' e. same-entry token e' (entry_at V m token) e }
+
+-- an entry changes that keeps its expires and answers to the same numbers
+keeps-entry : (V : Vault) (merchants : map.FinMap bytes_cmp Merchant) (m token : Bytes) (old new : Entry)
+    → entry_at V m token ≡ Some old → new.expires ≡ old.expires
+    → ((pan : Bytes) → is_number_of pan token old.number ≡ true → is_number_of pan token new.number ≡ true)
+    → Keeps V (record V { merchants = merchants; entries = map.insert V.entries (m, token) new })
+keeps-entry V merchants m token old new here expires numbers = record {
+  records = λ caller request r e. e;
+  entries = λ m' token' e' e.
+      elim (tied entry_exact (m', token') (m, token)) [
+        | inl same ↦
+            let was : e' ≡ old = some_same (sym e ∙ ap (map.get V.entries) same ∙ here) in
+            let own = ap (λ (k : Bytes × Bytes). k.1) same in (
+              new,
+              ap (map.get (map.insert V.entries (m, token) new)) same ∙ get-insert_same entry_total entry_exact V.entries (m, token) new,
+              expires ∙ sym (ap (λ (x : Entry). x.expires) was),
+              λ pan is.
+                  subst (λ (t : Bytes). is_number_of pan t new.number ≡ true) (sym own)
+                  (numbers pan (subst (λ (t : Bytes). is_number_of pan t old.number ≡ true) own (subst (λ (x : Entry). is_number_of pan token' x.number ≡ true) was is))),
+            )
+        | inr apart ↦
+            same-entry token' e' _ (get-insert_other entry_total entry_exact V.entries (m, token) new (m', token') apart ∙ e)
+      ];
+}
 
 -- what the vault has of a request that was answered
 pub record Remembers (V : Vault) (a : TokenRequest) (token : Bytes) (expires : ℕ) : Type 0 where
@@ -236,8 +265,32 @@ keeps-after V s (SetMerchant m single multi now) = set-keeps (merchant_at V m)
 keeps-after V s (Grant caller m right now) =
     by_option (KeepsAfter V) (merchant_at V m) (granted V caller m right now) (refused V no_merchant)
     (λ known e. record { records = λ caller request r e. e; entries = λ m t e' e. same-entry t e' (entry_at V m t) e }) (λ _. keeps-refl V)
+keeps-after V s (Withdraw caller m right now) =
+    by_option (KeepsAfter V) (merchant_at V m) (withdrawn V caller m right now) (refused V no_merchant)
+    (λ known e. record { records = λ caller request r e. e; entries = λ m t e' e. same-entry t e' (entry_at V m t) e }) (λ _. keeps-refl V)
 keeps-after V s (Tokenize caller m request usage pan digits now) =
     (faithful-tokenize V s (token_request caller m request usage pan digits now)).keeps
+keeps-after V s (Detokenize caller m token now) =
+    by_option (KeepsAfter V) (merchant_at V m) (redeem V caller m token now) (refused V no_merchant)
+    (λ known _. by_redeem (KeepsAfter V) V caller m token now known
+    (λ reason _. by_test (KeepsAfter V) (known.denied == most_count) (refused V full) _ (λ _. keeps-refl V) (λ _. keeps-row V _))
+    (λ number. by_test (KeepsAfter V) (known.given == most_count) (refused V full) _ (λ _. keeps-refl V) (λ _. keeps-row V _)))
+    (λ _. keeps-refl V)
+keeps-after V s (View caller m token now) =
+    by_option (KeepsAfter V) (merchant_at V m) (λ merchant. of_token V caller m token right.View (shown V now merchant)) (refused V no_merchant)
+    (λ known _. by_token (KeepsAfter V) V caller m token right.View (shown V now known) (λ _. keeps-refl V) (λ _ _ _ _. keeps-refl V))
+    (λ _. keeps-refl V)
+keeps-after V s (Revoke caller m token now) =
+    by_option (KeepsAfter V) (merchant_at V m) (λ merchant. of_token V caller m token right.Revoke (retired V m token now merchant)) (refused V no_merchant)
+    (λ known _. by_token (KeepsAfter V) V caller m token right.Revoke (retired V m token now known)
+    (λ _. keeps-refl V)
+    (λ entry number here has. keeps-entry V _ m token entry (revoked_at entry (time_at known now)) here refl (λ pan x. x)))
+    (λ _. keeps-refl V)
+keeps-after V s (Audit caller m now) =
+    by_option (KeepsAfter V) (merchant_at V m) (counted V caller m) (refused V no_merchant)
+    (λ known _. by_test (KeepsAfter V) (not (has_right V caller m right.Audit)) (refused V no_right) (unchanged V (Counts (made V m) known.given known.denied))
+    (λ _. keeps-refl V) (λ _. keeps-refl V))
+    (λ _. keeps-refl V)
 
 remembered : (V : Vault) → Sound V → (cs : List Command) → AllProper cs → (a : TokenRequest) (token : Bytes) (expires : ℕ)
     → Remembers V a token expires → Remembers (run cs V) a token expires

@@ -1,5 +1,5 @@
 -- Every command leaves a sound vault sound.
-use Rattle.std.proofs.Common.{◌≡◌, ℕ, ◌+◌, ◌<◌, ◌≤◌, Bool, true, false, cond, Option, Some, None, [], ◌∷◌, not, is_some, is_none, refl, sym, ap, ◌∙◌, subst, arith, nat_lt, ◌==◌, zero, suc, lit≤}
+use Rattle.std.proofs.Common.{◌≡◌, ℕ, ◌+◌, ◌<◌, ◌≤◌, Bool, true, false, cond, Option, Some, None, [], ◌∷◌, not, is_none, refl, sym, ap, ◌∙◌, subst, arith, nat_lt, ◌==◌, zero, suc, lit≤}
 use Rattle.std.specs.Prelude.{map}
 use Rattle.std.specs.Option.{option_map_or}
 use Rattle.std.specs.FinMap as map
@@ -19,12 +19,12 @@ use Rattle.vault_core.specs.Outcome.{Outcome, unchanged, refused, moved, of_merc
 use Rattle.vault_core.specs.Proper.{IsProper}
 use Rattle.vault_core.specs.Repeats.{current, is_repeat, is_reusable, reusable, same_use}
 use Rattle.vault_core.specs.Scalar.{IsLife, IsMoment, IsRequest}
-use Rattle.vault_core.specs.Sound.{Sound, IsSoundMerchant, IsSoundEntry}
+use Rattle.vault_core.specs.Sound.{Sound, IsSoundEntry}
 use Rattle.vault_core.specs.Table.{after, token_request}
 use Rattle.vault_core.specs.Tokens.{most_tokens, came_before, repeated, new_request, given_again, made_new, drawn, new_entry, life_asked, tokenize}
 use Rattle.vault_core.specs.Vault.{Vault, Merchant, merchant_at, entry_at, record_at, has_right, made, time_at, life_for}
 use Rattle.vault_core.specs.declared.command.Command.{Command}
-use Rattle.vault_core.specs.declared.command.Command.TheVariants.{SetMerchant, Grant, Tokenize}
+use Rattle.vault_core.specs.declared.command.Command.TheVariants.{SetMerchant, Grant, Withdraw, Tokenize, Detokenize, View, Revoke, Audit}
 use Rattle.vault_core.specs.declared.command.TokenRequest.{TokenRequest}
 use Rattle.vault_core.specs.Refusals.{no_merchant, no_right, wrong_use, number_reused, full, no_candidate, too_many_merchants}
 use Rattle.vault_core.specs.declared.reply.Reply.TheVariants.{Token}
@@ -36,33 +36,15 @@ use Rattle.vault_core.specs.declared.usage.Use.TheVariants.{Single, Multi}
 use Rattle.vault_core.proofs.Branches.{by_test, by_option}
 use Rattle.vault_core.proofs.CurrentLemmas.{current-none, current-some, same-is}
 use Rattle.vault_core.proofs.DrawLemmas.{chosen-is_good}
-use Rattle.vault_core.proofs.Finds.{find-holds, some_same}
+use Rattle.vault_core.proofs.Finds.{find-holds}
 use Rattle.vault_core.proofs.Maps.{bytes_total, bytes_exact, entry_total, entry_exact, get-insert_same}
+use Rattle.vault_core.proofs.SoundMoved.{known-set, sound-moved}
+use Rattle.vault_core.proofs.SoundRedeem.{sound-withdraw, sound-detokenize, sound-view, sound-revoke, sound-audit}
 use Rattle.vault_core.proofs.Steps.{sound-merchant, sound-right, sound-record, sound-entry, IsSole}
 
 -- the vault that an outcome leaves is sound
 abbrev SoundAfter : Outcome → Type 0
 SoundAfter o = Sound o.after
-
--- a merchant that is known is set
-known-set : (V : Vault) → Sound V → (m : Bytes) (known new : Merchant) → merchant_at V m ≡ Some known
-    → IsSoundMerchant m new → known.moment ≤ new.moment
-    → Sound (record V { merchants = map.insert V.merchants m new })
-known-set V s m known new is fine later =
-    let count = map.len-insert bytes_total V.merchants m new ∙ ap (λ o. cond (is_some o) (map.len V.merchants) (map.len V.merchants + 1)) is in
-    let few = s.few in
-    sound-merchant V s m new fine
-    (λ old e. let h : known ≡ old = some_same (sym is ∙ e) in let at = ap (λ (x : Merchant). x.moment) h in omega arith)
-    (omega (arith, count))
-
-sound-moved : (V : Vault) → Sound V → (m : Bytes) (known : Merchant) (now : ℕ) → merchant_at V m ≡ Some known
-    → IsMoment now → Sound (moved V m known now)
-sound-moved V s m known now is moment =
-    let old = s.merchants m known is in
-    let before = old.moment in
-    known-set V s m known (record known { moment = time_at known now }) is
-    (record { name = old.name; single = old.single; multi = old.multi; moment = omega arith; given = old.given; denied = old.denied })
-    (omega arith)
 
 sound-grant : (V : Vault) → Sound V → (caller m : Bytes) (right : Right) (now : ℕ)
     → IsName caller → IsMoment now → Sound (after V (Grant caller m right now))
@@ -229,7 +211,12 @@ sound-tokenize V s a p =
 pub sound-after : (V : Vault) → Sound V → (c : Command) → IsProper c → Sound (after V c)
 sound-after V s (SetMerchant m single multi now) p = sound-set V s m single multi now p.0 p.1 p.2 p.3 (merchant_at V m) refl
 sound-after V s (Grant caller m right now) p = sound-grant V s caller m right now p.0 p.2
+sound-after V s (Withdraw caller m right now) p = sound-withdraw V s caller m right now p.2
 sound-after V s (Tokenize caller m request usage pan digits now) p = sound-tokenize V s (token_request caller m request usage pan digits now) p
+sound-after V s (Detokenize caller m token now) p = sound-detokenize V s caller m token now p.3
+sound-after V s (View caller m token now) p = sound-view V s caller m token now
+sound-after V s (Revoke caller m token now) p = sound-revoke V s caller m token now p.3
+sound-after V s (Audit caller m now) p = sound-audit V s caller m
 
 pub stays_sound : StaysSound
 stays_sound V [] s p = s

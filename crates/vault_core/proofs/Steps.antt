@@ -3,7 +3,7 @@ use Rattle.std.proofs.Common.{◌≡◌, ℕ, ◌<◌, ◌≤◌, true, Option, 
 use Rattle.std.specs.FinMap as map
 use Rattle.std.specs.FinSet as set
 use Rattle.std.specs.Ordering.{eq_by_cmp, is_eq}
-use Rattle.std.specs.Cmp.{tied_itself}
+use Rattle.std.specs.Cmp.{tied_itself, second_so}
 use Rattle.std.proofs.lemmas.Bool.Decides.{nat_tests}
 use Rattle.vault_core.specs.Keys.{Bytes, bytes_cmp}
 use Rattle.vault_core.specs.Name.{IsName}
@@ -14,7 +14,8 @@ use Rattle.vault_core.specs.Vault.{Vault, Merchant, merchant_at, entry_at, has_r
 use Rattle.vault_core.specs.declared.row.Entry.{Entry}
 use Rattle.vault_core.specs.declared.row.Record.{Record}
 use Rattle.vault_core.specs.declared.right.Right.{Right}
-use Rattle.vault_core.proofs.Maps.{bytes_total, bytes_exact, entry_total, entry_exact, record_total, record_exact, right_total, right_exact, tied, get-insert_same, get-insert_other, get-insert_cases, retained-len_yes, retained-no}
+use Rattle.vault_core.proofs.Maps.{bytes_total, bytes_exact, entry_total, entry_exact, record_total, record_exact, right_total, right_exact, tied, get-insert_same, get-insert_other, get-insert_cases, retained-len_yes, retained-len_same, retained-no}
+use Rattle.vault_core.proofs.Finds.{some_same}
 
 later_number : (token : Bytes) (entry : Entry) (a b : ℕ) (number : Option Bytes) → a ≤ b
     → IsNumber token entry a number → IsNumber token entry b number
@@ -27,7 +28,7 @@ later_revocation entry a b None le h = tt
 later_revocation entry a b (Some at) le h = let until = h.1 in (h.0, omega arith)
 
 -- a sound entry stays so when the merchant's moment moves on
-later_entry : (token : Bytes) (entry : Entry) (old new : Merchant) → old.moment ≤ new.moment
+pub later_entry : (token : Bytes) (entry : Entry) (old new : Merchant) → old.moment ≤ new.moment
     → IsSoundEntry token entry old → IsSoundEntry token entry new
 later_entry token entry old new le h = record {
   token_fails = h.token_fails;
@@ -108,6 +109,20 @@ sound-right V s caller m right known name is = record {
             s.rights caller' q right'
             (sym (set.contains-insert right_total V.rights (caller, (m, right)) (caller', (q, right')) ∙ ap (λ b. b || has_right V caller' q right') apart) ∙ e)
       ];
+}
+
+-- a right is taken away
+pub sound-unright : (V : Vault) → Sound V → (caller m : Bytes) (right : Right)
+    → Sound (record V { rights = set.remove V.rights (caller, (m, right)) })
+sound-unright V s caller m right = record {
+  few = s.few;
+  merchants = s.merchants;
+  made_few = s.made_few;
+  entries = s.entries;
+  alone = s.alone;
+  records = s.records;
+  rights = λ caller' q right' e.
+      s.rights caller' q right' (second_so _ _ (sym (set.contains-remove right_total V.rights (caller, (m, right)) (caller', (q, right'))) ∙ e));
 }
 
 -- a request is recorded with an entry that is there
@@ -208,4 +223,64 @@ sound-entry V s m token entry known is fine new few sole = record {
         elim (tied entry_exact (r.merchant, r.token) (m, token)) [
           | inl same ↦ let clash = sym before ∙ ap (map.get V.entries) same ∙ new in cc
           | inr apart ↦ get-insert_other entry_total entry_exact V.entries (m, token) entry (r.merchant, r.token) apart ∙ before
+        ]
+
+-- an entry changes, and can't be given again where it couldn't before
+pub sound-changed : (V : Vault) → Sound V → (m token : Bytes) (old new : Entry) (known : Merchant)
+    → merchant_at V m ≡ Some known → entry_at V m token ≡ Some old → IsSoundEntry token new known → new.usage ≡ old.usage
+    → ((pan : Bytes) → is_reusable pan known.moment new ≡ true → is_reusable pan known.moment old ≡ true)
+    → Sound (record V { entries = map.insert V.entries (m, token) new })
+sound-changed V s m token old new known is here fine same_usage reuse = record {
+  few = s.few;
+  merchants = s.merchants;
+  made_few = λ q.
+      let equal = retained-len_same entry_total entry_exact V.entries (m, token) new (λ key. eq_by_cmp bytes_cmp q key.0) old here in
+      let before = s.made_few q in
+      omega (arith, equal, before);
+  entries = λ q t e h.
+      elim (get-insert_cases entry_total entry_exact V.entries (m, token) new (q, t) e h) [
+        | inl i ↦ (
+          known,
+          ap (λ (k : Bytes × Bytes). map.get V.merchants k.0) i.0 ∙ is,
+          subst (λ (x : Bytes). IsSoundEntry x e known) (sym (ap (λ (k : Bytes × Bytes). k.1) i.0)) (subst (λ (x : Entry). IsSoundEntry token x known) (sym i.1) fine),
+        )
+        | inr i ↦ s.entries q t e i.1
+      ];
+  alone = λ q pan t other e e' row at_q e1 r1 e2 r2.
+      let one = before q pan t e row at_q e1 r1 in
+      let two = before q pan other e' row at_q e2 r2 in
+      s.alone q pan t other one.0 two.0 row at_q one.1 one.2 two.1 two.2;
+  records = λ caller request r e.
+      let was = s.records caller request r e in
+      (was.0, was.1, still r was.2.0 was.2.1 was.2.2);
+  rights = s.rights;
+}
+  where
+    -- what can be given again could be before
+    before : (q pan t : Bytes) (e : Entry) (row : Merchant) → merchant_at V q ≡ Some row
+        → map.get (map.insert V.entries (m, token) new) (q, t) ≡ Some e → is_reusable pan row.moment e ≡ true
+        → (e' : Entry) × (entry_at V q t ≡ Some e') × (is_reusable pan row.moment e' ≡ true)
+    before q pan t e row at_q found again =
+        elim (get-insert_cases entry_total entry_exact V.entries (m, token) new (q, t) e found) [
+          | inl i ↦
+              let qm = ap (λ (k : Bytes × Bytes). k.0) i.0 in
+              let moments = ap (λ (x : Merchant). x.moment) (same_row V q m row known qm at_q is) in (
+                old,
+                ap (map.get V.entries) i.0 ∙ here,
+                same_reusable pan _ _ old old (sym moments) refl (reuse pan (same_reusable pan _ _ e new moments i.1 again)),
+              )
+          | inr i ↦ (e, i.1, again)
+        ]
+
+    still : (r : Record) (found : Entry) → entry_at V r.merchant r.token ≡ Some found → found.usage ≡ r.usage
+        → IsEntryOf r (map.get (map.insert V.entries (m, token) new) (r.merchant, r.token))
+    still r found before_it usage =
+        elim (tied entry_exact (r.merchant, r.token) (m, token)) [
+          | inl same ↦
+              let was : found ≡ old = some_same (sym before_it ∙ ap (map.get V.entries) same ∙ here) in (
+                new,
+                ap (map.get (map.insert V.entries (m, token) new)) same ∙ get-insert_same entry_total entry_exact V.entries (m, token) new,
+                same_usage ∙ sym (ap (λ (x : Entry). x.usage) was) ∙ usage,
+              )
+          | inr apart ↦ (found, get-insert_other entry_total entry_exact V.entries (m, token) new (r.merchant, r.token) apart ∙ before_it, usage)
         ]

@@ -4,18 +4,19 @@ use Rattle.std.specs.FinMap as map
 use Rattle.std.specs.FinSet as set
 use Rattle.vault_core.specs.Keys.{Bytes, bytes_cmp, entry_cmp, record_cmp, right_cmp}
 use Rattle.vault_core.specs.Outcome.{Outcome}
+use Rattle.vault_core.specs.Named.{merchant_of, is_denial}
 use Rattle.vault_core.specs.Sound.{Sound}
 use Rattle.vault_core.specs.Table.{outcome}
-use Rattle.vault_core.specs.Vault.{Vault, Merchant, entry_at}
-use Rattle.vault_core.specs.Window.{IsWindow}
+use Rattle.vault_core.specs.Vault.{Vault, Merchant, merchant_at, entry_at}
+use Rattle.vault_core.specs.Window.{IsWindow, row_of}
 use Rattle.vault_core.specs.declared.changes.Changes.{Changes}
 use Rattle.vault_core.specs.declared.changes.Count.{Count}
 use Rattle.vault_core.specs.declared.changes.Count.TheVariants.{Made, Given, Denied}
 use Rattle.vault_core.specs.declared.changes.Lives.{Lives}
 use Rattle.vault_core.specs.declared.command.Command.{Command}
-use Rattle.vault_core.specs.declared.command.Command.TheVariants.{SetMerchant, Grant, Tokenize}
+use Rattle.vault_core.specs.declared.command.Command.TheVariants.{SetMerchant, Grant, Withdraw, Tokenize, Detokenize, View, Revoke, Audit}
 use Rattle.vault_core.specs.declared.reply.Reply.{Reply}
-use Rattle.vault_core.specs.declared.reply.Reply.TheVariants.{Done, Token, Refused}
+use Rattle.vault_core.specs.declared.reply.Reply.TheVariants.{Done, Token, Number, Shown, Counts, Refused}
 use Rattle.vault_core.specs.declared.right.Right.{Right}
 use Rattle.vault_core.specs.declared.row.Entry.{Entry}
 use Rattle.vault_core.specs.declared.row.MerchantRow.{MerchantRow}
@@ -94,6 +95,11 @@ pub record Yields (V : Vault) (o : Outcome) (d : Reply × Changes) : Type 0 wher
 abbrev pub Decides : Window → Command → Reply × Changes → Type 0
 Decides w c d = (V : Vault) → Sound V → IsWindow V c w → Yields V (outcome V c) d
 
+-- in each vault that has the row as the merchant's, the decision is an outcome
+abbrev pub YieldsAt : Bytes → MerchantRow → (Vault → Merchant → Outcome) → Reply × Changes → Type 0
+YieldsAt m row o d =
+    (V : Vault) (known : Merchant) → merchant_at V m ≡ Some known → row ≡ row_of V m known → Yields V (o V known) d
+
 -- of whatever sound vault the window is, the changes fit it
 abbrev pub FitsVault : Window → Command → Changes → Type 0
 FitsVault w c ch = (V : Vault) → Sound V → IsWindow V c w → Fit V ch
@@ -107,14 +113,32 @@ abbrev pub moved_lives : Bytes → MerchantRow → ℕ → Lives
 moved_lives m row now =
     record { merchant = m; single_life = row.single_life; multi_life = row.multi_life; moment = max row.moment now }
 
--- the window shows that the request was recorded before
-abbrev pub CameBefore : Window → Command → Type 0
-CameBefore w (SetMerchant m single multi now) = ⊥
-CameBefore w (Grant caller m right now) = ⊥
-CameBefore w (Tokenize caller m request usage pan digits now) = IsSome w.recorded
+-- a View, an Audit, and a request that the window shows to be recorded before change nothing
+abbrev pub WritesNothing : Window → Command → Type 0
+WritesNothing w (SetMerchant m single multi now) = ⊥
+WritesNothing w (Grant caller m right now) = ⊥
+WritesNothing w (Withdraw caller m right now) = ⊥
+WritesNothing w (Tokenize caller m request usage pan digits now) = IsSome w.recorded
+WritesNothing w (Detokenize caller m token now) = ⊥
+WritesNothing w (View caller m token now) = Unit {0}
+WritesNothing w (Revoke caller m token now) = ⊥
+WritesNothing w (Audit caller m now) = Unit {0}
 
--- a refusal changes nothing
-abbrev pub RefusesQuietly : Reply → Changes → Type 0
-RefusesQuietly Done ch = Unit {0}
-RefusesQuietly (Token token expires) ch = Unit {0}
-RefusesQuietly (Refused number) ch = ch ≡ no_changes
+-- one more number was denied at the merchant, whose moment moves, and nothing else changes
+abbrev pub CountsDenial : Bytes → Changes → Type 0
+CountsDenial m ch =
+    (lives : Lives) × (lives.merchant ≡ m) × (ch ≡ record no_changes { lives = Some lives; count = Some Denied })
+
+-- a refusal changes nothing, unless its number is one of these, by which a denial is counted
+abbrev pub RefusesBy : (ℕ → Bool) → Bytes → Reply → Changes → Type 0
+RefusesBy counted m Done ch = Unit {0}
+RefusesBy counted m (Token token expires) ch = Unit {0}
+RefusesBy counted m (Number number) ch = Unit {0}
+RefusesBy counted m (Shown masked usage birth expires state) ch = Unit {0}
+RefusesBy counted m (Counts made given denied) ch = Unit {0}
+RefusesBy counted m (Refused number) ch =
+    (counted number ≡ true → CountsDenial m ch) × (counted number ≡ false → ch ≡ no_changes)
+
+-- a refused command changes nothing, but that a denial is counted
+abbrev pub RefusesQuietly : Command → Reply → Changes → Type 0
+RefusesQuietly c reply ch = RefusesBy (is_denial c) (merchant_of c) reply ch

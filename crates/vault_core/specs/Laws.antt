@@ -5,10 +5,9 @@ use Rattle.vault_core.specs.Keys.{Bytes}
 use Rattle.vault_core.specs.Proper.{IsProper, AllProper}
 use Rattle.vault_core.specs.Runs.{run}
 use Rattle.vault_core.specs.Sound.{Sound}
-use Rattle.vault_core.specs.Table.{reply, after}
+use Rattle.vault_core.specs.Table.{command_of, reply, after}
 use Rattle.vault_core.specs.Vault.{Vault, entry_at}
 use Rattle.vault_core.specs.declared.command.Command.{Command}
-use Rattle.vault_core.specs.declared.command.Command.TheVariants.{Tokenize}
 use Rattle.vault_core.specs.declared.command.TokenRequest.{TokenRequest}
 use Rattle.vault_core.specs.declared.reply.Reply.TheVariants.{Token}
 use Rattle.vault_core.specs.declared.row.Entry.{Entry}
@@ -39,10 +38,6 @@ NumbersNeverShare =
     (V : Vault) (cs : List Command) → Sound V → AllProper cs
     → (m token number : Bytes) (entry : Entry) → entry_at V m token ≡ Some entry → entry.number ≡ Some number
     → HasOrErased number (entry_at (run cs V) m token)
-
--- the command of a request for a token
-abbrev pub command_of : TokenRequest → Command
-command_of a = Tokenize a.caller a.merchant a.request a.usage a.pan a.digits a.moment
 
 -- the request comes again: all but the digits and the moment are the same
 pub record IsSameRequest (first again : TokenRequest) : Type 0 where

@@ -1,15 +1,20 @@
 pub mod Changes
 pub mod Draw
+pub mod Isolation
 pub mod Keys
 pub mod Laws
 pub mod Merchants
 pub mod Name
+pub mod Named
 pub mod Outcome
 pub mod Proper
+pub mod Redeem
 pub mod Refusals
 pub mod Repeats
+pub mod Retire
 pub mod Runs
 pub mod Scalar
+pub mod Show
 pub mod Sound
 pub mod Sources
 pub mod Table
@@ -17,3 +22,4 @@ pub mod Tokens
 pub mod Vault
 pub mod Window
 pub mod Words
+pub mod Yields

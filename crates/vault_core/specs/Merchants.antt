@@ -1,4 +1,4 @@
--- Merchants that are set, and rights that are given.
+-- Merchants that are set, and rights that are given and taken away.
 use Rattle.std.specs.Prelude.{ℕ, Option, Some, None, nat_lt, if◌then◌else◌}
 use Rattle.std.specs.FinMap as map
 use Rattle.std.specs.FinSet as set
@@ -43,3 +43,13 @@ granted V caller m right now merchant = record {
 -- a right is given, also where it was there before
 abbrev pub grant : Vault → Bytes → Bytes → Right → ℕ → Outcome
 grant V caller m right now = of_merchant V m (granted V caller m right now)
+
+abbrev pub withdrawn : Vault → Bytes → Bytes → Right → ℕ → Merchant → Outcome
+withdrawn V caller m right now merchant = record {
+  reply = Done;
+  after = record (moved V m merchant now) { rights = set.remove V.rights (caller, (m, right)) };
+}
+
+-- a right is taken away, also where it wasn't there before
+abbrev pub withdraw : Vault → Bytes → Bytes → Right → ℕ → Outcome
+withdraw V caller m right now = of_merchant V m (withdrawn V caller m right now)

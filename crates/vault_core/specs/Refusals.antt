@@ -37,6 +37,22 @@ full = 11
 abbrev pub no_candidate : ℕ
 no_candidate = 12
 
+-- the merchant has no such token
+abbrev pub no_token : ℕ
+no_token = 13
+
+-- the number of the token is erased
+abbrev pub token_purged : ℕ
+token_purged = 14
+
+-- the token is revoked
+abbrev pub token_revoked : ℕ
+token_revoked = 15
+
+-- the token has expired
+abbrev pub token_expired : ℕ
+token_expired = 16
+
 -- there are as many merchants as there may be
 abbrev pub too_many_merchants : ℕ
 too_many_merchants = 18

@@ -5,6 +5,7 @@ use Rattle.vault_pan.specs.CardText.{IsPan, IsToken, fits}
 use Rattle.vault_core.specs.Keys.{Bytes}
 use Rattle.vault_core.specs.Merchants.{most_merchants}
 use Rattle.vault_core.specs.Name.{IsName}
+use Rattle.vault_core.specs.Redeem.{most_count}
 use Rattle.vault_core.specs.Repeats.{is_reusable}
 use Rattle.vault_core.specs.Scalar.{IsMoment, IsLife, IsRequest}
 use Rattle.vault_core.specs.Tokens.{most_tokens}
@@ -15,7 +16,7 @@ use Rattle.vault_core.specs.declared.row.Record.{Record}
 
 -- a count of numbers given or denied
 abbrev pub IsCount : ℕ → Type 0
-IsCount n = n ≤ 4611686018427387903
+IsCount n = n ≤ most_count
 
 -- a merchant's name is a name; its lives, its moment and its counts are within their limits
 pub record IsSoundMerchant (m : Bytes) (merchant : Merchant) : Type 0 where

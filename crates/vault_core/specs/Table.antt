@@ -1,12 +1,15 @@
 -- What each command answers, and the vault that it leaves.
 use Rattle.std.specs.Prelude.{ℕ}
 use Rattle.vault_core.specs.Keys.{Bytes}
-use Rattle.vault_core.specs.Merchants.{set_merchant, grant}
+use Rattle.vault_core.specs.Merchants.{set_merchant, grant, withdraw}
 use Rattle.vault_core.specs.Outcome.{Outcome}
+use Rattle.vault_core.specs.Redeem.{detokenize}
+use Rattle.vault_core.specs.Retire.{revoke}
+use Rattle.vault_core.specs.Show.{view, audit}
 use Rattle.vault_core.specs.Tokens.{tokenize}
 use Rattle.vault_core.specs.Vault.{Vault}
 use Rattle.vault_core.specs.declared.command.Command.{Command}
-use Rattle.vault_core.specs.declared.command.Command.TheVariants.{SetMerchant, Grant, Tokenize}
+use Rattle.vault_core.specs.declared.command.Command.TheVariants.{SetMerchant, Grant, Withdraw, Tokenize, Detokenize, View, Revoke, Audit}
 use Rattle.vault_core.specs.declared.command.TokenRequest.{TokenRequest}
 use Rattle.vault_core.specs.declared.reply.Reply.{Reply}
 use Rattle.vault_core.specs.declared.usage.Use.{Use}
@@ -16,12 +19,21 @@ abbrev pub token_request : Bytes → Bytes → ℕ → Use → Bytes → Bytes �
 token_request caller m request usage pan digits now =
     record { caller = caller; merchant = m; request = request; usage = usage; pan = pan; digits = digits; moment = now }
 
+-- the command of a request for a token
+abbrev pub command_of : TokenRequest → Command
+command_of a = Tokenize a.caller a.merchant a.request a.usage a.pan a.digits a.moment
+
 -- the first case that applies
 abbrev pub outcome : Vault → Command → Outcome
 outcome V (SetMerchant m single multi now) = set_merchant V m single multi now
 outcome V (Grant caller m right now) = grant V caller m right now
+outcome V (Withdraw caller m right now) = withdraw V caller m right now
 outcome V (Tokenize caller m request usage pan digits now) =
     tokenize V (token_request caller m request usage pan digits now)
+outcome V (Detokenize caller m token now) = detokenize V caller m token now
+outcome V (View caller m token now) = view V caller m token now
+outcome V (Revoke caller m token now) = revoke V caller m token now
+outcome V (Audit caller m now) = audit V caller m
 
 -- what a command is answered
 abbrev pub reply : Vault → Command → Reply

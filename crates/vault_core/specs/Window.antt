@@ -7,10 +7,11 @@ use Rattle.vault_core.specs.Keys.{Bytes}
 use Rattle.vault_core.specs.Repeats.{recorded, current, reusable}
 use Rattle.vault_core.specs.Scalar.{IsLife}
 use Rattle.vault_core.specs.Table.{token_request}
-use Rattle.vault_core.specs.Vault.{Vault, Merchant, merchant_at, has_right, made, time_at, life_for}
+use Rattle.vault_core.specs.Vault.{Vault, Merchant, merchant_at, entry_at, has_right, made, time_at, life_for}
 use Rattle.vault_core.specs.declared.command.Command.{Command}
-use Rattle.vault_core.specs.declared.command.Command.TheVariants.{SetMerchant, Grant, Tokenize}
+use Rattle.vault_core.specs.declared.command.Command.TheVariants.{SetMerchant, Grant, Withdraw, Tokenize, Detokenize, View, Revoke, Audit}
 use Rattle.vault_core.specs.declared.command.TokenRequest.{TokenRequest}
+use Rattle.vault_core.specs.declared.right.Right.{Right}
 use Rattle.vault_core.specs.declared.right.Right.TheVariants as right
 use Rattle.vault_core.specs.declared.row.MerchantRow.{MerchantRow}
 use Rattle.vault_core.specs.declared.window.Window.{Window}
@@ -42,18 +43,29 @@ pub record ShowsRequest (V : Vault) (a : TokenRequest) (w : Window) : Type 0 whe
   pub held : w.current ≡ reusable a.usage (current V a.merchant a.pan (moment_at V a.merchant a.moment))
   pub candidate : w.candidate ≡ chosen V a.merchant a.pan a.digits
 
+-- what the vault holds at the places that a command needs which names a token
+pub record ShowsToken (V : Vault) (caller m token : Bytes) (needed : Right) (w : Window) : Type 0 where
+  pub merchant : w.merchant ≡ row_at V m
+  pub right : w.right ≡ has_right V caller m needed
+  pub named : w.named ≡ entry_at V m token
+
 -- the window shows what the vault holds at the places that the command needs
 abbrev pub IsWindow : Vault → Command → Window → Type 0
 IsWindow V (SetMerchant m single multi now) w =
     (w.merchant ≡ row_at V m) × (w.merchants ≡ map.len V.merchants)
 IsWindow V (Grant caller m right now) w = w.merchant ≡ row_at V m
+IsWindow V (Withdraw caller m right now) w = w.merchant ≡ row_at V m
 IsWindow V (Tokenize caller m request usage pan digits now) w =
     ShowsRequest V (token_request caller m request usage pan digits now) w
+IsWindow V (Detokenize caller m token now) w = ShowsToken V caller m token right.Detokenize w
+IsWindow V (View caller m token now) w = ShowsToken V caller m token right.View w
+IsWindow V (Revoke caller m token now) w = ShowsToken V caller m token right.Revoke w
+IsWindow V (Audit caller m now) w = (w.merchant ≡ row_at V m) × (w.right ≡ has_right V caller m right.Audit)
 
 -- nothing is shown
 abbrev pub empty_window : Window
 empty_window =
-    record { merchant = None; merchants = 0; right = false; recorded = None; current = None; candidate = None }
+    record { merchant = None; merchants = 0; right = false; recorded = None; current = None; candidate = None; named = None }
 
 -- the window of a Tokenize shows a merchant that is known
 pub record ShowsMerchant (V : Vault) (a : TokenRequest) (known : Merchant) (w : Window) (row : MerchantRow) : Type 0 where

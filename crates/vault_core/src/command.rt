@@ -1,6 +1,7 @@
 //! The commands of a vault.
-ghost use Rattle.std.specs.Prelude.{IsTrue, ◌↔◌, ◌≤◌};
-ghost use Rattle.vault_core.specs.Scalar.{IsLife};
+ghost use Rattle.std.specs.Prelude.{IsTrue, ◌↔◌};
+ghost use Rattle.vault_core.specs.Name.{IsName};
+ghost use Rattle.vault_core.specs.Scalar.{IsMoment};
 
 use crate::moment::Moment;
 use crate::name::{Caller, MerchantId};
@@ -9,6 +10,7 @@ use crate::right::Right;
 use crate::usage::Use;
 use vault_pan::draw::Digits;
 use vault_pan::pan::Pan;
+use vault_pan::token::Token;
 
 /// The longest life of a token, 100 years in seconds.
 pub const LONGEST_LIFE: u64 = 3155760000;
@@ -30,6 +32,13 @@ pub enum Command {
         right: Right,
         now: Moment,
     },
+    /// Takes a right of a caller at a merchant away.
+    Withdraw {
+        caller: Caller,
+        merchant: MerchantId,
+        right: Right,
+        now: Moment,
+    },
     /// Asks for a token in place of a card number.
     Tokenize {
         caller: Caller,
@@ -38,6 +47,33 @@ pub enum Command {
         usage: Use,
         pan: Pan,
         digits: Digits,
+        now: Moment,
+    },
+    /// Asks for the card number that a token stands for.
+    Detokenize {
+        caller: Caller,
+        merchant: MerchantId,
+        token: Token,
+        now: Moment,
+    },
+    /// Asks what a token stands for, with its number masked.
+    View {
+        caller: Caller,
+        merchant: MerchantId,
+        token: Token,
+        now: Moment,
+    },
+    /// Ends a token's life.
+    Revoke {
+        caller: Caller,
+        merchant: MerchantId,
+        token: Token,
+        now: Moment,
+    },
+    /// Asks for a merchant's counts.
+    Audit {
+        caller: Caller,
+        merchant: MerchantId,
         now: Moment,
     },
 }
@@ -62,7 +98,6 @@ impl Command {
         ensures lives { IsTrue result ↔ HasLivesInRange self.now }
         ensures parts { IsTrue result ↔ IsProper self.now }
     {
-        // Each part is read, since what its type promises is known where it was.
         match *self {
             Command::SetMerchant {
                 merchant,
@@ -79,12 +114,18 @@ impl Command {
                 merchant,
                 now,
                 ..
-            } => {
-                let _caller = caller.bytes();
-                let _merchant = merchant.bytes();
-                let _now = now.seconds();
-                true
             }
+            | Command::Withdraw {
+                caller,
+                merchant,
+                now,
+                ..
+            }
+            | Command::Audit {
+                caller,
+                merchant,
+                now,
+            } => is_asked(caller, merchant, now),
             Command::Tokenize {
                 caller,
                 merchant,
@@ -94,14 +135,43 @@ impl Command {
                 now,
                 ..
             } => {
-                let _caller = caller.bytes();
-                let _merchant = merchant.bytes();
                 let _request = request.get();
                 let _pan = pan.digits();
                 let _digits = digits.values();
-                let _now = now.seconds();
-                true
+                is_asked(caller, merchant, now)
+            }
+            Command::Detokenize {
+                caller,
+                merchant,
+                token,
+                now,
+            }
+            | Command::View {
+                caller,
+                merchant,
+                token,
+                now,
+            }
+            | Command::Revoke {
+                caller,
+                merchant,
+                token,
+                now,
+            } => {
+                let _token = token.digits();
+                is_asked(caller, merchant, now)
             }
         }
     }
+}
+
+/// The parts that most commands have are always proper. Each is read, since what its type promises
+/// is known where it was.
+fn is_asked(caller: Caller, merchant: MerchantId, now: Moment) -> bool
+    ensures { IsTrue result × IsName caller × IsName merchant × IsMoment now }
+{
+    let _caller = caller.bytes();
+    let _merchant = merchant.bytes();
+    let _now = now.seconds();
+    true
 }

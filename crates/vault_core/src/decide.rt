@@ -1,29 +1,36 @@
 //! What a command answers, and what it changes.
 ghost use Rattle.std.specs.Prelude.{◌≡◌};
-ghost use Rattle.vault_core.specs.Changes.{CameBefore, Decides, FitsVault, RefusesQuietly, no_changes};
+ghost use Rattle.vault_core.specs.Changes.{Decides, FitsVault, RefusesQuietly, WritesNothing, no_changes};
 ghost use Rattle.vault_core.specs.Proper.{HasLivesInRange, IsProper};
 
 mod answer;
 mod merchant;
+mod redeem;
+mod retire;
+mod show;
 mod token;
 
 use crate::changes::Changes;
 use crate::command::{Command, TokenRequest};
 use crate::reply::Reply;
 use crate::window::Window;
-use merchant::{grant, set_merchant};
+use merchant::{grant, set_merchant, withdraw};
+use redeem::detokenize;
+use retire::revoke;
+use show::{audit, view};
 use token::tokenize;
 
 /// The answer to a command and what it changes, from the rows that it needs.
 ///
-/// A SetMerchant is refused by 18, a Grant by 7, a Tokenize by 10, 7, 8, 9, 11 and 12, of which the
-/// first that applies is answered.
+/// A SetMerchant is refused by 18, a Grant and a Withdraw by 7, a Tokenize by 10, 7, 8, 9, 11 and 12,
+/// a Detokenize by 7, 8, 13, 14, 15, 16 and 11, a View and a Revoke by 7, 8, 13 and 14, an Audit by 7
+/// and 8. The first that applies is answered.
 pub fn decide(w: &Window, c: &Command) -> (Reply, Changes)
     requires { HasLivesInRange c.now }
     ensures settles { Decides w.now c.now result }
     ensures fits { FitsVault w.now c.now result.1 }
-    ensures refusals { RefusesQuietly result.0 result.1 }
-    ensures repeats { CameBefore w.now c.now → result.1 ≡ no_changes }
+    ensures refusals { RefusesQuietly c.now result.0 result.1 }
+    ensures silent { WritesNothing w.now c.now → result.1 ≡ no_changes }
 {
     let proper = c.proper();
     prove!(proper);
@@ -34,8 +41,8 @@ pub fn decide(w: &Window, c: &Command) -> (Reply, Changes)
 fn settled(w: &Window, c: &Command) -> (Reply, Changes)
     requires { IsProper c.now }
     ensures settles { Decides w.now c.now result }
-    ensures refusals { RefusesQuietly result.0 result.1 }
-    ensures repeats { CameBefore w.now c.now → result.1 ≡ no_changes }
+    ensures refusals { RefusesQuietly c.now result.0 result.1 }
+    ensures silent { WritesNothing w.now c.now → result.1 ≡ no_changes }
 {
     match *c {
         Command::SetMerchant {
@@ -70,5 +77,34 @@ fn settled(w: &Window, c: &Command) -> (Reply, Changes)
             };
             tokenize(w, &asked)
         }
+        Command::Withdraw {
+            caller,
+            merchant,
+            right,
+            now,
+        } => withdraw(w, caller, merchant, right, now),
+        Command::Detokenize {
+            caller,
+            merchant,
+            token,
+            now,
+        } => detokenize(w, caller, merchant, token, now),
+        Command::View {
+            caller,
+            merchant,
+            token,
+            now,
+        } => view(w, caller, merchant, token, now),
+        Command::Revoke {
+            caller,
+            merchant,
+            token,
+            now,
+        } => revoke(w, caller, merchant, token, now),
+        Command::Audit {
+            caller,
+            merchant,
+            now,
+        } => audit(w, caller, merchant, now),
     }
 }

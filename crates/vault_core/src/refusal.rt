@@ -27,6 +27,18 @@ pub const FULL: u8 = 11;
 /// No candidate of the draw is good.
 pub const NO_CANDIDATE: u8 = 12;
 
+/// The merchant has no such token.
+pub const NO_TOKEN: u8 = 13;
+
+/// The number of the token is erased.
+pub const PURGED: u8 = 14;
+
+/// The token is revoked.
+pub const REVOKED: u8 = 15;
+
+/// The token has expired.
+pub const EXPIRED: u8 = 16;
+
 /// There are as many merchants as there may be.
 pub const TOO_MANY_MERCHANTS: u8 = 18;
 

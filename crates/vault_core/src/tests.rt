@@ -1,4 +1,6 @@
 //! Cases of this project's rules, worked out by hand.
+mod redeem;
+
 use crate::changes::{Changes, Count};
 use crate::command::Command;
 use crate::decide::decide;
@@ -171,6 +173,8 @@ fn uses_and_rights_are_read_by_their_words(rt: HostRuntime) {
     assert_eq!(rt; Use::read(b"single"), Ok(Use::Single));
     assert_eq!(rt; Use::read(b"multi"), Ok(Use::Multi));
     assert_eq!(rt; Use::read(b"Single"), Err(BadUse));
+    assert_eq!(rt; Use::Single.word(), "single");
+    assert_eq!(rt; Use::Multi.word(), "multi");
     for (right, word, number) in [
         (Right::Tokenize, "tokenize", 1),
         (Right::Detokenize, "detokenize", 2),

@@ -41,4 +41,14 @@ impl Use {
             _ => Err(BadUse),
         }
     }
+
+    /// Its word.
+    pub fn word(self) -> &'static str
+        ensures { result.now ≡ use_word self }
+    {
+        match self {
+            Use::Single => "single",
+            Use::Multi => "multi",
+        }
+    }
 }

@@ -19,6 +19,8 @@ pub struct Window {
     pub current: Option<(Token, Entry)>,
     /// The first good candidate of the draw.
     pub candidate: Option<Token>,
+    /// What the token that the command names stands for.
+    pub named: Option<Entry>,
 }
 
 impl Window {
@@ -35,6 +37,7 @@ impl Window {
             recorded: None,
             current: None,
             candidate: None,
+            named: None,
         }
     }
 }

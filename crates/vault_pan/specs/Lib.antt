@@ -1,6 +1,7 @@
 pub mod CardText
 pub mod Draw
 pub mod Luhn
+pub mod Mask
 pub mod Pan
 pub mod Short
 pub mod Shown

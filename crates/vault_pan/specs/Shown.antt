@@ -13,3 +13,7 @@ shown_token token = codes "Token(" ++ token ++ codes ")"
 -- of a short text how many bytes it has, since they may be those of a card number
 abbrev pub shown_short : List ℕ → List ℕ
 shown_short bytes = codes "Short(" ++ decimal (length bytes) ++ codes " bytes)"
+
+-- of a mask its text
+abbrev pub shown_masked : List ℕ → List ℕ
+shown_masked text = codes "Masked(" ++ text ++ codes ")"

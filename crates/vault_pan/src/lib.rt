@@ -10,6 +10,7 @@
 
 pub mod draw;
 pub mod luhn;
+pub mod mask;
 pub mod pan;
 pub mod refusal;
 pub mod short;

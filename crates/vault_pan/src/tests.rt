@@ -1,6 +1,7 @@
 //! Cases of the standard's formula and of this project's rules, worked out by hand.
 use crate::draw::{DRAWN_DIGITS, Digits, GROUPS, candidate};
 use crate::luhn::passes;
+use crate::mask::mask;
 use crate::pan::{Pan, PanFault};
 use crate::refusal::{BAD_CHECK, BAD_NUMBER, BAD_TOKEN};
 use crate::short::Short;
@@ -172,6 +173,43 @@ fn a_candidate_that_passes_the_check_is_no_token(rt: HostRuntime) {
     for k in 0..GROUPS {
         assert_eq!(rt; candidate(&zeros, k, &all_zeros), None, "candidate {k}");
     }
+}
+
+#[test]
+fn a_mask_shows_the_last_four_and_hides_six_or_more(rt: HostRuntime) {
+    for (number, want) in [
+        ("0000000000", "******0000"),
+        ("79927398713", "7******8713"),
+        ("4222222222222", "422******2222"),
+        ("4111 1111 1111 1111", "411111******1111"),
+        ("6304000000000000000", "630400*********0000"),
+    ] {
+        let masked = mask(&pan(&rt, number));
+        assert_eq!(rt; masked.text(), want.as_bytes(), "{number}");
+        assert_eq!(rt; masked.as_str(), want, "{number}");
+    }
+}
+
+#[test]
+fn numbers_that_differ_where_they_are_hidden_have_one_mask(rt: HostRuntime) {
+    let masked = mask(&pan(&rt, "4111111111111111"));
+    assert_eq!(rt; mask(&pan(&rt, "4111111210111111")), masked);
+
+    let shorter = mask(&pan(&rt, "4222222222222"));
+    assert_ne!(rt; shorter, masked);
+    assert_eq!(rt; masked.cmp(&shorter), Ordering::Less);
+    assert_eq!(rt; masked.partial_cmp(&masked), Some(Ordering::Equal));
+}
+
+#[test]
+fn printing_a_mask_shows_its_text(rt: HostRuntime) -> Result<(), Fail> {
+    let masked = mask(&pan(&rt, "4111111111111111"));
+    let shown = format!(in rt.alloc(); "{masked}, {masked:?}")?;
+    assert_eq!(rt;
+        shown.as_str(),
+        "411111******1111, Masked(411111******1111)"
+    );
+    Ok(())
 }
 
 #[test]

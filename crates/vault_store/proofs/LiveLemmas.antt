@@ -46,9 +46,10 @@ earlier : (pan : Bytes) (a b : ℕ) (entry : Entry) → a ≤ b
 earlier pan a b entry le h = grind (arith, nat_tests)
 
 module _ (V : Vault) (sound : Sound V) (m pan : Bytes) (at : ℕ) (now : moment_at V m at ≡ at) where
-  one : (token other : Bytes) (entry entry' : Entry) → entry_at V m token ≡ Some entry → is_reusable pan at entry ≡ true
+  -- of one number at most one token is live
+  pub one_live : (token other : Bytes) (entry entry' : Entry) → entry_at V m token ≡ Some entry → is_reusable pan at entry ≡ true
       → entry_at V m other ≡ Some entry' → is_reusable pan at entry' ≡ true → token ≡ other
-  one token other entry entry' found live found' live' =
+  one_live token other entry entry' found live found' live' =
       let known = sound.entries m token entry found in
       let later : max known.0.moment at ≡ at = sym (ap (λ (o : Option Merchant). option_map_or (λ merchant. time_at merchant at) o at) known.1) ∙ now in
       let le : known.0.moment ≤ at = omega (arith, later) in
@@ -63,7 +64,7 @@ module _ (V : Vault) (sound : Sound V) (m pan : Bytes) (at : ℕ) (now : moment_
         let clash = sym live.2 ∙ fails in cc
     held token (Some x) is live =
         let there = current-some V m pan at x is in
-        ap Some (one token x.0 live.0 x.1 (sym (shown.at (m, token)) ∙ live.1) live.2 there.0 there.1)
+        ap Some (one_live token x.0 live.0 x.1 (sym (shown.at (m, token)) ∙ live.1) live.2 there.0 there.1)
 
     none : (o : Option (Bytes × Entry)) → current V m pan at ≡ o → ((token : Bytes) → ¬ (IsLiveToken entries m pan at token))
         → None ≡ option_map (λ x. x.0) o

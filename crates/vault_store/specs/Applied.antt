@@ -25,6 +25,13 @@ breaks (Err Memory) = false
 breaks (Err Store) = true
 breaks (Err Reopen) = true
 
+-- the tables fail with 21, and with no other answer
+abbrev pub FailsBy : {X : Type 0} → Result X Fault → Bool → Bool → Type 0
+FailsBy (Ok x) before now = now ≡ before
+FailsBy (Err Memory) before now = now ≡ before
+FailsBy (Err Store) before now = now ≡ true
+FailsBy (Err Reopen) before now = now ≡ before
+
 -- the numbers of the faults
 abbrev pub fault_number : Fault → ℕ
 fault_number Memory = 20

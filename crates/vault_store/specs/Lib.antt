@@ -1,6 +1,7 @@
 pub mod Added
 pub mod Applied
 pub mod Held
+pub mod Left
 pub mod Live
 pub mod Reads
 pub mod Rows

@@ -1,5 +1,5 @@
 -- What a call of the tables leaves.
-use Rattle.std.specs.Prelude.{◌≡◌, Bool, false, Result, Ok, Err}
+use Rattle.std.specs.Prelude.{◌≡◌, Bool, true, false, Result, Ok, Err}
 use Rattle.vault_core.specs.Vault.{Vault}
 use Rattle.vault_store.specs.declared.tables.TablesFault.{TablesFault}
 use Rattle.vault_store.specs.declared.tables.TablesFault.TheVariants.{Memory, Store}
@@ -26,3 +26,9 @@ abbrev pub IsAllowed : {X : Type 0} → Bool → Bool → Result X TablesFault �
 IsAllowed may_refuse may_fail (Ok x) = Unit {0}
 IsAllowed may_refuse may_fail (Err Memory) = ¬ (may_refuse ≡ false)
 IsAllowed may_refuse may_fail (Err Store) = ¬ (may_fail ≡ false)
+
+-- the tables fail with the first call that is answered a Store fault, and with no other
+abbrev pub FailsWith : {X : Type 0} → Result X TablesFault → Bool → Bool → Type 0
+FailsWith (Ok x) before now = now ≡ before
+FailsWith (Err Memory) before now = now ≡ before
+FailsWith (Err Store) before now = now ≡ true

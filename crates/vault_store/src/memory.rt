@@ -1,5 +1,6 @@
 //! Tables in memory.
-ghost use Rattle.std.specs.Prelude.{false};
+ghost use Rattle.std.proofs.Common.{inl, inr};
+ghost use Rattle.std.specs.Prelude.{false, refl, ◌⊎◌};
 ghost use Rattle.vault_core.specs.Vault.{empty_vault};
 
 mod current;
@@ -53,11 +54,25 @@ impl Tables for MemTables {
 
     ghost holds = { IsHeld };
 
+    ghost leaves = { λ t V W. IsHeld t V ⊎ IsHeld t W };
+
     ghost is_honest = { λ _. Unit {0} };
 
     ghost may_refuse = { false };
 
     ghost may_fail = { false };
+
+    ghost has_failed = { λ _. false };
+
+    ghost unfailed = { λ t V h. refl };
+
+    ghost settled = { λ t V held honest. inl held };
+
+    ghost widened = { λ t V W left. elim left [ inl held ↦ inl held | inr held ↦ inl held ] };
+
+    fn failed(&self) -> bool {
+        false
+    }
 
     fn merchant(&mut self, m: MerchantId) -> Result<Option<MerchantRow>, TablesFault> {
         Ok(self.merchants.get(&m).copied())

@@ -7,7 +7,7 @@ ghost use Rattle.vault_core.specs.Sound.{Sound};
 ghost use Rattle.vault_core.specs.Vault.{Vault, entry_at, has_right, record_at};
 ghost use Rattle.vault_core.specs.Window.{moment_at, row_at};
 ghost use Rattle.vault_store.specs.Added.{AddsNothing};
-ghost use Rattle.vault_store.specs.Reads.{IsAllowed, Keeps, KeepsOnMemory};
+ghost use Rattle.vault_store.specs.Reads.{FailsWith, IsAllowed, Keeps, KeepsOnMemory};
 
 use std::alloc::AllocError;
 use vault_core::changes::Changes;
@@ -40,14 +40,18 @@ impl From<AllocError> for TablesFault {
 
 /// Tables that hold a vault.
 ///
-/// Contracts see which vaults the tables hold. What a read tells is true where the disk is honest:
-/// it returned what was written, and nobody else wrote it. Tables also say whether their reads, and
-/// their writes that add nothing, may be refused memory, and whether they may fail.
+/// Contracts see which vaults the tables hold, and what a crash may leave of them now. Both are true
+/// where the disk is honest: it returned what was written, and nobody else wrote it. Tables also say
+/// whether their reads, and their writes that add nothing, may be refused memory, and whether they
+/// may fail.
 pub trait Tables {
     ghost use Rattle.std.specs.Prelude.{Bool};
     ghost use Rattle.vault_core.specs.Vault.{Vault};
 
     ghost holds: { Self → Vault → Type 0 };
+
+    // each state that a crash may leave now stands for the one vault or for the other
+    ghost leaves: { Self → Vault → Vault → Type 0 };
 
     ghost is_honest: { Self → Type 0 };
 
@@ -55,11 +59,19 @@ pub trait Tables {
 
     ghost may_fail: { Bool };
 
+    ghost has_failed: { Self → Bool };
+
+    /// Whether a call was answered a Store fault.
+    fn failed(&self) -> bool
+        ensures { result ≡ has_failed self.now };
+
     /// The row of a merchant.
     fn merchant(&mut self, m: MerchantId) -> Result<Option<MerchantRow>, TablesFault>
         ensures honest { is_honest self.new → is_honest self.old }
         ensures told { is_honest self.new → IfOk result (λ found. (V : Vault) → holds self.old V → Sound V → found ≡ row_at V m) }
         ensures kept { Keeps result (holds self.old) (holds self.new) }
+        ensures crash { is_honest self.new → (V : Vault) → holds self.old V → leaves self.new V V }
+        ensures failing { FailsWith result (has_failed self.old) (has_failed self.new) }
         ensures allowed { IsAllowed may_refuse may_fail result };
 
     /// How many merchants there are.
@@ -67,6 +79,8 @@ pub trait Tables {
         ensures honest { is_honest self.new → is_honest self.old }
         ensures told { is_honest self.new → IfOk result (λ found. (V : Vault) → holds self.old V → Sound V → found ≡ map.len V.merchants) }
         ensures kept { Keeps result (holds self.old) (holds self.new) }
+        ensures crash { is_honest self.new → (V : Vault) → holds self.old V → leaves self.new V V }
+        ensures failing { FailsWith result (has_failed self.old) (has_failed self.new) }
         ensures allowed { IsAllowed may_refuse may_fail result };
 
     /// Whether a caller has a right at a merchant.
@@ -74,6 +88,8 @@ pub trait Tables {
         ensures honest { is_honest self.new → is_honest self.old }
         ensures told { is_honest self.new → IfOk result (λ found. (V : Vault) → holds self.old V → Sound V → found ≡ has_right V c m r) }
         ensures kept { Keeps result (holds self.old) (holds self.new) }
+        ensures crash { is_honest self.new → (V : Vault) → holds self.old V → leaves self.new V V }
+        ensures failing { FailsWith result (has_failed self.old) (has_failed self.new) }
         ensures allowed { IsAllowed may_refuse may_fail result };
 
     /// The record of a caller's request.
@@ -81,6 +97,8 @@ pub trait Tables {
         ensures honest { is_honest self.new → is_honest self.old }
         ensures told { is_honest self.new → IfOk result (λ found. (V : Vault) → holds self.old V → Sound V → found ≡ record_at V c n) }
         ensures kept { Keeps result (holds self.old) (holds self.new) }
+        ensures crash { is_honest self.new → (V : Vault) → holds self.old V → leaves self.new V V }
+        ensures failing { FailsWith result (has_failed self.old) (has_failed self.new) }
         ensures allowed { IsAllowed may_refuse may_fail result };
 
     /// What a merchant's token stands for.
@@ -88,6 +106,8 @@ pub trait Tables {
         ensures honest { is_honest self.new → is_honest self.old }
         ensures told { is_honest self.new → IfOk result (λ found. (V : Vault) → holds self.old V → Sound V → found ≡ entry_at V m t) }
         ensures kept { Keeps result (holds self.old) (holds self.new) }
+        ensures crash { is_honest self.new → (V : Vault) → holds self.old V → leaves self.new V V }
+        ensures failing { FailsWith result (has_failed self.old) (has_failed self.new) }
         ensures allowed { IsAllowed may_refuse may_fail result };
 
     /// The multi-use token of a card number that is live at a moment, which isn't before the merchant's.
@@ -95,6 +115,8 @@ pub trait Tables {
         ensures honest { is_honest self.new → is_honest self.old }
         ensures told { is_honest self.new → IfOk result (λ found. (V : Vault) → holds self.old V → Sound V → moment_at V m at ≡ at → found ≡ option_map (λ held. held.0) (current V m p at)) }
         ensures kept { Keeps result (holds self.old) (holds self.new) }
+        ensures crash { is_honest self.new → (V : Vault) → holds self.old V → leaves self.new V V }
+        ensures failing { FailsWith result (has_failed self.old) (has_failed self.new) }
         ensures allowed { IsAllowed may_refuse may_fail result };
 
     /// Makes the changes, all of them or none. Contracts ask that they fit the vault.
@@ -103,5 +125,16 @@ pub trait Tables {
         ensures done { is_honest self.new → OnOk result ((V : Vault) → holds self.old V → Sound V → Fit V ch.now → holds self.new (plus V ch.now)) }
         ensures kept { KeepsOnMemory result (holds self.old) (holds self.new) }
         ensures allowed { (V : Vault) → holds self.old V → Fit V ch.now → AddsNothing V (plus V ch.now) → IsAllowed may_refuse may_fail result }
+        ensures crash { is_honest self.new → (V : Vault) → holds self.old V → Sound V → Fit V ch.now → leaves self.new V (plus V ch.now) }
+        ensures failing { FailsWith result (has_failed self.old) (has_failed self.new) }
         ensures sturdy { may_fail ≡ false → ¬ (result ≡ Err TablesFault.Store) };
+
+    // tables that hold a vault haven't failed
+    ghost unfailed: { (t : Self) (V : Vault) → holds t V → has_failed t ≡ false };
+
+    // a crash leaves what they hold, and nothing else
+    ghost settled: { (t : Self) (V : Vault) → holds t V → is_honest t → leaves t V V };
+
+    // what leaves one vault leaves one of two
+    ghost widened: { (t : Self) (V W : Vault) → leaves t V V → leaves t V W };
 }

@@ -1,4 +1,7 @@
 //! Lists of commands over tables in memory: worked cases, with tokens and moments worked out by hand.
+mod redeem;
+mod stuck;
+
 use crate::memory::MemTables;
 use crate::tables::Tables;
 use crate::vault::{Fault, Vault};
@@ -34,25 +37,70 @@ fn till(rt: &impl Abort) -> Caller {
     Caller::read(b"till-1").expect(rt, "a name")
 }
 
-/// A vault with `shop1`, set at 1000 with these lives, where `till-1` may ask for tokens.
-fn vault<H: AllocGlobal + Abort>(rt: &H, single_life: u64, multi_life: u64) -> Vault<MemTables> {
-    let mut vault = Vault::new(MemTables::new(rt.alloc()));
-    let now = moment(rt, 1000);
-    let set = Command::SetMerchant {
-        merchant: merchant(rt, b"shop1"),
+/// All rights.
+const RIGHTS: [Right; 6] = [
+    Right::Tokenize,
+    Right::Detokenize,
+    Right::View,
+    Right::Revoke,
+    Right::Purge,
+    Right::Audit,
+];
+
+/// The reply to a command whose lives are in range.
+fn answer<T: Tables>(rt: &impl Abort, vault: &mut Vault<T>, command: &Command) -> Reply {
+    assert!(rt; command.proper());
+    match vault.apply(command) {
+        Ok(reply) => reply,
+        Err(_) => {
+            assert!(rt; false, "an answer");
+            Reply::Done
+        }
+    }
+}
+
+/// Sets a merchant with these lives.
+fn set<T: Tables>(
+    rt: &impl Abort,
+    vault: &mut Vault<T>,
+    shop: &[u8],
+    single_life: u64,
+    multi_life: u64,
+    now: u64,
+) -> Reply {
+    let command = Command::SetMerchant {
+        merchant: merchant(rt, shop),
         single_life,
         multi_life,
-        now,
+        now: moment(rt, now),
     };
-    assert!(rt; set.proper());
-    assert!(rt; matches!(vault.apply(&set), Ok(Reply::Done)));
-    let grant = Command::Grant {
-        caller: till(rt),
-        merchant: merchant(rt, b"shop1"),
-        right: Right::Tokenize,
-        now,
-    };
-    assert!(rt; matches!(vault.apply(&grant), Ok(Reply::Done)));
+    answer(rt, vault, &command)
+}
+
+/// A merchant, set at 1000 with these lives, where `till-1` has all rights.
+fn open_shop<T: Tables>(
+    rt: &impl Abort,
+    vault: &mut Vault<T>,
+    shop: &[u8],
+    single_life: u64,
+    multi_life: u64,
+) {
+    assert!(rt; set(rt, vault, shop, single_life, multi_life, 1000) == Reply::Done);
+    for right in RIGHTS {
+        let grant = Command::Grant {
+            caller: till(rt),
+            merchant: merchant(rt, shop),
+            right,
+            now: moment(rt, 1000),
+        };
+        assert!(rt; answer(rt, vault, &grant) == Reply::Done);
+    }
+}
+
+/// A vault with `shop1`, set at 1000 with these lives, where `till-1` has all rights.
+fn vault<H: AllocGlobal + Abort>(rt: &H, single_life: u64, multi_life: u64) -> Vault<MemTables> {
+    let mut vault = Vault::new(MemTables::new(rt.alloc()));
+    open_shop(rt, &mut vault, b"shop1", single_life, multi_life);
     vault
 }
 
@@ -78,9 +126,9 @@ const FIRST: Asked = Asked {
     now: 1000,
 };
 
-/// The reply to a Tokenize.
-fn reply<T: Tables>(rt: &impl Abort, vault: &mut Vault<T>, asked: &Asked) -> Reply {
-    let command = Command::Tokenize {
+/// The command of a Tokenize.
+fn tokenize(rt: &impl Abort, asked: &Asked) -> Command {
+    Command::Tokenize {
         caller: till(rt),
         merchant: merchant(rt, asked.shop),
         request: RequestNo::read(asked.request).expect(rt, "a request number"),
@@ -88,8 +136,12 @@ fn reply<T: Tables>(rt: &impl Abort, vault: &mut Vault<T>, asked: &Asked) -> Rep
         pan: Pan::read(asked.number).expect(rt, "a card number"),
         digits: Digits::new([asked.digit; 300].as_slice()).expect(rt, "digits"),
         now: moment(rt, asked.now),
-    };
-    vault.apply(&command).expect(rt, "an answer")
+    }
+}
+
+/// The reply to a Tokenize.
+fn reply<T: Tables>(rt: &impl Abort, vault: &mut Vault<T>, asked: &Asked) -> Reply {
+    answer(rt, vault, &tokenize(rt, asked))
 }
 
 /// Whether a Tokenize is answered with this token and expires.

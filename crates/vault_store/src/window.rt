@@ -5,13 +5,14 @@ ghost use Rattle.vault_core.specs.Draw.{chosen};
 ghost use Rattle.vault_core.specs.Repeats.{current, recorded, reusable as reusable_lem};
 ghost use Rattle.vault_core.specs.Sound.{Sound};
 ghost use Rattle.vault_core.specs.Vault.{Vault};
-ghost use Rattle.vault_core.specs.Window.{IsWindow, ShowsRequest, moment_at, row_at};
-ghost use Rattle.vault_store.specs.Reads.{IsAllowed, Keeps};
+ghost use Rattle.vault_core.specs.Window.{IsWindow, ShowsRequest, ShowsToken, moment_at};
+ghost use Rattle.vault_store.specs.Reads.{FailsWith, IsAllowed, Keeps};
 ghost use Rattle.vault_store.specs.Rows.{row_moment};
 
 use crate::tables::{Tables, TablesFault};
 use vault_core::command::{Command, TokenRequest};
 use vault_core::moment::Moment;
+use vault_core::name::{Caller, MerchantId};
 use vault_core::right::Right;
 use vault_core::row::{Entry, MerchantRow, Record};
 use vault_core::usage::Use;
@@ -24,6 +25,8 @@ pub fn window<T: Tables>(tables: &mut T, c: &Command) -> Result<Window, TablesFa
     ensures honest { T.is_honest tables.new → T.is_honest tables.old }
     ensures told { T.is_honest tables.new → IfOk result (λ found. (V : Vault) → T.holds tables.old V → Sound V → IsWindow V c.now found) }
     ensures kept { Keeps result (T.holds tables.old) (T.holds tables.new) }
+    ensures crash { T.is_honest tables.new → (V : Vault) → T.holds tables.old V → T.leaves tables.new V V }
+    ensures failing { FailsWith result (T.has_failed tables.old) (T.has_failed tables.new) }
     ensures allowed { IsAllowed T.may_refuse T.may_fail result }
 {
     match *c {
@@ -36,7 +39,7 @@ pub fn window<T: Tables>(tables: &mut T, c: &Command) -> Result<Window, TablesFa
                 ..Window::empty()
             })
         }
-        Command::Grant { merchant, .. } => {
+        Command::Grant { merchant, .. } | Command::Withdraw { merchant, .. } => {
             let row = tables.merchant(merchant)?;
             Ok(Window {
                 merchant: row,
@@ -63,7 +66,64 @@ pub fn window<T: Tables>(tables: &mut T, c: &Command) -> Result<Window, TablesFa
             };
             request_window(tables, &asked)
         }
+        Command::Detokenize {
+            caller,
+            merchant,
+            token,
+            ..
+        } => token_window(tables, caller, merchant, token, Right::Detokenize),
+        Command::View {
+            caller,
+            merchant,
+            token,
+            ..
+        } => token_window(tables, caller, merchant, token, Right::View),
+        Command::Revoke {
+            caller,
+            merchant,
+            token,
+            ..
+        } => token_window(tables, caller, merchant, token, Right::Revoke),
+        Command::Audit {
+            caller,
+            merchant,
+            ..
+        } => {
+            let row = tables.merchant(merchant)?;
+            let right = tables.right(caller, merchant, Right::Audit)?;
+            Ok(Window {
+                merchant: row,
+                right,
+                ..Window::empty()
+            })
+        }
     }
+}
+
+/// The window of a command that names a token and needs a right.
+fn token_window<T: Tables>(
+    tables: &mut T,
+    caller: Caller,
+    merchant: MerchantId,
+    token: Token,
+    needed: Right,
+) -> Result<Window, TablesFault>
+    ensures honest { T.is_honest tables.new → T.is_honest tables.old }
+    ensures told { T.is_honest tables.new → IfOk result (λ found. (V : Vault) → T.holds tables.old V → Sound V → ShowsToken V caller merchant token needed found) }
+    ensures kept { Keeps result (T.holds tables.old) (T.holds tables.new) }
+    ensures crash { T.is_honest tables.new → (V : Vault) → T.holds tables.old V → T.leaves tables.new V V }
+    ensures failing { FailsWith result (T.has_failed tables.old) (T.has_failed tables.new) }
+    ensures allowed { IsAllowed T.may_refuse T.may_fail result }
+{
+    let row = tables.merchant(merchant)?;
+    let right = tables.right(caller, merchant, needed)?;
+    let named = tables.entry(merchant, token)?;
+    Ok(Window {
+        merchant: row,
+        right,
+        named,
+        ..Window::empty()
+    })
 }
 
 /// The window of a Tokenize.
@@ -71,6 +131,8 @@ fn request_window<T: Tables>(tables: &mut T, asked: &TokenRequest) -> Result<Win
     ensures honest { T.is_honest tables.new → T.is_honest tables.old }
     ensures told { T.is_honest tables.new → IfOk result (λ found. (V : Vault) → T.holds tables.old V → Sound V → ShowsRequest V asked.now found) }
     ensures kept { Keeps result (T.holds tables.old) (T.holds tables.new) }
+    ensures crash { T.is_honest tables.new → (V : Vault) → T.holds tables.old V → T.leaves tables.new V V }
+    ensures failing { FailsWith result (T.has_failed tables.old) (T.has_failed tables.new) }
     ensures allowed { IsAllowed T.may_refuse T.may_fail result }
 {
     let merchant = tables.merchant(asked.merchant)?;
@@ -106,6 +168,8 @@ fn recorded_entry<T: Tables>(
     ensures honest { T.is_honest tables.new → T.is_honest tables.old }
     ensures told { T.is_honest tables.new → IfOk result (λ found. (V : Vault) → T.holds tables.old V → Sound V → found ≡ recorded V asked.now.caller asked.now.request) }
     ensures kept { Keeps result (T.holds tables.old) (T.holds tables.new) }
+    ensures crash { T.is_honest tables.new → (V : Vault) → T.holds tables.old V → T.leaves tables.new V V }
+    ensures failing { FailsWith result (T.has_failed tables.old) (T.has_failed tables.new) }
     ensures allowed { IsAllowed T.may_refuse T.may_fail result }
 {
     let Some(earlier) = tables.recorded(asked.caller, asked.request)? else {
@@ -126,6 +190,8 @@ fn reusable<T: Tables>(
     ensures honest { T.is_honest tables.new → T.is_honest tables.old }
     ensures told { T.is_honest tables.new → IfOk result (λ found. (V : Vault) → T.holds tables.old V → Sound V → moment_at V asked.now.merchant at ≡ at → found ≡ reusable_lem asked.now.usage (current V asked.now.merchant asked.now.pan at)) }
     ensures kept { Keeps result (T.holds tables.old) (T.holds tables.new) }
+    ensures crash { T.is_honest tables.new → (V : Vault) → T.holds tables.old V → T.leaves tables.new V V }
+    ensures failing { FailsWith result (T.has_failed tables.old) (T.has_failed tables.new) }
     ensures allowed { IsAllowed T.may_refuse T.may_fail result }
 {
     match asked.usage {
@@ -147,6 +213,8 @@ fn first_good<T: Tables>(tables: &mut T, asked: &TokenRequest) -> Result<Option<
     ensures honest { T.is_honest tables.new → T.is_honest tables.old }
     ensures told { T.is_honest tables.new → IfOk result (λ found. (V : Vault) → T.holds tables.old V → Sound V → found ≡ chosen V asked.now.merchant asked.now.pan asked.now.digits) }
     ensures kept { Keeps result (T.holds tables.old) (T.holds tables.new) }
+    ensures crash { T.is_honest tables.new → (V : Vault) → T.holds tables.old V → T.leaves tables.new V V }
+    ensures failing { FailsWith result (T.has_failed tables.old) (T.has_failed tables.new) }
     ensures allowed { IsAllowed T.may_refuse T.may_fail result }
 {
     for k in 0..20 {

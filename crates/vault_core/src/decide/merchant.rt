@@ -1,4 +1,4 @@
-//! Merchants that are set, and rights that are given.
+//! Merchants that are set, and rights that are given and taken away.
 ghost use Rattle.vault_core.specs.Changes.{Decides, RefusesQuietly};
 ghost use Rattle.vault_core.specs.Scalar.{IsLife};
 
@@ -26,7 +26,7 @@ pub fn set_merchant(
     requires single { IsLife single_life }
     requires multi { IsLife multi_life }
     ensures settles { Decides w.now (Command.SetMerchant merchant single_life multi_life now) result }
-    ensures refusals { RefusesQuietly result.0 result.1 }
+    ensures refusals { RefusesQuietly (Command.SetMerchant merchant single_life multi_life now) result.0 result.1 }
 {
     let moment = match w.merchant {
         Some(row) => row.moment.later(now),
@@ -61,7 +61,7 @@ pub fn grant(
     now: Moment,
 ) -> (Reply, Changes)
     ensures settles { Decides w.now (Command.Grant caller merchant right now) result }
-    ensures refusals { RefusesQuietly result.0 result.1 }
+    ensures refusals { RefusesQuietly (Command.Grant caller merchant right now) result.0 result.1 }
 {
     let Some(row) = w.merchant else {
         return refused(NO_MERCHANT);
@@ -71,6 +71,30 @@ pub fn grant(
         Changes {
             lives: Some(moved(merchant, &row, now)),
             right: Some((caller, merchant, right, true)),
+            ..Changes::none()
+        },
+    )
+}
+
+/// A right is taken away.
+pub fn withdraw(
+    w: &Window,
+    caller: Caller,
+    merchant: MerchantId,
+    right: Right,
+    now: Moment,
+) -> (Reply, Changes)
+    ensures settles { Decides w.now (Command.Withdraw caller merchant right now) result }
+    ensures refusals { RefusesQuietly (Command.Withdraw caller merchant right now) result.0 result.1 }
+{
+    let Some(row) = w.merchant else {
+        return refused(NO_MERCHANT);
+    };
+    (
+        Reply::Done,
+        Changes {
+            lives: Some(moved(merchant, &row, now)),
+            right: Some((caller, merchant, right, false)),
             ..Changes::none()
         },
     )

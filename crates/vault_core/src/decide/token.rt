@@ -2,12 +2,13 @@
 ghost use Rattle.std.specs.Prelude.{◌≡◌, IsSome};
 ghost use Rattle.vault_core.specs.Changes.{Decides, RefusesQuietly, Yields, no_changes, moved_lives};
 ghost use Rattle.vault_core.specs.Repeats.{is_repeat as is_repeat_lem};
+ghost use Rattle.vault_core.specs.Table.{command_of};
 ghost use Rattle.vault_core.specs.Tokens.{new_request as new_request_lem};
 ghost use Rattle.vault_core.specs.Vault.{Vault, Merchant, life_for};
 ghost use Rattle.vault_core.specs.Window.{ShowsMerchant};
 
 use crate::changes::{Changes, Count};
-use crate::command::{Command, TokenRequest};
+use crate::command::TokenRequest;
 use crate::decide::answer::{moved, refused};
 use crate::refusal::{FULL, NO_CANDIDATE, NO_MERCHANT, NO_RIGHT, NUMBER_REUSED, WRONG_USE};
 use crate::reply::Reply;
@@ -21,8 +22,8 @@ const MOST_TOKENS: u64 = 1000000;
 
 /// A token is asked for.
 pub fn tokenize(w: &Window, asked: &TokenRequest) -> (Reply, Changes)
-    ensures settles { Decides w.now (Command.Tokenize asked.now.caller asked.now.merchant asked.now.request asked.now.usage asked.now.pan asked.now.digits asked.now.moment) result }
-    ensures refusals { RefusesQuietly result.0 result.1 }
+    ensures settles { Decides w.now (command_of asked.now) result }
+    ensures refusals { RefusesQuietly (command_of asked.now) result.0 result.1 }
     ensures repeats { IsSome w.now.recorded → result.1 ≡ no_changes }
 {
     if let Some((earlier, entry)) = w.recorded {
@@ -57,7 +58,7 @@ fn new_request(w: &Window, asked: &TokenRequest, row: &MerchantRow) -> (Reply, C
     ensures yields { (V : Vault) (known : Merchant)
         → ShowsMerchant V asked.now known w.now row.now
         → Yields V (new_request_lem V asked.now known) result }
-    ensures refusals { RefusesQuietly result.0 result.1 }
+    ensures refusals { RefusesQuietly (command_of asked.now) result.0 result.1 }
 {
     if !w.right {
         return refused(NO_RIGHT);

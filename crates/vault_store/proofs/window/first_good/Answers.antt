@@ -7,7 +7,7 @@ use Rattle.vault_store.proofs.window.first_good.Goals.{in-Some+in_ok-entry+else-
 use Rattle.vault_store.proofs.window.first_good.Goals as goal
 
 pub loop-k-init : goal.loop-k-init
-loop-k-init g c = record { honest = λ h. h; kept = λ V h. h; passed = λ _ V _ _. chosen-all V _ _ _ }
+loop-k-init g c = record { honest = λ h. h; kept = λ V h. h; failing = refl; passed = λ _ V _ _. chosen-all V _ _ _ }
 
 none_is : (o : Option Entry) → is_some o ≡ false → o ≡ None
 none_is None h = refl
@@ -35,12 +35,14 @@ loop-k-preserved g c =
     let inv = c.loop-k.invariant in
     let now = g.T.Tables.is_honest in
     let holds = g.T.Tables.holds in
+    let failed = g.T.Tables.has_failed in
     elim c.match-candidate.branch [
       | in-Some+in_ok-entry+else-is_none w ↦
           let told = w.in_ok-entry.ensures in
           record {
             honest = λ h. inv.honest (told.honest (subst now w.tables-is h));
             kept = λ V held. subst (λ t. holds t V) (sym w.tables-is) (told.kept V (inv.kept V held));
+            failing = ap failed w.tables-is ∙ told.failing ∙ inv.failing;
             passed = λ h V held sound.
                 let honest = subst now w.tables-is h in
                 let there = some_is w.in_ok-entry.field-0 (w.is_none.ensures ∙ ap not w.if-is_none.false) in
@@ -54,6 +56,7 @@ loop-k-preserved g c =
           record {
             honest = λ h. inv.honest (subst now w.tables-is h);
             kept = λ V held. subst (λ t. holds t V) (sym w.tables-is) (inv.kept V held);
+            failing = ap failed w.tables-is ∙ inv.failing;
             passed = λ h V held sound.
                 inv.passed (subst now w.tables-is h) V held sound
                 ∙ chosen_from-passes V a.merchant a.pan a.digits c.loop-k.k c.loop-k-test.true w.in_default.ensures;

@@ -1,4 +1,4 @@
-use Rattle.std.proofs.Common.{sym, ap, ◌∙◌, subst, Err}
+use Rattle.std.proofs.Common.{sym, ap, ◌∙◌, subst, inl, inr, Err}
 use Rattle.vault_core.proofs.Maps.{entry_exact}
 use Rattle.vault_core.specs.Changes.{with_entry}
 use Rattle.vault_core.specs.Keys.{entry_cmp}
@@ -51,3 +51,38 @@ returns-clause-done c _ V held sound fit =
       records = rest.records_are;
       rights = rest.others.rights_are;
     }
+
+pub returns-in_err-was-clause-crash : goal.returns-in_err-was-clause-crash
+returns-in_err-was-clause-crash c _ V held sound fit =
+    inl (record {
+      merchants = held.merchants;
+      entries = c.in_err-was.ensures.err V.entries held.entries;
+      records = held.records;
+      rights = held.rights;
+    })
+
+pub returns-in-Err-clause-crash : goal.returns-in-Err-clause-crash
+returns-in-Err-clause-crash c _ V held sound fit =
+    let x = c.in-Some in
+    let put = c.in_ok-was.ensures in
+    let kept = c.in-Err.ensures.kept V (record { records_are = held.records; others = record { rights_are = held.rights; merchants_are = held.merchants } }) in
+    inl (record {
+      merchants = kept.others.merchants_are;
+      entries =
+          c.put_back.ensures entry_exact V.entries x.entry (put.was ∙ held.entries.at (x.merchant, x.token))
+          (put.ok V.entries held.entries);
+      records = kept.records_are;
+      rights = kept.others.rights_are;
+    })
+
+pub returns-clause-crash : goal.returns-clause-crash
+returns-clause-crash c _ V held sound fit =
+    let rest = c.in_default-write_record.ensures.done V (record { records_are = held.records; others = record { rights_are = held.rights; merchants_are = held.merchants } }) sound fit in
+    inr (record {
+      merchants = rest.others.merchants_are;
+      entries =
+          subst (λ F. Shows entry_cmp c.put.new.rows F) (sym (ap (with_entry V.entries) c.in-Some.is))
+          (c.in_ok-was.ensures.ok V.entries held.entries);
+      records = rest.records_are;
+      rights = rest.others.rights_are;
+    })

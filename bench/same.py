@@ -1,0 +1,92 @@
+#!/usr/bin/env python3
+"""The statements of single-use Tokenize commands, run by Python's sqlite3 in the order that the vault runs them.
+
+same.py FILE N takes a file that the program vault_bench made, times N commands after those that it holds, and
+prints the line that the program prints.
+"""
+
+import sqlite3
+import sys
+import time
+
+LIVES = "SELECT single_life, multi_life, moment FROM merchants WHERE name = ?1"
+COUNT = "SELECT total FROM counts WHERE merchant = ?1 AND kind = ?2"
+RIGHT = "SELECT what FROM rights WHERE caller = ?1 AND merchant = ?2 AND what = ?3"
+RECORD = "SELECT merchant, token, usage FROM records WHERE caller = ?1 AND request = ?2"
+ENTRY = "SELECT number, usage, birth, expires, revoked FROM entries WHERE merchant = ?1 AND token = ?2"
+PUT_MERCHANT = "INSERT INTO merchants VALUES (?1, ?2, ?3, ?4) ON CONFLICT (name) DO UPDATE SET single_life = ?2, multi_life = ?3, moment = ?4"
+RAISE = "INSERT INTO counts VALUES (?1, ?2, 1) ON CONFLICT (merchant, kind) DO UPDATE SET total = total + 1"
+PUT_ENTRY = "INSERT INTO entries VALUES (?1, ?2, ?3, ?4, ?5, ?6, ?7) ON CONFLICT (merchant, token) DO UPDATE SET number = ?3, usage = ?4, birth = ?5, expires = ?6, revoked = ?7"
+PUT_RECORD = "INSERT INTO records VALUES (?1, ?2, ?3, ?4, ?5) ON CONFLICT (caller, request) DO UPDATE SET merchant = ?3, token = ?4, usage = ?5"
+
+CALLER = "till-1"
+MERCHANT = "shop1"
+NUMBER = "4111111111111111"
+
+
+def passes(digits):
+    """Whether digits pass the card check."""
+    total = 0
+    for place, digit in enumerate(reversed(digits)):
+        value = int(digit) * (1 + place % 2)
+        total += value - 9 if value > 9 else value
+    return total % 10 == 0
+
+
+def token_for(number):
+    """The first good candidate: the number's digits backwards, one more digit, and the card's last four."""
+    front = f"{number:011}"[::-1]
+    first = front + "0" + NUMBER[-4:]
+    return front + "1" + NUMBER[-4:] if passes(first) else first
+
+
+def opened(file):
+    """The file as the vault has it: a log, a sync at each commit, as many pages in memory."""
+    conn = sqlite3.connect(file, isolation_level=None)
+    conn.execute("PRAGMA journal_mode = WAL")
+    conn.execute("PRAGMA synchronous = FULL")
+    conn.execute("PRAGMA locking_mode = EXCLUSIVE")
+    conn.execute("PRAGMA cache_size = 2000")
+    conn.execute("PRAGMA wal_autocheckpoint = 1000")
+    return conn
+
+
+def read(conn, number, token):
+    """What one Tokenize reads, each row fetched."""
+    single_life, multi_life, moment = conn.execute(LIVES, (MERCHANT,)).fetchall()[0]
+    for kind in (1, 2, 3):
+        conn.execute(COUNT, (MERCHANT, kind)).fetchall()
+    assert conn.execute(RIGHT, (CALLER, MERCHANT, 1)).fetchall()
+    assert not conn.execute(RECORD, (CALLER, number)).fetchall()
+    assert not conn.execute(ENTRY, (MERCHANT, token)).fetchall()
+    return single_life, multi_life, moment
+
+
+def write(conn, number, token, lives):
+    """What one Tokenize writes, in one transaction."""
+    single_life, multi_life, moment = lives
+    conn.execute("BEGIN")
+    conn.execute(PUT_MERCHANT, (MERCHANT, single_life, multi_life, moment))
+    conn.execute(RAISE, (MERCHANT, 1))
+    conn.execute(PUT_ENTRY, (MERCHANT, token, NUMBER, 1, moment, moment + single_life, None))
+    conn.execute(PUT_RECORD, (CALLER, number, MERCHANT, token, 1))
+    conn.execute("COMMIT")
+
+
+def tokenize_many(conn, first, many):
+    for number in range(first, first + many):
+        token = token_for(number)
+        write(conn, number, token, read(conn, number, token))
+
+
+def main(file, many):
+    conn = opened(file)
+    made = conn.execute(COUNT, (MERCHANT, 1)).fetchall()[0][0]
+    start = time.perf_counter()
+    tokenize_many(conn, made + 1, many)
+    spent = max(1, int((time.perf_counter() - start) * 1000000))
+    print(f"{many} commands in {spent} microseconds, {many * 1000000 // spent} a second")
+
+
+if __name__ == "__main__":
+    main(sys.argv[1], int(sys.argv[2]))

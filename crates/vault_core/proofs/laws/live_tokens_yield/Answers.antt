@@ -1,0 +1,5 @@
+use Rattle.vault_core.proofs.Yielded.{live_tokens_yield}
+use Rattle.vault_core.proofs.laws.live_tokens_yield.Goals as goal
+
+pub returns : goal.returns
+returns c = live_tokens_yield

@@ -1,0 +1,102 @@
+//! What of a card number may be shown.
+ghost use Rattle.std.specs.Prelude.{◌≡◌, ◌≤◌, length};
+ghost use Rattle.vault_pan.specs.CardText.{last_four};
+ghost use Rattle.vault_pan.specs.Mask.{IsMasked, mask_of, hidden};
+
+use crate::pan::{MOST_DIGITS, Pan};
+use crate::short::Short;
+use std::fmt;
+use std::marker::Model;
+
+/// How many digits are shown at the front, at most.
+const MOST_IN_FRONT: usize = 6;
+
+/// How many digits are shown at the end.
+const LAST: usize = 4;
+
+/// How many digits are hidden, at least.
+const LEAST_HIDDEN: usize = 6;
+
+/// The mask of a card number: 10 to 19 bytes, each a digit or `*`, with at least six hidden.
+/// Contracts see its bytes.
+///
+/// It is no card number, so printing shows it.
+#[derive(Clone, Copy, PartialEq, Eq, PartialOrd, Ord)]
+pub struct Masked {
+    text: Short<MOST_DIGITS>,
+}
+
+impl Model for Masked {
+    ghost use Rattle.std.specs.Prelude.{ℕ, List};
+    ghost use Rattle.vault_pan.specs.Mask.{IsMasked};
+
+    ghost Value = { List ℕ };
+
+    ghost view = { λ m. m.text };
+
+    ghost invariant = { λ m. IsMasked m.text };
+
+    ghost inverse = { λ text. record { text = text } };
+}
+
+impl Masked {
+    /// The bytes.
+    pub fn text(&self) -> &[u8]
+        ensures value { result.now ≡ self.now }
+        ensures masked { IsMasked self.now }
+    {
+        self.text.bytes()
+    }
+
+    /// The mask as a text.
+    pub fn as_str(&self) -> &str
+        ensures { result.now ≡ self.now }
+    {
+        let Ok(text) = str::from_utf8(self.text()) else {
+            unreachable!();
+        };
+        text
+    }
+}
+
+impl fmt::Display for Masked {
+    ghost use Rattle.std.specs.Prelude.{Some};
+
+    ghost output = { λ masked. Some masked };
+
+    fn fmt<W: fmt::Write>(&self, f: &mut fmt::Formatter<W>) -> fmt::Result {
+        f.write_str(self.as_str())
+    }
+}
+
+impl fmt::Debug for Masked {
+    ghost use Rattle.std.specs.Prelude.{Some};
+    ghost use Rattle.vault_pan.specs.Shown.{shown_masked};
+
+    ghost debug_output = { λ masked. Some (shown_masked masked) };
+
+    fn fmt<W: fmt::Write>(&self, f: &mut fmt::Formatter<W>) -> fmt::Result {
+        let text = self.as_str();
+        write!(f, "Masked({text})")
+    }
+}
+
+/// The mask of a card number: its last four digits, and from the front as many as leave six hidden,
+/// at most six.
+pub fn mask(p: &Pan) -> Masked
+    ensures masked { result ≡ mask_of p.now }
+    ensures hides { 6 ≤ hidden result }
+    ensures as_long { length result ≡ length p.now }
+    ensures last_four { last_four result ≡ last_four p.now }
+{
+    let digits = p.digits();
+    let front = (p.len() - LAST - LEAST_HIDDEN).min(MOST_IN_FRONT);
+    let last = p.len() - LAST;
+    let mut text = Short::new();
+    text.extend(&digits[..front]);
+    for _ in front..last {
+        text.push(b'*');
+    }
+    text.extend(&digits[last..]);
+    Masked { text }
+}

@@ -1,0 +1,73 @@
+-- What a query of one table answers.
+use Rattle.std.proofs.Common.{◌≡◌, inl, inr, ℕ, List, [], ◌∷◌, ◌++◌, map, filter, Bool, true, false, cond, refl, sym, ap, subst₂, ◌∙◌}
+use Rattle.std.proofs.lemmas.Cmp.{tied_back}
+use Rattle.std.proofs.lemmas.List.Sorted.{IsPermutation-map, length_permutation}
+use Rattle.std.specs.List.{list_all}
+use Rattle.std.specs.List.Sorted.{IsPermutation}
+use Rattle.std.specs.Prelude.{flat_map}
+use Rattle.std.specs.declared.cmp.Ordering.TheVariants.{Equal}
+use Rattle.sqlite.specs.Order.{Row, value_cmp}
+use Rattle.sqlite.specs.Program.{overlay}
+use Rattle.sqlite.specs.Query.{IsAnswer, Output, output}
+use Rattle.sqlite.specs.Term.{Term, eval_all, holds}
+use Rattle.sqlite.specs.Tree.{Trees, rowid}
+use Rattle.sqlite_rules.proofs.ListLemmas.{all_has}
+use Rattle.sqlite_rules.specs.Lists.{Has}
+use Rattle.sqlite_value.proofs.OrderLemmas.{value_cmp_total}
+use Rattle.vault_sql.specs.Rows.{IsApart}
+use Rattle.vault_sql.proofs.Terms.{query_of}
+
+-- the rows that pass, and what is shown of one
+abbrev pub passing : Row → List Term → List Row → List Row
+passing params tests rows = filter (λ r. list_all (holds (params ∷ r ∷ [])) tests) rows
+
+abbrev pub shown_as : Row → List Term → Row → Row
+shown_as params project r = eval_all project (params ∷ r ∷ [])
+
+staged_are : (params : Row) (tests project : List Term) (rows : List Row)
+    → map (λ (o : Output). o.1) (map (λ env. let o : Output = ([], eval_all project env) in o) (flat_map (λ r. cond (list_all (holds (params ∷ r ∷ [])) tests) ((params ∷ r ∷ []) ∷ []) []) rows))
+    ≡ map (shown_as params project) (passing params tests rows)
+staged_are params tests project [] = refl
+staged_are params tests project (r ∷ rows) =
+    elim (list_all (holds (params ∷ r ∷ [])) tests) as (λ b. map (λ (o : Output). o.1) (map (λ env. let o : Output = ([], eval_all project env) in o) (cond b ((params ∷ r ∷ []) ∷ []) [] ++ flat_map (λ r. cond (list_all (holds (params ∷ r ∷ [])) tests) ((params ∷ r ∷ []) ∷ []) []) rows))
+    ≡ map (shown_as params project) (cond b (r ∷ passing params tests rows) (passing params tests rows))) [
+      | true ↦ ap (λ l. shown_as params project r ∷ l) (staged_are params tests project rows)
+      | false ↦ staged_are params tests project rows
+    ]
+
+-- an answer is what is shown of the rows that pass, in some order
+pub answers : (db : Trees) (params : Row) (tree : ℕ) (tests project : List Term) → overlay db [] tree ≡ db tree → (rows : List Row)
+    → IsAnswer (query_of tree tests project) (overlay db []) params rows → IsPermutation (map (shown_as params project) (passing params tests (db tree))) rows
+answers db params tree tests project plain rows a =
+    let kept = a.distinct ∙ ap (map (output (query_of tree tests project))) a.grouped in
+    let all : map (λ (o : Output). o.1) a.kept ≡ map (shown_as params project) (passing params tests (overlay db [] tree)) =
+    ap (map (λ (o : Output). o.1)) kept ∙ staged_are params tests project (overlay db [] tree) in
+    let mixed : IsPermutation (map (λ (o : Output). o.1) a.kept) (map (λ (o : Output). o.1) a.ordered) = IsPermutation-map (λ (o : Output). o.1) a.kept a.ordered a.same in
+    subst₂ IsPermutation (all ∙ ap (λ rs. map (shown_as params project) (passing params tests rs)) plain) (sym a.shown) mixed
+
+pub empty_left : (rows : List Row) → IsPermutation [] rows → rows ≡ []
+empty_left [] same = refl
+empty_left (x ∷ xs) same = absurd (let e = length_permutation [] (x ∷ xs) same in cc)
+
+pub filter_none : {X : Type 0} (p : X → Bool) (xs : List X) → ((x : X) → Has xs x → p x ≡ true → ⊥) → filter p xs ≡ []
+filter_none p [] h = refl
+filter_none p (x ∷ xs) h =
+    elim (p x) as (λ b. p x ≡ b → cond b (x ∷ filter p xs) (filter p xs) ≡ []) [
+      | true ↦ λ e. absurd (h x (inl refl) e)
+      | false ↦ λ e. filter_none p xs (λ y there. h y (inr there))
+    ] refl
+
+-- the one row that passes
+pub one_at : (p : Row → Bool) (rows : List Row) (r : Row) → IsApart rows → Has rows r → p r ≡ true
+    → ((x : Row) → Has rows x → p x ≡ true → value_cmp (rowid x) (rowid r) ≡ Equal) → filter p rows ≡ r ∷ []
+one_at p [] r up there is ties = absurd there
+one_at p (y ∷ rows) r up (inl same) is ties =
+    let at : p y ≡ true = ap p (sym same) ∙ is in
+    let none : filter p rows ≡ [] = filter_none p rows (λ x h e. all_has _ rows x up.0 h
+    (tied_back value_cmp_total (rowid x) (rowid y) (ap (λ z. value_cmp (rowid x) (rowid z)) (sym same) ∙ ties x (inr h) e))) in
+    rw (at, none, same) refl
+one_at p (y ∷ rows) r up (inr later) is ties =
+    elim (p y) as (λ b. p y ≡ b → cond b (y ∷ filter p rows) (filter p rows) ≡ r ∷ []) [
+      | true ↦ λ e. absurd (all_has _ rows r up.0 later (ties y (inl refl) e))
+      | false ↦ λ e. one_at p rows r up.1 later is (λ x h. ties x (inr h))
+    ] refl

@@ -1,0 +1,17 @@
+-- What a crash leaves of an open connection: its last commit, and nothing else.
+use Rattle.std.proofs.Common.{◌≡◌, inl, subst, sym, ap, ◌∙◌}
+use Rattle.sqlite.specs.Effect.{Database}
+use Rattle.sqlite.specs.State.{State}
+use Rattle.sqlite.specs.Tree.{Trees}
+use Rattle.vault_core.specs.Vault.{Vault}
+use Rattle.vault_sql.specs.Holds.{Holds, LeavesEither, LeavesNoMore}
+use Rattle.vault_sql.specs.Stands.{Stands}
+
+-- where only the last commit may be left, each state that is left stands for the vault that is held
+pub left_alone : (s : State) (V : Vault) → Holds s V → ((db : Trees) → s.may_leave db → db ≡ s.committed.trees) → LeavesEither s V V
+left_alone s V held alone = λ db left. inl (subst (λ (t : Trees). Stands t V) (ap (λ (d : Database). d.trees) held.settled ∙ sym (alone db left)) held.stands)
+
+-- what leaves no more than that leaves nothing else either
+pub left_after : (old new : State) (V : Vault) → Holds old V → ((db : Trees) → old.may_leave db → db ≡ old.committed.trees)
+    → LeavesNoMore old new → LeavesEither new V V
+left_after old new V held alone no_more = λ db left. left_alone old V held alone db (no_more db left)

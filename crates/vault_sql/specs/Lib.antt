@@ -1,0 +1,9 @@
+pub mod Holds
+pub mod Left
+pub mod Making
+pub mod Rows
+pub mod Schema
+pub mod Shown
+pub mod Stands
+pub mod Storable
+pub mod Written

@@ -1,0 +1,40 @@
+-- Rows that are shown.
+use Rattle.std.specs.Prelude.{◌≡◌, ℕ, pos, List, [], ◌∷◌, Option, Some, None}
+use Rattle.sqlite.specs.Order.{Row, column}
+use Rattle.sqlite.specs.declared.types.Value.TheVariants.{Int, Text}
+use Rattle.vault_core.specs.Keys.{Bytes}
+use Rattle.vault_core.specs.declared.row.Entry.{Entry}
+use Rattle.vault_core.specs.declared.row.Record.{Record}
+use Rattle.vault_sql.specs.declared.merchants.Lives.{Lives}
+use Rattle.vault_sql.specs.Rows.{text_or_null, number_or_null, use_number}
+
+-- the one row of what is there, or none
+abbrev pub one_of : {X : Type 0} → (X → Row) → Option X → List Row
+one_of show None = []
+one_of show (Some x) = show x ∷ []
+
+abbrev pub number_column : ℕ → Row
+number_column n = Int (pos n) ∷ []
+
+abbrev pub text_column : Bytes → Row
+text_column text = Text text ∷ []
+
+-- a row has the columns of an entry
+pub record ShowsEntry (row : Row) (e : Entry) : Type 0 where
+  pub number : column row 0 ≡ text_or_null e.number
+  pub usage : column row 1 ≡ Int (pos (use_number e.usage))
+  pub birth : column row 2 ≡ Int (pos e.birth)
+  pub expires : column row 3 ≡ Int (pos e.expires)
+  pub revoked : column row 4 ≡ number_or_null e.revoked
+
+-- a row has the columns of a record
+pub record ShowsRecord (row : Row) (r : Record) : Type 0 where
+  pub merchant : column row 0 ≡ Text r.merchant
+  pub token : column row 1 ≡ Text r.token
+  pub usage : column row 2 ≡ Int (pos (use_number r.usage))
+
+-- a row has the columns of a merchant's lives
+pub record ShowsLives (row : Row) (x : Lives) : Type 0 where
+  pub single_life : column row 0 ≡ Int (pos x.single_life)
+  pub multi_life : column row 1 ≡ Int (pos x.multi_life)
+  pub moment : column row 2 ≡ Int (pos x.moment)

@@ -1,0 +1,21 @@
+-- Changes whose numbers fit the columns.
+use Rattle.std.specs.Prelude.{ℕ, ◌<◌, ◌^◌, Option, Some, None}
+use Rattle.vault_core.specs.Keys.{Bytes}
+use Rattle.vault_core.specs.declared.changes.Changes.{Changes}
+use Rattle.vault_core.specs.declared.changes.Lives as core
+use Rattle.vault_core.specs.declared.row.Entry.{Entry}
+
+abbrev pub IsStorable : ℕ → Type 0
+IsStorable n = n < 2 ^ 63
+
+abbrev pub IsStorableLives : Option core.Lives → Type 0
+IsStorableLives None = Unit {0}
+IsStorableLives (Some x) = IsStorable x.single_life × IsStorable x.multi_life
+
+abbrev pub IsStorableEntry : Option (Bytes × Bytes × Entry) → Type 0
+IsStorableEntry None = Unit {0}
+IsStorableEntry (Some x) = IsStorable x.2.expires
+
+-- moments, uses and rights always fit
+abbrev pub AreStorable : Changes → Type 0
+AreStorable ch = IsStorableLives ch.lives × IsStorableEntry ch.entry

@@ -1,0 +1,73 @@
+-- What changes make of the lookups.
+use Rattle.std.specs.Prelude.{◌<◌, ◌^◌, ◌+◌, ℕ, Bool, Option, Some, None, cond, unwrap_or, if◌then◌else◌}
+use Rattle.std.specs.Ordering.{eq_by_cmp}
+use Rattle.std.specs.declared.cmp.Ordering.{Ordering}
+use Rattle.vault_core.specs.Keys.{Bytes, bytes_cmp, entry_cmp, record_cmp, right_cmp}
+use Rattle.vault_core.specs.declared.changes.Changes.{Changes}
+use Rattle.vault_core.specs.declared.changes.Count.{Count}
+use Rattle.vault_core.specs.declared.changes.Count.TheVariants.{Made, Given, Denied}
+use Rattle.vault_core.specs.declared.changes.Lives as core
+use Rattle.vault_core.specs.declared.right.Right.{Right}
+use Rattle.vault_core.specs.declared.row.Entry.{Entry}
+use Rattle.vault_core.specs.declared.row.Record.{Record}
+use Rattle.vault_sql.specs.declared.merchants.Lives.{Lives}
+use Rattle.vault_sql.specs.Stands.{Lookups}
+
+-- a value at a key, and the others as they were
+abbrev pub put : {K X : Type 0} → (K → K → Ordering) → (K → Option X) → K → Option X → K → Option X
+put cmp held key value q = cond (eq_by_cmp cmp q key) value (held q)
+
+abbrev pub lives_of : core.Lives → Lives
+lives_of x = record { single_life = x.single_life; multi_life = x.multi_life; moment = x.moment }
+
+abbrev pub put_lives : (Bytes → Option Lives) → Option core.Lives → Bytes → Option Lives
+put_lives held None = held
+put_lives held (Some x) = put bytes_cmp held x.merchant (Some (lives_of x))
+
+-- the kind of a count
+abbrev pub kind_of : Count → ℕ
+kind_of Made = 1
+kind_of Given = 2
+kind_of Denied = 3
+
+-- a count that has no row is 0
+abbrev pub raise_at : (Bytes × ℕ → Option ℕ) → Bytes × ℕ → Bytes × ℕ → Option ℕ
+raise_at held key = put record_cmp held key (Some (unwrap_or (held key) 0 + 1))
+
+-- the count of the merchant whose lives are written goes up by one
+abbrev pub raise : (Bytes × ℕ → Option ℕ) → Option core.Lives → Option Count → Bytes × ℕ → Option ℕ
+raise held None count = held
+raise held (Some x) None = held
+raise held (Some x) (Some count) = raise_at held (x.merchant, kind_of count)
+
+abbrev pub put_entry : (Bytes × Bytes → Option Entry) → Option (Bytes × Bytes × Entry) → Bytes × Bytes → Option Entry
+put_entry held None = held
+put_entry held (Some x) = put entry_cmp held (x.0, x.1) (Some x.2)
+
+abbrev pub put_record : (Bytes × ℕ → Option Record) → Option (Bytes × ℕ × Record) → Bytes × ℕ → Option Record
+put_record held None = held
+put_record held (Some x) = put record_cmp held (x.0, x.1) (Some x.2)
+
+abbrev pub put_right : (Bytes × (Bytes × Right) → Option (Unit {0})) → Option (Bytes × Bytes × Right × Bool) → Bytes × (Bytes × Right) → Option (Unit {0})
+put_right held None = held
+put_right held (Some x) = put right_cmp held (x.0, (x.1, x.2)) (if x.3 then Some tt else None)
+
+-- each table with its change
+abbrev pub written : Lookups → Changes → Lookups
+written h ch = record {
+  merchants = put_lives h.merchants ch.lives;
+  counts = raise h.counts ch.lives ch.count;
+  entries = put_entry h.entries ch.entry;
+  records = put_record h.records ch.recorded;
+  rights = put_right h.rights ch.right;
+}
+
+-- a count is below what a column holds
+abbrev pub HasRoomAt : (Bytes × ℕ → Option ℕ) → Bytes × ℕ → Type 0
+HasRoomAt held key = unwrap_or (held key) 0 + 1 < 2 ^ 63
+
+-- the count that goes up has room
+abbrev pub HasRoom : (Bytes × ℕ → Option ℕ) → Option core.Lives → Option Count → Type 0
+HasRoom held None count = Unit {0}
+HasRoom held (Some x) None = Unit {0}
+HasRoom held (Some x) (Some count) = HasRoomAt held (x.merchant, kind_of count)

@@ -1,0 +1,86 @@
+//! The values of columns.
+ghost use Rattle.std.specs.Prelude.{◌≡◌, pos, IfOk};
+ghost use Rattle.sqlite.specs.Order.{column};
+ghost use Rattle.sqlite.specs.declared.types.Value.TheVariants.{Int, Text};
+ghost use Rattle.vault_sql.specs.Rows.{text_or_null, number_or_null, use_number};
+
+use crate::fault::StoreFault;
+use sqlite::Row;
+use vault_core::moment::Moment;
+use vault_core::name::MerchantId;
+use vault_core::usage::Use;
+use vault_pan::pan::Pan;
+use vault_pan::token::Token;
+
+/// The name of a merchant.
+pub(crate) fn merchant_in(row: &Row, at: usize) -> Result<MerchantId, StoreFault>
+    ensures { IfOk result (λ m. column row.now at ≡ Text m) }
+{
+    let text: String = row.get(at)?;
+    match MerchantId::read(text.as_bytes()) {
+        Ok(m) => Ok(m),
+        Err(_) => Err(StoreFault),
+    }
+}
+
+/// A token.
+pub(crate) fn token_in(row: &Row, at: usize) -> Result<Token, StoreFault>
+    ensures { IfOk result (λ token. column row.now at ≡ Text token) }
+{
+    let text: String = row.get(at)?;
+    match Token::read(text.as_bytes()) {
+        Ok(token) => Ok(token),
+        Err(_) => Err(StoreFault),
+    }
+}
+
+/// A card number, or NULL.
+pub(crate) fn number_in(row: &Row, at: usize) -> Result<Option<Pan>, StoreFault>
+    ensures { IfOk result (λ number. column row.now at ≡ text_or_null number) }
+{
+    let text: Option<String> = row.get(at)?;
+    let Some(text) = text else {
+        return Ok(None);
+    };
+    match Pan::read(text.as_bytes()) {
+        Ok(pan) if pan.as_str() == text.as_str() => Ok(Some(pan)),
+        _ => Err(StoreFault),
+    }
+}
+
+/// A use, by its number.
+pub(crate) fn usage_in(row: &Row, at: usize) -> Result<Use, StoreFault>
+    ensures { IfOk result (λ usage. column row.now at ≡ Int (pos (use_number usage))) }
+{
+    let number: u64 = row.get(at)?;
+    match number {
+        1 => Ok(Use::Single),
+        2 => Ok(Use::Multi),
+        _ => Err(StoreFault),
+    }
+}
+
+/// A moment.
+pub(crate) fn moment_in(row: &Row, at: usize) -> Result<Moment, StoreFault>
+    ensures { IfOk result (λ moment. column row.now at ≡ Int (pos moment)) }
+{
+    let seconds: u64 = row.get(at)?;
+    match Moment::new(seconds) {
+        Ok(moment) => Ok(moment),
+        Err(_) => Err(StoreFault),
+    }
+}
+
+/// A moment, or NULL.
+pub(crate) fn moment_or_null_in(row: &Row, at: usize) -> Result<Option<Moment>, StoreFault>
+    ensures { IfOk result (λ moment. column row.now at ≡ number_or_null moment) }
+{
+    let seconds: Option<u64> = row.get(at)?;
+    let Some(seconds) = seconds else {
+        return Ok(None);
+    };
+    match Moment::new(seconds) {
+        Ok(moment) => Ok(Some(moment)),
+        Err(_) => Err(StoreFault),
+    }
+}

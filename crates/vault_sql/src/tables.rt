@@ -1,0 +1,174 @@
+//! Tables in a database.
+ghost use Rattle.std.specs.Prelude.{◌≡◌, false};
+
+use crate::entries::{current, entry};
+use crate::merchants::{how_many, merchant};
+use crate::records::recorded;
+use crate::rights::has;
+use crate::transaction::{are_storable, write};
+use sqlite::{Alter, Connection};
+use vault_core::changes::Changes;
+use vault_core::moment::Moment;
+use vault_core::name::{Caller, MerchantId};
+use vault_core::request::RequestNo;
+use vault_core::right::Right;
+use vault_core::row::{Entry, MerchantRow, Record};
+use vault_pan::pan::Pan;
+use vault_pan::token::Token;
+use vault_store::tables::{Tables, TablesFault};
+
+/// Tables in a database, which fail from the first call on that the database refused.
+pub struct SqlTables<S: Alter> {
+    conn: Connection<S>,
+    failed: bool,
+    ghost idle: { conn.in_transaction ≡ false },
+}
+
+impl<S: Alter> SqlTables<S> {
+    /// Tables over a connection that is not inside a transaction. Nothing is promised of a database that
+    /// holds no vault.
+    pub fn on(conn: Connection<S>) -> SqlTables<S>
+        requires { conn.in_transaction ≡ false }
+        ensures conn { result.conn ≡ conn }
+        ensures fresh { result.failed ≡ false }
+    {
+        SqlTables {
+            conn,
+            failed: false,
+        }
+    }
+
+    /// The connection.
+    pub fn into_connection(self) -> Connection<S>
+        ensures { result ≡ self.conn }
+    {
+        let SqlTables { conn, failed: _ } = self;
+        conn
+    }
+}
+
+impl<S: Alter> Tables for SqlTables<S> {
+    ghost use Rattle.std.specs.Prelude.{◌≡◌, true, false};
+    ghost use Rattle.sqlite.specs.Held.{state};
+    ghost use Rattle.sqlite.specs.State.{HasCleanDisk};
+    ghost use Rattle.vault_sql.specs.Holds.{Holds, LeavesEither};
+    ghost use Rattle.std.proofs.Common.{inl, inr};
+    ghost use Rattle.vault_sql.specs.Left.{left_alone};
+
+    ghost holds = { λ t V. (t.failed ≡ false) × (HasCleanDisk (state S.Store t.conn) → Holds (state S.Store t.conn) V) };
+
+    ghost leaves = { λ t V W. LeavesEither (state S.Store t.conn) V W };
+
+    ghost is_honest = { λ t. HasCleanDisk (state S.Store t.conn) };
+
+    ghost may_refuse = { true };
+
+    ghost may_fail = { true };
+
+    ghost has_failed = { λ t. t.failed };
+
+    ghost unfailed = { λ t V held. held.0 };
+
+    ghost settled = { λ t V held honest. left_alone _ V (held.1 honest) (λ db. S.Store.settled t.conn.store db (held.1 honest).is_open) };
+
+    ghost widened = { λ t V W left db is. elim (left db is) [ inl held ↦ inl held | inr held ↦ inl held ] };
+
+    fn failed(&self) -> bool {
+        self.failed
+    }
+
+    fn merchant(&mut self, m: MerchantId) -> Result<Option<MerchantRow>, TablesFault> {
+        if self.failed {
+            return Err(TablesFault::Store);
+        }
+        match merchant(&mut self.conn, &m) {
+            Ok(found) => Ok(found),
+            Err(_) => {
+                self.failed = true;
+                Err(TablesFault::Store)
+            }
+        }
+    }
+
+    fn merchants(&mut self) -> Result<u64, TablesFault> {
+        if self.failed {
+            return Err(TablesFault::Store);
+        }
+        match how_many(&mut self.conn) {
+            Ok(found) => Ok(found),
+            Err(_) => {
+                self.failed = true;
+                Err(TablesFault::Store)
+            }
+        }
+    }
+
+    fn right(&mut self, c: Caller, m: MerchantId, r: Right) -> Result<bool, TablesFault> {
+        if self.failed {
+            return Err(TablesFault::Store);
+        }
+        match has(&mut self.conn, &c, &m, r) {
+            Ok(found) => Ok(found),
+            Err(_) => {
+                self.failed = true;
+                Err(TablesFault::Store)
+            }
+        }
+    }
+
+    fn recorded(&mut self, c: Caller, n: RequestNo) -> Result<Option<Record>, TablesFault> {
+        if self.failed {
+            return Err(TablesFault::Store);
+        }
+        match recorded(&mut self.conn, &c, n) {
+            Ok(found) => Ok(found),
+            Err(_) => {
+                self.failed = true;
+                Err(TablesFault::Store)
+            }
+        }
+    }
+
+    fn entry(&mut self, m: MerchantId, t: Token) -> Result<Option<Entry>, TablesFault> {
+        if self.failed {
+            return Err(TablesFault::Store);
+        }
+        match entry(&mut self.conn, &m, &t) {
+            Ok(found) => Ok(found),
+            Err(_) => {
+                self.failed = true;
+                Err(TablesFault::Store)
+            }
+        }
+    }
+
+    fn current(&mut self, m: MerchantId, p: Pan, at: Moment) -> Result<Option<Token>, TablesFault> {
+        if self.failed {
+            return Err(TablesFault::Store);
+        }
+        match current(&mut self.conn, &m, &p, at) {
+            Ok(found) => Ok(found),
+            Err(_) => {
+                self.failed = true;
+                Err(TablesFault::Store)
+            }
+        }
+    }
+
+    fn write(&mut self, ch: &Changes) -> Result<(), TablesFault> {
+        if self.failed {
+            return Err(TablesFault::Store);
+        }
+        if !are_storable(ch) {
+            self.failed = true;
+            return Err(TablesFault::Store);
+        }
+        match write(&mut self.conn, ch) {
+            Ok(()) => Ok(()),
+            Err(_) => {
+                self.failed = true;
+                Err(TablesFault::Store)
+            }
+        }
+    }
+}

@@ -1,0 +1,5 @@
+//! Commands over a database.
+mod files;
+mod rows;
+mod script;
+mod stops;

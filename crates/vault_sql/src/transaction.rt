@@ -1,0 +1,220 @@
+//! All that one command changes, in one transaction.
+ghost use Rattle.std.specs.Prelude.{◌≡◌, ◌≤◌, ◌↔◌, IsTrue, false, Some, None, OnOk, if◌then◌else◌};
+ghost use Rattle.sqlite.specs.Held.{state};
+ghost use Rattle.sqlite.specs.State.{HasCleanDisk};
+ghost use Rattle.sqlite.specs.View.{doubt};
+ghost use Rattle.vault_core.specs.Changes.{Fit, plus};
+ghost use Rattle.vault_core.specs.Keys.{right_cmp};
+ghost use Rattle.vault_core.specs.Sound.{Sound};
+ghost use Rattle.vault_core.specs.Vault.{Vault};
+ghost use Rattle.vault_sql.specs.Holds.{Holds, LeavesEither, LeavesNoMore, Takes};
+ghost use Rattle.vault_sql.specs.Storable.{AreStorable, IsStorableEntry, IsStorableLives};
+ghost use Rattle.vault_sql.specs.Written.{HasRoom, kind_of as kind_of_lem, put, put_entry as put_entry_lem, put_lives, put_record as put_record_lem, put_right, raise as raise_lem};
+
+use crate::entries::put_entry;
+use crate::merchants::{DENIED, GIVEN, Lives, MADE, put_merchant, raise};
+use crate::records::put_record;
+use crate::rights::{give, take};
+use crate::text::{caller_text, merchant_text};
+use sqlite::{Alter, Connection, Error, Transaction};
+use vault_core::changes::{self, Changes, Count};
+use vault_core::name::{Caller, MerchantId};
+use vault_core::request::RequestNo;
+use vault_core::right::Right;
+use vault_core::row::{Entry, Record};
+use vault_pan::token::Token;
+
+/// The greatest number that a column holds.
+const GREATEST: u64 = 9223372036854775807;
+
+/// Whether columns hold the numbers of a merchant's lives.
+fn are_storable_lives(lives: &Option<changes::Lives>) -> bool
+    ensures { IsTrue result ↔ IsStorableLives lives.now }
+{
+    match lives {
+        Some(x) => x.single_life <= GREATEST && x.multi_life <= GREATEST,
+        None => true,
+    }
+}
+
+/// Whether a column holds the end of an entry's life.
+fn is_storable_entry(entry: &Option<(MerchantId, Token, Entry)>) -> bool
+    ensures { IsTrue result ↔ IsStorableEntry entry.now }
+{
+    match entry {
+        Some((_, _, entry)) => entry.expires <= GREATEST,
+        None => true,
+    }
+}
+
+/// Whether columns hold all numbers of the changes.
+pub(crate) fn are_storable(ch: &Changes) -> bool
+    ensures { IsTrue result ↔ AreStorable ch.now }
+{
+    are_storable_lives(&ch.lives) && is_storable_entry(&ch.entry)
+}
+
+/// The kind of a count.
+fn kind_of(count: Count) -> u8
+    ensures { result ≡ kind_of_lem count }
+{
+    match count {
+        Count::Made => MADE,
+        Count::Given => GIVEN,
+        Count::Denied => DENIED,
+    }
+}
+
+/// Writes the lives and the moment of a merchant.
+fn write_lives<S: Alter>(
+    tx: &mut Transaction<'_, S>,
+    lives: &Option<changes::Lives>,
+) -> Result<(), Error>
+    requires { IsStorableLives lives.now }
+    ensures same_reference { tx.new.conn.ghost_name ≡ tx.old.conn.ghost_name }
+    ensures clean { doubt (state S.Store tx.old.conn.now).is_clean ≤ doubt (state S.Store tx.new.conn.now).is_clean }
+    ensures left { HasCleanDisk (state S.Store tx.new.conn.now) → LeavesNoMore (state S.Store tx.old.conn.now) (state S.Store tx.new.conn.now) }
+    ensures done { HasCleanDisk (state S.Store tx.new.conn.now) → OnOk result (Takes (state S.Store tx.old.conn.now) (state S.Store tx.new.conn.now) (λ _. Unit {0}) (λ h. record h { merchants = put_lives h.merchants lives.now })) }
+{
+    match lives {
+        Some(x) => {
+            let row = Lives {
+                single_life: x.single_life,
+                multi_life: x.multi_life,
+                moment: x.moment,
+            };
+            put_merchant(tx, merchant_text(&x.merchant), &row)
+        }
+        None => Ok(()),
+    }
+}
+
+/// Raises a count of the merchant whose lives are written.
+fn write_count<S: Alter>(
+    tx: &mut Transaction<'_, S>,
+    lives: &Option<changes::Lives>,
+    count: Option<Count>,
+) -> Result<(), Error>
+    ensures same_reference { tx.new.conn.ghost_name ≡ tx.old.conn.ghost_name }
+    ensures clean { doubt (state S.Store tx.old.conn.now).is_clean ≤ doubt (state S.Store tx.new.conn.now).is_clean }
+    ensures left { HasCleanDisk (state S.Store tx.new.conn.now) → LeavesNoMore (state S.Store tx.old.conn.now) (state S.Store tx.new.conn.now) }
+    ensures done { HasCleanDisk (state S.Store tx.new.conn.now) → OnOk result (Takes (state S.Store tx.old.conn.now) (state S.Store tx.new.conn.now) (λ h. HasRoom h.counts lives.now count) (λ h. record h { counts = raise_lem h.counts lives.now count })) }
+{
+    let Some(x) = lives else {
+        return Ok(());
+    };
+    match count {
+        Some(count) => raise(tx, merchant_text(&x.merchant), kind_of(count)),
+        None => Ok(()),
+    }
+}
+
+/// Writes an entry.
+fn write_entry<S: Alter>(
+    tx: &mut Transaction<'_, S>,
+    change: &Option<(MerchantId, Token, Entry)>,
+) -> Result<(), Error>
+    requires { IsStorableEntry change.now }
+    ensures same_reference { tx.new.conn.ghost_name ≡ tx.old.conn.ghost_name }
+    ensures clean { doubt (state S.Store tx.old.conn.now).is_clean ≤ doubt (state S.Store tx.new.conn.now).is_clean }
+    ensures left { HasCleanDisk (state S.Store tx.new.conn.now) → LeavesNoMore (state S.Store tx.old.conn.now) (state S.Store tx.new.conn.now) }
+    ensures done { HasCleanDisk (state S.Store tx.new.conn.now) → OnOk result (Takes (state S.Store tx.old.conn.now) (state S.Store tx.new.conn.now) (λ _. Unit {0}) (λ h. record h { entries = put_entry_lem h.entries change.now })) }
+{
+    match change {
+        Some((m, token, entry)) => put_entry(tx, merchant_text(m), token.as_str(), entry),
+        None => Ok(()),
+    }
+}
+
+/// Writes a record.
+fn write_record<S: Alter>(
+    tx: &mut Transaction<'_, S>,
+    change: &Option<(Caller, RequestNo, Record)>,
+) -> Result<(), Error>
+    ensures same_reference { tx.new.conn.ghost_name ≡ tx.old.conn.ghost_name }
+    ensures clean { doubt (state S.Store tx.old.conn.now).is_clean ≤ doubt (state S.Store tx.new.conn.now).is_clean }
+    ensures left { HasCleanDisk (state S.Store tx.new.conn.now) → LeavesNoMore (state S.Store tx.old.conn.now) (state S.Store tx.new.conn.now) }
+    ensures done { HasCleanDisk (state S.Store tx.new.conn.now) → OnOk result (Takes (state S.Store tx.old.conn.now) (state S.Store tx.new.conn.now) (λ _. Unit {0}) (λ h. record h { records = put_record_lem h.records change.now })) }
+{
+    match change {
+        Some((caller, request, answered)) => {
+            put_record(tx, caller_text(caller), request.get(), answered)
+        }
+        None => Ok(()),
+    }
+}
+
+/// Gives a right, or takes it away.
+fn set_right<S: Alter>(
+    tx: &mut Transaction<'_, S>,
+    caller: &Caller,
+    m: &MerchantId,
+    right: Right,
+    is_given: bool,
+) -> Result<(), Error>
+    ensures same_reference { tx.new.conn.ghost_name ≡ tx.old.conn.ghost_name }
+    ensures clean { doubt (state S.Store tx.old.conn.now).is_clean ≤ doubt (state S.Store tx.new.conn.now).is_clean }
+    ensures left { HasCleanDisk (state S.Store tx.new.conn.now) → LeavesNoMore (state S.Store tx.old.conn.now) (state S.Store tx.new.conn.now) }
+    ensures done { HasCleanDisk (state S.Store tx.new.conn.now) → OnOk result (Takes (state S.Store tx.old.conn.now) (state S.Store tx.new.conn.now) (λ _. Unit {0}) (λ h. record h { rights = put right_cmp h.rights (caller.now, (m.now, right)) (if is_given then Some tt else None) })) }
+{
+    if is_given {
+        give(tx, caller_text(caller), merchant_text(m), right)
+    } else {
+        take(tx, caller_text(caller), merchant_text(m), right)
+    }
+}
+
+/// Writes a right.
+fn write_right<S: Alter>(
+    tx: &mut Transaction<'_, S>,
+    change: &Option<(Caller, MerchantId, Right, bool)>,
+) -> Result<(), Error>
+    ensures same_reference { tx.new.conn.ghost_name ≡ tx.old.conn.ghost_name }
+    ensures clean { doubt (state S.Store tx.old.conn.now).is_clean ≤ doubt (state S.Store tx.new.conn.now).is_clean }
+    ensures left { HasCleanDisk (state S.Store tx.new.conn.now) → LeavesNoMore (state S.Store tx.old.conn.now) (state S.Store tx.new.conn.now) }
+    ensures done { HasCleanDisk (state S.Store tx.new.conn.now) → OnOk result (Takes (state S.Store tx.old.conn.now) (state S.Store tx.new.conn.now) (λ _. Unit {0}) (λ h. record h { rights = put_right h.rights change.now })) }
+{
+    match change {
+        Some((caller, m, right, is_given)) => set_right(tx, caller, m, *right, *is_given),
+        None => Ok(()),
+    }
+}
+
+/// Writes what changes of a merchant and its entries.
+fn write_merchant<S: Alter>(tx: &mut Transaction<'_, S>, ch: &Changes) -> Result<(), Error>
+    requires { AreStorable ch.now }
+    ensures same_reference { tx.new.conn.ghost_name ≡ tx.old.conn.ghost_name }
+    ensures clean { doubt (state S.Store tx.old.conn.now).is_clean ≤ doubt (state S.Store tx.new.conn.now).is_clean }
+    ensures left { HasCleanDisk (state S.Store tx.new.conn.now) → LeavesNoMore (state S.Store tx.old.conn.now) (state S.Store tx.new.conn.now) }
+    ensures done { HasCleanDisk (state S.Store tx.new.conn.now) → OnOk result (Takes (state S.Store tx.old.conn.now) (state S.Store tx.new.conn.now) (λ h. HasRoom h.counts ch.now.lives ch.now.count) (λ h. record h { merchants = put_lives h.merchants ch.now.lives; counts = raise_lem h.counts ch.now.lives ch.now.count; entries = put_entry_lem h.entries ch.now.entry })) }
+{
+    write_lives(tx, &ch.lives)?;
+    write_count(tx, &ch.lives, ch.count)?;
+    write_entry(tx, &ch.entry)
+}
+
+/// Writes what changes of a caller's records and rights.
+fn write_caller<S: Alter>(tx: &mut Transaction<'_, S>, ch: &Changes) -> Result<(), Error>
+    ensures same_reference { tx.new.conn.ghost_name ≡ tx.old.conn.ghost_name }
+    ensures clean { doubt (state S.Store tx.old.conn.now).is_clean ≤ doubt (state S.Store tx.new.conn.now).is_clean }
+    ensures left { HasCleanDisk (state S.Store tx.new.conn.now) → LeavesNoMore (state S.Store tx.old.conn.now) (state S.Store tx.new.conn.now) }
+    ensures done { HasCleanDisk (state S.Store tx.new.conn.now) → OnOk result (Takes (state S.Store tx.old.conn.now) (state S.Store tx.new.conn.now) (λ _. Unit {0}) (λ h. record h { records = put_record_lem h.records ch.now.recorded; rights = put_right h.rights ch.now.right })) }
+{
+    write_record(tx, &ch.recorded)?;
+    write_right(tx, &ch.right)
+}
+
+/// Makes the changes in one transaction, all of them or none.
+pub(crate) fn write<S: Alter>(conn: &mut Connection<S>, ch: &Changes) -> Result<(), Error>
+    requires storable { AreStorable ch.now }
+    requires idle { conn.old.in_transaction ≡ false }
+    ensures idle { conn.new.in_transaction ≡ false }
+    ensures clean { doubt (state S.Store conn.old).is_clean ≤ doubt (state S.Store conn.new).is_clean }
+    ensures done { HasCleanDisk (state S.Store conn.new) → OnOk result ((V : Vault) → Holds (state S.Store conn.old) V → Sound V → Fit V ch.now → Holds (state S.Store conn.new) (plus V ch.now)) }
+    ensures crash { HasCleanDisk (state S.Store conn.new) → (V : Vault) → Holds (state S.Store conn.old) V → Sound V → Fit V ch.now → LeavesEither (state S.Store conn.new) V (plus V ch.now) }
+{
+    let mut tx = conn.transaction();
+    write_merchant(&mut tx, ch)?;
+    write_caller(&mut tx, ch)?;
+    tx.commit()
+}
