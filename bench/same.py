@@ -10,7 +10,7 @@ import sys
 import time
 
 LIVES = "SELECT single_life, multi_life, moment FROM merchants WHERE name = ?1"
-COUNT = "SELECT total FROM counts WHERE merchant = ?1 AND kind = ?2"
+COUNTS = "SELECT kind, total FROM counts WHERE merchant = ?1"
 RIGHT = "SELECT what FROM rights WHERE caller = ?1 AND merchant = ?2 AND what = ?3"
 RECORD = "SELECT merchant, token, usage FROM records WHERE caller = ?1 AND request = ?2"
 ENTRY = "SELECT number, usage, birth, expires, revoked FROM entries WHERE merchant = ?1 AND token = ?2"
@@ -54,8 +54,7 @@ def opened(file):
 def read(conn, number, token):
     """What one Tokenize reads, each row fetched."""
     single_life, multi_life, moment = conn.execute(LIVES, (MERCHANT,)).fetchall()[0]
-    for kind in (1, 2, 3):
-        conn.execute(COUNT, (MERCHANT, kind)).fetchall()
+    conn.execute(COUNTS, (MERCHANT,)).fetchall()
     assert conn.execute(RIGHT, (CALLER, MERCHANT, 1)).fetchall()
     assert not conn.execute(RECORD, (CALLER, number)).fetchall()
     assert not conn.execute(ENTRY, (MERCHANT, token)).fetchall()
@@ -81,7 +80,7 @@ def tokenize_many(conn, first, many):
 
 def main(file, many):
     conn = opened(file)
-    made = conn.execute(COUNT, (MERCHANT, 1)).fetchall()[0][0]
+    made = dict(conn.execute(COUNTS, (MERCHANT,)).fetchall())[1]
     start = time.perf_counter()
     tokenize_many(conn, made + 1, many)
     spent = max(1, int((time.perf_counter() - start) * 1000000))

@@ -1,7 +1,7 @@
 -- What a query of one table answers.
 use Rattle.std.proofs.Common.{◌≡◌, inl, inr, ℕ, List, [], ◌∷◌, ◌++◌, map, filter, Bool, true, false, cond, refl, sym, ap, subst₂, ◌∙◌}
 use Rattle.std.proofs.lemmas.Cmp.{tied_back}
-use Rattle.std.proofs.lemmas.List.Sorted.{IsPermutation-map, length_permutation}
+use Rattle.std.proofs.lemmas.List.Sorted.{Contains-permutation, IsPermutation-map, length_permutation}
 use Rattle.std.specs.List.{list_all}
 use Rattle.std.specs.List.Sorted.{IsPermutation}
 use Rattle.std.specs.Prelude.{flat_map}
@@ -11,7 +11,7 @@ use Rattle.sqlite.specs.Program.{overlay}
 use Rattle.sqlite.specs.Query.{IsAnswer, Output, output}
 use Rattle.sqlite.specs.Term.{Term, eval_all, holds}
 use Rattle.sqlite.specs.Tree.{Trees, rowid}
-use Rattle.sqlite_rules.proofs.ListLemmas.{all_has}
+use Rattle.sqlite_rules.proofs.ListLemmas.{all_has, contains_had, has_contained}
 use Rattle.sqlite_rules.specs.Lists.{Has}
 use Rattle.sqlite_value.proofs.OrderLemmas.{value_cmp_total}
 use Rattle.vault_sql.specs.Rows.{IsApart}
@@ -44,6 +44,19 @@ answers db params tree tests project plain rows a =
     ap (map (λ (o : Output). o.1)) kept ∙ staged_are params tests project (overlay db [] tree) in
     let mixed : IsPermutation (map (λ (o : Output). o.1) a.kept) (map (λ (o : Output). o.1) a.ordered) = IsPermutation-map (λ (o : Output). o.1) a.kept a.ordered a.same in
     subst₂ IsPermutation (all ∙ ap (λ rs. map (shown_as params project) (passing params tests rs)) plain) (sym a.shown) mixed
+
+pub has_permuted : {X : Type 0} (xs ys : List X) (x : X) → IsPermutation xs ys → Has xs x → Has ys x
+has_permuted xs ys x same h = has_contained ys x (Contains-permutation xs ys x same (contains_had xs x h))
+
+pub has_map : {X Y : Type 0} (f : X → Y) (xs : List X) (y : Y) → Has (map f xs) y → (x : X) × Has xs x × (y ≡ f x)
+has_map f [] y h = absurd h
+has_map f (x ∷ xs) y (inl e) = (x, inl refl, e)
+has_map f (x ∷ xs) y (inr h) = let it = has_map f xs y h in (it.0, inr it.1, it.2)
+
+pub map_has : {X Y : Type 0} (f : X → Y) (xs : List X) (x : X) → Has xs x → Has (map f xs) (f x)
+map_has f [] x h = absurd h
+map_has f (y ∷ ys) x (inl e) = inl (ap f e)
+map_has f (y ∷ ys) x (inr h) = inr (map_has f ys x h)
 
 pub empty_left : (rows : List Row) → IsPermutation [] rows → rows ≡ []
 empty_left [] same = refl

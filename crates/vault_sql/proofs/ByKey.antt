@@ -1,6 +1,7 @@
 -- Tables that stand for pairs, read by their key.
 use Rattle.std.proofs.Common.{◌≡◌, ℕ, ℤ, List, [], ◌∷◌, drop, map, filter, Bool, true, Option, Some, None, refl, sym, ap, subst, ◌∙◌}
 use Rattle.std.proofs.lemmas.Cmp.{tied_itself}
+use Rattle.std.proofs.lemmas.List.Sorted.{IsPermutation-sym}
 use Rattle.std.specs.Cmp.{IsTotalOrder}
 use Rattle.std.specs.FinMap.{IsAntisymmetric}
 use Rattle.std.specs.List.{list_all}
@@ -15,12 +16,13 @@ use Rattle.sqlite.specs.Term.{Term, holds}
 use Rattle.sqlite.specs.Tree.{Trees, rowid}
 use Rattle.sqlite.specs.View.{is_int}
 use Rattle.sqlite.specs.declared.types.Value.TheVariants.{Int}
+use Rattle.sqlite_rules.proofs.ListLemmas.{has_filtered, has_kept}
 use Rattle.sqlite_rules.proofs.TableLemmas.{int_is}
 use Rattle.sqlite_rules.specs.Lists.{Has}
 use Rattle.sqlite.proofs.Callers.{one_permutation}
 use Rattle.vault_sql.specs.Rows.{AreRowsOf}
 use Rattle.vault_sql.specs.Shown.{one_of}
-use Rattle.vault_sql.proofs.Answers.{answers, shown_as, empty_left, filter_none, one_at}
+use Rattle.vault_sql.proofs.Answers.{answers, passing, shown_as, empty_left, filter_none, has_map, has_permuted, map_has, one_at}
 use Rattle.vault_sql.proofs.Edits.{tied}
 use Rattle.vault_sql.proofs.Terms.{query_of}
 use Rattle.vault_sql.proofs.KeyTests.{equal_is}
@@ -94,31 +96,59 @@ module _ {K X : Type 0} (cmp : K → K → Ordering) (encode : K → X → Row) 
             | Some x ↦ λ h. let it = one_row x h in it.2 ∙ ap (λ w. w ∷ []) (shows it.0 x)
           ] refl
 
-    -- a query that at most one pair passes, of which `key` is the key, shows it
-    module _ (good : K → X → Bool) (hits : (n : ℤ) (q : K) (y : X) → list_all (holds (params ∷ (Int n ∷ encode q y) ∷ [])) tests ≡ good q y)
-        (one : (a b : K) (y z : X) → held a ≡ Some y → held b ≡ Some z → good a y ≡ true → good b z ≡ true → a ≡ b) where
+    -- a query whose tests pass these pairs
+    module _ (good : K → X → Bool) (hits : (n : ℤ) (q : K) (y : X) → list_all (holds (params ∷ (Int n ∷ encode q y) ∷ [])) tests ≡ good q y) where
       good_row : (r : Row) → Has (db tree) r → list_all (holds (params ∷ r ∷ [])) tests ≡ true → (q : K) × (y : X) × (held q ≡ Some y) × (good q y ≡ true) × (drop 1 r ≡ encode q y)
       good_row r h e =
           let it = are.sound r h in
           let is = whole r (encode it.0 it.1) (are.keyed r h) it.2 in
           (it.0, it.1, it.3, sym (hits (id_in (rowid r)) it.0 it.1) ∙ ap (λ s. list_all (holds (params ∷ s ∷ [])) tests) (sym is) ∙ e, it.2)
 
-      pub reads_one : (show : K → Row) → ((n : ℤ) (q : K) (y : X) → shown_as params project (Int n ∷ encode q y) ≡ show q) → (key : Option K)
-          → ((q : K) → key ≡ Some q → (y : X) × (held q ≡ Some y) × (good q y ≡ true)) → (key ≡ None → (q : K) (y : X) → held q ≡ Some y → good q y ≡ true → ⊥)
-          → (rows : List Row) → IsAnswer (query_of tree tests project) (overlay db []) params rows → rows ≡ one_of show key
-      reads_one show shows key some none rows answer =
-          let same = answers db params tree tests project plain rows answer in
-          let passes = λ (r : Row). list_all (holds (params ∷ r ∷ [])) tests in
-          elim key as (λ o. key ≡ o → rows ≡ one_of show o) [
-            | None ↦ λ h. empty_left rows (subst (λ l. IsPermutation (map (shown_as params project) l) rows) (filter_none passes (db tree) (λ r there e. let it = good_row r there e in none h it.0 it.1 it.2 it.3)) same)
-            | Some q ↦ λ h.
-                let it = some q h in
-                let row = row_of (db tree) held are q it.0 it.1 in
-                let rr = Int row.0 ∷ encode q it.0 in
-                let only = one_at passes (db tree) rr are.apart row.1 (hits row.0 q it.0 ∙ it.2) (λ r there e.
-                let other = good_row r there e in
-                let same_key : other.0 ≡ q = one other.0 q other.1 it.0 other.2 it.1 other.3 it.2 in
-                let is : r ≡ rr = are.once r rr q other.1 it.0 there row.1 (other.4 ∙ ap (λ k. encode k other.1) same_key) refl in
-                tied row.0 r rr (ap rowid is) refl) in
-                one_permutation (show q) rows (subst (λ l. IsPermutation l rows) (ap (map (shown_as params project)) only ∙ ap (λ w. w ∷ []) (shows row.0 q it.0)) same)
-          ] refl
+      module _ (show : K → X → Row) (shows : (n : ℤ) (q : K) (y : X) → shown_as params project (Int n ∷ encode q y) ≡ show q y) (rows : List Row)
+          (answer : IsAnswer (query_of tree tests project) (overlay db []) params rows) where
+        shown_good : (r : Row) → Has (passing params tests (db tree)) r → (q : K) × (y : X) × (held q ≡ Some y) × (good q y ≡ true) × (shown_as params project r ≡ show q y)
+        shown_good r h =
+            let kept = has_filtered (λ s. list_all (holds (params ∷ s ∷ [])) tests) (db tree) r h in
+            let it = good_row r kept.0 kept.1 in
+            let is = whole r (encode it.0 it.1) (are.keyed r kept.0) it.4 in
+            (it.0, it.1, it.2, it.3, subst (λ s. shown_as params project s ≡ show it.0 it.1) (sym is) (shows (id_in (rowid r)) it.0 it.1))
+
+        -- each row that is shown is such a pair
+        pub shows_good : (r : Row) → Has rows r → (q : K) × (y : X) × (held q ≡ Some y) × (good q y ≡ true) × (r ≡ show q y)
+        shows_good r h =
+            let these = map (shown_as params project) (passing params tests (db tree)) in
+            let same = answers db params tree tests project plain rows answer in
+            let from = has_map (shown_as params project) (passing params tests (db tree)) r (has_permuted rows these r (IsPermutation-sym these rows same) h) in
+            let it = shown_good from.0 from.1 in
+            (it.0, it.1, it.2, it.3, from.2 ∙ it.4)
+
+        -- and each such pair is shown
+        pub good_shown : (q : K) (y : X) → held q ≡ Some y → good q y ≡ true → Has rows (show q y)
+        good_shown q y h e =
+            let these = map (shown_as params project) (passing params tests (db tree)) in
+            let same = answers db params tree tests project plain rows answer in
+            let row = row_of (db tree) held are q y h in
+            let kept = has_kept (λ s. list_all (holds (params ∷ s ∷ [])) tests) (db tree) (Int row.0 ∷ encode q y) row.1 (hits row.0 q y ∙ e) in
+            subst (Has rows) (shows row.0 q y) (has_permuted these rows _ same (map_has (shown_as params project) (passing params tests (db tree)) (Int row.0 ∷ encode q y) kept))
+
+      -- at most one pair passes, of which `key` is the key, and it is shown
+      module _ (one : (a b : K) (y z : X) → held a ≡ Some y → held b ≡ Some z → good a y ≡ true → good b z ≡ true → a ≡ b) where
+        pub reads_one : (show : K → Row) → ((n : ℤ) (q : K) (y : X) → shown_as params project (Int n ∷ encode q y) ≡ show q) → (key : Option K)
+            → ((q : K) → key ≡ Some q → (y : X) × (held q ≡ Some y) × (good q y ≡ true)) → (key ≡ None → (q : K) (y : X) → held q ≡ Some y → good q y ≡ true → ⊥)
+            → (rows : List Row) → IsAnswer (query_of tree tests project) (overlay db []) params rows → rows ≡ one_of show key
+        reads_one show shows key some none rows answer =
+            let same = answers db params tree tests project plain rows answer in
+            let passes = λ (r : Row). list_all (holds (params ∷ r ∷ [])) tests in
+            elim key as (λ o. key ≡ o → rows ≡ one_of show o) [
+              | None ↦ λ h. empty_left rows (subst (λ l. IsPermutation (map (shown_as params project) l) rows) (filter_none passes (db tree) (λ r there e. let it = good_row r there e in none h it.0 it.1 it.2 it.3)) same)
+              | Some q ↦ λ h.
+                  let it = some q h in
+                  let row = row_of (db tree) held are q it.0 it.1 in
+                  let rr = Int row.0 ∷ encode q it.0 in
+                  let only = one_at passes (db tree) rr are.apart row.1 (hits row.0 q it.0 ∙ it.2) (λ r there e.
+                  let other = good_row r there e in
+                  let same_key : other.0 ≡ q = one other.0 q other.1 it.0 other.2 it.1 other.3 it.2 in
+                  let is : r ≡ rr = are.once r rr q other.1 it.0 there row.1 (other.4 ∙ ap (λ k. encode k other.1) same_key) refl in
+                  tied row.0 r rr (ap rowid is) refl) in
+                  one_permutation (show q) rows (subst (λ l. IsPermutation l rows) (ap (map (shown_as params project)) only ∙ ap (λ w. w ∷ []) (shows row.0 q it.0)) same)
+            ] refl

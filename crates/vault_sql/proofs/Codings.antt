@@ -1,5 +1,5 @@
 -- How each table writes its keys and values, and what the tests of a key come to.
-use Rattle.std.proofs.Common.{◌≡◌, ℕ, ℤ, pos, [], ◌∷◌, ◌==◌, Option, Some, None, cond, refl, sym, ap, ◌∙◌}
+use Rattle.std.proofs.Common.{◌≡◌, ℕ, ℤ, pos, [], ◌∷◌, ◌==◌, Option, Some, None, cond, is_eq, refl, sym, ap, ◌∙◌}
 use Rattle.std.specs.List.{list_all}
 use Rattle.std.specs.Ordering.{nat_cmp, eq_by_cmp}
 use Rattle.sqlite.specs.Order.{Row, column}
@@ -142,9 +142,10 @@ pub merchant_hits : (m : Bytes) (more : Row) (n : ℤ) (q : Bytes) (y : Lives)
     → list_all (holds ((Text m ∷ more) ∷ (Int n ∷ merchant_row q y) ∷ [])) by_one ≡ eq_by_cmp bytes_cmp q m
 merchant_hits m more n q y = rw (text_eq q m) (and_true _)
 
-pub count_hits : (key : Bytes × ℕ) (more : Row) (n : ℤ) (q : Bytes × ℕ) (y : ℕ)
-    → list_all (holds ((Text key.0 ∷ Int (pos key.1) ∷ more) ∷ (Int n ∷ count_row q y) ∷ [])) by_two ≡ eq_by_cmp record_cmp q key
-count_hits key more n q y = rw (text_eq q.0 key.0, number_eq q.1 key.1) (two_tests (bytes_cmp q.0 key.0) (nat_cmp q.1 key.1))
+-- each count of the merchant passes, whatever its kind
+pub counts_hit : (m : Bytes) (more : Row) (n : ℤ) (q : Bytes × ℕ) (y : ℕ)
+    → list_all (holds ((Text m ∷ more) ∷ (Int n ∷ count_row q y) ∷ [])) by_one ≡ is_eq (bytes_cmp q.0 m)
+counts_hit m more n q y = rw (text_eq q.0 m) (and_true _)
 
 pub entry_hits : (key : Bytes × Bytes) (more : Row) (n : ℤ) (q : Bytes × Bytes) (y : Entry)
     → list_all (holds ((Text key.0 ∷ Text key.1 ∷ more) ∷ (Int n ∷ entry_row q y) ∷ [])) by_two ≡ eq_by_cmp entry_cmp q key

@@ -36,11 +36,11 @@ use Rattle.vault_store.proofs.LiveLemmas.{one_live}
 use Rattle.vault_sql.specs.Holds.{Holds}
 use Rattle.vault_sql.specs.Rows.{text_or_null, number_or_null, use_number, lives_columns, merchant_row, count_row, entry_columns, entry_row, record_columns, record_row, right_row}
 use Rattle.vault_sql.specs.Schema.{vault_schema}
-use Rattle.vault_sql.specs.Shown.{one_of, number_column, text_column}
+use Rattle.vault_sql.specs.Shown.{one_of, number_column, text_column, count_columns, ShowsCounts}
 use Rattle.vault_sql.specs.Stands.{lives_in, count_at, unless_zero, lookups_of}
-use Rattle.vault_sql.proofs.ByKey.{reads_key, reads_one}
-use Rattle.vault_sql.proofs.Codings.{merchant_coding, count_coding, entry_coding, record_coding, right_coding, merchant_hits, count_hits, entry_hits, record_hits, right_hits}
-use Rattle.vault_sql.proofs.QueryTexts.{merchant_text, merchant_shown, merchant_is, count_text, count_is, entry_text, entry_shown, entry_is, record_text, record_shown, record_is, right_text, right_is, current_text, current_tests, current_is}
+use Rattle.vault_sql.proofs.ByKey.{good_shown, reads_key, reads_one, shows_good}
+use Rattle.vault_sql.proofs.Codings.{merchant_coding, count_coding, entry_coding, record_coding, right_coding, merchant_hits, counts_hit, entry_hits, record_hits, right_hits}
+use Rattle.vault_sql.proofs.QueryTexts.{merchant_text, merchant_shown, merchant_is, counts_text, counts_shown, counts_is, entry_text, entry_shown, entry_is, record_text, record_shown, record_is, right_text, right_is, current_text, current_tests, current_is}
 use Rattle.vault_sql.proofs.Terms.{by_one, by_two, by_three}
 use Rattle.vault_sql.proofs.KeyTests.{text_eq, number_eq, and_true, equal_is}
 
@@ -51,11 +51,21 @@ module _ (old new : State) (V : Vault) (h : Holds old V) (rows : List Row) where
       reads_key bytes_cmp merchant_row merchant_coding old.now.trees params 1 by_one merchant_shown refl (lookups_of V).merchants h.stands.merchants m (merchant_hits m []) rows
       ((reads_as merchant_text params old new vault_schema h.schema _ merchant_is.is merchant_is.plain merchant_is.unlisted rows shown).answer Null) lives_columns (λ n x. refl)
 
-  pub shows_count : (m : Bytes) (kind : ℕ) → Shown count_text (Text m ∷ Int (pos kind) ∷ []) old new rows → rows ≡ one_of number_column (unless_zero (count_at V m kind))
-  shows_count m kind shown =
-      let params = Text m ∷ Int (pos kind) ∷ [] in
-      reads_key record_cmp count_row count_coding old.now.trees params 3 by_two (col 1 3 ∷ []) refl (lookups_of V).counts h.stands.counts (m, kind) (count_hits (m, kind) []) rows
-      ((reads_as count_text params old new vault_schema h.schema _ count_is.is count_is.plain count_is.unlisted rows shown).answer Null) number_column (λ n x. refl)
+  pub shows_counts : (m : Bytes) → Shown counts_text (Text m ∷ []) old new rows → ShowsCounts rows V m
+  shows_counts m shown =
+      let params = Text m ∷ [] in
+      let answer = (reads_as counts_text params old new vault_schema h.schema _ counts_is.is counts_is.plain counts_is.unlisted rows shown).answer Null in
+      let good = λ (q : Bytes × ℕ) (y : ℕ). is_eq (bytes_cmp q.0 m) in
+      let show = λ (q : Bytes × ℕ) (y : ℕ). count_columns q.1 y in
+      record {
+        sound = λ r there.
+            let it = shows_good record_cmp count_row count_coding old.now.trees params 3 by_one counts_shown refl (lookups_of V).counts h.stands.counts good (counts_hit m []) show (λ n q y. refl) rows answer r there in
+            let same : it.0.0 ≡ m = bytes_exact it.0.0 m (equal_is _ it.3) in
+            (it.0.1, it.1, it.4, ap (λ k. unless_zero (count_at V k it.0.1)) (sym same) ∙ it.2);
+        complete = λ kind total is.
+            good_shown record_cmp count_row count_coding old.now.trees params 3 by_one counts_shown refl (lookups_of V).counts h.stands.counts good (counts_hit m []) show (λ n q y. refl) rows answer
+            (m, kind) total is (ap is_eq (tied_itself bytes_total m));
+      }
 
   pub shows_entry : (m token : Bytes) → Shown entry_text (Text m ∷ Text token ∷ []) old new rows → rows ≡ one_of entry_columns (entry_at V m token)
   shows_entry m token shown =

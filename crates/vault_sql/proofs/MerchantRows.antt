@@ -1,13 +1,38 @@
 -- The row of a merchant, put together from its own table and its counts.
-use Rattle.std.proofs.Common.{◌≡◌, ℕ, Option, Some, None, option_map, refl, sym, ap, ◌∙◌}
+use Rattle.std.proofs.Common.{◌≡◌, inl, inr, ℕ, pos, ◌==◌, true, false, cond, List, Option, Some, None, option_map, refl, sym, ap, ◌∙◌, arith}
+use Rattle.std.proofs.lemmas.Bool.Decides.{nat_tests}
+use Rattle.std.proofs.lemmas.Grind.{common_steps}
 use Rattle.std.specs.Option.{option_map_or}
+use Rattle.sqlite.specs.Order.{Row, column}
+use Rattle.sqlite.specs.declared.types.Value.TheVariants.{Int}
 use Rattle.vault_core.proofs.Finds.{some_same}
 use Rattle.vault_core.specs.Keys.{Bytes}
 use Rattle.vault_core.specs.Vault.{Vault, Merchant, merchant_at, made}
 use Rattle.vault_core.specs.Window.{row_at, row_of}
 use Rattle.vault_core.specs.declared.row.MerchantRow.{MerchantRow}
-use Rattle.vault_sql.specs.Stands.{count_at, lives_in}
+use Rattle.vault_sql.specs.Shown.{IsTotalOf, ShowsCounts}
+use Rattle.vault_sql.specs.Stands.{count_at, lives_in, unless_zero}
 use Rattle.vault_sql.specs.declared.merchants.Lives.{Lives}
+
+-- a count that is shown is the count, and one that isn't is 0
+shown_or_zero : (n : ℕ) → ((total : ℕ) → unless_zero n ≡ Some total → total ≡ n) × (((total : ℕ) → unless_zero n ≡ Some total → ⊥) → 0 ≡ n)
+shown_or_zero n =
+    elim (n == 0) as (λ b. (n == 0) ≡ b → ((total : ℕ) → cond b None (Some n) ≡ Some total → total ≡ n) × (((total : ℕ) → cond b None (Some n) ≡ Some total → ⊥) → 0 ≡ n)) [
+      | true ↦ λ e. (λ total is. let clash = is in cc, λ none. let zero : n ≡ 0 = grind (arith, nat_tests, common_steps) in sym zero)
+      | false ↦ λ e. (λ total is. sym (some_same is), λ none. absurd (none n refl))
+    ] refl
+
+-- the total of a kind among the rows of a merchant's counts is its count of that kind
+pub total_is : (V : Vault) (m : Bytes) (rows : List Row) (kind total : ℕ) → ShowsCounts rows V m → IsTotalOf kind rows total → total ≡ count_at V m kind
+total_is V m rows kind total shows (inl it) =
+    let row = shows.sound it.0 it.1 in
+    let of_kind : Int (pos row.0) ≡ Int (pos kind) = sym (ap (λ r. column r 0) row.2) ∙ it.2 in
+    let has_total : Int (pos row.1) ≡ Int (pos total) = sym (ap (λ r. column r 1) row.2) ∙ it.3 in
+    let same_kind : row.0 ≡ kind = cc in
+    let same_total : row.1 ≡ total = cc in
+    (shown_or_zero (count_at V m kind)).0 total (sym (ap (λ k. unless_zero (count_at V m k)) same_kind) ∙ row.3 ∙ ap (λ n. Some n) same_total)
+total_is V m rows kind total shows (inr none) =
+    none.0 ∙ (shown_or_zero (count_at V m kind)).1 (λ n is. none.1 _ (shows.complete kind n is) refl)
 
 abbrev row_with : Lives → ℕ → ℕ → ℕ → MerchantRow
 row_with x made given denied = record {

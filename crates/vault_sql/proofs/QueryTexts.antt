@@ -30,12 +30,15 @@ pub merchant_is : IsQuery merchant_text (select_of (query_of 1 by_one merchant_s
 unfolding understood everything
 merchant_is = record { is = refl; plain = (refl, refl); unlisted = refl }
 
-abbrev pub count_text : List ℕ
-count_text = codes "SELECT total FROM counts WHERE merchant = ?1 AND kind = ?2"
+abbrev pub counts_text : List ℕ
+counts_text = codes "SELECT kind, total FROM counts WHERE merchant = ?1"
 
-pub count_is : IsQuery count_text (select_of (query_of 3 by_two (col 1 3 ∷ [])) (codes "total" ∷ []))
+abbrev pub counts_shown : List Term
+counts_shown = col 1 2 ∷ col 1 3 ∷ []
+
+pub counts_is : IsQuery counts_text (select_of (query_of 3 by_one counts_shown) (codes "kind" ∷ codes "total" ∷ []))
 unfolding understood everything
-count_is = record { is = refl; plain = (refl, refl); unlisted = refl }
+counts_is = record { is = refl; plain = (refl, refl); unlisted = refl }
 
 abbrev pub entry_text : List ℕ
 entry_text = codes "SELECT number, usage, birth, expires, revoked FROM entries WHERE merchant = ?1 AND token = ?2"

@@ -10,8 +10,8 @@ ghost use Rattle.vault_core.specs.Window.{row_at};
 ghost use Rattle.vault_core.specs.Keys.{bytes_cmp};
 ghost use Rattle.vault_sql.specs.Holds.{Holds, LeavesNoMore, StillHolds, Takes};
 ghost use Rattle.vault_sql.specs.Rows.{lives_columns};
-ghost use Rattle.vault_sql.specs.Shown.{one_of, number_column, ShowsLives};
-ghost use Rattle.vault_sql.specs.Stands.{count_at, lives_in, unless_zero};
+ghost use Rattle.vault_sql.specs.Shown.{one_of, number_column, IsTotalOf, ShowsCounts, ShowsLives};
+ghost use Rattle.vault_sql.specs.Stands.{lives_in};
 ghost use Rattle.vault_sql.specs.Written.{HasRoomAt, put, raise_at};
 
 use crate::columns::moment_in;
@@ -24,7 +24,7 @@ use vault_core::row::MerchantRow;
 
 const LIVES: &str = "SELECT single_life, multi_life, moment FROM merchants WHERE name = ?1";
 
-const COUNT: &str = "SELECT total FROM counts WHERE merchant = ?1 AND kind = ?2";
+const COUNTS: &str = "SELECT kind, total FROM counts WHERE merchant = ?1";
 
 const HOW_MANY: &str = "SELECT count(*) FROM merchants";
 
@@ -91,30 +91,28 @@ fn lives_at<S: Alter>(conn: &mut Connection<S>, m: &MerchantId) -> Result<Option
     }
 }
 
-/// The row of a merchant's count of this kind.
-fn count_rows<S: Alter>(conn: &mut Connection<S>, m: &str, kind: u8) -> Result<Vec<Row>, Error>
-    ensures told { HasCleanDisk (state S.Store conn.new) → IfOk result (λ rows. (V : Vault) → Holds (state S.Store conn.old) V → rows.items ≡ one_of number_column (unless_zero (count_at V m.now kind))) }
+/// The rows of a merchant's counts.
+fn count_rows<S: Alter>(conn: &mut Connection<S>, m: &str) -> Result<Vec<Row>, Error>
+    ensures told { HasCleanDisk (state S.Store conn.new) → IfOk result (λ rows. (V : Vault) → Holds (state S.Store conn.old) V → ShowsCounts rows.items V m.now) }
     ensures kept { HasCleanDisk (state S.Store conn.new) → OnOk result (StillHolds (state S.Store conn.old) (state S.Store conn.new)) }
     ensures idle { conn.old.in_transaction ≡ false → conn.new.in_transaction ≡ false }
     ensures clean { doubt (state S.Store conn.old).is_clean ≤ doubt (state S.Store conn.new).is_clean }
     ensures left { HasCleanDisk (state S.Store conn.new) → (V : Vault) → Holds (state S.Store conn.old) V → LeavesNoMore (state S.Store conn.old) (state S.Store conn.new) }
 {
-    conn.query_all(COUNT, params![m, kind as i64])
+    conn.query_all(COUNTS, params![m])
 }
 
-/// A merchant's count of this kind.
-fn count<S: Alter>(conn: &mut Connection<S>, m: &MerchantId, kind: u8) -> Result<u64, StoreFault>
-    ensures told { HasCleanDisk (state S.Store conn.new) → IfOk result (λ found. (V : Vault) → Holds (state S.Store conn.old) V → found ≡ count_at V m.now kind) }
-    ensures kept { HasCleanDisk (state S.Store conn.new) → OnOk result (StillHolds (state S.Store conn.old) (state S.Store conn.new)) }
-    ensures idle { conn.old.in_transaction ≡ false → conn.new.in_transaction ≡ false }
-    ensures clean { doubt (state S.Store conn.old).is_clean ≤ doubt (state S.Store conn.new).is_clean }
-    ensures left { HasCleanDisk (state S.Store conn.new) → (V : Vault) → Holds (state S.Store conn.old) V → LeavesNoMore (state S.Store conn.old) (state S.Store conn.new) }
+/// The total that rows of counts show of this kind.
+fn total_of(rows: &[Row], kind: u8) -> Result<u64, StoreFault>
+    ensures { IfOk result (IsTotalOf kind rows.now) }
 {
-    let rows = count_rows(conn, merchant_text(m), kind)?;
-    match rows.first() {
-        Some(row) => Ok(row.get(0)?),
-        None => Ok(0),
+    for row in rows {
+        let found: u64 = row.get(0)?;
+        if found == kind as u64 {
+            return Ok(row.get(1)?);
+        }
     }
+    Ok(0)
 }
 
 /// The row of a merchant.
@@ -131,9 +129,10 @@ pub(crate) fn merchant<S: Alter>(
     let Some(lives) = lives_at(conn, m)? else {
         return Ok(None);
     };
-    let made = count(conn, m, MADE)?;
-    let given = count(conn, m, GIVEN)?;
-    let denied = count(conn, m, DENIED)?;
+    let counts = count_rows(conn, merchant_text(m))?;
+    let made = total_of(&counts, MADE)?;
+    let given = total_of(&counts, GIVEN)?;
+    let denied = total_of(&counts, DENIED)?;
     Ok(Some(MerchantRow {
         single_life: lives.single_life,
         multi_life: lives.multi_life,
