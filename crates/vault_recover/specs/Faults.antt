@@ -1,0 +1,10 @@
+-- The numbers of the refusals of an open.
+use Rattle.std.specs.Prelude.{ℕ}
+use Rattle.vault_recover.specs.declared.fault.OpenFault.{OpenFault}
+use Rattle.vault_recover.specs.declared.fault.OpenFault.TheVariants.{WrongSchema, Damaged, Memory, Store}
+
+abbrev pub number_of : OpenFault → ℕ
+number_of (WrongSchema version) = 30
+number_of (Damaged rule) = 31
+number_of Memory = 32
+number_of Store = 33

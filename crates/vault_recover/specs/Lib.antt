@@ -1,0 +1,4 @@
+pub mod Faults
+pub mod Opened
+pub mod Raw
+pub mod Reading

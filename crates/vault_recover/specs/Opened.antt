@@ -1,0 +1,62 @@
+-- What an open finds.
+use Rattle.std.specs.Prelude.{◌≡◌, ℕ, List, map}
+use Rattle.std.specs.List.Sorted.{IsPermutation}
+use Rattle.sqlite.specs.Effect.{Database}
+use Rattle.sqlite.specs.State.{State}
+use Rattle.sqlite.specs.Tree.{Trees}
+use Rattle.vault_core.specs.Sound.{Sound}
+use Rattle.vault_core.specs.Vault.{Vault}
+use Rattle.vault_recover.specs.Raw.{version_values, merchant_values, count_values, entry_values, record_values, right_values}
+use Rattle.vault_recover.specs.Reading.{IsOurs, shown_by, version_columns}
+use Rattle.vault_rules.specs.Rules as rules
+use Rattle.vault_rules.specs.declared.rows.RawVersion.{RawVersion}
+use Rattle.vault_rules.specs.declared.rows.RawMerchant.{RawMerchant}
+use Rattle.vault_rules.specs.declared.rows.RawCount.{RawCount}
+use Rattle.vault_rules.specs.declared.rows.RawEntry.{RawEntry}
+use Rattle.vault_rules.specs.declared.rows.RawRecord.{RawRecord}
+use Rattle.vault_rules.specs.declared.rows.RawRight.{RawRight}
+use Rattle.vault_rules.specs.declared.rows.Rows.{Rows}
+use Rattle.vault_sql.specs.Holds.{Holds}
+use Rattle.vault_sql.specs.Schema.{vault_schema}
+use Rattle.vault_sql.specs.Stands.{Stands}
+
+-- the rows of `vault` as they stand, in some order
+abbrev pub AreVersions : Trees → List RawVersion → Type 0
+AreVersions db versions = IsPermutation (map (shown_by version_columns) (db 0)) (map version_values versions)
+
+-- those of merchants and their counts
+pub record AreMerchants (db : Trees) (merchants : List RawMerchant) (counts : List RawCount) : Type 0 where
+  pub merchants_are : IsPermutation (db 1) (map merchant_values merchants)
+  pub counts_are : IsPermutation (db 3) (map count_values counts)
+
+-- those of entries, records and rights
+pub record AreOthers (db : Trees) (entries : List RawEntry) (records : List RawRecord) (rights : List RawRight) : Type 0 where
+  pub entries_are : IsPermutation (db 5) (map entry_values entries)
+  pub records_are : IsPermutation (db 8) (map record_values records)
+  pub rights_are : IsPermutation (db 10) (map right_values rights)
+
+-- those of all tables
+pub record AreRaws (db : Trees) (rows : Rows) : Type 0 where
+  pub versions : AreVersions db rows.versions.items
+  pub merchants : AreMerchants db rows.merchants.items rows.counts.items
+  pub others : AreOthers db rows.entries.items rows.records.items rows.rights.items
+
+-- the rows break this rule, and none below it
+pub record IsLeastBroken (db : Database) (rule : ℕ) : Type 0 where
+  pub rows : Rows
+  pub ours : IsOurs db
+  pub are : AreRaws db.trees rows
+  pub least : rules.IsLeastBroken rows rule
+
+-- the database stands for a sound vault
+pub record StandsSound (db : Database) : Type 0 where
+  pub schema : db.schema ≡ vault_schema
+  pub vault : Vault
+  pub sound : Sound vault
+  pub stands : Stands db.trees vault
+
+-- the connection holds a sound vault
+pub record HoldsSound (s : State) : Type 0 where
+  pub vault : Vault
+  pub sound : Sound vault
+  pub holds : Holds s vault

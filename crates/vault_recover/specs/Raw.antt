@@ -1,0 +1,42 @@
+-- The rows of the tables as lists of values.
+use Rattle.std.specs.Prelude.{ℤ, [], ◌∷◌, Option, Some, None, option_map, string_bytes}
+use Rattle.sqlite.specs.declared.types.Value.{Value}
+use Rattle.sqlite.specs.declared.types.Value.TheVariants.{Null, Int, Text}
+use Rattle.sqlite.specs.Order.{Row}
+use Rattle.vault_sql.specs.Rows.{text_or_null}
+use Rattle.vault_rules.specs.declared.rows.RawVersion.{RawVersion}
+use Rattle.vault_rules.specs.declared.rows.RawMerchant.{RawMerchant}
+use Rattle.vault_rules.specs.declared.rows.RawCount.{RawCount}
+use Rattle.vault_rules.specs.declared.rows.RawEntry.{RawEntry}
+use Rattle.vault_rules.specs.declared.rows.RawRecord.{RawRecord}
+use Rattle.vault_rules.specs.declared.rows.RawRight.{RawRight}
+
+-- a whole number, or NULL
+abbrev pub int_value : Option ℤ → Value
+int_value None = Null
+int_value (Some n) = Int n
+
+-- its id, which the database keeps as the rowid, and the version
+abbrev pub version_values : RawVersion → Row
+version_values v = Int v.id ∷ Int v.version ∷ []
+
+abbrev pub merchant_values : RawMerchant → Row
+merchant_values m =
+    Int m.rowid ∷ Text (string_bytes m.name) ∷ Int m.single_life ∷ Int m.multi_life ∷ Int m.moment ∷ []
+
+abbrev pub count_values : RawCount → Row
+count_values c = Int c.rowid ∷ Text (string_bytes c.merchant) ∷ Int c.kind ∷ Int c.total ∷ []
+
+abbrev pub entry_values : RawEntry → Row
+entry_values e =
+    Int e.rowid ∷ Text (string_bytes e.merchant) ∷ Text (string_bytes e.token) ∷ text_or_null (option_map (λ number. string_bytes number) e.number) ∷ Int e.usage
+    ∷ Int e.birth ∷ Int e.expires ∷ int_value e.revoked ∷ []
+
+abbrev pub record_values : RawRecord → Row
+record_values r =
+    Int r.rowid ∷ Text (string_bytes r.caller) ∷ Int r.request ∷ Text (string_bytes r.merchant)
+    ∷ Text (string_bytes r.token) ∷ Int r.usage ∷ []
+
+abbrev pub right_values : RawRight → Row
+right_values r =
+    Int r.rowid ∷ Text (string_bytes r.caller) ∷ Text (string_bytes r.merchant) ∷ Int r.what ∷ []

@@ -1,0 +1,10 @@
+//! A vault's file is opened, and checked whole.
+#![tactic(auto)]
+
+mod fault;
+mod raws;
+mod read;
+mod rows;
+mod table;
+
+pub use fault::OpenFault;

@@ -1,0 +1,116 @@
+//! Each table is read by one query, ordered by its key.
+ghost use Rattle.std.specs.List.Sorted.{IsPermutation};
+ghost use Rattle.std.specs.Prelude.{◌≡◌, map, IfOk, OnOk};
+ghost use Rattle.sqlite.specs.Effect.{IsDatabase};
+ghost use Rattle.sqlite.specs.Held.{state};
+ghost use Rattle.sqlite.specs.State.{HasCleanDisk, IsUnchanged};
+ghost use Rattle.vault_recover.specs.Raw.{version_values, merchant_values, count_values, entry_values, record_values, right_values};
+ghost use Rattle.vault_recover.specs.Reading.{IsOurs, IsQuiet, shown_by, version_columns};
+ghost use Rattle.vault_sql.specs.Schema.{vault_schema};
+
+use crate::fault::OpenFault;
+use crate::raws;
+use crate::table::table_rows;
+use sqlite::{Alter, Connection};
+use std::alloc::Global;
+use vault_rules::rows::{RawCount, RawEntry, RawMerchant, RawRecord, RawRight, RawVersion};
+
+const VERSIONS: &str = "SELECT id, version FROM vault ORDER BY id";
+
+const MERCHANTS: &str =
+    "SELECT rowid, name, single_life, multi_life, moment FROM merchants ORDER BY name";
+
+const COUNTS: &str = "SELECT rowid, merchant, kind, total FROM counts ORDER BY merchant, kind";
+
+const ENTRIES: &str =
+    "SELECT rowid, merchant, token, number, usage, birth, expires, revoked FROM entries ORDER BY merchant, token";
+
+const RECORDS: &str =
+    "SELECT rowid, caller, request, merchant, token, usage FROM records ORDER BY caller, request";
+
+const RIGHTS: &str =
+    "SELECT rowid, caller, merchant, what FROM rights ORDER BY caller, merchant, what";
+
+/// The rows of `vault`.
+pub(crate) fn versions<S: Alter>(
+    alloc: Global,
+    conn: &mut Connection<S>,
+) -> Result<Vec<RawVersion>, OpenFault>
+    ensures told { HasCleanDisk (state S.Store conn.new) → IfOk result (λ raws. IsOurs (state S.Store conn.old).now → IsPermutation (map (shown_by version_columns) ((state S.Store conn.old).now.trees 0)) (map version_values raws.items)) }
+    ensures live { HasCleanDisk (state S.Store conn.new) → OnOk result ((state S.Store conn.old).now.schema ≡ vault_schema → IsDatabase (state S.Store conn.old).now) }
+    ensures kept { HasCleanDisk (state S.Store conn.new) → OnOk result ((state S.Store conn.old).now.schema ≡ vault_schema → IsUnchanged (state S.Store conn.old) (state S.Store conn.new)) }
+    ensures quiet { IsQuiet (state S.Store conn.old) (state S.Store conn.new) }
+{
+    let rows = table_rows(conn, VERSIONS)?;
+    raws::versions(alloc, &rows)
+}
+
+/// The rows of `merchants`.
+pub(crate) fn merchants<S: Alter>(
+    alloc: Global,
+    conn: &mut Connection<S>,
+) -> Result<Vec<RawMerchant>, OpenFault>
+    ensures told { HasCleanDisk (state S.Store conn.new) → IfOk result (λ raws. IsOurs (state S.Store conn.old).now → IsPermutation ((state S.Store conn.old).now.trees 1) (map merchant_values raws.items)) }
+    ensures live { HasCleanDisk (state S.Store conn.new) → OnOk result ((state S.Store conn.old).now.schema ≡ vault_schema → IsDatabase (state S.Store conn.old).now) }
+    ensures kept { HasCleanDisk (state S.Store conn.new) → OnOk result ((state S.Store conn.old).now.schema ≡ vault_schema → IsUnchanged (state S.Store conn.old) (state S.Store conn.new)) }
+    ensures quiet { IsQuiet (state S.Store conn.old) (state S.Store conn.new) }
+{
+    let rows = table_rows(conn, MERCHANTS)?;
+    raws::merchants(alloc, &rows)
+}
+
+/// The rows of `counts`.
+pub(crate) fn counts<S: Alter>(
+    alloc: Global,
+    conn: &mut Connection<S>,
+) -> Result<Vec<RawCount>, OpenFault>
+    ensures told { HasCleanDisk (state S.Store conn.new) → IfOk result (λ raws. IsOurs (state S.Store conn.old).now → IsPermutation ((state S.Store conn.old).now.trees 3) (map count_values raws.items)) }
+    ensures live { HasCleanDisk (state S.Store conn.new) → OnOk result ((state S.Store conn.old).now.schema ≡ vault_schema → IsDatabase (state S.Store conn.old).now) }
+    ensures kept { HasCleanDisk (state S.Store conn.new) → OnOk result ((state S.Store conn.old).now.schema ≡ vault_schema → IsUnchanged (state S.Store conn.old) (state S.Store conn.new)) }
+    ensures quiet { IsQuiet (state S.Store conn.old) (state S.Store conn.new) }
+{
+    let rows = table_rows(conn, COUNTS)?;
+    raws::counts(alloc, &rows)
+}
+
+/// The rows of `entries`.
+pub(crate) fn entries<S: Alter>(
+    alloc: Global,
+    conn: &mut Connection<S>,
+) -> Result<Vec<RawEntry>, OpenFault>
+    ensures told { HasCleanDisk (state S.Store conn.new) → IfOk result (λ raws. IsOurs (state S.Store conn.old).now → IsPermutation ((state S.Store conn.old).now.trees 5) (map entry_values raws.items)) }
+    ensures live { HasCleanDisk (state S.Store conn.new) → OnOk result ((state S.Store conn.old).now.schema ≡ vault_schema → IsDatabase (state S.Store conn.old).now) }
+    ensures kept { HasCleanDisk (state S.Store conn.new) → OnOk result ((state S.Store conn.old).now.schema ≡ vault_schema → IsUnchanged (state S.Store conn.old) (state S.Store conn.new)) }
+    ensures quiet { IsQuiet (state S.Store conn.old) (state S.Store conn.new) }
+{
+    let rows = table_rows(conn, ENTRIES)?;
+    raws::entries(alloc, &rows)
+}
+
+/// The rows of `records`.
+pub(crate) fn records<S: Alter>(
+    alloc: Global,
+    conn: &mut Connection<S>,
+) -> Result<Vec<RawRecord>, OpenFault>
+    ensures told { HasCleanDisk (state S.Store conn.new) → IfOk result (λ raws. IsOurs (state S.Store conn.old).now → IsPermutation ((state S.Store conn.old).now.trees 8) (map record_values raws.items)) }
+    ensures live { HasCleanDisk (state S.Store conn.new) → OnOk result ((state S.Store conn.old).now.schema ≡ vault_schema → IsDatabase (state S.Store conn.old).now) }
+    ensures kept { HasCleanDisk (state S.Store conn.new) → OnOk result ((state S.Store conn.old).now.schema ≡ vault_schema → IsUnchanged (state S.Store conn.old) (state S.Store conn.new)) }
+    ensures quiet { IsQuiet (state S.Store conn.old) (state S.Store conn.new) }
+{
+    let rows = table_rows(conn, RECORDS)?;
+    raws::records(alloc, &rows)
+}
+
+/// The rows of `rights`.
+pub(crate) fn rights<S: Alter>(
+    alloc: Global,
+    conn: &mut Connection<S>,
+) -> Result<Vec<RawRight>, OpenFault>
+    ensures told { HasCleanDisk (state S.Store conn.new) → IfOk result (λ raws. IsOurs (state S.Store conn.old).now → IsPermutation ((state S.Store conn.old).now.trees 10) (map right_values raws.items)) }
+    ensures live { HasCleanDisk (state S.Store conn.new) → OnOk result ((state S.Store conn.old).now.schema ≡ vault_schema → IsDatabase (state S.Store conn.old).now) }
+    ensures kept { HasCleanDisk (state S.Store conn.new) → OnOk result ((state S.Store conn.old).now.schema ≡ vault_schema → IsUnchanged (state S.Store conn.old) (state S.Store conn.new)) }
+    ensures quiet { IsQuiet (state S.Store conn.old) (state S.Store conn.new) }
+{
+    let rows = table_rows(conn, RIGHTS)?;
+    raws::rights(alloc, &rows)
+}

@@ -1,0 +1,5 @@
+pub mod Lookups
+pub mod Rules
+pub mod Showing
+pub mod Texts
+pub mod VaultOf

@@ -1,0 +1,132 @@
+-- The rules that the rows of a sound vault keep, over the rows as they stand.
+use Rattle.std.specs.Prelude.{◌≡◌, ◌<◌, ℕ, zero, suc, ℤ, pos, ◌+ℤ◌, ◌&&◌, ◌||◌, ◌==◌, not, Bool, true, false, List, [], ◌∷◌, length, slice_index_or, Option, None, option_map, option_and_then, is_none, is_some, nat_lt, bytes_eq, string_bytes, if◌then◌else◌}
+use Rattle.std.specs.Int.RustNames.{int_lt, int_le}
+use Rattle.std.specs.List.{list_all, list_any, filter_map}
+use Rattle.std.specs.Option.{option_map_or}
+use Rattle.std.specs.Ordering.{int_eq}
+use Rattle.vault_core.specs.Keys.{Bytes}
+use Rattle.vault_pan.specs.CardText.{fits}
+use Rattle.vault_rules.specs.declared.rows.RawVersion.{RawVersion}
+use Rattle.vault_rules.specs.declared.rows.RawMerchant.{RawMerchant}
+use Rattle.vault_rules.specs.declared.rows.RawCount.{RawCount}
+use Rattle.vault_rules.specs.declared.rows.RawEntry.{RawEntry}
+use Rattle.vault_rules.specs.declared.rows.RawRecord.{RawRecord}
+use Rattle.vault_rules.specs.declared.rows.RawRight.{RawRight}
+use Rattle.vault_rules.specs.declared.rows.Rows.{Rows}
+use Rattle.vault_rules.specs.Lookups.{is_known, moment_of, total_of, held_by, entry_of}
+use Rattle.vault_rules.specs.Texts.{is_name, is_token, is_pan}
+
+-- from low up to high
+abbrev pub is_within : ℤ → ℤ → ℤ → Bool
+is_within low high x = int_le low x && int_le x high
+
+-- 1: `vault` has exactly one row, and its id is 1
+abbrev pub has_one_version : List RawVersion → Bool
+has_one_version versions = length versions == 1 && list_all (λ v. int_eq v.id (pos 1)) versions
+
+-- 2: each merchant's name is a name; there are at most 10000
+abbrev pub are_named : List RawMerchant → Bool
+are_named merchants = nat_lt (length merchants) 10001 && list_all (λ m. is_name (string_bytes m.name)) merchants
+
+-- lives are 0 to 3155760000, moments 0 to 253402300799
+abbrev pub is_lasting : RawMerchant → Bool
+is_lasting m =
+    is_within (pos 0) (pos 3155760000) m.single_life && is_within (pos 0) (pos 3155760000) m.multi_life
+    && is_within (pos 0) (pos 253402300799) m.moment
+
+-- 4: a count's merchant exists, its kind is 1 to 3, its total 1 to 4611686018427387903
+abbrev pub is_count : List RawMerchant → RawCount → Bool
+is_count merchants c =
+    is_known merchants (string_bytes c.merchant) && is_within (pos 1) (pos 3) c.kind
+    && is_within (pos 1) (pos 4611686018427387903) c.total
+
+-- 5: an entry's merchant exists; its token is 10 to 19 digits that fail the check
+abbrev pub has_token : List RawMerchant → RawEntry → Bool
+has_token merchants e = is_known merchants (string_bytes e.merchant) && is_token (string_bytes e.token)
+
+-- 6: an entry's number, where there is one, is a card number, as long as the token and with its last four digits
+abbrev pub has_number : RawEntry → Bool
+has_number e =
+    option_map_or (λ number. is_pan (string_bytes number) && fits (string_bytes e.token) (string_bytes number)) e.number true
+
+-- 7: an entry's usage is 1 or 2; its birth is 0 to its merchant's moment; it expires 1 to 3155760000 seconds
+-- later; it is revoked never, or from its birth to the moment
+abbrev pub is_timed : ℤ → RawEntry → Bool
+is_timed moment e =
+    is_within (pos 1) (pos 2) e.usage && is_within (pos 0) moment e.birth
+    && is_within (e.birth +ℤ pos 1) (e.birth +ℤ pos 3155760000) e.expires
+    && option_map_or (is_within e.birth moment) e.revoked true
+
+-- 8: an erased entry is revoked, or has expired at its merchant's moment
+abbrev pub is_kept : ℤ → RawEntry → Bool
+is_kept moment e = is_some e.number || is_some e.revoked || int_le e.expires moment
+
+-- a test of each entry whose merchant exists, with the merchant's moment
+abbrev pub at_moments : List RawMerchant → (ℤ → RawEntry → Bool) → RawEntry → Bool
+at_moments merchants test e =
+    option_map_or (λ moment. test moment e) (moment_of merchants (string_bytes e.merchant)) true
+
+-- the number of a multi-use entry that is live
+abbrev pub live_number : ℤ → RawEntry → Option Bytes
+live_number moment e =
+    if int_eq e.usage (pos 2) && is_none e.revoked && int_lt moment e.expires
+    then option_map (λ number. string_bytes number) e.number
+    else None
+
+-- the merchant and the number of a multi-use entry that is live at its merchant's moment
+abbrev pub live_key : List RawMerchant → RawEntry → Option (Bytes × Bytes)
+live_key merchants e =
+    option_and_then
+    (λ moment. option_map (λ number. (string_bytes e.merchant, number)) (live_number moment e))
+    (moment_of merchants (string_bytes e.merchant))
+
+-- no pair comes twice
+abbrev pub are_distinct : List (Bytes × Bytes) → Bool
+are_distinct [] = true
+are_distinct (key ∷ keys) = not (list_any (λ other. bytes_eq key.0 other.0 && bytes_eq key.1 other.1) keys) && are_distinct keys
+
+-- 10: a merchant's made count is the number of its entries, at most 1000000
+abbrev pub is_counted : List RawCount → List RawEntry → RawMerchant → Bool
+is_counted counts entries m =
+    let held = held_by entries (string_bytes m.name) in
+    int_eq (total_of counts (string_bytes m.name) (pos 1)) (pos held) && nat_lt held 1000001
+
+-- 11: a record's caller is a name, its request is 1 or more, its entry exists and has its usage
+abbrev pub is_record : List RawEntry → RawRecord → Bool
+is_record entries r =
+    is_name (string_bytes r.caller) && int_le (pos 1) r.request
+    && option_map_or (λ (e : RawEntry). int_eq e.usage r.usage) (entry_of entries (string_bytes r.merchant) (string_bytes r.token)) false
+
+-- 12: a right's caller is a name, its merchant exists, and it is 1 to 6
+abbrev pub is_right : List RawMerchant → RawRight → Bool
+is_right merchants r =
+    is_name (string_bytes r.caller) && is_known merchants (string_bytes r.merchant) && is_within (pos 1) (pos 6) r.what
+
+-- each rule, from 1 to 12
+abbrev pub verdicts : Rows → List Bool
+verdicts rows =
+    let merchants = rows.merchants.items in
+    let entries = rows.entries.items in
+    has_one_version rows.versions.items
+    ∷ are_named merchants
+    ∷ list_all is_lasting merchants
+    ∷ list_all (is_count merchants) rows.counts.items
+    ∷ list_all (has_token merchants) entries
+    ∷ list_all has_number entries
+    ∷ list_all (at_moments merchants is_timed) entries
+    ∷ list_all (at_moments merchants is_kept) entries
+    ∷ are_distinct (filter_map (live_key merchants) entries)
+    ∷ list_all (is_counted rows.counts.items entries) merchants
+    ∷ list_all (is_record entries) rows.records.items
+    ∷ list_all (is_right merchants) rows.rights.items
+    ∷ []
+
+-- whether the rows keep the rule of this number
+abbrev pub keeps : Rows → ℕ → Bool
+keeps rows zero = true
+keeps rows (suc n) = slice_index_or (verdicts rows) n true
+
+-- the rows break this rule, and none below it
+pub record IsLeastBroken (rows : Rows) (rule : ℕ) : Type 0 where
+  pub broken : keeps rows rule ≡ false
+  pub below : (r : ℕ) → r < rule → keeps rows r ≡ true

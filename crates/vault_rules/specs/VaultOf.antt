@@ -1,0 +1,103 @@
+-- The vault that rows stand for.
+use Rattle.std.specs.Prelude.{◌≢◌, ℕ, ℤ, pos, negsuc, List, [], ◌∷◌, map, option_map, string_bytes, if◌then◌else◌}
+use Rattle.std.specs.FinMap as finite
+use Rattle.std.specs.FinSet as set
+use Rattle.std.specs.Ordering.{int_eq}
+use Rattle.sqlite_rules.specs.Lists.{Has}
+use Rattle.vault_core.specs.Keys.{Bytes}
+use Rattle.vault_core.specs.Vault.{Vault, Merchant}
+use Rattle.vault_core.specs.declared.right.Right.{Right}
+use Rattle.vault_core.specs.declared.right.Right.TheVariants.{Tokenize, Detokenize, View, Revoke, Purge, Audit}
+use Rattle.vault_core.specs.declared.row.Entry.{Entry}
+use Rattle.vault_core.specs.declared.row.Record.{Record}
+use Rattle.vault_core.specs.declared.usage.Use.{Use}
+use Rattle.vault_core.specs.declared.usage.Use.TheVariants.{Single, Multi}
+use Rattle.vault_rules.specs.Lookups.{total_of}
+use Rattle.vault_rules.specs.declared.rows.RawMerchant.{RawMerchant}
+use Rattle.vault_rules.specs.declared.rows.RawCount.{RawCount}
+use Rattle.vault_rules.specs.declared.rows.RawEntry.{RawEntry}
+use Rattle.vault_rules.specs.declared.rows.RawRecord.{RawRecord}
+use Rattle.vault_rules.specs.declared.rows.RawRight.{RawRight}
+use Rattle.vault_rules.specs.declared.rows.Rows.{Rows}
+
+-- a whole number that isn't negative
+abbrev pub natural : ℤ → ℕ
+natural (pos n) = n
+natural (negsuc n) = 0
+
+-- the use of a number
+abbrev pub use_of : ℤ → Use
+use_of n = if int_eq n (pos 2) then Multi else Single
+
+-- the right of a number
+abbrev pub right_of : ℤ → Right
+right_of n =
+    if int_eq n (pos 1) then Tokenize
+    else if int_eq n (pos 2) then Detokenize
+    else if int_eq n (pos 3) then View
+    else if int_eq n (pos 4) then Revoke
+    else if int_eq n (pos 5) then Purge
+    else Audit
+
+-- a merchant, with its counts of numbers given (2) and denied (3)
+abbrev pub merchant_value : List RawCount → RawMerchant → Merchant
+merchant_value counts m = record {
+  single_life = natural m.single_life;
+  multi_life = natural m.multi_life;
+  moment = natural m.moment;
+  given = natural (total_of counts (string_bytes m.name) (pos 2));
+  denied = natural (total_of counts (string_bytes m.name) (pos 3));
+}
+
+abbrev pub entry_key : RawEntry → Bytes × Bytes
+entry_key e = (string_bytes e.merchant, string_bytes e.token)
+
+abbrev pub entry_value : RawEntry → Entry
+entry_value e = record {
+  number = option_map (λ number. string_bytes number) e.number;
+  usage = use_of e.usage;
+  birth = natural e.birth;
+  expires = natural e.expires;
+  revoked = option_map natural e.revoked;
+}
+
+abbrev pub record_key : RawRecord → Bytes × ℕ
+record_key r = (string_bytes r.caller, natural r.request)
+
+abbrev pub record_value : RawRecord → Record
+record_value r = record { merchant = string_bytes r.merchant; token = string_bytes r.token; usage = use_of r.usage }
+
+abbrev pub right_key : RawRight → Bytes × (Bytes × Right)
+right_key r = (string_bytes r.caller, (string_bytes r.merchant, right_of r.what))
+
+-- the vault of rows in which no key comes twice
+abbrev pub vault_of : Rows → Vault
+vault_of rows = record {
+  merchants = finite.from_entries (map (λ m. (string_bytes m.name, merchant_value rows.counts.items m)) rows.merchants.items);
+  entries = finite.from_entries (map (λ e. (entry_key e, entry_value e)) rows.entries.items);
+  records = finite.from_entries (map (λ r. (record_key r, record_value r)) rows.records.items);
+  rights = set.from_list (map right_key rows.rights.items);
+}
+
+-- keys as they stand
+abbrev pub count_key : RawCount → Bytes × ℤ
+count_key c = (string_bytes c.merchant, c.kind)
+
+abbrev pub request_key : RawRecord → Bytes × ℤ
+request_key r = (string_bytes r.caller, r.request)
+
+abbrev pub number_key : RawRight → Bytes × (Bytes × ℤ)
+number_key r = (string_bytes r.caller, (string_bytes r.merchant, r.what))
+
+-- no key comes twice
+abbrev pub AreKeysApart : {R K : Type 0} → (R → K) → List R → Type 0
+AreKeysApart key [] = Unit {0}
+AreKeysApart key (row ∷ rows) = ((other : _) → Has rows other → key row ≢ key other) × AreKeysApart key rows
+
+-- of each table
+pub record HasKeysApart (rows : Rows) : Type 0 where
+  pub merchants : AreKeysApart (λ m. string_bytes m.name) rows.merchants.items
+  pub counts : AreKeysApart count_key rows.counts.items
+  pub entries : AreKeysApart entry_key rows.entries.items
+  pub records : AreKeysApart request_key rows.records.items
+  pub rights : AreKeysApart number_key rows.rights.items

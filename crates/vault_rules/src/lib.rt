@@ -1,0 +1,4 @@
+//! The rules that the rows of a sound vault keep.
+#![tactic(auto)]
+
+pub mod rows;

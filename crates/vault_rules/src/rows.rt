@@ -1,0 +1,73 @@
+//! The rows of a vault's tables as they stand.
+
+/// A row of `vault`.
+#[derive(Clone, Copy, Drop)]
+pub struct RawVersion {
+    pub id: i64,
+    pub version: i64,
+}
+
+/// A row of `merchants`.
+#[derive(Drop)]
+pub struct RawMerchant {
+    pub rowid: i64,
+    pub name: String,
+    pub single_life: i64,
+    pub multi_life: i64,
+    pub moment: i64,
+}
+
+/// A row of `counts`.
+#[derive(Drop)]
+pub struct RawCount {
+    pub rowid: i64,
+    pub merchant: String,
+    pub kind: i64,
+    pub total: i64,
+}
+
+/// A row of `entries`.
+#[derive(Drop)]
+pub struct RawEntry {
+    pub rowid: i64,
+    pub merchant: String,
+    pub token: String,
+    /// NULL where it is erased.
+    pub number: Option<String>,
+    pub usage: i64,
+    pub birth: i64,
+    pub expires: i64,
+    /// NULL where the token isn't revoked.
+    pub revoked: Option<i64>,
+}
+
+/// A row of `records`.
+#[derive(Drop)]
+pub struct RawRecord {
+    pub rowid: i64,
+    pub caller: String,
+    pub request: i64,
+    pub merchant: String,
+    pub token: String,
+    pub usage: i64,
+}
+
+/// A row of `rights`.
+#[derive(Drop)]
+pub struct RawRight {
+    pub rowid: i64,
+    pub caller: String,
+    pub merchant: String,
+    pub what: i64,
+}
+
+/// The rows of all tables. Nothing of them is printed, since entries hold card numbers.
+#[derive(Drop)]
+pub struct Rows {
+    pub versions: Vec<RawVersion>,
+    pub merchants: Vec<RawMerchant>,
+    pub counts: Vec<RawCount>,
+    pub entries: Vec<RawEntry>,
+    pub records: Vec<RawRecord>,
+    pub rights: Vec<RawRight>,
+}
