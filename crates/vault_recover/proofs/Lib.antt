@@ -1,6 +1,12 @@
 pub mod Chains
 pub mod Columns
+pub mod Once
 pub mod Results
+pub mod Rising
+pub mod Standing
+pub mod Stood
 pub mod TableTexts
+pub mod Tallies
+pub mod VersionRows
 pub mod Whole
 pub mod WholeRows

@@ -1,3 +1,4 @@
+pub mod Apart
 pub mod Faults
 pub mod Opened
 pub mod Raw

@@ -1,6 +1,7 @@
 //! A vault's file is opened, and checked whole.
 #![tactic(auto)]
 
+mod apart;
 mod fault;
 mod raws;
 mod read;

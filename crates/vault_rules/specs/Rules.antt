@@ -91,10 +91,10 @@ is_counted counts entries m =
     let held = held_by entries (string_bytes m.name) in
     int_eq (total_of counts (string_bytes m.name) (pos 1)) (pos held) && nat_lt held 1000001
 
--- 11: a record's caller is a name, its request is 1 or more, its entry exists and has its usage
+-- 11: a record's caller is a name, its request is 1 to 9223372036854775807, its entry exists and has its usage
 abbrev pub is_record : List RawEntry → RawRecord → Bool
 is_record entries r =
-    is_name (string_bytes r.caller) && int_le (pos 1) r.request
+    is_name (string_bytes r.caller) && is_within (pos 1) (pos 9223372036854775807) r.request
     && option_map_or (λ (e : RawEntry). int_eq e.usage r.usage) (entry_of entries (string_bytes r.merchant) (string_bytes r.token)) false
 
 -- 12: a right's caller is a name, its merchant exists, and it is 1 to 6

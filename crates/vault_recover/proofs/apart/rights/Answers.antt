@@ -1,0 +1,15 @@
+use Rattle.std.proofs.Common.{refl, map, ap, subst, ◌∙◌}
+use Rattle.std.proofs.lemmas.List.{take_all}
+use Rattle.vault_recover.proofs.Rising.{apart_then, apart_by_ids}
+use Rattle.vault_recover.proofs.apart.rights.Goals as goal
+use Rattle.vault_recover.specs.Apart.{id_row}
+use Rattle.vault_recover.specs.Raw.{right_values}
+use Rattle.vault_rules.specs.declared.rows.RawRight.{RawRight}
+use Rattle.vault_sql.specs.Rows.{IsApart}
+
+pub returns : goal.returns
+returns c =
+    let all = c.args.rows.now in
+    let ids = c.loop-row.invariant ∙ ap (map (λ (x : RawRight). x.rowid)) (take_all _ all c.loop-row-test.false) in
+    apart_then c.are_distinct.result c.loop-row.ids.items (map right_values all)
+    (λ up. apart_by_ids (λ (x : RawRight). x.rowid) right_values (λ m. refl) all (subst (λ l. IsApart (map id_row l)) ids up)) c.are_distinct.ensures

@@ -1,0 +1,24 @@
+-- Rows of which no rowid comes twice.
+use Rattle.std.specs.Prelude.{◌<ℤ◌, ℤ, List, [], ◌∷◌, map}
+use Rattle.sqlite.specs.Order.{Row}
+use Rattle.sqlite.specs.Tree.{IsAscending}
+use Rattle.sqlite.specs.declared.types.Value.TheVariants.{Int}
+use Rattle.vault_recover.specs.Raw.{merchant_values, count_values, entry_values, record_values, right_values}
+use Rattle.vault_rules.specs.declared.rows.Rows.{Rows}
+use Rattle.vault_sql.specs.Rows.{IsApart}
+
+-- a row of its rowid alone
+abbrev pub id_row : ℤ → Row
+id_row z = Int z ∷ []
+
+-- each number is below the later ones
+abbrev pub Rises : List ℤ → Type 0
+Rises = IsAscending (λ a b. a <ℤ b)
+
+-- in no table a rowid comes twice
+pub record AreApart (rows : Rows) : Type 0 where
+  pub merchants : IsApart (map merchant_values rows.merchants.items)
+  pub counts : IsApart (map count_values rows.counts.items)
+  pub entries : IsApart (map entry_values rows.entries.items)
+  pub records : IsApart (map record_values rows.records.items)
+  pub rights : IsApart (map right_values rows.rights.items)
