@@ -1,5 +1,7 @@
 pub mod Chains
 pub mod Columns
+pub mod Decoded
+pub mod FromStands
 pub mod Once
 pub mod Results
 pub mod Rising

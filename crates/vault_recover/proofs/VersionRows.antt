@@ -37,14 +37,14 @@ version_row (a ∷ b ∷ c ∷ []) typed id version = λ i. id i ∷ null_is b (
 version_row (a ∷ b ∷ c ∷ d ∷ more) typed id version = absurd (true≢false (sym (and_parts _ false (and_parts _ _ typed).1).1))
 
 -- a list that is one item in some order is that item
-alone : {X : Type 0} (xs : List X) (y : X) → IsPermutation xs (y ∷ []) → xs ≡ y ∷ []
+pub alone : {X : Type 0} (xs : List X) (y : X) → IsPermutation xs (y ∷ []) → xs ≡ y ∷ []
 alone [] y same = absurd (let e = length_permutation [] (y ∷ []) same in cc)
 alone (x ∷ []) y same =
     elim (has_permuted (x ∷ []) (y ∷ []) x same (inl refl)) [ inl is ↦ ap (λ z. z ∷ []) is | inr none ↦ absurd none ]
 alone (x ∷ z ∷ xs) y same = absurd (let e = length_permutation (x ∷ z ∷ xs) (y ∷ []) same in cc)
 
 -- the one item of which the list is shown
-one_shown : {X Y : Type 0} (f : X → Y) (xs : List X) (y : Y) → map f xs ≡ y ∷ [] → (x : X) × (xs ≡ x ∷ []) × (f x ≡ y)
+pub one_shown : {X Y : Type 0} (f : X → Y) (xs : List X) (y : Y) → map f xs ≡ y ∷ [] → (x : X) × (xs ≡ x ∷ []) × (f x ≡ y)
 one_shown f [] y e = absurd cc
 one_shown f (x ∷ []) y e = (x, refl, let same : f x ≡ y = cc in same)
 one_shown f (x ∷ z ∷ xs) y e = absurd (let many = ap length e in cc)
