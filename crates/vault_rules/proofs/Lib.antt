@@ -2,12 +2,16 @@ pub mod AllKept
 pub mod Alone
 pub mod Counts
 pub mod DistinctFrom
+pub mod FirstLemmas
 pub mod Found
 pub mod FoundRows
 pub mod Held
-pub mod Keyed
+pub mod HeldLemmas
 pub mod Kept
+pub mod Keyed
+pub mod LeastLemmas
 pub mod Live
+pub mod LiveLemmas
 pub mod Numbers
 pub mod Options
 pub mod RowsShow

@@ -1,4 +1,10 @@
 //! The rules that the rows of a sound vault keep.
 #![tactic(auto)]
 
+pub mod index;
+pub mod least;
 pub mod rows;
+pub mod rules;
+#[cfg(test)]
+mod tests;
+pub mod texts;

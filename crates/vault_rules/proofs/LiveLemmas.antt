@@ -1,0 +1,90 @@
+-- Keys of which no two are alike, with one key more.
+use Rattle.std.proofs.Common.{◌≡◌, ◌+◌, ◌<◌, ℕ, Bool, true, false, not, ◌&&◌, ◌||◌, cond, List, [], ◌∷◌, ◌++◌, length, take, drop, get_or, Option, Some, None, refl, sym, ap, ◌∙◌, bytes_eq}
+use Rattle.std.proofs.Math.Bool.{or-false, and-false}
+use Rattle.std.proofs.lemmas.List.{append-nil, take-append-drop}
+use Rattle.std.proofs.lemmas.List.Elements.{filter_map-append}
+use Rattle.std.proofs.lemmas.List.Folds.{list_any-append}
+use Rattle.std.specs.Cmp.Lexicographic.{nat_list_eq_equiv}
+use Rattle.std.specs.List.{cons_option, filter_map, list_any}
+use Rattle.std.specs.Ordering.{is_eq, ordering_then}
+use Rattle.vault_core.specs.Keys.{Bytes, bytes_cmp}
+use Rattle.vault_rules.specs.Rules.{are_distinct}
+use Rattle.vault_rules.proofs.FirstLemmas.{take_row, pair_ties}
+
+-- whether two pairs have the same texts
+abbrev pub alike : Bytes × Bytes → Bytes × Bytes → Bool
+alike a b = bytes_eq a.0 b.0 && bytes_eq a.1 b.1
+
+alike_sym : (a b : Bytes × Bytes) → alike a b ≡ alike b a
+alike_sym a b = ap (λ x. x && bytes_eq a.1 b.1) (nat_list_eq_equiv.symm a.0 b.0) ∙ ap (λ x. bytes_eq b.0 a.0 && x) (nat_list_eq_equiv.symm a.1 b.1)
+
+-- the keys of the rows up to an index, and of the row that stands there
+pub keys_more : {R : Type 0} (h : R → Option (Bytes × Bytes)) (xs : List R) (i : ℕ) (x : R) (key : Bytes × Bytes)
+    → i < length xs → x ≡ get_or xs i x → h x ≡ Some key
+    → filter_map h (take (i + 1) xs) ≡ filter_map h (take i xs) ++ key ∷ []
+keys_more h xs i x key inside is some =
+    ap (filter_map h) (take_row xs i x inside is) ∙ filter_map-append h (take i xs) (x ∷ [])
+    ∙ ap (λ o. filter_map h (take i xs) ++ cons_option o []) some
+
+-- a row without a key adds none
+pub keys_same : {R : Type 0} (h : R → Option (Bytes × Bytes)) (xs : List R) (i : ℕ) (x : R)
+    → i < length xs → x ≡ get_or xs i x → h x ≡ None
+    → filter_map h (take (i + 1) xs) ≡ filter_map h (take i xs)
+keys_same h xs i x inside is none =
+    ap (filter_map h) (take_row xs i x inside is) ∙ filter_map-append h (take i xs) (x ∷ [])
+    ∙ ap (λ o. filter_map h (take i xs) ++ cons_option o []) none ∙ append-nil _
+
+-- a pair is among the keys and one more
+pub any_more : (keys : List (Bytes × Bytes)) (key q : Bytes × Bytes)
+    → list_any (alike q) (keys ++ key ∷ []) ≡ list_any (alike q) keys || alike q key
+any_more keys key q = list_any-append (alike q) keys (key ∷ []) ∙ ap (λ b. list_any (alike q) keys || b) (or-false (alike q key))
+
+or_cond : (t o : Bool) → cond t true o ≡ o || t
+or_cond true true = refl
+or_cond true false = refl
+or_cond false true = refl
+or_cond false false = refl
+
+-- what a set has of the keys and one more
+pub set_more : (keys : List (Bytes × Bytes)) (key q : Bytes × Bytes) (old new : Bool)
+    → new ≡ cond (is_eq (ordering_then (bytes_cmp key.0 q.0) (bytes_cmp key.1 q.1))) true old
+    → old ≡ list_any (alike q) keys → new ≡ list_any (alike q) (keys ++ key ∷ [])
+set_more keys key q old new put before =
+    put ∙ ap (λ b. cond b true old) (pair_ties key.0 key.1 q.0 q.1 ∙ alike_sym key q)
+    ∙ or_cond (alike q key) old ∙ ap (λ b. b || alike q key) before
+    ∙ sym (any_more keys key q)
+
+regroup : (p q d r : Bool) → not (p || q) && (d && not r) ≡ (not p && d) && not (q || r)
+regroup true q d r = refl
+regroup false true true r = refl
+regroup false true false r = refl
+regroup false false true r = refl
+regroup false false false r = refl
+
+-- one key more is apart where it is alike none
+pub distinct_more : (keys : List (Bytes × Bytes)) (key : Bytes × Bytes)
+    → are_distinct (keys ++ key ∷ []) ≡ are_distinct keys && not (list_any (alike key) keys)
+distinct_more [] key = refl
+distinct_more (x ∷ keys) key =
+    ap (λ b. not b && are_distinct (keys ++ key ∷ [])) (any_more keys key x ∙ ap (λ b. list_any (alike x) keys || b) (alike_sym x key))
+    ∙ ap (λ b. not (list_any (alike x) keys || alike key x) && b) (distinct_more keys key)
+    ∙ regroup (list_any (alike x) keys) (alike key x) (are_distinct keys) (list_any (alike key) keys)
+
+front : (p d q m : Bool) → not p && d ≡ false → (d ≡ false → m ≡ false) → not (p || q) && m ≡ false
+front true d q m e next = refl
+front false d q m e next = ap (λ b. not q && b) (next e) ∙ and-false (not q)
+
+-- where two keys are alike, they stay so among more
+distinct_front : (keys more : List (Bytes × Bytes)) → are_distinct keys ≡ false → are_distinct (keys ++ more) ≡ false
+distinct_front [] more e = absurd (cc)
+distinct_front (x ∷ keys) more e =
+    ap (λ b. not b && are_distinct (keys ++ more)) (list_any-append (alike x) keys more)
+    ∙ front (list_any (alike x) keys) (are_distinct keys) (list_any (alike x) more) _ e (distinct_front keys more)
+
+-- two of the keys of all rows are alike, where two of the first rows' are
+pub distinct_whole : {R : Type 0} (h : R → Option (Bytes × Bytes)) (xs : List R) (n : ℕ)
+    → are_distinct (filter_map h (take n xs)) ≡ false → are_distinct (filter_map h xs) ≡ false
+distinct_whole h xs n e =
+    ap (λ ys. are_distinct (filter_map h ys)) (sym (take-append-drop n xs))
+    ∙ ap are_distinct (filter_map-append h (take n xs) (drop n xs))
+    ∙ distinct_front (filter_map h (take n xs)) (filter_map h (drop n xs)) e
