@@ -53,7 +53,7 @@ use Rattle.vault_sql.specs.declared.merchants.Lives.{Lives}
 
 -- a row as it stands is a pair, and each pair is a row as it stands
 module _ {K X R : Type 0} (encode : K → X → Row) (values : R → Row) (held : K → Option X) (items : List R) (tree : List Row)
-  (same : IsPermutation tree (map values items)) (are : AreRowsOf encode tree held) where
+    (same : IsPermutation tree (map values items)) (are : AreRowsOf encode tree held) where
   pair_of : (m : R) → Has items m → (k : K) × (x : X) × (drop 1 (values m) ≡ encode k x) × (held k ≡ Some x)
   pair_of m h = are.sound (values m) (has_permuted (map values items) tree (values m) (IsPermutation-sym _ _ same) (mapped_has values items m h))
 

@@ -1,10 +1,33 @@
 -- What holds of a result, from what holds of it.
-use Rattle.std.proofs.Common.{Ok, Err, Result, IfOk, OnOk}
+use Rattle.std.proofs.Common.{◌≡◌, ◌≢◌, ℕ, ℤ, Ok, Err, Result, IfOk, IfErr, OnOk, sym, ◌∙◌}
+use Rattle.vault_recover.specs.Faults.{failure}
+use Rattle.vault_recover.specs.declared.fault.OpenFault.TheVariants.{WrongSchema, Damaged}
+use Rattle.vault_recover.specs.declared.fault.ReadFault.{ReadFault}
+use Rattle.vault_recover.specs.declared.fault.ReadFault.TheVariants as read
 
 pub if_ok : {A E : Type 0} {P Q : A → Type 0} (r : Result A E) → ((a : A) → P a → Q a) → IfOk r P → IfOk r Q
 if_ok (Ok a) f h = f a h
 if_ok (Err e) f h = tt
 
+pub if_err : {A E : Type 0} {P Q : E → Type 0} (r : Result A E) → ((e : E) → P e → Q e) → IfErr r P → IfErr r Q
+if_err (Ok a) f h = tt
+if_err (Err e) f h = f e h
+
 pub on_ok : {A E P : Type 0} (r : Result A E) → P → OnOk r P
 on_ok (Ok a) h = h
 on_ok (Err e) h = tt
+
+pub same_rule : (a b : ℕ) → Damaged a ≡ Damaged b → a ≡ b
+same_rule a b e = cc
+
+pub same_version : (a b : ℤ) → WrongSchema a ≡ WrongSchema b → a ≡ b
+same_version a b e = cc
+
+-- a reading that failed says nothing of the schema or the rows
+pub undamaged : (fault : ReadFault) (rule : ℕ) → failure fault ≢ Damaged rule
+undamaged read.Memory rule e = cc
+undamaged read.Store rule e = cc
+
+pub unversioned : (fault : ReadFault) (n : ℤ) → failure fault ≢ WrongSchema n
+unversioned read.Memory n e = cc
+unversioned read.Store n e = cc

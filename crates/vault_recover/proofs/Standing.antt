@@ -14,7 +14,7 @@ use Rattle.vault_sql.proofs.ByKey.{Coding}
 use Rattle.vault_sql.specs.Rows.{AreRowsOf, IsApart}
 
 module _ {K X R : Type 0} {cmp : K → K → Ordering} (encode : K → X → Row) (coding : Coding cmp encode)
-  (values : R → Row) (key : R → K) (value : R → X) (held : K → Option X) (items : List R) (tree : List Row) where
+    (values : R → Row) (key : R → K) (value : R → X) (held : K → Option X) (items : List R) (tree : List Row) where
   -- each row as it stands is a pair, each pair is such a row, and no key comes twice
   pub stand_for : IsPermutation tree (map values items) → IsApart (map values items) → ((m : R) → is_int (rowid (values m)) ≡ true)
       → ((m : R) → Has items m → drop 1 (values m) ≡ encode (key m) (value m))
@@ -25,7 +25,7 @@ module _ {K X R : Type 0} {cmp : K → K → Ordering} (encode : K → X → Row
   stand_for same up int reads sound complete once =
       let back = λ (r : Row) (there : Has tree r). has_mapped values items r (has_permuted tree (map values items) r same there) in
       let key_is = λ (m : R) (h : Has items m) (r : Row) (e : r ≡ values m) (k : K) (x : X) (shown : drop 1 r ≡ encode k x).
-          coding.key (key m) k (value m) x (sym (reads m h) ∙ ap (drop 1) (sym e) ∙ shown) in
+      coding.key (key m) k (value m) x (sym (reads m h) ∙ ap (drop 1) (sym e) ∙ shown) in
       record {
         apart = apart_permuted (map values items) tree (IsPermutation-sym _ _ same) up;
         keyed = λ r there. let it = back r there in ap (λ z. is_int (rowid z)) it.2 ∙ int it.0;

@@ -121,8 +121,8 @@ module _ (rows : Rows) (apart : HasKeysApart rows) (keep : (r : ℕ) → keeps r
   entries_read e h =
       let it = entry_shown rows keep e h in
       λ i. Text (string_bytes e.merchant) ∷ Text (string_bytes e.token) ∷ text_or_null (option_map (λ number. string_bytes number) e.number)
-          ∷ Int ((it.usage ∙ ap pos (same_number (entry_value e).usage)) i) ∷ Int (it.birth i) ∷ Int (it.expires i)
-          ∷ (ap int_value it.revoked ∙ same_moment (entry_value e).revoked) i ∷ []
+      ∷ Int ((it.usage ∙ ap pos (same_number (entry_value e).usage)) i) ∷ Int (it.birth i) ∷ Int (it.expires i)
+      ∷ (ap int_value it.revoked ∙ same_moment (entry_value e).revoked) i ∷ []
 
   entries_complete : (k : Bytes × Bytes) (x : Entry) → entry_at (vault_of rows) k.0 k.1 ≡ Some x
       → (e : RawEntry) × Has rows.entries.items e × (entry_key e ≡ k) × (entry_value e ≡ x)

@@ -1,13 +1,16 @@
 -- What an open finds.
-use Rattle.std.specs.Prelude.{◌≡◌, ℕ, List, map}
+use Rattle.std.specs.Prelude.{◌≡◌, ℕ, ℤ, List, map, Some}
 use Rattle.std.specs.List.Sorted.{IsPermutation}
-use Rattle.sqlite.specs.Effect.{Database}
+use Rattle.sqlite.specs.Effect.{Database, IsDatabase}
 use Rattle.sqlite.specs.State.{State}
 use Rattle.sqlite.specs.Tree.{Trees}
 use Rattle.vault_core.specs.Sound.{Sound}
 use Rattle.vault_core.specs.Vault.{Vault}
 use Rattle.vault_recover.specs.Raw.{version_values, merchant_values, count_values, entry_values, record_values, right_values}
 use Rattle.vault_recover.specs.Reading.{IsOurs, shown_by, version_columns}
+use Rattle.vault_recover.specs.Sizes.{sizes_of}
+use Rattle.vault_recover.specs.Versions.{other_version}
+use Rattle.vault_recover.specs.declared.sizes.Sizes.{Sizes}
 use Rattle.vault_rules.specs.Rules as rules
 use Rattle.vault_rules.specs.declared.rows.RawVersion.{RawVersion}
 use Rattle.vault_rules.specs.declared.rows.RawMerchant.{RawMerchant}
@@ -44,9 +47,15 @@ pub record AreRaws (db : Trees) (rows : Rows) : Type 0 where
 -- the rows break this rule, and none below it
 pub record IsLeastBroken (db : Database) (rule : ℕ) : Type 0 where
   pub rows : Rows
-  pub ours : IsOurs db
+  pub is : IsDatabase db
   pub are : AreRaws db.trees rows
   pub least : rules.IsLeastBroken rows rule
+
+-- the row of `vault` with the id 1 says this version, which isn't 1
+pub record IsOtherVersion (db : Database) (n : ℤ) : Type 0 where
+  pub versions : List RawVersion
+  pub are : AreVersions db.trees versions
+  pub says : other_version versions ≡ Some n
 
 -- the database stands for a sound vault
 pub record StandsSound (db : Database) : Type 0 where
@@ -54,6 +63,11 @@ pub record StandsSound (db : Database) : Type 0 where
   pub vault : Vault
   pub sound : Sound vault
   pub stands : Stands db.trees vault
+
+-- and that vault has these sizes
+pub record IsSoundOf (db : Database) (sizes : Sizes) : Type 0 where
+  pub it : StandsSound db
+  pub sizes_are : sizes ≡ sizes_of it.vault
 
 -- the connection holds a sound vault
 pub record HoldsSound (s : State) : Type 0 where

@@ -33,35 +33,48 @@ impl OpenFault {
     }
 }
 
-impl From<Error> for OpenFault {
-    ghost use Rattle.std.specs.Prelude.{◌≡◌};
-    ghost use Rattle.vault_recover.specs.declared.fault.OpenFault.TheVariants.{Store};
-
-    ghost from_gives = { λ error fault. fault ≡ Store };
-
-    fn from(_error: Error) -> OpenFault {
-        OpenFault::Store
-    }
-}
-
 impl From<AllocError> for OpenFault {
-    ghost use Rattle.std.specs.Prelude.{◌≡◌};
-    ghost use Rattle.vault_recover.specs.declared.fault.OpenFault.TheVariants.{Memory};
-
-    ghost from_gives = { λ error fault. fault ≡ Memory };
-
-    fn from(_error: AllocError) -> OpenFault {
-        OpenFault::Memory
-    }
-}
-
-impl<T: Drop> From<AllocFailed<T>> for OpenFault {
     ghost use Rattle.std.specs.Prelude.{◌≡◌};
     ghost use Rattle.vault_recover.specs.declared.fault.OpenFault.TheVariants.{Memory};
 
     ghost from_gives = { λ refused fault. fault ≡ Memory };
 
-    fn from(_refused: AllocFailed<T>) -> OpenFault {
+    fn from(_refused: AllocError) -> OpenFault {
         OpenFault::Memory
+    }
+}
+
+/// Why rows weren't read.
+#[derive(Clone, Copy, Debug, PartialEq, Eq)]
+pub(crate) enum ReadFault {
+    /// Memory ran out.
+    Memory,
+    /// The database failed, or a row has a value that isn't its column's.
+    Store,
+}
+
+impl From<Error> for ReadFault {
+    fn from(_error: Error) -> ReadFault {
+        ReadFault::Store
+    }
+}
+
+impl<T: Drop> From<AllocFailed<T>> for ReadFault {
+    fn from(_refused: AllocFailed<T>) -> ReadFault {
+        ReadFault::Memory
+    }
+}
+
+impl From<ReadFault> for OpenFault {
+    ghost use Rattle.std.specs.Prelude.{◌≡◌};
+    ghost use Rattle.vault_recover.specs.Faults.{failure};
+
+    ghost from_gives = { λ read fault. fault ≡ failure read };
+
+    fn from(read: ReadFault) -> OpenFault {
+        match read {
+            ReadFault::Memory => OpenFault::Memory,
+            ReadFault::Store => OpenFault::Store,
+        }
     }
 }

@@ -6,17 +6,17 @@ ghost use Rattle.sqlite.specs.declared.types.Value.TheVariants.{Int};
 ghost use Rattle.vault_sql.specs.Rows.{text_or_null};
 ghost use Rattle.vault_recover.specs.Raw.{int_value, version_values, merchant_values, count_values, entry_values, record_values, right_values};
 
-use crate::fault::OpenFault;
+use crate::fault::ReadFault;
 use sqlite::Row;
 use std::alloc::Global;
 use vault_rules::rows::{RawCount, RawEntry, RawMerchant, RawRecord, RawRight, RawVersion};
 
 /// A row of `vault`.
-fn version(row: &Row) -> Result<RawVersion, OpenFault>
+fn version(row: &Row) -> Result<RawVersion, ReadFault>
     ensures { IfOk result (λ raw. row.now ≡ version_values raw) }
 {
     if row.column_count() != 2 {
-        return Err(OpenFault::Store);
+        return Err(ReadFault::Store);
     }
     let id = int_in(row, 0)?;
     let version = int_in(row, 1)?;
@@ -24,11 +24,11 @@ fn version(row: &Row) -> Result<RawVersion, OpenFault>
 }
 
 /// A row of `merchants`.
-fn merchant(row: &Row) -> Result<RawMerchant, OpenFault>
+fn merchant(row: &Row) -> Result<RawMerchant, ReadFault>
     ensures { IfOk result (λ raw. row.now ≡ merchant_values raw) }
 {
     if row.column_count() != 5 {
-        return Err(OpenFault::Store);
+        return Err(ReadFault::Store);
     }
     let rowid = int_in(row, 0)?;
     let name: String = row.get(1)?;
@@ -45,11 +45,11 @@ fn merchant(row: &Row) -> Result<RawMerchant, OpenFault>
 }
 
 /// A row of `counts`.
-fn count(row: &Row) -> Result<RawCount, OpenFault>
+fn count(row: &Row) -> Result<RawCount, ReadFault>
     ensures { IfOk result (λ raw. row.now ≡ count_values raw) }
 {
     if row.column_count() != 4 {
-        return Err(OpenFault::Store);
+        return Err(ReadFault::Store);
     }
     let rowid = int_in(row, 0)?;
     let merchant: String = row.get(1)?;
@@ -64,7 +64,7 @@ fn count(row: &Row) -> Result<RawCount, OpenFault>
 }
 
 /// A whole number.
-fn int_in(row: &Row, at: usize) -> Result<i64, OpenFault>
+fn int_in(row: &Row, at: usize) -> Result<i64, ReadFault>
     ensures value { IfOk result (λ n. column row.now at ≡ Int n) }
     ensures fits { IfOk result (λ n. FitsSigned w64 n) }
 {
@@ -72,7 +72,7 @@ fn int_in(row: &Row, at: usize) -> Result<i64, OpenFault>
 }
 
 /// A text, or NULL.
-fn text_or_null_in(row: &Row, at: usize) -> Result<Option<String>, OpenFault>
+fn text_or_null_in(row: &Row, at: usize) -> Result<Option<String>, ReadFault>
     ensures { IfOk result (λ text. column row.now at ≡ text_or_null (option_map (λ it. string_bytes it) text)) }
 {
     let text: Option<String> = row.get(at)?;
@@ -83,7 +83,7 @@ fn text_or_null_in(row: &Row, at: usize) -> Result<Option<String>, OpenFault>
 }
 
 /// A whole number, or NULL.
-fn int_or_null_in(row: &Row, at: usize) -> Result<Option<i64>, OpenFault>
+fn int_or_null_in(row: &Row, at: usize) -> Result<Option<i64>, ReadFault>
     ensures { IfOk result (λ number. column row.now at ≡ int_value number) }
 {
     let number: Option<i64> = row.get(at)?;
@@ -94,11 +94,11 @@ fn int_or_null_in(row: &Row, at: usize) -> Result<Option<i64>, OpenFault>
 }
 
 /// A row of `entries`.
-fn entry(row: &Row) -> Result<RawEntry, OpenFault>
+fn entry(row: &Row) -> Result<RawEntry, ReadFault>
     ensures { IfOk result (λ raw. row.now ≡ entry_values raw) }
 {
     if row.column_count() != 8 {
-        return Err(OpenFault::Store);
+        return Err(ReadFault::Store);
     }
     let rowid = int_in(row, 0)?;
     let merchant: String = row.get(1)?;
@@ -121,11 +121,11 @@ fn entry(row: &Row) -> Result<RawEntry, OpenFault>
 }
 
 /// A row of `records`.
-fn record(row: &Row) -> Result<RawRecord, OpenFault>
+fn record(row: &Row) -> Result<RawRecord, ReadFault>
     ensures { IfOk result (λ raw. row.now ≡ record_values raw) }
 {
     if row.column_count() != 6 {
-        return Err(OpenFault::Store);
+        return Err(ReadFault::Store);
     }
     let rowid = int_in(row, 0)?;
     let caller: String = row.get(1)?;
@@ -144,11 +144,11 @@ fn record(row: &Row) -> Result<RawRecord, OpenFault>
 }
 
 /// A row of `rights`.
-fn right(row: &Row) -> Result<RawRight, OpenFault>
+fn right(row: &Row) -> Result<RawRight, ReadFault>
     ensures { IfOk result (λ raw. row.now ≡ right_values raw) }
 {
     if row.column_count() != 4 {
-        return Err(OpenFault::Store);
+        return Err(ReadFault::Store);
     }
     let rowid = int_in(row, 0)?;
     let caller: String = row.get(1)?;
@@ -163,7 +163,7 @@ fn right(row: &Row) -> Result<RawRight, OpenFault>
 }
 
 /// The rows of `vault`.
-pub(crate) fn versions(alloc: Global, rows: &[Row]) -> Result<Vec<RawVersion>, OpenFault>
+pub(crate) fn versions(alloc: Global, rows: &[Row]) -> Result<Vec<RawVersion>, ReadFault>
     ensures { IfOk result (λ raws. map version_values raws.items ≡ rows.now) }
 {
     let mut raws = Vec::new(alloc);
@@ -174,7 +174,7 @@ pub(crate) fn versions(alloc: Global, rows: &[Row]) -> Result<Vec<RawVersion>, O
 }
 
 /// The rows of `merchants`.
-pub(crate) fn merchants(alloc: Global, rows: &[Row]) -> Result<Vec<RawMerchant>, OpenFault>
+pub(crate) fn merchants(alloc: Global, rows: &[Row]) -> Result<Vec<RawMerchant>, ReadFault>
     ensures { IfOk result (λ raws. map merchant_values raws.items ≡ rows.now) }
 {
     let mut raws = Vec::new(alloc);
@@ -185,7 +185,7 @@ pub(crate) fn merchants(alloc: Global, rows: &[Row]) -> Result<Vec<RawMerchant>,
 }
 
 /// The rows of `counts`.
-pub(crate) fn counts(alloc: Global, rows: &[Row]) -> Result<Vec<RawCount>, OpenFault>
+pub(crate) fn counts(alloc: Global, rows: &[Row]) -> Result<Vec<RawCount>, ReadFault>
     ensures { IfOk result (λ raws. map count_values raws.items ≡ rows.now) }
 {
     let mut raws = Vec::new(alloc);
@@ -196,7 +196,7 @@ pub(crate) fn counts(alloc: Global, rows: &[Row]) -> Result<Vec<RawCount>, OpenF
 }
 
 /// The rows of `entries`.
-pub(crate) fn entries(alloc: Global, rows: &[Row]) -> Result<Vec<RawEntry>, OpenFault>
+pub(crate) fn entries(alloc: Global, rows: &[Row]) -> Result<Vec<RawEntry>, ReadFault>
     ensures { IfOk result (λ raws. map entry_values raws.items ≡ rows.now) }
 {
     let mut raws = Vec::new(alloc);
@@ -207,7 +207,7 @@ pub(crate) fn entries(alloc: Global, rows: &[Row]) -> Result<Vec<RawEntry>, Open
 }
 
 /// The rows of `records`.
-pub(crate) fn records(alloc: Global, rows: &[Row]) -> Result<Vec<RawRecord>, OpenFault>
+pub(crate) fn records(alloc: Global, rows: &[Row]) -> Result<Vec<RawRecord>, ReadFault>
     ensures { IfOk result (λ raws. map record_values raws.items ≡ rows.now) }
 {
     let mut raws = Vec::new(alloc);
@@ -218,7 +218,7 @@ pub(crate) fn records(alloc: Global, rows: &[Row]) -> Result<Vec<RawRecord>, Ope
 }
 
 /// The rows of `rights`.
-pub(crate) fn rights(alloc: Global, rows: &[Row]) -> Result<Vec<RawRight>, OpenFault>
+pub(crate) fn rights(alloc: Global, rows: &[Row]) -> Result<Vec<RawRight>, ReadFault>
     ensures { IfOk result (λ raws. map right_values raws.items ≡ rows.now) }
 {
     let mut raws = Vec::new(alloc);

@@ -8,7 +8,7 @@ ghost use Rattle.vault_recover.specs.Raw.{version_values, merchant_values, count
 ghost use Rattle.vault_recover.specs.Reading.{IsOurs, IsQuiet, shown_by, version_columns};
 ghost use Rattle.vault_sql.specs.Schema.{vault_schema};
 
-use crate::fault::OpenFault;
+use crate::fault::ReadFault;
 use crate::raws;
 use crate::table::table_rows;
 use sqlite::{Alter, Connection};
@@ -35,7 +35,7 @@ const RIGHTS: &str =
 pub(crate) fn versions<S: Alter>(
     alloc: Global,
     conn: &mut Connection<S>,
-) -> Result<Vec<RawVersion>, OpenFault>
+) -> Result<Vec<RawVersion>, ReadFault>
     ensures told { HasCleanDisk (state S.Store conn.new) → IfOk result (λ raws. IsOurs (state S.Store conn.old).now → IsPermutation (map (shown_by version_columns) ((state S.Store conn.old).now.trees 0)) (map version_values raws.items)) }
     ensures live { HasCleanDisk (state S.Store conn.new) → OnOk result ((state S.Store conn.old).now.schema ≡ vault_schema → IsDatabase (state S.Store conn.old).now) }
     ensures kept { HasCleanDisk (state S.Store conn.new) → OnOk result ((state S.Store conn.old).now.schema ≡ vault_schema → IsUnchanged (state S.Store conn.old) (state S.Store conn.new)) }
@@ -49,7 +49,7 @@ pub(crate) fn versions<S: Alter>(
 pub(crate) fn merchants<S: Alter>(
     alloc: Global,
     conn: &mut Connection<S>,
-) -> Result<Vec<RawMerchant>, OpenFault>
+) -> Result<Vec<RawMerchant>, ReadFault>
     ensures told { HasCleanDisk (state S.Store conn.new) → IfOk result (λ raws. IsOurs (state S.Store conn.old).now → IsPermutation ((state S.Store conn.old).now.trees 1) (map merchant_values raws.items)) }
     ensures live { HasCleanDisk (state S.Store conn.new) → OnOk result ((state S.Store conn.old).now.schema ≡ vault_schema → IsDatabase (state S.Store conn.old).now) }
     ensures kept { HasCleanDisk (state S.Store conn.new) → OnOk result ((state S.Store conn.old).now.schema ≡ vault_schema → IsUnchanged (state S.Store conn.old) (state S.Store conn.new)) }
@@ -63,7 +63,7 @@ pub(crate) fn merchants<S: Alter>(
 pub(crate) fn counts<S: Alter>(
     alloc: Global,
     conn: &mut Connection<S>,
-) -> Result<Vec<RawCount>, OpenFault>
+) -> Result<Vec<RawCount>, ReadFault>
     ensures told { HasCleanDisk (state S.Store conn.new) → IfOk result (λ raws. IsOurs (state S.Store conn.old).now → IsPermutation ((state S.Store conn.old).now.trees 3) (map count_values raws.items)) }
     ensures live { HasCleanDisk (state S.Store conn.new) → OnOk result ((state S.Store conn.old).now.schema ≡ vault_schema → IsDatabase (state S.Store conn.old).now) }
     ensures kept { HasCleanDisk (state S.Store conn.new) → OnOk result ((state S.Store conn.old).now.schema ≡ vault_schema → IsUnchanged (state S.Store conn.old) (state S.Store conn.new)) }
@@ -77,7 +77,7 @@ pub(crate) fn counts<S: Alter>(
 pub(crate) fn entries<S: Alter>(
     alloc: Global,
     conn: &mut Connection<S>,
-) -> Result<Vec<RawEntry>, OpenFault>
+) -> Result<Vec<RawEntry>, ReadFault>
     ensures told { HasCleanDisk (state S.Store conn.new) → IfOk result (λ raws. IsOurs (state S.Store conn.old).now → IsPermutation ((state S.Store conn.old).now.trees 5) (map entry_values raws.items)) }
     ensures live { HasCleanDisk (state S.Store conn.new) → OnOk result ((state S.Store conn.old).now.schema ≡ vault_schema → IsDatabase (state S.Store conn.old).now) }
     ensures kept { HasCleanDisk (state S.Store conn.new) → OnOk result ((state S.Store conn.old).now.schema ≡ vault_schema → IsUnchanged (state S.Store conn.old) (state S.Store conn.new)) }
@@ -91,7 +91,7 @@ pub(crate) fn entries<S: Alter>(
 pub(crate) fn records<S: Alter>(
     alloc: Global,
     conn: &mut Connection<S>,
-) -> Result<Vec<RawRecord>, OpenFault>
+) -> Result<Vec<RawRecord>, ReadFault>
     ensures told { HasCleanDisk (state S.Store conn.new) → IfOk result (λ raws. IsOurs (state S.Store conn.old).now → IsPermutation ((state S.Store conn.old).now.trees 8) (map record_values raws.items)) }
     ensures live { HasCleanDisk (state S.Store conn.new) → OnOk result ((state S.Store conn.old).now.schema ≡ vault_schema → IsDatabase (state S.Store conn.old).now) }
     ensures kept { HasCleanDisk (state S.Store conn.new) → OnOk result ((state S.Store conn.old).now.schema ≡ vault_schema → IsUnchanged (state S.Store conn.old) (state S.Store conn.new)) }
@@ -105,7 +105,7 @@ pub(crate) fn records<S: Alter>(
 pub(crate) fn rights<S: Alter>(
     alloc: Global,
     conn: &mut Connection<S>,
-) -> Result<Vec<RawRight>, OpenFault>
+) -> Result<Vec<RawRight>, ReadFault>
     ensures told { HasCleanDisk (state S.Store conn.new) → IfOk result (λ raws. IsOurs (state S.Store conn.old).now → IsPermutation ((state S.Store conn.old).now.trees 10) (map right_values raws.items)) }
     ensures live { HasCleanDisk (state S.Store conn.new) → OnOk result ((state S.Store conn.old).now.schema ≡ vault_schema → IsDatabase (state S.Store conn.old).now) }
     ensures kept { HasCleanDisk (state S.Store conn.new) → OnOk result ((state S.Store conn.old).now.schema ≡ vault_schema → IsUnchanged (state S.Store conn.old) (state S.Store conn.new)) }

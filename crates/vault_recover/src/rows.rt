@@ -6,7 +6,7 @@ ghost use Rattle.vault_recover.specs.Opened.{AreMerchants, AreOthers, AreRaws, A
 ghost use Rattle.vault_recover.specs.Reading.{IsOurs, IsQuiet};
 ghost use Rattle.vault_sql.specs.Schema.{vault_schema};
 
-use crate::fault::OpenFault;
+use crate::fault::ReadFault;
 use crate::read;
 use sqlite::{Alter, Connection};
 use std::alloc::Global;
@@ -16,7 +16,7 @@ use vault_rules::rows::{RawCount, RawEntry, RawMerchant, RawRecord, RawRight, Ra
 fn merchants_and_counts<S: Alter>(
     alloc: Global,
     conn: &mut Connection<S>,
-) -> Result<(Vec<RawMerchant>, Vec<RawCount>), OpenFault>
+) -> Result<(Vec<RawMerchant>, Vec<RawCount>), ReadFault>
     ensures told { HasCleanDisk (state S.Store conn.new) → IfOk result (λ found. IsOurs (state S.Store conn.old).now → AreMerchants (state S.Store conn.old).now.trees found.0.items found.1.items) }
     ensures kept { HasCleanDisk (state S.Store conn.new) → OnOk result ((state S.Store conn.old).now.schema ≡ vault_schema → IsUnchanged (state S.Store conn.old) (state S.Store conn.new)) }
     ensures quiet { IsQuiet (state S.Store conn.old) (state S.Store conn.new) }
@@ -30,7 +30,7 @@ fn merchants_and_counts<S: Alter>(
 fn others<S: Alter>(
     alloc: Global,
     conn: &mut Connection<S>,
-) -> Result<(Vec<RawEntry>, Vec<RawRecord>, Vec<RawRight>), OpenFault>
+) -> Result<(Vec<RawEntry>, Vec<RawRecord>, Vec<RawRight>), ReadFault>
     ensures told { HasCleanDisk (state S.Store conn.new) → IfOk result (λ found. IsOurs (state S.Store conn.old).now → AreOthers (state S.Store conn.old).now.trees found.0.items found.1.items found.2.items) }
     ensures kept { HasCleanDisk (state S.Store conn.new) → OnOk result ((state S.Store conn.old).now.schema ≡ vault_schema → IsUnchanged (state S.Store conn.old) (state S.Store conn.new)) }
     ensures quiet { IsQuiet (state S.Store conn.old) (state S.Store conn.new) }
@@ -46,7 +46,7 @@ pub(crate) fn rows<S: Alter>(
     alloc: Global,
     conn: &mut Connection<S>,
     versions: Vec<RawVersion>,
-) -> Result<Rows, OpenFault>
+) -> Result<Rows, ReadFault>
     ensures told { HasCleanDisk (state S.Store conn.new) → IfOk result (λ rows. IsOurs (state S.Store conn.old).now → AreVersions (state S.Store conn.old).now.trees versions.items → AreRaws (state S.Store conn.old).now.trees rows) }
     ensures versions { IfOk result (λ rows. rows.versions ≡ versions) }
     ensures kept { HasCleanDisk (state S.Store conn.new) → OnOk result ((state S.Store conn.old).now.schema ≡ vault_schema → IsUnchanged (state S.Store conn.old) (state S.Store conn.new)) }

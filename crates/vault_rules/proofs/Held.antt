@@ -1,5 +1,5 @@
 -- Each row is in the vault of rows.
-use Rattle.std.proofs.Common.{◌≡◌, ℕ, pos, true, List, [], ◌∷◌, map, Some, option_map, inl, inr, refl, sym, ap, ◌∙◌}
+use Rattle.std.proofs.Common.{◌≡◌, ℕ, pos, true, List, [], ◌∷◌, map, length, Some, option_map, inl, inr, refl, sym, ap, ◌∙◌}
 use Rattle.std.specs.Prelude.{string_bytes}
 use Rattle.std.specs.Cmp.{tied_itself}
 use Rattle.std.specs.FinMap as finite
@@ -21,7 +21,7 @@ use Rattle.vault_rules.specs.declared.rows.RawEntry.{RawEntry}
 use Rattle.vault_rules.specs.declared.rows.RawRecord.{RawRecord}
 use Rattle.vault_rules.specs.declared.rows.RawRight.{RawRight}
 use Rattle.vault_rules.specs.declared.rows.Rows.{Rows}
-use Rattle.vault_rules.proofs.Keyed.{keys_once, find-some, pairs, get_first}
+use Rattle.vault_rules.proofs.Keyed.{keys_once, find-some, pairs, get_first, len_is}
 use Rattle.vault_rules.proofs.Kept as kept
 
 -- keys that differ by one part differ by another that tells it
@@ -49,17 +49,26 @@ module _ (rows : Rows) (apart : HasKeysApart rows) where
   pub entry_held : (e : RawEntry) → Has rows.entries.items e → entry_at (vault_of rows) (string_bytes e.merchant) (string_bytes e.token) ≡ Some (entry_value e)
   entry_held e h = get_held entry_total entry_exact entry_key entry_value rows.entries.items apart.entries e h
 
-  pub record_held : ((r : ℕ) → keeps rows r ≡ true) → (r : RawRecord) → Has rows.records.items r
-      → record_at (vault_of rows) (string_bytes r.caller) (natural r.request) ≡ Some (record_value r)
-  record_held keep r h =
-      get_held record_total record_exact record_key record_value rows.records.items
-      (apart_by request_key record_key rows.records.items (λ a b g k same. numbered a b g k same) apart.records) r h
+  -- requests that are apart have keys that are apart, since they aren't negative
+  requests_apart : ((r : ℕ) → keeps rows r ≡ true) → AreKeysApart record_key rows.records.items
+  requests_apart keep = apart_by request_key record_key rows.records.items numbered apart.records
     where
       numbered : (a b : RawRecord) → Has rows.records.items a → Has rows.records.items b → record_key a ≡ record_key b → request_key a ≡ request_key b
       numbered a b g k same =
           let request : a.request ≡ b.request =
           (kept.records_well rows keep a g).request.is ∙ ap (λ (key : Bytes × ℕ). pos key.1) same ∙ sym (kept.records_well rows keep b k).request.is in
           λ i. ((same i).0, request i)
+
+  pub record_held : ((r : ℕ) → keeps rows r ≡ true) → (r : RawRecord) → Has rows.records.items r
+      → record_at (vault_of rows) (string_bytes r.caller) (natural r.request) ≡ Some (record_value r)
+  record_held keep r h =
+      get_held record_total record_exact record_key record_value rows.records.items (requests_apart keep) r h
+
+  pub entries_many : finite.len (vault_of rows).entries ≡ length rows.entries.items
+  entries_many = len_is entry_total entry_exact entry_key entry_value rows.entries.items apart.entries
+
+  pub records_many : ((r : ℕ) → keeps rows r ≡ true) → finite.len (vault_of rows).records ≡ length rows.records.items
+  records_many keep = len_is record_total record_exact record_key record_value rows.records.items (requests_apart keep)
 
 module _ (rows : Rows) where
   pub right_held : (r : RawRight) → Has rows.rights.items r → has_right (vault_of rows) (string_bytes r.caller) (string_bytes r.merchant) (right_of r.what) ≡ true

@@ -1,0 +1,90 @@
+-- What the verdict over rows comes to.
+use Rattle.std.proofs.Common.{◌≡◌, ◌≢◌, ℕ, ℤ, pos, List, [], ◌∷◌, ◌&&◌, not, true, false, Bool, cond, Option, Some, None, option_map, refl, Ok, Err, Result, IfOk, OnOk, sym, ap, subst, ◌∙◌, true≢false}
+use Rattle.std.proofs.lemmas.List.Sorted.{IsPermutation-sym}
+use Rattle.std.specs.List.{find}
+use Rattle.std.specs.Ordering.{int_eq}
+use Rattle.sqlite.specs.Effect.{Database, IsDatabase}
+use Rattle.sqlite.specs.State.{State, IsUnchanged}
+use Rattle.vault_core.specs.Sound.{Sound}
+use Rattle.vault_core.specs.Vault.{Vault}
+use Rattle.vault_recover.proofs.Chains.{ours_then}
+use Rattle.vault_recover.proofs.FromStands.{stands_shows}
+use Rattle.vault_recover.proofs.Once.{apart_keys}
+use Rattle.vault_recover.proofs.Stood.{they_stand}
+use Rattle.vault_recover.proofs.Tallies.{apart_permuted}
+use Rattle.vault_recover.specs.Apart.{AreApart}
+use Rattle.vault_recover.specs.Opened.{AreRaws, AreVersions, IsLeastBroken, IsOtherVersion, IsSoundOf, StandsSound}
+use Rattle.vault_recover.specs.Reading.{IsOurs}
+use Rattle.vault_recover.specs.Sizes.{counts_of, sizes_of}
+use Rattle.vault_recover.specs.Versions.{is_other, other_version}
+use Rattle.vault_recover.specs.declared.fault.OpenFault.{OpenFault}
+use Rattle.vault_recover.specs.declared.sizes.Sizes.{Sizes}
+use Rattle.vault_rules.proofs.AllKept.{all_kept}
+use Rattle.vault_rules.proofs.Found.{many_is}
+use Rattle.vault_rules.proofs.Held.{entries_many, records_many}
+use Rattle.vault_rules.proofs.Numbers.{int_is, int_same}
+use Rattle.vault_rules.proofs.RowsShow.{rows_show}
+use Rattle.vault_rules.proofs.VaultSound.{vault_is_sound}
+use Rattle.vault_rules.specs.Rules.{keeps}
+use Rattle.vault_rules.specs.VaultOf.{HasKeysApart, vault_of}
+use Rattle.vault_rules.specs.declared.rows.RawVersion.{RawVersion}
+use Rattle.vault_rules.specs.declared.rows.Rows.{Rows}
+
+-- the one row of `vault` says the version 1
+version_is : (v : RawVersion) → v.id ≡ pos 1 → other_version (v ∷ []) ≡ None → v.version ≡ pos 1
+version_is v id none = by_test (int_eq v.version (pos 1)) refl
+  where
+    by_test : (b : Bool) → int_eq v.version (pos 1) ≡ b → v.version ≡ pos 1
+    by_test true e = int_is v.version (pos 1) e
+    by_test false e =
+        let other : is_other v ≡ true = (λ i. int_same v.id (pos 1) id i && not (e i)) in
+        let clash = sym none ∙ ap (λ b. option_map (λ (v : RawVersion). v.version) (cond b (Some v) None)) other in absurd cc
+
+pub sound_of : (db : Database) → IsOurs db → IsDatabase db → (rows : Rows) → AreRaws db.trees rows → ((r : ℕ) → keeps rows r ≡ true) → AreApart rows
+    → other_version rows.versions.items ≡ None → IsSoundOf db (counts_of rows)
+sound_of db ours sound rows raws keep apart says =
+    let keys = apart_keys db ours.schema sound rows raws apart in
+    let shows = rows_show rows keys keep in
+    let version = version_is shows.version shows.id (subst (λ vs. other_version vs ≡ None) shows.versions says) in
+    record {
+      it = record {
+        schema = ours.schema;
+        vault = vault_of rows;
+        sound = vault_is_sound rows keys keep;
+        stands = they_stand rows keys keep db raws apart ours.schema sound shows.version shows.versions shows.id version;
+      };
+      sizes_are = λ i. record {
+        merchants = sym (many_is rows keys) i;
+        entries = sym (entries_many rows keys) i;
+        records = sym (records_many rows keys keep) i;
+      };
+    }
+
+-- what was read of a database that stayed as it was
+pub raws_of : (old mid : State) → IsUnchanged old mid → IsOurs old.now → (versions : List RawVersion) → AreVersions old.now.trees versions → (rows : Rows)
+    → (IsOurs mid.now → AreVersions mid.now.trees versions → AreRaws mid.now.trees rows) → AreRaws old.now.trees rows
+raws_of old mid same ours versions are rows told =
+    subst (λ (d : Database). AreRaws d.trees rows) same.0.now_is
+    (told (ours_then old mid same ours) (subst (λ (d : Database). AreVersions d.trees versions) (sym same.0.now_is) are))
+
+pub judged : (P : Type 0) (Q : Sizes → Type 0) (r : Result Sizes OpenFault) (rows : Rows) → IfOk r (λ sizes. sizes ≡ counts_of rows)
+    → OnOk r ((n : ℕ) → keeps rows n ≡ true) → OnOk r (AreApart rows)
+    → (((n : ℕ) → keeps rows n ≡ true) → AreApart rows → P → Q (counts_of rows)) → IfOk r (λ sizes. P → Q sizes)
+judged P Q (Ok sizes) rows is keep apart f = λ p. subst Q (sym is) (f keep apart p)
+judged P Q (Err fault) rows is keep apart f = tt
+
+module _ (db : Database) (it : StandsSound db) where
+  apart_of : (rows : Rows) → AreRaws db.trees rows → AreApart rows
+  apart_of rows raws = record {
+    merchants = apart_permuted _ _ raws.merchants.merchants_are it.stands.merchants.apart;
+    counts = apart_permuted _ _ raws.merchants.counts_are it.stands.counts.apart;
+    entries = apart_permuted _ _ raws.others.entries_are it.stands.entries.apart;
+    records = apart_permuted _ _ raws.others.records_are it.stands.records.apart;
+    rights = apart_permuted _ _ raws.others.rights_are it.stands.rights.apart;
+  }
+
+  -- the rows of a database that stands for a sound vault break no rule
+  pub never_broken : (rule : ℕ) → IsLeastBroken db rule → ⊥
+  never_broken rule least =
+      let keys = apart_keys db it.schema least.is least.rows least.are (apart_of least.rows least.are) in
+      true≢false (sym (all_kept least.rows it.vault (stands_shows db.trees it.vault it.stands least.rows least.are keys) it.sound keys rule) ∙ least.least.broken)

@@ -1,0 +1,50 @@
+//! Whether rows are those of a sound vault.
+ghost use Rattle.std.specs.Prelude.{◌≡◌, ◌≢◌, ℤ, ℕ, true, IfErr, IfOk, OnOk};
+ghost use Rattle.vault_recover.specs.Apart.{AreApart};
+ghost use Rattle.vault_recover.specs.Sizes.{counts_of};
+ghost use Rattle.vault_recover.specs.Versions.{is_other, other_version};
+ghost use Rattle.vault_rules.specs.Rules.{IsLeastBroken, keeps};
+
+use crate::apart::are_apart;
+use crate::fault::OpenFault;
+use crate::sizes::Sizes;
+use std::alloc::Global;
+use vault_rules::least::least_broken;
+use vault_rules::rows::{RawVersion, Rows};
+
+/// The version of the schema that this program reads and writes.
+const VERSION: i64 = 1;
+
+/// Whether this is the row with the id 1, and says another version.
+fn is_other(row: &RawVersion) -> bool
+    ensures { result ≡ is_other row.now }
+{
+    row.id == 1 && row.version != VERSION
+}
+
+/// The version of the row with the id 1, where it isn't this program's.
+pub(crate) fn other_version(versions: &[RawVersion]) -> Option<i64>
+    ensures { result ≡ other_version versions.now }
+{
+    versions
+        .iter()
+        .find(|row| is_other(row))
+        .map(|row| row.version)
+}
+
+/// The sizes of rows that keep each rule; 31 names the least that they break.
+pub(crate) fn judge(alloc: Global, rows: &Rows) -> Result<Sizes, OpenFault>
+    ensures sizes { IfOk result (λ sizes. sizes ≡ counts_of rows.now) }
+    ensures kept { OnOk result ((r : ℕ) → keeps rows.now r ≡ true) }
+    ensures apart { OnOk result (AreApart rows.now) }
+    ensures damaged { IfErr result (λ e. (rule : ℕ) → e ≡ OpenFault.Damaged rule → IsLeastBroken rows.now rule) }
+    ensures versioned { IfErr result (λ e. (n : ℤ) → e ≢ OpenFault.WrongSchema n) }
+{
+    if let Some(rule) = least_broken(alloc, rows)? {
+        return Err(OpenFault::Damaged(rule));
+    }
+    if !are_apart(alloc, rows)? {
+        return Err(OpenFault::Store);
+    }
+    Ok(Sizes::of(rows))
+}

@@ -1,0 +1,31 @@
+//! Whether a file's rows are those of a sound vault.
+ghost use Rattle.std.specs.Prelude.{◌≡◌, ℤ, ℕ, IfOk, IfErr, OnOk};
+ghost use Rattle.sqlite.specs.Held.{state};
+ghost use Rattle.sqlite.specs.State.{HasCleanDisk, IsUnchanged};
+ghost use Rattle.vault_recover.specs.Opened.{IsLeastBroken, IsOtherVersion, IsSoundOf};
+ghost use Rattle.vault_recover.specs.Reading.{IsOurs, IsQuiet};
+ghost use Rattle.vault_sql.specs.Schema.{vault_schema};
+
+use crate::fault::OpenFault;
+use crate::judge::{judge, other_version};
+use crate::read;
+use crate::rows::rows;
+use crate::sizes::Sizes;
+use sqlite::{Alter, Connection};
+use std::alloc::Global;
+
+/// Reads all tables, and says what they hold where they stand for a sound vault.
+pub(crate) fn verdict<S: Alter>(alloc: Global, conn: &mut Connection<S>) -> Result<Sizes, OpenFault>
+    ensures sound { HasCleanDisk (state S.Store conn.new) → IfOk result (λ sizes. IsOurs (state S.Store conn.old).now → IsSoundOf (state S.Store conn.old).now sizes) }
+    ensures kept { HasCleanDisk (state S.Store conn.new) → OnOk result ((state S.Store conn.old).now.schema ≡ vault_schema → IsUnchanged (state S.Store conn.old) (state S.Store conn.new)) }
+    ensures damaged { HasCleanDisk (state S.Store conn.new) → IfErr result (λ e. (rule : ℕ) → e ≡ OpenFault.Damaged rule → IsOurs (state S.Store conn.old).now → IsLeastBroken (state S.Store conn.old).now rule) }
+    ensures versioned { HasCleanDisk (state S.Store conn.new) → IfErr result (λ e. (n : ℤ) → e ≡ OpenFault.WrongSchema n → IsOurs (state S.Store conn.old).now → IsOtherVersion (state S.Store conn.old).now n) }
+    ensures quiet { IsQuiet (state S.Store conn.old) (state S.Store conn.new) }
+{
+    let versions = read::versions(alloc, conn)?;
+    if let Some(version) = other_version(&versions) {
+        return Err(OpenFault::WrongSchema(version));
+    }
+    let rows = rows(alloc, conn, versions)?;
+    judge(alloc, &rows)
+}
