@@ -127,6 +127,17 @@ nonzero V m kind some = first (kind == 1) refl some
     first true e some = inl ((Decides-eqb kind 1).0 e, refl)
     first false e some = second (kind == 2) refl some
 
+-- the one row of `vault` has the id 1 and the version 1
+pub version_of : (db : Trees) → db 0 ≡ (Int (pos 1) ∷ Null ∷ Int (pos 1) ∷ []) ∷ [] → (versions : List RawVersion)
+    → IsPermutation (map (shown_by version_columns) (db 0)) (map version_values versions)
+    → (v : RawVersion) × (versions ≡ v ∷ []) × (v.id ≡ pos 1) × (v.version ≡ pos 1)
+version_of db is versions same =
+    let shown : map (shown_by version_columns) (db 0) ≡ (Int (pos 1) ∷ Int (pos 1) ∷ []) ∷ [] = ap (map (shown_by version_columns)) is in
+    let one = alone (map version_values versions) (Int (pos 1) ∷ Int (pos 1) ∷ [])
+    (IsPermutation-sym _ _ (subst (λ l. IsPermutation l (map version_values versions)) shown same)) in
+    let it = one_shown version_values versions (Int (pos 1) ∷ Int (pos 1) ∷ []) one in
+    (it.0, it.1, ap (λ r. int_in (column r 0)) it.2, ap (λ r. int_in (column r 1)) it.2)
+
 module _ (db : Trees) (V : Vault) (stands : Stands db V) (rows : Rows) (raws : AreRaws db rows) (apart : HasKeysApart rows) where
   merchant_shown : (m : RawMerchant) → Has rows.merchants.items m
       → (merchant : Merchant) × (merchant_at V (string_bytes m.name) ≡ Some merchant) × ShowsMerchant m merchant
@@ -223,18 +234,9 @@ module _ (db : Trees) (V : Vault) (stands : Stands db V) (rows : Rows) (raws : A
   held_made : (name : Bytes) → held_by rows.entries.items name ≡ made V name
   held_made name = sym (made_is rows apart name) ∙ ap (λ es. finite.len (finite.retain_keys es (λ key. eq_by_cmp bytes_cmp name key.0))) (sym same_entries)
 
-  version_of : (versions : List RawVersion) → IsPermutation (map (shown_by version_columns) (db 0)) (map version_values versions)
-      → (v : RawVersion) × (versions ≡ v ∷ []) × (v.id ≡ pos 1)
-  version_of versions same =
-      let shown : map (shown_by version_columns) (db 0) ≡ (Int (pos 1) ∷ Int (pos 1) ∷ []) ∷ [] = ap (map (shown_by version_columns)) stands.version in
-      let one = alone (map version_values versions) (Int (pos 1) ∷ Int (pos 1) ∷ [])
-      (IsPermutation-sym _ _ (subst (λ l. IsPermutation l (map version_values versions)) shown same)) in
-      let it = one_shown version_values versions (Int (pos 1) ∷ Int (pos 1) ∷ []) one in
-      (it.0, it.1, ap (λ r. int_in (column r 0)) it.2)
-
   pub stands_shows : Shows rows V
   stands_shows =
-      let version = version_of rows.versions.items raws.versions in
+      let version = version_of db stands.version rows.versions.items raws.versions in
       let many = as_many bytes_cmp merchant_row merchant_coding lives_in (db 1) V.merchants stands.merchants in
       let size = length_permutation (db 1) (map merchant_values rows.merchants.items) raws.merchants.merchants_are in
       record {

@@ -1,23 +1,28 @@
 -- What the verdict over rows comes to.
-use Rattle.std.proofs.Common.{◌≡◌, ◌≢◌, ℕ, ℤ, pos, List, [], ◌∷◌, ◌&&◌, not, true, false, Bool, cond, Option, Some, None, option_map, refl, Ok, Err, Result, IfOk, OnOk, sym, ap, subst, ◌∙◌, true≢false}
+use Rattle.std.proofs.Common.{arith, drop, length, ◌<◌, ◌≡◌, ◌≢◌, ℕ, ℤ, pos, List, [], ◌∷◌, ◌&&◌, not, true, false, Bool, cond, Option, Some, None, option_map, refl, Ok, Err, Result, IfOk, IfErr, OnOk, inl, inr, sym, ap, subst, ◌∙◌, true≢false}
 use Rattle.std.proofs.lemmas.List.Sorted.{IsPermutation-sym}
 use Rattle.std.specs.List.{find}
 use Rattle.std.specs.Ordering.{int_eq}
 use Rattle.sqlite.specs.Effect.{Database, IsDatabase}
+use Rattle.sqlite.specs.Order.{Row}
 use Rattle.sqlite.specs.State.{State, IsUnchanged}
 use Rattle.vault_core.specs.Sound.{Sound}
 use Rattle.vault_core.specs.Vault.{Vault}
 use Rattle.vault_recover.proofs.Chains.{ours_then}
-use Rattle.vault_recover.proofs.FromStands.{stands_shows}
+use Rattle.vault_recover.proofs.FromStands.{stands_shows, version_of}
+use Rattle.vault_recover.proofs.Holders.{blank_nobody}
 use Rattle.vault_recover.proofs.Once.{apart_keys}
 use Rattle.vault_recover.proofs.Stood.{they_stand}
 use Rattle.vault_recover.proofs.Tallies.{apart_permuted}
 use Rattle.vault_recover.specs.Apart.{AreApart}
-use Rattle.vault_recover.specs.Opened.{AreRaws, AreVersions, IsLeastBroken, IsOtherVersion, IsSoundOf, StandsSound}
+use Rattle.vault_recover.specs.Opened.{AreRaws, AreVersions, IsFit, IsLeastBroken, IsNoRefusal, IsOtherVersion, IsSoundOf, StandsSound}
+use Rattle.vault_recover.specs.Names.{holder_of}
 use Rattle.vault_recover.specs.Reading.{IsOurs}
 use Rattle.vault_recover.specs.Sizes.{counts_of, sizes_of}
 use Rattle.vault_recover.specs.Versions.{is_other, other_version}
 use Rattle.vault_recover.specs.declared.fault.OpenFault.{OpenFault}
+use Rattle.vault_recover.specs.declared.fault.OpenFault.TheVariants.{WrongSchema, Damaged}
+use Rattle.vault_recover.specs.declared.names.Holder.TheVariants as holder
 use Rattle.vault_recover.specs.declared.sizes.Sizes.{Sizes}
 use Rattle.vault_rules.proofs.AllKept.{all_kept}
 use Rattle.vault_rules.proofs.Found.{many_is}
@@ -88,3 +93,33 @@ module _ (db : Database) (it : StandsSound db) where
   never_broken rule least =
       let keys = apart_keys db it.schema least.is least.rows least.are (apart_of least.rows least.are) in
       true≢false (sym (all_kept least.rows it.vault (stands_shows db.trees it.vault it.stands least.rows least.are keys) it.sound keys rule) ∙ least.least.broken)
+
+  -- nor do they say another version
+  pub never_other : (n : ℤ) → IsOtherVersion db n → ⊥
+  never_other n other =
+      let v = version_of db.trees it.stands.version other.versions other.are in
+      let same : is_other v.0 ≡ false = (λ i. int_eq (v.2 i) (pos 1) && not (int_eq (v.3 i) (pos 1))) in
+      let none : other_version other.versions ≡ None = ap other_version v.1 ∙ ap (λ b. option_map (λ (v : RawVersion). v.version) (cond b (Some v.0) None)) same in
+      let clash = sym none ∙ other.says in cc
+
+  -- and each row of `entries` has all its columns
+  pub ours_of : IsOurs db
+  ours_of = record {
+    schema = it.schema;
+    full = λ row there. let found = it.stands.entries.sound row there in behind row (ap length found.2);
+  }
+    where
+      behind : (row : Row) → length (drop 1 row) ≡ 7 → 7 < length row
+      behind [] e = absurd (omega (arith, e))
+      behind (v ∷ row) e = omega (arith, e)
+
+-- a database that is fit is refused by no version and no rule
+pub no_refusal : {A : Type 0} (db : Database) → holder_of db.schema ≡ holder.Vault → (r : Result A OpenFault)
+    → IfErr r (λ e. (rule : ℕ) → e ≡ Damaged rule → IsOurs db → IsLeastBroken db rule)
+    → IfErr r (λ e. (n : ℤ) → e ≡ WrongSchema n → IsOurs db → IsOtherVersion db n)
+    → IfErr r (λ e. IsFit db → IsNoRefusal e)
+no_refusal db vault (Ok a) damaged versioned = tt
+no_refusal db vault (Err e) damaged versioned = λ fit. elim fit as (λ _. IsNoRefusal e) [
+  | inl it ↦ (λ n same. never_other db it n (versioned n same (ours_of db it)), λ rule same. never_broken db it rule (damaged rule same (ours_of db it)))
+  | inr blank ↦ absurd (let clash = sym (blank_nobody db.schema blank) ∙ vault in cc)
+]

@@ -2,6 +2,7 @@ pub mod Chains
 pub mod Columns
 pub mod Decoded
 pub mod FromStands
+pub mod Holders
 pub mod Judged
 pub mod Once
 pub mod Results

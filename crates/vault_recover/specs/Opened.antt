@@ -1,15 +1,19 @@
 -- What an open finds.
-use Rattle.std.specs.Prelude.{◌≡◌, ℕ, ℤ, List, map, Some}
+use Rattle.std.specs.Prelude.{◌≡◌, ◌≢◌, ◌⊎◌, ℕ, ℤ, pos, List, map, Some, IsTrue}
 use Rattle.std.specs.List.Sorted.{IsPermutation}
 use Rattle.sqlite.specs.Effect.{Database, IsDatabase}
 use Rattle.sqlite.specs.State.{State}
 use Rattle.sqlite.specs.Tree.{Trees}
 use Rattle.vault_core.specs.Sound.{Sound}
-use Rattle.vault_core.specs.Vault.{Vault}
+use Rattle.vault_core.specs.Vault.{Vault, empty_vault}
+use Rattle.vault_recover.specs.Names.{holder_of}
 use Rattle.vault_recover.specs.Raw.{version_values, merchant_values, count_values, entry_values, record_values, right_values}
 use Rattle.vault_recover.specs.Reading.{IsOurs, shown_by, version_columns}
 use Rattle.vault_recover.specs.Sizes.{sizes_of}
 use Rattle.vault_recover.specs.Versions.{other_version}
+use Rattle.vault_recover.specs.declared.fault.OpenFault.{OpenFault}
+use Rattle.vault_recover.specs.declared.fault.OpenFault.TheVariants.{WrongSchema, Damaged}
+use Rattle.vault_recover.specs.declared.names.Holder.TheVariants as holder
 use Rattle.vault_recover.specs.declared.sizes.Sizes.{Sizes}
 use Rattle.vault_rules.specs.Rules as rules
 use Rattle.vault_rules.specs.declared.rows.RawVersion.{RawVersion}
@@ -20,7 +24,8 @@ use Rattle.vault_rules.specs.declared.rows.RawRecord.{RawRecord}
 use Rattle.vault_rules.specs.declared.rows.RawRight.{RawRight}
 use Rattle.vault_rules.specs.declared.rows.Rows.{Rows}
 use Rattle.vault_sql.specs.Holds.{Holds}
-use Rattle.vault_sql.specs.Schema.{vault_schema}
+use Rattle.vault_sql.specs.Making.{IsReady}
+use Rattle.vault_sql.specs.Schema.{no_schema, vault_schema}
 use Rattle.vault_sql.specs.Stands.{Stands}
 
 -- the rows of `vault` as they stand, in some order
@@ -74,3 +79,33 @@ pub record HoldsSound (s : State) : Type 0 where
   pub vault : Vault
   pub sound : Sound vault
   pub holds : Holds s vault
+
+-- The premise on a file: where it has the names of a vault's tables and indexes, and no others, these are a
+-- vault's tables.
+abbrev pub IsKnown : Database → Type 0
+IsKnown db = holder_of db.schema ≡ holder.Vault → IsOurs db
+
+-- the version is another one, or 0 where some of a vault's names are taken and not all, or not alone
+abbrev pub IsWrong : Database → ℤ → Type 0
+IsWrong db n = (n ≡ pos 0) × (holder_of db.schema ≡ holder.Mixed) ⊎ IsOtherVersion db n
+
+-- the database stands for a sound vault, or has no table, index or view
+abbrev pub IsFit : Database → Type 0
+IsFit db = StandsSound db ⊎ (db.schema ≡ no_schema)
+
+-- what is answered to a database that isn't fit: neither a wrong schema nor damage
+abbrev pub IsNoRefusal : OpenFault → Type 0
+IsNoRefusal e = ((n : ℤ) → e ≢ WrongSchema n) × ((rule : ℕ) → e ≢ Damaged rule)
+
+-- a vault's tables hold a sound vault and are as they were; without a table they hold the empty vault
+pub record Opens (old new : State) : Type 0 where
+  pub whose : (old.now.schema ≡ no_schema) ⊎ (holder_of old.now.schema ≡ holder.Vault)
+  pub ours : IsOurs old.now → HoldsSound new × (new.now ≡ old.now)
+  pub blank : IsTrue old.is_open → old.now.schema ≡ no_schema → Holds new empty_vault
+
+-- What a crash may leave now: where a vault was held, that vault; where there was no table, what was
+-- committed or the empty vault.
+pub record LeavesFound (old new : State) : Type 0 where
+  pub held : (V : Vault) → Holds old V → (db : Trees) → new.may_leave db → Stands db V
+  pub blank : IsReady old → old.now.schema ≡ no_schema → (db : Trees) → new.may_leave db
+      → (db ≡ old.committed.trees) ⊎ Stands db empty_vault

@@ -2,15 +2,13 @@
 #![tactic(auto)]
 
 mod apart;
-mod fault;
+pub mod check;
+pub mod fault;
 mod judge;
 mod names;
 mod raws;
 mod read;
 mod rows;
-mod sizes;
+pub mod sizes;
 mod table;
 mod verdict;
-
-pub use fault::OpenFault;
-pub use sizes::Sizes;

@@ -1,0 +1,38 @@
+//! The whole check of a file.
+ghost use Rattle.std.specs.Prelude.{◌≡◌, ◌⊎◌, ℤ, ℕ, IfOk, IfErr, OnOk};
+ghost use Rattle.sqlite.specs.Held.{state};
+ghost use Rattle.sqlite.specs.State.{HasCleanDisk};
+ghost use Rattle.vault_core.specs.Vault.{empty_vault};
+ghost use Rattle.vault_recover.specs.Opened.{IsFit, IsKnown, IsLeastBroken, IsNoRefusal, IsSoundOf, IsWrong};
+ghost use Rattle.vault_recover.specs.Reading.{IsQuiet};
+ghost use Rattle.vault_recover.specs.Sizes.{sizes_of};
+ghost use Rattle.vault_sql.specs.Schema.{no_schema};
+
+use crate::fault::OpenFault;
+use crate::names::{Holder, holder_in};
+use crate::sizes::Sizes;
+use crate::verdict::verdict;
+use sqlite::{Alter, Connection};
+use std::alloc::Global;
+
+/// Checks a file whole, and says how much the vault in it holds. It writes nothing: a file without any table is
+/// the empty vault, and stays as it is.
+///
+/// Refused by 30 with the version that the file says, where it isn't 1, or with 0 where some of a vault's names
+/// are there and one is missing, or others stand beside them; by 31 with the least rule that the rows break; by
+/// 32 where memory ran out; by 33 where the database failed, or the tables are another program's alone.
+pub fn check<S: Alter>(alloc: Global, conn: &mut Connection<S>) -> Result<Sizes, OpenFault>
+    ensures sound { HasCleanDisk (state S.Store conn.new) → IfOk result (λ sizes. IsKnown (state S.Store conn.old).now
+        → ((state S.Store conn.old).now.schema ≡ no_schema) × (sizes ≡ sizes_of empty_vault) ⊎ IsSoundOf (state S.Store conn.old).now sizes) }
+    ensures damaged { HasCleanDisk (state S.Store conn.new) → IfErr result (λ e. (rule : ℕ) → e ≡ OpenFault.Damaged rule → IsKnown (state S.Store conn.old).now → IsLeastBroken (state S.Store conn.old).now rule) }
+    ensures wrong { HasCleanDisk (state S.Store conn.new) → IfErr result (λ e. (n : ℤ) → e ≡ OpenFault.WrongSchema n → IsKnown (state S.Store conn.old).now → IsWrong (state S.Store conn.old).now n) }
+    ensures never { HasCleanDisk (state S.Store conn.new) → IfErr result (λ e. IsFit (state S.Store conn.old).now → IsNoRefusal e) }
+    ensures quiet { IsQuiet (state S.Store conn.old) (state S.Store conn.new) }
+{
+    match holder_in(conn.schema()) {
+        Holder::Nobody => Ok(Sizes::NONE),
+        Holder::Vault => verdict(alloc, conn),
+        Holder::Mixed => Err(OpenFault::WrongSchema(0)),
+        Holder::Other => Err(OpenFault::Store),
+    }
+}
