@@ -5,6 +5,7 @@ pub mod FromStands
 pub mod Holders
 pub mod Judged
 pub mod Once
+pub mod Opening
 pub mod Results
 pub mod Rising
 pub mod Standing

@@ -6,6 +6,7 @@ pub mod check;
 pub mod fault;
 mod judge;
 mod names;
+pub mod open;
 mod raws;
 mod read;
 mod rows;

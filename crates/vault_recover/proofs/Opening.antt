@@ -1,0 +1,80 @@
+-- What an open comes to.
+use Rattle.std.proofs.Common.{◌≡◌, ◌⊎◌, inl, inr, not, false, true, Bool, None, IsTrue, refl, sym, ap, subst, ◌∙◌}
+use Rattle.sqlite.specs.Effect.{Database}
+use Rattle.sqlite.specs.State.{State, HasCleanDisk, IsUnchanged}
+use Rattle.sqlite.specs.Tree.{Trees}
+use Rattle.vault_core.specs.Vault.{Vault, empty_vault}
+use Rattle.vault_recover.proofs.Holders.{blank_nobody}
+use Rattle.vault_recover.specs.Names.{holder_of}
+use Rattle.vault_recover.specs.Opened.{HoldsSound, IsSoundOf, LeavesFound, Opens}
+use Rattle.vault_recover.specs.Reading.{IsOurs, IsQuiet}
+use Rattle.vault_recover.specs.declared.names.Holder.TheVariants.{Nobody, Vault as Ours, Mixed, Other}
+use Rattle.vault_recover.specs.declared.sizes.Sizes.{Sizes}
+use Rattle.vault_sql.specs.Holds.{Holds, LeavesNoMore}
+use Rattle.vault_sql.specs.Making.{IsReady}
+use Rattle.vault_sql.specs.Schema.{no_schema, vault_schema}
+use Rattle.vault_sql.specs.Stands.{Stands}
+
+-- only the last commit may be left
+abbrev pub IsSettled : State → Type 0
+IsSettled s = (db : Trees) → IsTrue s.is_open → s.may_leave db → db ≡ s.committed.trees
+
+-- where a vault is held, and a crash leaves no more than its last commit
+left_held : (old : State) (V : Vault) → IsSettled old → Holds old V → (db : Trees) → old.may_leave db → Stands db V
+left_held old V settled h db left =
+    subst (λ (t : Trees). Stands t V) (ap (λ (d : Database). d.trees) h.settled ∙ sym (settled db h.is_open left)) h.stands
+
+-- a schema that holds a vault, and one that holds nothing
+apart : no_schema ≡ vault_schema → ⊥
+apart e = let clash : Nobody ≡ Ours = ap holder_of e in cc
+
+pub left_vault : (old new : State) → holder_of old.now.schema ≡ Ours → IsSettled old → IsQuiet old new → HasCleanDisk new → LeavesFound old new
+left_vault old new ours settled quiet clean = record {
+  held = λ V h db left. left_held old V settled h db (quiet.left clean h.schema db left);
+  blank = λ ready blank db left. absurd (let clash = sym (blank_nobody old.now.schema blank) ∙ ours in cc);
+}
+
+pub left_as_it_was : (old : State) → (old.now.schema ≡ no_schema → ⊥) → IsSettled old → LeavesFound old old
+left_as_it_was old some settled = record {
+  held = λ V h db left. left_held old V settled h db left;
+  blank = λ ready blank db left. absurd (some blank);
+}
+
+pub left_blank : (old new : State) → old.now.schema ≡ no_schema
+    → (IsReady old → (db : Trees) → new.may_leave db → (db ≡ old.committed.trees) ⊎ Stands db empty_vault) → LeavesFound old new
+left_blank old new blank crash = record {
+  held = λ V h db left. absurd (apart (sym blank ∙ h.schema));
+  blank = λ ready none db left. crash ready db left;
+}
+
+pub opens_vault : (old new : State) (autocommit : Bool) (sizes : Sizes) → autocommit ≡ not old.in_transaction → old.in_transaction ≡ false → old.step_limit ≡ None
+    → (IsTrue autocommit → IsTrue old.is_open → old.now ≡ old.committed) → holder_of old.now.schema ≡ Ours → new.step_limit ≡ old.step_limit
+    → (IsOurs old.now → IsSoundOf old.now sizes) → (old.now.schema ≡ vault_schema → IsUnchanged old new) → Opens old new
+opens_vault old new autocommit sizes is idle unlimited settled ours limit sound kept = record {
+  whose = inr ours;
+  ours = λ it.
+      let same = kept it.schema in
+      let found = (sound it).it in
+      let holds : Holds new found.vault = record {
+        is_open = same.0.is_open;
+        autocommit = same.0.mode ∙ idle;
+        unlimited = limit ∙ unlimited;
+        schema = ap (λ (d : Database). d.schema) same.0.now_is ∙ found.schema;
+        settled = same.0.now_is ∙ settled (is ∙ ap not idle) same.0.was_open ∙ sym same.0.committed_is;
+        stands = subst (λ (d : Database). Stands d.trees found.vault) (sym same.0.now_is) found.stands;
+      } in
+      (record { vault = found.vault; sound = found.sound; holds = holds }, same.0.now_is);
+  blank = λ is_open blank. absurd (let clash = sym (blank_nobody old.now.schema blank) ∙ ours in cc);
+}
+
+pub ready_is : (old : State) (autocommit : Bool) → autocommit ≡ not old.in_transaction → old.in_transaction ≡ false → old.step_limit ≡ None
+    → (IsTrue autocommit → IsTrue old.is_open → old.now ≡ old.committed) → IsTrue old.is_open → IsReady old
+ready_is old autocommit is idle unlimited settled is_open =
+    record { is_open = is_open; autocommit = idle; unlimited = unlimited; settled = settled (is ∙ ap not idle) is_open }
+
+pub opens_blank : (old new : State) → old.now.schema ≡ no_schema → (IsTrue old.is_open → IsReady old) → (IsReady old → Holds new empty_vault) → Opens old new
+opens_blank old new blank ready made = record {
+  whose = inl blank;
+  ours = λ it. absurd (apart (sym blank ∙ it.schema));
+  blank = λ is_open none. made (ready is_open);
+}

@@ -1,0 +1,72 @@
+//! A vault is opened from a file.
+ghost use Rattle.std.specs.Prelude.{◌≡◌, ℤ, ℕ, false, None, IfOk, IfErr, OnOk};
+ghost use Rattle.sqlite.specs.Held.{state};
+ghost use Rattle.sqlite.specs.State.{HasCleanDisk};
+ghost use Rattle.vault_recover.specs.Opened.{IsFit, IsKnown, IsLeastBroken, IsNoRefusal, IsWrong, LeavesFound, Opens};
+ghost use Rattle.vault_recover.specs.Reading.{IsQuiet};
+ghost use Rattle.vault_sql.specs.Holds.{Holds};
+ghost use Rattle.vault_store.specs.Applied.{is_broken, tables_of};
+
+use crate::fault::OpenFault;
+use crate::names::{Holder, holder_in};
+use crate::verdict::verdict;
+use sqlite::{Alter, Connection};
+use std::alloc::Global;
+use vault_sql::schema::make_schema;
+use vault_sql::tables::SqlTables;
+use vault_store::vault::Vault;
+
+/// Makes the tables of the empty vault where there is no table, and else checks those that are there.
+fn ready<S: Alter>(alloc: Global, conn: &mut Connection<S>) -> Result<(), OpenFault>
+    requires idle { conn.old.in_transaction ≡ false }
+    requires unlimited { conn.old.step_limit ≡ None }
+    ensures opens { HasCleanDisk (state S.Store conn.new) → OnOk result (Opens (state S.Store conn.old) (state S.Store conn.new)) }
+    ensures damaged { HasCleanDisk (state S.Store conn.new) → IfErr result (λ e. (rule : ℕ) → e ≡ OpenFault.Damaged rule → IsKnown (state S.Store conn.old).now → IsLeastBroken (state S.Store conn.old).now rule) }
+    ensures wrong { HasCleanDisk (state S.Store conn.new) → IfErr result (λ e. (n : ℤ) → e ≡ OpenFault.WrongSchema n → IsKnown (state S.Store conn.old).now → IsWrong (state S.Store conn.old).now n) }
+    ensures never { HasCleanDisk (state S.Store conn.new) → IfErr result (λ e. IsFit (state S.Store conn.old).now → IsNoRefusal e) }
+    ensures left { HasCleanDisk (state S.Store conn.new) → LeavesFound (state S.Store conn.old) (state S.Store conn.new) }
+    ensures idle { conn.new.in_transaction ≡ false }
+{
+    let _settled = conn.is_autocommit();
+    match holder_in(conn.schema()) {
+        Holder::Nobody => match make_schema(conn) {
+            Ok(()) => Ok(()),
+            Err(_) => Err(OpenFault::Store),
+        },
+        Holder::Vault => match verdict(alloc, conn) {
+            Ok(_) => Ok(()),
+            Err(fault) => Err(fault),
+        },
+        Holder::Mixed => Err(OpenFault::WrongSchema(0)),
+        Holder::Other => Err(OpenFault::Store),
+    }
+}
+
+/// Opens the vault in a file; a refusal hands the connection back. A file without any table gets the tables of
+/// the empty vault in one transaction. A file with a vault's tables is checked whole and not written.
+///
+/// Refused by 30 with the version that the file says, where it isn't 1, or with 0 where some of a vault's names
+/// are there and one is missing, or others stand beside them; by 31 with the least rule that the rows break; by
+/// 32 where memory ran out; by 33 where the database failed, or the tables are another program's alone. A
+/// refused file is as it was; but after 33 one without any table may have those of the empty vault.
+pub fn open<S: Alter>(
+    alloc: Global,
+    conn: Connection<S>,
+) -> Result<Vault<SqlTables<S>>, (OpenFault, Connection<S>)>
+    requires idle { conn.in_transaction ≡ false }
+    requires unlimited { conn.step_limit ≡ None }
+    ensures fresh { IfOk result (λ vault. (is_broken vault ≡ false) × ((tables_of vault).failed ≡ false)) }
+    ensures opens { IfOk result (λ vault. HasCleanDisk (state S.Store (tables_of vault).conn) → Opens (state S.Store conn) (state S.Store (tables_of vault).conn)) }
+    ensures damaged { IfErr result (λ e. HasCleanDisk (state S.Store e.1) → (rule : ℕ) → e.0 ≡ OpenFault.Damaged rule → IsKnown (state S.Store conn).now → IsLeastBroken (state S.Store conn).now rule) }
+    ensures wrong { IfErr result (λ e. HasCleanDisk (state S.Store e.1) → (n : ℤ) → e.0 ≡ OpenFault.WrongSchema n → IsKnown (state S.Store conn).now → IsWrong (state S.Store conn).now n) }
+    ensures never { IfErr result (λ e. HasCleanDisk (state S.Store e.1) → IsFit (state S.Store conn).now → IsNoRefusal e.0) }
+    ensures left { IfOk result (λ vault. HasCleanDisk (state S.Store (tables_of vault).conn) → LeavesFound (state S.Store conn) (state S.Store (tables_of vault).conn)) }
+    ensures left_refused { IfErr result (λ e. HasCleanDisk (state S.Store e.1) → LeavesFound (state S.Store conn) (state S.Store e.1)) }
+    ensures idle { IfErr result (λ e. e.1.in_transaction ≡ false) }
+{
+    let mut conn = conn;
+    match ready(alloc, &mut conn) {
+        Ok(()) => Ok(Vault::new(SqlTables::on(conn))),
+        Err(fault) => Err((fault, conn)),
+    }
+}
