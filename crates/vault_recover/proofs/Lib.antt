@@ -6,6 +6,7 @@ pub mod Holders
 pub mod Judged
 pub mod Once
 pub mod Opening
+pub mod Reopened
 pub mod Results
 pub mod Rising
 pub mod Standing

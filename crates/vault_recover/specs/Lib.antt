@@ -1,4 +1,5 @@
 pub mod Apart
+pub mod Crashed
 pub mod Faults
 pub mod Names
 pub mod Opened

@@ -9,6 +9,7 @@ mod names;
 pub mod open;
 mod raws;
 mod read;
+pub mod reopen;
 mod rows;
 pub mod sizes;
 mod table;

@@ -1,0 +1,15 @@
+use Rattle.sqlite.specs.Files.{image_of}
+use Rattle.vault_recover.proofs.Reopened.{held_again}
+use Rattle.vault_recover.proofs.reopen.open_files.Goals as goal
+
+pub returns-in-Ok-clause-opened : goal.returns-in-Ok-clause-opened
+returns-in-Ok-clause-opened g c clean = record {
+  found = record { holds = (c.in-Ok.ensures.found clean).holds; reads = (c.in-Ok.ensures.found clean).reads };
+  opened = c.in-Ok.ensures.opened clean;
+}
+
+pub returns-in-Ok-clause-holds : goal.returns-in-Ok-clause-holds
+returns-in-Ok-clause-holds g c clean V ours = held_again (image_of g.D.Disk c.args.files) c.in-Ok.conn V (returns-in-Ok-clause-opened g c clean) c.in-Ok.ensures.fresh.unlimited ours
+
+pub returns-in-Ok-clause-again : goal.returns-in-Ok-clause-again
+returns-in-Ok-clause-again g c clean V keeps = returns-in-Ok-clause-holds g c clean V (keeps _ (returns-in-Ok-clause-opened g c clean).found.holds)
