@@ -2,7 +2,7 @@
 use Rattle.std.proofs.Common.{◌≡◌, inl, inr, ℕ, pos, List, true, false, Ok, Err, Result, IfOk, OnOk, refl, sym, ap, subst, ◌∙◌, ◌<◌, ◌^◌, to_z, w64, arith, Option, Some, None}
 use Rattle.std.proofs.lemmas.Int.{to_z_pos}
 use Rattle.sqlite.specs.Clock.{timed}
-use Rattle.sqlite.specs.Effect.{Database}
+use Rattle.sqlite.specs.Effect.{Database, IsDatabase}
 use Rattle.sqlite.specs.Listing.{understood}
 use Rattle.sqlite.specs.Order.{Row}
 use Rattle.sqlite.specs.Schema.{Schema}
@@ -10,6 +10,7 @@ use Rattle.sqlite.specs.State.{State, HasCleanDisk, Survives, Shown, Shows, Show
 use Rattle.sqlite.specs.Tree.{Trees}
 use Rattle.sqlite.specs.declared.error.Error.{Error}
 use Rattle.sqlite.proofs.Callers.{IsPlain, never_commits}
+use Rattle.sqlite_catalog.specs.Listing.{IsSound}
 use Rattle.vault_core.specs.Keys.{Bytes, right_number}
 use Rattle.vault_sql.specs.Rows.{text_or_null, number_or_null, use_number}
 use Rattle.sqlite.specs.Values.{bound_value}
@@ -18,7 +19,7 @@ use Rattle.vault_core.specs.declared.usage.Use.TheVariants.{Single, Multi}
 use Rattle.vault_core.specs.Vault.{Vault}
 use Rattle.vault_core.specs.declared.right.Right.{Right}
 use Rattle.vault_core.specs.declared.right.Right.TheVariants.{Tokenize, Detokenize, View, Revoke, Purge, Audit}
-use Rattle.vault_sql.specs.Holds.{Holds, Within, LeavesNoMore}
+use Rattle.vault_sql.specs.Holds.{AreOurs, Holds, Within, LeavesNoMore}
 use Rattle.vault_sql.specs.Schema.{vault_schema}
 use Rattle.vault_sql.specs.Stands.{Stands, lookups_of}
 
@@ -62,6 +63,7 @@ holds_on old new V h same limit = record {
   autocommit = same.0.mode ∙ h.autocommit;
   unlimited = limit ∙ h.unlimited;
   schema = ap (λ (d : Database). d.schema) same.0.now_is ∙ h.schema;
+  sound = subst IsDatabase (sym same.0.now_is) h.sound;
   settled = same.0.now_is ∙ h.settled ∙ sym same.0.committed_is;
   stands = subst (λ (d : Database). Stands d.trees V) (sym same.0.now_is) h.stands;
 }
@@ -93,7 +95,7 @@ on_ok (Err e) h f = tt
 -- a transaction that was just begun
 pub begun_within : (s : State) (V : Vault) → Holds s V → Within (record s { in_transaction = true }) s.committed (lookups_of V)
 begun_within s V h =
-    record { is_open = h.is_open; inside = refl; unlimited = h.unlimited; schema = h.schema; committed = refl; stands = h.stands }
+    record { is_open = h.is_open; inside = refl; unlimited = h.unlimited; schema = h.schema; sound = h.sound; committed = refl; stands = h.stands }
 
 -- and one that is committed
 pub committed_holds : (mid new : State) (base : Database) (V : Vault) → Within mid base (lookups_of V)
@@ -103,10 +105,14 @@ committed_holds mid new base V w h limit = record {
   autocommit = h.mode;
   unlimited = limit ∙ w.unlimited;
   schema = ap (λ (d : Database). d.schema) h.now_is ∙ w.schema;
+  sound = subst IsDatabase (sym h.now_is) w.sound;
   settled = h.now_is ∙ sym h.committed_is;
   stands = subst (λ (d : Database). Stands d.trees V) (sym h.now_is) w.stands;
 }
 
--- what is left of an open store is its last commit, and so the vault
-pub left_stands : (s : State) (V : Vault) (db : Trees) → Holds s V → db ≡ s.committed.trees → Stands db V
-left_stands s V db h is = subst (λ t. Stands t V) (ap (λ (d : Database). d.trees) h.settled ∙ sym is) h.stands
+-- what a commit of this transaction writes
+pub ours_within : (s : State) (base : Database) (V : Vault) (db : Trees) → Within s base (lookups_of V) → db ≡ s.now.trees → AreOurs db V
+ours_within s base V db w is = record {
+  sound = subst (λ (t : Trees). IsSound vault_schema t) (sym is) (subst (λ schema. IsSound schema s.now.trees) w.schema w.sound);
+  stands = subst (λ (t : Trees). Stands t V) (sym is) w.stands;
+}

@@ -209,6 +209,7 @@ version_put old new base count was ran limit =
       inside = ran.1.mode;
       unlimited = limit ∙ was.unlimited;
       schema = ap (λ (d : Database). d.schema) now;
+      sound = w.sound;
       committed = ran.1.committed_is ∙ was.committed;
       stands = record {
         version = at 0 ∙ step.rows ∙ edit;

@@ -5,7 +5,7 @@ use Rattle.std.proofs.lemmas.Grind.{common_steps}
 use Rattle.std.specs.Ordering.{nat_cmp, eq_by_cmp}
 use Rattle.sqlite.specs.Cast.{cast, cast_row}
 use Rattle.sqlite.specs.Edit.{next_rowid, with_rowid}
-use Rattle.sqlite.specs.Effect.{Database}
+use Rattle.sqlite.specs.Effect.{Database, IsDatabase}
 use Rattle.sqlite.specs.Kind.TheVariants.{Integer, Text as Words}
 use Rattle.sqlite.specs.Ops.{unary, binary, int_or, real_arith, from_int}
 use Rattle.sqlite.specs.Order.{Row}
@@ -17,6 +17,7 @@ use Rattle.sqlite_rules.specs.Keys.{conflicts}
 use Rattle.sqlite_sql.specs.declared.ops.ArithOp.TheVariants.{Add}
 use Rattle.sqlite_sql.specs.declared.ops.BinaryOp.TheVariants.{Arith}
 use Rattle.sqlite_value.specs.Keys.{first_key}
+use Rattle.sqlite.proofs.Callers.{runs_as}
 use Rattle.vault_core.specs.Keys.{Bytes, bytes_cmp, entry_cmp, record_cmp, right_cmp, right_number}
 use Rattle.vault_core.specs.declared.right.Right.{Right}
 use Rattle.vault_core.specs.declared.row.Entry.{Entry}
@@ -145,12 +146,13 @@ module _ (old new : Database) (h : Lookups) (ids : List ℤ) (news : List Row) (
 -- one statement further
 within_on : (text : List ℕ) (params : Row) (old new : State) (base : Database) (h after : Lookups) (count : ℕ)
     → Within old base h → ExecutesInside 0 text params old new (Ok count) → new.step_limit ≡ old.step_limit
-    → new.now.schema ≡ vault_schema → StandsFor new.now.trees after → Within new base after
-within_on text params old new base h after count w ran limit schema stands = record {
+    → new.now.schema ≡ vault_schema → IsDatabase new.now → StandsFor new.now.trees after → Within new base after
+within_on text params old new base h after count w ran limit schema sound stands = record {
   is_open = ran.1.is_open;
   inside = ran.1.mode;
   unlimited = limit ∙ w.unlimited;
   schema = schema;
+  sound = sound;
   committed = ran.1.committed_is ∙ w.committed;
   stands = stands;
 }
@@ -178,7 +180,7 @@ module _ (h : Lookups) (old new : State) (base : Database) (count : ℕ) (w : Wi
       (upsert_wrote 1 (codes "merchants") merchants.columns key put_merchant_text params old new count 1 refl w.schema put_merchant_is.plain ran.0 _ merchant_terms 5 (Null ∷ params) put_merchant_is.is refl (Some key) (met_update 1 4 merchant_set) refl) in
       let it = upserts_key bytes_cmp merchant_row merchant_coding 1 (codes "merchants") merchants.columns key old.now new.now h.merchants w.stands.merchants m x made id (Some key)
       (λ none. casts id) (merchant_meets id m x) params 4 merchant_set refl (λ n. refl) (λ n y is. refl) casts did in
-      within_on put_merchant_text params old new base h _ count w ran limit it.2.schema (now_merchants old.now new.now h it.0 it.1 w.stands _ it.2 it.3)
+      within_on put_merchant_text params old new base h _ count w ran limit it.2.schema (runs_as put_merchant_text params old new vault_schema w.schema _ put_merchant_is.is put_merchant_is.plain count ran.0).sound (now_merchants old.now new.now h it.0 it.1 w.stands _ it.2 it.3)
 
   pub count_raised : (key : Bytes × ℕ) → HasRoomAt h.counts key → ExecutesInside 0 raise_text (Text key.0 ∷ Int (pos key.1) ∷ []) old new (Ok count)
       → Within new base (record h { counts = raise_at h.counts key })
@@ -196,7 +198,7 @@ module _ (h : Lookups) (old new : State) (base : Database) (count : ℕ) (w : Wi
       let it = upserts_key record_cmp count_row count_coding 3 (codes "counts") counts.columns key old.now new.now h.counts w.stands.counts at x made id (Some key)
       (λ none. casts id 1 ∙ ap (λ (o : Option ℕ). Int id ∷ count_row at (unwrap_or o 0 + 1)) (sym none)) (count_meets id at 1) params 2 count_set refl (λ n. refl)
       (λ n y is. raised_row n y is) (λ n. casts n x) did in
-      within_on raise_text params old new base h _ count w ran limit it.2.schema (now_counts old.now new.now h it.0 it.1 w.stands _ it.2 it.3)
+      within_on raise_text params old new base h _ count w ran limit it.2.schema (runs_as raise_text params old new vault_schema w.schema _ raise_is.is raise_is.plain count ran.0).sound (now_counts old.now new.now h it.0 it.1 w.stands _ it.2 it.3)
     where
       raised_row : (n : ℤ) (y : ℕ) → h.counts at ≡ Some y
           → Int n ∷ Int n ∷ Text at.0 ∷ Int (pos at.1) ∷ binary (Arith Add) (Int (pos y)) (Int (pos 1)) ∷ []
@@ -222,7 +224,7 @@ module _ (h : Lookups) (old new : State) (base : Database) (count : ℕ) (w : Wi
       (upsert_wrote 5 (codes "entries") entries.columns key put_entry_text params old new count 3 refl w.schema put_entry_is.plain ran.0 _ entry_terms 8 (Null ∷ params) put_entry_is.is refl (Some key) (met_update 5 7 entry_set) refl) in
       let it = upserts_key entry_cmp entry_row entry_coding 5 (codes "entries") entries.columns key old.now new.now h.entries w.stands.entries at x made id (Some key)
       (λ none. casts id) (entry_meets id at x) params 7 entry_set refl (λ n. refl) (λ n y is. refl) casts did in
-      within_on put_entry_text params old new base h _ count w ran limit it.2.schema (now_entries old.now new.now h it.0 it.1 w.stands _ it.2 it.3)
+      within_on put_entry_text params old new base h _ count w ran limit it.2.schema (runs_as put_entry_text params old new vault_schema w.schema _ put_entry_is.is put_entry_is.plain count ran.0).sound (now_entries old.now new.now h it.0 it.1 w.stands _ it.2 it.3)
 
   pub record_put : (at : Bytes × ℕ) (x : Record) → ExecutesInside 0 put_record_text (Text at.0 ∷ Int (pos at.1) ∷ record_columns x) old new (Ok count)
       → Within new base (record h { records = put record_cmp h.records at (Some x) })
@@ -238,7 +240,7 @@ module _ (h : Lookups) (old new : State) (base : Database) (count : ℕ) (w : Wi
       (upsert_wrote 8 (codes "records") records.columns key put_record_text params old new count 4 refl w.schema put_record_is.plain ran.0 _ record_terms 6 (Null ∷ params) put_record_is.is refl (Some key) (met_update 8 5 record_set) refl) in
       let it = upserts_key record_cmp record_row record_coding 8 (codes "records") records.columns key old.now new.now h.records w.stands.records at x made id (Some key)
       (λ none. casts id) (record_meets id at x) params 5 record_set refl (λ n. refl) (λ n y is. refl) casts did in
-      within_on put_record_text params old new base h _ count w ran limit it.2.schema (now_records old.now new.now h it.0 it.1 w.stands _ it.2 it.3)
+      within_on put_record_text params old new base h _ count w ran limit it.2.schema (runs_as put_record_text params old new vault_schema w.schema _ put_record_is.is put_record_is.plain count ran.0).sound (now_records old.now new.now h it.0 it.1 w.stands _ it.2 it.3)
 
   pub right_given : (at : Bytes × (Bytes × Right)) → ExecutesInside 0 give_text (right_row at tt) old new (Ok count)
       → Within new base (record h { rights = put right_cmp h.rights at (Some tt) })
@@ -254,7 +256,7 @@ module _ (h : Lookups) (old new : State) (base : Database) (count : ℕ) (w : Wi
       (keep_wrote 10 (codes "rights") rights.columns key give_text params old new count 5 refl w.schema give_is.plain ran.0 _ right_terms 4 (Null ∷ params) give_is.is refl (Some key) refl) in
       elim (keeps_key right_cmp right_row right_coding 10 (codes "rights") rights.columns key old.now new.now h.rights w.stands.rights at tt made id (Some key)
       (λ none. rw (cast_int id, cast_int n) refl) (right_meets id at) (there (h.rights at)) did) [
-        | inl it ↦ within_on give_text params old new base h _ count w ran limit it.2.schema (now_rights old.now new.now h it.0 it.1 w.stands _ it.2 it.3)
+        | inl it ↦ within_on give_text params old new base h _ count w ran limit it.2.schema (runs_as give_text params old new vault_schema w.schema _ give_is.is give_is.plain count ran.0).sound (now_rights old.now new.now h it.0 it.1 w.stands _ it.2 it.3)
         | inr it ↦
             let s = w.stands in
             let stands : StandsFor old.now.trees (record h { rights = put right_cmp h.rights at (Some tt) }) = record {
@@ -265,7 +267,7 @@ module _ (h : Lookups) (old new : State) (base : Database) (count : ℕ) (w : Wi
               records = s.records;
               rights = it.1;
             } in
-            within_on give_text params old new base h _ count w ran limit (ap (λ (d : Database). d.schema) it.0 ∙ w.schema)
+            within_on give_text params old new base h _ count w ran limit (ap (λ (d : Database). d.schema) it.0 ∙ w.schema) (subst IsDatabase (sym it.0) w.sound)
             (subst (λ (d : Database). StandsFor d.trees (record h { rights = put right_cmp h.rights at (Some tt) })) (sym it.0) stands)
       ]
     where
@@ -278,6 +280,6 @@ module _ (h : Lookups) (old new : State) (base : Database) (count : ℕ) (w : Wi
   right_taken at ran =
       let params = right_row at tt in
       let it = delete_wrote 10 (codes "rights") rights.columns (1 ∷ 2 ∷ 3 ∷ []) take_text params old new count 5 refl w.schema take_is.plain ran.0 _ take_is.is in
-      within_on take_text params old new base h _ count w ran limit it.2.schema
+      within_on take_text params old new base h _ count w ran limit it.2.schema (runs_as take_text params old new vault_schema w.schema _ take_is.is take_is.plain count ran.0).sound
       (now_rights old.now new.now h _ _ w.stands _ it.2
       (deletes_key right_cmp right_row right_coding 10 old.now new.now h.rights w.stands.rights at params by_three refl (right_hits at []) it.0 it.1 it.2))

@@ -1,8 +1,9 @@
 -- Connections that hold a vault.
 use Rattle.std.specs.Prelude.{◌≡◌, ◌⊎◌, false, None, IsTrue}
-use Rattle.sqlite.specs.Effect.{Database}
+use Rattle.sqlite.specs.Effect.{Database, IsDatabase}
 use Rattle.sqlite.specs.State.{State}
 use Rattle.sqlite.specs.Tree.{Trees}
+use Rattle.sqlite_catalog.specs.Listing.{IsSound}
 use Rattle.vault_core.specs.Vault.{Vault}
 use Rattle.vault_sql.specs.Schema.{vault_schema}
 use Rattle.vault_sql.specs.Stands.{Lookups, StandsFor, Stands}
@@ -13,6 +14,7 @@ pub record Holds (s : State) (V : Vault) : Type 0 where
   pub autocommit : s.in_transaction ≡ false
   pub unlimited : s.step_limit ≡ None
   pub schema : s.now.schema ≡ vault_schema
+  pub sound : IsDatabase s.now
   pub settled : s.now ≡ s.committed
   pub stands : Stands s.now.trees V
 
@@ -26,6 +28,7 @@ pub record Within (s : State) (base : Database) (h : Lookups) : Type 0 where
   pub inside : IsTrue s.in_transaction
   pub unlimited : s.step_limit ≡ None
   pub schema : s.now.schema ≡ vault_schema
+  pub sound : IsDatabase s.now
   pub committed : s.committed ≡ base
   pub stands : StandsFor s.now.trees h
 
@@ -37,6 +40,11 @@ Takes old new Can after = (base : Database) (h : Lookups) → Within old base h 
 abbrev pub LeavesNoMore : State → State → Type 0
 LeavesNoMore old new = (db : Trees) → new.may_leave db → old.may_leave db
 
--- each state that a crash may leave now stands for one of these
+-- a sound database in the schema of a vault, whose rows are those of this one
+pub record AreOurs (db : Trees) (V : Vault) : Type 0 where
+  pub sound : IsSound vault_schema db
+  pub stands : Stands db V
+
+-- each state that a crash may leave now is that of one of these
 abbrev pub LeavesEither : State → Vault → Vault → Type 0
-LeavesEither s before after = (db : Trees) → s.may_leave db → Stands db before ⊎ Stands db after
+LeavesEither s before after = (db : Trees) → s.may_leave db → AreOurs db before ⊎ AreOurs db after

@@ -4,12 +4,23 @@ use Rattle.sqlite.specs.Effect.{Database}
 use Rattle.sqlite.specs.State.{State}
 use Rattle.sqlite.specs.Tree.{Trees}
 use Rattle.vault_core.specs.Vault.{Vault}
-use Rattle.vault_sql.specs.Holds.{Holds, LeavesEither, LeavesNoMore}
+use Rattle.sqlite_catalog.specs.Listing.{IsSound}
+use Rattle.vault_sql.specs.Holds.{AreOurs, Holds, LeavesEither, LeavesNoMore}
+use Rattle.vault_sql.specs.Schema.{vault_schema}
 use Rattle.vault_sql.specs.Stands.{Stands}
+
+-- the last commit is the vault that is held
+pub last_commit : (s : State) (V : Vault) (db : Trees) → Holds s V → db ≡ s.committed.trees → AreOurs db V
+last_commit s V db held is =
+    let same : s.now.trees ≡ db = ap (λ (d : Database). d.trees) held.settled ∙ sym is in
+    record {
+      sound = subst (λ (t : Trees). IsSound vault_schema t) same (subst (λ schema. IsSound schema s.now.trees) held.schema held.sound);
+      stands = subst (λ (t : Trees). Stands t V) same held.stands;
+    }
 
 -- where only the last commit may be left, each state that is left stands for the vault that is held
 pub left_alone : (s : State) (V : Vault) → Holds s V → ((db : Trees) → s.may_leave db → db ≡ s.committed.trees) → LeavesEither s V V
-left_alone s V held alone = λ db left. inl (subst (λ (t : Trees). Stands t V) (ap (λ (d : Database). d.trees) held.settled ∙ sym (alone db left)) held.stands)
+left_alone s V held alone = λ db left. inl (last_commit s V db held (alone db left))
 
 -- what leaves no more than that leaves nothing else either
 pub left_after : (old new : State) (V : Vault) → Holds old V → ((db : Trees) → old.may_leave db → db ≡ old.committed.trees)

@@ -5,8 +5,9 @@ use Rattle.vault_core.specs.Changes.{Fit, plus}
 use Rattle.vault_core.specs.Sound.{Sound}
 use Rattle.vault_core.specs.Vault.{Vault}
 use Rattle.vault_sql.specs.Holds.{Holds, Within}
-use Rattle.vault_sql.specs.Stands.{Lookups, Stands, lookups_of}
-use Rattle.vault_sql.proofs.Calls.{on_ok, begun_within, committed_holds, left_stands}
+use Rattle.vault_sql.specs.Left.{last_commit}
+use Rattle.vault_sql.specs.Stands.{Lookups, lookups_of}
+use Rattle.vault_sql.proofs.Calls.{on_ok, begun_within, committed_holds, ours_within}
 use Rattle.vault_sql.proofs.WrittenPlus.{has_room, written_plus}
 use Rattle.vault_sql.proofs.transaction.write.Given.{Over}
 use Rattle.vault_sql.proofs.transaction.write.Goals as goal
@@ -43,6 +44,6 @@ returns-clause-crash g c clean V h sound fit db left =
       | inl before ↦
           let begun : (state g.S.Store c.transaction-tx.result.conn.now).may_leave db = c.in_ok-write_merchant.ensures.left first db (c.in_ok-write_caller.ensures.left second db before) in
           let at_first : old.may_leave db = rw c.transaction-tx.ensures.begun at begun in
-          inl (left_stands old V db h (g.met.S.Store.settled c.args.conn.now.store db h.is_open at_first))
-      | inr made ↦ inr (subst (λ t. Stands t (plus V c.args.ch.now)) (sym made) (ready g c late V h sound fit).stands)
+          inl (last_commit old V db h (g.met.S.Store.settled c.args.conn.now.store db h.is_open at_first))
+      | inr made ↦ inr (ours_within (state g.S.Store c.write_caller.new.tx.conn.now) old.committed (plus V c.args.ch.now) db (ready g c late V h sound fit) made)
     ]
