@@ -1,35 +1,39 @@
 //! What a crash leaves of a vault's files opens again.
 //!
-//! All of it stands on the premise that the disk keeps what the database says of a crash, that it returns what was
-//! written, and that nobody else wrote. Of files at a path no clause can say what they hold: the bytes of the
-//! caller's `Start` stand for them.
-ghost use Rattle.std.specs.Prelude.{◌≡◌, false, None, IfSome};
+//! All of it stands on this premise: the disk keeps what the database promises of a crash, it returns what was
+//! written, and nobody else wrote. No clause can say what the files at a path hold: the bytes of the caller's
+//! `Start` stand for them.
+ghost use Rattle.std.specs.Prelude.{◌≡◌, ◌⊎◌, ◌≤◌, false, None, IfSome};
 ghost use Rattle.sqlite.specs.Files.{file_state, image_of};
 ghost use Rattle.sqlite.specs.State.{HasCleanDisk};
-ghost use Rattle.sqlite.specs.View.{IsClean};
+ghost use Rattle.sqlite.specs.View.{IsClean, doubt};
 ghost use Rattle.sqlite_store.specs.FileStore.{view};
 ghost use Rattle.sqlite_wal.specs.Files.{image_at};
 ghost use Rattle.vault_core.specs.Vault.{Vault};
-ghost use Rattle.vault_recover.specs.Crashed.{AreOurs, IsOpenOf, Keeps, Reopens};
-ghost use Rattle.vault_sql.specs.Holds.{Holds};
+ghost use Rattle.vault_recover.specs.Crashed.{IsOpenOf, Keeps, KeepsEither, Reopens, ReopensEither};
+ghost use Rattle.vault_sql.specs.Holds.{AreOurs, Holds, LeavesEither};
 
 use sqlite::{Connection, FileFrom, FileStore, Files, Options, Start};
 use sqlite_disk::Disk;
 use std::alloc::Global;
 use std::rt::HostRuntime;
 
-/// Ends a connection, which copies nothing and writes nothing.
+/// Ends a connection. A crash at the moment of the call, or after it, leaves files in which whoever opens them
+/// finds the vault that was held.
 ///
-/// What it says is said of the moment of the call: if the machine stopped then, whoever opened what was left would
-/// find the vault that was held, and no part of another.
+/// After a write that failed it is the vault before or the vault after. It is what the tables say of the states
+/// that a crash may leave, said of the bytes of the files.
 pub fn close<D: Disk + Drop>(conn: Connection<FileStore<D>>) -> FileStore<D>
-    ensures reopens { IsClean (view result) → (V : Vault) → Holds (file_state conn) V → Reopens conn V }
+    ensures clean { doubt (file_state conn).is_clean ≤ doubt (view result).is_clean }
+    ensures reopens { IsClean (view result) → (V : Vault) → Holds (file_state conn) V → Reopens conn.store V }
+    ensures after { IsClean (view result) → (V : Vault) → Holds (file_state conn) V → Reopens result V }
+    ensures either { IsClean (view result) → (V W : Vault) → LeavesEither (file_state conn) V W → ReopensEither conn.store V W }
+    ensures either_after { IsClean (view result) → (V W : Vault) → LeavesEither (file_state conn) V W → ReopensEither result V W }
 {
-    let _live = conn.schema();
     conn.into_store()
 }
 
-/// Opens these files, if no write to them was left in doubt. The log's salts begin from one fixed number.
+/// Opens these files, if no write to them is in doubt. The salts of the log begin from one fixed number.
 pub fn open_files<D: Disk + Drop>(
     alloc: Global,
     files: Files<D>,
@@ -39,6 +43,7 @@ pub fn open_files<D: Disk + Drop>(
     ensures opened { IfSome result (λ c. HasCleanDisk (file_state c) → IsOpenOf (image_of D.Disk files) c) }
     ensures holds { IfSome result (λ c. HasCleanDisk (file_state c) → (V : Vault) → AreOurs (file_state c).committed.trees V → Holds (file_state c) V) }
     ensures again { IfSome result (λ c. HasCleanDisk (file_state c) → (V : Vault) → Keeps (image_of D.Disk files) V → Holds (file_state c) V) }
+    ensures either { IfSome result (λ c. HasCleanDisk (file_state c) → (V W : Vault) → KeepsEither (image_of D.Disk files) V W → ∥ (Holds (file_state c) V ⊎ Holds (file_state c) W) ∥₁) }
 {
     if !files.may_be_used() {
         return None;
@@ -60,9 +65,10 @@ pub fn open_path<S: Start>(
     ensures opened { IfSome result (λ c. HasCleanDisk (file_state c) → IsOpenOf (image_at S.Start) c) }
     ensures holds { IfSome result (λ c. HasCleanDisk (file_state c) → (V : Vault) → AreOurs (file_state c).committed.trees V → Holds (file_state c) V) }
     ensures again { IfSome result (λ c. HasCleanDisk (file_state c) → (V : Vault) → Keeps (image_at S.Start) V → Holds (file_state c) V) }
+    ensures either { IfSome result (λ c. HasCleanDisk (file_state c) → (V W : Vault) → KeepsEither (image_at S.Start) V W → ∥ (Holds (file_state c) V ⊎ Holds (file_state c) W) ∥₁) }
 {
     match Connection::open_from(rt, path, false, start) {
-        Ok(conn) => Some(conn),
+        Ok(opened) => Some(opened),
         Err(_) => None,
     }
 }
