@@ -21,8 +21,8 @@ use std::rt::HostRuntime;
 /// Ends a connection. A crash at the moment of the call, or after it, leaves files in which whoever opens them
 /// finds the vault that was held.
 ///
-/// After a write that failed it is the vault before or the vault after. It is what the tables say of the states
-/// that a crash may leave, said of the bytes of the files.
+/// After a write that failed it is the vault before or the vault after: what the tables say of the states that a
+/// crash may leave is here said of the bytes of the files.
 pub fn close<D: Disk + Drop>(conn: Connection<FileStore<D>>) -> FileStore<D>
     ensures clean { doubt (file_state conn).is_clean ≤ doubt (view result).is_clean }
     ensures reopens { IsClean (view result) → (V : Vault) → Holds (file_state conn) V → Reopens conn.store V }
