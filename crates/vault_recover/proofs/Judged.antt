@@ -52,6 +52,7 @@ sound_of db ours sound rows raws keep apart says =
     let shows = rows_show rows keys keep in
     let version = version_is shows.version shows.id (subst (λ vs. other_version vs ≡ None) shows.versions says) in
     record {
+      is = sound;
       it = record {
         schema = ours.schema;
         vault = vault_of rows;

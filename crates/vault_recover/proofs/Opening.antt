@@ -1,6 +1,6 @@
 -- What an open comes to.
 use Rattle.std.proofs.Common.{◌≡◌, ◌⊎◌, inl, inr, not, false, true, Bool, None, IsTrue, refl, sym, ap, subst, ◌∙◌}
-use Rattle.sqlite.specs.Effect.{Database}
+use Rattle.sqlite.specs.Effect.{Database, IsDatabase}
 use Rattle.sqlite.specs.State.{State, HasCleanDisk, IsUnchanged}
 use Rattle.sqlite.specs.Tree.{Trees}
 use Rattle.vault_core.specs.Vault.{Vault, empty_vault}
@@ -61,6 +61,7 @@ opens_vault old new autocommit sizes is idle unlimited settled ours limit sound 
         unlimited = limit ∙ unlimited;
         schema = ap (λ (d : Database). d.schema) same.0.now_is ∙ found.schema;
         settled = same.0.now_is ∙ settled (is ∙ ap not idle) same.0.was_open ∙ sym same.0.committed_is;
+        sound = subst IsDatabase (sym same.0.now_is) (sound it).is;
         stands = subst (λ (d : Database). Stands d.trees found.vault) (sym same.0.now_is) found.stands;
       } in
       (record { vault = found.vault; sound = found.sound; holds = holds }, same.0.now_is);

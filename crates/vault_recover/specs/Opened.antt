@@ -71,6 +71,7 @@ pub record StandsSound (db : Database) : Type 0 where
 
 -- and that vault has these sizes
 pub record IsSoundOf (db : Database) (sizes : Sizes) : Type 0 where
+  pub is : IsDatabase db
   pub it : StandsSound db
   pub sizes_are : sizes ≡ sizes_of it.vault
 
