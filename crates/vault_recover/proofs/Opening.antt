@@ -52,21 +52,23 @@ pub opens_vault : (old new : State) (autocommit : Bool) (sizes : Sizes) → auto
     → (IsOurs old.now → IsSoundOf old.now sizes) → (old.now.schema ≡ vault_schema → IsUnchanged old new) → Opens old new
 opens_vault old new autocommit sizes is idle unlimited settled ours limit sound kept = record {
   whose = inr ours;
-  ours = λ it.
-      let same = kept it.schema in
-      let found = (sound it).it in
-      let holds : Holds new found.vault = record {
-        is_open = same.0.is_open;
-        autocommit = same.0.mode ∙ idle;
-        unlimited = limit ∙ unlimited;
-        schema = ap (λ (d : Database). d.schema) same.0.now_is ∙ found.schema;
-        settled = same.0.now_is ∙ settled (is ∙ ap not idle) same.0.was_open ∙ sym same.0.committed_is;
-        sound = subst IsDatabase (sym same.0.now_is) (sound it).is;
-        stands = subst (λ (d : Database). Stands d.trees found.vault) (sym same.0.now_is) found.stands;
-      } in
-      (record { vault = found.vault; sound = found.sound; holds = holds }, same.0.now_is);
+  ours = λ it. let found = (sound it).it in (record { vault = found.vault; sound = found.sound; holds = holds it found.vault found.stands }, (kept it.schema).0.now_is);
+  same = holds;
   blank = λ is_open blank. absurd (let clash = sym (blank_nobody old.now.schema blank) ∙ ours in cc);
 }
+  where
+    holds : IsOurs old.now → (V : Vault) → Stands old.now.trees V → Holds new V
+    holds it V stands =
+        let same = kept it.schema in
+        record {
+          is_open = same.0.is_open;
+          autocommit = same.0.mode ∙ idle;
+          unlimited = limit ∙ unlimited;
+          schema = ap (λ (d : Database). d.schema) same.0.now_is ∙ it.schema;
+          sound = subst IsDatabase (sym same.0.now_is) (sound it).is;
+          settled = same.0.now_is ∙ settled (is ∙ ap not idle) same.0.was_open ∙ sym same.0.committed_is;
+          stands = subst (λ (d : Database). Stands d.trees V) (sym same.0.now_is) stands;
+        }
 
 pub ready_is : (old : State) (autocommit : Bool) → autocommit ≡ not old.in_transaction → old.in_transaction ≡ false → old.step_limit ≡ None
     → (IsTrue autocommit → IsTrue old.is_open → old.now ≡ old.committed) → IsTrue old.is_open → IsReady old
@@ -77,5 +79,6 @@ pub opens_blank : (old new : State) → old.now.schema ≡ no_schema → (IsTrue
 opens_blank old new blank ready made = record {
   whose = inl blank;
   ours = λ it. absurd (apart (sym blank ∙ it.schema));
+  same = λ it V stands. absurd (apart (sym blank ∙ it.schema));
   blank = λ is_open none. made (ready is_open);
 }

@@ -98,10 +98,12 @@ IsFit db = StandsSound db ⊎ (db.schema ≡ no_schema)
 abbrev pub IsNoRefusal : OpenFault → Type 0
 IsNoRefusal e = ((n : ℤ) → e ≢ WrongSchema n) × ((rule : ℕ) → e ≢ Damaged rule)
 
--- a vault's tables hold a sound vault and are as they were; without a table they hold the empty vault
+-- A vault's tables hold a sound vault and are as they were, so a vault that they stand for is held; without a
+-- table they hold the empty vault.
 pub record Opens (old new : State) : Type 0 where
   pub whose : (old.now.schema ≡ no_schema) ⊎ (holder_of old.now.schema ≡ holder.Vault)
   pub ours : IsOurs old.now → HoldsSound new × (new.now ≡ old.now)
+  pub same : IsOurs old.now → (V : Vault) → Stands old.now.trees V → Holds new V
   pub blank : IsTrue old.is_open → old.now.schema ≡ no_schema → Holds new empty_vault
 
 -- What a crash may leave now: where a vault was held, that vault; where there was no table, what was

@@ -14,4 +14,6 @@ pub mod reopen;
 mod rows;
 pub mod sizes;
 mod table;
+#[cfg(test)]
+mod tests;
 mod verdict;

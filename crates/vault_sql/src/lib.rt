@@ -10,7 +10,5 @@ pub mod records;
 pub mod rights;
 pub mod schema;
 pub mod tables;
-#[cfg(test)]
-mod tests;
 mod text;
 mod transaction;

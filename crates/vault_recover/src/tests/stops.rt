@@ -1,15 +1,17 @@
 //! A Tokenize that is stopped at each call to the files in turn leaves its entry, its record and its count, or
 //! none of them.
-use super::files::{closed, open};
+use super::files::{closed, connected};
 use super::script::asked;
-use crate::tables::SqlTables;
+use crate::check::check;
 use sqlite::{Alter, Connection, Error, Files};
 use sqlite_disk::{Crash, Disk, Fuse, Memory};
 use std::alloc::Global;
+use std::mem::forget;
 use std::process::Abort;
 use std::test::Fail;
 use vault_core::command::Command;
 use vault_core::reply::Reply;
+use vault_sql::tables::SqlTables;
 use vault_store::tables::Tables;
 use vault_store::vault::Vault;
 
@@ -49,7 +51,7 @@ fn is_given<T: Tables>(vault: &mut Vault<T>, request: &Command) -> bool {
 
 /// Sends the request, and tells whether it was answered with a token, and what is left of the files.
 fn sent<D: Disk + Drop>(alloc: Global, files: Files<D>, request: &Command) -> (bool, Files<D>) {
-    let conn = match open(alloc, files) {
+    let conn = match connected(alloc, files) {
         Ok(conn) => conn,
         Err(files) => return (false, files),
     };
@@ -85,9 +87,13 @@ fn stopped(
     let (answered, mut files) = sent(alloc, files, request);
     files.log.crash();
     files.db.crash();
-    let Ok(mut conn) = open(alloc, files) else {
+    let Ok(mut conn) = connected(alloc, files) else {
         return Err("not opened again")?;
     };
+    if check(alloc, &mut conn).is_err() {
+        forget(conn);
+        return Err("refused after the stop")?;
+    }
     let entries = number(&mut conn, "SELECT count(*) FROM entries")?;
     let records = number(&mut conn, "SELECT count(*) FROM records")?;
     let made = number(

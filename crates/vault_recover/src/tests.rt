@@ -1,0 +1,7 @@
+//! Vaults over databases: worked cases, stops, and files that were changed.
+mod changed;
+mod files;
+mod fresh;
+mod rows;
+mod script;
+mod stops;

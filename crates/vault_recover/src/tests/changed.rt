@@ -1,0 +1,98 @@
+//! Files that were changed by statements of SQL: the check and the open refuse both, with the same number.
+use super::files::{closed, connected, ended, vault_in};
+use crate::check::check;
+use crate::fault::OpenFault;
+use sqlite::Files;
+use sqlite_disk::Memory;
+use std::alloc::Global;
+use std::mem::forget;
+use std::test::Fail;
+
+/// A single-use token of one merchant.
+const VAULT: &str = "open till-1 shop1 60 0 1000 = done
+tokenize till-1 shop1 7 single 4111111111111111 0 1000 = 0000000000001111 1060";
+
+/// Statements, and how the changed file is refused.
+const CASES: [(&str, &str); 13] = [
+    ("UPDATE counts SET total = 2 WHERE kind = 1", "31 10"),
+    ("UPDATE records SET usage = 2", "31 11"),
+    (
+        "UPDATE counts SET total = 2 WHERE kind = 1; UPDATE records SET usage = 2",
+        "31 10",
+    ),
+    ("DELETE FROM vault", "31 1"),
+    ("UPDATE entries SET token = '4111111111111111'", "31 5"),
+    ("UPDATE entries SET number = '4222222222222'", "31 6"),
+    ("UPDATE entries SET birth = 1001", "31 7"),
+    ("UPDATE entries SET number = NULL", "31 8"),
+    ("DELETE FROM merchants", "31 4"),
+    ("UPDATE rights SET what = 7 WHERE what = 6", "31 12"),
+    ("UPDATE vault SET version = 9", "30 9"),
+    ("DROP TABLE rights", "30 0"),
+    ("CREATE TABLE notes (line TEXT)", "30 0"),
+];
+
+/// A refusal in words.
+pub fn refusal(alloc: Global, fault: OpenFault) -> Result<String, Fail> {
+    let number = fault.number();
+    Ok(match fault {
+        OpenFault::WrongSchema(version) => format!(in alloc; "{number} {version}")?,
+        OpenFault::Damaged(rule) => format!(in alloc; "{number} {rule}")?,
+        OpenFault::Memory | OpenFault::Store => format!(in alloc; "{number}")?,
+    })
+}
+
+/// The files after statements of SQL were run in them.
+pub fn changed(alloc: Global, files: Files<Memory>, sql: &str) -> Result<Files<Memory>, Fail> {
+    let Ok(mut conn) = connected(alloc, files) else {
+        return Err("not connected")?;
+    };
+    if conn.execute_batch(sql).is_err() {
+        forget(conn);
+        return Err("not changed")?;
+    }
+    Ok(ended(conn))
+}
+
+/// How the check refuses files, and the files again.
+pub fn checked(alloc: Global, files: Files<Memory>) -> Result<(String, Files<Memory>), Fail> {
+    let Ok(mut conn) = connected(alloc, files) else {
+        return Err("not connected")?;
+    };
+    let told = match check(alloc, &mut conn) {
+        Ok(sizes) => {
+            let (merchants, entries, records) = (sizes.merchants, sizes.entries, sizes.records);
+            format!(in alloc; "sound {merchants} {entries} {records}")
+        }
+        Err(fault) => {
+            let files = ended(conn);
+            return Ok((refusal(alloc, fault)?, files));
+        }
+    };
+    let files = ended(conn);
+    Ok((told?, files))
+}
+
+/// How the open refuses files; nothing where it doesn't.
+fn opened(alloc: Global, files: Files<Memory>) -> Result<String, Fail> {
+    match vault_in(alloc, files) {
+        Ok(vault) => {
+            forget(vault.into_tables().into_connection());
+            Ok(String::new(alloc))
+        }
+        Err((fault, _)) => refusal(alloc, fault),
+    }
+}
+
+#[test]
+fn a_changed_file_is_refused_by_its_least_broken_rule(rt: HostRuntime) -> Result<(), Fail> {
+    let alloc = rt.alloc();
+    for (sql, wanted) in CASES {
+        let files = changed(alloc, closed(alloc, VAULT)?, sql)?;
+        let (told, files) = checked(alloc, files)?;
+        assert!(rt; told.as_str() == wanted, "{sql}: checked {told}");
+        let told = opened(alloc, files)?;
+        assert!(rt; told.as_str() == wanted, "{sql}: opened {told}");
+    }
+    Ok(())
+}

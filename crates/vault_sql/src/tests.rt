@@ -1,5 +1,0 @@
-//! Commands over a database.
-mod files;
-mod rows;
-mod script;
-mod stops;
