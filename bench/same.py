@@ -3,8 +3,12 @@
 
 same.py FILE N takes a file that the program vault_bench made, times N commands after those that it holds, and
 prints the line that the program prints.
+
+same.py check FILE times PRAGMA integrity_check of such a file, and prints the line that the program prints, and
+the peak of its own memory in KiB.
 """
 
+import resource
 import sqlite3
 import sys
 import time
@@ -78,14 +82,33 @@ def tokenize_many(conn, first, many):
         write(conn, number, token, read(conn, number, token))
 
 
-def main(file, many):
+def microseconds(start):
+    """The microseconds since then, at least one."""
+    return max(1, int((time.perf_counter() - start) * 1000000))
+
+
+def time_tokens(file, many):
     conn = opened(file)
     made = dict(conn.execute(COUNTS, (MERCHANT,)).fetchall())[1]
     start = time.perf_counter()
     tokenize_many(conn, made + 1, many)
-    spent = max(1, int((time.perf_counter() - start) * 1000000))
+    spent = microseconds(start)
     print(f"{many} commands in {spent} microseconds, {many * 1000000 // spent} a second")
 
 
+def time_check(file):
+    conn = opened(file)
+    start = time.perf_counter()
+    found = conn.execute("PRAGMA integrity_check").fetchall()
+    spent = microseconds(start)
+    peak = resource.getrusage(resource.RUSAGE_SELF).ru_maxrss
+    assert found == [("ok",)]
+    entries = conn.execute("SELECT count(*) FROM entries").fetchone()[0]
+    print(f"{entries} entries in {spent} microseconds, {peak} KiB")
+
+
 if __name__ == "__main__":
-    main(sys.argv[1], int(sys.argv[2]))
+    if sys.argv[1] == "check":
+        time_check(sys.argv[2])
+    else:
+        time_tokens(sys.argv[1], int(sys.argv[2]))
