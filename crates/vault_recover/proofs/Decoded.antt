@@ -1,9 +1,9 @@
 -- What a row as it stands says, where it is the row of a key and a value.
-use Rattle.std.proofs.Common.{◌≡◌, ℕ, ℤ, pos, negsuc, List, [], drop, Option, Some, None, option_map, refl, sym, ap, ◌∙◌}
+use Rattle.std.proofs.Common.{◌≡◌, ℕ, ℤ, pos, [], drop, Option, Some, None, option_map, refl, sym, ap, ◌∙◌}
 use Rattle.std.specs.Prelude.{string_bytes}
 use Rattle.sqlite.specs.Order.{Row, column}
 use Rattle.sqlite.specs.declared.types.Value.{Value}
-use Rattle.sqlite.specs.declared.types.Value.TheVariants.{Null, Int, Real, Text, Blob}
+use Rattle.sqlite.specs.declared.types.Value.TheVariants.{Int, Text}
 use Rattle.vault_core.specs.Keys.{Bytes, right_number}
 use Rattle.vault_core.specs.declared.right.Right.{Right}
 use Rattle.vault_core.specs.declared.row.Entry.{Entry}
@@ -12,7 +12,6 @@ use Rattle.vault_core.specs.declared.usage.Use.{Use}
 use Rattle.vault_core.specs.declared.usage.Use.TheVariants.{Single, Multi}
 use Rattle.vault_recover.specs.Raw.{int_value, merchant_values, count_values, entry_values, record_values, right_values}
 use Rattle.vault_rules.specs.Showing.{usage_number, ShowsEntry, ShowsRecord}
-use Rattle.vault_rules.specs.VaultOf.{entry_key}
 use Rattle.vault_rules.specs.declared.rows.RawMerchant.{RawMerchant}
 use Rattle.vault_rules.specs.declared.rows.RawCount.{RawCount}
 use Rattle.vault_rules.specs.declared.rows.RawEntry.{RawEntry}

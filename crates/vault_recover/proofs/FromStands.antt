@@ -1,5 +1,5 @@
 -- The rows of a database that stands for a vault show that vault.
-use Rattle.std.proofs.Common.{◌≡◌, ◌⊎◌, inl, inr, ℕ, zero, suc, ℤ, pos, negsuc, List, [], ◌∷◌, map, drop, length, ◌==◌, ◌<◌, ◌≤◌, true, false, Bool, cond, Option, Some, None, option_map, refl, sym, ap, subst, ◌∙◌, arith}
+use Rattle.std.proofs.Common.{◌≡◌, ◌⊎◌, inl, inr, ℕ, pos, List, [], ◌∷◌, map, drop, ◌==◌, ◌<◌, true, false, Bool, cond, Option, Some, None, option_map, refl, sym, ap, subst, ◌∙◌, arith}
 use Rattle.std.proofs.lemmas.Bool.Decides.{nat_tests, Decides-eqb}
 use Rattle.std.proofs.lemmas.Grind.{common_steps}
 use Rattle.std.proofs.lemmas.List.Sorted.{IsPermutation-sym, length_permutation}
@@ -9,7 +9,7 @@ use Rattle.std.specs.List.Sorted.{IsPermutation}
 use Rattle.std.specs.Option.{option_map_or}
 use Rattle.std.proofs.lemmas.List.{length-map}
 use Rattle.std.specs.Ordering.{eq_by_cmp}
-use Rattle.std.specs.Prelude.{string_bytes, if◌then◌else◌}
+use Rattle.std.specs.Prelude.{string_bytes}
 use Rattle.sqlite.specs.Order.{Row, column}
 use Rattle.sqlite.specs.Tree.{Trees}
 use Rattle.sqlite.specs.declared.types.Value.TheVariants.{Null, Int}
@@ -17,11 +17,9 @@ use Rattle.sqlite_rules.specs.Lists.{Has}
 use Rattle.sqlite_rules.proofs.ProbeLemmas.{has_mapped, mapped_has}
 use Rattle.vault_core.proofs.Finds.{some_same}
 use Rattle.vault_core.proofs.Maps.{entry_total, entry_exact}
-use Rattle.vault_core.specs.Keys.{Bytes, bytes_cmp, right_number}
+use Rattle.vault_core.specs.Keys.{Bytes, bytes_cmp}
 use Rattle.vault_core.specs.Vault.{Vault, Merchant, merchant_at, entry_at, record_at, has_right, made}
-use Rattle.vault_core.specs.declared.right.Right.{Right}
 use Rattle.vault_core.specs.declared.row.Entry.{Entry}
-use Rattle.vault_core.specs.declared.row.Record.{Record}
 use Rattle.vault_core.specs.declared.usage.Use.{Use}
 use Rattle.vault_core.specs.declared.usage.Use.TheVariants.{Single, Multi}
 use Rattle.vault_recover.proofs.Decoded.{merchant_decoded, count_decoded, entry_decoded, record_decoded, right_decoded, int_in}
@@ -30,20 +28,18 @@ use Rattle.vault_recover.proofs.Whole.{has_permuted}
 use Rattle.vault_recover.specs.Opened.{AreRaws}
 use Rattle.vault_recover.specs.Raw.{version_values, merchant_values, count_values, entry_values, record_values, right_values}
 use Rattle.vault_recover.specs.Reading.{shown_by, version_columns}
-use Rattle.vault_rules.proofs.Counts.{count_total, count_cases, CountRow}
+use Rattle.vault_rules.proofs.Counts.{count_total, count_cases}
 use Rattle.vault_rules.proofs.Found.{made_is}
 use Rattle.vault_rules.proofs.FoundRows.{entry_row}
 use Rattle.vault_rules.proofs.Held.{entry_held}
 use Rattle.vault_rules.proofs.Numbers.{pos_same}
 use Rattle.vault_rules.specs.Lookups.{total_of, held_by}
-use Rattle.vault_rules.specs.Showing.{usage_number, Shows, ShowsCount, ShowsEntry, ShowsMerchant, ShowsRecord}
-use Rattle.vault_rules.specs.VaultOf.{HasKeysApart, vault_of, natural, use_of, entry_key, entry_value}
+use Rattle.vault_rules.specs.Showing.{usage_number, Shows, ShowsCount, ShowsEntry, ShowsMerchant}
+use Rattle.vault_rules.specs.VaultOf.{HasKeysApart, vault_of, natural, use_of, entry_value}
 use Rattle.vault_rules.specs.declared.rows.RawVersion.{RawVersion}
 use Rattle.vault_rules.specs.declared.rows.RawMerchant.{RawMerchant}
 use Rattle.vault_rules.specs.declared.rows.RawCount.{RawCount}
 use Rattle.vault_rules.specs.declared.rows.RawEntry.{RawEntry}
-use Rattle.vault_rules.specs.declared.rows.RawRecord.{RawRecord}
-use Rattle.vault_rules.specs.declared.rows.RawRight.{RawRight}
 use Rattle.vault_rules.specs.declared.rows.Rows.{Rows}
 use Rattle.vault_sql.proofs.Codings.{merchant_coding}
 use Rattle.vault_sql.proofs.HowMany.{as_many}

@@ -1,5 +1,5 @@
 -- Whose tables a schema has.
-use Rattle.std.proofs.Common.{arith, ◌≡◌, ◌&&◌, ◌==◌, ℕ, List, [], ◌∷◌, length, true, false, Bool, cond, refl, sym, ap, ◌∙◌}
+use Rattle.std.proofs.Common.{arith, ◌≡◌, ◌&&◌, ◌==◌, List, [], ◌∷◌, length, true, false, Bool, cond, refl, sym, ap}
 use Rattle.std.proofs.lemmas.Bool.{and_parts}
 use Rattle.std.proofs.lemmas.Bool.Decides.{Decides-eqb}
 use Rattle.std.specs.FinMap.{len-empty}
@@ -10,7 +10,6 @@ use Rattle.vault_core.specs.declared.row.Entry.{Entry}
 use Rattle.vault_core.specs.declared.row.Record.{Record}
 use Rattle.vault_recover.specs.Names.{holder_of, is_blank, is_vault, has_some}
 use Rattle.vault_recover.specs.Sizes.{sizes_of}
-use Rattle.vault_recover.specs.declared.names.Holder.{Holder}
 use Rattle.vault_recover.specs.declared.names.Holder.TheVariants.{Nobody, Vault, Mixed, Other}
 use Rattle.vault_recover.specs.declared.sizes.Sizes.{Sizes}
 use Rattle.vault_sql.specs.Schema.{no_schema}

@@ -1,13 +1,9 @@
 -- What the verdict over rows comes to.
-use Rattle.std.proofs.Common.{arith, drop, length, ◌<◌, ◌≡◌, ◌≢◌, ℕ, ℤ, pos, List, [], ◌∷◌, ◌&&◌, not, true, false, Bool, cond, Option, Some, None, option_map, refl, Ok, Err, Result, IfOk, IfErr, OnOk, inl, inr, sym, ap, subst, ◌∙◌, true≢false}
-use Rattle.std.proofs.lemmas.List.Sorted.{IsPermutation-sym}
-use Rattle.std.specs.List.{find}
+use Rattle.std.proofs.Common.{arith, drop, length, ◌<◌, ◌≡◌, ℕ, ℤ, pos, List, [], ◌∷◌, ◌&&◌, not, true, false, Bool, cond, Some, None, option_map, refl, Ok, Err, Result, IfOk, IfErr, OnOk, inl, inr, sym, ap, subst, ◌∙◌, true≢false}
 use Rattle.std.specs.Ordering.{int_eq}
 use Rattle.sqlite.specs.Effect.{Database, IsDatabase}
 use Rattle.sqlite.specs.Order.{Row}
 use Rattle.sqlite.specs.State.{State, IsUnchanged}
-use Rattle.vault_core.specs.Sound.{Sound}
-use Rattle.vault_core.specs.Vault.{Vault}
 use Rattle.vault_recover.proofs.Chains.{ours_then}
 use Rattle.vault_recover.proofs.FromStands.{stands_shows, version_of}
 use Rattle.vault_recover.proofs.Holders.{blank_nobody}
@@ -18,7 +14,7 @@ use Rattle.vault_recover.specs.Apart.{AreApart}
 use Rattle.vault_recover.specs.Opened.{AreRaws, AreVersions, IsFit, IsLeastBroken, IsNoRefusal, IsOtherVersion, IsSoundOf, StandsSound}
 use Rattle.vault_recover.specs.Names.{holder_of}
 use Rattle.vault_recover.specs.Reading.{IsOurs}
-use Rattle.vault_recover.specs.Sizes.{counts_of, sizes_of}
+use Rattle.vault_recover.specs.Sizes.{counts_of}
 use Rattle.vault_recover.specs.Versions.{is_other, other_version}
 use Rattle.vault_recover.specs.declared.fault.OpenFault.{OpenFault}
 use Rattle.vault_recover.specs.declared.fault.OpenFault.TheVariants.{WrongSchema, Damaged}
@@ -31,7 +27,7 @@ use Rattle.vault_rules.proofs.Numbers.{int_is, int_same}
 use Rattle.vault_rules.proofs.RowsShow.{rows_show}
 use Rattle.vault_rules.proofs.VaultSound.{vault_is_sound}
 use Rattle.vault_rules.specs.Rules.{keeps}
-use Rattle.vault_rules.specs.VaultOf.{HasKeysApart, vault_of}
+use Rattle.vault_rules.specs.VaultOf.{vault_of}
 use Rattle.vault_rules.specs.declared.rows.RawVersion.{RawVersion}
 use Rattle.vault_rules.specs.declared.rows.Rows.{Rows}
 

@@ -1,16 +1,16 @@
 -- What an open comes to.
-use Rattle.std.proofs.Common.{◌≡◌, ◌⊎◌, inl, inr, not, false, true, Bool, None, IsTrue, refl, sym, ap, subst, ◌∙◌}
+use Rattle.std.proofs.Common.{◌≡◌, ◌⊎◌, inl, inr, not, false, Bool, None, IsTrue, sym, ap, subst, ◌∙◌}
 use Rattle.sqlite.specs.Effect.{Database, IsDatabase}
 use Rattle.sqlite.specs.State.{State, HasCleanDisk, IsUnchanged}
 use Rattle.sqlite.specs.Tree.{Trees}
 use Rattle.vault_core.specs.Vault.{Vault, empty_vault}
 use Rattle.vault_recover.proofs.Holders.{blank_nobody}
 use Rattle.vault_recover.specs.Names.{holder_of}
-use Rattle.vault_recover.specs.Opened.{HoldsSound, IsSoundOf, LeavesFound, Opens}
+use Rattle.vault_recover.specs.Opened.{IsSoundOf, LeavesFound, Opens}
 use Rattle.vault_recover.specs.Reading.{IsOurs, IsQuiet}
-use Rattle.vault_recover.specs.declared.names.Holder.TheVariants.{Nobody, Vault as Ours, Mixed, Other}
+use Rattle.vault_recover.specs.declared.names.Holder.TheVariants.{Nobody, Vault as Ours}
 use Rattle.vault_recover.specs.declared.sizes.Sizes.{Sizes}
-use Rattle.vault_sql.specs.Holds.{Holds, LeavesNoMore}
+use Rattle.vault_sql.specs.Holds.{Holds}
 use Rattle.vault_sql.specs.Making.{IsReady}
 use Rattle.vault_sql.specs.Schema.{no_schema, vault_schema}
 use Rattle.vault_sql.specs.Stands.{Stands}

@@ -1,5 +1,5 @@
 -- What holds of a result, from what holds of it.
-use Rattle.std.proofs.Common.{◌≡◌, ◌≢◌, ℕ, ℤ, Ok, Err, Result, IfOk, IfErr, OnOk, sym, ◌∙◌}
+use Rattle.std.proofs.Common.{◌≡◌, ◌≢◌, ℕ, ℤ, Ok, Err, Result, IfOk, IfErr, OnOk}
 use Rattle.vault_recover.specs.Faults.{failure}
 use Rattle.vault_recover.specs.declared.fault.OpenFault.TheVariants.{WrongSchema, Damaged}
 use Rattle.vault_recover.specs.declared.fault.ReadFault.{ReadFault}

@@ -1,5 +1,5 @@
 -- Numbers that rise are the rowids of rows that are apart.
-use Rattle.std.proofs.Common.{◌≡◌, ◌⊎◌, inl, inr, ℕ, ◌+◌, ◌<◌, ℤ, List, [], ◌∷◌, map, length, get_or, refl, sym, ap, subst, subst₂, ◌∙◌, arith, Equal, zero, suc, Bool, Result, Ok, Err, IfOk, IsTrue}
+use Rattle.std.proofs.Common.{◌≡◌, inl, inr, ℕ, ◌+◌, ◌<◌, ℤ, List, [], ◌∷◌, map, length, get_or, sym, ap, subst₂, ◌∙◌, arith, Equal, suc, Bool, Result, Ok, Err, IfOk, IsTrue}
 use Rattle.std.specs.Prelude.{◌<ℤ◌, ◌≢◌}
 use Rattle.std.specs.List.{AllByRecursion}
 use Rattle.std.specs.FinMap.{int_cmp-IsAntisymmetric}

@@ -1,5 +1,5 @@
 -- Rows as they stand are the pairs of a map.
-use Rattle.std.proofs.Common.{◌≡◌, List, map, drop, true, Option, Some, refl, sym, ap, ◌∙◌}
+use Rattle.std.proofs.Common.{◌≡◌, List, map, drop, true, Option, Some, sym, ap, ◌∙◌}
 use Rattle.std.proofs.lemmas.List.Sorted.{IsPermutation-sym}
 use Rattle.std.specs.List.Sorted.{IsPermutation}
 use Rattle.std.specs.declared.cmp.Ordering.{Ordering}

@@ -1,31 +1,30 @@
 -- A database whose rows keep the rules stands for the vault of its rows.
-use Rattle.std.proofs.Common.{◌≡◌, ◌≢◌, ◌⊎◌, inl, inr, ℕ, zero, suc, ℤ, pos, List, [], ◌∷◌, map, drop, ◌==◌, true, false, Bool, cond, Option, Some, None, option_map, refl, sym, ap, subst, ◌∙◌, arith, ◌≤◌}
+use Rattle.std.proofs.Common.{◌≡◌, ℕ, zero, ℤ, pos, [], ◌∷◌, drop, ◌==◌, true, false, Bool, cond, Option, Some, None, option_map, refl, sym, ap, ◌∙◌, arith, ◌≤◌}
 use Rattle.std.proofs.lemmas.Bool.Decides.{nat_tests}
 use Rattle.std.proofs.lemmas.Grind.{common_steps}
 use Rattle.std.specs.Prelude.{string_bytes}
 use Rattle.std.specs.FinSet as set
 use Rattle.sqlite.specs.Effect.{Database, IsDatabase}
-use Rattle.sqlite.specs.Order.{Row, column}
+use Rattle.sqlite.specs.Order.{column}
 use Rattle.sqlite.specs.declared.types.Value.{Value}
-use Rattle.sqlite.specs.declared.types.Value.TheVariants.{Null, Int, Text}
+use Rattle.sqlite.specs.declared.types.Value.TheVariants.{Int, Text}
 use Rattle.sqlite_rules.specs.Lists.{Has}
 use Rattle.vault_core.proofs.Finds.{some_same}
-use Rattle.vault_core.specs.Keys.{Bytes, bytes_cmp, entry_cmp, record_cmp, right_cmp, right_number}
-use Rattle.vault_core.specs.Vault.{Vault, Merchant, merchant_at, entry_at, record_at, has_right}
+use Rattle.vault_core.specs.Keys.{Bytes, right_number}
+use Rattle.vault_core.specs.Vault.{Merchant, merchant_at, entry_at, record_at}
 use Rattle.vault_core.specs.declared.right.Right.{Right}
 use Rattle.vault_core.specs.declared.right.Right.TheVariants.{Tokenize, Detokenize, View, Revoke, Purge, Audit}
 use Rattle.vault_core.specs.declared.row.Entry.{Entry}
 use Rattle.vault_core.specs.declared.row.Record.{Record}
 use Rattle.vault_core.specs.declared.usage.Use.{Use}
 use Rattle.vault_core.specs.declared.usage.Use.TheVariants.{Single, Multi}
-use Rattle.vault_recover.proofs.Once.{apart_keys}
 use Rattle.vault_recover.proofs.Standing.{stand_for}
 use Rattle.vault_recover.proofs.VersionRows.{version_stands}
 use Rattle.vault_recover.specs.Apart.{AreApart}
 use Rattle.vault_recover.specs.Opened.{AreRaws}
 use Rattle.vault_recover.specs.Raw.{int_value, merchant_values, count_values, entry_values, record_values, right_values}
 use Rattle.vault_rules.proofs.Alone.{entry_shown}
-use Rattle.vault_rules.proofs.Counts.{counts_are, count_cases, CountRow}
+use Rattle.vault_rules.proofs.Counts.{counts_are, count_cases}
 use Rattle.vault_rules.proofs.FoundRows.{merchant_row, entry_row, record_row, right_row}
 use Rattle.vault_rules.proofs.Held.{merchant_held, entry_held, record_held, right_held}
 use Rattle.vault_rules.proofs.Kept as kept

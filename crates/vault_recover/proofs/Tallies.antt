@@ -1,7 +1,6 @@
 -- That no rowid comes twice does not hang on the order of the rows.
-use Rattle.std.proofs.Common.{◌≡◌, ◌⊎◌, inl, inr, ℕ, ◌+◌, ◌<◌, ◌≤◌, List, [], ◌∷◌, map, true, false, cond, Bool, refl, sym, ap, subst, ◌∙◌, arith, Ordering, Less, Equal, Greater, is_eq, sum_by}
+use Rattle.std.proofs.Common.{◌≡◌, inl, inr, ℕ, ◌+◌, ◌≤◌, List, [], ◌∷◌, false, cond, refl, sym, ap, ◌∙◌, arith, Ordering, Less, Equal, Greater, is_eq, sum_by}
 use Rattle.std.specs.Prelude.{◌≢◌}
-use Rattle.std.specs.List.{AllByRecursion}
 use Rattle.std.specs.List.Sorted.{IsPermutation}
 use Rattle.std.proofs.lemmas.List.Sums.{sum_by-cons}
 use Rattle.std.proofs.lemmas.List.Sorted.{sum_by-IsPermutation}
@@ -13,7 +12,6 @@ use Rattle.sqlite_rules.specs.Lists.{Has}
 use Rattle.sqlite_rules.proofs.ListLemmas.{all_has, all_from}
 use Rattle.sqlite_value.proofs.OrderLemmas.{value_cmp_total}
 use Rattle.vault_sql.specs.Rows.{IsApart}
-use Rattle.vault_sql.proofs.KeyTests.{equal_is}
 
 abbrev hit : Value → Row → ℕ
 hit id r = cond (is_eq (value_cmp (rowid r) id)) 1 0

@@ -1,4 +1,4 @@
-use Rattle.std.proofs.Common.{◌≡◌, ◌∙◌, sym, ap, inl, inr}
+use Rattle.std.proofs.Common.{◌∙◌, sym, ap, inl}
 use Rattle.sqlite.specs.Held.{state}
 use Rattle.vault_recover.proofs.Holders.{nobody_blank, no_sizes}
 use Rattle.vault_recover.proofs.Judged.{no_refusal}

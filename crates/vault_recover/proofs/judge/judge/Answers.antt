@@ -1,4 +1,4 @@
-use Rattle.std.proofs.Common.{◌≡◌, ap, sym, subst, ◌∙◌, Some}
+use Rattle.std.proofs.Common.{subst}
 use Rattle.vault_recover.proofs.Results.{same_rule}
 use Rattle.vault_recover.proofs.judge.judge.Goals as goal
 use Rattle.vault_rules.specs.Rules.{IsLeastBroken}

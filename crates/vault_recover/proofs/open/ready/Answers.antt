@@ -1,6 +1,5 @@
-use Rattle.std.proofs.Common.{◌≡◌, ◌∙◌, sym, ap, arith, Err, IfErr, subst}
+use Rattle.std.proofs.Common.{◌∙◌, sym, ap, Err}
 use Rattle.sqlite.specs.Held.{state}
-use Rattle.vault_recover.proofs.Holders.{nobody_blank}
 use Rattle.vault_recover.proofs.Judged.{no_refusal}
 use Rattle.vault_recover.proofs.Opening.{opens_vault}
 use Rattle.vault_recover.proofs.open.ready.Goals as goal
