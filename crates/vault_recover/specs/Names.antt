@@ -1,5 +1,5 @@
 -- Whose tables a file holds, by their names.
-use Rattle.std.specs.Prelude.{◌&&◌, ◌||◌, ◌==◌, ℕ, Bool, List, length, codes, bytes_eq, if◌then◌else◌}
+use Rattle.std.specs.Prelude.{◌≡◌, ◌⊎◌, ◌&&◌, ◌||◌, ◌==◌, ℕ, Bool, List, length, codes, bytes_eq, if◌then◌else◌}
 use Rattle.std.specs.List.{list_any}
 use Rattle.sqlite.specs.Schema.{Schema}
 use Rattle.vault_recover.specs.declared.names.Holder.{Holder}
@@ -49,3 +49,7 @@ holder_of s =
     else if is_vault s then Vault
     else if has_some s then Mixed
     else Other
+
+-- there are tables that aren't a vault's, or not alone, or not all of a vault's
+abbrev pub HasOtherTables : Schema → Type 0
+HasOtherTables s = (holder_of s ≡ Mixed) ⊎ (holder_of s ≡ Other)

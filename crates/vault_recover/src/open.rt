@@ -1,10 +1,11 @@
 //! A vault is opened from a file.
-ghost use Rattle.std.specs.Prelude.{◌≡◌, ℤ, ℕ, false, None, IfOk, IfErr, OnOk};
+ghost use Rattle.std.specs.Prelude.{◌≡◌, ℤ, ℕ, false, None, IfOk, IfErr, IsErr, OnOk};
 ghost use Rattle.sqlite.specs.Held.{state};
 ghost use Rattle.sqlite.specs.State.{HasCleanDisk};
+ghost use Rattle.vault_recover.specs.Names.{HasOtherTables};
 ghost use Rattle.vault_recover.specs.Opened.{IsFit, IsKnown, IsLeastBroken, IsNoRefusal, IsWrong, LeavesFound, Opens};
 ghost use Rattle.vault_recover.specs.Reading.{IsQuiet};
-ghost use Rattle.vault_sql.specs.Holds.{Holds};
+ghost use Rattle.vault_sql.specs.Schema.{no_schema};
 ghost use Rattle.vault_store.specs.Applied.{is_broken, tables_of};
 
 use crate::fault::OpenFault;
@@ -25,6 +26,8 @@ fn ready<S: Alter>(alloc: Global, conn: &mut Connection<S>) -> Result<(), OpenFa
     ensures wrong { HasCleanDisk (state S.Store conn.new) → IfErr result (λ e. (n : ℤ) → e ≡ OpenFault.WrongSchema n → IsKnown (state S.Store conn.old).now → IsWrong (state S.Store conn.old).now n) }
     ensures never { HasCleanDisk (state S.Store conn.new) → IfErr result (λ e. IsFit (state S.Store conn.old).now → IsNoRefusal e) }
     ensures left { HasCleanDisk (state S.Store conn.new) → LeavesFound (state S.Store conn.old) (state S.Store conn.new) }
+    ensures foreign { HasOtherTables (state S.Store conn.old).now.schema → IsErr result × (conn.new ≡ conn.old) }
+    ensures quiet { ¬ ((state S.Store conn.old).now.schema ≡ no_schema) → IsQuiet (state S.Store conn.old) (state S.Store conn.new) }
     ensures idle { conn.new.in_transaction ≡ false }
 {
     let _settled = conn.is_autocommit();
@@ -62,6 +65,9 @@ pub fn open<S: Alter>(
     ensures never { IfErr result (λ e. HasCleanDisk (state S.Store e.1) → IsFit (state S.Store conn).now → IsNoRefusal e.0) }
     ensures left { IfOk result (λ vault. HasCleanDisk (state S.Store (tables_of vault).conn) → LeavesFound (state S.Store conn) (state S.Store (tables_of vault).conn)) }
     ensures left_refused { IfErr result (λ e. HasCleanDisk (state S.Store e.1) → LeavesFound (state S.Store conn) (state S.Store e.1)) }
+    ensures foreign { HasOtherTables (state S.Store conn).now.schema → IsErr result }
+    ensures untouched { IfErr result (λ e. HasOtherTables (state S.Store conn).now.schema → e.1 ≡ conn) }
+    ensures quiet { IfErr result (λ e. ¬ ((state S.Store conn).now.schema ≡ no_schema) → IsQuiet (state S.Store conn) (state S.Store e.1)) }
     ensures idle { IfErr result (λ e. e.1.in_transaction ≡ false) }
 {
     let mut conn = conn;
