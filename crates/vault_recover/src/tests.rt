@@ -2,6 +2,7 @@
 mod changed;
 mod files;
 mod fresh;
+mod reopened;
 mod rows;
 mod script;
 mod stops;
