@@ -11,6 +11,7 @@ use Rattle.vault_cli.specs.declared.fault.WireFault.TheVariants as fault
 abbrev pub most_head : ℕ
 most_head = 8192
 
+-- the most fields of a head
 abbrev pub most_fields : ℕ
 most_fields = 32
 

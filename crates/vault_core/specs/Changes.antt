@@ -37,19 +37,23 @@ raised (Some Made) merchant = merchant
 raised (Some Given) merchant = record merchant { given = merchant.given + 1 }
 raised (Some Denied) merchant = record merchant { denied = merchant.denied + 1 }
 
+-- with the lives and the moment of a merchant, and a count raised
 abbrev pub with_merchant : map.FinMap bytes_cmp Merchant → Option Count → Option Lives → map.FinMap bytes_cmp Merchant
 with_merchant merchants count None = merchants
 with_merchant merchants count (Some x) =
     map.insert merchants x.merchant (raised count (merchant_with x (map.get merchants x.merchant)))
 
+-- with an entry put in
 abbrev pub with_entry : map.FinMap entry_cmp Entry → Option (Bytes × Bytes × Entry) → map.FinMap entry_cmp Entry
 with_entry entries None = entries
 with_entry entries (Some x) = map.insert entries (x.0, x.1) x.2
 
+-- with a record put in
 abbrev pub with_record : map.FinMap record_cmp Record → Option (Bytes × ℕ × Record) → map.FinMap record_cmp Record
 with_record records None = records
 with_record records (Some x) = map.insert records (x.0, x.1) x.2
 
+-- with a right put in, or taken out
 abbrev pub with_right : set.FinSet right_cmp → Option (Bytes × Bytes × Right × Bool) → set.FinSet right_cmp
 with_right rights None = rights
 with_right rights (Some x) =
@@ -64,6 +68,7 @@ plus V ch = record {
   rights = with_right V.rights ch.right;
 }
 
+-- the count that goes up is that of tokens made
 abbrev pub is_made : Option Count → Bool
 is_made None = false
 is_made (Some Made) = true

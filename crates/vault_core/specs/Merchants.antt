@@ -13,6 +13,7 @@ use Rattle.vault_core.specs.declared.right.Right.{Right}
 abbrev pub most_merchants : ℕ
 most_merchants = 10000
 
+-- done, with the merchant set to this
 abbrev pub set_to : Vault → Bytes → Merchant → Outcome
 set_to V m merchant = record { reply = Done; after = record V { merchants = map.insert V.merchants m merchant } }
 
@@ -34,6 +35,7 @@ set_from V m single multi now None =
 abbrev pub set_merchant : Vault → Bytes → ℕ → ℕ → ℕ → Outcome
 set_merchant V m single multi now = set_from V m single multi now (merchant_at V m)
 
+-- done, with the right given
 abbrev pub granted : Vault → Bytes → Bytes → Right → ℕ → Merchant → Outcome
 granted V caller m right now merchant = record {
   reply = Done;
@@ -44,6 +46,7 @@ granted V caller m right now merchant = record {
 abbrev pub grant : Vault → Bytes → Bytes → Right → ℕ → Outcome
 grant V caller m right now = of_merchant V m (granted V caller m right now)
 
+-- done, with the right taken away
 abbrev pub withdrawn : Vault → Bytes → Bytes → Right → ℕ → Merchant → Outcome
 withdrawn V caller m right now merchant = record {
   reply = Done;

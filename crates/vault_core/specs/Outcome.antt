@@ -10,6 +10,7 @@ use Rattle.vault_core.specs.declared.reply.Reply.TheVariants.{Refused}
 use Rattle.vault_core.specs.declared.right.Right.{Right}
 use Rattle.vault_core.specs.declared.row.Entry.{Entry}
 
+-- what a command is answered, and the vault after it
 pub record Outcome : Type 0 where
   pub reply : Reply
   pub after : Vault

@@ -30,6 +30,7 @@ IsProper (View caller m token now) = IsName caller × IsName m × IsToken token 
 IsProper (Revoke caller m token now) = IsName caller × IsName m × IsToken token × IsMoment now
 IsProper (Audit caller m now) = IsName caller × IsName m × IsMoment now
 
+-- each command is proper
 abbrev pub AllProper : List Command → Type 0
 AllProper [] = Unit {0}
 AllProper (c ∷ cs) = IsProper c × AllProper cs

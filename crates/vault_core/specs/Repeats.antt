@@ -10,6 +10,7 @@ use Rattle.vault_core.specs.declared.row.Record.{Record}
 use Rattle.vault_core.specs.declared.usage.Use.{Use}
 use Rattle.vault_core.specs.declared.usage.Use.TheVariants.{Single, Multi}
 
+-- whether two uses are the same
 abbrev pub same_use : Use → Use → Bool
 same_use Single Single = true
 same_use Multi Multi = true

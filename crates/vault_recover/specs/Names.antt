@@ -17,6 +17,7 @@ has_index s name = list_any (λ i. bytes_eq i.name name) s.indexes
 abbrev pub has_view : Schema → List ℕ → Bool
 has_view s name = list_any (λ v. bytes_eq v.name name) s.views
 
+-- a name is taken
 abbrev pub has_name : Schema → List ℕ → Bool
 has_name s name = has_table s name || has_index s name || has_view s name
 
@@ -43,6 +44,7 @@ has_some s =
 abbrev pub is_blank : Schema → Bool
 is_blank s = length s.tables == 0 && length s.indexes == 0 && length s.views == 0
 
+-- whose tables there are: nobody's, a vault's alone, some of a vault's, or others
 abbrev pub holder_of : Schema → Holder
 holder_of s =
     if is_blank s then Nobody

@@ -20,23 +20,28 @@ int_value (Some n) = Int n
 abbrev pub version_values : RawVersion → Row
 version_values v = Int v.id ∷ Int v.version ∷ []
 
+-- a row of `merchants`, with its rowid in front
 abbrev pub merchant_values : RawMerchant → Row
 merchant_values m =
     Int m.rowid ∷ Text (string_bytes m.name) ∷ Int m.single_life ∷ Int m.multi_life ∷ Int m.moment ∷ []
 
+-- of `counts`
 abbrev pub count_values : RawCount → Row
 count_values c = Int c.rowid ∷ Text (string_bytes c.merchant) ∷ Int c.kind ∷ Int c.total ∷ []
 
+-- of `entries`
 abbrev pub entry_values : RawEntry → Row
 entry_values e =
     Int e.rowid ∷ Text (string_bytes e.merchant) ∷ Text (string_bytes e.token) ∷ text_or_null (option_map (λ number. string_bytes number) e.number) ∷ Int e.usage
     ∷ Int e.birth ∷ Int e.expires ∷ int_value e.revoked ∷ []
 
+-- of `records`
 abbrev pub record_values : RawRecord → Row
 record_values r =
     Int r.rowid ∷ Text (string_bytes r.caller) ∷ Int r.request ∷ Text (string_bytes r.merchant)
     ∷ Text (string_bytes r.token) ∷ Int r.usage ∷ []
 
+-- of `rights`
 abbrev pub right_values : RawRight → Row
 right_values r =
     Int r.rowid ∷ Text (string_bytes r.caller) ∷ Text (string_bytes r.merchant) ∷ Int r.what ∷ []

@@ -18,6 +18,7 @@ use Rattle.vault_rules.specs.declared.rows.RawRecord.{RawRecord}
 use Rattle.vault_rules.specs.declared.rows.RawRight.{RawRight}
 use Rattle.vault_rules.specs.declared.rows.Rows.{Rows}
 
+-- the number of a use
 abbrev pub usage_number : Use → ℕ
 usage_number Single = 1
 usage_number Multi = 2

@@ -49,9 +49,11 @@ merchant_value counts m = record {
   denied = natural (total_of counts (string_bytes m.name) (pos 3));
 }
 
+-- an entry's merchant and token
 abbrev pub entry_key : RawEntry → Bytes × Bytes
 entry_key e = (string_bytes e.merchant, string_bytes e.token)
 
+-- what a row says of an entry
 abbrev pub entry_value : RawEntry → Entry
 entry_value e = record {
   number = option_map (λ number. string_bytes number) e.number;
@@ -61,12 +63,15 @@ entry_value e = record {
   revoked = option_map natural e.revoked;
 }
 
+-- a record's caller and request
 abbrev pub record_key : RawRecord → Bytes × ℕ
 record_key r = (string_bytes r.caller, natural r.request)
 
+-- what a row says of a record
 abbrev pub record_value : RawRecord → Record
 record_value r = record { merchant = string_bytes r.merchant; token = string_bytes r.token; usage = use_of r.usage }
 
+-- a right, by its caller and merchant
 abbrev pub right_key : RawRight → Bytes × (Bytes × Right)
 right_key r = (string_bytes r.caller, (string_bytes r.merchant, right_of r.what))
 
@@ -83,9 +88,11 @@ vault_of rows = record {
 abbrev pub count_key : RawCount → Bytes × ℤ
 count_key c = (string_bytes c.merchant, c.kind)
 
+-- a request as it stands
 abbrev pub request_key : RawRecord → Bytes × ℤ
 request_key r = (string_bytes r.caller, r.request)
 
+-- a right as it stands
 abbrev pub number_key : RawRight → Bytes × (Bytes × ℤ)
 number_key r = (string_bytes r.caller, (string_bytes r.merchant, r.what))
 

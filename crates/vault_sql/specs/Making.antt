@@ -47,12 +47,15 @@ pub record IsReady (s : State) : Type 0 where
   pub unlimited : s.step_limit ≡ None
   pub settled : s.now ≡ s.committed
 
+-- the schema with the first table
 abbrev pub one : Schema
 one = created no_schema vault
 
+-- with the first two
 abbrev pub two : Schema
 two = created one merchants
 
+-- with the first three
 abbrev pub three : Schema
 three = created two counts
 
@@ -60,12 +63,15 @@ three = created two counts
 abbrev pub four : Schema
 four = created three entries
 
+-- the index by number, before it has a tree
 abbrev pub number_index : Index
 number_index =
     record { name = codes "entries_number"; tree = 0; table = 5; columns = 1 ∷ 3 ∷ []; order = plain; is_unique = false }
 
+-- with the index by number
 abbrev pub five : Schema
 five = indexed four entries number_index
 
+-- with the table of records
 abbrev pub six : Schema
 six = created five records

@@ -42,9 +42,11 @@ abbrev pub use_number : Use → ℕ
 use_number Single = 1
 use_number Multi = 2
 
+-- the columns of a merchant's lives and moment
 abbrev pub lives_columns : Lives → Row
 lives_columns x = Int (pos x.single_life) ∷ Int (pos x.multi_life) ∷ Int (pos x.moment) ∷ []
 
+-- a merchant, behind its rowid
 abbrev pub merchant_row : Bytes → Lives → Row
 merchant_row m x = Text m ∷ lives_columns x
 
@@ -52,17 +54,21 @@ merchant_row m x = Text m ∷ lives_columns x
 abbrev pub count_row : Bytes × ℕ → ℕ → Row
 count_row key total = Text key.0 ∷ Int (pos key.1) ∷ Int (pos total) ∷ []
 
+-- the columns of an entry behind its key
 abbrev pub entry_columns : Entry → Row
 entry_columns e =
     text_or_null e.number ∷ Int (pos (use_number e.usage)) ∷ Int (pos e.birth) ∷ Int (pos e.expires)
     ∷ number_or_null e.revoked ∷ []
 
+-- an entry, by its merchant and its token
 abbrev pub entry_row : Bytes × Bytes → Entry → Row
 entry_row key e = Text key.0 ∷ Text key.1 ∷ entry_columns e
 
+-- the columns of a record behind its key
 abbrev pub record_columns : Record → Row
 record_columns r = Text r.merchant ∷ Text r.token ∷ Int (pos (use_number r.usage)) ∷ []
 
+-- a record, by its caller and its request
 abbrev pub record_row : Bytes × ℕ → Record → Row
 record_row key r = Text key.0 ∷ Int (pos key.1) ∷ record_columns r
 

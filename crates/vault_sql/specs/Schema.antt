@@ -11,24 +11,31 @@ use Rattle.sqlite_schema.specs.declared.schema.Column.{Column}
 use Rattle.sqlite.specs.Change.{created, indexed}
 use Rattle.sqlite_value.specs.Keys.{plain}
 
+-- the text that makes the table of the version
 abbrev pub vault_text : List ℕ
 vault_text = codes "CREATE TABLE vault (id INTEGER PRIMARY KEY, version INTEGER NOT NULL) STRICT"
 
+-- of merchants
 abbrev pub merchants_text : List ℕ
 merchants_text = codes "CREATE TABLE merchants (name TEXT NOT NULL PRIMARY KEY, single_life INTEGER NOT NULL, multi_life INTEGER NOT NULL, moment INTEGER NOT NULL) STRICT"
 
+-- of counts
 abbrev pub counts_text : List ℕ
 counts_text = codes "CREATE TABLE counts (merchant TEXT NOT NULL, kind INTEGER NOT NULL, total INTEGER NOT NULL, PRIMARY KEY (merchant, kind)) STRICT"
 
+-- of entries
 abbrev pub entries_text : List ℕ
 entries_text = codes "CREATE TABLE entries (merchant TEXT NOT NULL, token TEXT NOT NULL, number TEXT, usage INTEGER NOT NULL, birth INTEGER NOT NULL, expires INTEGER NOT NULL, revoked INTEGER, PRIMARY KEY (merchant, token)) STRICT"
 
+-- the text that makes the index of entries by number
 abbrev pub entries_number_text : List ℕ
 entries_number_text = codes "CREATE INDEX entries_number ON entries (merchant, number)"
 
+-- the text that makes the table of records
 abbrev pub records_text : List ℕ
 records_text = codes "CREATE TABLE records (caller TEXT NOT NULL, request INTEGER NOT NULL, merchant TEXT NOT NULL, token TEXT NOT NULL, usage INTEGER NOT NULL, PRIMARY KEY (caller, request)) STRICT"
 
+-- of rights
 abbrev pub rights_text : List ℕ
 rights_text = codes "CREATE TABLE rights (caller TEXT NOT NULL, merchant TEXT NOT NULL, what INTEGER NOT NULL, PRIMARY KEY (caller, merchant, what)) STRICT"
 
@@ -36,9 +43,11 @@ rights_text = codes "CREATE TABLE rights (caller TEXT NOT NULL, merchant TEXT NO
 abbrev pub column_of : Bool → List ℕ → Kind → Column
 column_of not_null name kind = record { name = name; kind = kind; is_strict = true; not_null = not_null; default = Null; collation = Binary }
 
+-- a column that is never NULL
 abbrev pub present : List ℕ → Kind → Column
 present = column_of true
 
+-- a column that may be NULL
 abbrev pub optional : List ℕ → Kind → Column
 optional = column_of false
 
@@ -59,6 +68,7 @@ table_of tree name columns key = record {
   is_counted = false;
 }
 
+-- the version, in the row with the id 1; the id stands in the rowid
 abbrev pub vault : Table
 vault = record {
   name = codes "vault";
@@ -75,18 +85,23 @@ vault = record {
   is_counted = false;
 }
 
+-- merchants by name
 abbrev pub merchants : Table
 merchants = table_of 1 (codes "merchants") (present (codes "name") Text ∷ present (codes "single_life") Integer ∷ present (codes "multi_life") Integer ∷ present (codes "moment") Integer ∷ []) (1 ∷ [])
 
+-- counts by merchant and kind
 abbrev pub counts : Table
 counts = table_of 3 (codes "counts") (present (codes "merchant") Text ∷ present (codes "kind") Integer ∷ present (codes "total") Integer ∷ []) (1 ∷ 2 ∷ [])
 
+-- entries by merchant and token
 abbrev pub entries : Table
 entries = table_of 5 (codes "entries") (present (codes "merchant") Text ∷ present (codes "token") Text ∷ optional (codes "number") Text ∷ present (codes "usage") Integer ∷ present (codes "birth") Integer ∷ present (codes "expires") Integer ∷ optional (codes "revoked") Integer ∷ []) (1 ∷ 2 ∷ [])
 
+-- records by caller and request
 abbrev pub records : Table
 records = table_of 8 (codes "records") (present (codes "caller") Text ∷ present (codes "request") Integer ∷ present (codes "merchant") Text ∷ present (codes "token") Text ∷ present (codes "usage") Integer ∷ []) (1 ∷ 2 ∷ [])
 
+-- rights, each its key alone
 abbrev pub rights : Table
 rights = table_of 10 (codes "rights") (present (codes "caller") Text ∷ present (codes "merchant") Text ∷ present (codes "what") Integer ∷ []) (1 ∷ 2 ∷ 3 ∷ [])
 
@@ -94,6 +109,7 @@ rights = table_of 10 (codes "rights") (present (codes "caller") Text ∷ present
 abbrev pub key_index : ℕ → List ℕ → ℕ → List ℕ → Index
 key_index tree name table columns = record { name = name; tree = tree; table = table; columns = columns; order = plain; is_unique = true }
 
+-- all tables and indexes, with their trees
 abbrev pub vault_schema : Schema
 vault_schema = record {
   tables = vault ∷ merchants ∷ counts ∷ entries ∷ records ∷ rights ∷ [];
@@ -103,9 +119,11 @@ vault_schema = record {
   views = [];
 }
 
+-- a database without a table, an index or a view
 abbrev pub no_schema : Schema
 no_schema = record { tables = []; indexes = []; views = [] }
 
+-- what the statements make of it, one after the other
 abbrev pub made_schema : Schema
 made_schema =
     let e = created (created (created (created no_schema (record vault { tree = 0 })) (record merchants { tree = 0 })) (record counts { tree = 0 })) (record entries { tree = 0 }) in

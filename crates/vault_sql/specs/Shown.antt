@@ -16,9 +16,11 @@ abbrev pub one_of : {X : Type 0} → (X → Row) → Option X → List Row
 one_of show None = []
 one_of show (Some x) = show x ∷ []
 
+-- a row of one number
 abbrev pub number_column : ℕ → Row
 number_column n = Int (pos n) ∷ []
 
+-- a row of one text
 abbrev pub text_column : Bytes → Row
 text_column text = Text text ∷ []
 

@@ -21,6 +21,7 @@ pub record Lookups : Type 0 where
   pub records : Bytes × ℕ → Option Record
   pub rights : Bytes × (Bytes × Right) → Option (Unit {0})
 
+-- the lives and the moment of a merchant, without its counts
 abbrev pub lives_in : Merchant → Lives
 lives_in merchant =
     record { single_life = merchant.single_life; multi_life = merchant.multi_life; moment = merchant.moment }

@@ -17,9 +17,11 @@ use Rattle.vault_sql.specs.Stands.{Lookups}
 abbrev pub put : {K X : Type 0} → (K → K → Ordering) → (K → Option X) → K → Option X → K → Option X
 put cmp held key value q = cond (eq_by_cmp cmp q key) value (held q)
 
+-- the row of lives that change
 abbrev pub lives_of : core.Lives → Lives
 lives_of x = record { single_life = x.single_life; multi_life = x.multi_life; moment = x.moment }
 
+-- the merchants with the lives that change
 abbrev pub put_lives : (Bytes → Option Lives) → Option core.Lives → Bytes → Option Lives
 put_lives held None = held
 put_lives held (Some x) = put bytes_cmp held x.merchant (Some (lives_of x))
@@ -40,14 +42,17 @@ raise held None count = held
 raise held (Some x) None = held
 raise held (Some x) (Some count) = raise_at held (x.merchant, kind_of count)
 
+-- the entries with the one that changes
 abbrev pub put_entry : (Bytes × Bytes → Option Entry) → Option (Bytes × Bytes × Entry) → Bytes × Bytes → Option Entry
 put_entry held None = held
 put_entry held (Some x) = put entry_cmp held (x.0, x.1) (Some x.2)
 
+-- the records with the one that comes
 abbrev pub put_record : (Bytes × ℕ → Option Record) → Option (Bytes × ℕ × Record) → Bytes × ℕ → Option Record
 put_record held None = held
 put_record held (Some x) = put record_cmp held (x.0, x.1) (Some x.2)
 
+-- the rights with the one that is given, or without the one that is taken
 abbrev pub put_right : (Bytes × (Bytes × Right) → Option (Unit {0})) → Option (Bytes × Bytes × Right × Bool) → Bytes × (Bytes × Right) → Option (Unit {0})
 put_right held None = held
 put_right held (Some x) = put right_cmp held (x.0, (x.1, x.2)) (if x.3 then Some tt else None)
