@@ -8,16 +8,15 @@ use Rattle.vault_core.specs.Keys.{Bytes, right_number}
 use Rattle.vault_core.specs.declared.right.Right.{Right}
 use Rattle.vault_core.specs.declared.row.Entry.{Entry}
 use Rattle.vault_core.specs.declared.row.Record.{Record}
-use Rattle.vault_core.specs.declared.usage.Use.{Use}
-use Rattle.vault_core.specs.declared.usage.Use.TheVariants.{Single, Multi}
+use Rattle.vault_recover.proofs.Backs.{same_number}
 use Rattle.vault_recover.specs.Raw.{int_value, merchant_values, count_values, entry_values, record_values, right_values}
-use Rattle.vault_rules.specs.Showing.{usage_number, ShowsEntry, ShowsRecord}
+use Rattle.vault_rules.specs.Showing.{ShowsEntry, ShowsRecord}
 use Rattle.vault_rules.specs.declared.rows.RawMerchant.{RawMerchant}
 use Rattle.vault_rules.specs.declared.rows.RawCount.{RawCount}
 use Rattle.vault_rules.specs.declared.rows.RawEntry.{RawEntry}
 use Rattle.vault_rules.specs.declared.rows.RawRecord.{RawRecord}
 use Rattle.vault_rules.specs.declared.rows.RawRight.{RawRight}
-use Rattle.vault_sql.specs.Rows.{merchant_row, count_row, entry_row, record_row, right_row, text_or_null, number_or_null, use_number}
+use Rattle.vault_sql.specs.Rows.{merchant_row, count_row, entry_row, record_row, right_row, text_or_null, number_or_null}
 use Rattle.vault_sql.specs.declared.merchants.Lives.{Lives}
 
 abbrev text_in : Value → Bytes
@@ -47,10 +46,6 @@ int_back (Some n) = refl
 number_back : (o : Option ℕ) → maybe_int (number_or_null o) ≡ option_map pos o
 number_back None = refl
 number_back (Some n) = refl
-
-same_number : (u : Use) → use_number u ≡ usage_number u
-same_number Single = refl
-same_number Multi = refl
 
 -- the columns behind a rowid
 text_at : (r s : Row) (i : ℕ) → r ≡ s → text_in (column r i) ≡ text_in (column s i)

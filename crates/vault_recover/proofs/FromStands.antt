@@ -1,7 +1,6 @@
 -- The rows of a database that stands for a vault show that vault.
 use Rattle.std.proofs.Common.{◌≡◌, ◌⊎◌, inl, inr, ℕ, pos, List, [], ◌∷◌, map, drop, ◌==◌, ◌<◌, true, false, Bool, cond, Option, Some, None, option_map, refl, sym, ap, subst, ◌∙◌, arith}
-use Rattle.std.proofs.lemmas.Bool.Decides.{nat_tests, Decides-eqb}
-use Rattle.std.proofs.lemmas.Grind.{common_steps}
+use Rattle.std.proofs.lemmas.Bool.Decides.{Decides-eqb}
 use Rattle.std.proofs.lemmas.List.Sorted.{IsPermutation-sym, length_permutation}
 use Rattle.std.specs.FinMap as finite
 use Rattle.std.specs.FinSet as set
@@ -15,13 +14,13 @@ use Rattle.sqlite.specs.Tree.{Trees}
 use Rattle.sqlite.specs.declared.types.Value.TheVariants.{Null, Int}
 use Rattle.sqlite_rules.specs.Lists.{Has}
 use Rattle.sqlite_rules.proofs.ProbeLemmas.{has_mapped, mapped_has}
-use Rattle.vault_core.proofs.Finds.{some_same}
 use Rattle.vault_core.proofs.Maps.{entry_total, entry_exact}
 use Rattle.vault_core.specs.Keys.{Bytes, bytes_cmp}
 use Rattle.vault_core.specs.Vault.{Vault, Merchant, merchant_at, entry_at, record_at, has_right, made}
 use Rattle.vault_core.specs.declared.row.Entry.{Entry}
 use Rattle.vault_core.specs.declared.usage.Use.{Use}
 use Rattle.vault_core.specs.declared.usage.Use.TheVariants.{Single, Multi}
+use Rattle.vault_recover.proofs.Backs.{given_back, lives_back, some_unless}
 use Rattle.vault_recover.proofs.Decoded.{merchant_decoded, count_decoded, entry_decoded, record_decoded, right_decoded, int_in}
 use Rattle.vault_recover.proofs.VersionRows.{alone, one_shown}
 use Rattle.vault_recover.proofs.Whole.{has_permuted}
@@ -44,7 +43,7 @@ use Rattle.vault_rules.specs.declared.rows.Rows.{Rows}
 use Rattle.vault_sql.proofs.Codings.{merchant_coding}
 use Rattle.vault_sql.proofs.HowMany.{as_many}
 use Rattle.vault_sql.specs.Rows.{AreRowsOf, merchant_row, count_row, entry_row as entry_encoded, record_row, right_row}
-use Rattle.vault_sql.specs.Stands.{Stands, count_at, lives_in, unless_zero, lookups_of}
+use Rattle.vault_sql.specs.Stands.{Stands, count_at, lives_in, lookups_of}
 use Rattle.vault_sql.specs.declared.merchants.Lives.{Lives}
 
 -- a row as it stands is a pair, and each pair is a row as it stands
@@ -58,21 +57,6 @@ module _ {K X R : Type 0} (encode : K → X → Row) (values : R → Row) (held 
       let it = are.complete k x h in
       let raw = has_mapped values items it.0 (has_permuted tree (map values items) it.0 same it.1) in
       (raw.0, raw.1, ap (drop 1) (sym raw.2) ∙ it.2)
-
-lives_back : (o : Option Merchant) (x : Lives) → option_map lives_in o ≡ Some x → (merchant : Merchant) × (o ≡ Some merchant) × (lives_in merchant ≡ x)
-lives_back None x e = absurd cc
-lives_back (Some merchant) x e = (merchant, refl, some_same e)
-
-given_back : (b : Bool) (x : Unit {0}) → cond b (Some tt) None ≡ Some x → b ≡ true
-given_back true x e = refl
-given_back false x e = absurd cc
-
-some_unless : (n x : ℕ) → unless_zero n ≡ Some x → (n ≡ x) × (0 < n)
-some_unless n x =
-    elim (n == 0) as (λ b. (n == 0) ≡ b → cond b None (Some n) ≡ Some x → (n ≡ x) × (0 < n)) [
-      | true ↦ λ e is. absurd cc
-      | false ↦ λ e is. (some_same is, let apart : 0 < n = grind (arith, nat_tests, common_steps) in apart)
-    ] refl
 
 use_back : (u : Use) → use_of (pos (usage_number u)) ≡ u
 use_back Single = refl

@@ -1,3 +1,4 @@
+pub mod Backs
 pub mod Chains
 pub mod Columns
 pub mod Decoded

@@ -1,23 +1,19 @@
 -- A database whose rows keep the rules stands for the vault of its rows.
-use Rattle.std.proofs.Common.{◌≡◌, ℕ, zero, ℤ, pos, [], ◌∷◌, drop, ◌==◌, true, false, Bool, cond, Option, Some, None, option_map, refl, sym, ap, ◌∙◌, arith, ◌≤◌}
-use Rattle.std.proofs.lemmas.Bool.Decides.{nat_tests}
-use Rattle.std.proofs.lemmas.Grind.{common_steps}
+use Rattle.std.proofs.Common.{◌≡◌, ℕ, zero, pos, [], ◌∷◌, drop, true, cond, Option, Some, None, option_map, refl, sym, ap, ◌∙◌, arith}
 use Rattle.std.specs.Prelude.{string_bytes}
 use Rattle.std.specs.FinSet as set
 use Rattle.sqlite.specs.Effect.{Database, IsDatabase}
 use Rattle.sqlite.specs.Order.{column}
-use Rattle.sqlite.specs.declared.types.Value.{Value}
 use Rattle.sqlite.specs.declared.types.Value.TheVariants.{Int, Text}
 use Rattle.sqlite_rules.specs.Lists.{Has}
-use Rattle.vault_core.proofs.Finds.{some_same}
 use Rattle.vault_core.specs.Keys.{Bytes, right_number}
-use Rattle.vault_core.specs.Vault.{Merchant, merchant_at, entry_at, record_at}
+use Rattle.vault_core.specs.Vault.{merchant_at, entry_at, record_at}
 use Rattle.vault_core.specs.declared.right.Right.{Right}
 use Rattle.vault_core.specs.declared.right.Right.TheVariants.{Tokenize, Detokenize, View, Revoke, Purge, Audit}
 use Rattle.vault_core.specs.declared.row.Entry.{Entry}
 use Rattle.vault_core.specs.declared.row.Record.{Record}
-use Rattle.vault_core.specs.declared.usage.Use.{Use}
-use Rattle.vault_core.specs.declared.usage.Use.TheVariants.{Single, Multi}
+use Rattle.vault_recover.proofs.Backs.{given_back, lives_back, same_number, some_unless, unless_some}
+use Rattle.vault_recover.proofs.Decoded.{int_in}
 use Rattle.vault_recover.proofs.Standing.{stand_for}
 use Rattle.vault_recover.proofs.VersionRows.{version_stands}
 use Rattle.vault_recover.specs.Apart.{AreApart}
@@ -43,40 +39,14 @@ use Rattle.vault_rules.specs.declared.rows.RawRecord.{RawRecord}
 use Rattle.vault_rules.specs.declared.rows.RawRight.{RawRight}
 use Rattle.vault_rules.specs.declared.rows.Rows.{Rows}
 use Rattle.vault_sql.proofs.Codings.{merchant_coding, count_coding, entry_coding, record_coding, right_coding}
-use Rattle.vault_sql.specs.Rows.{AreRowsOf, merchant_row as merchant_encoded, count_row, entry_row as entry_encoded, record_row as record_encoded, right_row as right_encoded, text_or_null, number_or_null, use_number}
+use Rattle.vault_sql.specs.Rows.{AreRowsOf, merchant_row as merchant_encoded, count_row, entry_row as entry_encoded, record_row as record_encoded, right_row as right_encoded, text_or_null, number_or_null}
 use Rattle.vault_sql.specs.Schema.{vault_schema}
 use Rattle.vault_sql.specs.Stands.{Stands, count_at, lives_in, unless_zero, lookups_of}
 use Rattle.vault_sql.specs.declared.merchants.Lives.{Lives}
 
-abbrev int_in : Value → ℤ
-int_in (Int n) = n
-int_in _ = pos 0
-
-same_number : (u : Use) → usage_number u ≡ use_number u
-same_number Single = refl
-same_number Multi = refl
-
 same_moment : (o : Option ℕ) → int_value (option_map pos o) ≡ number_or_null o
 same_moment None = refl
 same_moment (Some n) = refl
-
-unless_some : (n : ℕ) → 1 ≤ n → unless_zero n ≡ Some n
-unless_some n low =
-    elim (n == 0) as (λ b. (n == 0) ≡ b → cond b None (Some n) ≡ Some n) [
-      | true ↦ λ e. let zero : n ≡ 0 = grind (arith, nat_tests, common_steps) in absurd (omega (arith, low, zero))
-      | false ↦ λ e. refl
-    ] refl
-
-some_unless : (n x : ℕ) → unless_zero n ≡ Some x → (n ≡ x) × (1 ≤ n)
-some_unless n x =
-    elim (n == 0) as (λ b. (n == 0) ≡ b → cond b None (Some n) ≡ Some x → (n ≡ x) × (1 ≤ n)) [
-      | true ↦ λ e is. absurd cc
-      | false ↦ λ e is. (some_same is, let apart : 1 ≤ n = grind (arith, nat_tests, common_steps) in apart)
-    ] refl
-
-lives_back : (o : Option Merchant) (x : Lives) → option_map lives_in o ≡ Some x → (merchant : Merchant) × (o ≡ Some merchant) × (lives_in merchant ≡ x)
-lives_back None x e = absurd cc
-lives_back (Some merchant) x e = (merchant, refl, let same : lives_in merchant ≡ x = cc in same)
 
 module _ (rows : Rows) (apart : HasKeysApart rows) (keep : (r : ℕ) → keeps rows r ≡ true) where
   abbrev lives_value : RawMerchant → Lives
@@ -120,7 +90,7 @@ module _ (rows : Rows) (apart : HasKeysApart rows) (keep : (r : ℕ) → keeps r
   entries_read e h =
       let it = entry_shown rows keep e h in
       λ i. Text (string_bytes e.merchant) ∷ Text (string_bytes e.token) ∷ text_or_null (option_map (λ number. string_bytes number) e.number)
-      ∷ Int ((it.usage ∙ ap pos (same_number (entry_value e).usage)) i) ∷ Int (it.birth i) ∷ Int (it.expires i)
+      ∷ Int ((it.usage ∙ ap pos (sym (same_number (entry_value e).usage))) i) ∷ Int (it.birth i) ∷ Int (it.expires i)
       ∷ (ap int_value it.revoked ∙ same_moment (entry_value e).revoked) i ∷ []
 
   entries_complete : (k : Bytes × Bytes) (x : Entry) → entry_at (vault_of rows) k.0 k.1 ≡ Some x
@@ -134,7 +104,7 @@ module _ (rows : Rows) (apart : HasKeysApart rows) (keep : (r : ℕ) → keeps r
       let it = (rows_show rows apart keep).records r h in
       let request = (kept.records_well rows keep r h).request.is in
       let shown : record_value r ≡ it.1 = let both = sym (record_held rows apart keep r h) ∙ ap (λ n. record_at (vault_of rows) (string_bytes r.caller) n) (pos_same (sym request ∙ it.2)) ∙ it.3 in cc in
-      let usage = it.4.usage ∙ ap (λ (x : Record). pos (usage_number x.usage)) (sym shown) ∙ ap pos (same_number (record_value r).usage) in
+      let usage = it.4.usage ∙ ap (λ (x : Record). pos (usage_number x.usage)) (sym shown) ∙ ap pos (sym (same_number (record_value r).usage)) in
       λ i. Text (string_bytes r.caller) ∷ Int (request i) ∷ Text (string_bytes r.merchant) ∷ Text (string_bytes r.token) ∷ Int (usage i) ∷ []
 
   rights_read : (r : RawRight) → Has rows.rights.items r → drop 1 (right_values r) ≡ right_encoded (right_key r) tt
@@ -150,14 +120,10 @@ module _ (rows : Rows) (apart : HasKeysApart rows) (keep : (r : ℕ) → keeps r
   abbrev right_at : Bytes × (Bytes × Right) → Option (Unit {0})
   right_at key = cond (set.contains (vault_of rows).rights key) (Some tt) None
 
-  given_back : (k : Bytes × (Bytes × Right)) (b : Bool) (x : Unit {0}) → cond b (Some tt) None ≡ Some x → b ≡ true
-  given_back k true x e = refl
-  given_back k false x e = absurd cc
-
   rights_complete : (k : Bytes × (Bytes × Right)) (x : Unit {0}) → right_at k ≡ Some x
       → (r : RawRight) × Has rows.rights.items r × (right_key r ≡ k) × (tt ≡ x)
   rights_complete k x h =
-      let it = right_row rows k.0 k.1.0 k.1.1 (given_back k (set.contains (vault_of rows).rights k) x h) in
+      let it = right_row rows k.0 k.1.0 k.1.1 (given_back (set.contains (vault_of rows).rights k) x h) in
       (it.0, it.1, it.2, refl)
 
   module _ (db : Database) (raws : AreRaws db.trees rows) (up : AreApart rows) where
