@@ -1,13 +1,13 @@
 //! The whole check of a file.
 ghost use Rattle.std.specs.Prelude.{◌≡◌, ◌⊎◌, ℤ, ℕ, IfOk, IfErr, OnOk};
 ghost use Rattle.sqlite.specs.Held.{state};
-ghost use Rattle.sqlite.specs.State.{HasCleanDisk};
+ghost use Rattle.sqlite.specs.State.{HasCleanDisk, IsUnchanged};
 ghost use Rattle.vault_core.specs.Vault.{empty_vault};
 ghost use Rattle.vault_recover.specs.Names.{holder_of};
 ghost use Rattle.vault_recover.specs.Opened.{IsFit, IsKnown, IsLeastBroken, IsNoRefusal, IsSoundOf, IsWrong};
 ghost use Rattle.vault_recover.specs.Reading.{IsQuiet};
 ghost use Rattle.vault_recover.specs.Sizes.{sizes_of};
-ghost use Rattle.vault_sql.specs.Schema.{no_schema};
+ghost use Rattle.vault_sql.specs.Schema.{no_schema, vault_schema};
 
 use crate::fault::OpenFault;
 use crate::names::{Holder, holder_in};
@@ -28,6 +28,7 @@ pub fn check<S: Alter>(alloc: Global, conn: &mut Connection<S>) -> Result<Sizes,
     ensures damaged { HasCleanDisk (state S.Store conn.new) → IfErr result (λ e. (rule : ℕ) → e ≡ OpenFault.Damaged rule → IsKnown (state S.Store conn.old).now → IsLeastBroken (state S.Store conn.old).now rule) }
     ensures wrong { HasCleanDisk (state S.Store conn.new) → IfErr result (λ e. (n : ℤ) → e ≡ OpenFault.WrongSchema n → IsKnown (state S.Store conn.old).now → IsWrong (state S.Store conn.old).now n) }
     ensures never { HasCleanDisk (state S.Store conn.new) → IfErr result (λ e. IsFit (state S.Store conn.old).now → IsNoRefusal e) }
+    ensures kept { HasCleanDisk (state S.Store conn.new) → OnOk result ((state S.Store conn.old).now.schema ≡ vault_schema → IsUnchanged (state S.Store conn.old) (state S.Store conn.new)) }
     ensures untouched { ¬ (holder_of (state S.Store conn.old).now.schema ≡ Holder.Vault) → conn.new ≡ conn.old }
     ensures quiet { IsQuiet (state S.Store conn.old) (state S.Store conn.new) }
 {
