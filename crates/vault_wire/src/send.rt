@@ -1,0 +1,34 @@
+//! Bytes written to a watched writer, in order.
+ghost use Rattle.std.specs.Prelude.{◌≡◌, ℕ, ◌<◌, length, take, true, OnOk, OnErr};
+ghost use Rattle.std.specs.Io.KnownBytes.{Appends};
+ghost use Rattle.vault_wire.specs.Watching.{inner_of, is_stopped};
+
+use crate::watched::Watched;
+use std::io::Write;
+
+/// The writer took only a beginning of the bytes.
+#[derive(Debug, Drop)]
+pub struct WriteFailed;
+
+/// Writes the bytes in order. After a failure a beginning of them is out, and not all.
+pub fn send<W: Write>(writer: &mut Watched<W>, bytes: &[u8]) -> Result<(), WriteFailed>
+    ensures ok { OnOk result (Appends (W.contents (inner_of writer.old)) (W.contents (inner_of writer.new)) bytes.now) }
+    ensures err { OnErr result ((n : ℕ) × (n < length bytes.now)
+        × Appends (W.contents (inner_of writer.old)) (W.contents (inner_of writer.new)) (take n bytes.now)) }
+    ensures failed { OnErr result (is_stopped writer.new ≡ true) }
+    ensures goes { OnOk result (is_stopped writer.new ≡ is_stopped writer.old) }
+{
+    let mut sent = 0;
+    while sent < bytes.len() {
+        match writer.write(&bytes[sent..]) {
+            Ok(n) => {
+                if writer.failed() {
+                    return Err(WriteFailed);
+                }
+                sent += n;
+            }
+            Err(_) => return Err(WriteFailed),
+        }
+    }
+    Ok(())
+}

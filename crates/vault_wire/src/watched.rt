@@ -1,0 +1,101 @@
+//! A reader or a writer that is watched for its first failure.
+ghost use Rattle.std.specs.Prelude.{◌≡◌, ◌<◌, length, true, false, IfOk, OnOk, OnErr};
+ghost use Rattle.std.specs.Io.{ReadsAtMost, WritesAtMost};
+ghost use Rattle.std.specs.Io.KnownBytes.{Keeps, ReadConsumes, WriteAppends};
+ghost use Rattle.vault_wire.specs.Watching.{inner_of, is_stopped};
+
+use std::io;
+use std::io::{ErrorKind, Read, Write};
+
+/// A reader or a writer whose first failure stops it.
+#[derive(Drop)]
+pub struct Watched<T> {
+    inner: T,
+    stopped: bool,
+}
+
+impl<T> Watched<T> {
+    /// One that has not failed.
+    pub fn new(inner: T) -> Watched<T>
+        ensures inner { inner_of result ≡ inner }
+        ensures fresh { is_stopped result ≡ false }
+    {
+        Watched {
+            inner,
+            stopped: false,
+        }
+    }
+
+    /// Whether a call failed.
+    pub fn failed(&self) -> bool
+        ensures { result ≡ is_stopped self.now }
+    {
+        self.stopped
+    }
+}
+
+impl<R: Read> Read for Watched<R> {
+    ghost remaining = { λ w. R.remaining w.inner };
+
+    fn read(&mut self, buf: &mut [u8]) -> io::Result<usize>
+        ensures bound { ReadsAtMost result buf.new }
+        ensures bytes { ReadConsumes (R.remaining self.old.inner) (R.remaining self.new.inner) result buf.new }
+        ensures ok { OnOk result (self.new.stopped ≡ false) }
+        ensures err { OnErr result (self.new.stopped ≡ true) }
+        ensures refused { self.old.stopped ≡ true → self.new ≡ self.old }
+    {
+        if self.stopped {
+            return Err(io::Error::from(ErrorKind::Other));
+        }
+        let read = self.inner.read(buf);
+        if read.is_err() {
+            self.stopped = true;
+        }
+        read
+    }
+}
+
+impl<W: Write> Write for Watched<W> {
+    ghost contents = { λ w. W.contents w.inner };
+
+    fn write(&mut self, buf: &[u8]) -> io::Result<usize>
+        ensures bound { WritesAtMost result buf.now }
+        ensures bytes { WriteAppends (W.contents self.old.inner) (W.contents self.new.inner) result buf.now }
+        ensures stops { IfOk result (λ n. self.new.stopped ≡ true → n ≡ 0) }
+        ensures progress { IfOk result (λ n. self.new.stopped ≡ false → 0 < length buf.now → 0 < n) }
+        ensures ok { OnOk result (self.old.stopped ≡ false) }
+        ensures err { OnErr result (self.new.stopped ≡ true) }
+        ensures refused { self.old.stopped ≡ true → self.new ≡ self.old }
+    {
+        if self.stopped {
+            return Err(io::Error::from(ErrorKind::Other));
+        }
+        let written = self.inner.write(buf);
+        match &written {
+            Ok(n) => {
+                if *n == 0 && !buf.is_empty() {
+                    self.stopped = true;
+                }
+            }
+            Err(_) => self.stopped = true,
+        }
+        written
+    }
+
+    fn flush(&mut self) -> io::Result<()>
+        ensures bytes { Keeps (W.contents self.old.inner) (W.contents self.new.inner) }
+        ensures ok { OnOk result (self.new.stopped ≡ false) }
+        ensures err { OnErr result (self.new.stopped ≡ true) }
+        ensures refused { self.old.stopped ≡ true → self.new ≡ self.old }
+    {
+        if self.stopped {
+            return Err(io::Error::from(ErrorKind::Other));
+        }
+        let flushed = self.inner.flush();
+        if flushed.is_err() {
+            self.stopped = true;
+        }
+        flushed
+    }
+}
+
