@@ -1,5 +1,5 @@
 -- What a clause sees of a watched reader or writer.
-use Rattle.std.specs.Prelude.{Bool}
+use Rattle.std.specs.Prelude.{ℕ, Bool, ◌&&◌, ◌==◌, nat_lt, true, Result, Ok, Err}
 use Rattle.vault_wire.specs.declared.watched.Watched.{Watched}
 
 -- the reader or writer underneath
@@ -9,3 +9,8 @@ inner_of w = w.inner
 -- a call failed, so that every later one is refused
 abbrev pub is_stopped : {T : Type 0} → Watched T → Bool
 is_stopped w = w.stopped
+
+-- a write of so many bytes failed: it took none, though there were some, or it was refused
+abbrev pub tells_failure : {E : Type 0} → ℕ → Result ℕ E → Bool
+tells_failure given (Ok taken) = taken == 0 && nat_lt 0 given
+tells_failure given (Err e) = true

@@ -1,5 +1,5 @@
 //! Bytes written to a watched writer, in order.
-ghost use Rattle.std.specs.Prelude.{◌≡◌, ℕ, ◌<◌, length, take, true, OnOk, OnErr};
+ghost use Rattle.std.specs.Prelude.{◌≡◌, ℕ, ◌<◌, length, take, true, OnOk, OnErr, IsErr};
 ghost use Rattle.std.specs.Io.KnownBytes.{Appends};
 ghost use Rattle.vault_wire.specs.Watching.{inner_of, is_stopped};
 
@@ -10,13 +10,16 @@ use std::io::Write;
 #[derive(Debug, Drop)]
 pub struct WriteFailed;
 
-/// Writes the bytes in order. After a failure a beginning of them is out, and not all.
+/// Writes the bytes in order, and doesn't flush. After a failure a beginning of them is out, and
+/// not all; nothing is where the writer had failed before.
 pub fn send<W: Write>(writer: &mut Watched<W>, bytes: &[u8]) -> Result<(), WriteFailed>
     ensures ok { OnOk result (Appends (W.contents (inner_of writer.old)) (W.contents (inner_of writer.new)) bytes.now) }
     ensures err { OnErr result ((n : ℕ) × (n < length bytes.now)
         × Appends (W.contents (inner_of writer.old)) (W.contents (inner_of writer.new)) (take n bytes.now)) }
     ensures failed { OnErr result (is_stopped writer.new ≡ true) }
     ensures goes { OnOk result (is_stopped writer.new ≡ is_stopped writer.old) }
+    ensures refused { is_stopped writer.old ≡ true → 0 < length bytes.now
+        → IsErr result × (writer.new ≡ writer.old) }
 {
     let mut sent = 0;
     while sent < bytes.len() {

@@ -1,13 +1,15 @@
 //! A reader or a writer that is watched for its first failure.
-ghost use Rattle.std.specs.Prelude.{◌≡◌, ◌<◌, length, true, false, IfOk, OnOk, OnErr};
+ghost use Rattle.std.specs.Prelude.{◌≡◌, length, true, false, is_err, OnOk};
 ghost use Rattle.std.specs.Io.{ReadsAtMost, WritesAtMost};
 ghost use Rattle.std.specs.Io.KnownBytes.{Keeps, ReadConsumes, WriteAppends};
-ghost use Rattle.vault_wire.specs.Watching.{inner_of, is_stopped};
+ghost use Rattle.vault_wire.specs.Watching.{inner_of, is_stopped, tells_failure};
 
 use std::io;
 use std::io::{ErrorKind, Read, Write};
 
-/// A reader or a writer whose first failure stops it.
+/// A reader or a writer whose first failure stops it: an `Err`, or a write that takes no byte of
+/// some. From then on each call is an `Err` of the kind `Other`, and the inner one isn't called.
+/// Before, each call is the inner one's.
 #[derive(Drop)]
 pub struct Watched<T> {
     inner: T,
@@ -40,8 +42,8 @@ impl<R: Read> Read for Watched<R> {
     fn read(&mut self, buf: &mut [u8]) -> io::Result<usize>
         ensures bound { ReadsAtMost result buf.new }
         ensures bytes { ReadConsumes (R.remaining self.old.inner) (R.remaining self.new.inner) result buf.new }
-        ensures ok { OnOk result (self.new.stopped ≡ false) }
-        ensures err { OnErr result (self.new.stopped ≡ true) }
+        ensures flag { self.new.stopped ≡ is_err result }
+        ensures ok { OnOk result (self.old.stopped ≡ false) }
         ensures refused { self.old.stopped ≡ true → self.new ≡ self.old }
     {
         if self.stopped {
@@ -61,10 +63,8 @@ impl<W: Write> Write for Watched<W> {
     fn write(&mut self, buf: &[u8]) -> io::Result<usize>
         ensures bound { WritesAtMost result buf.now }
         ensures bytes { WriteAppends (W.contents self.old.inner) (W.contents self.new.inner) result buf.now }
-        ensures stops { IfOk result (λ n. self.new.stopped ≡ true → n ≡ 0) }
-        ensures progress { IfOk result (λ n. self.new.stopped ≡ false → 0 < length buf.now → 0 < n) }
+        ensures flag { self.new.stopped ≡ tells_failure (length buf.now) result }
         ensures ok { OnOk result (self.old.stopped ≡ false) }
-        ensures err { OnErr result (self.new.stopped ≡ true) }
         ensures refused { self.old.stopped ≡ true → self.new ≡ self.old }
     {
         if self.stopped {
@@ -84,8 +84,8 @@ impl<W: Write> Write for Watched<W> {
 
     fn flush(&mut self) -> io::Result<()>
         ensures bytes { Keeps (W.contents self.old.inner) (W.contents self.new.inner) }
-        ensures ok { OnOk result (self.new.stopped ≡ false) }
-        ensures err { OnErr result (self.new.stopped ≡ true) }
+        ensures flag { self.new.stopped ≡ is_err result }
+        ensures ok { OnOk result (self.old.stopped ≡ false) }
         ensures refused { self.old.stopped ≡ true → self.new ≡ self.old }
     {
         if self.stopped {
