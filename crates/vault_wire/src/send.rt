@@ -4,11 +4,21 @@ ghost use Rattle.std.specs.Io.KnownBytes.{Appends};
 ghost use Rattle.vault_wire.specs.Watching.{inner_of, is_stopped};
 
 use crate::watched::Watched;
+use std::error::Error;
+use std::fmt;
 use std::io::Write;
 
 /// The writer took only a beginning of the bytes.
 #[derive(Debug, Drop)]
 pub struct WriteFailed;
+
+impl fmt::Display for WriteFailed {
+    fn fmt<W: fmt::Write>(&self, f: &mut fmt::Formatter<W>) -> fmt::Result {
+        write!(f, "the writer took only a beginning of the bytes")
+    }
+}
+
+impl Error for WriteFailed {}
 
 /// Writes the bytes in order, and doesn't flush. After a failure a beginning of them is out, and
 /// not all; nothing is where the writer had failed before.
