@@ -1,5 +1,6 @@
 -- The text of an answer (RFC 9112, section 4): a status line, fields, an empty line and the body.
-use Rattle.std.specs.Prelude.{ℕ, List, [], ◌∷◌, ◌++◌, Bool, Option, Some, None, length, codes, decimal, if◌then◌else◌}
+use Rattle.std.specs.Prelude.{ℕ, List, [], ◌∷◌, ◌++◌, Bool, Option, Some, None, length, codes, decimal}
+use Rattle.std.specs.Prelude.{if◌then◌else◌}
 use Rattle.vault_wire.specs.Status.{reason_of}
 
 -- the end of a line
@@ -34,4 +35,5 @@ length_line size = field_line (codes "Content-Length") (decimal size)
 -- the whole answer
 abbrev pub answer_bytes : ℕ → Option (List ℕ) → List ℕ → Bool → List ℕ
 answer_bytes code allow body close =
-    status_line code ++ kind_line ++ length_line (length body) ++ allow_line allow ++ close_line close ++ crlf ++ body
+    status_line code ++ kind_line ++ length_line (length body)
+    ++ allow_line allow ++ close_line close ++ crlf ++ body

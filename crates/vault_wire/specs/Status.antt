@@ -9,7 +9,7 @@ Status = ℕ × List ℕ
 -- the statuses that the service answers with
 abbrev pub statuses : List Status
 statuses =
-      (200, codes "OK")
+    (200, codes "OK")
     ∷ (400, codes "Bad Request")
     ∷ (403, codes "Forbidden")
     ∷ (404, codes "Not Found")

@@ -1,6 +1,7 @@
 //! The text of an answer.
 ghost use Rattle.std.specs.Prelude.{◌≡◌, ◌++◌, IfOk, OnOk, option_map, string_bytes};
-ghost use Rattle.vault_wire.specs.Answer.{allow_line, answer_bytes, close_line, field_line, length_line, status_line};
+ghost use Rattle.vault_wire.specs.Answer.{allow_line, answer_bytes, close_line, field_line, length_line};
+ghost use Rattle.vault_wire.specs.Answer.{status_line};
 ghost use Rattle.vault_wire.specs.Status.{IsStatus};
 
 use crate::status::reason_of;

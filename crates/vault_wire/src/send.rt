@@ -23,9 +23,10 @@ impl Error for WriteFailed {}
 /// Writes the bytes in order, and doesn't flush. After a failure a beginning of them is out, and
 /// not all; nothing is where the writer had failed before.
 pub fn send<W: Write>(writer: &mut Watched<W>, bytes: &[u8]) -> Result<(), WriteFailed>
-    ensures ok { OnOk result (Appends (W.contents (inner_of writer.old)) (W.contents (inner_of writer.new)) bytes.now) }
-    ensures err { OnErr result ((n : ℕ) × (n < length bytes.now)
-        × Appends (W.contents (inner_of writer.old)) (W.contents (inner_of writer.new)) (take n bytes.now)) }
+    ensures ok { let old = W.contents (inner_of writer.old) in let new = W.contents (inner_of writer.new) in
+        OnOk result (Appends old new bytes.now) }
+    ensures err { let old = W.contents (inner_of writer.old) in let new = W.contents (inner_of writer.new) in
+        OnErr result ((n : ℕ) × (n < length bytes.now) × Appends old new (take n bytes.now)) }
     ensures failed { OnErr result (is_stopped writer.new ≡ true) }
     ensures goes { OnOk result (is_stopped writer.new ≡ is_stopped writer.old) }
     ensures refused { is_stopped writer.old ≡ true → 0 < length bytes.now

@@ -41,7 +41,8 @@ impl<R: Read> Read for Watched<R> {
 
     fn read(&mut self, buf: &mut [u8]) -> io::Result<usize>
         ensures bound { ReadsAtMost result buf.new }
-        ensures bytes { ReadConsumes (R.remaining self.old.inner) (R.remaining self.new.inner) result buf.new }
+        ensures bytes { let old = R.remaining self.old.inner in let new = R.remaining self.new.inner in
+            ReadConsumes old new result buf.new }
         ensures flag { self.new.stopped ≡ is_err result }
         ensures ok { OnOk result (self.old.stopped ≡ false) }
         ensures refused { self.old.stopped ≡ true → self.new ≡ self.old }
@@ -62,7 +63,8 @@ impl<W: Write> Write for Watched<W> {
 
     fn write(&mut self, buf: &[u8]) -> io::Result<usize>
         ensures bound { WritesAtMost result buf.now }
-        ensures bytes { WriteAppends (W.contents self.old.inner) (W.contents self.new.inner) result buf.now }
+        ensures bytes { let old = W.contents self.old.inner in let new = W.contents self.new.inner in
+            WriteAppends old new result buf.now }
         ensures flag { self.new.stopped ≡ tells_failure (length buf.now) result }
         ensures ok { OnOk result (self.old.stopped ≡ false) }
         ensures refused { self.old.stopped ≡ true → self.new ≡ self.old }
@@ -98,4 +100,3 @@ impl<W: Write> Write for Watched<W> {
         flushed
     }
 }
-

@@ -9,8 +9,7 @@ loop-sent-preserved g c =
     let more = rw take_rest at c.in-Ok.ensures.bytes in
     let flag = rw take_rest at c.in-Ok.ensures.flag in
     let some = takes_some c.loop-sent.sent c.in-Ok.n c.args.bytes.now c.loop-sent-test.true
-        (sym flag ∙ sym c.failed.ensures ∙ c.if-failed.false) in
-    (
+    (sym flag ∙ sym c.failed.ensures ∙ c.if-failed.false) in (
       omega (arith, c.in-Ok.ensures.bound),
       appends_more _ _ _ _ _ _ inv.1 more,
       cc (c.in-Ok.ensures.ok, c.if-failed.false),
