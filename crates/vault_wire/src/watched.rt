@@ -100,3 +100,6 @@ impl<W: Write> Write for Watched<W> {
         flushed
     }
 }
+
+#[cfg(test)]
+mod tests;
