@@ -45,15 +45,13 @@ impl<R: Read> Read for Watched<R> {
             ReadConsumes old new result buf.new }
         ensures flag { self.new.stopped ≡ is_err result }
         ensures ok { OnOk result (self.old.stopped ≡ false) }
-        ensures refused { self.old.stopped ≡ true → self.new ≡ self.old }
+        ensures refused { self.old.stopped ≡ true → (self.new ≡ self.old) × (buf.new ≡ buf.old) }
     {
         if self.stopped {
             return Err(io::Error::from(ErrorKind::Other));
         }
         let read = self.inner.read(buf);
-        if read.is_err() {
-            self.stopped = true;
-        }
+        self.stopped = read.is_err();
         read
     }
 }
@@ -73,14 +71,10 @@ impl<W: Write> Write for Watched<W> {
             return Err(io::Error::from(ErrorKind::Other));
         }
         let written = self.inner.write(buf);
-        match &written {
-            Ok(n) => {
-                if *n == 0 && !buf.is_empty() {
-                    self.stopped = true;
-                }
-            }
-            Err(_) => self.stopped = true,
-        }
+        self.stopped = match &written {
+            Ok(count) => *count == 0 && !buf.is_empty(),
+            Err(_) => true,
+        };
         written
     }
 
@@ -94,9 +88,7 @@ impl<W: Write> Write for Watched<W> {
             return Err(io::Error::from(ErrorKind::Other));
         }
         let flushed = self.inner.flush();
-        if flushed.is_err() {
-            self.stopped = true;
-        }
+        self.stopped = flushed.is_err();
         flushed
     }
 }
