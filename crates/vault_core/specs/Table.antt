@@ -1,5 +1,5 @@
 -- What each command answers, and the vault that it leaves.
-use Rattle.std.specs.Prelude.{ℕ}
+use Rattle.std.specs.Prelude.{ℕ, Option, Some, None}
 use Rattle.vault_core.specs.Keys.{Bytes}
 use Rattle.vault_core.specs.Merchants.{set_merchant, grant, withdraw}
 use Rattle.vault_core.specs.Outcome.{Outcome}
@@ -22,6 +22,18 @@ token_request caller m request usage pan digits now =
 -- the command of a request for a token
 abbrev pub command_of : TokenRequest → Command
 command_of a = Tokenize a.caller a.merchant a.request a.usage a.pan a.digits a.moment
+
+-- the request that a command is, where it asks for a token
+abbrev pub request_in : Command → Option TokenRequest
+request_in (SetMerchant m single multi now) = None
+request_in (Grant caller m right now) = None
+request_in (Withdraw caller m right now) = None
+request_in (Tokenize caller m request usage pan digits now) =
+    Some (token_request caller m request usage pan digits now)
+request_in (Detokenize caller m token now) = None
+request_in (View caller m token now) = None
+request_in (Revoke caller m token now) = None
+request_in (Audit caller m now) = None
 
 -- the first case that applies
 abbrev pub outcome : Vault → Command → Outcome

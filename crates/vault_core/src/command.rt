@@ -1,7 +1,8 @@
 //! The commands of a vault.
-ghost use Rattle.std.specs.Prelude.{IsTrue, ◌↔◌};
+ghost use Rattle.std.specs.Prelude.{IsTrue, ◌↔◌, ◌≡◌};
 ghost use Rattle.vault_core.specs.Name.{IsName};
 ghost use Rattle.vault_core.specs.Scalar.{IsMoment};
+ghost use Rattle.vault_core.specs.Table.{request_in};
 
 use crate::moment::Moment;
 use crate::name::{Caller, MerchantId};
@@ -161,6 +162,32 @@ impl Command {
                 let _token = token.digits();
                 is_asked(caller, merchant, now)
             }
+        }
+    }
+
+    /// The parts of a Tokenize; nothing of every other command.
+    pub fn token_request(&self) -> Option<TokenRequest>
+        ensures { result ≡ request_in self.now }
+    {
+        match *self {
+            Command::Tokenize {
+                caller,
+                merchant,
+                request,
+                usage,
+                pan,
+                digits,
+                now,
+            } => Some(TokenRequest {
+                caller,
+                merchant,
+                request,
+                usage,
+                pan,
+                digits,
+                moment: now,
+            }),
+            _ => None,
         }
     }
 }

@@ -11,7 +11,7 @@ mod show;
 mod token;
 
 use crate::changes::Changes;
-use crate::command::{Command, TokenRequest};
+use crate::command::Command;
 use crate::reply::Reply;
 use crate::window::Window;
 use merchant::{grant, set_merchant, withdraw};
@@ -57,23 +57,9 @@ fn settled(w: &Window, c: &Command) -> (Reply, Changes)
             right,
             now,
         } => grant(w, caller, merchant, right, now),
-        Command::Tokenize {
-            caller,
-            merchant,
-            request,
-            usage,
-            pan,
-            digits,
-            now,
-        } => {
-            let asked = TokenRequest {
-                caller,
-                merchant,
-                request,
-                usage,
-                pan,
-                digits,
-                moment: now,
+        Command::Tokenize { .. } => {
+            let Some(asked) = c.token_request() else {
+                unreachable!()
             };
             tokenize(w, &asked)
         }

@@ -46,23 +46,9 @@ pub fn window<T: Tables>(tables: &mut T, c: &Command) -> Result<Window, TablesFa
                 ..Window::empty()
             })
         }
-        Command::Tokenize {
-            caller,
-            merchant,
-            request,
-            usage,
-            pan,
-            digits,
-            now,
-        } => {
-            let asked = TokenRequest {
-                caller,
-                merchant,
-                request,
-                usage,
-                pan,
-                digits,
-                moment: now,
+        Command::Tokenize { .. } => {
+            let Some(asked) = c.token_request() else {
+                unreachable!()
             };
             request_window(tables, &asked)
         }
