@@ -13,6 +13,10 @@ use std::io::Write;
 pub struct WriteFailed;
 
 impl fmt::Display for WriteFailed {
+    ghost use Rattle.std.specs.Prelude.{Some, codes};
+
+    ghost output = { λ _. Some (codes "the writer took only a beginning of the bytes") };
+
     fn fmt<W: fmt::Write>(&self, f: &mut fmt::Formatter<W>) -> fmt::Result {
         write!(f, "the writer took only a beginning of the bytes")
     }
