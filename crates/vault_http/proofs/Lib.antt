@@ -1,0 +1,6 @@
+pub mod Answering
+pub mod Bytes
+pub mod Closing
+pub mod Exchanging
+pub mod Following
+pub mod Serving

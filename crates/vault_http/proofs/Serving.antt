@@ -1,0 +1,209 @@
+-- The bytes of a connection, and where a service of them ends.
+use Rattle.std.proofs.Common.{◌≡◌, ℕ, ◌+◌, ◌-◌, ◌*◌, ◌<◌, ◌≤◌, List, [], ◌∷◌, ◌++◌, length, take, refl, sym, ap, ◌∙◌, subst, append_assoc, append-nil, arith, inl, inr, length-append}
+use Rattle.std.specs.Prelude.{◌⊎◌, Option, Some, None, Err, Bool, true, false, map, if◌then◌else◌}
+use Rattle.std.specs.List.{flat_map}
+use Rattle.std.specs.Io.KnownBytes.{Appends, Consumes, IsAtEnd}
+use Rattle.std.proofs.lemmas.List.{length-map}
+use Rattle.vault_core.specs.Vault.{Vault as Content}
+use Rattle.vault_store.specs.Applied.{tables_of}
+use Rattle.vault_store.specs.declared.vault.Vault.{Vault}
+use Rattle.vault_wire.specs.Messages.{Request, Reads, ReadsThen, print_message}
+use Rattle.vault_wire.specs.Parts.{Parts, parts_of}
+use Rattle.vault_wire.specs.Reading.{Kept, IsReading, ReadsTo}
+use Rattle.vault_wire.specs.Watching.{inner_of}
+use Rattle.vault_wire.specs.declared.fault.WireFault.{WireFault}
+use Rattle.vault_wire.specs.declared.watched.Watched.{Watched}
+use Rattle.vault_wire.proofs.OpenFacts.{open_short}
+use Rattle.vault_wire.proofs.ReadingFacts.{reads_of}
+use Rattle.vault_http.specs.Exchanges.{Pair, Exchange, AskFirst, fault_text, has_close, last_text, shown, texts, up_to_close, vault_after}
+use Rattle.vault_http.specs.Faults.{IsTold}
+use Rattle.vault_http.specs.Passing.{Passage, passing, AllAnswered, IsBefore, Keeps, Sends, StopsBefore, Stops}
+use Rattle.vault_http.specs.Refusing.{IsRefused}
+use Rattle.vault_http.specs.Served.{Begins, IsServed, IsStopped, StopsAmong, StopsAtFault, StopsForMemory, answered_fault}
+use Rattle.vault_http.specs.declared.fault.ServeFault.{ServeFault}
+use Rattle.vault_http.specs.declared.fault.ServeFault.TheVariants as fault
+use Rattle.vault_http.specs.declared.served.Served.{Served}
+use Rattle.vault_http.proofs.Bytes.{appends_both}
+use Rattle.vault_http.proofs.Closing.{up_to_close-none}
+
+-- bytes that are read in whole begin with their messages
+pub begins_of : (bytes : List ℕ) (ms : List Request) (e : Option WireFault) → Reads bytes ms e → Begins bytes ms
+begins_of bytes ms e r = record { rest = r.0; whole = r.1.whole; each = r.1.each }
+
+pub begins_more : (bytes more : List ℕ) (ms : List Request) → Begins bytes ms → Begins (bytes ++ more) ms
+begins_more bytes more ms b = record {
+  rest = b.rest ++ more;
+  whole = ap (λ x. x ++ more) b.whole ∙ append_assoc (flat_map print_message ms) b.rest more;
+  each = b.each;
+}
+
+pub reads_by : (k : Kept) (bytes : List ℕ) (ms : List Request) (e : Option WireFault) → k.fault ≡ e → IsReading k bytes ms → Reads bytes ms e
+reads_by k bytes ms e same r = subst (Reads bytes ms) same (reads_of k bytes ms r)
+
+reads_then : (k : Kept) (bytes : List ℕ) (ms : List Request) → k.fault ≡ None → IsReading k bytes ms → ReadsThen bytes ms None k.rest
+reads_then k bytes ms calm r = subst (λ f. ReadsTo f k.rest bytes ms) calm r
+
+-- the rest is shorter than the longest message
+pub rest_short : (k : Kept) (bytes : List ℕ) (ms : List Request) → k.fault ≡ None → IsReading k bytes ms → length k.rest < 12288
+rest_short k bytes ms calm r = let t = reads_then k bytes ms calm r in open_short k.rest t.ends
+
+-- a piece that completes no message makes the rest longer
+pub rest_grows : (old new : Kept) (bytes piece : List ℕ) (ms : List Request) → old.fault ≡ None → new.fault ≡ None
+    → IsReading old bytes ms → IsReading new (bytes ++ piece) (ms ++ []) → length new.rest ≡ length old.rest + length piece
+rest_grows old new bytes piece ms calm still r s =
+    let t = reads_then old bytes ms calm r in
+    let u = reads_then new (bytes ++ piece) (ms ++ []) still s in
+    let texts = flat_map print_message ms in
+    let before : length bytes ≡ length texts + length old.rest = ap length t.whole ∙ length-append texts old.rest in
+    let after : length bytes + length piece ≡ length texts + length new.rest =
+        sym (length-append bytes piece) ∙ ap length u.whole
+        ∙ ap (λ ns. length (flat_map print_message ns ++ new.rest)) (append-nil ms) ∙ length-append texts new.rest in
+    omega (arith, before, after)
+
+-- each piece takes a pair for a message that it completes, or makes the rest longer
+pub falls : (ns : List Request) (old new : Kept) (bytes piece : List ℕ) (ms : List Request) (before after : ℕ)
+    → old.fault ≡ None → new.fault ≡ None → IsReading old bytes ms → IsReading new (bytes ++ piece) (ms ++ ns)
+    → 0 < length piece → before ≡ after + length ns
+    → after * 12288 + (12288 - length new.rest) < before * 12288 + (12288 - length old.rest)
+falls [] old new bytes piece ms before after calm still r s some counted =
+    let grows = rest_grows old new bytes piece ms calm still r s in
+    let short = rest_short new (bytes ++ piece) (ms ++ []) still s in
+    omega (arith, grows, short, some, counted)
+falls (n ∷ ns) old new bytes piece ms before after calm still r s some counted =
+    let short = rest_short old bytes ms calm r in
+    omega (arith, short, some, counted)
+
+-- all are answered, and nothing was taken for the next one
+pub before_of : (w : Passage) (ps : List Parts) → AllAnswered w ps → StopsBefore w ps
+before_of w ps f = record {
+  pairs = f.pairs;
+  unused = [];
+  exchanges = f.exchanges;
+  one = omega arith;
+  taken = f.taken ∙ ap (λ es. w.given_old ++ es) (sym (append-nil f.pairs));
+  asked = f.asked;
+  answered = f.answered;
+}
+
+module _ (left_old left_new : Option (List ℕ)) (w : Passage) (bytes : List ℕ) (ms : List Request)
+    (read : Consumes left_old left_new bytes) where
+  -- a connection that was served, and of which no fault was answered
+  pub served_plain : (e : Option WireFault) (served : Served) → Reads bytes ms e → AllAnswered w (up_to_close (shown ms))
+      → served.messages ≡ length (up_to_close (shown ms)) → served.fault ≡ None → answered_fault ms e ≡ None
+      → (has_close (shown ms) ≡ false → e ≡ None → IsAtEnd left_new) → IsServed left_old left_new w served
+  served_plain e served reads f counted told none ended = record {
+    bytes = bytes;
+    messages = ms;
+    fault = e;
+    pairs = f.pairs;
+    exchanges = f.exchanges;
+    read = read;
+    reads = reads;
+    taken = f.taken;
+    asked = f.asked;
+    whole = f.whole;
+    counted = counted ∙ sym f.whole;
+    told = told ∙ sym none;
+    ended = ended;
+    answered = λ V b.
+        let a = f.answered V b in
+        let same : texts V f.exchanges ≡ texts V f.exchanges ++ last_text served.fault =
+            sym (append-nil (texts V f.exchanges)) ∙ ap (λ e. texts V f.exchanges ++ last_text e) (sym told) in
+        (subst (Sends w) same a.0, a.1);
+  }
+
+  -- a stop among the messages that were read in whole
+  pub stopped_of : (e : ServeFault) (f : Option WireFault) → (e ≡ fault.Read → ⊥) → Reads bytes ms f
+      → Stops e w (up_to_close (shown ms)) → IsStopped left_old left_new w e
+  stopped_of fault.Source f n reads s = (f, record { bytes = bytes; messages = ms; read = read; reads = reads; stops = s })
+  stopped_of fault.Read f n reads s = absurd (n refl)
+  stopped_of fault.Write f n reads s = inl (f, record { bytes = bytes; messages = ms; read = read; reads = reads; stops = s })
+  stopped_of fault.Store f n reads s = (f, record { bytes = bytes; messages = ms; read = read; reads = reads; stops = s })
+  stopped_of fault.Memory f n reads s = record { bytes = bytes; messages = ms; read = read; begins = begins_of bytes ms f reads; stops = s }
+
+module _ {S W T : Type 0} (given : S → List Pair) (s0 s1 : S) (contents : W → Option (List ℕ)) (w0 w1 w2 : Watched W)
+    (honest : T → Type 0) (holds : T → Content → Type 0) (leaves : T → Content → Content → Type 0) (v0 v1 : Vault T)
+    (left_old left_new : Option (List ℕ)) (bytes : List ℕ) (ms : List Request) (e : WireFault)
+    (read : Consumes left_old left_new bytes) (reads : Reads bytes ms (Some e)) (open_till : has_close (shown ms) ≡ false)
+    (f : AllAnswered (passing given s0 s1 contents w0 w1 honest holds leaves v0 v1) (shown ms)) where
+  -- all messages are answered, and then some bytes are sent
+  sent_then : (more : List ℕ) → Appends (contents (inner_of w1)) (contents (inner_of w2)) more
+      → (V : Content) → IsBefore (passing given s0 s1 contents w0 w2 honest holds leaves v0 v1) V
+      → Sends (passing given s0 s1 contents w0 w2 honest holds leaves v0 v1) (texts V f.exchanges ++ more)
+      × Keeps (passing given s0 s1 contents w0 w2 honest holds leaves v0 v1) (vault_after V f.exchanges)
+  sent_then more a = λ V b.
+      let q = f.answered V b in
+      (appends_both (contents (inner_of w0)) (contents (inner_of w1)) (contents (inner_of w2)) (texts V f.exchanges) more q.0 a, q.1)
+
+  -- nothing was sent then
+  silent_then : contents (inner_of w2) ≡ contents (inner_of w1)
+      → AllAnswered (passing given s0 s1 contents w0 w2 honest holds leaves v0 v1) (shown ms)
+  silent_then same = record {
+    pairs = f.pairs;
+    exchanges = f.exchanges;
+    taken = f.taken;
+    asked = f.asked;
+    whole = f.whole;
+    answered = λ V b.
+        let q = f.answered V b in
+        (subst (λ out. Appends (contents (inner_of w0)) out (texts V f.exchanges)) (sym same) q.0, q.1);
+  }
+
+  -- the fault was answered
+  pub served_fault : (served : Served) → served.messages ≡ length ms → served.fault ≡ Some e
+      → Appends (contents (inner_of w1)) (contents (inner_of w2)) (fault_text e)
+      → IsServed left_old left_new (passing given s0 s1 contents w0 w2 honest holds leaves v0 v1) served
+  served_fault served counted told out =
+      let all = up_to_close-none (shown ms) open_till in
+      let many : length (shown ms) ≡ length ms = length-map ms parts_of in
+      record {
+        bytes = bytes;
+        messages = ms;
+        fault = Some e;
+        pairs = f.pairs;
+        exchanges = f.exchanges;
+        read = read;
+        reads = reads;
+        taken = f.taken;
+        asked = subst (λ ps. AskFirst ps f.pairs f.exchanges) (sym all) f.asked;
+        whole = f.whole ∙ ap length (sym all);
+        counted = counted ∙ sym many ∙ sym f.whole;
+        told = rw open_till told;
+        ended = λ _ none. absurd (cc);
+        answered = λ V b.
+            let q = sent_then (fault_text e) out V b in
+            (subst (λ x. Sends (passing given s0 s1 contents w0 w2 honest holds leaves v0 v1)
+                (texts V f.exchanges ++ last_text x)) (sym told) q.0, q.1);
+      }
+
+  -- the fault was not answered
+  pub stopped_fault : (stop : ServeFault)
+      → IsRefused {X = Unit {0}} (contents (inner_of w1)) (contents (inner_of w2)) (fault_text e) (Err stop)
+      → IsStopped left_old left_new (passing given s0 s1 contents w0 w2 honest holds leaves v0 v1) stop
+  stopped_fault fault.Source r = absurd r
+  stopped_fault fault.Read r = absurd r
+  stopped_fault fault.Write r = inr (record {
+    bytes = bytes;
+    messages = ms;
+    fault = e;
+    pairs = f.pairs;
+    exchanges = f.exchanges;
+    sent = r.0;
+    read = read;
+    reads = reads;
+    open_till = open_till;
+    taken = f.taken;
+    asked = f.asked;
+    whole = f.whole ∙ length-map ms parts_of;
+    part = r.1;
+    answered = sent_then (take r.0 (fault_text e)) r.2;
+  })
+  stopped_fault fault.Store r = absurd r
+  stopped_fault fault.Memory r = record {
+    bytes = bytes;
+    messages = ms;
+    read = read;
+    begins = begins_of bytes ms (Some e) reads;
+    stops = inl (before_of _ _ (subst (AllAnswered (passing given s0 s1 contents w0 w2 honest holds leaves v0 v1))
+        (sym (up_to_close-none (shown ms) open_till)) (silent_then r)));
+  }

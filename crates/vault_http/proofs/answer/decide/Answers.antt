@@ -1,0 +1,43 @@
+use Rattle.std.proofs.Common.{Ok, Err, refl, sym, subst}
+use Rattle.vault_core.specs.Vault.{Vault as Content}
+use Rattle.vault_store.specs.Applied.{tables_of}
+use Rattle.vault_http.specs.Exchanges.{vault_after}
+use Rattle.vault_http.proofs.answer.decide.Goals as goal
+
+pub returns-in-Ok-apply-clause-ok : goal.returns-in-Ok-apply-clause-ok
+unfolding vault_after
+returns-in-Ok-apply-clause-ok g c = (
+  record { parts = c.args.message.now; wanted = Ok c.in-Ok.command },
+  (refl, c.in-Ok.ensures.wanted),
+  tt,
+  c.in-Ok-apply.ensures.answered,
+)
+
+pub returns-in-Err-Store-clause-store : goal.returns-in-Err-Store-clause-store
+unfolding vault_after
+returns-in-Err-Store-clause-store g c = λ same. (
+  record { parts = c.args.message.now; wanted = Ok c.in-Ok.command },
+  (refl, c.in-Ok.ensures.wanted),
+  rw c.in-Err-Store.field-0-is at c.in-Err-Store.ensures.crash,
+)
+
+pub returns-in-Err-Reopen-clause-store : goal.returns-in-Err-Reopen-clause-store
+unfolding vault_after
+returns-in-Err-Reopen-clause-store g c = λ same. (
+  record { parts = c.args.message.now; wanted = Ok c.in-Ok.command },
+  (refl, c.in-Ok.ensures.wanted),
+  λ h V held.
+      let unchanged = rw c.in-Err-Reopen.field-0-is at c.in-Err-Reopen.ensures.unchanged in
+      let tables = unchanged refl in
+      let now = subst (λ t. g.T.Tables.holds t V) (sym tables) held.0 in
+      g.met.T.Tables.widened (tables_of c.apply.new.self) V _ (g.met.T.Tables.settled (tables_of c.apply.new.self) V now h),
+)
+
+pub returns-in-Err-Refused-clause-ok : goal.returns-in-Err-Refused-clause-ok
+unfolding vault_after
+returns-in-Err-Refused-clause-ok g c = (
+  record { parts = c.args.message.now; wanted = Err c.in-Err-Refused.number },
+  (refl, rw c.in-Err-Refused.field-0-is at c.in-Err-Refused.ensures.wanted),
+  refl,
+  λ h V held. (refl, held),
+)

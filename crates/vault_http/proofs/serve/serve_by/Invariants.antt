@@ -1,0 +1,26 @@
+use Rattle.std.proofs.Common.{◌≡◌, ℕ, ◌+◌, ◌*◌, ◌-◌, List, length, None, false}
+use Rattle.std.specs.Io.KnownBytes.{Consumes}
+use Rattle.vault_store.specs.Applied.{tables_of}
+use Rattle.vault_wire.specs.Messages.{Request}
+use Rattle.vault_wire.specs.Reading.{IsReading}
+use Rattle.vault_http.specs.Exchanges.{has_close, shown}
+use Rattle.vault_http.specs.Passing.{AllAnswered, passing}
+use Rattle.vault_http.proofs.serve.serve_by.Given as goal
+
+abbrev pub invariant-pieces : goal.invariant-pieces
+invariant-pieces g l = record {
+  room : length l.piece ≡ 4096;
+  calm : l.intake.fault ≡ None;
+  bytes : List ℕ;
+  messages : List Request;
+  read : Consumes (g.R.Read.remaining l.initial.reader.inner) (g.R.Read.remaining l.reader.inner) bytes;
+  reading : IsReading l.intake bytes messages;
+  open_till : has_close (shown messages) ≡ false;
+  answered : AllAnswered (passing g.S.Source.given l.initial.source l.source g.W.Write.contents l.initial.writer l.writer
+      g.T.Tables.is_honest g.T.Tables.holds g.T.Tables.leaves l.initial.vault l.vault) (shown messages);
+  counted : g.S.Source.count_left l.initial.source ≡ g.S.Source.count_left l.source + length messages;
+  honest : g.T.Tables.is_honest (tables_of l.vault) → g.T.Tables.is_honest (tables_of l.initial.vault)
+}
+
+abbrev pub decreases-pieces : goal.decreases-pieces
+decreases-pieces g l = g.S.Source.count_left l.source * 12288 + (12288 - length l.intake.rest)

@@ -1,0 +1,95 @@
+-- Messages that are asked one after the other, and the texts that answer them (RFC 9112, section 9.3).
+use Rattle.std.specs.Prelude.{◌≡◌, ℕ, ◌==◌, List, [], ◌∷◌, ◌++◌, map, Bool, true, Option, Some, None, Result, Ok, Err, option_map, if◌then◌else◌}
+use Rattle.std.specs.List.{flat_map, list_any}
+use Rattle.vault_core.specs.Runs.{run}
+use Rattle.vault_core.specs.Table.{reply}
+use Rattle.vault_core.specs.Vault.{Vault as Content}
+use Rattle.vault_core.specs.declared.command.Command.{Command}
+use Rattle.vault_core.specs.declared.reply.Reply.{Reply}
+use Rattle.vault_core.specs.declared.reply.Reply.TheVariants.{Refused}
+use Rattle.vault_wire.specs.Answer.{answer_bytes}
+use Rattle.vault_wire.specs.Faults.{number_of}
+use Rattle.vault_wire.specs.Messages.{Request}
+use Rattle.vault_wire.specs.Parts.{Parts, parts_of, closes}
+use Rattle.vault_wire.specs.declared.fault.WireFault.{WireFault}
+use Rattle.vault_routes.specs.Reply.{body_text, refusal_text}
+use Rattle.vault_routes.specs.Status.{status_for, status_of}
+use Rattle.vault_routes.specs.Route.{methods_of, route_of}
+use Rattle.vault_routes.specs.Wanted.{Wanted, Wants}
+
+-- a moment, and drawn digits
+abbrev pub Pair : Type 0
+Pair = ℕ × List ℕ
+
+-- a message by its parts, and what it asks for: a command, or the number of a refusal
+pub record Exchange : Type 0 where
+  pub parts : Parts
+  pub wanted : Wanted
+
+-- the message is asked with this pair
+abbrev pub Asks : Parts → Pair → Exchange → Type 0
+Asks p pair x = (x.parts ≡ p) × Wants p pair.0 pair.1 x.wanted
+
+-- the first of the messages are asked, each with its own pair
+abbrev pub AskFirst : List Parts → List Pair → List Exchange → Type 0
+AskFirst ps [] [] = Unit {0}
+AskFirst ps [] (x ∷ xs) = ⊥
+AskFirst ps (pair ∷ pairs) [] = ⊥
+AskFirst [] (pair ∷ pairs) (x ∷ xs) = ⊥
+AskFirst (p ∷ ps) (pair ∷ pairs) (x ∷ xs) = Asks p pair x × AskFirst ps pairs xs
+
+-- the command that is asked for, where there is one
+abbrev pub commands_in : Wanted → List Command
+commands_in (Ok c) = c ∷ []
+commands_in (Err n) = []
+
+-- the commands that are asked for
+abbrev pub commands_of : List Exchange → List Command
+commands_of xs = flat_map (λ x. commands_in x.wanted) xs
+
+-- the vault that exchanges leave: the one after their commands
+unfoldable pub vault_after : Content → List Exchange → Content
+vault_after V xs = run (commands_of xs) V
+
+-- a command is answered by the vault, and a refusal of the message by its number
+abbrev pub reply_to : Content → Wanted → Reply
+reply_to V (Ok c) = reply V c
+reply_to V (Err n) = Refused n
+
+-- the methods that a message's target takes, which go with the refusal of another method
+abbrev pub methods_with : Parts → Wanted → Option (List ℕ)
+methods_with p (Ok c) = None
+methods_with p (Err n) = if n == 57 then option_map methods_of (route_of p.target) else None
+
+-- the text that answers a message
+unfoldable pub text_at : Content → Exchange → List ℕ
+text_at V x =
+    let r : Reply = reply_to V x.wanted in
+    answer_bytes (status_of r) (methods_with x.parts x.wanted) (body_text r) (closes x.parts)
+
+-- the texts that answer messages, each by the vault that those before it leave
+abbrev pub texts : Content → List Exchange → List ℕ
+texts V [] = []
+texts V (x ∷ xs) = text_at V x ++ texts (vault_after V (x ∷ [])) xs
+
+-- the text that answers a fault of the bytes, after which the connection closes
+unfoldable pub fault_text : WireFault → List ℕ
+fault_text e = answer_bytes (status_for (number_of e)) None (refusal_text (number_of e)) true
+
+-- the same, where there is a fault
+abbrev pub last_text : Option WireFault → List ℕ
+last_text None = []
+last_text (Some e) = fault_text e
+
+-- the messages up to the first that closes the connection, with it
+abbrev pub up_to_close : List Parts → List Parts
+up_to_close [] = []
+up_to_close (p ∷ ps) = p ∷ (if closes p then [] else up_to_close ps)
+
+-- one of them closes the connection
+abbrev pub has_close : List Parts → Bool
+has_close ps = list_any closes ps
+
+-- the parts of messages
+abbrev pub shown : List Request → List Parts
+shown ms = map parts_of ms

@@ -1,0 +1,7 @@
+pub mod Exchanges
+pub mod Faults
+pub mod Laws
+pub mod Outcomes
+pub mod Passing
+pub mod Refusing
+pub mod Served

@@ -1,0 +1,87 @@
+-- What a service does with the bytes of a connection.
+use Rattle.std.specs.Prelude.{◌≡◌, ℕ, ◌<◌, ◌⊎◌, List, ◌++◌, length, take, All, Bool, true, false, Option, Some, None, if◌then◌else◌}
+use Rattle.std.specs.List.{flat_map}
+use Rattle.std.specs.Io.KnownBytes.{Consumes, IsAtEnd}
+use Rattle.vault_core.specs.Vault.{Vault as Content}
+use Rattle.vault_wire.specs.Messages.{Request, IsMessage, Reads, print_message}
+use Rattle.vault_wire.specs.declared.fault.WireFault.{WireFault}
+use Rattle.vault_http.specs.Exchanges.{Pair, Exchange, AskFirst, fault_text, has_close, last_text, shown, texts, up_to_close, vault_after}
+use Rattle.vault_http.specs.Passing.{Passage, AllAnswered, IsBefore, Keeps, Sends, Stops, Takes}
+use Rattle.vault_http.specs.declared.fault.ServeFault.{ServeFault}
+use Rattle.vault_http.specs.declared.fault.ServeFault.TheVariants as fault
+use Rattle.vault_http.specs.declared.served.Served.{Served}
+
+-- bytes as a reader has them left
+abbrev Left : Type 0
+Left = Option (List ℕ)
+
+-- a fault is answered where no message closes the connection before it
+abbrev pub answered_fault : List Request → Option WireFault → Option WireFault
+answered_fault ms e = if has_close (shown ms) then None else e
+
+-- The bytes that were read are messages, and an open rest or a fault; all messages up to the first that closes
+-- are answered, and then the fault; where nothing closes the connection no byte is left.
+pub record IsServed (left_old left_new : Left) (w : Passage) (served : Served) : Type 0 where
+  pub bytes : List ℕ
+  pub messages : List Request
+  pub fault : Option WireFault
+  pub pairs : List Pair
+  pub exchanges : List Exchange
+  pub read : Consumes left_old left_new bytes
+  pub reads : Reads bytes messages fault
+  pub taken : Takes w pairs
+  pub asked : AskFirst (up_to_close (shown messages)) pairs exchanges
+  pub whole : length exchanges ≡ length (up_to_close (shown messages))
+  pub counted : served.messages ≡ length exchanges
+  pub told : served.fault ≡ answered_fault messages fault
+  pub ended : has_close (shown messages) ≡ false → fault ≡ None → IsAtEnd left_new
+  pub answered : (V : Content) → IsBefore w V
+      → Sends w (texts V exchanges ++ last_text served.fault) × Keeps w (vault_after V exchanges)
+
+-- bytes begin with messages
+pub record Begins (bytes : List ℕ) (ms : List Request) : Type 0 where
+  pub rest : List ℕ
+  pub whole : bytes ≡ flat_map print_message ms ++ rest
+  pub each : All IsMessage ms
+
+-- the bytes that were read are messages, and an open rest or this fault, and the service stopped among them
+pub record StopsAmong (e : ServeFault) (left_old left_new : Left) (w : Passage) (fault : Option WireFault) : Type 0 where
+  pub bytes : List ℕ
+  pub messages : List Request
+  pub read : Consumes left_old left_new bytes
+  pub reads : Reads bytes messages fault
+  pub stops : Stops e w (up_to_close (shown messages))
+
+-- all messages are answered, and of the text that answers the fault after them only a beginning went out
+pub record StopsAtFault (left_old left_new : Left) (w : Passage) : Type 0 where
+  pub bytes : List ℕ
+  pub messages : List Request
+  pub fault : WireFault
+  pub pairs : List Pair
+  pub exchanges : List Exchange
+  pub sent : ℕ
+  pub read : Consumes left_old left_new bytes
+  pub reads : Reads bytes messages (Some fault)
+  pub open_till : has_close (shown messages) ≡ false
+  pub taken : Takes w pairs
+  pub asked : AskFirst (shown messages) pairs exchanges
+  pub whole : length exchanges ≡ length messages
+  pub part : sent < length (fault_text fault)
+  pub answered : (V : Content) → IsBefore w V
+      → Sends w (texts V exchanges ++ take sent (fault_text fault)) × Keeps w (vault_after V exchanges)
+
+-- the bytes that were read begin with messages, and memory was refused among them or after them
+pub record StopsForMemory (left_old left_new : Left) (w : Passage) : Type 0 where
+  pub bytes : List ℕ
+  pub messages : List Request
+  pub read : Consumes left_old left_new bytes
+  pub begins : Begins bytes messages
+  pub stops : Stops fault.Memory w (up_to_close (shown messages))
+
+-- where a service stopped, by its fault
+abbrev pub IsStopped : Left → Left → Passage → ServeFault → Type 0
+IsStopped old new w fault.Source = (e : Option WireFault) × StopsAmong fault.Source old new w e
+IsStopped old new w fault.Read = StopsAmong fault.Read old new w None
+IsStopped old new w fault.Write = ((e : Option WireFault) × StopsAmong fault.Write old new w e) ⊎ StopsAtFault old new w
+IsStopped old new w fault.Store = (e : Option WireFault) × StopsAmong fault.Store old new w e
+IsStopped old new w fault.Memory = StopsForMemory old new w

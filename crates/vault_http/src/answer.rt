@@ -1,0 +1,144 @@
+//! One message answered.
+ghost use Rattle.std.specs.Prelude.{◌≡◌, ◌∷◌, [], ◌⊎◌, ◌+◌, true, false, Err, IfErr, IfOk, OnOk, MatchResult, option_map};
+ghost use Rattle.vault_core.specs.Vault.{Vault as Content};
+ghost use Rattle.vault_store.specs.Applied.{Contains, is_broken, tables_of};
+ghost use Rattle.vault_wire.specs.Answer.{answer_bytes};
+ghost use Rattle.vault_wire.specs.Parts.{closes};
+ghost use Rattle.vault_wire.specs.Watching.{is_stopped};
+ghost use Rattle.vault_routes.specs.Reply.{body_text};
+ghost use Rattle.vault_routes.specs.Status.{status_of as code_of};
+ghost use Rattle.vault_http.specs.Exchanges.{Asks, Exchange, methods_with, reply_to, vault_after};
+ghost use Rattle.vault_http.specs.Outcomes.{StandsFor, outcome_text, reply_in};
+ghost use Rattle.vault_http.specs.Faults.{IsTold};
+ghost use Rattle.vault_http.specs.Passing.{AllAnswered, Passage, Stops, passing};
+
+use crate::fault::ServeFault;
+use std::alloc::{AllocError, Global};
+use std::io::Write;
+use vault_core::moment::Moment;
+use vault_core::reply::Reply;
+use vault_core::source::Source;
+use vault_pan::draw::Digits;
+use vault_routes::reply::body_of;
+use vault_routes::route::Routes;
+use vault_routes::status::status_of;
+use vault_routes::wanted::{Unwanted, command_of};
+use vault_store::tables::Tables;
+use vault_store::vault::{Fault, Vault};
+use vault_wire::answer::answer_text;
+use vault_wire::message::Message;
+use vault_wire::send::send;
+use vault_wire::watched::Watched;
+
+/// What a message comes to.
+#[derive(Clone, Copy, Debug, Drop)]
+enum Outcome {
+    /// The vault's reply to its command.
+    Replied(Reply),
+    /// The number by which the message itself is refused.
+    Refused(u8),
+}
+
+/// The methods that a message's target takes, with the refusal of another method.
+fn methods(routes: &Routes, message: &Message, refusal: u8) -> Option<&'static str>
+    ensures { option_map (λ s. s.now) result ≡ methods_with message.now (Err refusal) }
+{
+    if refusal != 57 {
+        return None;
+    }
+    match routes.find(message.target()) {
+        Some(route) => Some(route.methods()),
+        None => None,
+    }
+}
+
+/// Decides what a message asks for, after what it changes was written.
+fn decide<T: Tables>(
+    alloc: Global,
+    routes: &Routes,
+    message: &Message,
+    vault: &mut Vault<T>,
+    now: Moment,
+    digits: Digits,
+) -> Result<Outcome, ServeFault>
+    ensures ok { IfOk result (λ outcome. (x : Exchange) × Asks message.now (now, digits) x × StandsFor outcome x.wanted
+        × (T.is_honest (tables_of vault.new) → (V : Content) → Contains T.holds vault.old V
+        → (reply_in outcome ≡ reply_to V x.wanted) × Contains T.holds vault.new (vault_after V (x ∷ [])))) }
+    ensures memory { result ≡ Err ServeFault.Memory
+        → (V : Content) → Contains T.holds vault.old V → Contains T.holds vault.new V }
+    ensures store { result ≡ Err ServeFault.Store → (x : Exchange) × Asks message.now (now, digits) x
+        × (T.is_honest (tables_of vault.new) → (V : Content) → Contains T.holds vault.old V
+        → T.leaves (tables_of vault.new) V (vault_after V (x ∷ []))) }
+    ensures only { IfErr result (λ e. (e ≡ ServeFault.Memory) ⊎ (e ≡ ServeFault.Store)) }
+    ensures broken { result ≡ Err ServeFault.Store → is_broken vault.new ≡ true }
+    ensures honest { T.is_honest (tables_of vault.new) → T.is_honest (tables_of vault.old) }
+{
+    match command_of(alloc, routes, message, now, digits) {
+        Ok(command) => match vault.apply(&command) {
+            Ok(reply) => Ok(Outcome::Replied(reply)),
+            Err(Fault::Memory) => Err(ServeFault::Memory),
+            Err(Fault::Store) => Err(ServeFault::Store),
+            Err(Fault::Reopen) => Err(ServeFault::Store),
+        },
+        Err(Unwanted::Refused(number)) => Ok(Outcome::Refused(number)),
+        Err(Unwanted::Memory) => Err(ServeFault::Memory),
+    }
+}
+
+/// The text of a reply.
+fn written(
+    alloc: Global,
+    reply: &Reply,
+    allow: Option<&str>,
+    closes: bool,
+) -> Result<Vec<u8>, AllocError>
+    ensures { let methods = option_map (λ s. s.now) allow.entry in
+        IfOk result (λ out. out.items ≡ answer_bytes (code_of reply.now) methods (body_text reply.now) closes) }
+{
+    let body = body_of(alloc, reply)?;
+    answer_text(alloc, status_of(reply).as_u16(), allow, &body, closes)
+}
+
+/// The text that answers a message.
+fn text(alloc: Global, routes: &Routes, message: &Message, outcome: Outcome) -> Result<Vec<u8>, AllocError>
+    ensures { IfOk result (λ out. out.items ≡ outcome_text message.now outcome) }
+{
+    match outcome {
+        Outcome::Replied(reply) => written(alloc, &reply, None, message.closes()),
+        Outcome::Refused(number) => {
+            let allow = methods(routes, message, number);
+            written(alloc, &Reply::Refused(number), allow, message.closes())
+        }
+    }
+}
+
+/// Answers one message.
+pub(crate) fn answer_one<W: Write, T: Tables, S: Source>(
+    alloc: Global,
+    routes: &Routes,
+    message: &Message,
+    writer: &mut Watched<W>,
+    vault: &mut Vault<T>,
+    source: &mut S,
+) -> Result<(), ServeFault>
+    ensures ends { let w : Passage = passing S.given source.old source.new W.contents writer.old writer.new T.is_honest T.holds T.leaves vault.old vault.new in
+        MatchResult result (λ _. AllAnswered w (message.now ∷ [])) (λ e. Stops e w (message.now ∷ [])) }
+    ensures told { IfErr result (λ e. IsTold e (S.has_refused source.new) false (is_stopped writer.new) (is_broken vault.new)) }
+    ensures counted { OnOk result (S.count_left source.old ≡ S.count_left source.new + 1) }
+    ensures honest { T.is_honest (tables_of vault.new) → T.is_honest (tables_of vault.old) }
+{
+    let Ok(pair) = source.next() else {
+        return Err(ServeFault::Source);
+    };
+    let outcome = match decide(alloc, routes, message, vault, pair.0, pair.1) {
+        Ok(outcome) => outcome,
+        Err(fault) => return Err(fault),
+    };
+    let Ok(text) = text(alloc, routes, message, outcome) else {
+        return Err(ServeFault::Memory);
+    };
+    if send(writer, &text).is_err() {
+        return Err(ServeFault::Write);
+    }
+    Ok(())
+}

@@ -1,0 +1,47 @@
+//! Why a service stops.
+ghost use Rattle.std.specs.Prelude.{◌≡◌};
+
+use std::alloc::AllocError;
+
+/// Why a service stopped before the end of its connection.
+#[derive(Clone, Copy, PartialEq, Eq, Debug, Drop)]
+pub enum ServeFault {
+    /// 60: the source had no pair for a message.
+    Source,
+    /// 61: the reader failed.
+    Read,
+    /// 62: the writer failed.
+    Write,
+    /// 63: the store failed, or the vault was broken before.
+    Store,
+    /// 64: memory was refused.
+    Memory,
+}
+
+impl ServeFault {
+    ghost use Rattle.vault_http.specs.Faults.{number_of};
+
+    /// The number of the fault, 60 to 64.
+    pub fn number(self) -> u8
+        ensures { result ≡ number_of self }
+    {
+        match self {
+            ServeFault::Source => 60,
+            ServeFault::Read => 61,
+            ServeFault::Write => 62,
+            ServeFault::Store => 63,
+            ServeFault::Memory => 64,
+        }
+    }
+}
+
+impl From<AllocError> for ServeFault {
+    ghost use Rattle.std.specs.Prelude.{◌≡◌};
+    ghost use Rattle.vault_http.specs.declared.fault.ServeFault.TheVariants.{Memory};
+
+    ghost from_gives = { λ _ fault. fault ≡ Memory };
+
+    fn from(_refused: AllocError) -> ServeFault {
+        ServeFault::Memory
+    }
+}

@@ -1,0 +1,162 @@
+//! The messages of a connection answered, all that a piece completed before the next piece is read.
+ghost use Rattle.std.specs.Prelude.{◌≡◌, ◌+◌, true, false, IfErr, IfOk, OnOk, MatchResult, length};
+ghost use Rattle.vault_store.specs.Applied.{is_broken, tables_of};
+ghost use Rattle.vault_wire.specs.Watching.{inner_of, is_stopped};
+ghost use Rattle.vault_http.specs.Exchanges.{fault_text, has_close, up_to_close};
+ghost use Rattle.vault_http.specs.Faults.{IsTold};
+ghost use Rattle.vault_http.specs.Passing.{AllAnswered, Passage, Stops, passing};
+ghost use Rattle.vault_http.specs.Refusing.{IsRefused};
+ghost use Rattle.vault_http.specs.Served.{IsServed, IsStopped};
+
+use crate::answer::answer_one;
+use crate::fault::ServeFault;
+use crate::served::Served;
+use std::alloc::{AllocError, Global};
+use std::io::{Read, Write};
+use vault_core::source::Source;
+use vault_routes::reply::refusal_text;
+use vault_routes::route::Routes;
+use vault_routes::status::status_for;
+use vault_store::tables::Tables;
+use vault_store::vault::Vault;
+use vault_wire::answer::answer_text;
+use vault_wire::fault::WireFault;
+use vault_wire::intake::Intake;
+use vault_wire::message::Message;
+use vault_wire::send::send;
+use vault_wire::watched::Watched;
+
+/// The most bytes that are read at once.
+const PIECE: usize = 4096;
+
+/// Answers the messages up to the first that closes the connection, and tells whether one does.
+fn answer_all<W: Write, T: Tables, S: Source>(
+    alloc: Global,
+    routes: &Routes,
+    messages: &[Message],
+    writer: &mut Watched<W>,
+    vault: &mut Vault<T>,
+    source: &mut S,
+) -> Result<bool, ServeFault>
+    ensures ends { let w : Passage = passing S.given source.old source.new W.contents writer.old writer.new T.is_honest T.holds T.leaves vault.old vault.new in
+        MatchResult result (λ _. AllAnswered w (up_to_close messages.now)) (λ e. Stops e w (up_to_close messages.now)) }
+    ensures closes { IfOk result (λ closed. closed ≡ has_close messages.now) }
+    ensures told { IfErr result (λ e. IsTold e (S.has_refused source.new) false (is_stopped writer.new) (is_broken vault.new)) }
+    ensures counted { OnOk result (S.count_left source.old ≡ S.count_left source.new + length (up_to_close messages.now)) }
+    ensures honest { T.is_honest (tables_of vault.new) → T.is_honest (tables_of vault.old) }
+{
+    for message in messages {
+        match answer_one(alloc, routes, message, writer, vault, source) {
+            Ok(()) => {
+                if message.closes() {
+                    return Ok(true);
+                }
+            }
+            Err(fault) => return Err(fault),
+        }
+    }
+    Ok(false)
+}
+
+/// The text that answers a fault of the bytes.
+#[tactic(auto, unfolding(crate::specs::Exchanges::fault_text))]
+fn fault_answer(alloc: Global, fault: WireFault) -> Result<Vec<u8>, AllocError>
+    ensures { IfOk result (λ out. out.items ≡ fault_text fault) }
+{
+    let number = fault.number();
+    let body = refusal_text(alloc, number)?;
+    answer_text(alloc, status_for(number).as_u16(), None, &body, true)
+}
+
+/// Answers a fault of the bytes.
+fn refuse<W: Write>(alloc: Global, fault: WireFault, writer: &mut Watched<W>) -> Result<(), ServeFault>
+    ensures ends { IsRefused (W.contents (inner_of writer.old)) (W.contents (inner_of writer.new)) (fault_text fault) result }
+    ensures told { IfErr result (λ e. IsTold e false false (is_stopped writer.new) false) }
+{
+    let Ok(text) = fault_answer(alloc, fault) else {
+        return Err(ServeFault::Memory);
+    };
+    if send(writer, &text).is_err() {
+        return Err(ServeFault::Write);
+    }
+    Ok(())
+}
+
+/// Answers the messages of the reader's bytes by routes that were made before, as `serve` does.
+pub fn serve_by<R: Read, W: Write, T: Tables, S: Source>(
+    alloc: Global,
+    routes: &Routes,
+    reader: &mut Watched<R>,
+    writer: &mut Watched<W>,
+    vault: &mut Vault<T>,
+    source: &mut S,
+) -> Result<Served, ServeFault>
+    ensures served { let w : Passage = passing S.given source.old source.new W.contents writer.old writer.new T.is_honest T.holds T.leaves vault.old vault.new in
+        IfOk result (IsServed (R.remaining (inner_of reader.old)) (R.remaining (inner_of reader.new)) w) }
+    ensures stopped { let w : Passage = passing S.given source.old source.new W.contents writer.old writer.new T.is_honest T.holds T.leaves vault.old vault.new in
+        IfErr result (IsStopped (R.remaining (inner_of reader.old)) (R.remaining (inner_of reader.new)) w) }
+    ensures told { IfErr result (λ e. IsTold e (S.has_refused source.new) (is_stopped reader.new) (is_stopped writer.new) (is_broken vault.new)) }
+    ensures honest { T.is_honest (tables_of vault.new) → T.is_honest (tables_of vault.old) }
+{
+    let mut intake = Intake::new(alloc);
+    let mut piece = [0u8; PIECE];
+    let pairs = source.left();
+    'pieces: loop {
+        let Ok(count) = reader.read(&mut piece) else {
+            return Err(ServeFault::Read);
+        };
+        if count == 0 {
+            let messages = pairs - source.left();
+            return Ok(Served { messages, fault: None });
+        }
+        let Ok(fed) = intake.feed(&piece[..count]) else {
+            return Err(ServeFault::Memory);
+        };
+        match answer_all(alloc, routes, &fed.messages, writer, vault, source) {
+            Ok(true) => {
+                let messages = pairs - source.left();
+                return Ok(Served { messages, fault: None });
+            }
+            Ok(false) => {}
+            Err(fault) => return Err(fault),
+        }
+        if let Some(fault) = fed.fault {
+            if let Err(stop) = refuse(alloc, fault, writer) {
+                return Err(stop);
+            }
+            let messages = pairs - source.left();
+            return Ok(Served {
+                messages,
+                fault: Some(fault),
+            });
+        }
+    }
+}
+
+/// Answers the messages of the reader's bytes, up to the end of the input, to a message that closes the
+/// connection, or to a fault of the bytes, which is answered too.
+///
+/// One pair of the source is taken for each message. What a command changes is written before the first
+/// byte of its answer goes out.
+///
+/// 60 Source: the source has no pair for a message. 61 Read and 62 Write: the reader or the writer failed.
+/// 63 Store: the store failed, or the vault was broken before. 64 Memory: memory was refused.
+pub fn serve<R: Read, W: Write, T: Tables, S: Source>(
+    alloc: Global,
+    reader: &mut Watched<R>,
+    writer: &mut Watched<W>,
+    vault: &mut Vault<T>,
+    source: &mut S,
+) -> Result<Served, ServeFault>
+    ensures served { let w : Passage = passing S.given source.old source.new W.contents writer.old writer.new T.is_honest T.holds T.leaves vault.old vault.new in
+        IfOk result (IsServed (R.remaining (inner_of reader.old)) (R.remaining (inner_of reader.new)) w) }
+    ensures stopped { let w : Passage = passing S.given source.old source.new W.contents writer.old writer.new T.is_honest T.holds T.leaves vault.old vault.new in
+        IfErr result (IsStopped (R.remaining (inner_of reader.old)) (R.remaining (inner_of reader.new)) w) }
+    ensures told { IfErr result (λ e. IsTold e (S.has_refused source.new) (is_stopped reader.new) (is_stopped writer.new) (is_broken vault.new)) }
+    ensures honest { T.is_honest (tables_of vault.new) → T.is_honest (tables_of vault.old) }
+{
+    let Ok(routes) = Routes::new(alloc) else {
+        return Err(ServeFault::Memory);
+    };
+    serve_by(alloc, &routes, reader, writer, vault, source)
+}
