@@ -18,6 +18,9 @@ pub trait Source {
 
     ghost has_refused: { Self → Bool };
 
+    // the one is the other one, some calls before
+    ghost precedes: { Self → Self → Type 0 };
+
     /// The next pair.
     fn next(&mut self) -> Result<(Moment, Digits), SourceFault>
         ensures gives { IfOk result (λ pair. given self.new ≡ given self.old ++ (pair.0, pair.1) ∷ []) }
@@ -25,7 +28,8 @@ pub trait Source {
         ensures goes_on { OnOk result (has_refused self.new ≡ has_refused self.old) }
         ensures keeps { OnErr result (given self.new ≡ given self.old) }
         ensures refuses { OnErr result (has_refused self.new ≡ true) }
-        ensures spent { count_left self.old ≡ 0 → IsErr result };
+        ensures spent { count_left self.old ≡ 0 → IsErr result }
+        ensures later { precedes self.old self.new };
 
     /// At most how many pairs it will give.
     fn left(&self) -> u64
@@ -34,6 +38,12 @@ pub trait Source {
     /// Whether it once had no pair to give.
     fn refused(&self) -> bool
         ensures { result ≡ has_refused self.now };
+
+    // no call was made
+    ghost reflexive: { (s : Self) → precedes s s };
+
+    // calls, and then more of them
+    ghost transitive: { (r s t : Self) → precedes r s → precedes s t → precedes r t };
 }
 
 /// Gives one moment and one set of digits a number of times.
@@ -65,13 +75,16 @@ impl FixedSource {
 }
 
 impl Source for FixedSource {
-    ghost use Rattle.vault_core.specs.Sources.{pairs_of, GivesItsOwn};
+    ghost use Rattle.std.proofs.Common.{refl, ◌∙◌};
+    ghost use Rattle.vault_core.specs.Sources.{SamePair, pairs_of, GivesItsOwn};
 
     ghost given = { pairs_of };
 
     ghost count_left = { λ s. s.left };
 
     ghost has_refused = { λ s. s.refused };
+
+    ghost precedes = { SamePair };
 
     fn next(&mut self) -> Result<(Moment, Digits), SourceFault>
         ensures gives { IfOk result (λ pair. pairs_of self.new ≡ pairs_of self.old ++ (pair.0, pair.1) ∷ []) }
@@ -80,6 +93,7 @@ impl Source for FixedSource {
         ensures keeps { OnErr result (pairs_of self.new ≡ pairs_of self.old) }
         ensures refuses { OnErr result (self.new.refused ≡ true) }
         ensures spent { self.old.left ≡ 0 → IsErr result }
+        ensures later { SamePair self.old self.new }
         ensures its_own { GivesItsOwn self.old self.new result }
     {
         if self.left == 0 {
@@ -98,4 +112,8 @@ impl Source for FixedSource {
     fn refused(&self) -> bool {
         self.refused
     }
+
+    ghost reflexive = { λ s. (refl, refl) };
+
+    ghost transitive = { λ r s t p q. (q.0 ∙ p.0, q.1 ∙ p.1) };
 }
