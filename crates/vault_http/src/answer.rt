@@ -125,6 +125,7 @@ pub(crate) fn answer_one<W: Write, T: Tables, S: Source>(
         MatchResult result (λ _. AllAnswered w (message.now ∷ [])) (λ e. Stops e w (message.now ∷ [])) }
     ensures told { IfErr result (λ e. IsTold e (S.has_refused source.new) false (is_stopped writer.new) (is_broken vault.new)) }
     ensures counted { OnOk result (S.count_left source.old ≡ S.count_left source.new + 1) }
+    ensures later { S.precedes source.old source.new }
     ensures honest { T.is_honest (tables_of vault.new) → T.is_honest (tables_of vault.old) }
 {
     let Ok(pair) = source.next() else {

@@ -43,6 +43,7 @@ fn answer_all<W: Write, T: Tables, S: Source>(
     ensures closes { IfOk result (λ closed. closed ≡ has_close messages.now) }
     ensures told { IfErr result (λ e. IsTold e (S.has_refused source.new) false (is_stopped writer.new) (is_broken vault.new)) }
     ensures counted { OnOk result (S.count_left source.old ≡ S.count_left source.new + length (up_to_close messages.now)) }
+    ensures later { S.precedes source.old source.new }
     ensures honest { T.is_honest (tables_of vault.new) → T.is_honest (tables_of vault.old) }
 {
     for message in messages {
@@ -96,6 +97,7 @@ pub fn serve_by<R: Read, W: Write, T: Tables, S: Source>(
     ensures stopped { let w : Passage = passing S.given source.old source.new W.contents writer.old writer.new T.is_honest T.holds T.leaves vault.old vault.new in
         IfErr result (IsStopped (R.remaining (inner_of reader.old)) (R.remaining (inner_of reader.new)) w) }
     ensures told { IfErr result (λ e. IsTold e (S.has_refused source.new) (is_stopped reader.new) (is_stopped writer.new) (is_broken vault.new)) }
+    ensures later { S.precedes source.old source.new }
     ensures honest { T.is_honest (tables_of vault.new) → T.is_honest (tables_of vault.old) }
 {
     let mut intake = Intake::new(alloc);
@@ -153,6 +155,7 @@ pub fn serve<R: Read, W: Write, T: Tables, S: Source>(
     ensures stopped { let w : Passage = passing S.given source.old source.new W.contents writer.old writer.new T.is_honest T.holds T.leaves vault.old vault.new in
         IfErr result (IsStopped (R.remaining (inner_of reader.old)) (R.remaining (inner_of reader.new)) w) }
     ensures told { IfErr result (λ e. IsTold e (S.has_refused source.new) (is_stopped reader.new) (is_stopped writer.new) (is_broken vault.new)) }
+    ensures later { S.precedes source.old source.new }
     ensures honest { T.is_honest (tables_of vault.new) → T.is_honest (tables_of vault.old) }
 {
     let Ok(routes) = Routes::new(alloc) else {

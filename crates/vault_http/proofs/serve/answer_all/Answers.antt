@@ -18,6 +18,7 @@ loop-message-init g c =
       open_till = refl;
       answered = all_nothing w refl (appends_nothing _) (λ V b. (b.1, g.met.T.Tables.settled _ V b.1.0 b.0));
       counted = omega arith;
+      later = g.met.S.Source.reflexive _;
       honest = λ h. h;
     }
 
@@ -36,6 +37,7 @@ loop-message-preserved g c =
         g.T.Tables.leaves c.args.vault.now c.loop-message.vault c.answer_one.new.vault c.answer_one.ensures.honest
         (take i c.args.messages.now) (c.message-item.result ∷ []) inv.answered c.in-Ok.ensures.ends);
       counted = omega (arith, inv.counted, c.in-Ok.ensures.counted);
+      later = g.met.S.Source.transitive _ _ _ inv.later c.answer_one.ensures.later;
       honest = λ h. inv.honest (c.answer_one.ensures.honest h);
     }
 

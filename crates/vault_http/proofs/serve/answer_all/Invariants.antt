@@ -10,5 +10,6 @@ invariant-loop-message g l = record {
   answered : AllAnswered (passing g.S.Source.given l.initial.source l.source g.W.Write.contents l.initial.writer l.writer
       g.T.Tables.is_honest g.T.Tables.holds g.T.Tables.leaves l.initial.vault l.vault) (take l.message-index l.messages);
   counted : g.S.Source.count_left l.initial.source ≡ g.S.Source.count_left l.source + l.message-index;
+  later : g.S.Source.precedes l.initial.source l.source;
   honest : g.T.Tables.is_honest (tables_of l.vault) → g.T.Tables.is_honest (tables_of l.initial.vault)
 }

@@ -25,6 +25,7 @@ pieces-init g c =
       open_till = refl;
       answered = all_nothing w refl (appends_nothing _) (λ V b. (b.1, g.met.T.Tables.settled _ V b.1.0 b.0));
       counted = omega arith;
+      later = g.met.S.Source.reflexive _;
       honest = λ h. h;
     }
 
@@ -248,5 +249,6 @@ pieces-preserved g c =
       open_till = none;
       answered = all;
       counted = omega (arith, inv.counted, c.in-Ok-false.ensures.counted, many, length-append inv.messages fed.0);
+      later = g.met.S.Source.transitive _ _ _ inv.later c.answer_all.ensures.later;
       honest = λ h. inv.honest (c.answer_all.ensures.honest h);
     }
