@@ -1,6 +1,10 @@
 pub mod BodyLemmas
-pub mod MerchantLemmas
-pub mod NamesTokens
-pub mod RouteLemmas
+pub mod BranchLemmas
+pub mod FindLemmas
+pub mod NameLemmas
+pub mod ParameterLemmas
+pub mod RoomLemmas
 pub mod SegmentLemmas
+pub mod TemplateLemmas
+pub mod WalkLemmas
 pub mod WantedLemmas

@@ -1,48 +1,123 @@
 -- What is wanted, step by step.
-use Rattle.std.proofs.Common.{◌≡◌, ℕ, List, Result, Ok, Err, Some, inl, inr, refl, sym, ap, ◌∙◌, subst, true}
+use Rattle.std.proofs.Common.{◌≡◌, ◌≢◌, ℕ, List, Result, Ok, Err, Some, inl, inr, refl, sym, ap, ◌∙◌, subst, true}
+use Rattle.std.specs.Prelude.{codes, None}
 use Rattle.std.specs.Result.{IsErrAnd}
+use Rattle.std.specs.Str.Parse.{digits_value}
 use Rattle.vault_pan.specs.CardText.{IsCardText, IsNumber, digits_of}
 use Rattle.vault_pan.specs.Luhn.{passes_check}
 use Rattle.vault_pan.specs.Pan.{ReadsPan, fault_number}
 use Rattle.vault_pan.specs.declared.pan.PanFault.{PanFault}
 use Rattle.vault_pan.specs.declared.pan.PanFault.TheVariants.{BadNumber, BadCheck}
+use Rattle.vault_core.specs.Scalar.{IsRequestText}
+use Rattle.vault_wire.specs.Fields.{sole_value}
 use Rattle.vault_core.specs.declared.command.Command.{Command}
-use Rattle.vault_routes.specs.Route.{Target, merchant_of, tokens}
+use Rattle.vault_wire.specs.Parts.{Parts}
 use Rattle.vault_routes.specs.Body.{asked_in}
-use Rattle.vault_routes.specs.Wanted.{Wanted, IsWanted, WantsBody}
-use Rattle.vault_routes.specs.declared.wanted.Unwanted.{Unwanted}
-use Rattle.vault_routes.specs.declared.wanted.Unwanted.TheVariants.{Refused, Memory}
-
--- what is wanted of the rest is wanted of the whole
-pub wanted_by : (W W' : Wanted → Type 0) → ((r : Wanted) → W r → W' r) → (r : Result Command Unwanted)
-    → IsWanted W r → IsWanted W' r
-wanted_by W W' more (Ok c) h = more (Ok c) h
-wanted_by W W' more (Err (Refused n)) h = more (Err n) h
-wanted_by W W' more (Err Memory) h = tt
-
-same_number : (m n : ℕ) → ◌≡◌ {A = Unwanted} (Refused m) (Refused n) → m ≡ n
-same_number m n h = cc
+use Rattle.vault_routes.specs.Faults.{body_fault, number_of}
+use Rattle.vault_routes.specs.Route.{Target, route_of}
+use Rattle.vault_routes.specs.Table.{action_at}
+use Rattle.vault_routes.specs.Wanted.{IsWanted, Wanted, Wants, WantsAction, WantsAsker, WantsBody, WantsOrder}
+use Rattle.vault_routes.specs.declared.body.BodyFault.{BodyFault}
+use Rattle.vault_routes.specs.declared.body.BodyFault.TheVariants as body
+use Rattle.vault_routes.specs.declared.fault.HttpFault.{HttpFault}
+use Rattle.vault_routes.specs.declared.fault.HttpFault.TheVariants.{Memory}
+use Rattle.vault_routes.specs.declared.table.Action.{Action}
+use Rattle.vault_routes.specs.declared.wanted.Asker.{Asker}
+use Rattle.vault_routes.specs.declared.wanted.Order.{Order}
 
 -- a refusal that came through
-pub refused_by : (W : Wanted → Type 0) (r : Result Command Unwanted) (n : ℕ) → IsErrAnd r (λ e. e ≡ Refused n)
-    → W (Err n) → IsWanted W r
-refused_by W (Ok c) n h w = absurd h
-refused_by W (Err (Refused m)) n h w = subst (λ k. W (Err k)) (sym (same_number m n h)) w
-refused_by W (Err Memory) n h w = tt
+pub refused_by : {X : Type 0} (W : Wanted X → Type 0) (r : Result X HttpFault) (e : HttpFault)
+    → IsErrAnd r (λ f. f ≡ e) → (e ≢ Memory → W (Err (number_of e))) → IsWanted W r
+refused_by W (Ok x) e h w = absurd h
+refused_by W (Err f) e h w = λ n.
+    subst (λ k. W (Err (number_of k))) (sym h) (w (subst (λ (k : HttpFault). k ≢ Memory) h n))
 
--- a body whose number is none: no digits of one, or a wrong check digit
-pub no_pan : (body caller m : List ℕ) (request now : ℕ) (drawn : List ℕ) (texts : List ℕ × List ℕ) (fault : PanFault)
-    → asked_in body ≡ Some texts → ReadsPan texts.0 (Err fault) → WantsBody body caller m request now drawn (Err (fault_number fault))
-no_pan body caller m request now drawn texts BadNumber e h = inl (texts, e, inr (h, refl))
-no_pan body caller m request now drawn texts BadCheck e h =
-    inl (texts, e, inl ((h.0, h.1), inr (λ passes. (let clash = sym passes ∙ h.2 in cc), refl)))
+-- the target and the method are as they have to be
+pub wants_of : (p : Parts) (now : ℕ) (drawn : List ℕ) (target : Target) (asked : Action) (r : Wanted Command)
+    → route_of p.target ≡ Some target → action_at target.place p.method ≡ Some asked
+    → WantsAsker p target.merchant now (λ a. WantsAction asked target p drawn a) r → Wants p now drawn r
+wants_of p now drawn target asked r found takes h = inl (target, found, inl (asked, takes, h))
+
+-- who asks was read, and what is wanted then is wanted of the whole
+pub asker_read : {X : Type 0} (p : Parts) (m : List ℕ) (now : ℕ) (goes : Asker → Wanted X → Type 0) (a : Asker) (r : Wanted X)
+    → WantsAsker p m now (λ b s. s ≡ Ok b) (Ok a) → goes a r → WantsAsker p m now goes r
+asker_read p m now goes a r (inl (caller, is, inl (name, inl (named, same)))) h =
+    let asks : a ≡ record { caller = caller; merchant = m; now = now } = cc in
+    inl (caller, is, inl (name, inl (named, subst (λ b. goes b r) asks h)))
+asker_read p m now goes a r (inl (caller, is, inl (name, inr (none, same)))) h = absurd (cc)
+asker_read p m now goes a r (inl (caller, is, inr (none, same))) h = absurd (cc)
+asker_read p m now goes a r (inr (none, same)) h = absurd (cc)
+
+-- who asks was refused, and so is the whole
+pub asker_refused : {X : Type 0} (p : Parts) (m : List ℕ) (now : ℕ) (goes : Asker → Wanted X → Type 0) (n : ℕ)
+    → WantsAsker p m now (λ b s. s ≡ Ok b) (Err n) → WantsAsker p m now goes (Err n)
+asker_refused p m now goes n (inl (caller, is, inl (name, inl (named, same)))) = absurd (cc)
+asker_refused p m now goes n (inl (caller, is, inl (name, inr (none, same)))) =
+    let told : n ≡ 4 = cc in inl (caller, is, inl (name, inr (none, ap Err told)))
+asker_refused p m now goes n (inl (caller, is, inr (none, same))) =
+    let told : n ≡ 4 = cc in inl (caller, is, inr (none, ap Err told))
+asker_refused p m now goes n (inr (none, same)) =
+    let told : n ≡ 58 = cc in inr (none, ap Err told)
+
+same_order : (a b : Order) → ◌≡◌ {A = Wanted Order} (Ok a) (Ok b) → a ≡ b
+same_order a b same = cc
+
+-- what is asked with was read, and what is wanted then is wanted of the whole
+pub order_read : {X : Type 0} (p : Parts) (goes : Order → Wanted X → Type 0) (o : Order) (r : Wanted X)
+    → WantsOrder p (λ b s. s ≡ Ok b) (Ok o) → goes o r → WantsOrder p goes r
+order_read p goes o r (inl (t, is, inl (q, inl (ts, a, inl (n, inl (k, inl (u, w, same))))))) h =
+    inl (t, is, inl (q, inl (ts, a, inl (n, inl (k, inl (u, w, subst (λ b. goes b r) (same_order _ _ same) h))))))
+order_read p goes o r (inl (t, is, inl (q, inl (ts, a, inl (n, inl (k, inr (none, same))))))) h = absurd (cc)
+order_read p goes o r (inl (t, is, inl (q, inl (ts, a, inl (n, inr (none, same)))))) h = absurd (cc)
+order_read p goes o r (inl (t, is, inl (q, inl (ts, a, inr (none, same))))) h = absurd (cc)
+order_read p goes o r (inl (t, is, inl (q, inr (none, same)))) h = absurd (cc)
+order_read p goes o r (inl (t, is, inr (none, same))) h = absurd (cc)
+order_read p goes o r (inr (none, same)) h = absurd (cc)
+
+-- what is asked with was refused, and so is the whole
+pub order_refused : {X : Type 0} (p : Parts) (goes : Order → Wanted X → Type 0) (m : ℕ)
+    → WantsOrder p (λ b s. s ≡ Ok b) (Err m) → WantsOrder p goes (Err m)
+order_refused p goes m (inl (t, is, inl (q, inl (ts, a, inl (n, inl (k, inl (u, w, same))))))) = absurd (cc)
+order_refused p goes m (inl (t, is, inl (q, inl (ts, a, inl (n, inl (k, inr (none, same))))))) =
+    let told : m ≡ 19 = cc in inl (t, is, inl (q, inl (ts, a, inl (n, inl (k, inr (none, ap Err told))))))
+order_refused p goes m (inl (t, is, inl (q, inl (ts, a, inl (n, inr (none, same)))))) =
+    let told : m ≡ 2 = cc in inl (t, is, inl (q, inl (ts, a, inl (n, inr (none, ap Err told)))))
+order_refused p goes m (inl (t, is, inl (q, inl (ts, a, inr (none, same))))) =
+    let told : m ≡ 1 = cc in inl (t, is, inl (q, inl (ts, a, inr (none, ap Err told))))
+order_refused p goes m (inl (t, is, inl (q, inr (none, same)))) =
+    let told : m ≡ 59 = cc in inl (t, is, inl (q, inr (none, ap Err told)))
+order_refused p goes m (inl (t, is, inr (none, same))) =
+    let told : m ≡ 5 = cc in inl (t, is, inr (none, ap Err told))
+order_refused p goes m (inr (none, same)) =
+    let told : m ≡ 58 = cc in inr (none, ap Err told)
 
 -- a text that gives a card number
 pub pan_is : (text pan : List ℕ) → ReadsPan text (Ok pan)
-    → (IsCardText text × IsNumber (digits_of text)) × (passes_check (digits_of text) ≡ true) × (pan ≡ digits_of text)
+    → (IsCardText text × IsNumber (digits_of text)) × (passes_check (digits_of text) ≡ true)
+    × (pan ≡ digits_of text)
 pan_is text pan h =
     ((h.0, subst IsNumber h.2 h.1.0), ap passes_check (sym h.2) ∙ h.1.1, h.2)
 
--- a target that is a merchant's tokens, with the merchant that it names
-pub tokens-merchant_of : (target : Target) → target ≡ tokens (merchant_of target)
-tokens-merchant_of (tokens m) = refl
+-- the field has a request's number, and the body counts
+pub order_body : {X : Type 0} (p : Parts) (goes : Order → Wanted X → Type 0) (text body : List ℕ) (r : Wanted X)
+    → sole_value (codes "x-vault-request") p.pairs ≡ Some text → IsRequestText text → body ≡ p.body
+    → WantsBody body (digits_value 10 text) goes r → WantsOrder p goes r
+order_body p goes text body r is request same h =
+    inl (text, is, inl (request, subst (λ b. WantsBody b (digits_value 10 text) goes r) same h))
+
+-- a body that gives no texts
+pub no_body : {X : Type 0} (fault : BodyFault) (text : List ℕ) (n : ℕ) (goes : Order → Wanted X → Type 0)
+    → (fault ≡ body.NotAsked → asked_in text ≡ None) → body_fault fault ≢ Memory
+    → WantsBody text n goes (Err (number_of (body_fault fault)))
+no_body body.NotAsked text n goes none some =
+    let is_none = none refl in
+    inr ((λ texts is. (let clash = sym is ∙ is_none in cc)), refl)
+no_body body.Memory text n goes none some = absurd (some refl)
+
+-- a body whose number is none: no digits of one, or a wrong check digit
+pub no_pan : {X : Type 0} (fault : PanFault) (text : List ℕ) (n : ℕ) (goes : Order → Wanted X → Type 0)
+    (texts : List ℕ × List ℕ) → asked_in text ≡ Some texts → ReadsPan texts.0 (Err fault)
+    → WantsBody text n goes (Err (fault_number fault))
+no_pan BadNumber text n goes texts is h = inl (texts, is, inr (h, refl))
+no_pan BadCheck text n goes texts is h =
+    inl (texts, is, inl ((h.0, h.1), inr ((λ passes. (let clash = sym passes ∙ h.2 in cc)), refl)))

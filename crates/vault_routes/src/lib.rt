@@ -2,9 +2,10 @@
 #![tactic(auto)]
 
 pub mod body;
-pub mod method;
+pub mod fault;
 pub mod refusal;
 pub mod reply;
 pub mod route;
 pub mod status;
+pub mod table;
 pub mod wanted;

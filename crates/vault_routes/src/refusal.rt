@@ -26,3 +26,9 @@ pub const BAD_FIELDS: u8 = 58;
 
 /// The body isn't a JSON object with exactly the two texts.
 pub const BAD_BODY: u8 = 59;
+
+/// Memory was refused while a message was read.
+pub const MEMORY: u8 = 64;
+
+/// The token's life isn't over, and it isn't revoked.
+pub const STILL_LIVE: u8 = 17;

@@ -1,45 +1,23 @@
 //! What the target of a message names.
-ghost use Rattle.std.specs.Prelude.{◌≡◌, option_map};
-ghost use Rattle.vault_routes.specs.Route.{NamesTokens, merchant_of, methods_of, route_of, target_of};
-ghost use Rattle.vault_routes.specs.Templates.{templates};
+ghost use Rattle.std.specs.Prelude.{◌≡◌, OnOk, OnErr, None, option_map};
+ghost use Rattle.matchit.specs.Route.{parse_route};
+ghost use Rattle.vault_routes.specs.Route.{NamesItsTarget, route_of, target_of};
+ghost use Rattle.vault_routes.specs.Table.{template_text};
+ghost use Rattle.vault_routes.specs.Templates.{HasRoomFor, templates, with_place};
 
+use crate::table::Place;
 use matchit::{InsertError, Router};
 use std::alloc::{AllocError, Global};
 
-// The template of a merchant's tokens.
-const TOKENS: &str = "/v1/merchants/{m}/tokens";
-
-// What the template of a target stands for.
-#[derive(Clone, Copy, Debug, PartialEq, Eq)]
-enum Place {
-    Tokens,
-}
-
 /// What a target names, with the texts that it names it by.
 #[derive(Clone, Copy, Debug, PartialEq, Eq)]
-pub enum Route<'t> {
-    /// The tokens of a merchant.
-    Tokens { merchant: &'t str },
-}
-
-impl<'t> Route<'t> {
+pub struct Route<'t> {
+    /// The place that the target's template stands for.
+    pub place: Place,
     /// The text that stands for the merchant.
-    pub fn merchant(&self) -> &'t str
-        ensures { result.now ≡ merchant_of (target_of self.now) }
-    {
-        match self {
-            Route::Tokens { merchant } => merchant,
-        }
-    }
-
-    /// The methods that the target takes, as the text of an `Allow` field.
-    pub fn methods(&self) -> &'static str
-        ensures { result.now ≡ methods_of (target_of self.now) }
-    {
-        match self {
-            Route::Tokens { .. } => "POST",
-        }
-    }
+    pub merchant: &'t str,
+    /// The text that stands for the token; empty where the place has none.
+    pub token: &'t str,
 }
 
 /// The templates of the service's targets.
@@ -49,17 +27,30 @@ pub struct Routes {
     ghost rows: { router ≡ templates },
 }
 
+// Adds the template of a place.
+fn add(router: &mut Router<Place>, place: Place) -> Result<(), AllocError>
+    requires { HasRoomFor place router.old }
+    ensures { OnOk result (router.new ≡ with_place router.old place) }
+{
+    match router.insert(place.template(), place) {
+        Ok(()) => Ok(()),
+        Err(error) => match error {
+            InsertError::OutOfMemory => Err(AllocError),
+            _ => unreachable!(),
+        },
+    }
+}
+
 impl Routes {
     /// The routes of the service. It fails only for want of memory.
     pub fn new(alloc: Global) -> Result<Routes, AllocError> {
         let mut router = Router::new(alloc);
-        match router.insert(TOKENS, Place::Tokens) {
-            Ok(()) => Ok(Routes { router }),
-            Err(error) => match error {
-                InsertError::OutOfMemory => Err(AllocError),
-                _ => unreachable!(),
-            },
-        }
+        add(&mut router, Place::Tokens)?;
+        add(&mut router, Place::Token)?;
+        add(&mut router, Place::Number)?;
+        add(&mut router, Place::Revoke)?;
+        add(&mut router, Place::Audit)?;
+        Ok(Routes { router })
     }
 
     /// What a target names, if it names anything.
@@ -73,15 +64,18 @@ impl Routes {
             return None;
         };
         let merchant = found.params.get("m")?;
-        match found.value {
-            Place::Tokens => Some(Route::Tokens { merchant }),
-        }
+        let token = found.params.get("t").unwrap_or("");
+        Some(Route {
+            place: *found.value,
+            merchant,
+            token,
+        })
     }
 }
 
 /// What the templates say in the target's own bytes.
-pub fn names_tokens()
-    ensures { NamesTokens }
+pub fn names_its_target()
+    ensures { NamesItsTarget }
 {}
 
 #[cfg(test)]
@@ -90,23 +84,45 @@ mod tests {
     use std::test::Fail;
 
     #[test]
-    fn only_a_whole_target_has_a_route(rt: HostRuntime) -> Result<(), Fail> {
+    fn a_whole_target_has_a_route(rt: HostRuntime) -> Result<(), Fail> {
         let routes = Routes::new(rt.alloc())?;
-        let route = routes.find("/v1/merchants/shop1/tokens").ok_or("no route")?;
-        let Route::Tokens { merchant } = route;
-        assert_eq!(rt; merchant, "shop1");
-        assert_eq!(rt; route.methods(), "POST");
+        for (target, place, token) in [
+            ("/v1/merchants/shop1/tokens", Place::Tokens, ""),
+            ("/v1/merchants/shop1/tokens/12", Place::Token, "12"),
+            ("/v1/merchants/shop1/tokens/12/number", Place::Number, "12"),
+            ("/v1/merchants/shop1/tokens/12/revoke", Place::Revoke, "12"),
+            ("/v1/merchants/shop1/tokens/number", Place::Token, "number"),
+            ("/v1/merchants/shop1/audit", Place::Audit, ""),
+        ] {
+            let route = routes.find(target).ok_or("no route")?;
+            assert_eq!(rt; route.place, place);
+            assert_eq!(rt; route.merchant, "shop1");
+            assert_eq!(rt; route.token, token);
+        }
+        names_its_target();
+        Ok(())
+    }
+
+    #[test]
+    fn all_else_has_none(rt: HostRuntime) -> Result<(), Fail> {
+        let routes = Routes::new(rt.alloc())?;
         for target in [
             "/v1/merchants//tokens",
             "/v1/merchants/shop1",
             "/v1/merchants/shop1/tokens?x=1",
+            "/v1/merchants/shop1/tokens/12?x=1",
             "/v1/merchants/shop1/tokens/",
+            "/v1/merchants/shop1/tokens//number",
+            "/v1/merchants/shop1/tokens/12/",
+            "/v1/merchants/shop1/tokens/12/numbers",
+            "/v1/merchants/shop1/tokens/12/number/",
+            "/v1/merchants/shop1/audit/",
             "/v1/merchants/a/b/tokens",
+            "/v2/merchants/shop1/tokens",
             "*",
         ] {
             assert!(rt; routes.find(target).is_none(), "{target} has a route");
         }
-        names_tokens();
         Ok(())
     }
 }

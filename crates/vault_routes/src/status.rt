@@ -1,37 +1,56 @@
 //! The status of an answer.
-ghost use Rattle.std.specs.Prelude.{◌≡◌};
-ghost use Rattle.vault_routes.specs.Status.{status_for as code_for, status_of as code_of};
+ghost use Rattle.std.specs.Prelude.{◌≡◌, ◌↔◌, IsTrue};
+ghost use Rattle.vault_core.specs.declared.reply.Reply.TheVariants.{Refused};
+ghost use Rattle.vault_routes.specs.Status.{is_status, status_for as code_for, status_of as code_of};
 
-use http::StatusCode;
+use crate::refusal::{
+    BAD_BODY, BAD_FIELDS, BAD_HEAD, BAD_LENGTH, BAD_METHOD, BODY_TOO_LARGE, HEAD_TOO_LARGE,
+    NO_CODING, NO_ROUTE, STILL_LIVE,
+};
+use vault_core::refusal::{
+    BAD_NAME, BAD_REQUEST_NUMBER, BAD_USE, EXPIRED, FULL, NO_CANDIDATE, NO_MERCHANT, NO_RIGHT,
+    NO_TOKEN, NUMBER_REUSED, PURGED, REVOKED, TOO_MANY_MERCHANTS, WRONG_USE,
+};
 use vault_core::reply::Reply;
+use vault_pan::refusal::{BAD_CHECK, BAD_NUMBER, BAD_TOKEN};
 
 /// The status of a refusal, by its number.
-pub fn status_for(refusal: u8) -> StatusCode
-    ensures { result ≡ code_for refusal }
+pub fn status_for(refusal: u8) -> u16
+    ensures code { result ≡ code_for refusal }
+    ensures status { IsTrue (is_status result) }
+    ensures allow { (result ≡ 405) ↔ (refusal ≡ 57) }
 {
     match refusal {
-        1..=5 | 19 | 50 | 52 | 58 | 59 => StatusCode::BAD_REQUEST,
-        8 => StatusCode::FORBIDDEN,
-        7 | 13 | 56 => StatusCode::NOT_FOUND,
-        57 => StatusCode::METHOD_NOT_ALLOWED,
-        10 | 17 => StatusCode::CONFLICT,
-        14..=16 => StatusCode::GONE,
-        53 => StatusCode::LENGTH_REQUIRED,
-        54 => StatusCode::PAYLOAD_TOO_LARGE,
-        9 => StatusCode::UNPROCESSABLE_ENTITY,
-        51 => StatusCode::REQUEST_HEADER_FIELDS_TOO_LARGE,
-        12 => StatusCode::SERVICE_UNAVAILABLE,
-        _ => StatusCode::INSUFFICIENT_STORAGE,
+        BAD_NUMBER | BAD_CHECK | BAD_TOKEN | BAD_NAME | BAD_REQUEST_NUMBER | BAD_USE => 400,
+        BAD_HEAD | BAD_LENGTH | BAD_FIELDS | BAD_BODY => 400,
+        NO_RIGHT => 403,
+        NO_MERCHANT | NO_TOKEN | NO_ROUTE => 404,
+        BAD_METHOD => 405,
+        NUMBER_REUSED | STILL_LIVE => 409,
+        PURGED | REVOKED | EXPIRED => 410,
+        NO_CODING => 411,
+        BODY_TOO_LARGE => 413,
+        WRONG_USE => 422,
+        HEAD_TOO_LARGE => 431,
+        NO_CANDIDATE => 503,
+        FULL | TOO_MANY_MERCHANTS => 507,
+        _any_other_number => 507,
     }
 }
 
 /// The status of a reply: 200 unless it is a refusal.
-pub fn status_of(reply: &Reply) -> StatusCode
-    ensures { result ≡ code_of reply.now }
+pub fn status_of(reply: &Reply) -> u16
+    ensures code { result ≡ code_of reply.now }
+    ensures status { IsTrue (is_status result) }
+    ensures allow { (result ≡ 405) ↔ (reply.now ≡ Refused 57) }
 {
     match *reply {
         Reply::Refused(number) => status_for(number),
-        _ => StatusCode::OK,
+        Reply::Done
+        | Reply::Token { .. }
+        | Reply::Number(_)
+        | Reply::Shown { .. }
+        | Reply::Counts { .. } => 200,
     }
 }
 
@@ -65,11 +84,11 @@ mod tests {
             (12, 503),
             (11, 507),
             (18, 507),
+            (64, 507),
             (255, 507),
         ] {
-            let status = status_of(&Reply::Refused(number));
-            assert_eq!(rt; status.as_u16(), code, "of refusal {number}");
+            assert_eq!(rt; status_of(&Reply::Refused(number)), code);
         }
-        assert_eq!(rt; reason_of(status_of(&Reply::Done)));
+        assert_eq!(rt; status_of(&Reply::Done), 200);
     }
 }

@@ -1,185 +1,169 @@
 //! The command that a message asks for.
-ghost use Rattle.std.specs.Prelude.{◌≡◌, IfOk};
+ghost use Rattle.std.specs.Prelude.{◌≡◌, List, Ok, Option, IfOk, IfErr, ℕ};
 ghost use Rattle.vault_core.specs.Proper.{HasLivesInRange};
-ghost use Rattle.vault_routes.specs.Wanted.{IsWanted, Wants, WantsBody, WantsRequest, WantsToken};
+ghost use Rattle.vault_routes.specs.Faults.{Allows};
+ghost use Rattle.vault_routes.specs.Route.{methods_at};
+ghost use Rattle.vault_routes.specs.Wanted.{IsWanted, Wants, WantsAsker, WantsOrder, command_for, command_on};
 
-use crate::body::{BodyFault, TokenBody};
-use vault_wire::message::Message;
-use crate::method::is_post;
-use crate::refusal::{BAD_BODY, BAD_FIELDS, BAD_METHOD, NO_ROUTE};
-use crate::route::{Route, Routes};
+use crate::body::TokenBody;
+use crate::fault::HttpFault;
+use crate::route::Routes;
+use crate::table::{Action, TokenAction};
 use std::alloc::Global;
 use vault_core::command::Command;
 use vault_core::moment::Moment;
-use vault_core::name::{BadName, Caller, MerchantId};
-use vault_core::request::{BadRequestNumber, RequestNo};
-use vault_core::usage::{BadUse, Use};
+use vault_core::name::{Caller, MerchantId};
+use vault_core::request::RequestNo;
+use vault_core::usage::Use;
 use vault_pan::draw::Digits;
-use vault_pan::pan::{Pan, PanFault};
+use vault_pan::pan::Pan;
+use vault_pan::token::Token;
+use vault_wire::message::Message;
 
-/// Why a message gives no command.
-#[derive(Clone, Copy, Debug, Drop, PartialEq, Eq)]
-pub enum Unwanted {
-    /// The number of a refusal: 1 to 5, 19 and 56 to 59.
-    Refused(u8),
-    /// Memory was refused.
-    Memory,
+// Who asks, at which merchant and when: what each command has.
+#[derive(Clone, Copy)]
+struct Asker {
+    caller: Caller,
+    merchant: MerchantId,
+    now: Moment,
 }
 
-impl From<BadName> for Unwanted {
-    ghost use Rattle.std.specs.Prelude.{◌≡◌};
-    ghost use Rattle.vault_routes.specs.declared.wanted.Unwanted.TheVariants.{Refused};
+// What is asked with, where a token is asked for.
+#[derive(Clone, Copy)]
+struct Order {
+    request: RequestNo,
+    usage: Use,
+    pan: Pan,
+}
 
-    ghost from_gives = { λ _ e. e ≡ Refused 4 };
-
-    fn from(fault: BadName) -> Unwanted {
-        Unwanted::Refused(fault.number())
+impl Asker {
+    // Reads who asks of a message, at the merchant of this text.
+    fn read(message: &Message, merchant: &str, now: Moment) -> Result<Asker, HttpFault>
+        ensures wanted { IsWanted (WantsAsker message.now merchant.now now (λ a r. r ≡ Ok a)) result }
+        ensures allow { IfErr result (λ e. (methods : Option (List ℕ)) → Allows methods e) }
+    {
+        let Some(caller) = message.sole(b"x-vault-caller") else {
+            return Err(HttpFault::BadFields);
+        };
+        let caller = Caller::read(caller)?;
+        let merchant = MerchantId::read(merchant.as_bytes())?;
+        Ok(Asker {
+            caller,
+            merchant,
+            now,
+        })
     }
-}
 
-impl From<BadRequestNumber> for Unwanted {
-    ghost use Rattle.std.specs.Prelude.{◌≡◌};
-    ghost use Rattle.vault_routes.specs.declared.wanted.Unwanted.TheVariants.{Refused};
-
-    ghost from_gives = { λ _ e. e ≡ Refused 5 };
-
-    fn from(fault: BadRequestNumber) -> Unwanted {
-        Unwanted::Refused(fault.number())
-    }
-}
-
-impl From<PanFault> for Unwanted {
-    ghost use Rattle.std.specs.Prelude.{◌≡◌};
-    ghost use Rattle.vault_routes.specs.declared.wanted.Unwanted.TheVariants.{Refused};
-    ghost use Rattle.vault_pan.specs.Pan.{fault_number};
-
-    ghost from_gives = { λ fault e. e ≡ Refused (fault_number fault) };
-
-    fn from(fault: PanFault) -> Unwanted {
-        Unwanted::Refused(fault.number())
-    }
-}
-
-impl From<BadUse> for Unwanted {
-    ghost use Rattle.std.specs.Prelude.{◌≡◌};
-    ghost use Rattle.vault_routes.specs.declared.wanted.Unwanted.TheVariants.{Refused};
-
-    ghost from_gives = { λ _ e. e ≡ Refused 19 };
-
-    fn from(fault: BadUse) -> Unwanted {
-        Unwanted::Refused(fault.number())
-    }
-}
-
-impl From<BodyFault> for Unwanted {
-    ghost use Rattle.std.specs.Prelude.{◌≡◌};
-    ghost use Rattle.vault_routes.specs.Unwanted.{body_unwanted};
-
-    ghost from_gives = { λ fault e. e ≡ body_unwanted fault };
-
-    fn from(fault: BodyFault) -> Unwanted {
-        match fault {
-            BodyFault::NotAsked => Unwanted::Refused(BAD_BODY),
-            BodyFault::Memory => Unwanted::Memory,
+    // The command that asks for a token.
+    fn order(self, order: Order, digits: Digits) -> Command
+        ensures asks { result ≡ command_for self order digits }
+        ensures lives { HasLivesInRange result }
+    {
+        Command::Tokenize {
+            caller: self.caller,
+            merchant: self.merchant,
+            request: order.request,
+            usage: order.usage,
+            pan: order.pan,
+            digits,
+            now: self.now,
         }
+    }
+
+    // The command that asks for this of a token.
+    fn on(self, token: Token, action: TokenAction) -> Command
+        ensures asks { result ≡ command_on action self token }
+        ensures lives { HasLivesInRange result }
+    {
+        let Asker {
+            caller,
+            merchant,
+            now,
+        } = self;
+        match action {
+            TokenAction::View => Command::View {
+                caller,
+                merchant,
+                token,
+                now,
+            },
+            TokenAction::Detokenize => Command::Detokenize {
+                caller,
+                merchant,
+                token,
+                now,
+            },
+            TokenAction::Revoke => Command::Revoke {
+                caller,
+                merchant,
+                token,
+                now,
+            },
+        }
+    }
+}
+
+impl Order {
+    // Reads what a message asks for a token with.
+    fn read(alloc: Global, message: &Message) -> Result<Order, HttpFault>
+        ensures wanted { IsWanted (WantsOrder message.now (λ o r. r ≡ Ok o)) result }
+        ensures allow { IfErr result (λ e. (methods : Option (List ℕ)) → Allows methods e) }
+    {
+        let Some(request) = message.sole(b"x-vault-request") else {
+            return Err(HttpFault::BadFields);
+        };
+        let request = RequestNo::read(request)?;
+        let texts = TokenBody::read(alloc, message.body())?;
+        let pan = Pan::read(texts.number.as_bytes())?;
+        let usage = Use::read(texts.usage.as_bytes())?;
+        Ok(Order {
+            request,
+            usage,
+            pan,
+        })
     }
 }
 
 /// The command of a message, with a moment and drawn digits.
 ///
 /// Refusals, the first that applies: 56 NoRoute, 57 BadMethod, 58 BadFields for X-Vault-Caller,
-/// 4 BadName for its value and for the merchant, 58 for X-Vault-Request, 5 BadRequestNumber,
-/// 59 BadBody, 1 BadNumber, 2 BadCheck, 19 BadUse.
+/// 4 BadName for its value and for the merchant, 3 BadToken; for a Tokenize 58 for
+/// X-Vault-Request, 5 BadRequestNumber, 59 BadBody, 1 BadNumber, 2 BadCheck, 19 BadUse.
+/// 64 Memory: there is no memory to read the body.
 pub fn command_of(
     alloc: Global,
     routes: &Routes,
     message: &Message,
     now: Moment,
     digits: Digits,
-) -> Result<Command, Unwanted>
+) -> Result<Command, HttpFault>
     ensures wanted { IsWanted (Wants message.now now digits) result }
     ensures lives { IfOk result HasLivesInRange }
+    ensures allow { IfErr result (Allows (methods_at message.now.target)) }
 {
     let Some(route) = routes.find(message.target()) else {
-        return Err(Unwanted::Refused(NO_ROUTE));
+        return Err(HttpFault::NoRoute);
     };
-    if !is_post(message.method()) {
-        return Err(Unwanted::Refused(BAD_METHOD));
+    let Some(action) = route.place.action(message.method()) else {
+        return Err(HttpFault::BadMethod(route.place));
+    };
+    let asker = Asker::read(message, route.merchant, now)?;
+    match action {
+        Action::Tokenize => {
+            let order = Order::read(alloc, message)?;
+            Ok(asker.order(order, digits))
+        }
+        Action::OnToken(what) => {
+            let token = Token::read(route.token.as_bytes())?;
+            Ok(asker.on(token, what))
+        }
+        Action::Audit => Ok(Command::Audit {
+            caller: asker.caller,
+            merchant: asker.merchant,
+            now: asker.now,
+        }),
     }
-    match route {
-        Route::Tokens { .. } => token_command(alloc, message, route.merchant(), now, digits),
-    }
 }
 
-/// The command of a message that asks for a token of a merchant.
-fn token_command(
-    alloc: Global,
-    message: &Message,
-    merchant: &str,
-    now: Moment,
-    digits: Digits,
-) -> Result<Command, Unwanted>
-    ensures wanted { IsWanted (WantsToken message.now merchant.now now digits) result }
-    ensures lives { IfOk result HasLivesInRange }
-{
-    let Some(caller) = message.sole(b"x-vault-caller") else {
-        return Err(Unwanted::Refused(BAD_FIELDS));
-    };
-    let caller = Caller::read(caller)?;
-    let merchant = MerchantId::read(merchant.as_bytes())?;
-    request_command(alloc, message, caller, merchant, now, digits)
-}
-
-/// The command of a message that asks for a token, by a caller at a merchant.
-fn request_command(
-    alloc: Global,
-    message: &Message,
-    caller: Caller,
-    merchant: MerchantId,
-    now: Moment,
-    digits: Digits,
-) -> Result<Command, Unwanted>
-    ensures wanted { IsWanted (WantsRequest message.now caller merchant now digits) result }
-    ensures lives { IfOk result HasLivesInRange }
-{
-    let Some(request) = message.sole(b"x-vault-request") else {
-        return Err(Unwanted::Refused(BAD_FIELDS));
-    };
-    let request = RequestNo::read(request)?;
-    body_command(
-        alloc,
-        message.body(),
-        caller,
-        merchant,
-        request,
-        now,
-        digits,
-    )
-}
-
-/// The command of a body that asks for a token, with the parts that were read before.
-fn body_command(
-    alloc: Global,
-    body: &[u8],
-    caller: Caller,
-    merchant: MerchantId,
-    request: RequestNo,
-    now: Moment,
-    digits: Digits,
-) -> Result<Command, Unwanted>
-    ensures wanted { IsWanted (WantsBody body.now caller merchant request now digits) result }
-    ensures lives { IfOk result HasLivesInRange }
-{
-    let texts = TokenBody::read(alloc, body)?;
-    let pan = Pan::read(texts.number.as_bytes())?;
-    let usage = Use::read(texts.usage.as_bytes())?;
-    Ok(Command::Tokenize {
-        caller,
-        merchant,
-        request,
-        usage,
-        pan,
-        digits,
-        now,
-    })
-}
+#[cfg(test)]
+mod tests;

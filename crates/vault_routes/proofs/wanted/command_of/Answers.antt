@@ -1,28 +1,100 @@
-use Rattle.std.proofs.Common.{sym, inl, inr, refl, ap, ◌∙◌, Some, subst}
-use Rattle.vault_routes.specs.Route.{merchant_of, route_of, target_of}
-use Rattle.vault_routes.specs.Wanted.{Wants, WantsToken}
-use Rattle.vault_routes.proofs.WantedLemmas.{wanted_by, tokens-merchant_of}
+use Rattle.std.proofs.Common.{◌≡◌, ℕ, List, Ok, Err, Some, sym, inl, inr, refl, subst, ap, ◌∙◌}
+use Rattle.vault_pan.specs.CardText.{IsToken}
+use Rattle.vault_core.specs.declared.command.Command.{Command}
+use Rattle.vault_routes.specs.Route.{route_of, target_of}
+use Rattle.vault_routes.specs.Table.{action_at}
+use Rattle.vault_routes.specs.Wanted.{Wanted, Wants, WantsAction, command_for, command_on}
+use Rattle.vault_routes.specs.declared.fault.HttpFault.TheVariants as fault
+use Rattle.vault_routes.specs.declared.table.Action.TheVariants as action
+use Rattle.vault_routes.specs.declared.wanted.Asker.{Asker}
+use Rattle.vault_routes.proofs.WantedLemmas.{asker_read, asker_refused, order_read, order_refused, refused_by, wants_of}
 use Rattle.vault_routes.proofs.wanted.command_of.Goals as goal
 
-pub returns-then-not-is_post-clause-wanted : goal.returns-then-not-is_post-clause-wanted
-returns-then-not-is_post-clause-wanted c =
+pub returns-in_default-action-clause-wanted : goal.returns-in_default-action-clause-wanted
+returns-in_default-action-clause-wanted c = λ _.
     let target = target_of c.in-Some.route in
     inl (
-      merchant_of target,
-      ap route_of (sym c.target.ensures) ∙ sym c.in-Some.ensures ∙ ap Some (tokens-merchant_of target),
-      inr ((λ is. (let clash = sym c.if-not-is_post.true ∙ c.is_post.ensures.1 (c.method.ensures ∙ is) in cc)), refl),
+      target,
+      ap route_of (sym c.target.ensures) ∙ sym c.in-Some.ensures,
+      inr (
+        (λ asked is. c.in_default-action.not-Some asked (c.action.ensures ∙ ap (action_at target.place) c.method.ensures ∙ is)),
+        refl,
+      ),
     )
 
-pub returns-clause-wanted : goal.returns-clause-wanted
-returns-clause-wanted c =
+pub returns-in_err-asker-clause-wanted : goal.returns-in_err-asker-clause-wanted
+returns-in_err-asker-clause-wanted c =
     let target = target_of c.in-Some.route in
-    wanted_by (WantsToken c.args.message.now c.merchant.result.now c.args.now c.args.digits) (Wants c.args.message.now c.args.now c.args.digits)
-    (λ r h. inl (
-      merchant_of target,
-      ap route_of (sym c.target.ensures) ∙ sym c.in-Some.ensures ∙ ap Some (tokens-merchant_of target),
-      inl (
-        sym c.method.ensures ∙ c.is_post.ensures.0 c.if-not-is_post.false,
-        subst (λ m. WantsToken c.args.message.now m c.args.now c.args.digits r) c.merchant.ensures h,
-      ),
-    ))
-    c.token_command.result c.token_command.ensures.wanted
+    let found = ap route_of (sym c.target.ensures) ∙ sym c.in-Some.ensures in
+    let takes = ap (action_at target.place) (sym c.method.ensures) ∙ sym c.in-Some-action.ensures in
+    refused_by (Wants c.args.message.now c.args.now c.args.digits) c.from_residual.result c.in_err-asker.field-0.0
+    c.from_residual.ensures.1
+    (λ some. wants_of c.args.message.now c.args.now c.args.digits target c.in-Some-action.action _ found takes
+    (asker_refused c.args.message.now target.merchant c.args.now
+    (WantsAction c.in-Some-action.action target c.args.message.now c.args.digits) _ (c.in_err-asker.ensures.wanted some)))
+
+pub returns-in_err-order-in-Tokenize-clause-wanted :
+    goal.returns-in_err-order-in-Tokenize-clause-wanted
+returns-in_err-order-in-Tokenize-clause-wanted c =
+    let target = target_of c.in-Some.route in
+    let found = ap route_of (sym c.target.ensures) ∙ sym c.in-Some.ensures in
+    let takes = ap (action_at target.place) (sym c.method.ensures) ∙ sym c.in-Some-action.ensures ∙ ap Some c.in-Tokenize.is in
+    refused_by (Wants c.args.message.now c.args.now c.args.digits) c.from_residual-in_err-order-in-Tokenize.result
+    c.in_err-order-in-Tokenize.field-0.0 c.from_residual-in_err-order-in-Tokenize.ensures.1
+    (λ some. wants_of c.args.message.now c.args.now c.args.digits target action.Tokenize _ found takes
+    (asker_read c.args.message.now target.merchant c.args.now
+    (WantsAction action.Tokenize target c.args.message.now c.args.digits) c.in_ok-asker.asker _ c.in_ok-asker.ensures.wanted
+    (order_refused c.args.message.now (λ o r. r ≡ Ok (command_for c.in_ok-asker.asker o c.args.digits)) _
+    (c.in_err-order-in-Tokenize.ensures.wanted some))))
+
+pub returns-in_err-token-in-OnToken-clause-wanted :
+    goal.returns-in_err-token-in-OnToken-clause-wanted
+returns-in_err-token-in-OnToken-clause-wanted c =
+    let target = target_of c.in-Some.route in
+    let found = ap route_of (sym c.target.ensures) ∙ sym c.in-Some.ensures in
+    let asked = action.OnToken c.in-OnToken.what in
+    let takes = ap (action_at target.place) (sym c.method.ensures) ∙ sym c.in-Some-action.ensures ∙ ap Some c.in-OnToken.is in
+    refused_by (Wants c.args.message.now c.args.now c.args.digits) c.from_residual-in_err-token-in-OnToken.result
+    (fault.Token c.in_err-token-in-OnToken.field-0.0) c.from_residual-in_err-token-in-OnToken.ensures.1
+    (λ _. wants_of c.args.message.now c.args.now c.args.digits target asked _ found takes
+    (asker_read c.args.message.now target.merchant c.args.now
+    (WantsAction asked target c.args.message.now c.args.digits) c.in_ok-asker.asker _ c.in_ok-asker.ensures.wanted
+    (inr ((λ is. c.in_err-token-in-OnToken.ensures (subst IsToken (sym c.as_bytes.ensures.value) is)), refl))))
+
+pub returns-in_ok-order-in-Tokenize-clause-wanted :
+    goal.returns-in_ok-order-in-Tokenize-clause-wanted
+returns-in_ok-order-in-Tokenize-clause-wanted c =
+    let target = target_of c.in-Some.route in
+    let found = ap route_of (sym c.target.ensures) ∙ sym c.in-Some.ensures in
+    let takes = ap (action_at target.place) (sym c.method.ensures) ∙ sym c.in-Some-action.ensures ∙ ap Some c.in-Tokenize.is in
+    wants_of c.args.message.now c.args.now c.args.digits target action.Tokenize _ found takes
+    (asker_read c.args.message.now target.merchant c.args.now
+    (WantsAction action.Tokenize target c.args.message.now c.args.digits) c.in_ok-asker.asker _ c.in_ok-asker.ensures.wanted
+    (order_read c.args.message.now (λ o r. r ≡ Ok (command_for c.in_ok-asker.asker o c.args.digits))
+    c.in_ok-order-in-Tokenize.order _ c.in_ok-order-in-Tokenize.ensures.wanted (ap Ok c.order.ensures.asks)))
+
+pub returns-in_ok-token-in-OnToken-clause-wanted :
+    goal.returns-in_ok-token-in-OnToken-clause-wanted
+returns-in_ok-token-in-OnToken-clause-wanted c =
+    let target = target_of c.in-Some.route in
+    let found = ap route_of (sym c.target.ensures) ∙ sym c.in-Some.ensures in
+    let asked = action.OnToken c.in-OnToken.what in
+    let takes = ap (action_at target.place) (sym c.method.ensures) ∙ sym c.in-Some-action.ensures ∙ ap Some c.in-OnToken.is in
+    let read = c.in_ok-token-in-OnToken.ensures in
+    wants_of c.args.message.now c.args.now c.args.digits target asked _ found takes
+    (asker_read c.args.message.now target.merchant c.args.now
+    (WantsAction asked target c.args.message.now c.args.digits) c.in_ok-asker.asker _ c.in_ok-asker.ensures.wanted
+    (inl (
+      subst IsToken c.as_bytes.ensures.value read.0,
+      ap Ok (c.on.ensures.asks ∙ ap (command_on c.in-OnToken.what c.in_ok-asker.asker) (read.1 ∙ c.as_bytes.ensures.value)),
+    )))
+
+pub returns-in-Audit-clause-wanted : goal.returns-in-Audit-clause-wanted
+returns-in-Audit-clause-wanted c =
+    let target = target_of c.in-Some.route in
+    let found = ap route_of (sym c.target.ensures) ∙ sym c.in-Some.ensures in
+    let takes = ap (action_at target.place) (sym c.method.ensures) ∙ sym c.in-Some-action.ensures ∙ ap Some c.in-Audit.is in
+    wants_of c.args.message.now c.args.now c.args.digits target action.Audit _ found takes
+    (asker_read c.args.message.now target.merchant c.args.now
+    (WantsAction action.Audit target c.args.message.now c.args.digits) c.in_ok-asker.asker _ c.in_ok-asker.ensures.wanted
+    refl)

@@ -1,11 +1,21 @@
-use Rattle.matchit.proofs.OnLiterals.{matchit_on_literals}
-use Rattle.std.proofs.Common.{codes, ◌++◌, ◌∷◌}
-use Rattle.matchit.specs.Rows.{param_token}
-use Rattle.vault_routes.proofs.RouteLemmas.{refused_for_memory}
+use Rattle.std.proofs.Common.{[]}
+use Rattle.vault_routes.proofs.RoomLemmas.{room_for-audit, room_for-number, room_for-revoke, room_for-token, room_for-tokens}
 use Rattle.vault_routes.proofs.route.Routes.new.Goals as goal
 
-pub unreachable-requires : goal.unreachable-requires
-unfolding matchit_on_literals
-unreachable-requires c =
-    let e = c.in-Err.ensures in let n = c.new-router.ensures in
-    refused_for_memory (codes "/v1/merchants/" ++ param_token ∷ codes "/tokens") _ (rw n at e.1) c.in_default.not-OutOfMemory
+pub add-requires : goal.add-requires
+add-requires c = rw c.new-router.ensures room_for-tokens
+
+pub add-requires-2 : goal.add-requires-2
+add-requires-2 c = rw (c.in_ok-add.ensures, c.new-router.ensures) room_for-token
+
+pub add-requires-3 : goal.add-requires-3
+add-requires-3 c = rw (c.in_ok-add-2.ensures, c.in_ok-add.ensures, c.new-router.ensures) room_for-number
+
+pub add-requires-4 : goal.add-requires-4
+add-requires-4 c =
+    rw (c.in_ok-add-3.ensures, c.in_ok-add-2.ensures, c.in_ok-add.ensures, c.new-router.ensures) room_for-revoke
+
+pub add-requires-5 : goal.add-requires-5
+add-requires-5 c =
+    rw (c.in_ok-add-4.ensures, c.in_ok-add-3.ensures, c.in_ok-add-2.ensures, c.in_ok-add.ensures, c.new-router.ensures)
+    room_for-audit

@@ -1,0 +1,83 @@
+-- The routes of the service: what stands at each place, and what the methods ask for there.
+use Rattle.std.specs.Prelude.{ℕ, List, [], ◌∷◌, ◌++◌, Bool, true, false, codes, Option, Some, None, if◌then◌else◌}
+use Rattle.std.specs.Str.{bytes_eq}
+use Rattle.vault_routes.specs.declared.table.Action.{Action}
+use Rattle.vault_routes.specs.declared.table.Action.TheVariants as action
+use Rattle.vault_routes.specs.declared.table.TokenAction.TheVariants as on
+use Rattle.vault_routes.specs.declared.table.Place.{Place}
+use Rattle.vault_routes.specs.declared.table.Place.TheVariants as place
+
+-- a part of a template: a text, or a parameter for a merchant or a token
+pub data Part : Type 0 where
+  text : List ℕ → Part
+  merchant : Part
+  token : Part
+
+-- a row of the table: a template, and what GET and POST ask for, where its targets take them
+pub record Row : Type 0 where
+  pub template : List Part
+  pub get : Option Action
+  pub post : Option Action
+
+-- the beginning of each template
+abbrev pub at_merchant : List Part → List Part
+at_merchant rest = text (codes "/v1/merchants/") ∷ merchant ∷ rest
+
+-- the beginning of the templates of one token
+abbrev pub at_token : List Part → List Part
+at_token rest = at_merchant (text (codes "/tokens/") ∷ token ∷ rest)
+
+-- the table
+abbrev pub row_of : Place → Row
+row_of place.Tokens =
+    record { template = at_merchant (text (codes "/tokens") ∷ []); get = None; post = Some action.Tokenize }
+row_of place.Token =
+    record { template = at_token []; get = Some (action.OnToken on.View); post = None }
+row_of place.Number =
+    record { template = at_token (text (codes "/number") ∷ []); get = None; post = Some (action.OnToken on.Detokenize) }
+row_of place.Revoke =
+    record { template = at_token (text (codes "/revoke") ∷ []); get = None; post = Some (action.OnToken on.Revoke) }
+row_of place.Audit =
+    record { template = at_merchant (text (codes "/audit") ∷ []); get = Some action.Audit; post = None }
+
+-- the text of a part, with a merchant's text and a token's for the parameters
+abbrev pub part_text : List ℕ → List ℕ → Part → List ℕ
+part_text m t (text w) = w
+part_text m t merchant = m
+part_text m t token = t
+
+-- a template with texts for its parameters
+abbrev pub filled : List Part → List ℕ → List ℕ → List ℕ
+filled [] m t = []
+filled (p ∷ ps) m t = part_text m t p ++ filled ps m t
+
+-- a template as `matchit` reads it
+abbrev pub template_text : Place → List ℕ
+template_text p = filled (row_of p).template (codes "{m}") (codes "{t}")
+
+-- the template has a parameter for a token
+abbrev pub has_token : List Part → Bool
+has_token [] = false
+has_token (text w ∷ ps) = has_token ps
+has_token (merchant ∷ ps) = has_token ps
+has_token (token ∷ ps) = true
+
+-- the methods of a row as the text of an Allow field (RFC 9110, section 10.2.1)
+abbrev pub allow_text : Option Action → Option Action → List ℕ
+allow_text None None = []
+allow_text (Some got) None = codes "GET"
+allow_text None (Some posted) = codes "POST"
+allow_text (Some got) (Some posted) = codes "GET, POST"
+
+-- the methods that the targets of a place take
+abbrev pub methods_of : Place → List ℕ
+methods_of p = allow_text (row_of p).get (row_of p).post
+
+-- what a method asks for in a row; methods are told apart by case (RFC 9110, section 9.1)
+abbrev pub action_in : Row → List ℕ → Option Action
+action_in row method =
+    if bytes_eq method (codes "GET") then row.get else (if bytes_eq method (codes "POST") then row.post else None)
+
+-- what a method asks for at a place
+abbrev pub action_at : Place → List ℕ → Option Action
+action_at p method = action_in (row_of p) method

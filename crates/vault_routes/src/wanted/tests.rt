@@ -1,0 +1,151 @@
+use super::*;
+use std::test::Fail;
+use vault_wire::message::first_message;
+
+// What a message is answered, by the number of its refusal; 0 for a command.
+fn refusal(rt: &HostRuntime, bytes: &[u8]) -> Result<u8, Fail> {
+    match asked(rt, bytes)? {
+        Ok(_) => Ok(0),
+        Err(fault) => Ok(fault.number()),
+    }
+}
+
+fn asked(rt: &HostRuntime, bytes: &[u8]) -> Result<Result<Command, HttpFault>, Fail> {
+    let alloc = rt.alloc();
+    let routes = Routes::new(alloc)?;
+    let message = first_message(alloc, bytes)
+        .expect(rt, "no fault")
+        .expect(rt, "a message");
+    let now = Moment::new(1000).expect(rt, "a moment");
+    let digits = Digits::new(&[0; 300]).expect(rt, "digits");
+    Ok(command_of(alloc, &routes, &message, now, digits))
+}
+
+#[test]
+fn each_route_takes_its_methods(rt: HostRuntime) -> Result<(), Fail> {
+    let targets = [
+        ("/v1/merchants/shop1/tokens", "POST", 58),
+        ("/v1/merchants/shop1/tokens/0000000000001111", "GET", 0),
+        (
+            "/v1/merchants/shop1/tokens/0000000000001111/number",
+            "POST",
+            0,
+        ),
+        (
+            "/v1/merchants/shop1/tokens/0000000000001111/revoke",
+            "POST",
+            0,
+        ),
+        ("/v1/merchants/shop1/audit", "GET", 0),
+    ];
+    for (target, allowed, answer) in targets {
+        for method in ["GET", "POST", "DELETE", "PUT", "get", "post"] {
+            let text = format!(in rt.alloc();
+                "{method} {target} HTTP/1.1\r\nX-Vault-Caller: till-1\r\n\r\n"
+            )?;
+            match asked(&rt, text.as_bytes())? {
+                Ok(_) => {
+                    assert_eq!(rt; method, allowed);
+                    assert_eq!(rt; answer, 0);
+                }
+                Err(fault) if method == allowed => {
+                    assert_eq!(rt; fault.number(), answer);
+                    assert!(rt; fault.allow().is_none());
+                }
+                Err(fault) => {
+                    assert_eq!(rt; fault.number(), 57);
+                    assert_eq!(rt; fault.allow().unwrap_or(""), allowed);
+                }
+            }
+        }
+    }
+    Ok(())
+}
+
+#[test]
+fn a_command_has_what_the_message_says(rt: HostRuntime) -> Result<(), Fail> {
+    let bytes =
+        b"POST /v1/merchants/shop1/tokens/0000000000001111/number HTTP/1.1\r\nx-vault-CALLER: till-1\r\n\r\n";
+    let command = asked(&rt, bytes)?.expect(&rt, "a command");
+    let Command::Detokenize {
+        caller,
+        merchant,
+        token,
+        now,
+    } = command
+    else {
+        return Err("another command".into());
+    };
+    assert!(rt; caller.bytes() == b"till-1");
+    assert!(rt; merchant.bytes() == b"shop1");
+    assert_eq!(rt; token.as_str(), "0000000000001111");
+    assert_eq!(rt; now.seconds(), 1000);
+    Ok(())
+}
+
+#[test]
+fn the_first_refusal_is_answered(rt: HostRuntime) -> Result<(), Fail> {
+    let heads: [(&[u8], u8); 9] = [
+        (b"GET /v1/merchants/shop1/audits HTTP/1.1\r\n\r\n", 56),
+        (b"PUT /v1/merchants/shop1/audit HTTP/1.1\r\n\r\n", 57),
+        (b"GET /v1/merchants/shop1/audit HTTP/1.1\r\n\r\n", 58),
+        (
+            b"GET /v1/merchants/shop1/audit HTTP/1.1\r\nX-Vault-Caller: a\r\nX-Vault-Caller: a\r\n\r\n",
+            58,
+        ),
+        (
+            b"GET /v1/merchants/shop1/audit HTTP/1.1\r\nX-Vault-Caller: Till\r\n\r\n",
+            4,
+        ),
+        (
+            b"GET /v1/merchants/Shop/audit HTTP/1.1\r\nX-Vault-Caller: till-1\r\n\r\n",
+            4,
+        ),
+        (
+            b"GET /v1/merchants/shop1/tokens/4111111111111111 HTTP/1.1\r\nX-Vault-Caller: till-1\r\n\r\n",
+            3,
+        ),
+        (
+            b"GET /v1/merchants/shop1/tokens/x HTTP/1.1\r\nX-Vault-Caller: till-1\r\n\r\n",
+            3,
+        ),
+        (
+            b"POST /v1/merchants/shop1/tokens HTTP/1.1\r\nX-Vault-Caller: till-1\r\nX-Vault-Request: 07\r\n\r\n",
+            5,
+        ),
+    ];
+    for (bytes, number) in heads {
+        assert_eq!(rt; refusal(&rt, bytes)?, number);
+    }
+    Ok(())
+}
+
+#[test]
+fn a_body_is_read_in_order(rt: HostRuntime) -> Result<(), Fail> {
+    let bodies: [(&[u8], u8); 8] = [
+        (b"{\"number\":\"4111111111111111\",\"use\":\"single\"}", 0),
+        (
+            b"{\"number\":\"1\",\"number\":\"4111 1111 1111 1111\",\"use\":\"multi\"}",
+            0,
+        ),
+        (
+            b"{\"number\":\"4111111111111111\",\"use\":\"single\",\"x\":\"y\"}",
+            59,
+        ),
+        (b"{\"number\":\"x\xff\",\"use\":\"single\"}", 59),
+        (&[b'['; 200], 59),
+        (b"{\"number\":\"411111111\",\"use\":\"none\"}", 1),
+        (b"{\"number\":\"4111111111111112\",\"use\":\"none\"}", 2),
+        (b"{\"number\":\"4111111111111111\",\"use\":\"none\"}", 19),
+    ];
+    for (body, number) in bodies {
+        let size = body.len();
+        let head = format!(in rt.alloc();
+            "POST /v1/merchants/shop1/tokens HTTP/1.1\r\nX-Vault-Caller: till-1\r\nX-Vault-Request: 7\r\nContent-Length: {size}\r\n\r\n"
+        )?;
+        let mut bytes = Vec::from_slice(rt.alloc(), head.as_bytes())?;
+        bytes.extend_from_slice(body)?;
+        assert_eq!(rt; refusal(&rt, &bytes)?, number);
+    }
+    Ok(())
+}
