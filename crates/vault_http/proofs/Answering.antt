@@ -15,9 +15,6 @@ use Rattle.vault_http.specs.Outcomes.{StandsFor, outcome_text, reply_in}
 use Rattle.vault_http.specs.Passing.{Passage, AllAnswered, Answered, IsBefore, Keeps, Sends}
 use Rattle.vault_http.specs.declared.answer.Outcome.{Outcome}
 use Rattle.vault_http.specs.declared.answer.Outcome.TheVariants.{Replied, Refused}
-use Rattle.vault_http.specs.Faults.{IsTold}
-use Rattle.vault_http.specs.declared.fault.ServeFault.{ServeFault}
-use Rattle.vault_http.specs.declared.fault.ServeFault.TheVariants as fault
 use Rattle.vault_http.proofs.Exchanging.{vault_after-nil}
 
 -- what is the one text is the other one
@@ -79,10 +76,3 @@ all_nothing w given sent kept = record {
   answered = answered_nothing w sent kept;
 }
 
--- no reader is watched, so none failed
-pub not_read : (e : ServeFault) (refused writer broken : Bool) → IsTold e refused false writer broken → e ≡ fault.Read → ⊥
-not_read fault.Source r w b told same = absurd (cc)
-not_read fault.Read r w b told same = absurd (cc)
-not_read fault.Write r w b told same = absurd (cc)
-not_read fault.Store r w b told same = absurd (cc)
-not_read fault.Memory r w b told same = absurd (cc)

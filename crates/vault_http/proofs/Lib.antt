@@ -4,3 +4,4 @@ pub mod Closing
 pub mod Exchanging
 pub mod Following
 pub mod Serving
+pub mod Telling

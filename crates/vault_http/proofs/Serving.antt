@@ -16,7 +16,6 @@ use Rattle.vault_wire.specs.declared.watched.Watched.{Watched}
 use Rattle.vault_wire.proofs.OpenFacts.{open_short}
 use Rattle.vault_wire.proofs.ReadingFacts.{reads_of}
 use Rattle.vault_http.specs.Exchanges.{Pair, Exchange, AskFirst, fault_text, has_close, last_text, shown, texts, up_to_close, vault_after}
-use Rattle.vault_http.specs.Faults.{IsTold}
 use Rattle.vault_http.specs.Passing.{Passage, passing, AllAnswered, IsBefore, Keeps, Sends, StopsBefore, Stops}
 use Rattle.vault_http.specs.Refusing.{IsRefused}
 use Rattle.vault_http.specs.Served.{Begins, IsServed, IsStopped, StopsAmong, StopsAtFault, StopsForMemory, answered_fault}

@@ -9,7 +9,7 @@ ghost use Rattle.vault_routes.specs.Reply.{body_text};
 ghost use Rattle.vault_routes.specs.Status.{status_of as code_of};
 ghost use Rattle.vault_http.specs.Exchanges.{Asks, Exchange, methods_with, reply_to, vault_after};
 ghost use Rattle.vault_http.specs.Outcomes.{StandsFor, outcome_text, reply_in};
-ghost use Rattle.vault_http.specs.Faults.{IsTold};
+ghost use Rattle.vault_http.specs.Faults.{Tells, failures};
 ghost use Rattle.vault_http.specs.Passing.{AllAnswered, Passage, Stops, passing};
 
 use crate::fault::ServeFault;
@@ -70,7 +70,7 @@ fn decide<T: Tables>(
         × (T.is_honest (tables_of vault.new) → (V : Content) → Contains T.holds vault.old V
         → T.leaves (tables_of vault.new) V (vault_after V (x ∷ []))) }
     ensures only { IfErr result (λ e. (e ≡ ServeFault.Memory) ⊎ (e ≡ ServeFault.Store)) }
-    ensures broken { result ≡ Err ServeFault.Store → is_broken vault.new ≡ true }
+    ensures told { Tells result (failures false false false (is_broken vault.old)) (failures false false false (is_broken vault.new)) }
     ensures honest { T.is_honest (tables_of vault.new) → T.is_honest (tables_of vault.old) }
 {
     match command_of(alloc, routes, message, now, digits) {
@@ -123,7 +123,9 @@ pub(crate) fn answer_one<W: Write, T: Tables, S: Source>(
 ) -> Result<(), ServeFault>
     ensures ends { let w : Passage = passing S.given source.old source.new W.contents writer.old writer.new T.is_honest T.holds T.leaves vault.old vault.new in
         MatchResult result (λ _. AllAnswered w (message.now ∷ [])) (λ e. Stops e w (message.now ∷ [])) }
-    ensures told { IfErr result (λ e. IsTold e (S.has_refused source.new) false (is_stopped writer.new) (is_broken vault.new)) }
+    ensures told { Tells result
+        (failures (S.has_refused source.old) false (is_stopped writer.old) (is_broken vault.old))
+        (failures (S.has_refused source.new) false (is_stopped writer.new) (is_broken vault.new)) }
     ensures counted { OnOk result (S.count_left source.old ≡ S.count_left source.new + 1) }
     ensures later { S.precedes source.old source.new }
     ensures honest { T.is_honest (tables_of vault.new) → T.is_honest (tables_of vault.old) }

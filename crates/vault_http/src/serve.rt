@@ -3,7 +3,7 @@ ghost use Rattle.std.specs.Prelude.{◌≡◌, ◌+◌, true, false, IfErr, IfOk
 ghost use Rattle.vault_store.specs.Applied.{is_broken, tables_of};
 ghost use Rattle.vault_wire.specs.Watching.{inner_of, is_stopped};
 ghost use Rattle.vault_http.specs.Exchanges.{fault_text, has_close, up_to_close};
-ghost use Rattle.vault_http.specs.Faults.{IsTold};
+ghost use Rattle.vault_http.specs.Faults.{Tells, failures};
 ghost use Rattle.vault_http.specs.Passing.{AllAnswered, Passage, Stops, passing};
 ghost use Rattle.vault_http.specs.Refusing.{IsRefused};
 ghost use Rattle.vault_http.specs.Served.{IsServed, IsStopped};
@@ -41,7 +41,9 @@ fn answer_all<W: Write, T: Tables, S: Source>(
     ensures ends { let w : Passage = passing S.given source.old source.new W.contents writer.old writer.new T.is_honest T.holds T.leaves vault.old vault.new in
         MatchResult result (λ _. AllAnswered w (up_to_close messages.now)) (λ e. Stops e w (up_to_close messages.now)) }
     ensures closes { IfOk result (λ closed. closed ≡ has_close messages.now) }
-    ensures told { IfErr result (λ e. IsTold e (S.has_refused source.new) false (is_stopped writer.new) (is_broken vault.new)) }
+    ensures told { Tells result
+        (failures (S.has_refused source.old) false (is_stopped writer.old) (is_broken vault.old))
+        (failures (S.has_refused source.new) false (is_stopped writer.new) (is_broken vault.new)) }
     ensures counted { OnOk result (S.count_left source.old ≡ S.count_left source.new + length (up_to_close messages.now)) }
     ensures later { S.precedes source.old source.new }
     ensures honest { T.is_honest (tables_of vault.new) → T.is_honest (tables_of vault.old) }
@@ -72,7 +74,7 @@ fn fault_answer(alloc: Global, fault: WireFault) -> Result<Vec<u8>, AllocError>
 /// Answers a fault of the bytes.
 fn refuse<W: Write>(alloc: Global, fault: WireFault, writer: &mut Watched<W>) -> Result<(), ServeFault>
     ensures ends { IsRefused (W.contents (inner_of writer.old)) (W.contents (inner_of writer.new)) (fault_text fault) result }
-    ensures told { IfErr result (λ e. IsTold e false false (is_stopped writer.new) false) }
+    ensures told { Tells result (failures false false (is_stopped writer.old) false) (failures false false (is_stopped writer.new) false) }
 {
     let Ok(text) = fault_answer(alloc, fault) else {
         return Err(ServeFault::Memory);
@@ -96,7 +98,9 @@ pub fn serve_by<R: Read, W: Write, T: Tables, S: Source>(
         IfOk result (IsServed (R.remaining (inner_of reader.old)) (R.remaining (inner_of reader.new)) w) }
     ensures stopped { let w : Passage = passing S.given source.old source.new W.contents writer.old writer.new T.is_honest T.holds T.leaves vault.old vault.new in
         IfErr result (IsStopped (R.remaining (inner_of reader.old)) (R.remaining (inner_of reader.new)) w) }
-    ensures told { IfErr result (λ e. IsTold e (S.has_refused source.new) (is_stopped reader.new) (is_stopped writer.new) (is_broken vault.new)) }
+    ensures told { Tells result
+        (failures (S.has_refused source.old) (is_stopped reader.old) (is_stopped writer.old) (is_broken vault.old))
+        (failures (S.has_refused source.new) (is_stopped reader.new) (is_stopped writer.new) (is_broken vault.new)) }
     ensures later { S.precedes source.old source.new }
     ensures honest { T.is_honest (tables_of vault.new) → T.is_honest (tables_of vault.old) }
 {
@@ -154,7 +158,9 @@ pub fn serve<R: Read, W: Write, T: Tables, S: Source>(
         IfOk result (IsServed (R.remaining (inner_of reader.old)) (R.remaining (inner_of reader.new)) w) }
     ensures stopped { let w : Passage = passing S.given source.old source.new W.contents writer.old writer.new T.is_honest T.holds T.leaves vault.old vault.new in
         IfErr result (IsStopped (R.remaining (inner_of reader.old)) (R.remaining (inner_of reader.new)) w) }
-    ensures told { IfErr result (λ e. IsTold e (S.has_refused source.new) (is_stopped reader.new) (is_stopped writer.new) (is_broken vault.new)) }
+    ensures told { Tells result
+        (failures (S.has_refused source.old) (is_stopped reader.old) (is_stopped writer.old) (is_broken vault.old))
+        (failures (S.has_refused source.new) (is_stopped reader.new) (is_stopped writer.new) (is_broken vault.new)) }
     ensures later { S.precedes source.old source.new }
     ensures honest { T.is_honest (tables_of vault.new) → T.is_honest (tables_of vault.old) }
 {

@@ -1,13 +1,15 @@
 use Rattle.std.proofs.Common.{◌≡◌, ℕ, ◌+◌, List, [], ◌∷◌, ◌++◌, length, take, refl, sym, ap, ◌∙◌, subst, arith, false, cond, suc, drop, length-append, append_assoc}
+use Rattle.std.specs.Prelude.{Bool}
 use Rattle.std.proofs.Math.Seq.{take-length}
 use Rattle.std.proofs.lemmas.List.{length-take-le}
 use Rattle.vault_wire.specs.Parts.{Parts, closes}
 use Rattle.vault_http.specs.Exchanges.{has_close, up_to_close}
 use Rattle.vault_http.specs.Passing.{AllAnswered, Stops, passing}
-use Rattle.vault_http.proofs.Answering.{all_nothing, not_read}
+use Rattle.vault_http.proofs.Answering.{all_nothing}
 use Rattle.vault_http.proofs.Bytes.{appends_nothing}
 use Rattle.vault_http.proofs.Closing.{none_more, one_further, up_to_close-at, up_to_close-end, up_to_close-none}
 use Rattle.vault_http.proofs.Following.{all_then, stops_longer, stops_then}
+use Rattle.vault_http.proofs.Telling.{not_read, tells_as}
 use Rattle.vault_http.proofs.serve.answer_all.Goals as goal
 
 pub loop-message-init : goal.loop-message-init
@@ -19,6 +21,7 @@ loop-message-init g c =
       answered = all_nothing w refl (appends_nothing _) (λ V b. (b.1, g.met.T.Tables.settled _ V b.1.0 b.0));
       counted = omega arith;
       later = g.met.S.Source.reflexive _;
+      told = refl;
       honest = λ h. h;
     }
 
@@ -38,6 +41,7 @@ loop-message-preserved g c =
         (take i c.args.messages.now) (c.message-item.result ∷ []) inv.answered c.in-Ok.ensures.ends);
       counted = omega (arith, inv.counted, c.in-Ok.ensures.counted);
       later = g.met.S.Source.transitive _ _ _ inv.later c.answer_one.ensures.later;
+      told = c.in-Ok.ensures.told ∙ inv.told;
       honest = λ h. inv.honest (c.answer_one.ensures.honest h);
     }
 
@@ -81,7 +85,7 @@ returns-in-Err-clause-ends g c =
         g.W.Write.contents c.args.writer.now c.loop-message.writer c.answer_one.new.writer g.T.Tables.is_honest g.T.Tables.holds
         g.T.Tables.leaves c.args.vault.now c.loop-message.vault c.answer_one.new.vault c.answer_one.ensures.honest
         (take i ps) (d ∷ []) inv.answered e c.in-Err.ensures.ends in
-    let longer = stops_longer e w (take i ps ++ d ∷ []) more (not_read e _ _ _ c.in-Err.ensures.told) stops in
+    let longer = stops_longer e w (take i ps ++ d ∷ []) more (not_read e _ _ _ _ _ _ c.in-Err.ensures.told) stops in
     subst (Stops e w) (append_assoc (take i ps) (d ∷ []) more ∙ sym at) longer
 
 pub returns-clause-ends : goal.returns-clause-ends
@@ -105,3 +109,12 @@ returns-clause-counted g c =
     let none : has_close ps ≡ false = sym (ap has_close (ap (λ (n : ℕ). take n ps) k ∙ take-length ps)) ∙ inv.open_till in
     let many : length (up_to_close ps) ≡ i = ap length (up_to_close-none ps none) ∙ sym k in
     omega (arith, inv.counted, many)
+
+pub returns-then-closes-clause-told : goal.returns-then-closes-clause-told
+returns-then-closes-clause-told g c = c.in-Ok.ensures.told ∙ c.loop-message.invariant.told
+
+pub returns-in-Err-clause-told : goal.returns-in-Err-clause-told
+returns-in-Err-clause-told g c = tells_as (Unit {0}) Bool c.in-Err.fault _ _ _ c.loop-message.invariant.told c.in-Err.ensures.told
+
+pub returns-clause-told : goal.returns-clause-told
+returns-clause-told g c = c.loop-message.invariant.told

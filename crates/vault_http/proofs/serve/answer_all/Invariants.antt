@@ -1,6 +1,8 @@
 use Rattle.std.proofs.Common.{◌≡◌, ◌+◌, take, false}
-use Rattle.vault_store.specs.Applied.{tables_of}
+use Rattle.vault_store.specs.Applied.{is_broken, tables_of}
+use Rattle.vault_wire.specs.Watching.{is_stopped}
 use Rattle.vault_http.specs.Exchanges.{has_close}
+use Rattle.vault_http.specs.Faults.{failures}
 use Rattle.vault_http.specs.Passing.{AllAnswered, passing}
 use Rattle.vault_http.proofs.serve.answer_all.Given as goal
 
@@ -11,5 +13,7 @@ invariant-loop-message g l = record {
       g.T.Tables.is_honest g.T.Tables.holds g.T.Tables.leaves l.initial.vault l.vault) (take l.message-index l.messages);
   counted : g.S.Source.count_left l.initial.source ≡ g.S.Source.count_left l.source + l.message-index;
   later : g.S.Source.precedes l.initial.source l.source;
+  told : failures (g.S.Source.has_refused l.source) false (is_stopped l.writer) (is_broken l.vault)
+      ≡ failures (g.S.Source.has_refused l.initial.source) false (is_stopped l.initial.writer) (is_broken l.initial.vault);
   honest : g.T.Tables.is_honest (tables_of l.vault) → g.T.Tables.is_honest (tables_of l.initial.vault)
 }

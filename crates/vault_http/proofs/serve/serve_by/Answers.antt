@@ -1,14 +1,20 @@
 use Rattle.std.proofs.Common.{◌≡◌, ℕ, ◌+◌, ◌-◌, ◌<◌, List, [], ◌∷◌, ◌++◌, length, take, refl, sym, ap, ◌∙◌, subst, arith, true, false, None, Some, inl, inr, length-append}
 use Rattle.std.proofs.lemmas.List.{length-map, length-take}
+use Rattle.std.specs.Prelude.{Bool, Ok, Err}
+use Rattle.vault_store.specs.Applied.{is_broken}
 use Rattle.vault_wire.specs.Parts.{Parts, parts_of}
 use Rattle.vault_wire.specs.Reading.{Kept}
+use Rattle.vault_wire.specs.Watching.{is_stopped}
+use Rattle.vault_http.specs.Faults.{Failures, failures}
 use Rattle.vault_http.specs.Exchanges.{has_close, shown, up_to_close}
 use Rattle.vault_http.specs.Passing.{AllAnswered, passing}
-use Rattle.vault_http.proofs.Answering.{all_nothing, not_read}
+use Rattle.vault_http.specs.declared.served.Served.{Served}
+use Rattle.vault_http.proofs.Answering.{all_nothing}
 use Rattle.vault_http.proofs.Bytes.{appends_nothing, consumes_both, consumes_keeps, consumes_none, consumes_nothing}
 use Rattle.vault_http.proofs.Closing.{has_close-shown, shown_count, up_to_close-none, up_to_close-shown}
 use Rattle.vault_http.proofs.Following.{all_then, stops_then}
 use Rattle.vault_http.proofs.Serving.{before_of, begins_more, begins_of, falls, reads_by, served_fault, served_plain, stopped_fault, stopped_of}
+use Rattle.vault_http.proofs.Telling.{beside_reader, beside_writer, not_read, tells_as}
 use Rattle.vault_http.proofs.serve.serve_by.Goals as goal
 
 pub pieces-init : goal.pieces-init
@@ -26,6 +32,7 @@ pieces-init g c =
       answered = all_nothing w refl (appends_nothing _) (λ V b. (b.1, g.met.T.Tables.settled _ V b.1.0 b.0));
       counted = omega arith;
       later = g.met.S.Source.reflexive _;
+      told = refl;
       honest = λ h. h;
     }
 
@@ -127,7 +134,7 @@ returns-in-Err-clause-stopped g c =
         c.args.vault.now c.pieces.vault c.answer_all.new.vault c.answer_all.ensures.honest (shown inv.messages)
         (up_to_close c.deref.result.now) inv.answered
         e c.in-Err.ensures.ends in
-    stopped_of _ _ w bytes ms read e c.feed.new.self.fault (not_read e _ _ _ c.in-Err.ensures.told)
+    stopped_of _ _ w bytes ms read e c.feed.new.self.fault (not_read e _ _ _ _ _ _ c.in-Err.ensures.told)
         (reads_by c.feed.new.self bytes ms c.feed.new.self.fault refl reading) (rw whole stops)
 
 pub returns-in-Err-refuse-clause-stopped : goal.returns-in-Err-refuse-clause-stopped
@@ -239,6 +246,9 @@ pieces-preserved g c =
         c.args.vault.now c.pieces.vault c.answer_all.new.vault c.answer_all.ensures.honest (shown inv.messages)
         (up_to_close c.deref.result.now) inv.answered c.in-Ok-false.ensures.ends) in
     let many : length (up_to_close ps) ≡ length fed.0 = shown_count inv.messages fed.0 ps is inv.open_till none in
+    let went = ap (λ b. failures (g.S.Source.has_refused c.pieces.source) b (is_stopped c.pieces.writer)
+        (is_broken c.pieces.vault)) (c.in-Ok.ensures.flag ∙ sym c.in-Ok.ensures.ok) ∙ inv.told in
+    let all_told = beside_reader Bool (Ok false) (is_stopped c.read.new.self) _ _ _ _ _ _ c.in-Ok-false.ensures.told ∙ went in
     record {
       room = c.read.auto.buf ∙ inv.room;
       calm = sym c.in-Ok-feed.ensures.fault ∙ c.in_default-fault.is;
@@ -250,5 +260,66 @@ pieces-preserved g c =
       answered = all;
       counted = omega (arith, inv.counted, c.in-Ok-false.ensures.counted, many, length-append inv.messages fed.0);
       later = g.met.S.Source.transitive _ _ _ inv.later c.answer_all.ensures.later;
+      told = all_told;
       honest = λ h. inv.honest (c.answer_all.ensures.honest h);
     }
+
+pub returns-in_default-clause-told : goal.returns-in_default-clause-told
+returns-in_default-clause-told g c =
+    ap (λ b. failures (g.S.Source.has_refused c.pieces.source) b (is_stopped c.pieces.writer) (is_broken c.pieces.vault))
+        c.in_default.ensures.flag
+    ∙ ap (λ (f : Failures). record f { reader = true }) c.pieces.invariant.told
+
+pub returns-then-count-eq0-clause-told : goal.returns-then-count-eq0-clause-told
+returns-then-count-eq0-clause-told g c =
+    let s = g.S.Source.has_refused c.pieces.source in
+    let w = is_stopped c.pieces.writer in
+    let v = is_broken c.pieces.vault in
+    let went = ap (λ b. failures s b w v) (c.in-Ok.ensures.flag ∙ sym c.in-Ok.ensures.ok) ∙ c.pieces.invariant.told in
+    went
+
+pub returns-in_default-feed-clause-told : goal.returns-in_default-feed-clause-told
+returns-in_default-feed-clause-told g c =
+    let s = g.S.Source.has_refused c.pieces.source in
+    let w = is_stopped c.pieces.writer in
+    let v = is_broken c.pieces.vault in
+    let went = ap (λ b. failures s b w v) (c.in-Ok.ensures.flag ∙ sym c.in-Ok.ensures.ok) ∙ c.pieces.invariant.told in
+    went
+
+pub returns-in-Ok-true-clause-told : goal.returns-in-Ok-true-clause-told
+returns-in-Ok-true-clause-told g c =
+    let s = g.S.Source.has_refused c.pieces.source in
+    let w = is_stopped c.pieces.writer in
+    let v = is_broken c.pieces.vault in
+    let went = ap (λ b. failures s b w v) (c.in-Ok.ensures.flag ∙ sym c.in-Ok.ensures.ok) ∙ c.pieces.invariant.told in
+    beside_reader Bool (Ok true) (is_stopped c.read.new.self) _ _ _ _ _ _ c.in-Ok-true.ensures.told ∙ went
+
+pub returns-in-Err-clause-told : goal.returns-in-Err-clause-told
+returns-in-Err-clause-told g c =
+    let s = g.S.Source.has_refused c.pieces.source in
+    let w = is_stopped c.pieces.writer in
+    let v = is_broken c.pieces.vault in
+    let went = ap (λ b. failures s b w v) (c.in-Ok.ensures.flag ∙ sym c.in-Ok.ensures.ok) ∙ c.pieces.invariant.told in
+    tells_as Bool Served c.in-Err.fault _ _ _ went
+        (beside_reader Bool (Err c.in-Err.fault) (is_stopped c.read.new.self) _ _ _ _ _ _ c.in-Err.ensures.told)
+
+pub returns-in-Err-refuse-clause-told : goal.returns-in-Err-refuse-clause-told
+returns-in-Err-refuse-clause-told g c =
+    let s = g.S.Source.has_refused c.pieces.source in
+    let w = is_stopped c.pieces.writer in
+    let v = is_broken c.pieces.vault in
+    let went = ap (λ b. failures s b w v) (c.in-Ok.ensures.flag ∙ sym c.in-Ok.ensures.ok) ∙ c.pieces.invariant.told in
+    let all = beside_reader Bool (Ok false) (is_stopped c.read.new.self) _ _ _ _ _ _ c.in-Ok-false.ensures.told ∙ went in
+    tells_as (Unit {0}) Served c.in-Err-refuse.stop _ _ _ all
+        (beside_writer c.in-Err-refuse.stop (g.S.Source.has_refused c.answer_all.new.source) (is_stopped c.read.new.self)
+            (is_broken c.answer_all.new.vault) _ _ c.in-Err-refuse.ensures.told)
+
+pub returns-in-Some-clause-told : goal.returns-in-Some-clause-told
+returns-in-Some-clause-told g c =
+    let s = g.S.Source.has_refused c.pieces.source in
+    let w = is_stopped c.pieces.writer in
+    let v = is_broken c.pieces.vault in
+    let went = ap (λ b. failures s b w v) (c.in-Ok.ensures.flag ∙ sym c.in-Ok.ensures.ok) ∙ c.pieces.invariant.told in
+    let all = beside_reader Bool (Ok false) (is_stopped c.read.new.self) _ _ _ _ _ _ c.in-Ok-false.ensures.told ∙ went in
+    ap (λ (f : Failures). failures (g.S.Source.has_refused c.answer_all.new.source) (is_stopped c.read.new.self) f.writer
+        (is_broken c.answer_all.new.vault)) c.in_default-refuse.ensures.told ∙ all

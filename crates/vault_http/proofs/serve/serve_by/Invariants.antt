@@ -1,9 +1,11 @@
 use Rattle.std.proofs.Common.{◌≡◌, ℕ, ◌+◌, ◌*◌, ◌-◌, List, length, None, false}
 use Rattle.std.specs.Io.KnownBytes.{Consumes}
-use Rattle.vault_store.specs.Applied.{tables_of}
+use Rattle.vault_store.specs.Applied.{is_broken, tables_of}
 use Rattle.vault_wire.specs.Messages.{Request}
 use Rattle.vault_wire.specs.Reading.{IsReading}
+use Rattle.vault_wire.specs.Watching.{is_stopped}
 use Rattle.vault_http.specs.Exchanges.{has_close, shown}
+use Rattle.vault_http.specs.Faults.{failures}
 use Rattle.vault_http.specs.Passing.{AllAnswered, passing}
 use Rattle.vault_http.proofs.serve.serve_by.Given as goal
 
@@ -20,6 +22,9 @@ invariant-pieces g l = record {
       g.T.Tables.is_honest g.T.Tables.holds g.T.Tables.leaves l.initial.vault l.vault) (shown messages);
   counted : g.S.Source.count_left l.initial.source ≡ g.S.Source.count_left l.source + length messages;
   later : g.S.Source.precedes l.initial.source l.source;
+  told : failures (g.S.Source.has_refused l.source) (is_stopped l.reader) (is_stopped l.writer) (is_broken l.vault)
+      ≡ failures (g.S.Source.has_refused l.initial.source) (is_stopped l.initial.reader) (is_stopped l.initial.writer)
+      (is_broken l.initial.vault);
   honest : g.T.Tables.is_honest (tables_of l.vault) → g.T.Tables.is_honest (tables_of l.initial.vault)
 }
 
