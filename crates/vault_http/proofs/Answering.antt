@@ -3,14 +3,17 @@ use Rattle.std.proofs.Common.{◌≡◌, ℕ, ◌<◌, List, [], ◌∷◌, ◌+
 use Rattle.std.specs.Prelude.{Result, Ok, Err, Option, None, Bool, true, false, IfOk, OnErr, OnOk}
 use Rattle.std.specs.Result.{is_err}
 use Rattle.vault_core.specs.Vault.{Vault as Content}
+use Rattle.vault_core.specs.declared.command.Command.{Command}
 use Rattle.vault_core.specs.declared.reply.Reply.{Reply}
 use Rattle.vault_core.specs.declared.reply.Reply.TheVariants as reply
 use Rattle.vault_wire.specs.Answer.{answer_bytes}
 use Rattle.vault_wire.specs.Parts.{Parts, closes}
+use Rattle.vault_routes.specs.Faults.{allow_of, number_of}
 use Rattle.vault_routes.specs.Reply.{body_text}
 use Rattle.vault_routes.specs.Status.{status_of}
 use Rattle.vault_routes.specs.Wanted.{Wanted}
-use Rattle.vault_http.specs.Exchanges.{Pair, Exchange, methods_with, reply_to, text_at, texts, vault_after}
+use Rattle.vault_routes.specs.declared.fault.HttpFault.{HttpFault}
+use Rattle.vault_http.specs.Exchanges.{Pair, Exchange, reply_to, text_at, texts, vault_after}
 use Rattle.vault_http.specs.Outcomes.{StandsFor, outcome_text, reply_in}
 use Rattle.vault_http.specs.Passing.{Passage, AllAnswered, Answered, IsBefore, Keeps, Sends}
 use Rattle.vault_http.specs.declared.answer.Outcome.{Outcome}
@@ -31,24 +34,31 @@ pub when_ok : {T E : Type 0} (r : Result T E) (P : Type 0) → is_err r ≡ fals
 when_ok (Ok x) P e h = h
 when_ok (Err y) P e h = absurd (cc)
 
+-- a text of the same status and the same body
+pub written_text : (s t : ℕ) (m : Option (List ℕ)) (xs ys : List ℕ) (b : Bool) → s ≡ t → xs ≡ ys
+    → answer_bytes s m xs b ≡ answer_bytes t m ys b
+written_text s t m xs ys b code body = ap (λ n. answer_bytes n m xs b) code ∙ ap (λ zs. answer_bytes t m zs b) body
+
 -- the text of a refusal of the message
-pub refused_text : (p : Parts) (n : ℕ) (m : Option (List ℕ)) (b : Bool) (o : Outcome) → o ≡ Refused n
-    → m ≡ methods_with p (Err n) → b ≡ closes p
+pub refused_text : (p : Parts) (e : HttpFault) (n : ℕ) (m : Option (List ℕ)) (b : Bool) (o : Outcome) → o ≡ Refused e
+    → n ≡ number_of e → m ≡ allow_of e → b ≡ closes p
     → answer_bytes (status_of (reply.Refused n)) m (body_text (reply.Refused n)) b ≡ outcome_text p o
 unfolding outcome_text
-refused_text p n m b o is e c =
-    ap (λ x. answer_bytes (status_of (reply.Refused n)) x (body_text (reply.Refused n)) b) e
-    ∙ ap (λ x. answer_bytes (status_of (reply.Refused n)) (methods_with p (Err n)) (body_text (reply.Refused n)) x) c
+refused_text p e n m b o is number allow close =
+    ap (λ x. answer_bytes (status_of (reply.Refused x)) m (body_text (reply.Refused x)) b) number
+    ∙ ap (λ x. answer_bytes (status_of (reply.Refused (number_of e))) x (body_text (reply.Refused (number_of e))) b) allow
+    ∙ ap (λ x. answer_bytes (status_of (reply.Refused (number_of e))) (allow_of e) (body_text (reply.Refused (number_of e))) x) close
     ∙ ap (outcome_text p) (sym is)
 
-of_wanted : (V : Content) (p : Parts) (o : Outcome) (w : Wanted) → StandsFor o w → reply_in o ≡ reply_to V w
+of_wanted : (V : Content) (p : Parts) (o : Outcome) (w : Wanted Command) → StandsFor p o w → reply_in o ≡ reply_to V w
     → outcome_text p o ≡ text_at V (record { parts = p; wanted = w })
 unfolding outcome_text text_at
 of_wanted V p (Replied r) (Ok c) stands e = ap (λ r. answer_bytes (status_of r) None (body_text r) (closes p)) e
 of_wanted V p (Replied r) (Err n) stands e = absurd stands
 of_wanted V p (Refused k) (Ok c) stands e = absurd stands
 of_wanted V p (Refused k) (Err n) stands e =
-    ap (λ i. answer_bytes (status_of (reply.Refused i)) (methods_with p (Err i)) (body_text (reply.Refused i)) (closes p)) stands
+    ap (λ i. answer_bytes (status_of (reply.Refused i)) (allow_of k) (body_text (reply.Refused i)) (closes p)) stands.0
+    ∙ ap (λ m. answer_bytes (status_of (reply.Refused n)) m (body_text (reply.Refused n)) (closes p)) stands.1
 
 -- the text of the vault's reply
 pub replied_text : (p : Parts) (r : Reply) (b : Bool) (o : Outcome) → o ≡ Replied r → b ≡ closes p
@@ -57,7 +67,7 @@ unfolding outcome_text
 replied_text p r b o is c = ap (λ x. answer_bytes (status_of r) None (body_text r) x) c ∙ ap (outcome_text p) (sym is)
 
 -- the text of what a message comes to answers it
-pub outcome_text-is : (V : Content) (p : Parts) (o : Outcome) (x : Exchange) → x.parts ≡ p → StandsFor o x.wanted
+pub outcome_text-is : (V : Content) (p : Parts) (o : Outcome) (x : Exchange) → x.parts ≡ p → StandsFor x.parts o x.wanted
     → reply_in o ≡ reply_to V x.wanted → outcome_text p o ≡ text_at V x
 outcome_text-is V p o x same stands e =
     subst (λ q. outcome_text q o ≡ text_at V x) same (of_wanted V x.parts o x.wanted stands e)

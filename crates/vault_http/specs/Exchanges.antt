@@ -14,7 +14,7 @@ use Rattle.vault_wire.specs.Parts.{Parts, parts_of, closes}
 use Rattle.vault_wire.specs.declared.fault.WireFault.{WireFault}
 use Rattle.vault_routes.specs.Reply.{body_text, refusal_text}
 use Rattle.vault_routes.specs.Status.{status_for, status_of}
-use Rattle.vault_routes.specs.Route.{methods_of, route_of}
+use Rattle.vault_routes.specs.Route.{methods_at}
 use Rattle.vault_routes.specs.Wanted.{Wanted, Wants}
 
 -- a moment, and drawn digits
@@ -24,7 +24,7 @@ Pair = ℕ × List ℕ
 -- a message by its parts, and what it asks for: a command, or the number of a refusal
 pub record Exchange : Type 0 where
   pub parts : Parts
-  pub wanted : Wanted
+  pub wanted : Wanted Command
 
 -- the message is asked with this pair
 abbrev pub Asks : Parts → Pair → Exchange → Type 0
@@ -39,7 +39,7 @@ AskFirst [] (pair ∷ pairs) (x ∷ xs) = ⊥
 AskFirst (p ∷ ps) (pair ∷ pairs) (x ∷ xs) = Asks p pair x × AskFirst ps pairs xs
 
 -- the command that is asked for, where there is one
-abbrev pub commands_in : Wanted → List Command
+abbrev pub commands_in : Wanted Command → List Command
 commands_in (Ok c) = c ∷ []
 commands_in (Err n) = []
 
@@ -52,14 +52,14 @@ unfoldable pub vault_after : Content → List Exchange → Content
 vault_after V xs = run (commands_of xs) V
 
 -- a command is answered by the vault, and a refusal of the message by its number
-abbrev pub reply_to : Content → Wanted → Reply
+abbrev pub reply_to : Content → Wanted Command → Reply
 reply_to V (Ok c) = reply V c
 reply_to V (Err n) = Refused n
 
 -- the methods that a message's target takes, which go with the refusal of another method
-abbrev pub methods_with : Parts → Wanted → Option (List ℕ)
+abbrev pub methods_with : Parts → Wanted Command → Option (List ℕ)
 methods_with p (Ok c) = None
-methods_with p (Err n) = if n == 57 then option_map methods_of (route_of p.target) else None
+methods_with p (Err n) = if n == 57 then methods_at p.target else None
 
 -- the text that answers a message
 unfoldable pub text_at : Content → Exchange → List ℕ

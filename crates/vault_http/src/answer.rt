@@ -7,7 +7,7 @@ ghost use Rattle.vault_wire.specs.Parts.{closes};
 ghost use Rattle.vault_wire.specs.Watching.{is_stopped};
 ghost use Rattle.vault_routes.specs.Reply.{body_text};
 ghost use Rattle.vault_routes.specs.Status.{status_of as code_of};
-ghost use Rattle.vault_http.specs.Exchanges.{Asks, Exchange, methods_with, reply_to, vault_after};
+ghost use Rattle.vault_http.specs.Exchanges.{Asks, Exchange, reply_to, vault_after};
 ghost use Rattle.vault_http.specs.Outcomes.{StandsFor, outcome_text, reply_in};
 ghost use Rattle.vault_http.specs.Faults.{Tells, failures};
 ghost use Rattle.vault_http.specs.Passing.{AllAnswered, Passage, Stops, passing};
@@ -19,10 +19,11 @@ use vault_core::moment::Moment;
 use vault_core::reply::Reply;
 use vault_core::source::Source;
 use vault_pan::draw::Digits;
+use vault_routes::fault::HttpFault;
 use vault_routes::reply::body_of;
 use vault_routes::route::Routes;
 use vault_routes::status::status_of;
-use vault_routes::wanted::{Unwanted, command_of};
+use vault_routes::wanted::command_of;
 use vault_store::tables::Tables;
 use vault_store::vault::{Fault, Vault};
 use vault_wire::answer::answer_text;
@@ -35,21 +36,8 @@ use vault_wire::watched::Watched;
 enum Outcome {
     /// The vault's reply to its command.
     Replied(Reply),
-    /// The number by which the message itself is refused.
-    Refused(u8),
-}
-
-/// The methods that a message's target takes, with the refusal of another method.
-fn methods(routes: &Routes, message: &Message, refusal: u8) -> Option<&'static str>
-    ensures { option_map (λ s. s.now) result ≡ methods_with message.now (Err refusal) }
-{
-    if refusal != 57 {
-        return None;
-    }
-    match routes.find(message.target()) {
-        Some(route) => Some(route.methods()),
-        None => None,
-    }
+    /// The message itself is refused.
+    Refused(HttpFault),
 }
 
 /// Decides what a message asks for, after what it changes was written.
@@ -61,7 +49,8 @@ fn decide<T: Tables>(
     now: Moment,
     digits: Digits,
 ) -> Result<Outcome, ServeFault>
-    ensures ok { IfOk result (λ outcome. (x : Exchange) × Asks message.now (now, digits) x × StandsFor outcome x.wanted
+    ensures ok { IfOk result (λ outcome. (x : Exchange) × Asks message.now (now, digits) x
+        × StandsFor x.parts outcome x.wanted
         × (T.is_honest (tables_of vault.new) → (V : Content) → Contains T.holds vault.old V
         → (reply_in outcome ≡ reply_to V x.wanted) × Contains T.holds vault.new (vault_after V (x ∷ [])))) }
     ensures memory { result ≡ Err ServeFault.Memory
@@ -70,7 +59,8 @@ fn decide<T: Tables>(
         × (T.is_honest (tables_of vault.new) → (V : Content) → Contains T.holds vault.old V
         → T.leaves (tables_of vault.new) V (vault_after V (x ∷ []))) }
     ensures only { IfErr result (λ e. (e ≡ ServeFault.Memory) ⊎ (e ≡ ServeFault.Store)) }
-    ensures told { Tells result (failures false false false (is_broken vault.old)) (failures false false false (is_broken vault.new)) }
+    ensures told { Tells result
+        (failures false false false (is_broken vault.old)) (failures false false false (is_broken vault.new)) }
     ensures honest { T.is_honest (tables_of vault.new) → T.is_honest (tables_of vault.old) }
 {
     match command_of(alloc, routes, message, now, digits) {
@@ -80,8 +70,10 @@ fn decide<T: Tables>(
             Err(Fault::Store) => Err(ServeFault::Store),
             Err(Fault::Reopen) => Err(ServeFault::Store),
         },
-        Err(Unwanted::Refused(number)) => Ok(Outcome::Refused(number)),
-        Err(Unwanted::Memory) => Err(ServeFault::Memory),
+        Err(fault) => match fault {
+            HttpFault::Memory => Err(ServeFault::Memory),
+            _ => Ok(Outcome::Refused(fault)),
+        },
     }
 }
 
@@ -96,18 +88,18 @@ fn written(
         IfOk result (λ out. out.items ≡ answer_bytes (code_of reply.now) methods (body_text reply.now) closes) }
 {
     let body = body_of(alloc, reply)?;
-    answer_text(alloc, status_of(reply).as_u16(), allow, &body, closes)
+    answer_text(alloc, status_of(reply), allow, &body, closes)
 }
 
 /// The text that answers a message.
-fn text(alloc: Global, routes: &Routes, message: &Message, outcome: Outcome) -> Result<Vec<u8>, AllocError>
+fn text(alloc: Global, message: &Message, outcome: Outcome) -> Result<Vec<u8>, AllocError>
     ensures { IfOk result (λ out. out.items ≡ outcome_text message.now outcome) }
 {
     match outcome {
         Outcome::Replied(reply) => written(alloc, &reply, None, message.closes()),
-        Outcome::Refused(number) => {
-            let allow = methods(routes, message, number);
-            written(alloc, &Reply::Refused(number), allow, message.closes())
+        Outcome::Refused(fault) => {
+            let reply = Reply::Refused(fault.number());
+            written(alloc, &reply, fault.allow(), message.closes())
         }
     }
 }
@@ -137,7 +129,7 @@ pub(crate) fn answer_one<W: Write, T: Tables, S: Source>(
         Ok(outcome) => outcome,
         Err(fault) => return Err(fault),
     };
-    let Ok(text) = text(alloc, routes, message, outcome) else {
+    let Ok(text) = text(alloc, message, outcome) else {
         return Err(ServeFault::Memory);
     };
     if send(writer, &text).is_err() {

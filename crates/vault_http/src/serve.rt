@@ -68,7 +68,7 @@ fn fault_answer(alloc: Global, fault: WireFault) -> Result<Vec<u8>, AllocError>
 {
     let number = fault.number();
     let body = refusal_text(alloc, number)?;
-    answer_text(alloc, status_for(number).as_u16(), None, &body, true)
+    answer_text(alloc, status_for(number), None, &body, true)
 }
 
 /// Answers a fault of the bytes.

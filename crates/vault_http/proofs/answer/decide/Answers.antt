@@ -1,6 +1,7 @@
 use Rattle.std.proofs.Common.{Ok, Err, refl, sym, subst}
 use Rattle.vault_core.specs.Vault.{Vault as Content}
 use Rattle.vault_store.specs.Applied.{tables_of}
+use Rattle.vault_routes.specs.Faults.{number_of}
 use Rattle.vault_http.specs.Exchanges.{vault_after}
 use Rattle.vault_http.proofs.answer.decide.Goals as goal
 
@@ -33,11 +34,11 @@ returns-in-Err-Reopen-clause-store g c = λ same. (
       g.met.T.Tables.widened (tables_of c.apply.new.self) V _ (g.met.T.Tables.settled (tables_of c.apply.new.self) V now h),
 )
 
-pub returns-in-Err-Refused-clause-ok : goal.returns-in-Err-Refused-clause-ok
+pub returns-in_default-clause-ok : goal.returns-in_default-clause-ok
 unfolding vault_after
-returns-in-Err-Refused-clause-ok g c = (
-  record { parts = c.args.message.now; wanted = Err c.in-Err-Refused.number },
-  (refl, rw c.in-Err-Refused.field-0-is at c.in-Err-Refused.ensures.wanted),
-  refl,
+returns-in_default-clause-ok g c = (
+  record { parts = c.args.message.now; wanted = Err (number_of c.in-Err.fault) },
+  (refl, c.in-Err.ensures.wanted c.in_default.not-Memory),
+  (refl, c.in-Err.ensures.allow),
   λ h V held. (refl, held),
 )

@@ -9,7 +9,6 @@ returns-in-Replied c =
 
 pub returns-in-Refused : goal.returns-in-Refused
 returns-in-Refused c =
-    let number = c.in-Refused.number in
-    let same = refused_text c.args.message.now number _ c.closes-in-Refused.result c.args.outcome c.in-Refused.is
-        c.methods-allow.ensures c.closes-in-Refused.ensures in
+    let same = refused_text c.args.message.now c.in-Refused.fault c.number.result _ c.closes-in-Refused.result c.args.outcome
+        c.in-Refused.is c.number.ensures c.allow.ensures c.closes-in-Refused.ensures in
     ok_as c.written-in-Refused.result (λ out. out.items) _ _ same c.written-in-Refused.ensures
