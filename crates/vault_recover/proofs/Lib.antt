@@ -5,6 +5,7 @@ pub mod Decoded
 pub mod FromStands
 pub mod Holders
 pub mod Judged
+pub mod LeftBy
 pub mod Once
 pub mod Opening
 pub mod Reopened

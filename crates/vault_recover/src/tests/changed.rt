@@ -1,11 +1,9 @@
 //! Files that were changed by statements of SQL: the check and the open refuse both, with the same number.
-use super::files::{closed, connected, ended, vault_in};
+use super::files::{asked_of, closed, connected, ended, refusal};
 use crate::check::check;
-use crate::fault::OpenFault;
-use sqlite::Files;
+use sqlite::{Alter, Connection, Files};
 use sqlite_disk::Memory;
 use std::alloc::Global;
-use std::mem::forget;
 use std::test::Fail;
 
 /// A single-use token of one merchant.
@@ -32,14 +30,9 @@ const CASES: [(&str, &str); 13] = [
     ("CREATE TABLE notes (line TEXT)", "30 0"),
 ];
 
-/// A refusal in words.
-pub fn refusal(alloc: Global, fault: OpenFault) -> Result<String, Fail> {
-    let number = fault.number();
-    Ok(match fault {
-        OpenFault::WrongSchema(version) => format!(in alloc; "{number} {version}")?,
-        OpenFault::Damaged(rule) => format!(in alloc; "{number} {rule}")?,
-        OpenFault::Memory | OpenFault::Store => format!(in alloc; "{number}")?,
-    })
+/// Runs statements of SQL, and tells whether all of them could be run.
+fn is_run<S: Alter>(conn: &mut Connection<S>, sql: &str) -> bool {
+    conn.execute_batch(sql).is_ok()
 }
 
 /// The files after statements of SQL were run in them.
@@ -47,41 +40,33 @@ pub fn changed(alloc: Global, files: Files<Memory>, sql: &str) -> Result<Files<M
     let Ok(mut conn) = connected(alloc, files) else {
         return Err("not connected")?;
     };
-    if conn.execute_batch(sql).is_err() {
-        forget(conn);
+    let is_changed = is_run(&mut conn, sql);
+    let files = ended(conn);
+    if !is_changed {
         return Err("not changed")?;
     }
-    Ok(ended(conn))
+    Ok(files)
 }
 
-/// How the check refuses files, and the files again.
+/// What the check says in words: the sizes of a sound vault, or how it refuses.
+fn verdict<S: Alter>(alloc: Global, conn: &mut Connection<S>) -> Result<String, Fail> {
+    match check(alloc, conn) {
+        Ok(sizes) => {
+            let (merchants, entries, records) = (sizes.merchants, sizes.entries, sizes.records);
+            Ok(format!(in alloc; "sound {merchants} {entries} {records}")?)
+        }
+        Err(fault) => refusal(alloc, fault),
+    }
+}
+
+/// What the check says of files, and the files again.
 pub fn checked(alloc: Global, files: Files<Memory>) -> Result<(String, Files<Memory>), Fail> {
     let Ok(mut conn) = connected(alloc, files) else {
         return Err("not connected")?;
     };
-    let told = match check(alloc, &mut conn) {
-        Ok(sizes) => {
-            let (merchants, entries, records) = (sizes.merchants, sizes.entries, sizes.records);
-            format!(in alloc; "sound {merchants} {entries} {records}")
-        }
-        Err(fault) => {
-            let files = ended(conn);
-            return Ok((refusal(alloc, fault)?, files));
-        }
-    };
+    let told = verdict(alloc, &mut conn);
     let files = ended(conn);
     Ok((told?, files))
-}
-
-/// How the open refuses files; nothing where it doesn't.
-fn opened(alloc: Global, files: Files<Memory>) -> Result<String, Fail> {
-    match vault_in(alloc, files) {
-        Ok(vault) => {
-            forget(vault.into_tables().into_connection());
-            Ok(String::new(alloc))
-        }
-        Err((fault, _)) => refusal(alloc, fault),
-    }
 }
 
 #[test]
@@ -91,7 +76,7 @@ fn a_changed_file_is_refused_by_its_least_broken_rule(rt: HostRuntime) -> Result
         let files = changed(alloc, closed(alloc, VAULT)?, sql)?;
         let (told, files) = checked(alloc, files)?;
         assert!(rt; told.as_str() == wanted, "{sql}: checked {told}");
-        let told = opened(alloc, files)?;
+        let (told, _) = asked_of(alloc, files, "")?;
         assert!(rt; told.as_str() == wanted, "{sql}: opened {told}");
     }
     Ok(())

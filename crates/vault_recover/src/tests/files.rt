@@ -1,19 +1,13 @@
-//! Databases in memory, opened and closed.
+//! Databases in memory: opened, asked and ended. A connection is ended here alone.
 ghost use Rattle.std.specs.Prelude.{◌≡◌, false, None, IfOk};
 
 use super::script::wrong;
 use crate::fault::OpenFault;
-use crate::open;
-use sqlite::{Connection, FileStore, Files, Options};
+use crate::open::open;
+use sqlite::{Alter, Connection, FileStore, Files, Options};
 use sqlite_disk::{Disk, Memory};
 use std::alloc::Global;
-use std::mem::forget;
 use std::test::Fail;
-use vault_sql::tables::SqlTables;
-use vault_store::vault::Vault;
-
-/// A vault over files in memory.
-pub type FileVault = Vault<SqlTables<FileStore<Memory>>>;
 
 /// A connection to the files, or the files again.
 pub fn connected<D: Disk + Drop>(
@@ -33,26 +27,64 @@ pub fn connected<D: Disk + Drop>(
 }
 
 /// The files that a connection ends with.
-pub fn ended(conn: Connection<FileStore<Memory>>) -> Files<Memory> {
+pub fn ended<D: Disk + Drop>(conn: Connection<FileStore<D>>) -> Files<D> {
     match conn.close_files() {
         Ok(files) => files,
         Err((_, store)) => store.close(),
     }
 }
 
-/// The vault in files, or the refusal and the files again.
-pub fn vault_in(
+/// A refusal in words.
+pub fn refusal(alloc: Global, fault: OpenFault) -> Result<String, Fail> {
+    let number = fault.number();
+    Ok(match fault {
+        OpenFault::WrongSchema(version) => format!(in alloc; "{number} {version}")?,
+        OpenFault::Damaged(rule) => format!(in alloc; "{number} {rule}")?,
+        OpenFault::Memory | OpenFault::Store => format!(in alloc; "{number}")?,
+    })
+}
+
+/// Asks lines of the vault that a connection opens. It tells how the open refuses it, or else the first line
+/// that is answered otherwise, and gives the connection again.
+fn asked_over<S: Alter + Drop>(
     alloc: Global,
-    files: Files<Memory>,
-) -> Result<FileVault, (OpenFault, Files<Memory>)> {
+    conn: Connection<S>,
+    lines: &str,
+) -> (Result<String, Fail>, Connection<S>)
+    requires idle { conn.in_transaction ≡ false }
+    requires unlimited { conn.step_limit ≡ None }
+{
+    match open(alloc, conn) {
+        Ok(mut vault) => {
+            let told = wrong(alloc, &mut vault, lines);
+            (told, vault.into_tables().into_connection())
+        }
+        Err((fault, conn)) => (refusal(alloc, fault), conn),
+    }
+}
+
+/// The same of the vault in files, which are given again.
+pub fn asked_in<D: Disk + Drop>(
+    alloc: Global,
+    files: Files<D>,
+    lines: &str,
+) -> (Result<String, Fail>, Files<D>) {
     let conn = match connected(alloc, files) {
         Ok(conn) => conn,
-        Err(files) => return Err((OpenFault::Store, files)),
+        Err(files) => return (refusal(alloc, OpenFault::Store), files),
     };
-    match open::open(alloc, conn) {
-        Ok(vault) => Ok(vault),
-        Err((fault, conn)) => Err((fault, ended(conn))),
-    }
+    let (told, conn) = asked_over(alloc, conn, lines);
+    (told, ended(conn))
+}
+
+/// The same over files that no call fails, where a line that stops the vault ends the test.
+pub fn asked_of(
+    alloc: Global,
+    files: Files<Memory>,
+    lines: &str,
+) -> Result<(String, Files<Memory>), Fail> {
+    let (told, files) = asked_in(alloc, files, lines);
+    Ok((told?, files))
 }
 
 /// Files without a byte.
@@ -63,27 +95,8 @@ pub fn no_files(alloc: Global) -> Files<Memory> {
     }
 }
 
-/// A vault over a new database.
-pub fn database(alloc: Global) -> Result<FileVault, Fail> {
-    match vault_in(alloc, no_files(alloc)) {
-        Ok(vault) => Ok(vault),
-        Err(_) => Err("no vault")?,
-    }
-}
-
-/// The files of a vault that is closed.
-pub fn files_of(vault: FileVault) -> Files<Memory> {
-    ended(vault.into_tables().into_connection())
-}
-
 /// The files of a database in which these lines were asked.
 pub fn closed(alloc: Global, lines: &str) -> Result<Files<Memory>, Fail> {
-    let mut vault = database(alloc)?;
-    match wrong(alloc, &mut vault, lines) {
-        Ok(_) => Ok(files_of(vault)),
-        Err(fail) => {
-            forget(vault.into_tables().into_connection());
-            Err(fail)
-        }
-    }
+    let (_told, files) = asked_of(alloc, no_files(alloc), lines)?;
+    Ok(files)
 }

@@ -1,32 +1,7 @@
 //! Files without a table, files of another program, and files that are opened again.
 use super::changed::{changed, checked};
-use super::files::{closed, files_of, no_files, vault_in};
-use super::script::wrong;
-use crate::fault::OpenFault;
-use sqlite::Files;
-use sqlite_disk::Memory;
-use std::alloc::Global;
-use std::mem::forget;
+use super::files::{asked_of, closed, no_files};
 use std::test::Fail;
-
-/// Asks these lines of the vault in files, and tells the first one that is answered otherwise.
-fn asked_of(
-    alloc: Global,
-    files: Files<Memory>,
-    lines: &str,
-) -> Result<(String, Files<Memory>), Fail> {
-    let mut vault = match vault_in(alloc, files) {
-        Ok(vault) => vault,
-        Err(_) => return Err("refused")?,
-    };
-    match wrong(alloc, &mut vault, lines) {
-        Ok(told) => Ok((told, files_of(vault))),
-        Err(fail) => {
-            forget(vault.into_tables().into_connection());
-            Err(fail)
-        }
-    }
-}
 
 #[test]
 fn an_empty_file_is_the_empty_vault(rt: HostRuntime) -> Result<(), Fail> {
@@ -88,14 +63,8 @@ fn another_programs_file_is_refused_and_not_written(rt: HostRuntime) -> Result<(
     let files = changed(alloc, no_files(alloc), "CREATE TABLE notes (line TEXT)")?;
     let (told, files) = checked(alloc, files)?;
     assert_eq!(rt; told.as_str(), "33");
-    let (fault, files) = match vault_in(alloc, files) {
-        Ok(vault) => {
-            forget(vault.into_tables().into_connection());
-            return Err("opened")?;
-        }
-        Err(refused) => refused,
-    };
-    assert_eq!(rt; fault, OpenFault::Store);
+    let (told, files) = asked_of(alloc, files, "")?;
+    assert_eq!(rt; told.as_str(), "33");
     let files = changed(alloc, files, "DROP TABLE notes")?;
     let (told, _) = checked(alloc, files)?;
     assert_eq!(rt; told.as_str(), "sound 0 0 0");

@@ -1,10 +1,12 @@
 //! A last command, and what is found of it when the files are opened again.
+ghost use Rattle.std.specs.Prelude.{◌≡◌, false, None};
+
 use super::changed::checked;
 use super::files::closed;
 use super::script::asked;
 use crate::last::apply_last;
 use crate::reopen::{close, open_files};
-use sqlite::Files;
+use sqlite::{Alter, Connection, Files};
 use sqlite_disk::Memory;
 use std::alloc::Global;
 use std::test::Fail;
@@ -12,6 +14,14 @@ use vault_core::command::Command;
 use vault_core::reply::Reply;
 use vault_sql::tables::SqlTables;
 use vault_store::vault::Vault;
+
+/// A vault over a connection to a vault's database.
+fn vault_over<S: Alter>(conn: Connection<S>) -> Vault<SqlTables<S>>
+    requires idle { conn.in_transaction ≡ false }
+    requires unlimited { conn.step_limit ≡ None }
+{
+    Vault::new(SqlTables::on(conn))
+}
 
 /// Answers one command over the files, and tells whether it was a token, with the files again.
 fn answered(
@@ -25,7 +35,7 @@ fn answered(
     let Some(conn) = open_files(alloc, files) else {
         return Err("not opened")?;
     };
-    let (answer, store) = apply_last(Vault::new(SqlTables::on(conn)), request);
+    let (answer, store) = apply_last(vault_over(conn), request);
     let is_token = match answer {
         Ok(Reply::Token { .. }) => true,
         _ => false,

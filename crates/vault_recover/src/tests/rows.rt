@@ -1,8 +1,7 @@
 //! Worked cases, over ordered maps and over a database: both give the same answers, none of which is a fault.
-use super::files::database;
+use super::files::{asked_of, no_files};
 use super::script::wrong;
 use std::alloc::Global;
-use std::mem::forget;
 use std::test::Fail;
 use vault_store::memory::MemTables;
 use vault_store::vault::Vault;
@@ -98,10 +97,8 @@ fn over_maps(alloc: Global, lines: &str) -> Result<String, Fail> {
 
 /// The first line that a database answers otherwise.
 fn over_database(alloc: Global, lines: &str) -> Result<String, Fail> {
-    let mut vault = database(alloc)?;
-    let told = wrong(alloc, &mut vault, lines);
-    forget(vault.into_tables().into_connection());
-    told
+    let (told, _) = asked_of(alloc, no_files(alloc), lines)?;
+    Ok(told)
 }
 
 #[test]

@@ -193,6 +193,9 @@ pub fn told(alloc: Global, reply: &Reply) -> Result<String, Fail> {
     })
 }
 
+/// A reply, or the fault that stopped a command.
+type Answer = Result<Reply, Fault>;
+
 /// All rights.
 const RIGHTS: [Right; 6] = [
     Right::Tokenize,
@@ -204,27 +207,22 @@ const RIGHTS: [Right; 6] = [
 ];
 
 /// What a vault answers to a command.
-fn applied<T: Tables>(vault: &mut Vault<T>, command: &Command) -> Result<Reply, Fail> {
+fn applied<T: Tables>(vault: &mut Vault<T>, command: &Command) -> Result<Answer, Fail> {
     if !command.proper() {
         return Err("a life out of its range")?;
     }
-    match vault.apply(command) {
-        Ok(reply) => Ok(reply),
-        Err(Fault::Memory) => Err("stopped 20")?,
-        Err(Fault::Store) => Err("stopped 21")?,
-        Err(Fault::Reopen) => Err("stopped 22")?,
-    }
+    Ok(vault.apply(command))
 }
 
 /// `open CALLER MERCHANT SINGLE MULTI NOW`: the merchant is set, and the caller has all rights there.
-fn open<T: Tables>(vault: &mut Vault<T>, line: &str) -> Result<Reply, Fail> {
+fn open<T: Tables>(vault: &mut Vault<T>, line: &str) -> Result<Answer, Fail> {
     let set = Command::SetMerchant {
         merchant: merchant(line, 2)?,
         single_life: number(line, 3)?,
         multi_life: number(line, 4)?,
         now: moment(line, 5)?,
     };
-    let mut reply = applied(vault, &set)?;
+    let mut answer = applied(vault, &set)?;
     for right in RIGHTS {
         let grant = Command::Grant {
             caller: caller(line, 1)?,
@@ -232,17 +230,25 @@ fn open<T: Tables>(vault: &mut Vault<T>, line: &str) -> Result<Reply, Fail> {
             right,
             now: moment(line, 5)?,
         };
-        reply = applied(vault, &grant)?;
+        answer = applied(vault, &grant)?;
     }
-    Ok(reply)
+    Ok(answer)
 }
 
-/// What a vault answers to a line, in words. A fault 20 to 22 ends the case.
+/// What a vault answers to a line, in words.
 fn answer<T: Tables>(alloc: Global, vault: &mut Vault<T>, line: &str) -> Result<String, Fail> {
-    if line.starts_with("open ") {
-        return told(alloc, &open(vault, line)?);
+    let answer = if line.starts_with("open ") {
+        open(vault, line)?
+    } else {
+        applied(vault, &asked(line)?)?
+    };
+    match answer {
+        Ok(reply) => told(alloc, &reply),
+        Err(fault) => {
+            let number = fault.number();
+            Ok(format!(in alloc; "stopped {number}")?)
+        }
     }
-    told(alloc, &applied(vault, &asked(line)?)?)
 }
 
 /// Runs the lines of a case, and tells the first one whose answer isn't the one that stands there.

@@ -1,22 +1,16 @@
 //! A Tokenize that is stopped at each call to the files in turn leaves its entry, its record and its count, or
 //! none of them.
-use super::files::{closed, connected};
-use super::script::asked;
+use super::files::{asked_in, closed, connected, ended};
 use crate::check::check;
 use sqlite::{Alter, Connection, Error, Files};
 use sqlite_disk::{Crash, Disk, Fuse, Memory};
 use std::alloc::Global;
-use std::mem::forget;
 use std::process::Abort;
 use std::test::Fail;
-use vault_core::command::Command;
-use vault_core::reply::Reply;
-use vault_sql::tables::SqlTables;
-use vault_store::tables::Tables;
-use vault_store::vault::Vault;
 
 /// The request that is stopped.
-const REQUEST: &str = "tokenize till-1 shop1 7 single 4111111111111111 0 1000";
+const REQUEST: &str =
+    "tokenize till-1 shop1 7 single 4111111111111111 0 1000 = 0000000000001111 1060";
 
 /// More calls to a file than the request makes.
 const MOST_CALLS: u64 = 1000;
@@ -38,83 +32,59 @@ fn copy(alloc: Global, bytes: &[u8]) -> Result<Memory, Fail> {
     Ok(file)
 }
 
-/// Whether the request is answered with a token.
-fn is_given<T: Tables>(vault: &mut Vault<T>, request: &Command) -> bool {
-    if !request.proper() {
-        return false;
-    }
-    match vault.apply(request) {
-        Ok(Reply::Token { .. }) => true,
-        _ => false,
-    }
-}
-
-/// Sends the request, and tells whether it was answered with a token, and what is left of the files.
-fn sent<D: Disk + Drop>(alloc: Global, files: Files<D>, request: &Command) -> (bool, Files<D>) {
-    let conn = match connected(alloc, files) {
-        Ok(conn) => conn,
-        Err(files) => return (false, files),
-    };
-    let mut vault = Vault::new(SqlTables::on(conn));
-    let answered = is_given(&mut vault, request);
-    match vault.into_tables().into_connection().close_files() {
-        Ok(files) => (answered, files),
-        Err((_, store)) => (answered, store.close()),
-    }
-}
-
-/// What was left after the stop of a request.
+/// How many rows a database holds after the stop of a request.
 #[derive(Clone, Copy)]
-struct Left {
-    answered: bool,
+struct Found {
     entries: i64,
     records: i64,
     made: i64,
 }
 
-/// The request is sent over files of which the log or the database stops after some calls.
-fn stopped(
-    alloc: Global,
-    base: &Files<Memory>,
-    request: &Command,
-    log: u64,
-    db: u64,
-) -> Result<Left, Fail> {
+/// What a sound database holds.
+fn held<S: Alter>(alloc: Global, conn: &mut Connection<S>) -> Result<Found, Fail> {
+    if check(alloc, conn).is_err() {
+        return Err("refused after the stop")?;
+    }
+    Ok(Found {
+        entries: number(conn, "SELECT count(*) FROM entries")?,
+        records: number(conn, "SELECT count(*) FROM records")?,
+        made: number(
+            conn,
+            "SELECT count(*) FROM counts WHERE kind = 1 AND total = 1",
+        )?,
+    })
+}
+
+/// What files hold when they are opened again.
+fn held_in<D: Disk + Drop>(alloc: Global, files: Files<D>) -> Result<Found, Fail> {
+    let Ok(mut conn) = connected(alloc, files) else {
+        return Err("not opened again")?;
+    };
+    let found = held(alloc, &mut conn);
+    let _files = ended(conn);
+    found
+}
+
+/// Opens the vault and sends the request, over files of which the log or the database stops after some calls.
+/// It tells whether the request was answered with its token, and what is held after a crash.
+fn stopped(alloc: Global, base: &Files<Memory>, log: u64, db: u64) -> Result<(bool, Found), Fail> {
     let files = Files {
         log: Fuse::new(copy(alloc, base.log.bytes())?, log),
         db: Fuse::new(copy(alloc, base.db.bytes())?, db),
     };
-    let (answered, mut files) = sent(alloc, files, request);
+    let (told, mut files) = asked_in(alloc, files, REQUEST);
     files.log.crash();
     files.db.crash();
-    let Ok(mut conn) = connected(alloc, files) else {
-        return Err("not opened again")?;
-    };
-    if check(alloc, &mut conn).is_err() {
-        forget(conn);
-        return Err("refused after the stop")?;
-    }
-    let entries = number(&mut conn, "SELECT count(*) FROM entries")?;
-    let records = number(&mut conn, "SELECT count(*) FROM records")?;
-    let made = number(
-        &mut conn,
-        "SELECT count(*) FROM counts WHERE kind = 1 AND total = 1",
-    )?;
-    Ok(Left {
-        answered,
-        entries,
-        records,
-        made,
-    })
+    let is_answered = told?.as_str() == "";
+    Ok((is_answered, held_in(alloc, files)?))
 }
 
-/// Stops the request after no call to a file, after one, after two and so on, until it is answered, and tells
-/// how many calls that took.
+/// Stops the open and the request after no call to a file, after one, after two and so on, until the request is
+/// answered, and tells how many calls that took.
 fn calls_until_answered(
     rt: &impl Abort,
     alloc: Global,
     base: &Files<Memory>,
-    request: &Command,
     is_log: bool,
 ) -> Result<u64, Fail> {
     for calls in 0..MOST_CALLS {
@@ -123,11 +93,11 @@ fn calls_until_answered(
         } else {
             (u64::MAX, calls)
         };
-        let left = stopped(alloc, base, request, log, db)?;
-        assert_eq!(rt; left.entries, left.records);
-        assert_eq!(rt; left.entries, left.made);
-        if left.answered {
-            assert_eq!(rt; left.entries, 1);
+        let (is_answered, held) = stopped(alloc, base, log, db)?;
+        assert_eq!(rt; held.entries, held.records);
+        assert_eq!(rt; held.entries, held.made);
+        if is_answered {
+            assert_eq!(rt; held.entries, 1);
             return Ok(calls);
         }
     }
@@ -137,10 +107,9 @@ fn calls_until_answered(
 #[test]
 fn a_request_that_is_stopped_is_there_whole_or_not_at_all(rt: HostRuntime) -> Result<(), Fail> {
     let alloc = rt.alloc();
-    let request = asked(REQUEST)?;
     let base = closed(alloc, "open till-1 shop1 60 0 1000 = done")?;
     for is_log in [true, false] {
-        let calls = calls_until_answered(&rt, alloc, &base, &request, is_log)?;
+        let calls = calls_until_answered(&rt, alloc, &base, is_log)?;
         assert!(rt; calls > 0, "no call was stopped");
         assert!(rt; calls < MOST_CALLS, "the request was never answered");
     }
