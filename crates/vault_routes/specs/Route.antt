@@ -36,13 +36,15 @@ target_at p t m = record { place = p; merchant = m; token = text_or_empty t }
 -- what a template names at a target
 abbrev pub target_by : RouteOf Place → List ℕ → Option Target
 target_by found target =
-    option_map (target_at found.value (parameter (codes "t") found target)) (parameter (codes "m") found target)
+    option_map (target_at found.value (parameter (codes "t") found target))
+    (parameter (codes "m") found target)
 
 -- the text has a question mark
 abbrev pub has_query : List ℕ → Bool
 has_query text = list_any (λ b. b == 63) text
 
--- what a target names: what the first template that `matchit` finds for it says; a target with `?` names nothing
+-- what a target names: what the first template that `matchit` finds for it says; a target with `?` names
+-- nothing
 abbrev pub route_of : List ℕ → Option Target
 route_of target =
     if has_query target then None
@@ -68,4 +70,5 @@ pub record IsTargetOf (w : Target) (target : List ℕ) : Type 0 where
 -- a list of bytes names exactly what it is the target of
 abbrev pub NamesItsTarget : Type 0
 NamesItsTarget =
-    (target : List ℕ) (w : Target) → All (λ b. b < 256) target → (route_of target ≡ Some w) ↔ IsTargetOf w target
+    (target : List ℕ) (w : Target) → All (λ b. b < 256) target
+    → (route_of target ≡ Some w) ↔ IsTargetOf w target

@@ -8,14 +8,9 @@ use Rattle.vault_core.specs.declared.reply.Reply.TheVariants as reply
 abbrev pub is_among : List ℕ → ℕ → Bool
 is_among ns n = list_any (λ k. n == k) ns
 
--- the status codes that the service answers with
-abbrev pub is_status : ℕ → Bool
-is_status =
-    is_among (200 ∷ 400 ∷ 403 ∷ 404 ∷ 405 ∷ 409 ∷ 410 ∷ 411 ∷ 413 ∷ 422 ∷ 431 ∷ 503 ∷ 507 ∷ [])
-
--- the status code of a refusal: Bad Request, Forbidden, Not Found, Method Not Allowed, Conflict, Gone, Length
--- Required, Payload Too Large, Unprocessable Entity, Request Header Fields Too Large, Service Unavailable, and
--- Insufficient Storage for every other number, of which 11 is the only one that a message is answered with
+-- the status code of a refusal: Bad Request, Forbidden, Not Found, Method Not Allowed, Conflict, Gone,
+-- Length Required, Payload Too Large, Unprocessable Entity, Request Header Fields Too Large, Service
+-- Unavailable, and Insufficient Storage for 11 and for each number that no message is answered with
 abbrev pub status_for : ℕ → ℕ
 status_for n =
     if is_among (1 ∷ 2 ∷ 3 ∷ 4 ∷ 5 ∷ 19 ∷ 50 ∷ 52 ∷ 58 ∷ 59 ∷ []) n then 400 else (

@@ -34,9 +34,17 @@ row_of place.Tokens =
 row_of place.Token =
     record { template = at_token []; get = Some (action.OnToken on.View); post = None }
 row_of place.Number =
-    record { template = at_token (text (codes "/number") ∷ []); get = None; post = Some (action.OnToken on.Detokenize) }
+    record {
+      template = at_token (text (codes "/number") ∷ []);
+      get = None;
+      post = Some (action.OnToken on.Detokenize);
+    }
 row_of place.Revoke =
-    record { template = at_token (text (codes "/revoke") ∷ []); get = None; post = Some (action.OnToken on.Revoke) }
+    record {
+      template = at_token (text (codes "/revoke") ∷ []);
+      get = None;
+      post = Some (action.OnToken on.Revoke);
+    }
 row_of place.Audit =
     record { template = at_merchant (text (codes "/audit") ∷ []); get = Some action.Audit; post = None }
 
@@ -76,7 +84,8 @@ methods_of p = allow_text (row_of p).get (row_of p).post
 -- what a method asks for in a row; methods are told apart by case (RFC 9110, section 9.1)
 abbrev pub action_in : Row → List ℕ → Option Action
 action_in row method =
-    if bytes_eq method (codes "GET") then row.get else (if bytes_eq method (codes "POST") then row.post else None)
+    if bytes_eq method (codes "GET") then row.get else (
+    if bytes_eq method (codes "POST") then row.post else None)
 
 -- what a method asks for at a place
 abbrev pub action_at : Place → List ℕ → Option Action

@@ -38,7 +38,8 @@ Must P n goes r = (P × goes r) ⊎ ((¬ P) × (r ≡ Err n))
 
 -- the rest goes on with a y of which P holds, or there is none and the refusal is n
 abbrev pub With : {X Y : Type 0} → (Y → Type 0) → ℕ → (Y → Wanted X → Type 0) → Wanted X → Type 0
-With {X} {Y} P n goes r = ((y : Y) × P y × goes y r) ⊎ (((y : Y) → ¬ P y) × (r ≡ Err n))
+With {X} {Y} P n goes r =
+    ((y : Y) × P y × goes y r) ⊎ (((y : Y) → ¬ P y) × (r ≡ Err n))
 
 -- one field has the caller's name, else 58; it and the merchant's text are names, else 4
 abbrev pub WantsAsker : {X : Type 0} → Parts → Bytes → ℕ → (Asker → Wanted X → Type 0) → Wanted X → Type 0
@@ -48,8 +49,8 @@ WantsAsker p m now goes =
     Must (IsName m) 4 (
     goes (record { caller = caller; merchant = m; now = now }))))
 
--- the body has the two texts, else 59; the number's text reads as digits of a card number, else 1, that pass the
--- check, else 2; the use's text is the word of a use, else 19
+-- the body has the two texts, else 59; the number's text reads as digits of a card number, else 1, that
+-- pass the check, else 2; the use's text is the word of a use, else 19
 abbrev pub WantsBody : {X : Type 0} → Bytes → ℕ → (Order → Wanted X → Type 0) → Wanted X → Type 0
 WantsBody body request goes =
     With (λ (texts : Bytes × Bytes). asked_in body ≡ Some texts) 59 (λ texts.

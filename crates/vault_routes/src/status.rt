@@ -1,7 +1,8 @@
 //! The status of an answer.
-ghost use Rattle.std.specs.Prelude.{◌≡◌, ◌↔◌, IsTrue};
+ghost use Rattle.std.specs.Prelude.{◌≡◌, ◌↔◌};
 ghost use Rattle.vault_core.specs.declared.reply.Reply.TheVariants.{Refused};
-ghost use Rattle.vault_routes.specs.Status.{is_status, status_for as code_for, status_of as code_of};
+ghost use Rattle.vault_routes.specs.Status.{status_for as code_for, status_of as code_of};
+ghost use Rattle.vault_wire.specs.Status.{IsStatus};
 
 use crate::refusal::{
     BAD_BODY, BAD_FIELDS, BAD_HEAD, BAD_LENGTH, BAD_METHOD, BODY_TOO_LARGE, HEAD_TOO_LARGE,
@@ -14,10 +15,11 @@ use vault_core::refusal::{
 use vault_core::reply::Reply;
 use vault_pan::refusal::{BAD_CHECK, BAD_NUMBER, BAD_TOKEN};
 
-/// The status of a refusal, by its number.
+/// The status of a refusal, by its number. A number that no message is answered with, as 18, which
+/// comes of no command that a message asks for, has 507.
 pub fn status_for(refusal: u8) -> u16
     ensures code { result ≡ code_for refusal }
-    ensures status { IsTrue (is_status result) }
+    ensures status { IsStatus result }
     ensures allow { (result ≡ 405) ↔ (refusal ≡ 57) }
 {
     match refusal {
@@ -41,7 +43,7 @@ pub fn status_for(refusal: u8) -> u16
 /// The status of a reply: 200 unless it is a refusal.
 pub fn status_of(reply: &Reply) -> u16
     ensures code { result ≡ code_of reply.now }
-    ensures status { IsTrue (is_status result) }
+    ensures status { IsStatus result }
     ensures allow { (result ≡ 405) ↔ (reply.now ≡ Refused 57) }
 {
     match *reply {

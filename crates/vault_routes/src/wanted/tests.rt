@@ -110,7 +110,7 @@ fn the_first_refusal_is_answered(rt: HostRuntime) -> Result<(), Fail> {
             3,
         ),
         (
-            b"POST /v1/merchants/shop1/tokens HTTP/1.1\r\nX-Vault-Caller: till-1\r\nX-Vault-Request: 07\r\n\r\n",
+            b"POST /v1/merchants/shop1/tokens HTTP/1.1\r\nX-Vault-Caller: a\r\nX-Vault-Request: 07\r\n\r\n",
             5,
         ),
     ];
@@ -140,8 +140,9 @@ fn a_body_is_read_in_order(rt: HostRuntime) -> Result<(), Fail> {
     ];
     for (body, number) in bodies {
         let size = body.len();
+        let fields = "X-Vault-Caller: till-1\r\nX-Vault-Request: 7\r\n";
         let head = format!(in rt.alloc();
-            "POST /v1/merchants/shop1/tokens HTTP/1.1\r\nX-Vault-Caller: till-1\r\nX-Vault-Request: 7\r\nContent-Length: {size}\r\n\r\n"
+            "POST /v1/merchants/shop1/tokens HTTP/1.1\r\n{fields}Content-Length: {size}\r\n\r\n"
         )?;
         let mut bytes = Vec::from_slice(rt.alloc(), head.as_bytes())?;
         bytes.extend_from_slice(body)?;
