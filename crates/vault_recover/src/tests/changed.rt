@@ -2,7 +2,7 @@
 use super::files::{asked_of, closed, connected, ended, refusal};
 use crate::check::check;
 use sqlite::{Alter, Connection, Files};
-use sqlite_disk::Memory;
+use sqlite_disk::Disk;
 use std::alloc::Global;
 use std::test::Fail;
 
@@ -36,7 +36,11 @@ fn is_run<S: Alter>(conn: &mut Connection<S>, sql: &str) -> bool {
 }
 
 /// The files after statements of SQL were run in them.
-pub fn changed(alloc: Global, files: Files<Memory>, sql: &str) -> Result<Files<Memory>, Fail> {
+pub fn changed<D: Disk + Drop>(
+    alloc: Global,
+    files: Files<D>,
+    sql: &str,
+) -> Result<Files<D>, Fail> {
     let Ok(mut conn) = connected(alloc, files) else {
         return Err("not connected")?;
     };
@@ -60,7 +64,7 @@ fn verdict<S: Alter>(alloc: Global, conn: &mut Connection<S>) -> Result<String, 
 }
 
 /// What the check says of files, and the files again.
-pub fn checked(alloc: Global, files: Files<Memory>) -> Result<(String, Files<Memory>), Fail> {
+pub fn checked<D: Disk + Drop>(alloc: Global, files: Files<D>) -> Result<(String, Files<D>), Fail> {
     let Ok(mut conn) = connected(alloc, files) else {
         return Err("not connected")?;
     };

@@ -7,7 +7,7 @@ use super::script::asked;
 use crate::last::apply_last;
 use crate::reopen::{close, open_files};
 use sqlite::{Alter, Connection, Files};
-use sqlite_disk::Memory;
+use sqlite_disk::Disk;
 use std::alloc::Global;
 use std::test::Fail;
 use vault_core::command::Command;
@@ -24,11 +24,11 @@ fn vault_over<S: Alter>(conn: Connection<S>) -> Vault<SqlTables<S>>
 }
 
 /// Answers one command over the files, and tells whether it was a token, with the files again.
-fn answered(
+fn answered<D: Disk + Drop>(
     alloc: Global,
-    files: Files<Memory>,
+    files: Files<D>,
     request: &Command,
-) -> Result<(bool, Files<Memory>), Fail> {
+) -> Result<(bool, Files<D>), Fail> {
     if !request.proper() {
         return Err("not proper")?;
     }
@@ -44,7 +44,7 @@ fn answered(
 }
 
 /// The files after they were opened and closed.
-fn passed(alloc: Global, files: Files<Memory>) -> Result<Files<Memory>, Fail> {
+fn passed<D: Disk + Drop>(alloc: Global, files: Files<D>) -> Result<Files<D>, Fail> {
     let Some(conn) = open_files(alloc, files) else {
         return Err("not opened")?;
     };
