@@ -1,14 +1,13 @@
 -- What the rows behind `/v1/merchants/` and a merchant's text find.
-use Rattle.std.proofs.Common.{◌≡◌, ℕ, ◌-◌, ◌<◌, ◌∙◌, List, [], ◌∷◌, ◌++◌, length, take, drop, codes, Some, None, Bool, true, false, cond, refl, sym, ap, arith, ◌⊎◌, inl, inr, nat_eq, subst, lit<, ltb, ◌&&◌, ◌==◌}
+use Rattle.std.proofs.Common.{◌≡◌, ℕ, ◌-◌, ◌<◌, ◌∙◌, List, [], ◌∷◌, ◌++◌, length, take, drop, codes, Some, None, Bool, true, false, cond, refl, sym, ap, ◌⊎◌, inl, inr, nat_eq, ltb, ◌&&◌, ◌==◌}
 use Rattle.std.proofs.lemmas.List.{take-append-drop}
 use Rattle.std.proofs.lemmas.Bool.{eqb-true, ltb-true}
 use Rattle.std.specs.Cmp.Lexicographic.{bytes_decides}
 use Rattle.std.specs.List.{list_all, starts_with}
-use Rattle.matchit.proofs.OnLiterals.{matchit_on_literals}
 use Rattle.matchit.proofs.SeekLemmas.{first-prefix, or_else-none, param_step-empty, seek-empty}
 use Rattle.matchit.specs.Level.{IsText}
 use Rattle.matchit.specs.Rows.{Rows, catch_all_token, param_token, prepend}
-use Rattle.matchit.specs.Seek.{first, own, param_step, seek, step}
+use Rattle.matchit.specs.Seek.{first, param_step, seek, step}
 use Rattle.vault_routes.proofs.ParameterLemmas.{with_parameter}
 
 pub IsText-from_test : (text : List ℕ) → list_all (λ b. ltb b 256) text ≡ true → IsText text

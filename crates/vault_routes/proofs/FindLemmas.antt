@@ -1,9 +1,8 @@
 -- What a target names.
-use Rattle.std.proofs.Common.{All, ◌≡◌, ℕ, suc, ◌+◌, ◌<◌, ◌≤◌, ◌∙◌, ◌⊎◌, List, [], ◌∷◌, ◌++◌, length, take, drop, get_or, codes, Option, Some, None, Bool, true, false, refl, sym, ap, arith, subst, lit<, inl, inr, cond, ◌||◌, ◌==◌, Bor}
+use Rattle.std.proofs.Common.{◌≡◌, ℕ, suc, ◌+◌, ◌<◌, ◌∙◌, List, [], ◌∷◌, ◌++◌, length, drop, get_or, codes, Option, Some, None, false, refl, sym, arith, subst, lit<, inl, inr, Bor}
 use lib.Utf8.{encode}
 use Rattle.std.proofs.Math.Seq.{drop-append_seam, take-append_seam}
-use Rattle.std.proofs.lemmas.Bool.{cases_lt}
-use Rattle.std.proofs.lemmas.List.{get_or_past, length-append}
+use Rattle.std.proofs.lemmas.List.{length-append}
 use Rattle.std.proofs.lemmas.Str.{IsCharBoundary-after_ascii, IsCharBoundary-before_ascii, IsUtf8-drop, IsUtf8-take}
 use Rattle.std.specs.Option.{unwrap_or}
 use Rattle.std.specs.Prelude.{MatchOption}
@@ -12,7 +11,7 @@ use Rattle.matchit.specs.Level.{IsText}
 use Rattle.matchit.specs.Params.{AllText, walk}
 use Rattle.matchit.specs.Router.{RouteOf}
 use Rattle.matchit.specs.Seek.{first}
-use Rattle.vault_routes.specs.Route.{Target, has_query, parameter, route_of, target_at, target_by, text_or_empty}
+use Rattle.vault_routes.specs.Route.{has_query, parameter, route_of, target_by, text_or_empty}
 use Rattle.vault_routes.specs.Templates.{templates}
 use Rattle.vault_routes.specs.declared.table.Place.{Place}
 use Rattle.vault_routes.specs.declared.table.Place.TheVariants as place

@@ -1,5 +1,5 @@
 -- Where the router's walk goes from a parameter that a slash, or the end of the path, follows.
-use Rattle.std.proofs.Common.{◌≡◌, ℕ, ◌-◌, ◌<◌, ◌∙◌, List, [], ◌∷◌, ◌++◌, length, drop, Option, Some, None, false, cond, refl, sym, ap, arith, ◌⊎◌, inl, inr, append-nil, lit<, subst}
+use Rattle.std.proofs.Common.{◌≡◌, ℕ, ◌-◌, ◌<◌, ◌∙◌, List, [], ◌∷◌, ◌++◌, length, drop, Option, None, false, cond, refl, sym, ap, arith, ◌⊎◌, inl, inr, append-nil, lit<, subst}
 use Rattle.std.proofs.Math.Seq.{drop-append_seam}
 use Rattle.std.proofs.lemmas.List.{length-append}
 use Rattle.matchit.proofs.LevelLemmas.{length-prepend, level-cons, level-nil}
@@ -7,7 +7,7 @@ use Rattle.matchit.proofs.LongestLemmas.{longest-kid}
 use Rattle.matchit.proofs.ParamLemmas.{after_param-end, after_param-kid, after_param-stop}
 use Rattle.matchit.proofs.SeekLemmas.{first-prefix, or_else-none, seek-empty}
 use Rattle.matchit.specs.Level.{AllSegment, AreSuffixes, IsText}
-use Rattle.matchit.specs.Rows.{Rows, Seen, ends, level, prepend, rows, rows_of}
+use Rattle.matchit.specs.Rows.{Rows, Seen, ends, level, rows, rows_of}
 use Rattle.matchit.specs.Seek.{after_param, cuts, first, has_slash, longest_suffix, segment}
 use Rattle.vault_routes.proofs.SegmentLemmas.{cuts-at_slash, cuts-no_slash, first_slash, segment-at_slash, segment-no_slash}
 

@@ -1,6 +1,5 @@
 -- What the service's router finds for a target, by the target's own parts.
-use Rattle.std.proofs.Common.{◌≡◌, ℕ, ◌<◌, ◌∙◌, List, [], ◌∷◌, ◌++◌, length, drop, get_or, codes, Some, None, Option, Bool, true, false, cond, refl, sym, ap, arith, ◌⊎◌, inl, inr, nat_eq, subst, lit<, ◌==◌, append-nil}
-use Rattle.std.specs.List.{starts_with}
+use Rattle.std.proofs.Common.{◌≡◌, ℕ, ◌∙◌, List, [], ◌∷◌, ◌++◌, codes, Some, None, cond, refl, ap, arith, ◌⊎◌, inl, inr, subst, lit<, ◌==◌, append-nil}
 use Rattle.matchit.proofs.OnLiterals.{matchit_on_literals}
 use Rattle.matchit.proofs.RenameLemmas.{first-rename}
 use Rattle.matchit.proofs.SeekLemmas.{first-prefix}

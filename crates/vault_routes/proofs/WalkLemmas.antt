@@ -1,5 +1,5 @@
 -- What the parameters of a template take of a target.
-use Rattle.std.proofs.Common.{◌≡◌, ℕ, ◌+◌, ◌-◌, ◌<◌, ◌≤◌, ◌∙◌, List, [], ◌∷◌, ◌++◌, length, take, drop, get_or, codes, Option, Some, None, refl, sym, ap, arith, add-zero, subst, lit<, true, false, ◌==◌, ltb, ◌⊎◌, inl, inr, append-nil}
+use Rattle.std.proofs.Common.{◌≡◌, ℕ, ◌+◌, ◌-◌, ◌<◌, ◌≤◌, ◌∙◌, List, [], ◌∷◌, ◌++◌, length, drop, get_or, codes, Some, refl, sym, ap, arith, add-zero, ◌⊎◌, inl, inr, append-nil}
 use Rattle.std.specs.Prelude.{option_map}
 use Rattle.std.proofs.Math.Seq.{drop-append_seam, take-append_seam}
 use Rattle.std.proofs.lemmas.Bool.{lt-ltb, le-leb, le-ltb}
@@ -7,13 +7,12 @@ use Rattle.std.proofs.lemmas.List.{drop-drop, get_or-drop, length-append, length
 use Rattle.matchit.specs.Level.{IsText}
 use Rattle.matchit.specs.Params.{after_token, named, part_of, walk, wild_from, wild_stop}
 use Rattle.matchit.specs.Rows.{param_token}
-use Rattle.matchit.specs.Seek.{has_slash, segment}
 use Rattle.vault_routes.specs.Route.{target_at}
 use Rattle.vault_routes.specs.declared.table.Place.{Place}
 use Rattle.vault_routes.specs.declared.table.Place.TheVariants as place
 use Rattle.vault_routes.proofs.BranchLemmas.{IsText-from_test}
 use Rattle.vault_routes.proofs.ParameterLemmas.{IsPlain}
-use Rattle.vault_routes.proofs.SegmentLemmas.{segment-at_slash, segment-no_slash}
+use Rattle.vault_routes.proofs.SegmentLemmas.{segment-at_slash}
 use Rattle.vault_routes.proofs.TemplateLemmas.{AreTexts, TakesToken, before_merchant, row_for, target_text}
 
 -- bytes before a parameter stand for themselves

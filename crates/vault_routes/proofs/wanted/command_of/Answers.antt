@@ -1,12 +1,10 @@
-use Rattle.std.proofs.Common.{◌≡◌, ℕ, List, Ok, Err, Some, sym, inl, inr, refl, subst, ap, ◌∙◌}
+use Rattle.std.proofs.Common.{◌≡◌, Ok, Some, sym, inl, inr, refl, subst, ap, ◌∙◌}
 use Rattle.vault_pan.specs.CardText.{IsToken}
-use Rattle.vault_core.specs.declared.command.Command.{Command}
 use Rattle.vault_routes.specs.Route.{route_of, target_of}
 use Rattle.vault_routes.specs.Table.{action_at}
-use Rattle.vault_routes.specs.Wanted.{Wanted, Wants, WantsAction, command_for, command_on}
+use Rattle.vault_routes.specs.Wanted.{Wants, WantsAction, command_for, command_on}
 use Rattle.vault_routes.specs.declared.fault.HttpFault.TheVariants as fault
 use Rattle.vault_routes.specs.declared.table.Action.TheVariants as action
-use Rattle.vault_routes.specs.declared.wanted.Asker.{Asker}
 use Rattle.vault_routes.proofs.WantedLemmas.{asker_read, asker_refused, order_read, order_refused, refused_by, wants_of}
 use Rattle.vault_routes.proofs.wanted.command_of.Goals as goal
 

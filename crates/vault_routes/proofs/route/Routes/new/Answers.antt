@@ -1,4 +1,3 @@
-use Rattle.std.proofs.Common.{[]}
 use Rattle.vault_routes.proofs.RoomLemmas.{room_for-audit, room_for-number, room_for-revoke, room_for-token, room_for-tokens}
 use Rattle.vault_routes.proofs.route.Routes.new.Goals as goal
 
