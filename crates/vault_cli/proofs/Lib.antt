@@ -1,13 +1,4 @@
-pub mod BodyLemmas
-pub mod FieldFacts
-pub mod HeadFacts
-pub mod MerchantLemmas
-pub mod NamesTokens
-pub mod OpenFacts
 pub mod Outcomes
 pub mod Parsed
-pub mod RouteLemmas
-pub mod SegmentLemmas
-pub mod Unique
+pub mod Trials
 pub mod Values
-pub mod WantedLemmas

@@ -1,5 +1,5 @@
--- The vault of a trial.
-use Rattle.std.specs.Prelude.{◌≡◌, ℕ, ◌⊎◌, List, [], ◌∷◌, map, Option}
+-- The vault of a trial, and what a trial does with its input.
+use Rattle.std.specs.Prelude.{◌≡◌, ℕ, List, [], ◌∷◌, ◌++◌, length, map, replicate, Option, None, false}
 use Rattle.std.specs.Io.KnownBytes.{Appends, Consumes, IsAtEnd}
 use Rattle.vault_core.specs.Table.{after}
 use Rattle.vault_core.specs.Vault.{Vault as Content, empty_vault}
@@ -7,10 +7,10 @@ use Rattle.vault_core.specs.declared.command.Command.{Command}
 use Rattle.vault_core.specs.declared.command.Command.TheVariants.{SetMerchant, Grant}
 use Rattle.vault_core.specs.declared.right.Right.{Right}
 use Rattle.vault_core.specs.declared.right.Right.TheVariants.{Tokenize, Detokenize, View, Revoke, Purge, Audit}
-use Rattle.vault_cli.specs.FirstAnswer.{IsFirstAnswer, fault_text}
-use Rattle.vault_cli.specs.Input.{IsSettled}
-use Rattle.vault_cli.specs.Messages.{HasNoMessage, IsOpen, Stands}
-use Rattle.vault_cli.specs.declared.fault.WireFault.{WireFault}
+use Rattle.vault_wire.specs.Messages.{Request, Reads}
+use Rattle.vault_wire.specs.declared.fault.WireFault.{WireFault}
+use Rattle.vault_http.specs.Exchanges.{Exchange, AskFirst, has_close, last_text, shown, texts, up_to_close}
+use Rattle.vault_http.specs.Served.{answered_fault}
 
 -- all rights
 abbrev pub all_rights : List Right
@@ -31,21 +31,25 @@ grants caller m now rights = map (λ right. Grant caller m right now) rights
 
 -- one merchant with this life of single-use tokens and without multi-use ones, where the caller has all rights
 abbrev pub trial_vault : List ℕ → List ℕ → ℕ → ℕ → Content
-trial_vault caller m life now = left_by_all empty_vault (SetMerchant m life 0 now ∷ grants caller m now all_rights)
+trial_vault caller m life now =
+    left_by_all empty_vault (SetMerchant m life 0 now ∷ grants caller m now all_rights)
 
--- the first message is answered, and no bytes go out only where it is still open; or a fault stands at the
--- front of the bytes, and its answer goes out and the vault stays as it was
-abbrev pub IsTrialAnswer : List ℕ → ℕ → List ℕ → Content → List ℕ → Content → Type 0
-IsTrialAnswer bytes now drawn V out W =
-    (IsFirstAnswer bytes now drawn V out W × (HasNoMessage bytes → IsOpen bytes))
-    ⊎ ((e : WireFault) × Stands e bytes × (out ≡ fault_text e) × (W ≡ V))
+-- bytes as a reader has them left, or as a writer has taken them
+abbrev pub Known : Type 0
+Known = Option (List ℕ)
 
--- the bytes that were read settle the first message or are all that there are, and what went out is the answer to it
-pub record IsTrial (read_old read_new sent_old sent_new : Option (List ℕ)) (V : Content) (now : ℕ) (drawn : List ℕ) : Type 0 where
+-- The bytes that were read are messages, and an open rest or a fault. All messages up to the first that closes
+-- are asked, each with the same moment and digits; what went out is the texts that answer them, each by the
+-- vault that those before it leave, and then the one that answers the fault; and where nothing closes, no byte
+-- is left.
+pub record IsTrial (left_old left_new sent_old sent_new : Known) (V : Content) (now : ℕ) (drawn : List ℕ) : Type 0 where
   pub bytes : List ℕ
-  pub out : List ℕ
-  pub after : Content
-  pub read : Consumes read_old read_new bytes
-  pub settled : IsSettled bytes ⊎ IsAtEnd read_new
-  pub answer : IsTrialAnswer bytes now drawn V out after
-  pub sent : Appends sent_old sent_new out
+  pub messages : List Request
+  pub fault : Option WireFault
+  pub exchanges : List Exchange
+  pub read : Consumes left_old left_new bytes
+  pub reads : Reads bytes messages fault
+  pub asked : AskFirst (up_to_close (shown messages)) (replicate (length exchanges) (now, drawn)) exchanges
+  pub whole : length exchanges ≡ length (up_to_close (shown messages))
+  pub ended : has_close (shown messages) ≡ false → fault ≡ None → IsAtEnd left_new
+  pub sent : Appends sent_old sent_new (texts V exchanges ++ last_text (answered_fault messages fault))

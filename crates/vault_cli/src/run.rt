@@ -1,6 +1,7 @@
 //! The program, but for what the process gives it.
 ghost use Rattle.std.specs.Prelude.{◌≡◌, ◌≢◌, ◌↔◌, ◌⊎◌, MatchResult, map};
 ghost use Rattle.std.specs.IoError.{error_kind};
+ghost use Rattle.vault_wire.specs.Watching.{inner_of};
 ghost use Rattle.vault_cli.specs.Jobs.{IsAsked};
 ghost use Rattle.vault_cli.specs.Ran.{AsksFor, AsksHelp, HasLives, IsDone, IsMisnamed, IsTrialOf};
 ghost use Rattle.vault_cli.specs.Tree.{vault_app};
@@ -8,41 +9,42 @@ ghost use Rattle.vault_cli.specs.declared.jobs.Job.{Job};
 
 use crate::job::job;
 use crate::jobs::{Job, JobFault};
-use crate::trial::{Trial, TrialFault, answer_first};
+use crate::trial::{Trial, serve_trial};
 use std::alloc::Global;
 use std::convert::AsStr;
 use std::io::{Error, ErrorKind, Read, Write};
 use vault_core::name::{BadName, Caller, MerchantId};
 use vault_core::refusal::BAD_NAME;
+use vault_wire::watched::Watched;
 
 /// Done, or help was asked.
-pub const DONE: u8 = 0;
+const DONE: u8 = 0;
 
 /// A name is none.
-pub const REFUSED: u8 = 1;
+const REFUSED: u8 = 1;
 
 /// The words ask for no job.
-pub const BAD_WORDS: u8 = 2;
+const BAD_WORDS: u8 = 2;
 
 /// Reading, writing or memory stopped the job.
-pub const STOPPED: u8 = 4;
+const STOPPED: u8 = 4;
 
 /// Reads the words, does their job over the three streams and answers the exit status.
 ///
 /// The first word is the program's name. A line on the output or on the errors goes with each
-/// status but 0: `refused 4`, `vault: bad words`, or `vault: stopped n` with 20, 61, 62 or 64.
+/// status but 0: `refused 4`, `vault: bad words`, or `vault: stopped n` with 20 or 60 to 64.
 pub fn run<H: AllocGlobal, S: AsStr, R: Read, W: Write, E: Write>(
     rt: &H,
     words: &[S],
-    input: &mut R,
-    output: &mut W,
-    errors: &mut E,
+    input: &mut Watched<R>,
+    output: &mut Watched<W>,
+    errors: &mut Watched<E>,
 ) -> u8
-    ensures status { (result ≡ DONE) ⊎ (result ≡ REFUSED) ⊎ (result ≡ BAD_WORDS) ⊎ (result ≡ STOPPED) }
-    ensures done { result ≡ DONE → AsksHelp (map S.text words.now)
-        ⊎ AsksFor (map S.text words.now) (λ job. IsDone job (R.remaining input.old) (R.remaining input.new) (W.contents output.old) (W.contents output.new)) }
-    ensures refused { result ≡ REFUSED → AsksFor (map S.text words.now) IsMisnamed }
-    ensures bad_words { result ≡ BAD_WORDS → (job : Job) → ¬ (IsAsked vault_app (map S.text words.now) job) }
+    ensures status { (result ≡ 0) ⊎ (result ≡ 1) ⊎ (result ≡ 2) ⊎ (result ≡ 4) }
+    ensures done { result ≡ 0 → AsksHelp (map S.text words.now)
+        ⊎ AsksFor (map S.text words.now) (λ job. IsDone job (R.remaining (inner_of input.old)) (R.remaining (inner_of input.new)) (W.contents (inner_of output.old)) (W.contents (inner_of output.new))) }
+    ensures refused { result ≡ 1 → AsksFor (map S.text words.now) IsMisnamed }
+    ensures bad_words { result ≡ 2 → (job : Job) → ¬ (IsAsked vault_app (map S.text words.now) job) }
 {
     let alloc = rt.alloc();
     match job(alloc, words) {
@@ -57,9 +59,9 @@ pub fn run<H: AllocGlobal, S: AsStr, R: Read, W: Write, E: Write>(
 }
 
 /// Says why there are no words: memory was refused, or one of them isn't UTF-8.
-pub fn no_words<E: Write>(error: &Error, errors: &mut E) -> u8
-    ensures stopped { (result ≡ STOPPED) ↔ (error_kind error.now ≡ ErrorKind.OutOfMemory) }
-    ensures bad_words { (result ≡ BAD_WORDS) ↔ (error_kind error.now ≢ ErrorKind.OutOfMemory) }
+pub fn no_words<E: Write>(error: &Error, errors: &mut Watched<E>) -> u8
+    ensures stopped { (result ≡ 4) ↔ (error_kind error.now ≡ ErrorKind.OutOfMemory) }
+    ensures bad_words { (result ≡ 2) ↔ (error_kind error.now ≢ ErrorKind.OutOfMemory) }
 {
     match error.kind() {
         ErrorKind::OutOfMemory => stopped(errors, 20),
@@ -68,8 +70,8 @@ pub fn no_words<E: Write>(error: &Error, errors: &mut E) -> u8
 }
 
 /// Says that the words ask for no job.
-fn bad_words<E: Write>(errors: &mut E) -> u8
-    ensures { result ≡ BAD_WORDS }
+fn bad_words<E: Write>(errors: &mut Watched<E>) -> u8
+    ensures { result ≡ 2 }
 {
     let _ = writeln!(errors, "vault: bad words");
     BAD_WORDS
@@ -79,17 +81,17 @@ fn bad_words<E: Write>(errors: &mut E) -> u8
 fn do_job<R: Read, W: Write, E: Write>(
     alloc: Global,
     job: &Job<'_>,
-    input: &mut R,
-    output: &mut W,
-    errors: &mut E,
+    input: &mut Watched<R>,
+    output: &mut Watched<W>,
+    errors: &mut Watched<E>,
 ) -> u8
     requires { HasLives job.now }
-    ensures status { (result ≡ DONE) ⊎ (result ≡ REFUSED) ⊎ (result ≡ STOPPED) }
-    ensures done { result ≡ DONE → IsDone job.now (R.remaining input.old) (R.remaining input.new) (W.contents output.old) (W.contents output.new) }
-    ensures refused { result ≡ REFUSED → IsMisnamed job.now }
+    ensures status { (result ≡ 0) ⊎ (result ≡ 1) ⊎ (result ≡ 4) }
+    ensures done { result ≡ 0 → IsDone job.now (R.remaining (inner_of input.old)) (R.remaining (inner_of input.new)) (W.contents (inner_of output.old)) (W.contents (inner_of output.new)) }
+    ensures refused { result ≡ 1 → IsMisnamed job.now }
 {
     match trial_of(job) {
-        Ok(trial) => match answer_first(alloc, &trial, input, output) {
+        Ok(trial) => match serve_trial(alloc, &trial, input, output) {
             Ok(()) => DONE,
             Err(fault) => stopped(errors, fault.number()),
         },
@@ -123,7 +125,7 @@ fn trial_of(job: &Job<'_>) -> Result<Trial, BadName>
 
 /// Says by which fault the job stopped.
 fn stopped<E: Write>(errors: &mut E, fault: u8) -> u8
-    ensures { result ≡ STOPPED }
+    ensures { result ≡ 4 }
 {
     let _ = writeln!(errors, "vault: stopped {fault}");
     STOPPED

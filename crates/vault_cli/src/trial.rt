@@ -1,25 +1,29 @@
-//! A vault in memory that answers one message.
-ghost use Rattle.std.specs.Prelude.{◌≡◌, ◌↔◌, false, IfOk, OnOk};
-ghost use Rattle.std.specs.Io.KnownBytes.{Appends};
+//! A vault in memory that answers the messages of an input.
+ghost use Rattle.std.specs.Prelude.{◌≡◌, ◌↔◌, false, IfErr, IfOk, OnOk};
 ghost use Rattle.vault_core.specs.Proper.{HasLivesInRange};
 ghost use Rattle.vault_core.specs.Scalar.{IsLife};
 ghost use Rattle.vault_core.specs.Vault.{Vault as Content};
 ghost use Rattle.vault_store.specs.Applied.{Contains, is_broken};
 ghost use Rattle.vault_store.specs.Held.{IsHeld};
-ghost use Rattle.vault_cli.specs.Trial.{IsTrial, IsTrialAnswer, left_by, trial_vault as trial_vault_lem};
+ghost use Rattle.vault_wire.specs.Watching.{inner_of};
+ghost use Rattle.vault_cli.specs.Trial.{IsTrial, left_by, trial_vault as trial_vault_lem};
 
-use crate::first::{fault_answer, first_answer};
-use crate::input::{InputFault, first_bytes};
-use crate::message::first_message;
 use std::alloc::{AllocError, Global};
 use std::io::{Read, Write};
 use vault_core::command::Command;
 use vault_core::moment::Moment;
 use vault_core::name::{Caller, MerchantId};
 use vault_core::right::Right;
+use vault_core::source::FixedSource;
+use vault_http::fault::ServeFault;
+use vault_http::serve::serve;
 use vault_pan::draw::Digits;
 use vault_store::memory::MemTables;
 use vault_store::vault::{Fault, Vault};
+use vault_wire::watched::Watched;
+
+/// The most messages that a trial answers.
+const MOST_MESSAGES: u64 = 1000;
 
 /// What a trial is asked with.
 #[derive(Clone, Copy, Debug)]
@@ -30,32 +34,6 @@ pub struct Trial {
     pub life: u64,
     pub moment: Moment,
     pub digits: Digits,
-}
-
-/// Why a trial ended without its answer.
-#[derive(Clone, Copy, Debug, Drop, PartialEq, Eq)]
-pub enum TrialFault {
-    /// 61: the reader failed.
-    Read,
-    /// 62: the writer failed.
-    Write,
-    /// 64: memory was refused.
-    Memory,
-}
-
-impl TrialFault {
-    ghost use Rattle.vault_cli.specs.TrialFaults.{trial_fault_number};
-
-    /// The number of the fault: 61, 62 or 64.
-    pub fn number(self) -> u8
-        ensures { result ≡ trial_fault_number self }
-    {
-        match self {
-            TrialFault::Read => 61,
-            TrialFault::Write => 62,
-            TrialFault::Memory => 64,
-        }
-    }
 }
 
 /// Changes the vault by a command.
@@ -113,74 +91,26 @@ fn give(vault: &mut Vault<MemTables>, trial: &Trial, right: Right) -> Result<(),
     change(vault, &grant)
 }
 
-/// Reads the first message of the input and writes its answer, or that of the fault at its front.
-pub fn answer_first<R: Read, W: Write>(
+/// Answers the messages of the input, up to its end, to a message that closes the connection, or to a
+/// fault of the bytes, which is answered too. Each message has the trial's moment and its digits.
+///
+/// 60 Source: 1000 messages were answered and there is another one. 61 Read: the reader failed. 62 Write: the
+/// writer failed, perhaps only when it was to hand on what it had taken. 64 Memory: memory was refused.
+pub fn serve_trial<R: Read, W: Write>(
     alloc: Global,
     trial: &Trial,
-    input: &mut R,
-    output: &mut W,
-) -> Result<(), TrialFault>
+    input: &mut Watched<R>,
+    output: &mut Watched<W>,
+) -> Result<(), ServeFault>
     requires { IsLife trial.now.life }
-    ensures { OnOk result (IsTrial (R.remaining input.old) (R.remaining input.new) (W.contents output.old) (W.contents output.new)
+    ensures { OnOk result (IsTrial (R.remaining (inner_of input.old)) (R.remaining (inner_of input.new)) (W.contents (inner_of output.old)) (W.contents (inner_of output.new))
         (trial_vault_lem trial.now.caller trial.now.merchant trial.now.life trial.now.moment) trial.now.moment trial.now.digits) }
 {
     let mut vault = trial_vault(alloc, trial)?;
-    let bytes = first_bytes(alloc, input)?;
-    let answer = trial_answer(alloc, trial, &mut vault, &bytes)?;
-    send(output, &answer)
-}
-
-/// The answer to the first message of the bytes, or to the fault at their front.
-fn trial_answer(
-    alloc: Global,
-    trial: &Trial,
-    vault: &mut Vault<MemTables>,
-    bytes: &[u8],
-) -> Result<Vec<u8>, AllocError>
-    requires { is_broken vault.old ≡ false }
-    ensures { IfOk result (λ out. (V : Content) → Contains IsHeld vault.old V
-        → (W : Content) × IsTrialAnswer bytes.now trial.now.moment trial.now.digits V out.items W) }
-{
-    match first_message(bytes) {
-        Ok(_) => first_answer(alloc, bytes, vault, trial.moment, trial.digits),
-        Err(fault) => fault_answer(alloc, fault),
-    }
-}
-
-/// Writes all bytes, and hands them on.
-fn send<W: Write>(output: &mut W, bytes: &[u8]) -> Result<(), TrialFault>
-    ensures { OnOk result (Appends (W.contents output.old) (W.contents output.new) bytes.now) }
-{
-    if output.write_all(bytes).is_err() {
-        return Err(TrialFault::Write);
-    }
+    let mut source = FixedSource::new(trial.moment, trial.digits, MOST_MESSAGES);
+    serve(alloc, input, output, &mut vault, &mut source)?;
     if output.flush().is_err() {
-        return Err(TrialFault::Write);
+        return Err(ServeFault::Write);
     }
     Ok(())
-}
-
-impl From<AllocError> for TrialFault {
-    ghost use Rattle.std.specs.Prelude.{◌≡◌};
-    ghost use Rattle.vault_cli.specs.declared.trial.TrialFault.TheVariants.{Memory};
-
-    ghost from_gives = { λ _ fault. fault ≡ Memory };
-
-    fn from(_refused: AllocError) -> TrialFault {
-        TrialFault::Memory
-    }
-}
-
-impl From<InputFault> for TrialFault {
-    ghost use Rattle.std.specs.Prelude.{◌≡◌};
-    ghost use Rattle.vault_cli.specs.TrialFaults.{input_ended};
-
-    ghost from_gives = { λ fault ended. ended ≡ input_ended fault };
-
-    fn from(fault: InputFault) -> TrialFault {
-        match fault {
-            InputFault::Memory => TrialFault::Memory,
-            InputFault::Read => TrialFault::Read,
-        }
-    }
 }

@@ -1,5 +1,0 @@
-use Rattle.vault_cli.proofs.NamesTokens.{names_tokens}
-use Rattle.vault_cli.proofs.route.names_tokens.Goals as goal
-
-pub returns : goal.returns
-returns c = names_tokens
