@@ -39,6 +39,9 @@ pub const REVOKED: u8 = 15;
 /// The token has expired.
 pub const EXPIRED: u8 = 16;
 
+/// The token's life isn't over, and it isn't revoked.
+pub const STILL_LIVE: u8 = 17;
+
 /// There are as many merchants as there may be.
 pub const TOO_MANY_MERCHANTS: u8 = 18;
 

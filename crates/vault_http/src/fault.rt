@@ -1,7 +1,9 @@
 //! Why a service stops.
 ghost use Rattle.std.specs.Prelude.{◌≡◌};
 
+use crate::refusal::{READ, SOURCE, STORE, WRITE};
 use std::alloc::AllocError;
+use vault_routes::refusal::MEMORY;
 
 /// Why a service stopped before the end of its connection.
 #[derive(Clone, Copy, PartialEq, Eq, Debug, Drop)]
@@ -26,11 +28,11 @@ impl ServeFault {
         ensures { result ≡ number_of self }
     {
         match self {
-            ServeFault::Source => 60,
-            ServeFault::Read => 61,
-            ServeFault::Write => 62,
-            ServeFault::Store => 63,
-            ServeFault::Memory => 64,
+            ServeFault::Source => SOURCE,
+            ServeFault::Read => READ,
+            ServeFault::Write => WRITE,
+            ServeFault::Store => STORE,
+            ServeFault::Memory => MEMORY,
         }
     }
 }

@@ -4,16 +4,14 @@ ghost use Rattle.vault_core.specs.declared.reply.Reply.TheVariants.{Refused};
 ghost use Rattle.vault_routes.specs.Status.{status_for as code_for, status_of as code_of};
 ghost use Rattle.vault_wire.specs.Status.{IsStatus};
 
-use crate::refusal::{
-    BAD_BODY, BAD_FIELDS, BAD_HEAD, BAD_LENGTH, BAD_METHOD, BODY_TOO_LARGE, HEAD_TOO_LARGE,
-    NO_CODING, NO_ROUTE, STILL_LIVE,
-};
+use crate::refusal::{BAD_BODY, BAD_FIELDS, BAD_METHOD, NO_ROUTE};
 use vault_core::refusal::{
     BAD_NAME, BAD_REQUEST_NUMBER, BAD_USE, EXPIRED, FULL, NO_CANDIDATE, NO_MERCHANT, NO_RIGHT,
-    NO_TOKEN, NUMBER_REUSED, PURGED, REVOKED, TOO_MANY_MERCHANTS, WRONG_USE,
+    NO_TOKEN, NUMBER_REUSED, PURGED, REVOKED, STILL_LIVE, TOO_MANY_MERCHANTS, WRONG_USE,
 };
 use vault_core::reply::Reply;
 use vault_pan::refusal::{BAD_CHECK, BAD_NUMBER, BAD_TOKEN};
+use vault_wire::refusal::{BAD_HEAD, BAD_LENGTH, BODY_TOO_LARGE, HEAD_TOO_LARGE, NO_CODING};
 
 /// The status of a refusal, by its number. A number that no message is answered with, as 18, which
 /// comes of no command that a message asks for, has 507.
