@@ -1,4 +1,4 @@
-pub mod Outcomes
+pub mod Lines
 pub mod Parsed
 pub mod Trials
 pub mod Values

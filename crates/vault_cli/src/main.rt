@@ -5,6 +5,7 @@ pub mod digits;
 pub mod job;
 pub mod jobs;
 pub mod run;
+mod told;
 mod tree;
 pub mod trial;
 

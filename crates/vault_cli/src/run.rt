@@ -1,20 +1,21 @@
 //! The program, but for what the process gives it.
-ghost use Rattle.std.specs.Prelude.{◌≡◌, ◌≢◌, ◌↔◌, ◌⊎◌, MatchResult, map};
+ghost use Rattle.std.specs.Prelude.{◌≡◌, ◌≢◌, ◌↔◌, ◌⊎◌, MatchResult, false, map};
 ghost use Rattle.std.specs.IoError.{error_kind};
-ghost use Rattle.vault_wire.specs.Watching.{inner_of};
+ghost use Rattle.vault_wire.specs.Watching.{inner_of, is_stopped};
 ghost use Rattle.vault_cli.specs.Jobs.{IsAsked};
 ghost use Rattle.vault_cli.specs.Ran.{AsksFor, AsksHelp, HasLives, IsDone, IsMisnamed, IsTrialOf};
+ghost use Rattle.vault_cli.specs.Told.{Tells, TellsStop, bad_words_line, refusal_line, stop_line};
 ghost use Rattle.vault_cli.specs.Tree.{vault_app};
 ghost use Rattle.vault_cli.specs.declared.jobs.Job.{Job};
 
 use crate::job::job;
 use crate::jobs::{Job, JobFault};
+use crate::told::{bad_words, no_memory, stopped, tell};
 use crate::trial::{Trial, serve_trial};
 use std::alloc::Global;
 use std::convert::AsStr;
 use std::io::{Error, ErrorKind, Read, Write};
 use vault_core::name::{BadName, Caller, MerchantId};
-use vault_core::refusal::BAD_NAME;
 use vault_wire::watched::Watched;
 
 /// Done, or help was asked.
@@ -22,12 +23,6 @@ const DONE: u8 = 0;
 
 /// A name is none.
 const REFUSED: u8 = 1;
-
-/// The words ask for no job.
-const BAD_WORDS: u8 = 2;
-
-/// Reading, writing or memory stopped the job.
-const STOPPED: u8 = 4;
 
 /// Reads the words, does their job over the three streams and answers the exit status.
 ///
@@ -41,20 +36,31 @@ pub fn run<H: AllocGlobal, S: AsStr, R: Read, W: Write, E: Write>(
     errors: &mut Watched<E>,
 ) -> u8
     ensures status { (result ≡ 0) ⊎ (result ≡ 1) ⊎ (result ≡ 2) ⊎ (result ≡ 4) }
-    ensures done { result ≡ 0 → AsksHelp (map S.text words.now)
-        ⊎ AsksFor (map S.text words.now) (λ job. IsDone job (R.remaining (inner_of input.old)) (R.remaining (inner_of input.new)) (W.contents (inner_of output.old)) (W.contents (inner_of output.new))) }
+    ensures done { result ≡ 0 → (AsksHelp (map S.text words.now) × (input.new ≡ input.old))
+        ⊎ ((is_stopped output.new ≡ false) × AsksFor (map S.text words.now) (λ job. IsDone job
+        (R.remaining (inner_of input.old)) (R.remaining (inner_of input.new))
+        (W.contents (inner_of output.old)) (W.contents (inner_of output.new)))) }
     ensures refused { result ≡ 1 → AsksFor (map S.text words.now) IsMisnamed }
     ensures bad_words { result ≡ 2 → (job : Job) → ¬ (IsAsked vault_app (map S.text words.now) job) }
+    ensures says_refused { result ≡ 1 → (input.new ≡ input.old)
+        × Tells (W.contents (inner_of output.old)) (W.contents (inner_of output.new))
+        (is_stopped output.new) refusal_line }
+    ensures says_bad_words { result ≡ 2 → (input.new ≡ input.old) × (output.new ≡ output.old)
+        × Tells (E.contents (inner_of errors.old)) (E.contents (inner_of errors.new))
+        (is_stopped errors.new) bad_words_line }
+    ensures says_stopped { result ≡ 4 → TellsStop (E.contents (inner_of errors.old)) (E.contents (inner_of errors.new))
+        (is_stopped errors.new) (is_stopped input.new) (is_stopped output.new) }
+    ensures silent { (result ≡ 0) ⊎ (result ≡ 1) → errors.new ≡ errors.old }
 {
     let alloc = rt.alloc();
     match job(alloc, words) {
         Ok(asked) => do_job(alloc, &asked, input, output, errors),
         Err(JobFault::Help(text)) => {
-            let _ = output.write_all(text.as_bytes());
+            tell(output, text.as_str());
             DONE
         }
         Err(JobFault::BadWords) => bad_words(errors),
-        Err(JobFault::Memory) => stopped(errors, 20),
+        Err(JobFault::Memory) => no_memory(errors),
     }
 }
 
@@ -62,19 +68,15 @@ pub fn run<H: AllocGlobal, S: AsStr, R: Read, W: Write, E: Write>(
 pub fn no_words<E: Write>(error: &Error, errors: &mut Watched<E>) -> u8
     ensures stopped { (result ≡ 4) ↔ (error_kind error.now ≡ ErrorKind.OutOfMemory) }
     ensures bad_words { (result ≡ 2) ↔ (error_kind error.now ≢ ErrorKind.OutOfMemory) }
+    ensures says_stopped { result ≡ 4 → Tells (E.contents (inner_of errors.old)) (E.contents (inner_of errors.new))
+        (is_stopped errors.new) (stop_line 20) }
+    ensures says_bad_words { result ≡ 2 → Tells (E.contents (inner_of errors.old)) (E.contents (inner_of errors.new))
+        (is_stopped errors.new) bad_words_line }
 {
     match error.kind() {
-        ErrorKind::OutOfMemory => stopped(errors, 20),
+        ErrorKind::OutOfMemory => no_memory(errors),
         _ => bad_words(errors),
     }
-}
-
-/// Says that the words ask for no job.
-fn bad_words<E: Write>(errors: &mut Watched<E>) -> u8
-    ensures { result ≡ 2 }
-{
-    let _ = writeln!(errors, "vault: bad words");
-    BAD_WORDS
 }
 
 /// Does a job.
@@ -87,16 +89,25 @@ fn do_job<R: Read, W: Write, E: Write>(
 ) -> u8
     requires { HasLives job.now }
     ensures status { (result ≡ 0) ⊎ (result ≡ 1) ⊎ (result ≡ 4) }
-    ensures done { result ≡ 0 → IsDone job.now (R.remaining (inner_of input.old)) (R.remaining (inner_of input.new)) (W.contents (inner_of output.old)) (W.contents (inner_of output.new)) }
+    ensures done { result ≡ 0 → IsDone job.now
+        (R.remaining (inner_of input.old)) (R.remaining (inner_of input.new))
+        (W.contents (inner_of output.old)) (W.contents (inner_of output.new)) }
+    ensures handed_on { result ≡ 0 → is_stopped output.new ≡ false }
     ensures refused { result ≡ 1 → IsMisnamed job.now }
+    ensures says_refused { result ≡ 1 → (input.new ≡ input.old)
+        × Tells (W.contents (inner_of output.old)) (W.contents (inner_of output.new))
+        (is_stopped output.new) refusal_line }
+    ensures says_stopped { result ≡ 4 → TellsStop (E.contents (inner_of errors.old)) (E.contents (inner_of errors.new))
+        (is_stopped errors.new) (is_stopped input.new) (is_stopped output.new) }
+    ensures silent { (result ≡ 0) ⊎ (result ≡ 1) → errors.new ≡ errors.old }
 {
     match trial_of(job) {
         Ok(trial) => match serve_trial(alloc, &trial, input, output) {
             Ok(()) => DONE,
-            Err(fault) => stopped(errors, fault.number()),
+            Err(fault) => stopped(errors, fault),
         },
         Err(_) => {
-            let _ = writeln!(output, "refused {BAD_NAME}");
+            tell(output, "refused 4\n");
             REFUSED
         }
     }
@@ -121,14 +132,6 @@ fn trial_of(job: &Job<'_>) -> Result<Trial, BadName>
             digits,
         }),
     }
-}
-
-/// Says by which fault the job stopped.
-fn stopped<E: Write>(errors: &mut E, fault: u8) -> u8
-    ensures { result ≡ 4 }
-{
-    let _ = writeln!(errors, "vault: stopped {fault}");
-    STOPPED
 }
 
 #[cfg(test)]

@@ -5,7 +5,9 @@ ghost use Rattle.vault_core.specs.Scalar.{IsLife};
 ghost use Rattle.vault_core.specs.Vault.{Vault as Content};
 ghost use Rattle.vault_store.specs.Applied.{Contains, is_broken};
 ghost use Rattle.vault_store.specs.Held.{IsHeld};
-ghost use Rattle.vault_wire.specs.Watching.{inner_of};
+ghost use Rattle.vault_wire.specs.Watching.{inner_of, is_stopped};
+ghost use Rattle.vault_http.specs.Faults.{number_of};
+ghost use Rattle.vault_cli.specs.Told.{IsCause};
 ghost use Rattle.vault_cli.specs.Trial.{IsTrial, left_by, trial_vault as trial_vault_lem};
 
 use std::alloc::{AllocError, Global};
@@ -41,7 +43,8 @@ pub struct Trial {
 fn change(vault: &mut Vault<MemTables>, command: &Command) -> Result<(), AllocError>
     requires lives { HasLivesInRange command.now }
     requires unbroken { is_broken vault.old ≡ false }
-    ensures changed { OnOk result ((V : Content) → Contains IsHeld vault.old V → Contains IsHeld vault.new (left_by V command.now)) }
+    ensures changed { OnOk result ((V : Content) → Contains IsHeld vault.old V
+        → Contains IsHeld vault.new (left_by V command.now)) }
     ensures unbroken { is_broken vault.new ≡ false }
 {
     match vault.apply(command) {
@@ -55,7 +58,8 @@ fn change(vault: &mut Vault<MemTables>, command: &Command) -> Result<(), AllocEr
 /// The vault of a trial: its merchant is set and its caller gets all rights.
 fn trial_vault(alloc: Global, trial: &Trial) -> Result<Vault<MemTables>, AllocError>
     requires { IsLife trial.now.life }
-    ensures holds { IfOk result (λ vault. Contains IsHeld vault (trial_vault_lem trial.now.caller trial.now.merchant trial.now.life trial.now.moment)) }
+    ensures holds { IfOk result (λ vault. Contains IsHeld vault
+        (trial_vault_lem trial.now.caller trial.now.merchant trial.now.life trial.now.moment)) }
     ensures unbroken { IfOk result (λ vault. is_broken vault ≡ false) }
 {
     let mut vault = Vault::new(MemTables::new(alloc));
@@ -79,7 +83,8 @@ fn trial_vault(alloc: Global, trial: &Trial) -> Result<Vault<MemTables>, AllocEr
 fn give(vault: &mut Vault<MemTables>, trial: &Trial, right: Right) -> Result<(), AllocError>
     requires { is_broken vault.old ≡ false }
     ensures given { OnOk result ((V : Content) → Contains IsHeld vault.old V
-        → Contains IsHeld vault.new (left_by V (Command.Grant trial.now.caller trial.now.merchant right trial.now.moment))) }
+        → Contains IsHeld vault.new
+        (left_by V (Command.Grant trial.now.caller trial.now.merchant right trial.now.moment))) }
     ensures unbroken { is_broken vault.new ≡ false }
 {
     let grant = Command::Grant {
@@ -103,8 +108,13 @@ pub fn serve_trial<R: Read, W: Write>(
     output: &mut Watched<W>,
 ) -> Result<(), ServeFault>
     requires { IsLife trial.now.life }
-    ensures { OnOk result (IsTrial (R.remaining (inner_of input.old)) (R.remaining (inner_of input.new)) (W.contents (inner_of output.old)) (W.contents (inner_of output.new))
-        (trial_vault_lem trial.now.caller trial.now.merchant trial.now.life trial.now.moment) trial.now.moment trial.now.digits) }
+    ensures served { OnOk result (IsTrial
+        (R.remaining (inner_of input.old)) (R.remaining (inner_of input.new))
+        (W.contents (inner_of output.old)) (W.contents (inner_of output.new))
+        (trial_vault_lem trial.now.caller trial.now.merchant trial.now.life trial.now.moment)
+        trial.now.moment trial.now.digits) }
+    ensures handed_on { OnOk result (is_stopped output.new ≡ false) }
+    ensures stopped { IfErr result (λ e. IsCause (number_of e) (is_stopped input.new) (is_stopped output.new)) }
 {
     let mut vault = trial_vault(alloc, trial)?;
     let mut source = FixedSource::new(trial.moment, trial.digits, MOST_MESSAGES);

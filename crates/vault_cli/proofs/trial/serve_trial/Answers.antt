@@ -1,13 +1,12 @@
-use Rattle.std.proofs.Common.{◌≡◌, ℕ, List, ◌++◌, length, replicate, subst, ◌∙◌, ap}
+use Rattle.std.proofs.Common.{◌≡◌, List, ◌++◌, length, replicate, subst, ◌∙◌, ap}
 use Rattle.std.specs.Io.KnownBytes.{Appends}
 use Rattle.vault_http.specs.Exchanges.{AskFirst, Pair, last_text, shown, texts, up_to_close}
-use Rattle.vault_http.specs.Served.{answered_fault}
 use Rattle.vault_cli.specs.Trial.{trial_vault}
 use Rattle.vault_cli.proofs.Trials.{asked_length, kept_after, same_pairs}
 use Rattle.vault_cli.proofs.trial.serve_trial.Goals as goal
 
-pub returns : goal.returns
-returns g c =
+pub returns-clause-served : goal.returns-clause-served
+returns-clause-served g c =
     let trial = c.args.trial.now in
     let V = trial_vault trial.caller trial.merchant trial.life trial.moment in
     let served = c.in_ok-serve.ensures.served in
