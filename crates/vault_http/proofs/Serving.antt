@@ -1,5 +1,6 @@
 -- The bytes of a connection, and where a service of them ends.
-use Rattle.std.proofs.Common.{◌≡◌, ℕ, ◌+◌, ◌-◌, ◌*◌, ◌<◌, ◌≤◌, List, [], ◌∷◌, ◌++◌, length, take, refl, sym, ap, ◌∙◌, subst, append_assoc, append-nil, arith, inl, inr, length-append}
+use Rattle.std.proofs.Common.{◌≡◌, ℕ, ◌+◌, ◌-◌, ◌*◌, ◌<◌, ◌≤◌, List, [], ◌∷◌, ◌++◌, length, take, refl, sym}
+use Rattle.std.proofs.Common.{ap, ◌∙◌, subst, append_assoc, append-nil, arith, inl, inr, length-append}
 use Rattle.std.specs.Prelude.{◌⊎◌, Option, Some, None, Err, Bool, true, false, map, if◌then◌else◌}
 use Rattle.std.specs.List.{flat_map}
 use Rattle.std.specs.Io.KnownBytes.{Appends, Consumes, IsAtEnd}
@@ -15,10 +16,13 @@ use Rattle.vault_wire.specs.declared.fault.WireFault.{WireFault}
 use Rattle.vault_wire.specs.declared.watched.Watched.{Watched}
 use Rattle.vault_wire.proofs.OpenFacts.{open_short}
 use Rattle.vault_wire.proofs.ReadingFacts.{reads_of}
-use Rattle.vault_http.specs.Exchanges.{Pair, Exchange, AskFirst, fault_text, has_close, last_text, shown, texts, up_to_close, vault_after}
-use Rattle.vault_http.specs.Passing.{Passage, passing, AllAnswered, IsBefore, Keeps, Sends, StopsBefore, Stops}
+use Rattle.vault_http.specs.Exchanges.{Pair, Exchange, AskFirst, fault_text, has_close, last_text, shown}
+use Rattle.vault_http.specs.Exchanges.{texts, up_to_close, vault_after}
+use Rattle.vault_http.specs.Passing.{Passage, passing, AllAnswered, IsBefore, Keeps, Sends, StopsBefore}
+use Rattle.vault_http.specs.Passing.{Stops}
 use Rattle.vault_http.specs.Refusing.{IsRefused}
-use Rattle.vault_http.specs.Served.{Begins, IsServed, IsStopped, StopsAmong, StopsAtFault, StopsForMemory, answered_fault}
+use Rattle.vault_http.specs.Served.{Begins, IsServed, IsStopped, StopsAmong, StopsAtFault, StopsForMemory}
+use Rattle.vault_http.specs.Served.{answered_fault}
 use Rattle.vault_http.specs.declared.fault.ServeFault.{ServeFault}
 use Rattle.vault_http.specs.declared.fault.ServeFault.TheVariants as fault
 use Rattle.vault_http.specs.declared.served.Served.{Served}
@@ -26,7 +30,8 @@ use Rattle.vault_http.proofs.Bytes.{appends_both}
 use Rattle.vault_http.proofs.Closing.{up_to_close-none}
 
 -- bytes that are read in whole begin with their messages
-pub begins_of : (bytes : List ℕ) (ms : List Request) (e : Option WireFault) → Reads bytes ms e → Begins bytes ms
+pub begins_of : (bytes : List ℕ) (ms : List Request) (e : Option WireFault) → Reads bytes ms e
+    → Begins bytes ms
 begins_of bytes ms e r = record { rest = r.0; whole = r.1.whole; each = r.1.each }
 
 pub begins_more : (bytes more : List ℕ) (ms : List Request) → Begins bytes ms → Begins (bytes ++ more) ms
@@ -36,27 +41,34 @@ begins_more bytes more ms b = record {
   each = b.each;
 }
 
-pub reads_by : (k : Kept) (bytes : List ℕ) (ms : List Request) (e : Option WireFault) → k.fault ≡ e → IsReading k bytes ms → Reads bytes ms e
+pub reads_by : (k : Kept) (bytes : List ℕ) (ms : List Request) (e : Option WireFault) → k.fault ≡ e
+    → IsReading k bytes ms → Reads bytes ms e
 reads_by k bytes ms e same r = subst (Reads bytes ms) same (reads_of k bytes ms r)
 
-reads_then : (k : Kept) (bytes : List ℕ) (ms : List Request) → k.fault ≡ None → IsReading k bytes ms → ReadsThen bytes ms None k.rest
+reads_then : (k : Kept) (bytes : List ℕ) (ms : List Request) → k.fault ≡ None → IsReading k bytes ms
+    → ReadsThen bytes ms None k.rest
 reads_then k bytes ms calm r = subst (λ f. ReadsTo f k.rest bytes ms) calm r
 
 -- the rest is shorter than the longest message
-pub rest_short : (k : Kept) (bytes : List ℕ) (ms : List Request) → k.fault ≡ None → IsReading k bytes ms → length k.rest < 12288
+pub rest_short : (k : Kept) (bytes : List ℕ) (ms : List Request) → k.fault ≡ None → IsReading k bytes ms
+    → length k.rest < 12288
 rest_short k bytes ms calm r = let t = reads_then k bytes ms calm r in open_short k.rest t.ends
 
 -- a piece that completes no message makes the rest longer
-pub rest_grows : (old new : Kept) (bytes piece : List ℕ) (ms : List Request) → old.fault ≡ None → new.fault ≡ None
-    → IsReading old bytes ms → IsReading new (bytes ++ piece) (ms ++ []) → length new.rest ≡ length old.rest + length piece
+pub rest_grows : (old new : Kept) (bytes piece : List ℕ) (ms : List Request) → old.fault ≡ None
+    → new.fault ≡ None
+    → IsReading old bytes ms → IsReading new (bytes ++ piece) (ms ++ [])
+    → length new.rest ≡ length old.rest + length piece
 rest_grows old new bytes piece ms calm still r s =
     let t = reads_then old bytes ms calm r in
     let u = reads_then new (bytes ++ piece) (ms ++ []) still s in
     let texts = flat_map print_message ms in
-    let before : length bytes ≡ length texts + length old.rest = ap length t.whole ∙ length-append texts old.rest in
+    let before : length bytes ≡ length texts + length old.rest =
+    ap length t.whole ∙ length-append texts old.rest in
     let after : length bytes + length piece ≡ length texts + length new.rest =
-        sym (length-append bytes piece) ∙ ap length u.whole
-        ∙ ap (λ ns. length (flat_map print_message ns ++ new.rest)) (append-nil ms) ∙ length-append texts new.rest in
+    sym (length-append bytes piece) ∙ ap length u.whole
+    ∙ ap (λ ns. length (flat_map print_message ns ++ new.rest)) (append-nil ms)
+    ∙ length-append texts new.rest in
     omega (arith, before, after)
 
 -- each piece takes a pair for a message that it completes, or makes the rest longer
@@ -87,7 +99,8 @@ before_of w ps f = record {
 module _ (left_old left_new : Option (List ℕ)) (w : Passage) (bytes : List ℕ) (ms : List Request)
     (read : Consumes left_old left_new bytes) where
   -- a connection that was served, and of which no fault was answered
-  pub served_plain : (e : Option WireFault) (served : Served) → Reads bytes ms e → AllAnswered w (up_to_close (shown ms))
+  pub served_plain : (e : Option WireFault) (served : Served) → Reads bytes ms e
+      → AllAnswered w (up_to_close (shown ms))
       → served.messages ≡ length (up_to_close (shown ms)) → served.fault ≡ None → answered_fault ms e ≡ None
       → (has_close (shown ms) ≡ false → e ≡ None → IsAtEnd left_new) → IsServed left_old left_new w served
   served_plain e served reads f counted told none ended = record {
@@ -107,23 +120,30 @@ module _ (left_old left_new : Option (List ℕ)) (w : Passage) (bytes : List ℕ
     answered = λ V b.
         let a = f.answered V b in
         let same : texts V f.exchanges ≡ texts V f.exchanges ++ last_text served.fault =
-            sym (append-nil (texts V f.exchanges)) ∙ ap (λ e. texts V f.exchanges ++ last_text e) (sym told) in
+        sym (append-nil (texts V f.exchanges)) ∙ ap (λ e. texts V f.exchanges ++ last_text e)
+        (sym told) in
         (subst (Sends w) same a.0, a.1);
   }
 
   -- a stop among the messages that were read in whole
   pub stopped_of : (e : ServeFault) (f : Option WireFault) → (e ≡ fault.Read → ⊥) → Reads bytes ms f
       → Stops e w (up_to_close (shown ms)) → IsStopped left_old left_new w e
-  stopped_of fault.Source f n reads s = (f, record { bytes = bytes; messages = ms; read = read; reads = reads; stops = s })
+  stopped_of fault.Source f n reads s =
+      (f, record { bytes = bytes; messages = ms; read = read; reads = reads; stops = s })
   stopped_of fault.Read f n reads s = absurd (n refl)
-  stopped_of fault.Write f n reads s = inl (f, record { bytes = bytes; messages = ms; read = read; reads = reads; stops = s })
-  stopped_of fault.Store f n reads s = (f, record { bytes = bytes; messages = ms; read = read; reads = reads; stops = s })
-  stopped_of fault.Memory f n reads s = record { bytes = bytes; messages = ms; read = read; begins = begins_of bytes ms f reads; stops = s }
+  stopped_of fault.Write f n reads s =
+      inl (f, record { bytes = bytes; messages = ms; read = read; reads = reads; stops = s })
+  stopped_of fault.Store f n reads s =
+      (f, record { bytes = bytes; messages = ms; read = read; reads = reads; stops = s })
+  stopped_of fault.Memory f n reads s =
+      record { bytes = bytes; messages = ms; read = read; begins = begins_of bytes ms f reads; stops = s }
 
-module _ {S W T : Type 0} (given : S → List Pair) (s0 s1 : S) (contents : W → Option (List ℕ)) (w0 w1 w2 : Watched W)
-    (honest : T → Type 0) (holds : T → Content → Type 0) (leaves : T → Content → Content → Type 0) (v0 v1 : Vault T)
+module _ {S W T : Type 0} (given : S → List Pair) (s0 s1 : S) (contents : W → Option (List ℕ))
+    (w0 w1 w2 : Watched W) (honest : T → Type 0) (holds : T → Content → Type 0) (leaves : T → Content
+    → Content → Type 0) (v0 v1 : Vault T)
     (left_old left_new : Option (List ℕ)) (bytes : List ℕ) (ms : List Request) (e : WireFault)
-    (read : Consumes left_old left_new bytes) (reads : Reads bytes ms (Some e)) (open_till : has_close (shown ms) ≡ false)
+    (read : Consumes left_old left_new bytes) (reads : Reads bytes ms (Some e))
+    (open_till : has_close (shown ms) ≡ false)
     (f : AllAnswered (passing given s0 s1 contents w0 w1 honest holds leaves v0 v1) (shown ms)) where
   -- all messages are answered, and then some bytes are sent
   sent_then : (more : List ℕ) → Appends (contents (inner_of w1)) (contents (inner_of w2)) more
@@ -131,8 +151,11 @@ module _ {S W T : Type 0} (given : S → List Pair) (s0 s1 : S) (contents : W �
       → Sends (passing given s0 s1 contents w0 w2 honest holds leaves v0 v1) (texts V f.exchanges ++ more)
       × Keeps (passing given s0 s1 contents w0 w2 honest holds leaves v0 v1) (vault_after V f.exchanges)
   sent_then more a = λ V b.
-      let q = f.answered V b in
-      (appends_both (contents (inner_of w0)) (contents (inner_of w1)) (contents (inner_of w2)) (texts V f.exchanges) more q.0 a, q.1)
+      let q = f.answered V b in (
+        appends_both (contents (inner_of w0)) (contents (inner_of w1)) (contents (inner_of w2))
+            (texts V f.exchanges) more q.0 a,
+        q.1,
+      )
 
   -- nothing was sent then
   silent_then : contents (inner_of w2) ≡ contents (inner_of w1)
@@ -170,9 +193,11 @@ module _ {S W T : Type 0} (given : S → List Pair) (s0 s1 : S) (contents : W �
         told = rw open_till told;
         ended = λ _ none. absurd (cc);
         answered = λ V b.
-            let q = sent_then (fault_text e) out V b in
-            (subst (λ x. Sends (passing given s0 s1 contents w0 w2 honest holds leaves v0 v1)
-                (texts V f.exchanges ++ last_text x)) (sym told) q.0, q.1);
+            let q = sent_then (fault_text e) out V b in (
+              subst (λ x. Sends (passing given s0 s1 contents w0 w2 honest holds leaves v0 v1)
+                  (texts V f.exchanges ++ last_text x)) (sym told) q.0,
+              q.1,
+            );
       }
 
   -- the fault was not answered
@@ -203,6 +228,7 @@ module _ {S W T : Type 0} (given : S → List Pair) (s0 s1 : S) (contents : W �
     messages = ms;
     read = read;
     begins = begins_of bytes ms (Some e) reads;
-    stops = inl (before_of _ _ (subst (AllAnswered (passing given s0 s1 contents w0 w2 honest holds leaves v0 v1))
+    stops =
+        inl (before_of _ _ (subst (AllAnswered (passing given s0 s1 contents w0 w2 honest holds leaves v0 v1))
         (sym (up_to_close-none (shown ms) open_till)) (silent_then r)));
   }

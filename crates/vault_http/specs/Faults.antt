@@ -11,7 +11,8 @@ number_of Write = 62
 number_of Store = 63
 number_of Memory = 64
 
--- which of the four that a service stands on have failed: the source refused, the reader or the writer failed, the
+-- which of the four that a service stands on have failed: the source refused, the reader or the writer
+-- failed, the
 -- vault is broken
 pub record Failures : Type 0 where
   pub source : Bool

@@ -1,11 +1,13 @@
 -- What a service does with the bytes of a connection.
-use Rattle.std.specs.Prelude.{◌≡◌, ℕ, ◌<◌, ◌⊎◌, List, ◌++◌, length, take, All, Bool, true, false, Option, Some, None, if◌then◌else◌}
+use Rattle.std.specs.Prelude.{◌≡◌, ℕ, ◌<◌, ◌⊎◌, List, ◌++◌, length, take, All, Bool, true, false, Option}
+use Rattle.std.specs.Prelude.{Some, None, if◌then◌else◌}
 use Rattle.std.specs.List.{flat_map}
 use Rattle.std.specs.Io.KnownBytes.{Consumes, IsAtEnd}
 use Rattle.vault_core.specs.Vault.{Vault as Content}
 use Rattle.vault_wire.specs.Messages.{Request, IsMessage, Reads, print_message}
 use Rattle.vault_wire.specs.declared.fault.WireFault.{WireFault}
-use Rattle.vault_http.specs.Exchanges.{Pair, Exchange, AskFirst, fault_text, has_close, last_text, shown, texts, up_to_close, vault_after}
+use Rattle.vault_http.specs.Exchanges.{Pair, Exchange, AskFirst, fault_text, has_close, last_text, shown}
+use Rattle.vault_http.specs.Exchanges.{texts, up_to_close, vault_after}
 use Rattle.vault_http.specs.Passing.{Passage, AllAnswered, IsBefore, Keeps, Sends, Stops, Takes}
 use Rattle.vault_http.specs.declared.fault.ServeFault.{ServeFault}
 use Rattle.vault_http.specs.declared.fault.ServeFault.TheVariants as fault
@@ -19,7 +21,8 @@ Left = Option (List ℕ)
 abbrev pub answered_fault : List Request → Option WireFault → Option WireFault
 answered_fault ms e = if has_close (shown ms) then None else e
 
--- The bytes that were read are messages, and an open rest or a fault; all messages up to the first that closes
+-- The bytes that were read are messages, and an open rest or a fault; all messages up to the first that
+-- closes
 -- are answered, and then the fault; where nothing closes the connection no byte is left.
 pub record IsServed (left_old left_new : Left) (w : Passage) (served : Served) : Type 0 where
   pub bytes : List ℕ
@@ -45,7 +48,8 @@ pub record Begins (bytes : List ℕ) (ms : List Request) : Type 0 where
   pub each : All IsMessage ms
 
 -- the bytes that were read are messages, and an open rest or this fault, and the service stopped among them
-pub record StopsAmong (e : ServeFault) (left_old left_new : Left) (w : Passage) (fault : Option WireFault) : Type 0 where
+pub record StopsAmong (e : ServeFault) (left_old left_new : Left) (w : Passage)
+    (fault : Option WireFault) : Type 0 where
   pub bytes : List ℕ
   pub messages : List Request
   pub read : Consumes left_old left_new bytes
@@ -82,6 +86,7 @@ pub record StopsForMemory (left_old left_new : Left) (w : Passage) : Type 0 wher
 abbrev pub IsStopped : Left → Left → Passage → ServeFault → Type 0
 IsStopped old new w fault.Source = (e : Option WireFault) × StopsAmong fault.Source old new w e
 IsStopped old new w fault.Read = StopsAmong fault.Read old new w None
-IsStopped old new w fault.Write = ((e : Option WireFault) × StopsAmong fault.Write old new w e) ⊎ StopsAtFault old new w
+IsStopped old new w fault.Write = ((e : Option WireFault) × StopsAmong fault.Write old new w e)
+    ⊎ StopsAtFault old new w
 IsStopped old new w fault.Store = (e : Option WireFault) × StopsAmong fault.Store old new w e
 IsStopped old new w fault.Memory = StopsForMemory old new w

@@ -1,5 +1,6 @@
 //! One message answered.
-ghost use Rattle.std.specs.Prelude.{◌≡◌, ◌∷◌, [], ◌⊎◌, ◌+◌, true, false, Err, IfErr, IfOk, OnOk, MatchResult, option_map};
+ghost use Rattle.std.specs.Prelude.{◌≡◌, ◌∷◌, [], ◌⊎◌, ◌+◌, true, false, Err, IfErr, IfOk, OnOk, MatchResult};
+ghost use Rattle.std.specs.Prelude.{option_map};
 ghost use Rattle.vault_core.specs.Vault.{Vault as Content};
 ghost use Rattle.vault_store.specs.Applied.{Contains, is_broken, tables_of};
 ghost use Rattle.vault_wire.specs.Answer.{answer_bytes};
@@ -60,7 +61,8 @@ fn decide<T: Tables>(
         → T.leaves (tables_of vault.new) V (vault_after V (x ∷ []))) }
     ensures only { IfErr result (λ e. (e ≡ ServeFault.Memory) ⊎ (e ≡ ServeFault.Store)) }
     ensures told { Tells result
-        (failures false false false (is_broken vault.old)) (failures false false false (is_broken vault.new)) }
+        (failures false false false (is_broken vault.old))
+        (failures false false false (is_broken vault.new)) }
     ensures honest { T.is_honest (tables_of vault.new) → T.is_honest (tables_of vault.old) }
 {
     match command_of(alloc, routes, message, now, digits) {
@@ -85,7 +87,8 @@ fn written(
     closes: bool,
 ) -> Result<Vec<u8>, AllocError>
     ensures { let methods = option_map (λ s. s.now) allow.entry in
-        IfOk result (λ out. out.items ≡ answer_bytes (code_of reply.now) methods (body_text reply.now) closes) }
+        IfOk result (λ out. out.items
+        ≡ answer_bytes (code_of reply.now) methods (body_text reply.now) closes) }
 {
     let body = body_of(alloc, reply)?;
     answer_text(alloc, status_of(reply), allow, &body, closes)
@@ -113,7 +116,8 @@ pub(crate) fn answer_one<W: Write, T: Tables, S: Source>(
     vault: &mut Vault<T>,
     source: &mut S,
 ) -> Result<(), ServeFault>
-    ensures ends { let w : Passage = passing S.given source.old source.new W.contents writer.old writer.new T.is_honest T.holds T.leaves vault.old vault.new in
+    ensures ends { let w : Passage = passing S.given source.old source.new W.contents writer.old writer.new
+        T.is_honest T.holds T.leaves vault.old vault.new in
         MatchResult result (λ _. AllAnswered w (message.now ∷ [])) (λ e. Stops e w (message.now ∷ [])) }
     ensures told { Tells result
         (failures (S.has_refused source.old) false (is_stopped writer.old) (is_broken vault.old))

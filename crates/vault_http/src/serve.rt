@@ -38,13 +38,16 @@ fn answer_all<W: Write, T: Tables, S: Source>(
     vault: &mut Vault<T>,
     source: &mut S,
 ) -> Result<bool, ServeFault>
-    ensures ends { let w : Passage = passing S.given source.old source.new W.contents writer.old writer.new T.is_honest T.holds T.leaves vault.old vault.new in
-        MatchResult result (λ _. AllAnswered w (up_to_close messages.now)) (λ e. Stops e w (up_to_close messages.now)) }
+    ensures ends { let w : Passage = passing S.given source.old source.new W.contents writer.old writer.new
+        T.is_honest T.holds T.leaves vault.old vault.new in
+        MatchResult result (λ _. AllAnswered w (up_to_close messages.now))
+        (λ e. Stops e w (up_to_close messages.now)) }
     ensures closes { IfOk result (λ closed. closed ≡ has_close messages.now) }
     ensures told { Tells result
         (failures (S.has_refused source.old) false (is_stopped writer.old) (is_broken vault.old))
         (failures (S.has_refused source.new) false (is_stopped writer.new) (is_broken vault.new)) }
-    ensures counted { OnOk result (S.count_left source.old ≡ S.count_left source.new + length (up_to_close messages.now)) }
+    ensures counted { OnOk result (S.count_left source.old
+        ≡ S.count_left source.new + length (up_to_close messages.now)) }
     ensures later { S.precedes source.old source.new }
     ensures honest { T.is_honest (tables_of vault.new) → T.is_honest (tables_of vault.old) }
 {
@@ -72,9 +75,16 @@ fn fault_answer(alloc: Global, fault: WireFault) -> Result<Vec<u8>, AllocError>
 }
 
 /// Answers a fault of the bytes.
-fn refuse<W: Write>(alloc: Global, fault: WireFault, writer: &mut Watched<W>) -> Result<(), ServeFault>
-    ensures ends { IsRefused (W.contents (inner_of writer.old)) (W.contents (inner_of writer.new)) (fault_text fault) result }
-    ensures told { Tells result (failures false false (is_stopped writer.old) false) (failures false false (is_stopped writer.new) false) }
+fn refuse<W: Write>(
+    alloc: Global,
+    fault: WireFault,
+    writer: &mut Watched<W>,
+) -> Result<(), ServeFault>
+    ensures ends { IsRefused (W.contents (inner_of writer.old)) (W.contents (inner_of writer.new))
+        (fault_text fault) result }
+    ensures told { Tells result
+        (failures false false (is_stopped writer.old) false)
+        (failures false false (is_stopped writer.new) false) }
 {
     let Ok(text) = fault_answer(alloc, fault) else {
         return Err(ServeFault::Memory);
@@ -94,13 +104,17 @@ pub fn serve_by<R: Read, W: Write, T: Tables, S: Source>(
     vault: &mut Vault<T>,
     source: &mut S,
 ) -> Result<Served, ServeFault>
-    ensures served { let w : Passage = passing S.given source.old source.new W.contents writer.old writer.new T.is_honest T.holds T.leaves vault.old vault.new in
+    ensures served { let w : Passage = passing S.given source.old source.new W.contents writer.old writer.new
+        T.is_honest T.holds T.leaves vault.old vault.new in
         IfOk result (IsServed (R.remaining (inner_of reader.old)) (R.remaining (inner_of reader.new)) w) }
-    ensures stopped { let w : Passage = passing S.given source.old source.new W.contents writer.old writer.new T.is_honest T.holds T.leaves vault.old vault.new in
+    ensures stopped { let w : Passage = passing S.given source.old source.new W.contents writer.old writer.new
+        T.is_honest T.holds T.leaves vault.old vault.new in
         IfErr result (IsStopped (R.remaining (inner_of reader.old)) (R.remaining (inner_of reader.new)) w) }
     ensures told { Tells result
-        (failures (S.has_refused source.old) (is_stopped reader.old) (is_stopped writer.old) (is_broken vault.old))
-        (failures (S.has_refused source.new) (is_stopped reader.new) (is_stopped writer.new) (is_broken vault.new)) }
+        (failures (S.has_refused source.old) (is_stopped reader.old) (is_stopped writer.old)
+        (is_broken vault.old))
+        (failures (S.has_refused source.new) (is_stopped reader.new) (is_stopped writer.new)
+        (is_broken vault.new)) }
     ensures later { S.precedes source.old source.new }
     ensures honest { T.is_honest (tables_of vault.new) → T.is_honest (tables_of vault.old) }
 {
@@ -113,7 +127,10 @@ pub fn serve_by<R: Read, W: Write, T: Tables, S: Source>(
         };
         if count == 0 {
             let messages = pairs - source.left();
-            return Ok(Served { messages, fault: None });
+            return Ok(Served {
+                messages,
+                fault: None,
+            });
         }
         let Ok(fed) = intake.feed(&piece[..count]) else {
             return Err(ServeFault::Memory);
@@ -121,7 +138,10 @@ pub fn serve_by<R: Read, W: Write, T: Tables, S: Source>(
         match answer_all(alloc, routes, &fed.messages, writer, vault, source) {
             Ok(true) => {
                 let messages = pairs - source.left();
-                return Ok(Served { messages, fault: None });
+                return Ok(Served {
+                    messages,
+                    fault: None,
+                });
             }
             Ok(false) => {}
             Err(fault) => return Err(fault),
@@ -154,13 +174,17 @@ pub fn serve<R: Read, W: Write, T: Tables, S: Source>(
     vault: &mut Vault<T>,
     source: &mut S,
 ) -> Result<Served, ServeFault>
-    ensures served { let w : Passage = passing S.given source.old source.new W.contents writer.old writer.new T.is_honest T.holds T.leaves vault.old vault.new in
+    ensures served { let w : Passage = passing S.given source.old source.new W.contents writer.old writer.new
+        T.is_honest T.holds T.leaves vault.old vault.new in
         IfOk result (IsServed (R.remaining (inner_of reader.old)) (R.remaining (inner_of reader.new)) w) }
-    ensures stopped { let w : Passage = passing S.given source.old source.new W.contents writer.old writer.new T.is_honest T.holds T.leaves vault.old vault.new in
+    ensures stopped { let w : Passage = passing S.given source.old source.new W.contents writer.old writer.new
+        T.is_honest T.holds T.leaves vault.old vault.new in
         IfErr result (IsStopped (R.remaining (inner_of reader.old)) (R.remaining (inner_of reader.new)) w) }
     ensures told { Tells result
-        (failures (S.has_refused source.old) (is_stopped reader.old) (is_stopped writer.old) (is_broken vault.old))
-        (failures (S.has_refused source.new) (is_stopped reader.new) (is_stopped writer.new) (is_broken vault.new)) }
+        (failures (S.has_refused source.old) (is_stopped reader.old) (is_stopped writer.old)
+        (is_broken vault.old))
+        (failures (S.has_refused source.new) (is_stopped reader.new) (is_stopped writer.new)
+        (is_broken vault.new)) }
     ensures later { S.precedes source.old source.new }
     ensures honest { T.is_honest (tables_of vault.new) → T.is_honest (tables_of vault.old) }
 {

@@ -1,5 +1,7 @@
 -- What the rows behind `/v1/merchants/` and a merchant's text find.
-use Rattle.std.proofs.Common.{◌≡◌, ℕ, ◌-◌, ◌<◌, ◌∙◌, List, [], ◌∷◌, ◌++◌, length, take, drop, codes, Some, None, Bool, true, false, cond, refl, sym, ap, ◌⊎◌, inl, inr, nat_eq, ltb, ◌&&◌, ◌==◌}
+use Rattle.std.proofs.Common.{◌≡◌, ℕ, ◌-◌, ◌<◌, ◌∙◌, List, [], ◌∷◌, ◌++◌, length, take, drop, codes, Some}
+use Rattle.std.proofs.Common.{None, Bool, true, false, cond, refl, sym, ap, ◌⊎◌, inl, inr, nat_eq, ltb, ◌&&◌}
+use Rattle.std.proofs.Common.{◌==◌}
 use Rattle.std.proofs.lemmas.List.{take-append-drop}
 use Rattle.std.proofs.lemmas.Bool.{eqb-true, ltb-true}
 use Rattle.std.specs.Cmp.Lexicographic.{bytes_decides}
@@ -78,7 +80,8 @@ ByByte rs x s y t text =
     ⊎ ((path : List ℕ) × (text ≡ y ∷ path) × (first rs text ≡ first t path)))
 
 by_byte : (rs s t : Rows) (x y : ℕ) → step param_token rs ≡ [] → step catch_all_token rs ≡ [] → step x rs ≡ s
-    → step y rs ≡ t → ((b : ℕ) → (x == b) ≡ false → (y == b) ≡ false → step b rs ≡ []) → (b : ℕ) (path : List ℕ)
+    → step y rs ≡ t → ((b : ℕ) → (x == b) ≡ false → (y == b) ≡ false → step b rs ≡ [])
+    → (b : ℕ) (path : List ℕ)
     → ByByte rs x s y t (b ∷ path)
 by_byte rs s t x y no_param no_rest at_x at_y other b path = by (x == b) refl (y == b) refl
   where
@@ -88,10 +91,20 @@ by_byte rs s t x y no_param no_rest at_x at_y other b path = by (x == b) refl (y
     by : (u : Bool) → (x == b) ≡ u → (v : Bool) → (y == b) ≡ v → ByByte rs x s y t (b ∷ path)
     by true e v f =
         let same : x ≡ b = eqb-true _ _ e in
-        inr (inl (path, ap (λ n. n ∷ path) (sym same), goes ∙ ap (λ r. first r path) (ap (λ n. step n rs) (sym same) ∙ at_x)))
+        inr (inl (
+          path,
+          ap (λ n. n ∷ path) (sym same),
+          goes ∙ ap (λ r. first r path)
+              (ap (λ n. step n rs) (sym same) ∙ at_x),
+        ))
     by false e true f =
         let same : y ≡ b = eqb-true _ _ f in
-        inr (inr (path, ap (λ n. n ∷ path) (sym same), goes ∙ ap (λ r. first r path) (ap (λ n. step n rs) (sym same) ∙ at_y)))
+        inr (inr (
+          path,
+          ap (λ n. n ∷ path) (sym same),
+          goes ∙ ap (λ r. first r path)
+              (ap (λ n. step n rs) (sym same) ∙ at_y),
+        ))
     by false e false f = inl (goes ∙ (ap (λ r. first r path) (other b e f) ∙ seek-empty 0 path))
 
 -- ---- the rows of the service
@@ -109,7 +122,8 @@ abbrev pub merchant_rows : Rows
 merchant_rows = (codes "audit", 0) ∷ prepend (codes "tokens") tokens_rows
 
 -- what they find
-pub ends_token : (text : List ℕ) → (first token_rows text ≡ None) ⊎ ((text ≡ codes "number") ⊎ (text ≡ codes "revoke"))
+pub ends_token : (text : List ℕ) → (first token_rows text ≡ None)
+    ⊎ ((text ≡ codes "number") ⊎ (text ≡ codes "revoke"))
 unfolding seek
 ends_token [] = inl refl
 ends_token (b ∷ path) =
@@ -119,12 +133,14 @@ ends_token (b ∷ path) =
     Ends : Type 0
     Ends = (first token_rows (b ∷ path) ≡ None) ⊎ ((b ∷ path ≡ codes "number") ⊎ (b ∷ path ≡ codes "revoke"))
 
-    number : (left : List ℕ) → b ∷ path ≡ 110 ∷ left → first token_rows (b ∷ path) ≡ first ((codes "umber", 1) ∷ []) left
+    number : (left : List ℕ) → b ∷ path ≡ 110 ∷ left
+        → first token_rows (b ∷ path) ≡ first ((codes "umber", 1) ∷ []) left
         → (first (prepend (codes "umber") (([], 1) ∷ [])) left ≡ None) ⊎ (left ≡ codes "umber") → Ends
     number left same found (inl none) = inl (found ∙ none)
     number left same found (inr is) = inr (inl (same ∙ ap (λ t. 110 ∷ t) is))
 
-    revoke : (left : List ℕ) → b ∷ path ≡ 114 ∷ left → first token_rows (b ∷ path) ≡ first ((codes "evoke", 2) ∷ []) left
+    revoke : (left : List ℕ) → b ∷ path ≡ 114 ∷ left
+        → first token_rows (b ∷ path) ≡ first ((codes "evoke", 2) ∷ []) left
         → (first (prepend (codes "evoke") (([], 2) ∷ [])) left ≡ None) ⊎ (left ≡ codes "evoke") → Ends
     revoke left same found (inl none) = inl (found ∙ none)
     revoke left same found (inr is) = inr (inr (same ∙ ap (λ t. 114 ∷ t) is))
@@ -163,7 +179,8 @@ pub ends_merchant : (text : List ℕ)
 unfolding seek
 ends_merchant [] = inl refl
 ends_merchant (b ∷ path) =
-    by (by_byte merchant_rows ((codes "udit", 0) ∷ []) (prepend (codes "okens") tokens_rows) 97 116 refl refl refl refl
+    by (by_byte merchant_rows ((codes "udit", 0) ∷ []) (prepend (codes "okens") tokens_rows) 97 116 refl
+    refl refl refl
     (λ b e f. rw (e, f) refl) b path)
   where
     Ends : Type 0
@@ -172,7 +189,8 @@ ends_merchant (b ∷ path) =
         ⊎ ((b ∷ path ≡ codes "audit") ⊎ ((left : List ℕ) × (b ∷ path ≡ codes "tokens" ++ left)
         × (first merchant_rows (b ∷ path) ≡ first tokens_rows left)))
 
-    audit : (left : List ℕ) → b ∷ path ≡ 97 ∷ left → first merchant_rows (b ∷ path) ≡ first ((codes "udit", 0) ∷ []) left
+    audit : (left : List ℕ) → b ∷ path ≡ 97 ∷ left
+        → first merchant_rows (b ∷ path) ≡ first ((codes "udit", 0) ∷ []) left
         → (first (prepend (codes "udit") (([], 0) ∷ [])) left ≡ None) ⊎ (left ≡ codes "udit") → Ends
     audit left same found (inl none) = inl (found ∙ none)
     audit left same found (inr is) = inr (inl (same ∙ ap (λ t. 97 ∷ t) is))
@@ -184,11 +202,14 @@ ends_merchant (b ∷ path) =
         × (first (prepend (codes "okens") tokens_rows) left ≡ first tokens_rows more))
         → Ends
     tokens left same found (inl none) = inl (found ∙ none)
-    tokens left same found (inr (more, is, goes)) = inr (inr (more, same ∙ ap (λ t. 116 ∷ t) is, found ∙ goes))
+    tokens left same found (inr (more, is, goes)) =
+        inr (inr (more, same ∙ ap (λ t. 116 ∷ t) is, found ∙ goes))
 
-    by : ByByte merchant_rows 97 ((codes "udit", 0) ∷ []) 116 (prepend (codes "okens") tokens_rows) (b ∷ path) → Ends
+    by : ByByte merchant_rows 97 ((codes "udit", 0) ∷ []) 116 (prepend (codes "okens") tokens_rows) (b ∷ path)
+        → Ends
     by (inl none) = inl none
     by (inr (inl (left, same, found))) =
         audit left same found (behind_end (codes "udit") 0 left (IsText-from_test (codes "udit") refl))
     by (inr (inr (left, same, found))) =
-        tokens left same found (behind_text (codes "okens") tokens_rows left (IsText-from_test (codes "okens") refl))
+        tokens left same found (behind_text (codes "okens") tokens_rows left
+        (IsText-from_test (codes "okens") refl))

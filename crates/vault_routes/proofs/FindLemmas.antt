@@ -1,9 +1,11 @@
 -- What a target names.
-use Rattle.std.proofs.Common.{◌≡◌, ℕ, suc, ◌+◌, ◌<◌, ◌∙◌, List, [], ◌∷◌, ◌++◌, length, drop, get_or, codes, Option, Some, None, false, refl, sym, arith, subst, lit<, inl, inr, Bor}
+use Rattle.std.proofs.Common.{◌≡◌, ℕ, suc, ◌+◌, ◌<◌, ◌∙◌, List, [], ◌∷◌, ◌++◌, length, drop, get_or, codes}
+use Rattle.std.proofs.Common.{Option, Some, None, false, refl, sym, arith, subst, lit<, inl, inr, Bor}
 use lib.Utf8.{encode}
 use Rattle.std.proofs.Math.Seq.{drop-append_seam, take-append_seam}
 use Rattle.std.proofs.lemmas.List.{length-append}
-use Rattle.std.proofs.lemmas.Str.{IsCharBoundary-after_ascii, IsCharBoundary-before_ascii, IsUtf8-drop, IsUtf8-take}
+use Rattle.std.proofs.lemmas.Str.{IsCharBoundary-after_ascii, IsCharBoundary-before_ascii, IsUtf8-drop}
+use Rattle.std.proofs.lemmas.Str.{IsUtf8-take}
 use Rattle.std.specs.Option.{unwrap_or}
 use Rattle.std.specs.Prelude.{MatchOption}
 use Rattle.std.specs.Str.{IsUtf8}
@@ -26,7 +28,8 @@ IsUtf8-round_slash a b text =
     let long : length a < length all = omega (arith, length-append a (47 ∷ b)) in
     let slash = get_or-at all (length a) 47 b left in
     let low : get_or all (length a) 0 < 128 = rw slash (lit< tt) in (
-      subst IsUtf8 (take-append_seam a (47 ∷ b)) (IsUtf8-take all (length a) text (IsCharBoundary-before_ascii all (length a) long low)),
+      subst IsUtf8 (take-append_seam a (47 ∷ b))
+          (IsUtf8-take all (length a) text (IsCharBoundary-before_ascii all (length a) long low)),
       subst IsUtf8 (drop-part all (length a) (47 ∷ []) b left)
           (IsUtf8-drop all (length a + 1) text (IsCharBoundary-after_ascii all (length a) text long low)),
     )
@@ -52,7 +55,8 @@ AllText-values place.Tokens m t text =
 AllText-values place.Audit m t text =
     (IsUtf8-m, (IsUtf8-round_slash m (codes "audit") (IsUtf8-behind (m ++ codes "/audit") text)).0, tt)
 AllText-values place.Token m t text =
-    let both = IsUtf8-round_slash m (codes "tokens/" ++ t) (IsUtf8-behind (m ++ (codes "/tokens/" ++ t)) text) in
+    let both =
+    IsUtf8-round_slash m (codes "tokens/" ++ t) (IsUtf8-behind (m ++ (codes "/tokens/" ++ t)) text) in
     (IsUtf8-m, both.0, (IsUtf8-t, (IsUtf8-round_slash (codes "tokens") t both.1).1, tt))
 AllText-values place.Number m t text =
     let both = IsUtf8-round_slash m (codes "tokens/" ++ (t ++ codes "/number"))
@@ -72,9 +76,11 @@ IsText-bytes (b ∷ text) bytes = (bytes 0, IsText-bytes text (λ k. bytes (suc 
 -- a found row is a place's, and the target is its template with texts
 abbrev pub Is : List ℕ → RouteOf Place → Type 0
 Is target row =
-    (p : Place) × (m : List ℕ) × (t : List ℕ) × (target ≡ target_text p m t) × AreTexts p m t × (row ≡ row_for p)
+    (p : Place) × (m : List ℕ) × (t : List ℕ) × (target ≡ target_text p m t) × AreTexts p m t
+    × (row ≡ row_for p)
 
-pub found-is : (target : List ℕ) (row : RouteOf Place) → IsText target → first templates target ≡ Some row → Is target row
+pub found-is : (target : List ℕ) (row : RouteOf Place) → IsText target → first templates target ≡ Some row
+    → Is target row
 found-is target row small given = by (found target small)
   where
     by : Found target → Is target row
@@ -83,22 +89,26 @@ found-is target row small given = by (found target small)
         let is : row ≡ row_for p = cc in (p, m, t, same, are, is)
 
 -- what its parameters took is text
-pub AllText-found : (target : List ℕ) (row : RouteOf Place) → IsText target → IsUtf8 target → first templates target ≡ Some row
+pub AllText-found : (target : List ℕ) (row : RouteOf Place) → IsText target → IsUtf8 target
+    → first templates target ≡ Some row
     → AllText (walk row.pattern row.text target row.names 0 0)
 AllText-found target row small text given = by target row text (found-is target row small given)
   where
     by : (target : List ℕ) (row : RouteOf Place) → IsUtf8 target → Is target row
         → AllText (walk row.pattern row.text target row.names 0 0)
     by target row text (p, m, t, same, are, is) =
-        let walked : walk row.pattern row.text target row.names 0 0 ≡ values p m t = rw (is, same) (walk-target p m t are) in
+        let walked : walk row.pattern row.text target row.names 0 0 ≡ values p m t =
+        rw (is, same) (walk-target p m t are) in
         subst AllText (sym walked) (AllText-values p m t (subst IsUtf8 same text))
 
 -- what such a row's template says of the target
-pub route_of-found : (target : List ℕ) (row : RouteOf Place) → has_query target ≡ false → first templates target ≡ Some row
+pub route_of-found : (target : List ℕ) (row : RouteOf Place) → has_query target ≡ false
+    → first templates target ≡ Some row
     → route_of target ≡ target_by row target
 route_of-found target row plain given = rw (plain, given) refl
 
-pub target_by-place : (target : List ℕ) (p : Place) (m t : List ℕ) → target ≡ target_text p m t → AreTexts p m t
+pub target_by-place : (target : List ℕ) (p : Place) (m t : List ℕ) → target ≡ target_text p m t
+    → AreTexts p m t
     → target_by (row_for p) target ≡ Some (record { place = p; merchant = m; token = t })
 target_by-place target p m t same are =
     let walked : walk (row_for p).pattern (row_for p).text target (row_for p).names 0 0 ≡ values p m t =
@@ -106,7 +116,8 @@ target_by-place target p m t same are =
     rw walked (named-values p m t are.token)
 
 -- with the parameters that were taken
-pub route_of-unnamed : (target : List ℕ) (row : RouteOf Place) → has_query target ≡ false → first templates target ≡ Some row
+pub route_of-unnamed : (target : List ℕ) (row : RouteOf Place) → has_query target ≡ false
+    → first templates target ≡ Some row
     → parameter (codes "m") row target ≡ None → route_of target ≡ None
 route_of-unnamed target row plain given none = rw (plain, given, none) refl
 

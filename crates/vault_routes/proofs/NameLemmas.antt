@@ -1,5 +1,6 @@
 -- What a target names, in its own bytes.
-use Rattle.std.proofs.Common.{All, ◌≡◌, ℕ, ◌<◌, ◌≤◌, ◌∙◌, ◌⊎◌, List, [], ◌∷◌, ◌++◌, length, get_or, codes, Some, Bool, true, false, ◌||◌, ◌==◌, lit<, refl, sym, inl, inr, subst}
+use Rattle.std.proofs.Common.{All, ◌≡◌, ℕ, ◌<◌, ◌≤◌, ◌∙◌, ◌⊎◌, List, [], ◌∷◌, ◌++◌, length, get_or, codes}
+use Rattle.std.proofs.Common.{Some, Bool, true, false, ◌||◌, ◌==◌, lit<, refl, sym, inl, inr, subst}
 use Rattle.std.proofs.lemmas.Bool.{cases_lt}
 use Rattle.std.proofs.lemmas.List.{get_or_past}
 use Rattle.std.proofs.lemmas.List.Folds.{list_any-append}
@@ -12,7 +13,8 @@ use Rattle.vault_routes.specs.declared.table.Place.{Place}
 use Rattle.vault_routes.specs.declared.table.Place.TheVariants as place
 use Rattle.vault_routes.proofs.FindLemmas.{IsText-bytes, route_of-found, target_by-place}
 use Rattle.vault_routes.proofs.ParameterLemmas.{IsPlain}
-use Rattle.vault_routes.proofs.TemplateLemmas.{AreTexts, Found, TakesToken, before_merchant, filled-is, first-target, found, merchant_on, row_for, target_text}
+use Rattle.vault_routes.proofs.TemplateLemmas.{AreTexts, Found, TakesToken, before_merchant, filled-is}
+use Rattle.vault_routes.proofs.TemplateLemmas.{first-target, found, merchant_on, row_for, target_text}
 
 bytes_below : (target : List ℕ) → All (λ b. b < 256) target → (k : ℕ) → get_or target k 0 < 256
 bytes_below target bytes k = by (cases_lt k (length target))
@@ -22,7 +24,8 @@ bytes_below target bytes k = by (cases_lt k (length target))
     by (inr past) = rw (get_or_past target k 0 past) (lit< tt)
 
 -- what holds of a target and of each part of a text that it holds of holds of the parameters
-in_parts : (P : List ℕ → Type 0) → ((a b : List ℕ) → P (a ++ b) → P a × P b) → P [] → (p : Place) (m t : List ℕ)
+in_parts : (P : List ℕ → Type 0) → ((a b : List ℕ) → P (a ++ b) → P a × P b) → P []
+    → (p : Place) (m t : List ℕ)
     → TakesToken p t → P (target_text p m t) → P m × P t
 in_parts P both none place.Tokens m t takes h =
     ((both m (codes "/tokens") (both before_merchant (m ++ codes "/tokens") h).1).0, subst P (sym takes) none)
@@ -95,14 +98,19 @@ takes-token place.Revoke t is = (is_plain t (is.0 refl), (is.0 refl).no_query)
 -- a target names what it is the target of
 names : (target : List ℕ) (w : Target) → IsText target → IsTargetOf w target → route_of target ≡ Some w
 names target w small is =
-    let same : target ≡ target_text w.place w.merchant w.token = is.text ∙ filled-is w.place w.merchant w.token in
+    let same : target ≡ target_text w.place w.merchant w.token =
+    is.text ∙ filled-is w.place w.merchant w.token in
     let takes = takes-token w.place w.token (is.token, is.no_token) in
-    let are : AreTexts w.place w.merchant w.token = record { merchant = is_plain w.merchant is.merchant; token = takes.0 } in
+    let are : AreTexts w.place w.merchant w.token =
+    record { merchant = is_plain w.merchant is.merchant; token = takes.0 } in
     let low = in_parts IsText IsText-both tt w.place w.merchant w.token takes.0 (subst IsText same small) in
     let rest = plain-rest w.place w.merchant w.token is.merchant.no_query takes.1 in
-    let plain : has_query target ≡ false = rw same (plain-append before_merchant (merchant_on w.place w.merchant w.token) refl rest) in
-    let given : first templates target ≡ Some (row_for w.place) = rw same (first-target w.place w.merchant w.token are low.0 low.1) in
-    route_of-found target (row_for w.place) plain given ∙ target_by-place target w.place w.merchant w.token same are
+    let plain : has_query target ≡ false =
+    rw same (plain-append before_merchant (merchant_on w.place w.merchant w.token) refl rest) in
+    let given : first templates target ≡ Some (row_for w.place) =
+    rw same (first-target w.place w.merchant w.token are low.0 low.1) in
+    route_of-found target (row_for w.place) plain given ∙ target_by-place target w.place w.merchant
+    w.token same are
 
 -- and nothing else
 names-only : (target : List ℕ) (w : Target) → IsText target → route_of target ≡ Some w → IsTargetOf w target

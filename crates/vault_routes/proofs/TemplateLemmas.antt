@@ -1,5 +1,6 @@
 -- What the service's router finds for a target, by the target's own parts.
-use Rattle.std.proofs.Common.{◌≡◌, ℕ, ◌∙◌, List, [], ◌∷◌, ◌++◌, codes, Some, None, cond, refl, ap, arith, ◌⊎◌, inl, inr, subst, lit<, ◌==◌, append-nil}
+use Rattle.std.proofs.Common.{◌≡◌, ℕ, ◌∙◌, List, [], ◌∷◌, ◌++◌, codes, Some, None, cond, refl, ap, arith, ◌⊎◌}
+use Rattle.std.proofs.Common.{inl, inr, subst, lit<, ◌==◌, append-nil}
 use Rattle.matchit.proofs.OnLiterals.{matchit_on_literals}
 use Rattle.matchit.proofs.RenameLemmas.{first-rename}
 use Rattle.matchit.proofs.SeekLemmas.{first-prefix}
@@ -11,8 +12,10 @@ use Rattle.vault_routes.specs.Table.{filled, row_of, template_text}
 use Rattle.vault_routes.specs.Templates.{templates}
 use Rattle.vault_routes.specs.declared.table.Place.{Place}
 use Rattle.vault_routes.specs.declared.table.Place.TheVariants as place
-use Rattle.vault_routes.proofs.BranchLemmas.{IsText-from_test, behind_text, ends_merchant, ends_token, ends_tokens, first-byte, merchant_rows, token_rows, tokens_rows}
-use Rattle.vault_routes.proofs.ParameterLemmas.{IsPlain, Parts, first-at_slash, first-no_slash, parts, with_parameter}
+use Rattle.vault_routes.proofs.BranchLemmas.{IsText-from_test, behind_text, ends_merchant, ends_token}
+use Rattle.vault_routes.proofs.BranchLemmas.{ends_tokens, first-byte, merchant_rows, token_rows, tokens_rows}
+use Rattle.vault_routes.proofs.ParameterLemmas.{IsPlain, Parts, first-at_slash, first-no_slash, parts}
+use Rattle.vault_routes.proofs.ParameterLemmas.{with_parameter}
 
 -- the part of a target before the merchant
 abbrev pub before_merchant : List ℕ
@@ -94,29 +97,37 @@ templates-renamed : templates ≡ rename row_at (prepend before_merchant all_row
 unfolding matchit_on_literals
 templates-renamed = refl
 
-first-templates : (target : List ℕ) → first templates target ≡ map_key row_at (first (prepend before_merchant all_rows) target)
+first-templates : (target : List ℕ)
+    → first templates target ≡ map_key row_at (first (prepend before_merchant all_rows) target)
 first-templates target = ap (λ rs. first rs target) templates-renamed ∙ first-rename _ _ target
 
 -- what the rows find behind `/v1/merchants/` is what they find
-first-before : (left : List ℕ) → first (prepend before_merchant all_rows) (before_merchant ++ left) ≡ first all_rows left
-first-before left = first-prefix before_merchant all_rows (before_merchant ++ left) (IsText-from_test before_merchant refl)
+first-before : (left : List ℕ) → first (prepend before_merchant all_rows) (before_merchant ++ left)
+    ≡ first all_rows left
+first-before left =
+    first-prefix before_merchant all_rows (before_merchant ++ left) (IsText-from_test before_merchant refl)
 
 -- a merchant, and what stands behind the slash
-first-merchant : (m rest : List ℕ) → IsPlain m → IsText m → first all_rows (m ++ 47 ∷ rest) ≡ first merchant_rows rest
+first-merchant : (m rest : List ℕ) → IsPlain m → IsText m
+    → first all_rows (m ++ 47 ∷ rest) ≡ first merchant_rows rest
 first-merchant [] rest plain small = absurd (omega (arith, plain.some))
-first-merchant (b ∷ m) rest plain small = first-at_slash merchant_rows None (lit< tt) b m rest small.0 plain.one_part
+first-merchant (b ∷ m) rest plain small =
+    first-at_slash merchant_rows None (lit< tt) b m rest small.0 plain.one_part
 
 -- a merchant's tokens, and what stands behind the slash
-first-tokens : (path : List ℕ) → first merchant_rows (codes "tokens/" ++ path) ≡ first (with_parameter token_rows (Some 3)) path
+first-tokens : (path : List ℕ) → first merchant_rows (codes "tokens/" ++ path) ≡ first
+    (with_parameter token_rows (Some 3)) path
 first-tokens path =
     first-byte merchant_rows 116 (codes "okens/" ++ path) refl refl
-    ∙ (first-prefix (codes "okens") tokens_rows (codes "okens/" ++ path) (IsText-from_test (codes "okens") refl)
+    ∙ (first-prefix (codes "okens") tokens_rows (codes "okens/" ++ path)
+    (IsText-from_test (codes "okens") refl)
     ∙ first-byte tokens_rows 47 path refl refl)
 
 first-token : (t rest : List ℕ) → IsPlain t → IsText t
     → first (with_parameter token_rows (Some 3)) (t ++ 47 ∷ rest) ≡ first token_rows rest
 first-token [] rest plain small = absurd (omega (arith, plain.some))
-first-token (b ∷ t) rest plain small = first-at_slash token_rows (Some 3) (lit< tt) b t rest small.0 plain.one_part
+first-token (b ∷ t) rest plain small =
+    first-at_slash token_rows (Some 3) (lit< tt) b t rest small.0 plain.one_part
 
 first-token_end : (t : List ℕ) → IsPlain t → IsText t → first (with_parameter token_rows (Some 3)) t ≡ Some 3
 first-token_end [] plain small = absurd (omega (arith, plain.some))
@@ -149,10 +160,13 @@ pub record AreTexts (p : Place) (m t : List ℕ) : Type 0 where
 
 first-merchant_on : (p : Place) (m t : List ℕ) → AreTexts p m t → IsText m → IsText t
     → first all_rows (merchant_on p m t) ≡ Some (key_of p)
-first-merchant_on place.Tokens m t are small low = first-merchant m (codes "tokens") are.merchant small ∙ found-tokens
-first-merchant_on place.Audit m t are small low = first-merchant m (codes "audit") are.merchant small ∙ found-audit
+first-merchant_on place.Tokens m t are small low =
+    first-merchant m (codes "tokens") are.merchant small ∙ found-tokens
+first-merchant_on place.Audit m t are small low =
+    first-merchant m (codes "audit") are.merchant small ∙ found-audit
 first-merchant_on place.Token m t are small low =
-    first-merchant m (codes "tokens/" ++ t) are.merchant small ∙ (first-tokens t ∙ first-token_end t are.token low)
+    first-merchant m (codes "tokens/" ++ t) are.merchant small
+    ∙ (first-tokens t ∙ first-token_end t are.token low)
 first-merchant_on place.Number m t are small low =
     first-merchant m (codes "tokens/" ++ (t ++ codes "/number")) are.merchant small
     ∙ (first-tokens (t ++ codes "/number") ∙ (first-token t (codes "number") are.token low ∙ found-number))
@@ -206,12 +220,14 @@ finds text small = whole (parts merchant_rows None text (lit< tt) small)
         )
 
     behind : (m path : List ℕ) → text ≡ m ++ (codes "/tokens/" ++ path) → IsPlain m
-        → first all_rows text ≡ first (with_parameter token_rows (Some 3)) path → Parts token_rows (Some 3) path → Finds text
+        → first all_rows text ≡ first (with_parameter token_rows (Some 3)) path
+        → Parts token_rows (Some 3) path → Finds text
     behind m path is plain goes (inl none) = inl (goes ∙ none)
     behind m path is plain goes (inr (inl (one, found))) =
         inr (place.Token, m, path, is, record { merchant = plain; token = one }, goes ∙ found)
     behind m path is plain goes (inr (inr (t, rest, same, one, found))) =
-        token m t rest (is ∙ ap (λ r. m ++ (codes "/tokens/" ++ r)) same) plain one (goes ∙ found) (ends_token rest)
+        token m t rest (is ∙ ap (λ r. m ++ (codes "/tokens/" ++ r)) same) plain one (goes ∙ found)
+        (ends_token rest)
 
     tokens : (m left : List ℕ) → text ≡ m ++ (codes "/tokens" ++ left) → IsPlain m
         → first all_rows text ≡ first tokens_rows left
@@ -231,10 +247,13 @@ finds text small = whole (parts merchant_rows None text (lit< tt) small)
         )
     tokens m left is plain goes (inr (inr (path, same, found))) =
         let all : text ≡ m ++ (codes "/tokens/" ++ path) = is ∙ ap (λ r. m ++ (codes "/tokens" ++ r)) same in
-        let low = IsText-right (codes "/tokens/") path (IsText-right m (codes "/tokens/" ++ path) (subst IsText all small)) in
+        let low =
+        IsText-right (codes "/tokens/") path (IsText-right m (codes "/tokens/" ++ path)
+        (subst IsText all small)) in
         behind m path all plain (goes ∙ found) (parts token_rows (Some 3) path (lit< tt) low)
 
-    merchant : (m rest : List ℕ) → text ≡ m ++ 47 ∷ rest → IsPlain m → first all_rows text ≡ first merchant_rows rest
+    merchant : (m rest : List ℕ) → text ≡ m ++ 47 ∷ rest → IsPlain m
+        → first all_rows text ≡ first merchant_rows rest
         → (first merchant_rows rest ≡ None)
         ⊎ ((rest ≡ codes "audit") ⊎ ((left : List ℕ) × (rest ≡ codes "tokens" ++ left)
         × (first merchant_rows rest ≡ first tokens_rows left)))

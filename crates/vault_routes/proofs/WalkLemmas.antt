@@ -1,5 +1,6 @@
 -- What the parameters of a template take of a target.
-use Rattle.std.proofs.Common.{◌≡◌, ℕ, ◌+◌, ◌-◌, ◌<◌, ◌≤◌, ◌∙◌, List, [], ◌∷◌, ◌++◌, length, drop, get_or, codes, Some, refl, sym, ap, arith, add-zero, ◌⊎◌, inl, inr, append-nil}
+use Rattle.std.proofs.Common.{◌≡◌, ℕ, ◌+◌, ◌-◌, ◌<◌, ◌≤◌, ◌∙◌, List, [], ◌∷◌, ◌++◌, length, drop, get_or}
+use Rattle.std.proofs.Common.{codes, Some, refl, sym, ap, arith, add-zero, ◌⊎◌, inl, inr, append-nil}
 use Rattle.std.specs.Prelude.{option_map}
 use Rattle.std.proofs.Math.Seq.{drop-append_seam, take-append_seam}
 use Rattle.std.proofs.lemmas.Bool.{lt-ltb, le-leb, le-ltb}
@@ -85,13 +86,20 @@ module _
         within : token + length w < length pattern
         within = omega (arith, pattern_size)
 
-        by : Ends more rest → wild_stop pattern (token + length w) path (at + length w) ≡ at + length w + length m
+        by : Ends more rest → wild_stop pattern (token + length w) path (at + length w)
+            ≡ at + length w + length m
         by (inl (no_more, no_rest)) =
-            let last : length pattern ≤ token + length w + 1 = omega (arith, pattern_size, ap length no_more) in
+            let last : length pattern ≤ token + length w + 1 =
+            omega (arith, pattern_size, ap length no_more) in
             let size : length path ≡ at + length w + length m = omega (arith, path_size, ap length no_rest) in
-            rw (lt-ltb _ _ within, get_or-at pattern (token + length w) param_token more at_parameter, le-ltb _ _ last) size
+            rw (
+              lt-ltb _ _ within,
+              get_or-at pattern (token + length w) param_token more at_parameter,
+              le-ltb _ _ last,
+            ) size
         by (inr (x, y, some_more, some_rest)) =
-            let next : token + length w + 1 < length pattern = omega (arith, pattern_size, ap length some_more) in
+            let next : token + length w + 1 < length pattern =
+            omega (arith, pattern_size, ap length some_more) in
             let suffix = behind ∙ some_more in
             let path_left = left ∙ ap (λ r. m ++ r) some_rest in
             let size = length-append m (47 ∷ []) in
@@ -133,11 +141,13 @@ text_before = IsText-from_test before_merchant refl
 
 -- one parameter, and a text that begins with a slash
 walk-one : (more text m : List ℕ) → IsPlain m
-    → walk (before_merchant ++ param_token ∷ 47 ∷ more) text (before_merchant ++ (m ++ 47 ∷ more)) ((15, 16) ∷ []) 0 0
+    → walk (before_merchant ++ param_token ∷ 47 ∷ more) text (before_merchant ++ (m ++ 47 ∷ more))
+    ((15, 16) ∷ []) 0 0
     ≡ (part_of text 15 16, m) ∷ []
 walk-one more text m plain =
     walk-parameter (before_merchant ++ param_token ∷ 47 ∷ more) (before_merchant ++ (m ++ 47 ∷ more)) 0 0
-    before_merchant (47 ∷ more) m (47 ∷ more) text_before plain refl refl (inr (more, more, refl, refl)) text (15, 16) []
+    before_merchant (47 ∷ more) m (47 ∷ more) text_before plain refl refl (inr (more, more, refl, refl)) text
+    (15, 16) []
 
 -- two parameters
 walk-two : (more text m t : List ℕ) → IsPlain m → IsPlain t → Ends more more
@@ -163,7 +173,8 @@ walk-target place.Tokens m t are = walk-one (codes "tokens") (row_for place.Toke
 walk-target place.Audit m t are = walk-one (codes "audit") (row_for place.Audit).text m are.merchant
 walk-target place.Token m t are =
     let row = row_for place.Token in
-    ap (λ u. walk row.pattern row.text (before_merchant ++ (m ++ (codes "/tokens/" ++ u))) row.names 0 0) (sym (append-nil t))
+    ap (λ u. walk row.pattern row.text (before_merchant ++ (m ++ (codes "/tokens/" ++ u))) row.names 0 0)
+    (sym (append-nil t))
     ∙ walk-two [] row.text m t are.merchant are.token (inl (refl, refl))
 walk-target place.Number m t are =
     walk-two (codes "/number") (row_for place.Number).text m t are.merchant are.token

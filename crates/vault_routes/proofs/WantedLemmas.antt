@@ -1,5 +1,6 @@
 -- What is wanted, step by step.
-use Rattle.std.proofs.Common.{◌≡◌, ◌≢◌, ℕ, List, Result, Ok, Err, Some, inl, inr, refl, sym, ap, ◌∙◌, subst, true}
+use Rattle.std.proofs.Common.{◌≡◌, ◌≢◌, ℕ, List, Result, Ok, Err, Some, inl, inr, refl, sym, ap, ◌∙◌, subst}
+use Rattle.std.proofs.Common.{true}
 use Rattle.std.specs.Prelude.{codes, None}
 use Rattle.std.specs.Result.{IsErrAnd}
 use Rattle.std.specs.Str.Parse.{digits_value}
@@ -39,7 +40,8 @@ pub wants_of : (p : Parts) (now : ℕ) (drawn : List ℕ) (target : Target) (ask
 wants_of p now drawn target asked r found takes h = inl (target, found, inl (asked, takes, h))
 
 -- who asks was read, and what is wanted then is wanted of the whole
-pub asker_read : {X : Type 0} (p : Parts) (m : List ℕ) (now : ℕ) (goes : Asker → Wanted X → Type 0) (a : Asker) (r : Wanted X)
+pub asker_read : {X : Type 0} (p : Parts) (m : List ℕ) (now : ℕ) (goes : Asker → Wanted X → Type 0)
+    (a : Asker) (r : Wanted X)
     → WantsAsker p m now (λ b s. s ≡ Ok b) (Ok a) → goes a r → WantsAsker p m now goes r
 asker_read p m now goes a r (inl (caller, is, inl (name, inl (named, same)))) h =
     let asks : a ≡ record { caller = caller; merchant = m; now = now } = cc in
@@ -66,7 +68,11 @@ same_order a b same = cc
 pub order_read : {X : Type 0} (p : Parts) (goes : Order → Wanted X → Type 0) (o : Order) (r : Wanted X)
     → WantsOrder p (λ b s. s ≡ Ok b) (Ok o) → goes o r → WantsOrder p goes r
 order_read p goes o r (inl (t, is, inl (q, inl (ts, a, inl (n, inl (k, inl (u, w, same))))))) h =
-    inl (t, is, inl (q, inl (ts, a, inl (n, inl (k, inl (u, w, subst (λ b. goes b r) (same_order _ _ same) h))))))
+    inl (
+      t,
+      is,
+      inl (q, inl (ts, a, inl (n, inl (k, inl (u, w, subst (λ b. goes b r) (same_order _ _ same) h))))),
+    )
 order_read p goes o r (inl (t, is, inl (q, inl (ts, a, inl (n, inl (k, inr (none, same))))))) h = absurd (cc)
 order_read p goes o r (inl (t, is, inl (q, inl (ts, a, inl (n, inr (none, same)))))) h = absurd (cc)
 order_read p goes o r (inl (t, is, inl (q, inl (ts, a, inr (none, same))))) h = absurd (cc)
@@ -99,7 +105,8 @@ pan_is text pan h =
     ((h.0, subst IsNumber h.2 h.1.0), ap passes_check (sym h.2) ∙ h.1.1, h.2)
 
 -- the field has a request's number, and the body counts
-pub order_body : {X : Type 0} (p : Parts) (goes : Order → Wanted X → Type 0) (text body : List ℕ) (r : Wanted X)
+pub order_body : {X : Type 0} (p : Parts) (goes : Order → Wanted X → Type 0) (text body : List ℕ)
+    (r : Wanted X)
     → sole_value (codes "x-vault-request") p.pairs ≡ Some text → IsRequestText text → body ≡ p.body
     → WantsBody body (digits_value 10 text) goes r → WantsOrder p goes r
 order_body p goes text body r is request same h =

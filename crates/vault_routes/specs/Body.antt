@@ -1,7 +1,9 @@
 -- What the body of a message asks for: a JSON object (RFC 8259) with two texts.
-use Rattle.std.specs.Prelude.{ℕ, ◌+◌, ◌==◌, List, codes, Option, None, option_map, option_and_then, if◌then◌else◌}
+use Rattle.std.specs.Prelude.{ℕ, ◌+◌, ◌==◌, List, codes, Option, None, option_map, option_and_then}
+use Rattle.std.specs.Prelude.{if◌then◌else◌}
 use Rattle.std.specs.Str.{is_utf8}
-use Rattle.serde_json.specs.Data.{Data, Members, null, boolean, number, string, array, object, member, no_members}
+use Rattle.serde_json.specs.Data.{Data, Members, null, boolean, number, string, array, object, member}
+use Rattle.serde_json.specs.Data.{no_members}
 use Rattle.serde_json.specs.Find.{get_member, as_str}
 use Rattle.serde_json.specs.Read.{read}
 

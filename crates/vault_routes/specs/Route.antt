@@ -1,5 +1,6 @@
 -- What the target of a message names.
-use Rattle.std.specs.Prelude.{All, ◌≡◌, ◌↔◌, ℕ, ◌<◌, ◌==◌, Bool, true, false, List, [], length, codes, Option, Some, None, option_map, option_and_then, if◌then◌else◌}
+use Rattle.std.specs.Prelude.{All, ◌≡◌, ◌↔◌, ℕ, ◌<◌, ◌==◌, Bool, true, false, List, [], length, codes, Option}
+use Rattle.std.specs.Prelude.{Some, None, option_map, option_and_then, if◌then◌else◌}
 use Rattle.std.specs.List.{list_any}
 use Rattle.matchit.specs.Params.{named, walk}
 use Rattle.matchit.specs.Router.{RouteOf}

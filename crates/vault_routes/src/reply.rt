@@ -131,7 +131,8 @@ mod tests {
                     expires: 1060,
                     state: State::Live,
                 },
-                b"{\"birth\":1000,\"expires\":1060,\"masked\":\"411111******1111\",\"state\":\"live\",\"use\":\"single\"}",
+                b"{\"birth\":1000,\"expires\":1060,\"masked\":\"411111******1111\",\
+                \"state\":\"live\",\"use\":\"single\"}",
             ),
             (
                 Reply::Counts {

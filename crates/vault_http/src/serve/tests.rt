@@ -13,12 +13,14 @@ use vault_pan::draw::Digits;
 use vault_store::memory::MemTables;
 
 /// The worked message: a request for a single-use token.
-const ASKED: &str =
-    "POST /v1/merchants/shop1/tokens HTTP/1.1\r\nHost: vault\r\nX-Vault-Caller: till-1\r\nX-Vault-Request: 7\r\nContent-Length: 44\r\n\r\n{\"number\":\"4111111111111111\",\"use\":\"single\"}";
+const ASKED: &str = "POST /v1/merchants/shop1/tokens HTTP/1.1\r\nHost: vault\r\n\
+    X-Vault-Caller: till-1\r\nX-Vault-Request: 7\r\nContent-Length: 44\r\n\r\n\
+    {\"number\":\"4111111111111111\",\"use\":\"single\"}";
 
 /// Its answer, where all drawn digits are 0.
 const ANSWERED: &str =
-    "HTTP/1.1 200 OK\r\nContent-Type: application/json\r\nContent-Length: 43\r\n\r\n{\"expires\":1060,\"token\":\"0000000000001111\"}";
+    "HTTP/1.1 200 OK\r\nContent-Type: application/json\r\nContent-Length: 43\r\n\r\n\
+    {\"expires\":1060,\"token\":\"0000000000001111\"}";
 
 /// All rights.
 const RIGHTS: [Right; 6] = [
@@ -118,7 +120,9 @@ fn connect_new<H: AllocGlobal + Abort>(rt: &H, input: &[u8]) -> Ended {
 
 /// A message of this method and target by `till-1`, without a body.
 fn message<H: AllocGlobal + Abort>(rt: &H, request: &str) -> String {
-    format!(in rt.alloc(); "{request} HTTP/1.1\r\nX-Vault-Caller: till-1\r\n\r\n").expect(rt, "memory")
+    format!(in rt.alloc(); "{request} HTTP/1.1\r\nX-Vault-Caller: till-1\r\n\r\n").expect(
+        rt, "memory",
+    )
 }
 
 /// The answer with this status line, these fields after the length, and this body.
@@ -163,8 +167,9 @@ fn a_repeat_on_another_connection_answers_the_first_token(rt: HostRuntime) {
 
 #[test]
 fn a_1_0_connection_ends_with_its_first_answer(rt: HostRuntime) {
-    let old =
-        "POST /v1/merchants/shop1/tokens HTTP/1.0\r\nX-Vault-Caller: till-1\r\nX-Vault-Request: 7\r\nContent-Length: 44\r\n\r\n{\"number\":\"4111111111111111\",\"use\":\"single\"}";
+    let old = "POST /v1/merchants/shop1/tokens HTTP/1.0\r\n\
+        X-Vault-Caller: till-1\r\nX-Vault-Request: 7\r\nContent-Length: 44\r\n\r\n\
+        {\"number\":\"4111111111111111\",\"use\":\"single\"}";
     let closing = "Connection: close\r\n";
     let body = "{\"expires\":1060,\"token\":\"0000000000001111\"}";
     let answered = answer(&rt, "200 OK", closing, body);
@@ -177,12 +182,12 @@ fn a_token_is_shown_and_counted(rt: HostRuntime) {
     let mut vault = shop(&rt);
     assert!(rt; connect(&rt, &mut vault, 1000, 0, ASKED.as_bytes()).is(1, ANSWERED));
     let view = message(&rt, "GET /v1/merchants/shop1/tokens/0000000000001111");
-    let live =
-        "{\"birth\":1000,\"expires\":1060,\"masked\":\"411111******1111\",\"state\":\"live\",\"use\":\"single\"}";
+    let live = "{\"birth\":1000,\"expires\":1060,\"masked\":\"411111******1111\",\
+        \"state\":\"live\",\"use\":\"single\"}";
     let shown = answer(&rt, "200 OK", "", live);
     assert!(rt; connect(&rt, &mut vault, 1000, 0, view.as_bytes()).is(1, shown.as_str()));
-    let expired =
-        "{\"birth\":1000,\"expires\":1060,\"masked\":\"411111******1111\",\"state\":\"expired\",\"use\":\"single\"}";
+    let expired = "{\"birth\":1000,\"expires\":1060,\"masked\":\"411111******1111\",\
+        \"state\":\"expired\",\"use\":\"single\"}";
     let shown = answer(&rt, "200 OK", "", expired);
     assert!(rt; connect(&rt, &mut vault, 1060, 0, view.as_bytes()).is(1, shown.as_str()));
     let audit = message(&rt, "GET /v1/merchants/shop1/audit");
@@ -194,10 +199,16 @@ fn a_token_is_shown_and_counted(rt: HostRuntime) {
 fn a_number_is_given_until_its_token_is_revoked(rt: HostRuntime) {
     let mut vault = shop(&rt);
     assert!(rt; connect(&rt, &mut vault, 1000, 0, ASKED.as_bytes()).is(1, ANSWERED));
-    let number = message(&rt, "POST /v1/merchants/shop1/tokens/0000000000001111/number");
+    let number = message(
+        &rt,
+        "POST /v1/merchants/shop1/tokens/0000000000001111/number",
+    );
     let given = answer(&rt, "200 OK", "", "{\"number\":\"4111111111111111\"}");
     assert!(rt; connect(&rt, &mut vault, 1059, 0, number.as_bytes()).is(1, given.as_str()));
-    let revoke = message(&rt, "POST /v1/merchants/shop1/tokens/0000000000001111/revoke");
+    let revoke = message(
+        &rt,
+        "POST /v1/merchants/shop1/tokens/0000000000001111/revoke",
+    );
     let done = answer(&rt, "200 OK", "", "{\"done\":true}");
     assert!(rt; connect(&rt, &mut vault, 1059, 0, revoke.as_bytes()).is(1, done.as_str()));
     let gone = answer(&rt, "410 Gone", "", "{\"refused\":15}");
@@ -215,7 +226,13 @@ fn a_source_that_gives_no_pair_ends_the_connection(rt: HostRuntime) {
     let mut reader = Watched::new(asked.as_bytes());
     let mut writer = Watched::new(&mut output);
     let mut source = FixedSource::new(moment(&rt, 1000), drawn(&rt, 0), 1);
-    let ended = serve(rt.alloc(), &mut reader, &mut writer, &mut vault, &mut source);
+    let ended = serve(
+        rt.alloc(),
+        &mut reader,
+        &mut writer,
+        &mut vault,
+        &mut source,
+    );
     assert!(rt; ended == Err(ServeFault::Source));
     assert_eq!(rt; ServeFault::Source.number(), 60);
     assert!(rt; output.as_slice() == ANSWERED.as_bytes());
@@ -225,11 +242,21 @@ fn a_source_that_gives_no_pair_ends_the_connection(rt: HostRuntime) {
 fn a_thousand_messages_are_answered(rt: HostRuntime) {
     let mut asked = String::new(rt.alloc());
     for _ in 0..1000 {
-        asked.push_str("GET / HTTP/1.1\r\n\r\n").expect(&rt, "memory");
+        asked
+            .push_str("GET / HTTP/1.1\r\n\r\n")
+            .expect(&rt, "memory");
     }
     let ended = connect_new(&rt, asked.as_bytes());
     let fault = None;
-    assert!(rt; ended.result == Ok(Served { messages: 1000, fault }));
-    asked.push_str("GET / HTTP/1.1\r\n\r\n").expect(&rt, "memory");
+    assert!(rt;
+        ended.result
+            == Ok(Served {
+                messages: 1000,
+                fault
+            })
+    );
+    asked
+        .push_str("GET / HTTP/1.1\r\n\r\n")
+        .expect(&rt, "memory");
     assert!(rt; connect_new(&rt, asked.as_bytes()).result == Err(ServeFault::Source));
 }

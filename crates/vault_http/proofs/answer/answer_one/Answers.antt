@@ -1,4 +1,5 @@
-use Rattle.std.proofs.Common.{◌≡◌, ℕ, ◌<◌, List, [], ◌∷◌, ◌++◌, length, take, refl, sym, ap, ◌∙◌, subst, append-nil, arith, Err, inl, inr}
+use Rattle.std.proofs.Common.{◌≡◌, ℕ, ◌<◌, List, [], ◌∷◌, ◌++◌, length, take, refl, sym, ap, ◌∙◌, subst}
+use Rattle.std.proofs.Common.{append-nil, arith, Err, inl, inr}
 use Rattle.std.specs.Io.KnownBytes.{Appends}
 use Rattle.vault_core.specs.Vault.{Vault as Content}
 use Rattle.vault_store.specs.Applied.{tables_of}
@@ -12,25 +13,27 @@ use Rattle.vault_http.proofs.answer.answer_one.Goals as goal
 
 pub returns-in_default-clause-ends : goal.returns-in_default-clause-ends
 returns-in_default-clause-ends g c =
-  let w = passing g.S.Source.given c.args.source.now c.next.new.self g.W.Write.contents c.args.writer.now c.args.writer.now
-        g.T.Tables.is_honest g.T.Tables.holds g.T.Tables.leaves c.args.vault.now c.args.vault.now in
-  record {
-  pairs = [];
-  exchanges = [];
-  taken = c.in_default.ensures.keeps ∙ sym (append-nil _);
-  asked = tt;
-  more = omega arith;
-  answered = answered_nothing w (appends_nothing _) (λ V b. (b.1, g.met.T.Tables.settled _ V b.1.0 b.0));
-}
+    let w = passing g.S.Source.given c.args.source.now c.next.new.self g.W.Write.contents c.args.writer.now
+    c.args.writer.now g.T.Tables.is_honest g.T.Tables.holds g.T.Tables.leaves c.args.vault.now
+    c.args.vault.now in
+    record {
+      pairs = [];
+      exchanges = [];
+      taken = c.in_default.ensures.keeps ∙ sym (append-nil _);
+      asked = tt;
+      more = omega arith;
+      answered = answered_nothing w (appends_nothing _) (λ V b. (b.1, g.met.T.Tables.settled _ V b.1.0 b.0));
+    }
 
 pub returns-in-Err-clause-ends : goal.returns-in-Err-clause-ends
 returns-in-Err-clause-ends g c =
     let d = c.in-Err.ensures in
-    let w = passing g.S.Source.given c.args.source.now c.next.new.self g.W.Write.contents c.args.writer.now c.args.writer.now
-        g.T.Tables.is_honest g.T.Tables.holds g.T.Tables.leaves c.args.vault.now c.decide.new.vault in
+    let w = passing g.S.Source.given c.args.source.now c.next.new.self g.W.Write.contents c.args.writer.now
+    c.args.writer.now g.T.Tables.is_honest g.T.Tables.holds g.T.Tables.leaves c.args.vault.now
+    c.decide.new.vault in
     let pair : Pair = (c.in-Ok.pair.0, c.in-Ok.pair.1) in
     elim d.only [
-      inl same ↦ subst (λ e. Stops e w (c.args.message.now ∷ [])) (sym same) (inl (record {
+      | inl same ↦ subst (λ e. Stops e w (c.args.message.now ∷ [])) (sym same) (inl (record {
         pairs = [];
         unused = pair ∷ [];
         exchanges = [];
@@ -40,19 +43,20 @@ returns-in-Err-clause-ends g c =
         answered = answered_nothing w (appends_nothing _)
             (λ V b. let now = d.memory (ap Err same) V b.1 in (now, g.met.T.Tables.settled _ V now.0 b.0));
       }))
-    | inr same ↦
-        let stops = d.store (ap Err same) in
-        subst (λ e. Stops e w (c.args.message.now ∷ [])) (sym same) (record {
-          pairs = pair ∷ [];
-          exchanges = [];
-          undecided = stops.0;
-          taken = c.in-Ok.ensures.gives;
-          asked = (stops.1, tt);
-          answered = λ V b. (
-            appends_nothing _,
-            subst (λ W. w.left_new W (vault_after V (stops.0 ∷ []))) (sym (vault_after-nil V)) (stops.2 b.0 V b.1),
-          );
-        })
+      | inr same ↦
+          let stops = d.store (ap Err same) in
+          subst (λ e. Stops e w (c.args.message.now ∷ [])) (sym same) (record {
+            pairs = pair ∷ [];
+            exchanges = [];
+            undecided = stops.0;
+            taken = c.in-Ok.ensures.gives;
+            asked = (stops.1, tt);
+            answered = λ V b. (
+              appends_nothing _,
+              subst (λ W. w.left_new W (vault_after V (stops.0 ∷ []))) (sym (vault_after-nil V))
+                  (stops.2 b.0 V b.1),
+            );
+          })
     ]
 
 pub returns-in_default-text-clause-ends : goal.returns-in_default-text-clause-ends
@@ -82,7 +86,7 @@ returns-then-is_err-clause-ends g c =
       answered = λ V b.
           let now = d.3 b.0 V b.1 in
           let text = c.deref.ensures.value ∙ c.in-Ok-text.ensures ∙ outcome_text-is V _ _ d.0 d.1.0 d.2 now.0
-              ∙ ap (λ W. text_at W d.0) (sym (vault_after-nil V)) in (
+          ∙ ap (λ W. text_at W d.0) (sym (vault_after-nil V)) in (
             subst (λ (t : List ℕ). sent.0 < length t) text sent.1,
             subst (λ (t : List ℕ). Appends (g.W.Write.contents (inner_of c.args.writer.now))
                 (g.W.Write.contents (inner_of c.send.new.writer)) (take sent.0 t)) text sent.2,
@@ -103,8 +107,9 @@ returns-clause-ends g c =
       answered = λ V b.
           let now = d.3 b.0 V b.1 in
           let text = c.deref.ensures.value ∙ c.in-Ok-text.ensures ∙ outcome_text-is V _ _ d.0 d.1.0 d.2 now.0
-              ∙ sym (append-nil (text_at V d.0)) in (
-            subst (Appends (g.W.Write.contents (inner_of c.args.writer.now)) (g.W.Write.contents (inner_of c.send.new.writer)))
+          ∙ sym (append-nil (text_at V d.0)) in (
+            subst (Appends (g.W.Write.contents (inner_of c.args.writer.now))
+                (g.W.Write.contents (inner_of c.send.new.writer)))
                 text sent,
             (now.1, g.met.T.Tables.settled _ _ now.1.0 b.0),
           );

@@ -31,7 +31,8 @@ returns-in-Err-Reopen-clause-store g c = λ same. (
       let unchanged = rw c.in-Err-Reopen.field-0-is at c.in-Err-Reopen.ensures.unchanged in
       let tables = unchanged refl in
       let now = subst (λ t. g.T.Tables.holds t V) (sym tables) held.0 in
-      g.met.T.Tables.widened (tables_of c.apply.new.self) V _ (g.met.T.Tables.settled (tables_of c.apply.new.self) V now h),
+      g.met.T.Tables.widened (tables_of c.apply.new.self) V _
+      (g.met.T.Tables.settled (tables_of c.apply.new.self) V now h),
 )
 
 pub returns-in_default-clause-ok : goal.returns-in_default-clause-ok

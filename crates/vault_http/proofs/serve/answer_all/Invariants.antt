@@ -9,11 +9,14 @@ use Rattle.vault_http.proofs.serve.answer_all.Given as goal
 abbrev pub invariant-loop-message : goal.invariant-loop-message
 invariant-loop-message g l = record {
   open_till : has_close (take l.message-index l.messages) ≡ false;
-  answered : AllAnswered (passing g.S.Source.given l.initial.source l.source g.W.Write.contents l.initial.writer l.writer
-      g.T.Tables.is_honest g.T.Tables.holds g.T.Tables.leaves l.initial.vault l.vault) (take l.message-index l.messages);
+  answered : AllAnswered (passing g.S.Source.given l.initial.source l.source g.W.Write.contents
+      l.initial.writer l.writer
+      g.T.Tables.is_honest g.T.Tables.holds g.T.Tables.leaves l.initial.vault l.vault)
+      (take l.message-index l.messages);
   counted : g.S.Source.count_left l.initial.source ≡ g.S.Source.count_left l.source + l.message-index;
   later : g.S.Source.precedes l.initial.source l.source;
   told : failures (g.S.Source.has_refused l.source) false (is_stopped l.writer) (is_broken l.vault)
-      ≡ failures (g.S.Source.has_refused l.initial.source) false (is_stopped l.initial.writer) (is_broken l.initial.vault);
-  honest : g.T.Tables.is_honest (tables_of l.vault) → g.T.Tables.is_honest (tables_of l.initial.vault)
+      ≡ failures (g.S.Source.has_refused l.initial.source) false (is_stopped l.initial.writer)
+      (is_broken l.initial.vault);
+  honest : g.T.Tables.is_honest (tables_of l.vault) → g.T.Tables.is_honest (tables_of l.initial.vault);
 }

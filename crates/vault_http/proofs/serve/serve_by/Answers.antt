@@ -1,4 +1,5 @@
-use Rattle.std.proofs.Common.{◌≡◌, ℕ, ◌+◌, ◌-◌, ◌<◌, List, [], ◌∷◌, ◌++◌, length, take, refl, sym, ap, ◌∙◌, subst, arith, true, false, None, Some, inl, inr, length-append}
+use Rattle.std.proofs.Common.{◌≡◌, ℕ, ◌+◌, ◌-◌, ◌<◌, List, [], ◌∷◌, ◌++◌, length, take, refl, sym, ap, ◌∙◌}
+use Rattle.std.proofs.Common.{subst, arith, true, false, None, Some, inl, inr, length-append}
 use Rattle.std.proofs.lemmas.List.{length-map, length-take}
 use Rattle.std.specs.Prelude.{Bool, Ok, Err}
 use Rattle.vault_store.specs.Applied.{is_broken}
@@ -10,17 +11,20 @@ use Rattle.vault_http.specs.Exchanges.{has_close, shown, up_to_close}
 use Rattle.vault_http.specs.Passing.{AllAnswered, passing}
 use Rattle.vault_http.specs.declared.served.Served.{Served}
 use Rattle.vault_http.proofs.Answering.{all_nothing}
-use Rattle.vault_http.proofs.Bytes.{appends_nothing, consumes_both, consumes_keeps, consumes_none, consumes_nothing}
+use Rattle.vault_http.proofs.Bytes.{appends_nothing, consumes_both, consumes_keeps, consumes_none}
+use Rattle.vault_http.proofs.Bytes.{consumes_nothing}
 use Rattle.vault_http.proofs.Closing.{has_close-shown, shown_count, up_to_close-none, up_to_close-shown}
 use Rattle.vault_http.proofs.Following.{all_then, stops_then}
-use Rattle.vault_http.proofs.Serving.{before_of, begins_more, begins_of, falls, reads_by, served_fault, served_plain, stopped_fault, stopped_of}
+use Rattle.vault_http.proofs.Serving.{before_of, begins_more, begins_of, falls, reads_by, served_fault}
+use Rattle.vault_http.proofs.Serving.{served_plain, stopped_fault, stopped_of}
 use Rattle.vault_http.proofs.Telling.{beside_reader, beside_writer, not_read, tells_as}
 use Rattle.vault_http.proofs.serve.serve_by.Goals as goal
 
 pub pieces-init : goal.pieces-init
 pieces-init g c =
-    let w = passing g.S.Source.given c.args.source.now c.args.source.now g.W.Write.contents c.args.writer.now c.args.writer.now
-        g.T.Tables.is_honest g.T.Tables.holds g.T.Tables.leaves c.args.vault.now c.args.vault.now in
+    let w = passing g.S.Source.given c.args.source.now c.args.source.now g.W.Write.contents c.args.writer.now
+    c.args.writer.now g.T.Tables.is_honest g.T.Tables.holds g.T.Tables.leaves c.args.vault.now
+    c.args.vault.now in
     record {
       room = refl;
       calm = ap (λ (k : Kept). k.fault) c.new-intake.ensures.fresh;
@@ -39,8 +43,9 @@ pieces-init g c =
 pub returns-in_default-clause-stopped : goal.returns-in_default-clause-stopped
 returns-in_default-clause-stopped g c =
     let inv = c.pieces.invariant in
-    let w = passing g.S.Source.given c.args.source.now c.pieces.source g.W.Write.contents c.args.writer.now c.pieces.writer
-        g.T.Tables.is_honest g.T.Tables.holds g.T.Tables.leaves c.args.vault.now c.pieces.vault in
+    let w = passing g.S.Source.given c.args.source.now c.pieces.source g.W.Write.contents c.args.writer.now
+    c.pieces.writer g.T.Tables.is_honest g.T.Tables.holds g.T.Tables.leaves c.args.vault.now
+    c.pieces.vault in
     record {
       bytes = inv.bytes;
       messages = inv.messages;
@@ -52,25 +57,28 @@ returns-in_default-clause-stopped g c =
 pub returns-then-count-eq0-clause-served : goal.returns-then-count-eq0-clause-served
 returns-then-count-eq0-clause-served g c =
     let inv = c.pieces.invariant in
-    let w = passing g.S.Source.given c.args.source.now c.pieces.source g.W.Write.contents c.args.writer.now c.pieces.writer
-        g.T.Tables.is_honest g.T.Tables.holds g.T.Tables.leaves c.args.vault.now c.pieces.vault in
+    let w = passing g.S.Source.given c.args.source.now c.pieces.source g.W.Write.contents c.args.writer.now
+    c.pieces.writer g.T.Tables.is_honest g.T.Tables.holds g.T.Tables.leaves c.args.vault.now
+    c.pieces.vault in
     let r = c.in-Ok.ensures.bytes in
     let room : 0 < length c.read.new.buf = omega (arith, c.read.auto.buf, inv.room) in
     let none = up_to_close-none (shown inv.messages) inv.open_till in
-    let many : length (up_to_close (shown inv.messages)) ≡ length inv.messages = ap length none ∙ length-map inv.messages parts_of in
+    let many : length (up_to_close (shown inv.messages)) ≡ length inv.messages =
+    ap length none ∙ length-map inv.messages parts_of in
     served_plain _ _ w inv.bytes inv.messages
-        (consumes_none _ _ _ inv.bytes c.read.new.buf c.in-Ok.count inv.read c.if-count-eq0.true r.0) None
-        (record { messages = c.left-pairs.result - c.left.result; fault = None })
-        (reads_by c.pieces.intake inv.bytes inv.messages None inv.calm inv.reading)
-        (subst (AllAnswered w) (sym none) inv.answered)
-        (omega (arith, inv.counted, c.left-pairs.ensures, c.left.ensures, many)) refl (rw inv.open_till refl)
-        (λ open_till no_fault. r.1 c.if-count-eq0.true room)
+    (consumes_none _ _ _ inv.bytes c.read.new.buf c.in-Ok.count inv.read c.if-count-eq0.true r.0) None
+    (record { messages = c.left-pairs.result - c.left.result; fault = None })
+    (reads_by c.pieces.intake inv.bytes inv.messages None inv.calm inv.reading)
+    (subst (AllAnswered w) (sym none) inv.answered)
+    (omega (arith, inv.counted, c.left-pairs.ensures, c.left.ensures, many)) refl (rw inv.open_till refl)
+    (λ open_till no_fault. r.1 c.if-count-eq0.true room)
 
 pub returns-in_default-feed-clause-stopped : goal.returns-in_default-feed-clause-stopped
 returns-in_default-feed-clause-stopped g c =
     let inv = c.pieces.invariant in
-    let w = passing g.S.Source.given c.args.source.now c.pieces.source g.W.Write.contents c.args.writer.now c.pieces.writer
-        g.T.Tables.is_honest g.T.Tables.holds g.T.Tables.leaves c.args.vault.now c.pieces.vault in
+    let w = passing g.S.Source.given c.args.source.now c.pieces.source g.W.Write.contents c.args.writer.now
+    c.pieces.writer g.T.Tables.is_honest g.T.Tables.holds g.T.Tables.leaves c.args.vault.now
+    c.pieces.vault in
     let piece = take c.in-Ok.count c.read.new.buf in
     let reads = reads_by c.pieces.intake inv.bytes inv.messages None inv.calm inv.reading in
     record {
@@ -78,7 +86,10 @@ returns-in_default-feed-clause-stopped g c =
       messages = inv.messages;
       read = consumes_both _ _ _ inv.bytes piece inv.read c.in-Ok.ensures.bytes.0;
       begins = begins_more inv.bytes piece inv.messages (begins_of inv.bytes inv.messages None reads);
-      stops = inl (before_of w _ (subst (AllAnswered w) (sym (up_to_close-none (shown inv.messages) inv.open_till)) inv.answered));
+      stops =
+          inl
+          (before_of w _ (subst (AllAnswered w) (sym (up_to_close-none (shown inv.messages) inv.open_till))
+          inv.answered));
     }
 
 pub returns-in-Ok-true-clause-served : goal.returns-in-Ok-true-clause-served
@@ -94,23 +105,33 @@ returns-in-Ok-true-clause-served g c =
     let ps = c.deref.result.now in
     let whole = up_to_close-shown inv.messages fed.0 ps is inv.open_till in
     let closing = has_close-shown inv.messages fed.0 ps is inv.open_till in
-    let w = passing g.S.Source.given c.args.source.now c.answer_all.new.source g.W.Write.contents c.args.writer.now
-        c.answer_all.new.writer g.T.Tables.is_honest g.T.Tables.holds g.T.Tables.leaves c.args.vault.now
-        c.answer_all.new.vault in
-    let all = subst (AllAnswered w) (sym whole) (all_then g.S.Source.given c.args.source.now c.pieces.source c.answer_all.new.source g.W.Write.contents
-        c.args.writer.now c.pieces.writer c.answer_all.new.writer g.T.Tables.is_honest g.T.Tables.holds g.T.Tables.leaves
-        c.args.vault.now c.pieces.vault c.answer_all.new.vault c.answer_all.ensures.honest (shown inv.messages)
-        (up_to_close c.deref.result.now) inv.answered
-        c.in-Ok-true.ensures.ends) in
-    let closed : has_close (shown ms) ≡ true = closing ∙ sym c.in-Ok-true.ensures.closes ∙ c.in-Ok-true.field-0-test in
+    let w = passing g.S.Source.given c.args.source.now c.answer_all.new.source g.W.Write.contents
+    c.args.writer.now c.answer_all.new.writer g.T.Tables.is_honest g.T.Tables.holds g.T.Tables.leaves
+    c.args.vault.now c.answer_all.new.vault in
+    let all =
+    subst (AllAnswered w) (sym whole) (all_then g.S.Source.given c.args.source.now c.pieces.source
+    c.answer_all.new.source g.W.Write.contents
+    c.args.writer.now c.pieces.writer c.answer_all.new.writer g.T.Tables.is_honest g.T.Tables.holds
+    g.T.Tables.leaves c.args.vault.now c.pieces.vault c.answer_all.new.vault c.answer_all.ensures.honest
+    (shown inv.messages) (up_to_close c.deref.result.now) inv.answered
+    c.in-Ok-true.ensures.ends) in
+    let closed : has_close (shown ms) ≡ true =
+    closing ∙ sym c.in-Ok-true.ensures.closes ∙ c.in-Ok-true.field-0-test in
     let many : length (up_to_close (shown ms)) ≡ length inv.messages + length (up_to_close ps) =
-        ap length whole ∙ length-append (shown inv.messages) (up_to_close ps)
-        ∙ ap (λ n. n + length (up_to_close ps)) (length-map inv.messages parts_of) in
+    ap length whole ∙ length-append (shown inv.messages) (up_to_close ps)
+    ∙ ap (λ n. n + length (up_to_close ps)) (length-map inv.messages parts_of) in
     served_plain _ _ w bytes ms read c.feed.new.self.fault
-        (record { messages = c.left-pairs.result - c.left-in-Ok-true.result; fault = None })
-        (reads_by c.feed.new.self bytes ms c.feed.new.self.fault refl reading) all
-        (omega (arith, inv.counted, c.in-Ok-true.ensures.counted, c.left-pairs.ensures, c.left-in-Ok-true.ensures, many))
-        refl (rw closed refl) (λ open_till _. absurd (cc))
+    (record { messages = c.left-pairs.result - c.left-in-Ok-true.result; fault = None })
+    (reads_by c.feed.new.self bytes ms c.feed.new.self.fault refl reading) all
+    (omega (
+      arith,
+      inv.counted,
+      c.in-Ok-true.ensures.counted,
+      c.left-pairs.ensures,
+      c.left-in-Ok-true.ensures,
+      many,
+    ))
+    refl (rw closed refl) (λ open_till _. absurd (cc))
 
 pub returns-in-Err-clause-stopped : goal.returns-in-Err-clause-stopped
 returns-in-Err-clause-stopped g c =
@@ -125,17 +146,17 @@ returns-in-Err-clause-stopped g c =
     let ps = c.deref.result.now in
     let whole = up_to_close-shown inv.messages fed.0 ps is inv.open_till in
     let closing = has_close-shown inv.messages fed.0 ps is inv.open_till in
-    let w = passing g.S.Source.given c.args.source.now c.answer_all.new.source g.W.Write.contents c.args.writer.now
-        c.answer_all.new.writer g.T.Tables.is_honest g.T.Tables.holds g.T.Tables.leaves c.args.vault.now
-        c.answer_all.new.vault in
+    let w = passing g.S.Source.given c.args.source.now c.answer_all.new.source g.W.Write.contents
+    c.args.writer.now c.answer_all.new.writer g.T.Tables.is_honest g.T.Tables.holds g.T.Tables.leaves
+    c.args.vault.now c.answer_all.new.vault in
     let e = c.in-Err.fault in
-    let stops = stops_then g.S.Source.given c.args.source.now c.pieces.source c.answer_all.new.source g.W.Write.contents
-        c.args.writer.now c.pieces.writer c.answer_all.new.writer g.T.Tables.is_honest g.T.Tables.holds g.T.Tables.leaves
-        c.args.vault.now c.pieces.vault c.answer_all.new.vault c.answer_all.ensures.honest (shown inv.messages)
-        (up_to_close c.deref.result.now) inv.answered
-        e c.in-Err.ensures.ends in
+    let stops = stops_then g.S.Source.given c.args.source.now c.pieces.source c.answer_all.new.source
+    g.W.Write.contents c.args.writer.now c.pieces.writer c.answer_all.new.writer g.T.Tables.is_honest
+    g.T.Tables.holds g.T.Tables.leaves c.args.vault.now c.pieces.vault c.answer_all.new.vault
+    c.answer_all.ensures.honest (shown inv.messages) (up_to_close c.deref.result.now) inv.answered
+    e c.in-Err.ensures.ends in
     stopped_of _ _ w bytes ms read e c.feed.new.self.fault (not_read e _ _ _ _ _ _ c.in-Err.ensures.told)
-        (reads_by c.feed.new.self bytes ms c.feed.new.self.fault refl reading) (rw whole stops)
+    (reads_by c.feed.new.self bytes ms c.feed.new.self.fault refl reading) (rw whole stops)
 
 pub returns-in-Err-refuse-clause-stopped : goal.returns-in-Err-refuse-clause-stopped
 returns-in-Err-refuse-clause-stopped g c =
@@ -150,22 +171,25 @@ returns-in-Err-refuse-clause-stopped g c =
     let ps = c.deref.result.now in
     let whole = up_to_close-shown inv.messages fed.0 ps is inv.open_till in
     let closing = has_close-shown inv.messages fed.0 ps is inv.open_till in
-    let w = passing g.S.Source.given c.args.source.now c.answer_all.new.source g.W.Write.contents c.args.writer.now
-        c.answer_all.new.writer g.T.Tables.is_honest g.T.Tables.holds g.T.Tables.leaves c.args.vault.now
-        c.answer_all.new.vault in
-    let none : has_close (shown ms) ≡ false = closing ∙ sym c.in-Ok-false.ensures.closes ∙ c.in-Ok-false.field-0-test in
+    let w = passing g.S.Source.given c.args.source.now c.answer_all.new.source g.W.Write.contents
+    c.args.writer.now c.answer_all.new.writer g.T.Tables.is_honest g.T.Tables.holds g.T.Tables.leaves
+    c.args.vault.now c.answer_all.new.vault in
+    let none : has_close (shown ms) ≡ false =
+    closing ∙ sym c.in-Ok-false.ensures.closes ∙ c.in-Ok-false.field-0-test in
     let all = subst (AllAnswered w) (sym whole ∙ up_to_close-none (shown ms) none)
-        (all_then g.S.Source.given c.args.source.now c.pieces.source c.answer_all.new.source g.W.Write.contents
-        c.args.writer.now c.pieces.writer c.answer_all.new.writer g.T.Tables.is_honest g.T.Tables.holds g.T.Tables.leaves
-        c.args.vault.now c.pieces.vault c.answer_all.new.vault c.answer_all.ensures.honest (shown inv.messages)
-        (up_to_close c.deref.result.now) inv.answered c.in-Ok-false.ensures.ends) in
-    let many : length (up_to_close ps) ≡ length fed.0 = shown_count inv.messages fed.0 ps is inv.open_till none in
+    (all_then g.S.Source.given c.args.source.now c.pieces.source c.answer_all.new.source
+    g.W.Write.contents
+    c.args.writer.now c.pieces.writer c.answer_all.new.writer g.T.Tables.is_honest g.T.Tables.holds
+    g.T.Tables.leaves c.args.vault.now c.pieces.vault c.answer_all.new.vault c.answer_all.ensures.honest
+    (shown inv.messages) (up_to_close c.deref.result.now) inv.answered c.in-Ok-false.ensures.ends) in
+    let many : length (up_to_close ps) ≡ length fed.0 =
+    shown_count inv.messages fed.0 ps is inv.open_till none in
     let fault = sym c.in-Ok-feed.ensures.fault ∙ c.in-Some.is in
-    stopped_fault g.S.Source.given c.args.source.now c.answer_all.new.source g.W.Write.contents c.args.writer.now
-        c.answer_all.new.writer c.refuse.new.writer g.T.Tables.is_honest g.T.Tables.holds g.T.Tables.leaves c.args.vault.now
-        c.answer_all.new.vault _ _ bytes ms c.in-Some.fault read
-        (reads_by c.feed.new.self bytes ms (Some c.in-Some.fault) fault reading) none all
-        c.in-Err-refuse.stop c.in-Err-refuse.ensures.ends
+    stopped_fault g.S.Source.given c.args.source.now c.answer_all.new.source g.W.Write.contents
+    c.args.writer.now c.answer_all.new.writer c.refuse.new.writer g.T.Tables.is_honest g.T.Tables.holds
+    g.T.Tables.leaves c.args.vault.now c.answer_all.new.vault _ _ bytes ms c.in-Some.fault read
+    (reads_by c.feed.new.self bytes ms (Some c.in-Some.fault) fault reading) none all
+    c.in-Err-refuse.stop c.in-Err-refuse.ensures.ends
 
 pub returns-in-Some-clause-served : goal.returns-in-Some-clause-served
 returns-in-Some-clause-served g c =
@@ -180,25 +204,36 @@ returns-in-Some-clause-served g c =
     let ps = c.deref.result.now in
     let whole = up_to_close-shown inv.messages fed.0 ps is inv.open_till in
     let closing = has_close-shown inv.messages fed.0 ps is inv.open_till in
-    let w = passing g.S.Source.given c.args.source.now c.answer_all.new.source g.W.Write.contents c.args.writer.now
-        c.answer_all.new.writer g.T.Tables.is_honest g.T.Tables.holds g.T.Tables.leaves c.args.vault.now
-        c.answer_all.new.vault in
-    let none : has_close (shown ms) ≡ false = closing ∙ sym c.in-Ok-false.ensures.closes ∙ c.in-Ok-false.field-0-test in
+    let w = passing g.S.Source.given c.args.source.now c.answer_all.new.source g.W.Write.contents
+    c.args.writer.now c.answer_all.new.writer g.T.Tables.is_honest g.T.Tables.holds g.T.Tables.leaves
+    c.args.vault.now c.answer_all.new.vault in
+    let none : has_close (shown ms) ≡ false =
+    closing ∙ sym c.in-Ok-false.ensures.closes ∙ c.in-Ok-false.field-0-test in
     let all = subst (AllAnswered w) (sym whole ∙ up_to_close-none (shown ms) none)
-        (all_then g.S.Source.given c.args.source.now c.pieces.source c.answer_all.new.source g.W.Write.contents
-        c.args.writer.now c.pieces.writer c.answer_all.new.writer g.T.Tables.is_honest g.T.Tables.holds g.T.Tables.leaves
-        c.args.vault.now c.pieces.vault c.answer_all.new.vault c.answer_all.ensures.honest (shown inv.messages)
-        (up_to_close c.deref.result.now) inv.answered c.in-Ok-false.ensures.ends) in
-    let many : length (up_to_close ps) ≡ length fed.0 = shown_count inv.messages fed.0 ps is inv.open_till none in
+    (all_then g.S.Source.given c.args.source.now c.pieces.source c.answer_all.new.source
+    g.W.Write.contents
+    c.args.writer.now c.pieces.writer c.answer_all.new.writer g.T.Tables.is_honest g.T.Tables.holds
+    g.T.Tables.leaves c.args.vault.now c.pieces.vault c.answer_all.new.vault c.answer_all.ensures.honest
+    (shown inv.messages) (up_to_close c.deref.result.now) inv.answered c.in-Ok-false.ensures.ends) in
+    let many : length (up_to_close ps) ≡ length fed.0 =
+    shown_count inv.messages fed.0 ps is inv.open_till none in
     let fault = sym c.in-Ok-feed.ensures.fault ∙ c.in-Some.is in
     let count : length ms ≡ length inv.messages + length fed.0 = length-append inv.messages fed.0 in
-    served_fault g.S.Source.given c.args.source.now c.answer_all.new.source g.W.Write.contents c.args.writer.now
-        c.answer_all.new.writer c.refuse.new.writer g.T.Tables.is_honest g.T.Tables.holds g.T.Tables.leaves c.args.vault.now
-        c.answer_all.new.vault _ _ bytes ms c.in-Some.fault read
-        (reads_by c.feed.new.self bytes ms (Some c.in-Some.fault) fault reading) none all
-        (record { messages = c.left-pairs.result - c.left-in-Some.result; fault = Some c.in-Some.fault })
-        (omega (arith, inv.counted, c.in-Ok-false.ensures.counted, c.left-pairs.ensures, c.left-in-Some.ensures, many, count))
-        refl c.in_default-refuse.ensures.ends
+    served_fault g.S.Source.given c.args.source.now c.answer_all.new.source g.W.Write.contents
+    c.args.writer.now c.answer_all.new.writer c.refuse.new.writer g.T.Tables.is_honest g.T.Tables.holds
+    g.T.Tables.leaves c.args.vault.now c.answer_all.new.vault _ _ bytes ms c.in-Some.fault read
+    (reads_by c.feed.new.self bytes ms (Some c.in-Some.fault) fault reading) none all
+    (record { messages = c.left-pairs.result - c.left-in-Some.result; fault = Some c.in-Some.fault })
+    (omega (
+      arith,
+      inv.counted,
+      c.in-Ok-false.ensures.counted,
+      c.left-pairs.ensures,
+      c.left-in-Some.ensures,
+      many,
+      count,
+    ))
+    refl c.in_default-refuse.ensures.ends
 
 pub pieces-smaller : goal.pieces-smaller
 pieces-smaller g c =
@@ -213,15 +248,17 @@ pieces-smaller g c =
     let ps = c.deref.result.now in
     let whole = up_to_close-shown inv.messages fed.0 ps is inv.open_till in
     let closing = has_close-shown inv.messages fed.0 ps is inv.open_till in
-    let none : has_close (shown ms) ≡ false = closing ∙ sym c.in-Ok-false.ensures.closes ∙ c.in-Ok-false.field-0-test in
-    let many : length (up_to_close ps) ≡ length fed.0 = shown_count inv.messages fed.0 ps is inv.open_till none in
+    let none : has_close (shown ms) ≡ false =
+    closing ∙ sym c.in-Ok-false.ensures.closes ∙ c.in-Ok-false.field-0-test in
+    let many : length (up_to_close ps) ≡ length fed.0 =
+    shown_count inv.messages fed.0 ps is inv.open_till none in
     let room : 0 < length c.read.new.buf = omega (arith, c.read.auto.buf, inv.room) in
     let taken = length-take c.in-Ok.count c.read.new.buf in
     let some : 0 < length piece = omega (arith, c.if-count-eq0.false, room, taken) in
     falls fed.0 c.pieces.intake c.feed.new.self inv.bytes piece inv.messages
-        (g.S.Source.count_left c.pieces.source) (g.S.Source.count_left c.answer_all.new.source)
-        inv.calm (sym c.in-Ok-feed.ensures.fault ∙ c.in_default-fault.is) inv.reading reading some
-        (c.in-Ok-false.ensures.counted ∙ ap (λ n. g.S.Source.count_left c.answer_all.new.source + n) many)
+    (g.S.Source.count_left c.pieces.source) (g.S.Source.count_left c.answer_all.new.source)
+    inv.calm (sym c.in-Ok-feed.ensures.fault ∙ c.in_default-fault.is) inv.reading reading some
+    (c.in-Ok-false.ensures.counted ∙ ap (λ n. g.S.Source.count_left c.answer_all.new.source + n) many)
 
 pub pieces-preserved : goal.pieces-preserved
 pieces-preserved g c =
@@ -236,19 +273,24 @@ pieces-preserved g c =
     let ps = c.deref.result.now in
     let whole = up_to_close-shown inv.messages fed.0 ps is inv.open_till in
     let closing = has_close-shown inv.messages fed.0 ps is inv.open_till in
-    let w = passing g.S.Source.given c.args.source.now c.answer_all.new.source g.W.Write.contents c.args.writer.now
-        c.answer_all.new.writer g.T.Tables.is_honest g.T.Tables.holds g.T.Tables.leaves c.args.vault.now
-        c.answer_all.new.vault in
-    let none : has_close (shown ms) ≡ false = closing ∙ sym c.in-Ok-false.ensures.closes ∙ c.in-Ok-false.field-0-test in
+    let w = passing g.S.Source.given c.args.source.now c.answer_all.new.source g.W.Write.contents
+    c.args.writer.now c.answer_all.new.writer g.T.Tables.is_honest g.T.Tables.holds g.T.Tables.leaves
+    c.args.vault.now c.answer_all.new.vault in
+    let none : has_close (shown ms) ≡ false =
+    closing ∙ sym c.in-Ok-false.ensures.closes ∙ c.in-Ok-false.field-0-test in
     let all = subst (AllAnswered w) (sym whole ∙ up_to_close-none (shown ms) none)
-        (all_then g.S.Source.given c.args.source.now c.pieces.source c.answer_all.new.source g.W.Write.contents
-        c.args.writer.now c.pieces.writer c.answer_all.new.writer g.T.Tables.is_honest g.T.Tables.holds g.T.Tables.leaves
-        c.args.vault.now c.pieces.vault c.answer_all.new.vault c.answer_all.ensures.honest (shown inv.messages)
-        (up_to_close c.deref.result.now) inv.answered c.in-Ok-false.ensures.ends) in
-    let many : length (up_to_close ps) ≡ length fed.0 = shown_count inv.messages fed.0 ps is inv.open_till none in
+    (all_then g.S.Source.given c.args.source.now c.pieces.source c.answer_all.new.source
+    g.W.Write.contents
+    c.args.writer.now c.pieces.writer c.answer_all.new.writer g.T.Tables.is_honest g.T.Tables.holds
+    g.T.Tables.leaves c.args.vault.now c.pieces.vault c.answer_all.new.vault c.answer_all.ensures.honest
+    (shown inv.messages) (up_to_close c.deref.result.now) inv.answered c.in-Ok-false.ensures.ends) in
+    let many : length (up_to_close ps) ≡ length fed.0 =
+    shown_count inv.messages fed.0 ps is inv.open_till none in
     let went = ap (λ b. failures (g.S.Source.has_refused c.pieces.source) b (is_stopped c.pieces.writer)
-        (is_broken c.pieces.vault)) (c.in-Ok.ensures.flag ∙ sym c.in-Ok.ensures.ok) ∙ inv.told in
-    let all_told = beside_reader Bool (Ok false) (is_stopped c.read.new.self) _ _ _ _ _ _ c.in-Ok-false.ensures.told ∙ went in
+    (is_broken c.pieces.vault)) (c.in-Ok.ensures.flag ∙ sym c.in-Ok.ensures.ok) ∙ inv.told in
+    let all_told =
+    beside_reader Bool (Ok false) (is_stopped c.read.new.self) _ _ _ _ _ _ c.in-Ok-false.ensures.told
+    ∙ went in
     record {
       room = c.read.auto.buf ∙ inv.room;
       calm = sym c.in-Ok-feed.ensures.fault ∙ c.in_default-fault.is;
@@ -258,7 +300,8 @@ pieces-preserved g c =
       reading = reading;
       open_till = none;
       answered = all;
-      counted = omega (arith, inv.counted, c.in-Ok-false.ensures.counted, many, length-append inv.messages fed.0);
+      counted =
+          omega (arith, inv.counted, c.in-Ok-false.ensures.counted, many, length-append inv.messages fed.0);
       later = g.met.S.Source.transitive _ _ _ inv.later c.answer_all.ensures.later;
       told = all_told;
       honest = λ h. inv.honest (c.answer_all.ensures.honest h);
@@ -266,8 +309,9 @@ pieces-preserved g c =
 
 pub returns-in_default-clause-told : goal.returns-in_default-clause-told
 returns-in_default-clause-told g c =
-    ap (λ b. failures (g.S.Source.has_refused c.pieces.source) b (is_stopped c.pieces.writer) (is_broken c.pieces.vault))
-        c.in_default.ensures.flag
+    ap (λ b. failures (g.S.Source.has_refused c.pieces.source) b (is_stopped c.pieces.writer)
+    (is_broken c.pieces.vault))
+    c.in_default.ensures.flag
     ∙ ap (λ (f : Failures). record f { reader = true }) c.pieces.invariant.told
 
 pub returns-then-count-eq0-clause-told : goal.returns-then-count-eq0-clause-told
@@ -275,7 +319,8 @@ returns-then-count-eq0-clause-told g c =
     let s = g.S.Source.has_refused c.pieces.source in
     let w = is_stopped c.pieces.writer in
     let v = is_broken c.pieces.vault in
-    let went = ap (λ b. failures s b w v) (c.in-Ok.ensures.flag ∙ sym c.in-Ok.ensures.ok) ∙ c.pieces.invariant.told in
+    let went = ap (λ b. failures s b w v) (c.in-Ok.ensures.flag ∙ sym c.in-Ok.ensures.ok)
+    ∙ c.pieces.invariant.told in
     went
 
 pub returns-in_default-feed-clause-told : goal.returns-in_default-feed-clause-told
@@ -283,7 +328,8 @@ returns-in_default-feed-clause-told g c =
     let s = g.S.Source.has_refused c.pieces.source in
     let w = is_stopped c.pieces.writer in
     let v = is_broken c.pieces.vault in
-    let went = ap (λ b. failures s b w v) (c.in-Ok.ensures.flag ∙ sym c.in-Ok.ensures.ok) ∙ c.pieces.invariant.told in
+    let went = ap (λ b. failures s b w v) (c.in-Ok.ensures.flag ∙ sym c.in-Ok.ensures.ok)
+    ∙ c.pieces.invariant.told in
     went
 
 pub returns-in-Ok-true-clause-told : goal.returns-in-Ok-true-clause-told
@@ -291,7 +337,8 @@ returns-in-Ok-true-clause-told g c =
     let s = g.S.Source.has_refused c.pieces.source in
     let w = is_stopped c.pieces.writer in
     let v = is_broken c.pieces.vault in
-    let went = ap (λ b. failures s b w v) (c.in-Ok.ensures.flag ∙ sym c.in-Ok.ensures.ok) ∙ c.pieces.invariant.told in
+    let went = ap (λ b. failures s b w v) (c.in-Ok.ensures.flag ∙ sym c.in-Ok.ensures.ok)
+    ∙ c.pieces.invariant.told in
     beside_reader Bool (Ok true) (is_stopped c.read.new.self) _ _ _ _ _ _ c.in-Ok-true.ensures.told ∙ went
 
 pub returns-in-Err-clause-told : goal.returns-in-Err-clause-told
@@ -299,27 +346,37 @@ returns-in-Err-clause-told g c =
     let s = g.S.Source.has_refused c.pieces.source in
     let w = is_stopped c.pieces.writer in
     let v = is_broken c.pieces.vault in
-    let went = ap (λ b. failures s b w v) (c.in-Ok.ensures.flag ∙ sym c.in-Ok.ensures.ok) ∙ c.pieces.invariant.told in
+    let went = ap (λ b. failures s b w v) (c.in-Ok.ensures.flag ∙ sym c.in-Ok.ensures.ok)
+    ∙ c.pieces.invariant.told in
     tells_as Bool Served c.in-Err.fault _ _ _ went
-        (beside_reader Bool (Err c.in-Err.fault) (is_stopped c.read.new.self) _ _ _ _ _ _ c.in-Err.ensures.told)
+    (beside_reader Bool (Err c.in-Err.fault) (is_stopped c.read.new.self) _ _ _ _ _ _
+    c.in-Err.ensures.told)
 
 pub returns-in-Err-refuse-clause-told : goal.returns-in-Err-refuse-clause-told
 returns-in-Err-refuse-clause-told g c =
     let s = g.S.Source.has_refused c.pieces.source in
     let w = is_stopped c.pieces.writer in
     let v = is_broken c.pieces.vault in
-    let went = ap (λ b. failures s b w v) (c.in-Ok.ensures.flag ∙ sym c.in-Ok.ensures.ok) ∙ c.pieces.invariant.told in
-    let all = beside_reader Bool (Ok false) (is_stopped c.read.new.self) _ _ _ _ _ _ c.in-Ok-false.ensures.told ∙ went in
+    let went = ap (λ b. failures s b w v) (c.in-Ok.ensures.flag ∙ sym c.in-Ok.ensures.ok)
+    ∙ c.pieces.invariant.told in
+    let all =
+    beside_reader Bool (Ok false) (is_stopped c.read.new.self) _ _ _ _ _ _ c.in-Ok-false.ensures.told
+    ∙ went in
     tells_as (Unit {0}) Served c.in-Err-refuse.stop _ _ _ all
-        (beside_writer c.in-Err-refuse.stop (g.S.Source.has_refused c.answer_all.new.source) (is_stopped c.read.new.self)
-            (is_broken c.answer_all.new.vault) _ _ c.in-Err-refuse.ensures.told)
+    (beside_writer c.in-Err-refuse.stop (g.S.Source.has_refused c.answer_all.new.source)
+    (is_stopped c.read.new.self)
+    (is_broken c.answer_all.new.vault) _ _ c.in-Err-refuse.ensures.told)
 
 pub returns-in-Some-clause-told : goal.returns-in-Some-clause-told
 returns-in-Some-clause-told g c =
     let s = g.S.Source.has_refused c.pieces.source in
     let w = is_stopped c.pieces.writer in
     let v = is_broken c.pieces.vault in
-    let went = ap (λ b. failures s b w v) (c.in-Ok.ensures.flag ∙ sym c.in-Ok.ensures.ok) ∙ c.pieces.invariant.told in
-    let all = beside_reader Bool (Ok false) (is_stopped c.read.new.self) _ _ _ _ _ _ c.in-Ok-false.ensures.told ∙ went in
-    ap (λ (f : Failures). failures (g.S.Source.has_refused c.answer_all.new.source) (is_stopped c.read.new.self) f.writer
-        (is_broken c.answer_all.new.vault)) c.in_default-refuse.ensures.told ∙ all
+    let went = ap (λ b. failures s b w v) (c.in-Ok.ensures.flag ∙ sym c.in-Ok.ensures.ok)
+    ∙ c.pieces.invariant.told in
+    let all =
+    beside_reader Bool (Ok false) (is_stopped c.read.new.self) _ _ _ _ _ _ c.in-Ok-false.ensures.told
+    ∙ went in
+    ap (λ (f : Failures). failures (g.S.Source.has_refused c.answer_all.new.source)
+    (is_stopped c.read.new.self) f.writer
+    (is_broken c.answer_all.new.vault)) c.in_default-refuse.ensures.told ∙ all

@@ -18,14 +18,17 @@ invariant-pieces g l = record {
   read : Consumes (g.R.Read.remaining l.initial.reader.inner) (g.R.Read.remaining l.reader.inner) bytes;
   reading : IsReading l.intake bytes messages;
   open_till : has_close (shown messages) ≡ false;
-  answered : AllAnswered (passing g.S.Source.given l.initial.source l.source g.W.Write.contents l.initial.writer l.writer
+  answered : AllAnswered (passing g.S.Source.given l.initial.source l.source g.W.Write.contents
+      l.initial.writer l.writer
       g.T.Tables.is_honest g.T.Tables.holds g.T.Tables.leaves l.initial.vault l.vault) (shown messages);
   counted : g.S.Source.count_left l.initial.source ≡ g.S.Source.count_left l.source + length messages;
   later : g.S.Source.precedes l.initial.source l.source;
-  told : failures (g.S.Source.has_refused l.source) (is_stopped l.reader) (is_stopped l.writer) (is_broken l.vault)
-      ≡ failures (g.S.Source.has_refused l.initial.source) (is_stopped l.initial.reader) (is_stopped l.initial.writer)
+  told : failures (g.S.Source.has_refused l.source) (is_stopped l.reader) (is_stopped l.writer)
+      (is_broken l.vault)
+      ≡ failures (g.S.Source.has_refused l.initial.source) (is_stopped l.initial.reader)
+      (is_stopped l.initial.writer)
       (is_broken l.initial.vault);
-  honest : g.T.Tables.is_honest (tables_of l.vault) → g.T.Tables.is_honest (tables_of l.initial.vault)
+  honest : g.T.Tables.is_honest (tables_of l.vault) → g.T.Tables.is_honest (tables_of l.initial.vault);
 }
 
 abbrev pub decreases-pieces : goal.decreases-pieces

@@ -58,7 +58,12 @@ impl<'a> Write for SlowWriter<'a> {
 }
 
 /// A connection to a shop of its own, over a slow reader and a slow writer.
-fn connect_slow<H: AllocGlobal + Abort>(rt: &H, bytes: &[u8], bad_read: usize, bad_write: usize) -> Ended {
+fn connect_slow<H: AllocGlobal + Abort>(
+    rt: &H,
+    bytes: &[u8],
+    bad_read: usize,
+    bad_write: usize,
+) -> Ended {
     let mut vault = shop(rt);
     let mut output = Vec::new(rt.alloc());
     let mut reader = Watched::new(SlowReader {
@@ -72,7 +77,13 @@ fn connect_slow<H: AllocGlobal + Abort>(rt: &H, bytes: &[u8], bad_read: usize, b
         bad: bad_write,
     });
     let mut source = FixedSource::new(moment(rt, 1000), drawn(rt, 0), 1000);
-    let result = serve(rt.alloc(), &mut reader, &mut writer, &mut vault, &mut source);
+    let result = serve(
+        rt.alloc(),
+        &mut reader,
+        &mut writer,
+        &mut vault,
+        &mut source,
+    );
     Ended { result, output }
 }
 
@@ -172,7 +183,13 @@ fn each_read_finds_all_answers_before_it_out(rt: HostRuntime) {
     });
     let mut writer = Watched::new(CountingWriter { out: &out });
     let mut source = FixedSource::new(moment(&rt, 1000), drawn(&rt, 0), 1000);
-    let ended = serve(rt.alloc(), &mut reader, &mut writer, &mut vault, &mut source);
+    let ended = serve(
+        rt.alloc(),
+        &mut reader,
+        &mut writer,
+        &mut vault,
+        &mut source,
+    );
     let fault = None;
     assert!(rt; ended == Ok(Served { messages: 5, fault }));
     assert_eq!(rt; late.get(), 0);

@@ -5,7 +5,8 @@ use Rattle.vault_routes.specs.Table.{action_at}
 use Rattle.vault_routes.specs.Wanted.{Wants, WantsAction, command_for, command_on}
 use Rattle.vault_routes.specs.declared.fault.HttpFault.TheVariants as fault
 use Rattle.vault_routes.specs.declared.table.Action.TheVariants as action
-use Rattle.vault_routes.proofs.WantedLemmas.{asker_read, asker_refused, order_read, order_refused, refused_by, wants_of}
+use Rattle.vault_routes.proofs.WantedLemmas.{asker_read, asker_refused, order_read, order_refused, refused_by}
+use Rattle.vault_routes.proofs.WantedLemmas.{wants_of}
 use Rattle.vault_routes.proofs.wanted.command_of.Goals as goal
 
 pub returns-in_default-action-clause-wanted : goal.returns-in_default-action-clause-wanted
@@ -15,7 +16,8 @@ returns-in_default-action-clause-wanted c = λ _.
       target,
       ap route_of (sym c.target.ensures) ∙ sym c.in-Some.ensures,
       inr (
-        (λ asked is. c.in_default-action.not-Some asked (c.action.ensures ∙ ap (action_at target.place) c.method.ensures ∙ is)),
+        (λ asked is. c.in_default-action.not-Some asked (c.action.ensures
+            ∙ ap (action_at target.place) c.method.ensures ∙ is)),
         refl,
       ),
     )
@@ -25,23 +27,28 @@ returns-in_err-asker-clause-wanted c =
     let target = target_of c.in-Some.route in
     let found = ap route_of (sym c.target.ensures) ∙ sym c.in-Some.ensures in
     let takes = ap (action_at target.place) (sym c.method.ensures) ∙ sym c.in-Some-action.ensures in
-    refused_by (Wants c.args.message.now c.args.now c.args.digits) c.from_residual.result c.in_err-asker.field-0.0
+    refused_by (Wants c.args.message.now c.args.now c.args.digits) c.from_residual.result
+    c.in_err-asker.field-0.0
     c.from_residual.ensures.1
     (λ some. wants_of c.args.message.now c.args.now c.args.digits target c.in-Some-action.action _ found takes
     (asker_refused c.args.message.now target.merchant c.args.now
-    (WantsAction c.in-Some-action.action target c.args.message.now c.args.digits) _ (c.in_err-asker.ensures.wanted some)))
+    (WantsAction c.in-Some-action.action target c.args.message.now c.args.digits) _
+    (c.in_err-asker.ensures.wanted some)))
 
 pub returns-in_err-order-in-Tokenize-clause-wanted :
     goal.returns-in_err-order-in-Tokenize-clause-wanted
 returns-in_err-order-in-Tokenize-clause-wanted c =
     let target = target_of c.in-Some.route in
     let found = ap route_of (sym c.target.ensures) ∙ sym c.in-Some.ensures in
-    let takes = ap (action_at target.place) (sym c.method.ensures) ∙ sym c.in-Some-action.ensures ∙ ap Some c.in-Tokenize.is in
-    refused_by (Wants c.args.message.now c.args.now c.args.digits) c.from_residual-in_err-order-in-Tokenize.result
+    let takes = ap (action_at target.place) (sym c.method.ensures) ∙ sym c.in-Some-action.ensures
+    ∙ ap Some c.in-Tokenize.is in
+    refused_by (Wants c.args.message.now c.args.now c.args.digits)
+    c.from_residual-in_err-order-in-Tokenize.result
     c.in_err-order-in-Tokenize.field-0.0 c.from_residual-in_err-order-in-Tokenize.ensures.1
     (λ some. wants_of c.args.message.now c.args.now c.args.digits target action.Tokenize _ found takes
     (asker_read c.args.message.now target.merchant c.args.now
-    (WantsAction action.Tokenize target c.args.message.now c.args.digits) c.in_ok-asker.asker _ c.in_ok-asker.ensures.wanted
+    (WantsAction action.Tokenize target c.args.message.now c.args.digits) c.in_ok-asker.asker _
+    c.in_ok-asker.ensures.wanted
     (order_refused c.args.message.now (λ o r. r ≡ Ok (command_for c.in_ok-asker.asker o c.args.digits)) _
     (c.in_err-order-in-Tokenize.ensures.wanted some))))
 
@@ -51,25 +58,34 @@ returns-in_err-token-in-OnToken-clause-wanted c =
     let target = target_of c.in-Some.route in
     let found = ap route_of (sym c.target.ensures) ∙ sym c.in-Some.ensures in
     let asked = action.OnToken c.in-OnToken.what in
-    let takes = ap (action_at target.place) (sym c.method.ensures) ∙ sym c.in-Some-action.ensures ∙ ap Some c.in-OnToken.is in
-    refused_by (Wants c.args.message.now c.args.now c.args.digits) c.from_residual-in_err-token-in-OnToken.result
+    let takes = ap (action_at target.place) (sym c.method.ensures) ∙ sym c.in-Some-action.ensures
+    ∙ ap Some c.in-OnToken.is in
+    refused_by (Wants c.args.message.now c.args.now c.args.digits)
+    c.from_residual-in_err-token-in-OnToken.result
     (fault.Token c.in_err-token-in-OnToken.field-0.0) c.from_residual-in_err-token-in-OnToken.ensures.1
     (λ _. wants_of c.args.message.now c.args.now c.args.digits target asked _ found takes
     (asker_read c.args.message.now target.merchant c.args.now
-    (WantsAction asked target c.args.message.now c.args.digits) c.in_ok-asker.asker _ c.in_ok-asker.ensures.wanted
-    (inr ((λ is. c.in_err-token-in-OnToken.ensures (subst IsToken (sym c.as_bytes.ensures.value) is)), refl))))
+    (WantsAction asked target c.args.message.now c.args.digits) c.in_ok-asker.asker _
+    c.in_ok-asker.ensures.wanted
+    (inr (
+      (λ is. c.in_err-token-in-OnToken.ensures (subst IsToken (sym c.as_bytes.ensures.value) is)),
+      refl,
+    ))))
 
 pub returns-in_ok-order-in-Tokenize-clause-wanted :
     goal.returns-in_ok-order-in-Tokenize-clause-wanted
 returns-in_ok-order-in-Tokenize-clause-wanted c =
     let target = target_of c.in-Some.route in
     let found = ap route_of (sym c.target.ensures) ∙ sym c.in-Some.ensures in
-    let takes = ap (action_at target.place) (sym c.method.ensures) ∙ sym c.in-Some-action.ensures ∙ ap Some c.in-Tokenize.is in
+    let takes = ap (action_at target.place) (sym c.method.ensures) ∙ sym c.in-Some-action.ensures
+    ∙ ap Some c.in-Tokenize.is in
     wants_of c.args.message.now c.args.now c.args.digits target action.Tokenize _ found takes
     (asker_read c.args.message.now target.merchant c.args.now
-    (WantsAction action.Tokenize target c.args.message.now c.args.digits) c.in_ok-asker.asker _ c.in_ok-asker.ensures.wanted
+    (WantsAction action.Tokenize target c.args.message.now c.args.digits) c.in_ok-asker.asker _
+    c.in_ok-asker.ensures.wanted
     (order_read c.args.message.now (λ o r. r ≡ Ok (command_for c.in_ok-asker.asker o c.args.digits))
-    c.in_ok-order-in-Tokenize.order _ c.in_ok-order-in-Tokenize.ensures.wanted (ap Ok c.order.ensures.asks)))
+    c.in_ok-order-in-Tokenize.order _ c.in_ok-order-in-Tokenize.ensures.wanted
+    (ap Ok c.order.ensures.asks)))
 
 pub returns-in_ok-token-in-OnToken-clause-wanted :
     goal.returns-in_ok-token-in-OnToken-clause-wanted
@@ -77,22 +93,26 @@ returns-in_ok-token-in-OnToken-clause-wanted c =
     let target = target_of c.in-Some.route in
     let found = ap route_of (sym c.target.ensures) ∙ sym c.in-Some.ensures in
     let asked = action.OnToken c.in-OnToken.what in
-    let takes = ap (action_at target.place) (sym c.method.ensures) ∙ sym c.in-Some-action.ensures ∙ ap Some c.in-OnToken.is in
+    let takes = ap (action_at target.place) (sym c.method.ensures) ∙ sym c.in-Some-action.ensures
+    ∙ ap Some c.in-OnToken.is in
     let read = c.in_ok-token-in-OnToken.ensures in
     wants_of c.args.message.now c.args.now c.args.digits target asked _ found takes
     (asker_read c.args.message.now target.merchant c.args.now
-    (WantsAction asked target c.args.message.now c.args.digits) c.in_ok-asker.asker _ c.in_ok-asker.ensures.wanted
-    (inl (
+    (WantsAction asked target c.args.message.now c.args.digits) c.in_ok-asker.asker _
+    c.in_ok-asker.ensures.wanted (inl (
       subst IsToken c.as_bytes.ensures.value read.0,
-      ap Ok (c.on.ensures.asks ∙ ap (command_on c.in-OnToken.what c.in_ok-asker.asker) (read.1 ∙ c.as_bytes.ensures.value)),
+      ap Ok (c.on.ensures.asks ∙ ap (command_on c.in-OnToken.what c.in_ok-asker.asker)
+          (read.1 ∙ c.as_bytes.ensures.value)),
     )))
 
 pub returns-in-Audit-clause-wanted : goal.returns-in-Audit-clause-wanted
 returns-in-Audit-clause-wanted c =
     let target = target_of c.in-Some.route in
     let found = ap route_of (sym c.target.ensures) ∙ sym c.in-Some.ensures in
-    let takes = ap (action_at target.place) (sym c.method.ensures) ∙ sym c.in-Some-action.ensures ∙ ap Some c.in-Audit.is in
+    let takes = ap (action_at target.place) (sym c.method.ensures) ∙ sym c.in-Some-action.ensures
+    ∙ ap Some c.in-Audit.is in
     wants_of c.args.message.now c.args.now c.args.digits target action.Audit _ found takes
     (asker_read c.args.message.now target.merchant c.args.now
-    (WantsAction action.Audit target c.args.message.now c.args.digits) c.in_ok-asker.asker _ c.in_ok-asker.ensures.wanted
+    (WantsAction action.Audit target c.args.message.now c.args.digits) c.in_ok-asker.asker _
+    c.in_ok-asker.ensures.wanted
     refl)

@@ -1,5 +1,6 @@
 use Rattle.std.proofs.Common.{◌∙◌, arith, refl, sym}
-use Rattle.vault_routes.proofs.FindLemmas.{AllText-found, IsText-bytes, route_of-named, route_of-unnamed, taken_or_empty}
+use Rattle.vault_routes.proofs.FindLemmas.{AllText-found, IsText-bytes, route_of-named, route_of-unnamed}
+use Rattle.vault_routes.proofs.FindLemmas.{taken_or_empty}
 use Rattle.vault_routes.proofs.route.Routes.find.Goals as goal
 
 pub returns-in_err-merchant : goal.returns-in_err-merchant

@@ -25,6 +25,10 @@ returns-in_err-merchant-clause-wanted c =
       sym c.in-Some.ensures,
       inl (
         c.in_ok-caller.ensures.name.0 refl,
-        inr ((λ is. (let clash = c.in_err-merchant.ensures.name.1 (subst IsName (sym c.as_bytes.ensures.value) is) in cc)), refl),
+        inr (
+          (λ is. (let clash = c.in_err-merchant.ensures.name.1
+              (subst IsName (sym c.as_bytes.ensures.value) is) in cc)),
+          refl,
+        ),
       ),
     ))
