@@ -1,0 +1,21 @@
+//! Drawn digits.
+ghost use Rattle.std.specs.Prelude.{◌≡◌};
+
+use rand::RngExt;
+use rand_core::Rng;
+use vault_pan::draw::Digits;
+
+/// How many digits a drawing has.
+const DRAWN: usize = 300;
+
+/// Draws digits.
+pub fn drawn<G: Rng>(generator: &mut G) -> Digits {
+    let mut values = [0u8; DRAWN];
+    for value in &mut values {
+        *value = generator.random_range(0..10u8);
+    }
+    match Digits::new(&values) {
+        Some(digits) => digits,
+        None => unreachable!(),
+    }
+}
