@@ -12,8 +12,7 @@ number_of Store = 63
 number_of Memory = 64
 
 -- which of the four that a service stands on have failed: the source refused, the reader or the writer
--- failed, the
--- vault is broken
+-- failed, the vault is broken
 pub record Failures : Type 0 where
   pub source : Bool
   pub reader : Bool

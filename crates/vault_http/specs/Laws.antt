@@ -5,10 +5,10 @@ use Rattle.vault_core.specs.Vault.{Vault as Content}
 use Rattle.vault_core.specs.Yields.{answered_so, given_by, gives_number}
 use Rattle.vault_http.specs.Exchanges.{Exchange, commands_of, vault_after}
 
--- Of a merchant's numbers that were given in exchanges none is missing in its count, whatever was asked after
--- them.
+-- Of a merchant's numbers that were given in exchanges none is missing in its count, whatever was asked
+-- after them.
 abbrev pub NumbersAreCounted : Type 0
 NumbersAreCounted =
     (V : Content) (xs later : List Exchange) (m : Bytes)
-    → given_by V m + answered_so (λ c. gives_number) m (commands_of xs) V ≤ given_by
-    (vault_after V (xs ++ later)) m
+    → given_by V m + answered_so (λ c. gives_number) m (commands_of xs) V
+    ≤ given_by (vault_after V (xs ++ later)) m

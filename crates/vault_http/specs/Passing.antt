@@ -25,8 +25,8 @@ pub record Passage : Type 1 where
   pub left_new : Content → Content → Type 0
 
 -- the passage of a source, a writer and a vault over tables
-abbrev pub passing : {S W T : Type 0} → (S → List Pair) → S → S → (W → Option (List ℕ)) → Watched W
-    → Watched W
+abbrev pub passing : {S W T : Type 0} → (S → List Pair) → S → S
+    → (W → Option (List ℕ)) → Watched W → Watched W
     → (T → Type 0) → (T → Content → Type 0) → (T → Content → Content → Type 0) → Vault T → Vault T → Passage
 passing given s s' contents w w' honest holds leaves v v' = record {
   given_old = given s;

@@ -4,8 +4,8 @@ use Rattle.std.specs.Io.KnownBytes.{Appends}
 use Rattle.vault_http.specs.declared.fault.ServeFault.{ServeFault}
 use Rattle.vault_http.specs.declared.fault.ServeFault.TheVariants as fault
 
--- the text went out; or a beginning of it and not all, where the writer failed; or nothing, for want of
--- memory
+-- the text went out; or a beginning of it and not all, where the writer failed; or nothing, for want
+-- of memory
 abbrev pub IsRefused : {X : Type 0} → Option (List ℕ) → Option (List ℕ) → List ℕ
     → Result X ServeFault → Type 0
 IsRefused old new text (Ok x) = Appends old new text

@@ -22,8 +22,7 @@ abbrev pub answered_fault : List Request → Option WireFault → Option WireFau
 answered_fault ms e = if has_close (shown ms) then None else e
 
 -- The bytes that were read are messages, and an open rest or a fault; all messages up to the first that
--- closes
--- are answered, and then the fault; where nothing closes the connection no byte is left.
+-- closes are answered, and then the fault; where nothing closes the connection no byte is left.
 pub record IsServed (left_old left_new : Left) (w : Passage) (served : Served) : Type 0 where
   pub bytes : List ℕ
   pub messages : List Request

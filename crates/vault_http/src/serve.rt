@@ -127,10 +127,8 @@ pub fn serve_by<R: Read, W: Write, T: Tables, S: Source>(
         };
         if count == 0 {
             let messages = pairs - source.left();
-            return Ok(Served {
-                messages,
-                fault: None,
-            });
+            let fault = None;
+            return Ok(Served { messages, fault });
         }
         let Ok(fed) = intake.feed(&piece[..count]) else {
             return Err(ServeFault::Memory);
@@ -138,10 +136,8 @@ pub fn serve_by<R: Read, W: Write, T: Tables, S: Source>(
         match answer_all(alloc, routes, &fed.messages, writer, vault, source) {
             Ok(true) => {
                 let messages = pairs - source.left();
-                return Ok(Served {
-                    messages,
-                    fault: None,
-                });
+                let fault = None;
+                return Ok(Served { messages, fault });
             }
             Ok(false) => {}
             Err(fault) => return Err(fault),
