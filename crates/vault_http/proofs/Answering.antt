@@ -1,6 +1,6 @@
 -- One message, and the text that answers it.
-use Rattle.std.proofs.Common.{◌≡◌, ℕ, ◌<◌, List, [], ◌∷◌, ◌++◌, length, take, refl, sym, ap, ◌∙◌, subst}
-use Rattle.std.proofs.Common.{append-nil, arith}
+use Rattle.std.proofs.Common.{◌≡◌, ℕ, List, [], refl, sym, ap, ◌∙◌, subst}
+use Rattle.std.proofs.Common.{append-nil}
 use Rattle.std.specs.Prelude.{Result, Ok, Err, Option, None, Bool, true, false, IfOk, OnErr, OnOk}
 use Rattle.std.specs.Result.{is_err}
 use Rattle.vault_core.specs.Vault.{Vault as Content}
@@ -14,7 +14,7 @@ use Rattle.vault_routes.specs.Reply.{body_text}
 use Rattle.vault_routes.specs.Status.{status_of}
 use Rattle.vault_routes.specs.Wanted.{Wanted}
 use Rattle.vault_routes.specs.declared.fault.HttpFault.{HttpFault}
-use Rattle.vault_http.specs.Exchanges.{Pair, Exchange, reply_to, text_at, texts, vault_after}
+use Rattle.vault_http.specs.Exchanges.{Exchange, reply_to, text_at}
 use Rattle.vault_http.specs.Outcomes.{StandsFor, outcome_text, reply_in}
 use Rattle.vault_http.specs.Passing.{Passage, AllAnswered, Answered, IsBefore, Keeps, Sends}
 use Rattle.vault_http.specs.declared.answer.Outcome.{Outcome}

@@ -1,6 +1,6 @@
 -- Messages up to the first that closes the connection.
 use Rattle.std.proofs.Common.{◌≡◌, ℕ, ◌+◌, ◌<◌, List, [], ◌∷◌, ◌++◌, length, take, drop, get_or, Bool, true}
-use Rattle.std.proofs.Common.{false, cond, refl, sym, ◌∙◌, ap, subst, append_assoc, append-nil, suc}
+use Rattle.std.proofs.Common.{false, cond, refl, sym, ◌∙◌, ap, append-nil, suc}
 use Rattle.std.proofs.Common.{drop-cons}
 use Rattle.std.specs.Prelude.{◌||◌}
 use Rattle.std.proofs.lemmas.List.{length-map, take-append-drop, take_more, map-append}

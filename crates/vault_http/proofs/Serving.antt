@@ -1,12 +1,11 @@
 -- The bytes of a connection, and where a service of them ends.
-use Rattle.std.proofs.Common.{◌≡◌, ℕ, ◌+◌, ◌-◌, ◌*◌, ◌<◌, ◌≤◌, List, [], ◌∷◌, ◌++◌, length, take, refl, sym}
+use Rattle.std.proofs.Common.{◌≡◌, ℕ, ◌+◌, ◌-◌, ◌*◌, ◌<◌, List, [], ◌∷◌, ◌++◌, length, take, refl, sym}
 use Rattle.std.proofs.Common.{ap, ◌∙◌, subst, append_assoc, append-nil, arith, inl, inr, length-append}
-use Rattle.std.specs.Prelude.{◌⊎◌, Option, Some, None, Err, Bool, true, false, map, if◌then◌else◌}
+use Rattle.std.specs.Prelude.{Option, Some, None, Err, false}
 use Rattle.std.specs.List.{flat_map}
 use Rattle.std.specs.Io.KnownBytes.{Appends, Consumes, IsAtEnd}
 use Rattle.std.proofs.lemmas.List.{length-map}
 use Rattle.vault_core.specs.Vault.{Vault as Content}
-use Rattle.vault_store.specs.Applied.{tables_of}
 use Rattle.vault_store.specs.declared.vault.Vault.{Vault}
 use Rattle.vault_wire.specs.Messages.{Request, Reads, ReadsThen, print_message}
 use Rattle.vault_wire.specs.Parts.{Parts, parts_of}
@@ -16,12 +15,12 @@ use Rattle.vault_wire.specs.declared.fault.WireFault.{WireFault}
 use Rattle.vault_wire.specs.declared.watched.Watched.{Watched}
 use Rattle.vault_wire.proofs.OpenFacts.{open_short}
 use Rattle.vault_wire.proofs.ReadingFacts.{reads_of}
-use Rattle.vault_http.specs.Exchanges.{Pair, Exchange, AskFirst, fault_text, has_close, last_text, shown}
+use Rattle.vault_http.specs.Exchanges.{Pair, AskFirst, fault_text, has_close, last_text, shown}
 use Rattle.vault_http.specs.Exchanges.{texts, up_to_close, vault_after}
 use Rattle.vault_http.specs.Passing.{Passage, passing, AllAnswered, IsBefore, Keeps, Sends, StopsBefore}
 use Rattle.vault_http.specs.Passing.{Stops}
 use Rattle.vault_http.specs.Refusing.{IsRefused}
-use Rattle.vault_http.specs.Served.{Begins, IsServed, IsStopped, StopsAmong, StopsAtFault, StopsForMemory}
+use Rattle.vault_http.specs.Served.{Begins, IsServed, IsStopped}
 use Rattle.vault_http.specs.Served.{answered_fault}
 use Rattle.vault_http.specs.declared.fault.ServeFault.{ServeFault}
 use Rattle.vault_http.specs.declared.fault.ServeFault.TheVariants as fault

@@ -1,5 +1,5 @@
 -- What faults tell of the four that a service stands on.
-use Rattle.std.proofs.Common.{◌≡◌, sym, ap, ◌∙◌, subst}
+use Rattle.std.proofs.Common.{◌≡◌, ap, ◌∙◌}
 use Rattle.std.specs.Prelude.{Bool, true, false, Result, Ok, Err}
 use Rattle.vault_http.specs.Faults.{Failures, Tells, failures}
 use Rattle.vault_http.specs.declared.fault.ServeFault.{ServeFault}

@@ -1,6 +1,6 @@
 -- Messages that are asked one after the other, and the texts that answer them (RFC 9112, section 9.3).
-use Rattle.std.specs.Prelude.{◌≡◌, ℕ, ◌==◌, List, [], ◌∷◌, ◌++◌, map, Bool, true, Option, Some, None, Result}
-use Rattle.std.specs.Prelude.{Ok, Err, option_map, if◌then◌else◌}
+use Rattle.std.specs.Prelude.{◌≡◌, ℕ, ◌==◌, List, [], ◌∷◌, ◌++◌, map, Bool, true, Option, Some, None}
+use Rattle.std.specs.Prelude.{Ok, Err, if◌then◌else◌}
 use Rattle.std.specs.List.{flat_map, list_any}
 use Rattle.vault_core.specs.Runs.{run}
 use Rattle.vault_core.specs.Table.{reply}

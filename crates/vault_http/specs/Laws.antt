@@ -1,5 +1,5 @@
 -- What numbers that were given leave in a vault's counts.
-use Rattle.std.specs.Prelude.{ℕ, ◌+◌, ◌≤◌, List, ◌++◌}
+use Rattle.std.specs.Prelude.{◌+◌, ◌≤◌, List, ◌++◌}
 use Rattle.vault_core.specs.Keys.{Bytes}
 use Rattle.vault_core.specs.Vault.{Vault as Content}
 use Rattle.vault_core.specs.Yields.{answered_so, given_by, gives_number}

@@ -1,5 +1,5 @@
 -- What a service does with the bytes of a connection.
-use Rattle.std.specs.Prelude.{◌≡◌, ℕ, ◌<◌, ◌⊎◌, List, ◌++◌, length, take, All, Bool, true, false, Option}
+use Rattle.std.specs.Prelude.{◌≡◌, ℕ, ◌<◌, ◌⊎◌, List, ◌++◌, length, take, All, false, Option}
 use Rattle.std.specs.Prelude.{Some, None, if◌then◌else◌}
 use Rattle.std.specs.List.{flat_map}
 use Rattle.std.specs.Io.KnownBytes.{Consumes, IsAtEnd}
@@ -8,7 +8,7 @@ use Rattle.vault_wire.specs.Messages.{Request, IsMessage, Reads, print_message}
 use Rattle.vault_wire.specs.declared.fault.WireFault.{WireFault}
 use Rattle.vault_http.specs.Exchanges.{Pair, Exchange, AskFirst, fault_text, has_close, last_text, shown}
 use Rattle.vault_http.specs.Exchanges.{texts, up_to_close, vault_after}
-use Rattle.vault_http.specs.Passing.{Passage, AllAnswered, IsBefore, Keeps, Sends, Stops, Takes}
+use Rattle.vault_http.specs.Passing.{Passage, IsBefore, Keeps, Sends, Stops, Takes}
 use Rattle.vault_http.specs.declared.fault.ServeFault.{ServeFault}
 use Rattle.vault_http.specs.declared.fault.ServeFault.TheVariants as fault
 use Rattle.vault_http.specs.declared.served.Served.{Served}

@@ -1,11 +1,9 @@
-use Rattle.std.proofs.Common.{◌≡◌, ℕ, ◌<◌, List, [], ◌∷◌, ◌++◌, length, take, refl, sym, ap, ◌∙◌, subst}
+use Rattle.std.proofs.Common.{ℕ, ◌<◌, List, [], ◌∷◌, length, take, refl, sym, ap, ◌∙◌, subst}
 use Rattle.std.proofs.Common.{append-nil, arith, Err, inl, inr}
 use Rattle.std.specs.Io.KnownBytes.{Appends}
-use Rattle.vault_core.specs.Vault.{Vault as Content}
-use Rattle.vault_store.specs.Applied.{tables_of}
 use Rattle.vault_wire.specs.Watching.{inner_of}
-use Rattle.vault_http.specs.Exchanges.{Pair, Exchange, text_at, vault_after}
-use Rattle.vault_http.specs.Passing.{Passage, Keeps, Sends, Stops, passing}
+use Rattle.vault_http.specs.Exchanges.{Pair, text_at, vault_after}
+use Rattle.vault_http.specs.Passing.{Stops, passing}
 use Rattle.vault_http.proofs.Answering.{answered_nothing, outcome_text-is, when_err, when_ok}
 use Rattle.vault_http.proofs.Bytes.{appends_nothing}
 use Rattle.vault_http.proofs.Exchanging.{vault_after-nil}

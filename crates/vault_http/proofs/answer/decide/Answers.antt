@@ -1,5 +1,4 @@
 use Rattle.std.proofs.Common.{Ok, Err, refl, sym, subst}
-use Rattle.vault_core.specs.Vault.{Vault as Content}
 use Rattle.vault_store.specs.Applied.{tables_of}
 use Rattle.vault_routes.specs.Faults.{number_of}
 use Rattle.vault_http.specs.Exchanges.{vault_after}

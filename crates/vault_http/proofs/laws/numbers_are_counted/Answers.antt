@@ -1,6 +1,5 @@
-use Rattle.std.proofs.Common.{ℕ, arith}
+use Rattle.std.proofs.Common.{arith}
 use Rattle.vault_core.proofs.Counted.{counts_follow}
-use Rattle.vault_core.specs.Yields.{given_by}
 use Rattle.vault_http.specs.Exchanges.{commands_of, vault_after}
 use Rattle.vault_http.proofs.Exchanging.{vault_after-append}
 use Rattle.vault_http.proofs.laws.numbers_are_counted.Goals as goal

@@ -1,9 +1,9 @@
-use Rattle.std.proofs.Common.{◌≡◌, ℕ, ◌+◌, ◌-◌, ◌<◌, List, [], ◌∷◌, ◌++◌, length, take, refl, sym, ap, ◌∙◌}
-use Rattle.std.proofs.Common.{subst, arith, true, false, None, Some, inl, inr, length-append}
+use Rattle.std.proofs.Common.{◌≡◌, ◌+◌, ◌-◌, ◌<◌, [], ◌++◌, length, take, refl, sym, ap, ◌∙◌}
+use Rattle.std.proofs.Common.{subst, arith, true, false, None, Some, inl, length-append}
 use Rattle.std.proofs.lemmas.List.{length-map, length-take}
 use Rattle.std.specs.Prelude.{Bool, Ok, Err}
 use Rattle.vault_store.specs.Applied.{is_broken}
-use Rattle.vault_wire.specs.Parts.{Parts, parts_of}
+use Rattle.vault_wire.specs.Parts.{parts_of}
 use Rattle.vault_wire.specs.Reading.{Kept}
 use Rattle.vault_wire.specs.Watching.{is_stopped}
 use Rattle.vault_http.specs.Faults.{Failures, failures}
