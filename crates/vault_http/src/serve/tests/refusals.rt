@@ -261,3 +261,11 @@ fn what_the_vault_refuses(rt: HostRuntime) {
     let expired = answer(&rt, "410 Gone", "", "{\"refused\":16}");
     assert!(rt; connect(&rt, &mut vault, 1060, 0, number.as_bytes()).is(1, expired.as_str()));
 }
+
+#[test]
+fn of_a_doubled_member_the_last_counts(rt: HostRuntime) {
+    let body = "{\"number\":\"4111\",\"number\":\"4111111111111111\",\"use\":\"single\"}";
+    let length = format!(in rt.alloc(); "{}", body.len()).expect(&rt, "memory");
+    let asked = asking(&rt, length.as_str(), body);
+    assert!(rt; connect_new(&rt, asked.as_bytes()).is(1, ANSWERED));
+}
