@@ -1,4 +1,5 @@
 pub mod Lines
 pub mod Parsed
+pub mod Stops
 pub mod Trials
 pub mod Values

@@ -6,7 +6,7 @@ use Rattle.vault_core.specs.Name.{IsName}
 use Rattle.vault_core.specs.Scalar.{IsLife}
 use Rattle.vault_cli.specs.Jobs.{IsAsked}
 use Rattle.vault_cli.specs.Tree.{vault_app}
-use Rattle.vault_cli.specs.Trial.{IsTrial, Known, trial_vault}
+use Rattle.vault_cli.specs.Trial.{IsCut, IsTrial, Known, trial_vault}
 use Rattle.vault_cli.specs.declared.jobs.Job.{Job}
 use Rattle.vault_cli.specs.declared.jobs.Job.TheVariants.{Trial}
 use Rattle.vault_cli.specs.declared.trial.Trial.{Trial as TrialParts}
@@ -23,6 +23,11 @@ IsMisnamed (Trial now digits caller merchant life) = ¬ (IsName caller.now × Is
 abbrev pub IsDone : Job → Known → Known → Known → Known → Type 0
 IsDone (Trial now digits caller merchant life) left_old left_new sent_old sent_new =
     IsTrial left_old left_new sent_old sent_new (trial_vault caller.now merchant.now life now) now digits
+
+-- a beginning of the job was done
+abbrev pub IsBegun : Job → Known → Known → Known → Known → Type 0
+IsBegun (Trial now digits caller merchant life) left_old left_new sent_old sent_new =
+    IsCut left_old left_new sent_old sent_new (trial_vault caller.now merchant.now life now) now digits
 
 -- the trial has the parts of the job
 abbrev pub IsTrialOf : Job → TrialParts → Type 0

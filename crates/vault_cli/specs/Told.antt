@@ -21,7 +21,8 @@ bad_words_line = codes "vault: bad words\n"
 abbrev pub stop_line : ℕ → List ℕ
 stop_line n = codes "vault: stopped " ++ decimal n ++ codes "\n"
 
--- The program stops by 20 or by 60 to 64: by 61 only where its reader failed, by 62 only where its writer failed.
+-- the program stops by 20 or by 60 to 64: by 61 only where its reader failed, and by 62 only where its
+-- writer failed
 pub record IsCause (n : ℕ) (reader writer : Bool) : Type 0 where
   pub numbers : (n ≡ 20) ⊎ ((60 ≤ n) × (n ≤ 64))
   pub reading : n ≡ 61 → reader ≡ true

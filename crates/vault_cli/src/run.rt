@@ -3,7 +3,7 @@ ghost use Rattle.std.specs.Prelude.{◌≡◌, ◌≢◌, ◌↔◌, ◌⊎◌, 
 ghost use Rattle.std.specs.IoError.{error_kind};
 ghost use Rattle.vault_wire.specs.Watching.{inner_of, is_stopped};
 ghost use Rattle.vault_cli.specs.Jobs.{IsAsked};
-ghost use Rattle.vault_cli.specs.Ran.{AsksFor, AsksHelp, HasLives, IsDone, IsMisnamed, IsTrialOf};
+ghost use Rattle.vault_cli.specs.Ran.{AsksFor, AsksHelp, HasLives, IsBegun, IsDone, IsMisnamed, IsTrialOf};
 ghost use Rattle.vault_cli.specs.Told.{Tells, TellsStop, bad_words_line, refusal_line, stop_line};
 ghost use Rattle.vault_cli.specs.Tree.{vault_app};
 ghost use Rattle.vault_cli.specs.declared.jobs.Job.{Job};
@@ -41,6 +41,10 @@ pub fn run<H: AllocGlobal, S: AsStr, R: Read, W: Write, E: Write>(
         (R.remaining (inner_of input.old)) (R.remaining (inner_of input.new))
         (W.contents (inner_of output.old)) (W.contents (inner_of output.new)))) }
     ensures refused { result ≡ 1 → AsksFor (map S.text words.now) IsMisnamed }
+    ensures stopped { result ≡ 4 → ((input.new ≡ input.old) × (output.new ≡ output.old))
+        ⊎ AsksFor (map S.text words.now) (λ job. IsBegun job
+        (R.remaining (inner_of input.old)) (R.remaining (inner_of input.new))
+        (W.contents (inner_of output.old)) (W.contents (inner_of output.new))) }
     ensures bad_words { result ≡ 2 → (job : Job) → ¬ (IsAsked vault_app (map S.text words.now) job) }
     ensures says_refused { result ≡ 1 → (input.new ≡ input.old)
         × Tells (W.contents (inner_of output.old)) (W.contents (inner_of output.new))
@@ -48,7 +52,8 @@ pub fn run<H: AllocGlobal, S: AsStr, R: Read, W: Write, E: Write>(
     ensures says_bad_words { result ≡ 2 → (input.new ≡ input.old) × (output.new ≡ output.old)
         × Tells (E.contents (inner_of errors.old)) (E.contents (inner_of errors.new))
         (is_stopped errors.new) bad_words_line }
-    ensures says_stopped { result ≡ 4 → TellsStop (E.contents (inner_of errors.old)) (E.contents (inner_of errors.new))
+    ensures says_stopped { result ≡ 4 → TellsStop
+        (E.contents (inner_of errors.old)) (E.contents (inner_of errors.new))
         (is_stopped errors.new) (is_stopped input.new) (is_stopped output.new) }
     ensures silent { (result ≡ 0) ⊎ (result ≡ 1) → errors.new ≡ errors.old }
 {
@@ -68,9 +73,11 @@ pub fn run<H: AllocGlobal, S: AsStr, R: Read, W: Write, E: Write>(
 pub fn no_words<E: Write>(error: &Error, errors: &mut Watched<E>) -> u8
     ensures stopped { (result ≡ 4) ↔ (error_kind error.now ≡ ErrorKind.OutOfMemory) }
     ensures bad_words { (result ≡ 2) ↔ (error_kind error.now ≢ ErrorKind.OutOfMemory) }
-    ensures says_stopped { result ≡ 4 → Tells (E.contents (inner_of errors.old)) (E.contents (inner_of errors.new))
+    ensures says_stopped { result ≡ 4 → Tells
+        (E.contents (inner_of errors.old)) (E.contents (inner_of errors.new))
         (is_stopped errors.new) (stop_line 20) }
-    ensures says_bad_words { result ≡ 2 → Tells (E.contents (inner_of errors.old)) (E.contents (inner_of errors.new))
+    ensures says_bad_words { result ≡ 2 → Tells
+        (E.contents (inner_of errors.old)) (E.contents (inner_of errors.new))
         (is_stopped errors.new) bad_words_line }
 {
     match error.kind() {
@@ -92,12 +99,16 @@ fn do_job<R: Read, W: Write, E: Write>(
     ensures done { result ≡ 0 → IsDone job.now
         (R.remaining (inner_of input.old)) (R.remaining (inner_of input.new))
         (W.contents (inner_of output.old)) (W.contents (inner_of output.new)) }
+    ensures stopped { result ≡ 4 → IsBegun job.now
+        (R.remaining (inner_of input.old)) (R.remaining (inner_of input.new))
+        (W.contents (inner_of output.old)) (W.contents (inner_of output.new)) }
     ensures handed_on { result ≡ 0 → is_stopped output.new ≡ false }
     ensures refused { result ≡ 1 → IsMisnamed job.now }
     ensures says_refused { result ≡ 1 → (input.new ≡ input.old)
         × Tells (W.contents (inner_of output.old)) (W.contents (inner_of output.new))
         (is_stopped output.new) refusal_line }
-    ensures says_stopped { result ≡ 4 → TellsStop (E.contents (inner_of errors.old)) (E.contents (inner_of errors.new))
+    ensures says_stopped { result ≡ 4 → TellsStop
+        (E.contents (inner_of errors.old)) (E.contents (inner_of errors.new))
         (is_stopped errors.new) (is_stopped input.new) (is_stopped output.new) }
     ensures silent { (result ≡ 0) ⊎ (result ≡ 1) → errors.new ≡ errors.old }
 {

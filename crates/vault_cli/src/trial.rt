@@ -1,5 +1,5 @@
 //! A vault in memory that answers the messages of an input.
-ghost use Rattle.std.specs.Prelude.{◌≡◌, ◌↔◌, false, IfErr, IfOk, OnOk};
+ghost use Rattle.std.specs.Prelude.{◌≡◌, ◌↔◌, false, IfErr, IfOk, OnErr, OnOk};
 ghost use Rattle.vault_core.specs.Proper.{HasLivesInRange};
 ghost use Rattle.vault_core.specs.Scalar.{IsLife};
 ghost use Rattle.vault_core.specs.Vault.{Vault as Content};
@@ -8,7 +8,7 @@ ghost use Rattle.vault_store.specs.Held.{IsHeld};
 ghost use Rattle.vault_wire.specs.Watching.{inner_of, is_stopped};
 ghost use Rattle.vault_http.specs.Faults.{number_of};
 ghost use Rattle.vault_cli.specs.Told.{IsCause};
-ghost use Rattle.vault_cli.specs.Trial.{IsTrial, left_by, trial_vault as trial_vault_lem};
+ghost use Rattle.vault_cli.specs.Trial.{IsCut, IsTrial, left_by, trial_vault as trial_vault_lem};
 
 use std::alloc::{AllocError, Global};
 use std::io::{Read, Write};
@@ -114,7 +114,13 @@ pub fn serve_trial<R: Read, W: Write>(
         (trial_vault_lem trial.now.caller trial.now.merchant trial.now.life trial.now.moment)
         trial.now.moment trial.now.digits) }
     ensures handed_on { OnOk result (is_stopped output.new ≡ false) }
-    ensures stopped { IfErr result (λ e. IsCause (number_of e) (is_stopped input.new) (is_stopped output.new)) }
+    ensures cut { OnErr result (IsCut
+        (R.remaining (inner_of input.old)) (R.remaining (inner_of input.new))
+        (W.contents (inner_of output.old)) (W.contents (inner_of output.new))
+        (trial_vault_lem trial.now.caller trial.now.merchant trial.now.life trial.now.moment)
+        trial.now.moment trial.now.digits) }
+    ensures stopped { IfErr result (λ e. IsCause (number_of e)
+        (is_stopped input.new) (is_stopped output.new)) }
 {
     let mut vault = trial_vault(alloc, trial)?;
     let mut source = FixedSource::new(trial.moment, trial.digits, MOST_MESSAGES);

@@ -7,7 +7,8 @@ use vault_wire::watched::Watched;
 
 /// The answer to the worked message.
 const FIRST_TOKEN: &str =
-    "HTTP/1.1 200 OK\r\nContent-Type: application/json\r\nContent-Length: 43\r\n\r\n{\"expires\":1060,\"token\":\"0000000000001111\"}";
+    "HTTP/1.1 200 OK\r\nContent-Type: application/json\r\nContent-Length: 43\r\n\r\n\
+     {\"expires\":1060,\"token\":\"0000000000001111\"}";
 
 /// What a run of the program gave.
 #[derive(Drop)]
@@ -55,8 +56,11 @@ fn asking<H: AllocGlobal + Abort>(rt: &H, number: &str) -> String
 {
     let size = 28 + number.len();
     format!(in rt.alloc();
-        "POST /v1/merchants/shop1/tokens HTTP/1.1\r\nHost: vault\r\nX-Vault-Caller: till-1\r\nX-Vault-Request: 7\r\nContent-Length: {size}\r\n\r\n{{\"number\":\"{number}\",\"use\":\"single\"}}"
-    ).expect(rt, "memory")
+        "POST /v1/merchants/shop1/tokens HTTP/1.1\r\nHost: vault\r\nX-Vault-Caller: till-1\r\n\
+         X-Vault-Request: 7\r\nContent-Length: {size}\r\n\r\n\
+         {{\"number\":\"{number}\",\"use\":\"single\"}}"
+    )
+    .expect(rt, "memory")
 }
 
 /// The answer with this status line and body.
@@ -173,10 +177,12 @@ fn input_without_a_whole_message_is_not_answered(rt: HostRuntime) {
 #[test]
 fn a_fault_of_the_bytes_is_answered_and_closes(rt: HostRuntime) {
     let bad_head =
-        "HTTP/1.1 400 Bad Request\r\nContent-Type: application/json\r\nContent-Length: 14\r\nConnection: close\r\n\r\n{\"refused\":50}";
+        "HTTP/1.1 400 Bad Request\r\nContent-Type: application/json\r\nContent-Length: 14\r\n\
+         Connection: close\r\n\r\n{\"refused\":50}";
     assert!(rt; trial(&rt, "0", b"POST / HTTP/1.1\r\nA b\r\n\r\n").is(0, bad_head, ""));
     let no_coding =
-        "HTTP/1.1 411 Length Required\r\nContent-Type: application/json\r\nContent-Length: 14\r\nConnection: close\r\n\r\n{\"refused\":53}";
+        "HTTP/1.1 411 Length Required\r\nContent-Type: application/json\r\nContent-Length: 14\r\n\
+         Connection: close\r\n\r\n{\"refused\":53}";
     assert!(rt;
         trial(
             &rt,
@@ -190,7 +196,8 @@ fn a_fault_of_the_bytes_is_answered_and_closes(rt: HostRuntime) {
 #[test]
 fn a_length_that_is_wrong_is_answered_and_closes(rt: HostRuntime) {
     let bad_length =
-        "HTTP/1.1 400 Bad Request\r\nContent-Type: application/json\r\nContent-Length: 14\r\nConnection: close\r\n\r\n{\"refused\":52}";
+        "HTTP/1.1 400 Bad Request\r\nContent-Type: application/json\r\nContent-Length: 14\r\n\
+         Connection: close\r\n\r\n{\"refused\":52}";
     assert!(rt;
         trial(
             &rt,
@@ -200,7 +207,8 @@ fn a_length_that_is_wrong_is_answered_and_closes(rt: HostRuntime) {
         .is(0, bad_length, "")
     );
     let too_large =
-        "HTTP/1.1 413 Payload Too Large\r\nContent-Type: application/json\r\nContent-Length: 14\r\nConnection: close\r\n\r\n{\"refused\":54}";
+        "HTTP/1.1 413 Payload Too Large\r\nContent-Type: application/json\r\nContent-Length: 14\r\n\
+         Connection: close\r\n\r\n{\"refused\":54}";
     assert!(rt;
         trial(&rt, "0", b"POST / HTTP/1.1\r\nContent-Length: 4097\r\n\r\n").is(0, too_large, "")
     );
@@ -213,7 +221,8 @@ fn another_target_or_method_is_refused(rt: HostRuntime) {
         trial(&rt, "0", b"GET /v1/merchants/shop1 HTTP/1.1\r\n\r\n").is(0, no_route.as_str(), "")
     );
     let other_method =
-        "HTTP/1.1 405 Method Not Allowed\r\nContent-Type: application/json\r\nContent-Length: 14\r\nAllow: POST\r\n\r\n{\"refused\":57}";
+        "HTTP/1.1 405 Method Not Allowed\r\nContent-Type: application/json\r\nContent-Length: 14\r\n\
+         Allow: POST\r\n\r\n{\"refused\":57}";
     assert!(rt;
         trial(&rt, "0", b"PUT /v1/merchants/shop1/tokens HTTP/1.1\r\n\r\n").is(0, other_method, "")
     );
@@ -222,7 +231,8 @@ fn another_target_or_method_is_refused(rt: HostRuntime) {
 #[test]
 fn a_missing_field_is_refused_and_the_connection_closes_where_asked(rt: HostRuntime) {
     let closing =
-        "HTTP/1.1 400 Bad Request\r\nContent-Type: application/json\r\nContent-Length: 14\r\nConnection: close\r\n\r\n{\"refused\":58}";
+        "HTTP/1.1 400 Bad Request\r\nContent-Type: application/json\r\nContent-Length: 14\r\n\
+         Connection: close\r\n\r\n{\"refused\":58}";
     assert!(rt;
         trial(
             &rt,
@@ -251,8 +261,9 @@ fn bodies_and_uses_are_refused_by_number(rt: HostRuntime) {
     let empty =
         b"POST /v1/merchants/shop1/tokens HTTP/1.1\r\nX-Vault-Caller: till-1\r\nX-Vault-Request: 7\r\n\r\n";
     assert!(rt; trial(&rt, "0", empty).is(0, no_body.as_str(), ""));
-    let once =
-        b"POST /v1/merchants/shop1/tokens HTTP/1.1\r\nX-Vault-Caller: till-1\r\nX-Vault-Request: 7\r\nContent-Length: 42\r\n\r\n{\"number\":\"4111111111111111\",\"use\":\"once\"}";
+    let once = b"POST /v1/merchants/shop1/tokens HTTP/1.1\r\nX-Vault-Caller: till-1\r\n\
+         X-Vault-Request: 7\r\nContent-Length: 42\r\n\r\n\
+         {\"number\":\"4111111111111111\",\"use\":\"once\"}";
     assert!(rt; trial(&rt, "0", once).is(0, bad_use.as_str(), ""));
 }
 
@@ -260,19 +271,22 @@ fn bodies_and_uses_are_refused_by_number(rt: HostRuntime) {
 fn another_merchant_and_another_caller_are_refused(rt: HostRuntime) {
     let unknown = answer(&rt, "404 Not Found", "{\"refused\":7}");
     let no_right = answer(&rt, "403 Forbidden", "{\"refused\":8}");
-    let shop =
-        b"POST /v1/merchants/shop2/tokens HTTP/1.1\r\nX-Vault-Caller: till-1\r\nX-Vault-Request: 7\r\nContent-Length: 44\r\n\r\n{\"number\":\"4111111111111111\",\"use\":\"single\"}";
+    let shop = b"POST /v1/merchants/shop2/tokens HTTP/1.1\r\nX-Vault-Caller: till-1\r\n\
+         X-Vault-Request: 7\r\nContent-Length: 44\r\n\r\n\
+         {\"number\":\"4111111111111111\",\"use\":\"single\"}";
     assert!(rt; trial(&rt, "0", shop).is(0, unknown.as_str(), ""));
-    let guest =
-        b"POST /v1/merchants/shop1/tokens HTTP/1.1\r\nX-Vault-Caller: guest\r\nX-Vault-Request: 7\r\nContent-Length: 44\r\n\r\n{\"number\":\"4111111111111111\",\"use\":\"single\"}";
+    let guest = b"POST /v1/merchants/shop1/tokens HTTP/1.1\r\nX-Vault-Caller: guest\r\n\
+         X-Vault-Request: 7\r\nContent-Length: 44\r\n\r\n\
+         {\"number\":\"4111111111111111\",\"use\":\"single\"}";
     assert!(rt; trial(&rt, "0", guest).is(0, no_right.as_str(), ""));
 }
 
 #[test]
 fn a_use_that_is_not_offered_is_refused(rt: HostRuntime) {
     let wrong_use = answer(&rt, "422 Unprocessable Entity", "{\"refused\":9}");
-    let multi =
-        b"POST /v1/merchants/shop1/tokens HTTP/1.1\r\nX-Vault-Caller: till-1\r\nX-Vault-Request: 7\r\nContent-Length: 43\r\n\r\n{\"number\":\"4111111111111111\",\"use\":\"multi\"}";
+    let multi = b"POST /v1/merchants/shop1/tokens HTTP/1.1\r\nX-Vault-Caller: till-1\r\n\
+         X-Vault-Request: 7\r\nContent-Length: 43\r\n\r\n\
+         {\"number\":\"4111111111111111\",\"use\":\"multi\"}";
     assert!(rt; trial(&rt, "0", multi).is(0, wrong_use.as_str(), ""));
 }
 

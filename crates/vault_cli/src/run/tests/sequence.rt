@@ -13,8 +13,9 @@ fn the_same_message_twice_is_answered_twice(rt: HostRuntime) {
 #[test]
 fn each_message_finds_what_those_before_it_left(rt: HostRuntime) {
     let first = asking(&rt, "4111111111111111");
-    let next =
-        "POST /v1/merchants/shop1/tokens HTTP/1.1\r\nX-Vault-Caller: till-1\r\nX-Vault-Request: 8\r\nContent-Length: 44\r\n\r\n{\"number\":\"4111111111111111\",\"use\":\"single\"}";
+    let next = "POST /v1/merchants/shop1/tokens HTTP/1.1\r\nX-Vault-Caller: till-1\r\n\
+         X-Vault-Request: 8\r\nContent-Length: 44\r\n\r\n\
+         {\"number\":\"4111111111111111\",\"use\":\"single\"}";
     let both = format!(in rt.alloc(); "{first}{next}").expect(&rt, "memory");
     let other = answer(
         &rt,
@@ -54,8 +55,8 @@ fn the_1001st_message_stops_with_60(rt: HostRuntime) {
 #[test]
 fn the_longest_head_and_body_are_answered(rt: HostRuntime) {
     let mut message = Vec::new(rt.alloc());
-    let head =
-        b"POST /v1/merchants/shop1/tokens HTTP/1.1\r\nX-Vault-Caller: till-1\r\nX-Vault-Request: 7\r\nContent-Length: 4096\r\nX-Pad: ";
+    let head = b"POST /v1/merchants/shop1/tokens HTTP/1.1\r\nX-Vault-Caller: till-1\r\n\
+         X-Vault-Request: 7\r\nContent-Length: 4096\r\nX-Pad: ";
     let body = b"{\"number\":\"4111111111111111\",\"use\":\"single\"}";
     message.extend_from_slice(head).expect(&rt, "memory");
     message.resize(8188, b'a').expect(&rt, "memory");
@@ -67,11 +68,12 @@ fn the_longest_head_and_body_are_answered(rt: HostRuntime) {
 
 #[test]
 fn after_a_message_that_closes_nothing_is_answered(rt: HostRuntime) {
-    let last =
-        "POST /v1/merchants/shop1/tokens HTTP/1.0\r\nX-Vault-Caller: till-1\r\nX-Vault-Request: 7\r\nContent-Length: 44\r\n\r\n{\"number\":\"4111111111111111\",\"use\":\"single\"}";
+    let last = "POST /v1/merchants/shop1/tokens HTTP/1.0\r\nX-Vault-Caller: till-1\r\n\
+         X-Vault-Request: 7\r\nContent-Length: 44\r\n\r\n\
+         {\"number\":\"4111111111111111\",\"use\":\"single\"}";
     let twice = format!(in rt.alloc(); "{last}{last}").expect(&rt, "memory");
-    let wanted =
-        "HTTP/1.1 200 OK\r\nContent-Type: application/json\r\nContent-Length: 43\r\nConnection: close\r\n\r\n{\"expires\":1060,\"token\":\"0000000000001111\"}";
+    let wanted = "HTTP/1.1 200 OK\r\nContent-Type: application/json\r\nContent-Length: 43\r\n\
+         Connection: close\r\n\r\n{\"expires\":1060,\"token\":\"0000000000001111\"}";
     assert!(rt; trial(&rt, "0", twice.as_bytes()).is(0, wanted, ""));
 }
 
@@ -94,7 +96,8 @@ fn a_fault_after_a_message_is_answered_too(rt: HostRuntime) {
         &rt, "memory",
     );
     let bad_head =
-        "HTTP/1.1 400 Bad Request\r\nContent-Type: application/json\r\nContent-Length: 14\r\nConnection: close\r\n\r\n{\"refused\":50}";
+        "HTTP/1.1 400 Bad Request\r\nContent-Type: application/json\r\nContent-Length: 14\r\n\
+         Connection: close\r\n\r\n{\"refused\":50}";
     let wanted = format!(in rt.alloc(); "{FIRST_TOKEN}{bad_head}").expect(&rt, "memory");
     assert!(rt; trial(&rt, "0", input.as_bytes()).is(0, wanted.as_str(), ""));
 }

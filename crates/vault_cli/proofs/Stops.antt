@@ -1,0 +1,249 @@
+-- A service as a trial, and a service that stopped as a beginning of one.
+use Rattle.std.proofs.Common.{◌≡◌, ℕ, ◌+◌, List, [], ◌∷◌, ◌++◌, length, take, replicate, Bool, true}
+use Rattle.std.proofs.Common.{false, cond, Option, Some, None, inl, inr, sym, ◌∙◌, ap, subst, refl}
+use Rattle.std.proofs.Common.{append-nil, arith}
+use Rattle.std.proofs.Math.Seq.{take-append-add, take-append_seam, take-length}
+use Rattle.std.proofs.lemmas.List.{length-map}
+use Rattle.std.proofs.Common.{Result, Ok, Err}
+use Rattle.std.specs.Prelude.{OnErr}
+use Rattle.std.specs.Io.KnownBytes.{Appends, Consumes, Keeps}
+use Rattle.vault_core.specs.Vault.{Vault as Content}
+use Rattle.vault_wire.specs.Messages.{Reads, Request}
+use Rattle.vault_wire.specs.Parts.{Parts, parts_of}
+use Rattle.vault_wire.specs.declared.fault.WireFault.{WireFault}
+use Rattle.vault_http.proofs.Bytes.{appends_nothing, consumes_nothing}
+use Rattle.vault_http.proofs.Closing.{up_to_close-none}
+use Rattle.vault_http.proofs.Exchanging.{texts-append}
+use Rattle.vault_http.proofs.Serving.{begins_of}
+use Rattle.vault_http.specs.Exchanges.{AskFirst, Exchange, Pair, fault_text, has_close, last_text, shown}
+use Rattle.vault_http.specs.Exchanges.{text_at, texts, up_to_close, vault_after}
+use Rattle.vault_http.specs.Passing.{IsBefore, Passage, Sends, Stops, Takes}
+use Rattle.vault_http.specs.Served.{Begins, IsServed, IsStopped, StopsAtFault, answered_fault}
+use Rattle.vault_http.specs.declared.fault.ServeFault.{ServeFault}
+use Rattle.vault_http.specs.declared.served.Served.{Served}
+use Rattle.vault_http.specs.declared.fault.ServeFault.TheVariants as fault
+use Rattle.vault_cli.specs.Trial.{IsCut, IsLast, IsTrial, Known}
+use Rattle.vault_cli.proofs.Trials.{asked_again, kept_after}
+
+-- the first messages are asked with one pair, and of the texts that answer them a beginning went out
+record Begun (w : Passage) (ps : List Parts) (V : Content) (pair : Pair) : Type 0 where
+  exchanges : List Exchange
+  count : ℕ
+  asked : AskFirst ps (replicate (length exchanges) pair) exchanges
+  sent : Sends w (take count (texts V exchanges))
+
+-- the texts before the last one, and of that one a part
+last_part : (V : Content) (xs : List Exchange) (x : Exchange) (n : ℕ)
+    → take (length (texts V xs) + n) (texts V (xs ++ x ∷ []))
+    ≡ texts V xs ++ take n (text_at (vault_after V xs) x)
+last_part V xs x n =
+    let text : List ℕ = text_at (vault_after V xs) x in
+    ap (λ ts. take (length (texts V xs) + n) ts) (texts-append V xs (x ∷ []))
+    ∙ take-append-add (texts V xs) (text ++ []) n
+    ∙ ap (λ ts. texts V xs ++ take n ts) (append-nil text)
+
+-- the texts before the last one
+but_last : (V : Content) (xs : List Exchange) (x : Exchange)
+    → take (length (texts V xs)) (texts V (xs ++ x ∷ [])) ≡ texts V xs
+but_last V xs x =
+    ap (λ ts. take (length (texts V xs)) ts) (texts-append V xs (x ∷ []))
+    ∙ take-append_seam (texts V xs) (text_at (vault_after V xs) x ++ [])
+
+module _ (w : Passage) (V : Content) (now : ℕ) (drawn : List ℕ) (n : ℕ) (before : IsBefore w V)
+    (fresh : w.given_old ≡ []) (same : w.given_new ≡ replicate n (now, drawn)) where
+  taken_as : (pairs : List Pair) → Takes w pairs → pairs ≡ replicate n (now, drawn)
+  taken_as pairs taken = sym (taken ∙ ap (λ ds. ds ++ pairs) fresh) ∙ same
+
+  asked_as : (ps : List Parts) (pairs : List Pair) (xs : List Exchange) → Takes w pairs
+      → AskFirst ps pairs xs
+      → AskFirst ps (replicate (length xs) (now, drawn)) xs
+  asked_as ps pairs xs taken asked =
+      asked_again ps pairs [] xs n (now, drawn) asked (append-nil pairs ∙ taken_as pairs taken)
+
+  -- all texts went out
+  begun_whole : (ps : List Parts) (pairs : List Pair) (xs : List Exchange) → Takes w pairs
+      → AskFirst ps pairs xs
+      → Sends w (texts V xs) → Begun w ps V (now, drawn)
+  begun_whole ps pairs xs taken asked sent = record {
+    exchanges = xs;
+    count = length (texts V xs);
+    asked = asked_as ps pairs xs taken asked;
+    sent = subst (λ t. Sends w t) (sym (take-length (texts V xs))) sent;
+  }
+
+  -- all texts but the last one's went out
+  begun_last : (ps : List Parts) (pairs : List Pair) (xs : List Exchange) (x : Exchange) → Takes w pairs
+      → AskFirst ps pairs (xs ++ x ∷ []) → Sends w (texts V xs) → Begun w ps V (now, drawn)
+  begun_last ps pairs xs x taken asked sent = record {
+    exchanges = xs ++ x ∷ [];
+    count = length (texts V xs);
+    asked = asked_as ps pairs (xs ++ x ∷ []) taken asked;
+    sent = subst (λ t. Sends w t) (sym (but_last V xs x)) sent;
+  }
+
+  begun : (e : ServeFault) (ps : List Parts) → Stops e w ps → Begun w ps V (now, drawn)
+  begun fault.Source ps s = begun_whole ps s.pairs s.exchanges s.taken s.asked (s.answered V before).0
+  begun fault.Read ps s = begun_whole ps s.pairs s.exchanges s.taken s.asked (s.answered V before).0
+  begun fault.Write ps s = record {
+    exchanges = s.exchanges ++ s.cut ∷ [];
+    count = length (texts V s.exchanges) + s.sent;
+    asked = asked_as ps s.pairs (s.exchanges ++ s.cut ∷ []) s.taken s.asked;
+    sent = subst (λ t. Sends w t) (sym (last_part V s.exchanges s.cut s.sent)) (s.answered V before).1;
+  }
+  begun fault.Store ps s =
+      begun_last ps s.pairs s.exchanges s.undecided s.taken s.asked (s.answered V before).0
+  begun fault.Memory ps (inl s) = record {
+    exchanges = s.exchanges;
+    count = length (texts V s.exchanges);
+    asked = asked_again ps s.pairs s.unused s.exchanges n (now, drawn) s.asked
+        (taken_as (s.pairs ++ s.unused) s.taken);
+    sent = subst (λ t. Sends w t) (sym (take-length (texts V s.exchanges))) (s.answered V before).0;
+  }
+  begun fault.Memory ps (inr s) =
+      begun_last ps s.pairs s.exchanges s.silent s.taken s.asked (s.answered V before).0
+
+  -- a service to its end is a trial
+  pub trial_of : (old new : Known) (served : Served) → IsServed old new w served
+      → IsTrial old new w.sent_old w.sent_new V now drawn
+  trial_of old new served s =
+      let P : Option WireFault → Type 0 = λ e. Sends w (texts V s.exchanges ++ last_text e) in
+      record {
+        bytes = s.bytes;
+        messages = s.messages;
+        fault = s.fault;
+        exchanges = s.exchanges;
+        read = s.read;
+        reads = s.reads;
+        asked = asked_as (up_to_close (shown s.messages)) s.pairs s.exchanges s.taken s.asked;
+        whole = s.whole;
+        ended = s.ended;
+        sent = subst P s.told (s.answered V before).0;
+      }
+
+  cut_among : (old new : Known) (bytes : List ℕ) (ms : List Request) → Consumes old new bytes
+      → Begins bytes ms
+      → Begun w (up_to_close (shown ms)) V (now, drawn) → IsCut old new w.sent_old w.sent_new V now drawn
+  cut_among old new bytes ms read begins b = record {
+    bytes = bytes;
+    messages = ms;
+    exchanges = b.exchanges;
+    last = None;
+    count = b.count;
+    read = read;
+    begins = begins;
+    asked = b.asked;
+    ends = tt;
+    sent = subst (λ t. Sends w (take b.count t)) (sym (append-nil (texts V b.exchanges))) b.sent;
+  }
+
+  cut_at_fault : (old new : Known) → StopsAtFault old new w
+      → IsCut old new w.sent_old w.sent_new V now drawn
+  cut_at_fault old new s = record {
+    bytes = s.bytes;
+    messages = s.messages;
+    exchanges = s.exchanges;
+    last = Some s.fault;
+    count = length (texts V s.exchanges) + s.sent;
+    read = s.read;
+    begins = begins_of s.bytes s.messages (Some s.fault) s.reads;
+    asked = subst (λ ps. AskFirst ps (replicate (length s.exchanges) (now, drawn)) s.exchanges)
+        (sym (up_to_close-none (shown s.messages) s.open_till))
+        (asked_as (shown s.messages) s.pairs s.exchanges s.taken s.asked);
+    ends = (s.reads, s.open_till, s.whole);
+    sent = subst (λ t. Sends w t) (sym (take-append-add (texts V s.exchanges) (fault_text s.fault) s.sent))
+        (s.answered V before).0;
+  }
+
+  -- a service that stopped went through a beginning of a trial
+  pub cut_of : (e : ServeFault) (old new : Known) → IsStopped old new w e
+      → IsCut old new w.sent_old w.sent_new V now drawn
+  cut_of fault.Source old new (f, s) =
+      cut_among old new s.bytes s.messages s.read (begins_of s.bytes s.messages f s.reads)
+      (begun fault.Source (up_to_close (shown s.messages)) s.stops)
+  cut_of fault.Read old new s =
+      cut_among old new s.bytes s.messages s.read (begins_of s.bytes s.messages None s.reads)
+      (begun fault.Read (up_to_close (shown s.messages)) s.stops)
+  cut_of fault.Write old new (inl (f, s)) =
+      cut_among old new s.bytes s.messages s.read (begins_of s.bytes s.messages f s.reads)
+      (begun fault.Write (up_to_close (shown s.messages)) s.stops)
+  cut_of fault.Write old new (inr s) = cut_at_fault old new s
+  cut_of fault.Store old new (f, s) =
+      cut_among old new s.bytes s.messages s.read (begins_of s.bytes s.messages f s.reads)
+      (begun fault.Store (up_to_close (shown s.messages)) s.stops)
+  cut_of fault.Memory old new s = cut_among old new s.bytes s.messages s.read s.begins
+      (begun fault.Memory (up_to_close (shown s.messages)) s.stops)
+
+-- nothing was read and nothing went out
+pub nothing_cut : (left sent : Known) (V : Content) (now : ℕ) (drawn : List ℕ)
+    → IsCut left left sent sent V now drawn
+nothing_cut left sent V now drawn = record {
+  bytes = [];
+  messages = [];
+  exchanges = [];
+  last = None;
+  count = 0;
+  read = consumes_nothing left;
+  begins = record {
+    rest = [];
+    whole = refl;
+    each = λ k m below. let never : ⊥ = omega (arith, below) in absurd never;
+  };
+  asked = tt;
+  ends = tt;
+  sent = appends_nothing sent;
+}
+
+-- the fault is answered only where no message closes the connection
+ends_at : (bytes : List ℕ) (ms : List Request) (xs : List Exchange) (e : Option WireFault) (b : Bool)
+    → has_close (shown ms) ≡ b → Reads bytes ms e → length xs ≡ length (up_to_close (shown ms))
+    → IsLast bytes ms xs (cond b None e)
+ends_at bytes ms xs e true h reads whole = tt
+ends_at bytes ms xs None false h reads whole = tt
+ends_at bytes ms xs (Some e) false h reads whole = (
+  reads,
+  h,
+  whole ∙ ap (λ ps. length ps) (up_to_close-none (shown ms) h) ∙ length-map ms parts_of,
+)
+
+-- a trial is a beginning of itself
+pub cut_whole : (old new out gone : Known) (V : Content) (now : ℕ) (drawn : List ℕ)
+    → IsTrial old new out gone V now drawn → IsCut old new out gone V now drawn
+cut_whole old new out gone V now drawn t =
+    let last : Option WireFault = answered_fault t.messages t.fault in
+    let all : List ℕ = texts V t.exchanges ++ last_text last in
+    record {
+      bytes = t.bytes;
+      messages = t.messages;
+      exchanges = t.exchanges;
+      last = last;
+      count = length all;
+      read = t.read;
+      begins = begins_of t.bytes t.messages t.fault t.reads;
+      asked = t.asked;
+      ends = ends_at t.bytes t.messages t.exchanges t.fault (has_close (shown t.messages)) refl t.reads
+          t.whole;
+      sent = subst (λ (ts : List ℕ). Appends out gone ts) (sym (take-length all)) t.sent;
+    }
+
+-- a trial before a flush is one after it
+pub flushed : (old new out mid gone : Known) (V : Content) (now : ℕ) (drawn : List ℕ)
+    → IsTrial old new out mid V now drawn → Keeps mid gone → IsTrial old new out gone V now drawn
+flushed old new out mid gone V now drawn t kept =
+    record {
+      bytes = t.bytes;
+      messages = t.messages;
+      fault = t.fault;
+      exchanges = t.exchanges;
+      read = t.read;
+      reads = t.reads;
+      asked = t.asked;
+      whole = t.whole;
+      ended = t.ended;
+      sent = kept_after out mid gone
+          (texts V t.exchanges ++ last_text (answered_fault t.messages t.fault)) t.sent kept;
+    }
+
+-- what holds in any case holds after an error
+pub on_err : {X E : Type 0} (r : Result X E) (P : Type 0) → P → OnErr r P
+on_err (Ok x) P h = tt
+on_err (Err e) P h = h
