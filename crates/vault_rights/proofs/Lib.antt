@@ -1,0 +1,4 @@
+pub mod Lists
+pub mod Members
+pub mod Numbers
+pub mod Words

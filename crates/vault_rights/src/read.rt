@@ -1,0 +1,138 @@
+//! Reading a rights file.
+ghost use Rattle.std.specs.Prelude.{◌≡◌, ◌⊎◌, IfOk, IfErr};
+ghost use Rattle.toml.specs.Data.{Members};
+ghost use Rattle.toml.specs.View.{view, table_view};
+ghost use Rattle.vault_rights.specs.Faults.{IsMerchantFault, IsFirstFault, IsCallerFault};
+ghost use Rattle.vault_rights.specs.Faults.{IsDocumentFault, IsDocument, IsFault};
+ghost use Rattle.vault_rights.specs.Named.{HasRight, HasMerchant, GivesRight, Names, IsListOf, IsExtendedBy};
+ghost use Rattle.vault_rights.specs.Proper.{EachMember, IsProperMerchant, IsProperCaller, IsProper};
+ghost use Rattle.vault_rights.specs.declared.fault.RightsFault.TheVariants.{NotToml, Memory};
+
+use crate::fault::RightsFault;
+use crate::items::{push_rows, read_rights as read_items};
+use std::alloc::Global;
+use toml::{Table, Value};
+use vault_core::name::{Caller, MerchantId};
+use vault_core::right::Right;
+
+/// Reads a merchant's key and array, and adds its rows.
+fn read_merchant(
+    alloc: Global,
+    caller: Caller,
+    key: &str,
+    value: &Value,
+    rows: &mut Vec<(Caller, MerchantId, Right)>,
+) -> Result<(), RightsFault>
+    ensures proper { IfOk result (λ _. IsProperMerchant key.now (view value.now)) }
+    ensures rows { IfOk result (λ _. IsExtendedBy
+        (λ row. (row.0 ≡ caller) × (row.1 ≡ key.now) × HasRight (view value.now) row.2)
+        rows.old.items rows.new.items) }
+    ensures fault { IfErr result (λ fault.
+        (fault ≡ Memory) ⊎ IsMerchantFault key.now (view value.now) fault) }
+{
+    let merchant = MerchantId::read(key.as_bytes())?;
+    let items = match value.as_array() {
+        Some(items) => items,
+        None => return Err(RightsFault::WrongType),
+    };
+    let rights = read_items(alloc, items)?;
+    push_rows(caller, merchant, &rights, rows)?;
+    Ok(())
+}
+
+/// Reads the merchants of a caller's table, and adds their rows.
+fn read_merchants(
+    alloc: Global,
+    caller: Caller,
+    members: &Table,
+    rows: &mut Vec<(Caller, MerchantId, Right)>,
+) -> Result<(), RightsFault>
+    ensures proper { IfOk result (λ _. EachMember IsProperMerchant (table_view members.now)) }
+    ensures rows { IfOk result (λ _. IsExtendedBy
+        (λ row. (row.0 ≡ caller) × HasMerchant (table_view members.now) row.1 row.2)
+        rows.old.items rows.new.items) }
+    ensures fault { IfErr result (λ fault.
+        (fault ≡ Memory) ⊎ IsFirstFault IsProperMerchant IsMerchantFault (table_view members.now) fault) }
+{
+    for (key, value) in members.iter() {
+        read_merchant(alloc, caller, key.as_str(), value, rows)?;
+    }
+    Ok(())
+}
+
+/// Reads a caller's key and table, and adds its rows.
+fn read_caller(
+    alloc: Global,
+    key: &str,
+    value: &Value,
+    rows: &mut Vec<(Caller, MerchantId, Right)>,
+) -> Result<(), RightsFault>
+    ensures proper { IfOk result (λ _. IsProperCaller key.now (view value.now)) }
+    ensures rows { IfOk result (λ _. IsExtendedBy
+        (λ row. (row.0 ≡ key.now) × GivesRight (view value.now) row.1 row.2) rows.old.items rows.new.items) }
+    ensures fault { IfErr result (λ fault. (fault ≡ Memory) ⊎ IsCallerFault key.now (view value.now) fault) }
+{
+    let caller = Caller::read(key.as_bytes())?;
+    let members = match value.as_table() {
+        Some(members) => members,
+        None => return Err(RightsFault::WrongType),
+    };
+    read_merchants(alloc, caller, members, rows)?;
+    Ok(())
+}
+
+/// Reads the callers of a document, and adds their rows.
+fn read_callers(
+    alloc: Global,
+    document: &Table,
+    rows: &mut Vec<(Caller, MerchantId, Right)>,
+) -> Result<(), RightsFault>
+    ensures proper { IfOk result (λ _. IsProper (table_view document.now)) }
+    ensures rows { IfOk result (λ _.
+        IsExtendedBy (Names (table_view document.now)) rows.old.items rows.new.items) }
+    ensures fault { IfErr result (λ fault.
+        (fault ≡ Memory) ⊎ IsDocumentFault (table_view document.now) fault) }
+{
+    for (key, value) in document.iter() {
+        read_caller(alloc, key.as_str(), value, rows)?;
+    }
+    Ok(())
+}
+
+/// The document of a text, in UTF-8.
+fn read_document(alloc: Global, text: &[u8]) -> Result<Table, RightsFault>
+    ensures document { IfOk result (λ document. IsDocument text.now (table_view document)) }
+    ensures fault { IfErr result (λ fault.
+        (fault ≡ Memory) ⊎ (((document : Members) → ¬ IsDocument text.now document) × (fault ≡ NotToml))) }
+{
+    let text = match std::str::from_utf8(text) {
+        Ok(text) => text,
+        Err(_) => return Err(RightsFault::NotToml),
+    };
+    match toml::table_from_str(alloc, text) {
+        Ok(table) => Ok(table),
+        Err(error) if error.is_memory() => Err(RightsFault::Memory),
+        Err(_) => Err(RightsFault::NotToml),
+    }
+}
+
+/// Reads a rights file: the rights that its document names, by caller, merchant (by their bytes) and
+/// right (by number), each once.
+///
+/// Refused are, in this order: 70 a text that is no TOML document; then, caller by caller in the order
+/// of their bytes, 72 a key that is no name, 73 a value that is no table, and merchant by merchant in it
+/// 72 a key that is no name, 73 a value that is no array, and item by item in it 73 what is no text and
+/// 71 a word that is no right. 74: memory was refused, which says nothing of the text.
+pub fn read_rights(
+    alloc: Global,
+    text: &[u8],
+) -> Result<Vec<(Caller, MerchantId, Right)>, RightsFault>
+    ensures rights { IfOk result (λ rows. (document : Members) × IsDocument text.now document
+        × IsProper document × IsListOf (Names document) rows.items) }
+    ensures fault { IfErr result (IsFault text.now) }
+{
+    let document = read_document(alloc, text)?;
+    let mut rows = Vec::new(alloc);
+    read_callers(alloc, &document, &mut rows)?;
+    Ok(rows)
+}
