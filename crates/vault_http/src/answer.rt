@@ -1,6 +1,8 @@
 //! One message answered.
-ghost use Rattle.std.specs.Prelude.{◌≡◌, ◌∷◌, [], ◌⊎◌, ◌+◌, true, false, Err, IfErr, IfOk, OnOk, MatchResult};
-ghost use Rattle.std.specs.Prelude.{option_map};
+ghost use Rattle.std.specs.Prelude.{◌≡◌, ◌↔◌, ◌∷◌, [], ◌⊎◌, ◌+◌, true, false, Err, IfErr, IfOk, OnOk};
+ghost use Rattle.std.specs.Prelude.{MatchResult, option_map};
+ghost use Rattle.vault_core.specs.Proper.{HasLivesInRange};
+ghost use Rattle.vault_core.specs.Table.{after, reply as reply_lem};
 ghost use Rattle.vault_core.specs.Vault.{Vault as Content};
 ghost use Rattle.vault_store.specs.Applied.{Contains, is_broken, tables_of};
 ghost use Rattle.vault_wire.specs.Answer.{answer_bytes};
@@ -16,6 +18,7 @@ ghost use Rattle.vault_http.specs.Passing.{AllAnswered, Passage, Stops, passing}
 use crate::fault::ServeFault;
 use std::alloc::{AllocError, Global};
 use std::io::Write;
+use vault_core::command::Command;
 use vault_core::moment::Moment;
 use vault_core::reply::Reply;
 use vault_core::source::Source;
@@ -41,6 +44,31 @@ enum Outcome {
     Refused(HttpFault),
 }
 
+/// Answers a command by the vault, after what it changes was written.
+fn apply<T: Tables>(vault: &mut Vault<T>, command: &Command) -> Result<Reply, ServeFault>
+    requires { HasLivesInRange command.now }
+    ensures answered { T.is_honest (tables_of vault.new) → IfOk result (λ reply. (V : Content)
+        → Contains T.holds vault.old V
+        → (reply ≡ reply_lem V command.now) × Contains T.holds vault.new (after V command.now)) }
+    ensures memory { result ≡ Err ServeFault.Memory
+        → (V : Content) → Contains T.holds vault.old V → Contains T.holds vault.new V }
+    ensures store { result ≡ Err ServeFault.Store → T.is_honest (tables_of vault.new)
+        → (V : Content) → Contains T.holds vault.old V → T.leaves (tables_of vault.new) V (after V command.now) }
+    ensures only { IfErr result (λ e. (e ≡ ServeFault.Memory) ⊎ (e ≡ ServeFault.Store)) }
+    ensures broken { (result ≡ Err ServeFault.Store) ↔ (is_broken vault.new ≡ true) }
+    ensures told { Tells result
+        (failures false false false (is_broken vault.old)) (failures false false false (is_broken vault.new)) }
+    ensures sturdy { T.may_fail ≡ false → is_broken vault.old ≡ false → ¬ (result ≡ Err ServeFault.Store) }
+    ensures honest { T.is_honest (tables_of vault.new) → T.is_honest (tables_of vault.old) }
+{
+    match vault.apply(command) {
+        Ok(reply) => Ok(reply),
+        Err(Fault::Memory) => Err(ServeFault::Memory),
+        Err(Fault::Store) => Err(ServeFault::Store),
+        Err(Fault::Reopen) => Err(ServeFault::Store),
+    }
+}
+
 /// Decides what a message asks for, after what it changes was written.
 fn decide<T: Tables>(
     alloc: Global,
@@ -63,14 +91,13 @@ fn decide<T: Tables>(
     ensures told { Tells result
         (failures false false false (is_broken vault.old))
         (failures false false false (is_broken vault.new)) }
+    ensures sturdy { T.may_fail ≡ false → is_broken vault.old ≡ false → ¬ (result ≡ Err ServeFault.Store) }
     ensures honest { T.is_honest (tables_of vault.new) → T.is_honest (tables_of vault.old) }
 {
     match command_of(alloc, routes, message, now, digits) {
-        Ok(command) => match vault.apply(&command) {
+        Ok(command) => match apply(vault, &command) {
             Ok(reply) => Ok(Outcome::Replied(reply)),
-            Err(Fault::Memory) => Err(ServeFault::Memory),
-            Err(Fault::Store) => Err(ServeFault::Store),
-            Err(Fault::Reopen) => Err(ServeFault::Store),
+            Err(stop) => Err(stop),
         },
         Err(fault) => match fault {
             HttpFault::Memory => Err(ServeFault::Memory),
@@ -124,6 +151,7 @@ pub(crate) fn answer_one<W: Write, T: Tables, S: Source>(
         (failures (S.has_refused source.new) false (is_stopped writer.new) (is_broken vault.new)) }
     ensures counted { OnOk result (S.count_left source.old ≡ S.count_left source.new + 1) }
     ensures later { S.precedes source.old source.new }
+    ensures sturdy { T.may_fail ≡ false → is_broken vault.old ≡ false → ¬ (result ≡ Err ServeFault.Store) }
     ensures honest { T.is_honest (tables_of vault.new) → T.is_honest (tables_of vault.old) }
 {
     let Ok(pair) = source.next() else {

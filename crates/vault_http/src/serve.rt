@@ -49,6 +49,7 @@ fn answer_all<W: Write, T: Tables, S: Source>(
     ensures counted { OnOk result (S.count_left source.old
         ≡ S.count_left source.new + length (up_to_close messages.now)) }
     ensures later { S.precedes source.old source.new }
+    ensures sturdy { T.may_fail ≡ false → is_broken vault.old ≡ false → ¬ (result ≡ Err ServeFault.Store) }
     ensures honest { T.is_honest (tables_of vault.new) → T.is_honest (tables_of vault.old) }
 {
     for message in messages {
@@ -116,6 +117,7 @@ pub fn serve_by<R: Read, W: Write, T: Tables, S: Source>(
         (failures (S.has_refused source.new) (is_stopped reader.new) (is_stopped writer.new)
         (is_broken vault.new)) }
     ensures later { S.precedes source.old source.new }
+    ensures sturdy { T.may_fail ≡ false → is_broken vault.old ≡ false → ¬ (result ≡ Err ServeFault.Store) }
     ensures honest { T.is_honest (tables_of vault.new) → T.is_honest (tables_of vault.old) }
 {
     let mut intake = Intake::new(alloc);
@@ -182,6 +184,7 @@ pub fn serve<R: Read, W: Write, T: Tables, S: Source>(
         (failures (S.has_refused source.new) (is_stopped reader.new) (is_stopped writer.new)
         (is_broken vault.new)) }
     ensures later { S.precedes source.old source.new }
+    ensures sturdy { T.may_fail ≡ false → is_broken vault.old ≡ false → ¬ (result ≡ Err ServeFault.Store) }
     ensures honest { T.is_honest (tables_of vault.new) → T.is_honest (tables_of vault.old) }
 {
     let Ok(routes) = Routes::new(alloc) else {
