@@ -1,10 +1,15 @@
 -- What a live source gave.
-use Rattle.std.specs.Prelude.{◌≡◌, ℕ, List, [], false}
+use Rattle.std.specs.Prelude.{◌≡◌, ℕ, List, [], All, Option, Some, false}
 use Rattle.vault_live.specs.declared.live.LiveSource.{LiveSource}
 
 -- a moment, and drawn digits
-abbrev Pair : Type 0
+abbrev pub Pair : Type 0
 Pair = ℕ × List ℕ
+
+-- the pair has this moment and these digits, where they are fixed
+abbrev pub IsPairOf : Option ℕ → Option (List ℕ) → Pair → Type 0
+IsPairOf moment digits pair =
+    ((now : ℕ) → moment ≡ Some now → pair.0 ≡ now) × ((drawn : List ℕ) → digits ≡ Some drawn → pair.1 ≡ drawn)
 
 -- the pairs that it gave, in order
 abbrev pub pairs_of : {C G : Type 0} → LiveSource C G → List Pair
@@ -15,3 +20,13 @@ pub record IsFresh {C G : Type 0} (s : LiveSource C G) (times : ℕ) : Type 0 wh
   pub gave : pairs_of s ≡ []
   pub left_is : s.left ≡ times
   pub calm : s.refused ≡ false
+
+-- the moment and the digits of its pairs, where they are fixed
+abbrev pub Fixes : {C G : Type 0} → LiveSource C G → Option ℕ → Option (List ℕ) → Type 0
+Fixes s moment digits = (s.moment ≡ moment) × (s.digits ≡ digits)
+
+-- what is fixed stays the same, and where all pairs have it, so do all pairs later
+abbrev pub Continues : {C G : Type 0} → LiveSource C G → LiveSource C G → Type 0
+Continues old new = (moment : Option ℕ) → (digits : Option (List ℕ)) → Fixes old moment digits
+    → Fixes new moment digits
+    × (All (IsPairOf moment digits) (pairs_of old) → All (IsPairOf moment digits) (pairs_of new))

@@ -1,5 +1,5 @@
 //! A source of the clock's moments and of drawn digits.
-ghost use Rattle.std.specs.Prelude.{◌≡◌, ◌+◌, ◌∷◌, ◌++◌, [], true, false, IfOk, OnOk, OnErr, IsErr};
+ghost use Rattle.std.specs.Prelude.{◌≡◌, ◌+◌, ◌∷◌, ◌++◌, [], Some, None, true, false, IfOk, OnOk, OnErr, IsErr};
 
 use crate::draw::drawn;
 use rand_core::Rng;
@@ -9,43 +9,84 @@ use vault_core::moment::Moment;
 use vault_core::source::{Source, SourceFault};
 use vault_pan::draw::Digits;
 
+/// The clock's second, where the clock can be read and its second is a moment.
+pub fn moment_of<C: Clock>(clock: &C) -> Option<Moment> {
+    let now = SystemTime::now(clock).ok()?;
+    let since = now.duration_since(UNIX_EPOCH).ok()?;
+    Moment::new(since.as_secs()).ok()
+}
+
 /// Gives the clock's second and 300 digits that a generator draws, a number of times, and keeps
-/// the pairs that it gave.
+/// the pairs that it gave. The moment, the digits or both may be fixed: then each pair has them.
 #[derive(Drop)]
 pub struct LiveSource<'c, C, G> {
     clock: &'c C,
     generator: G,
+    moment: Option<Moment>,
+    digits: Option<Digits>,
     given: Vec<(Moment, Digits)>,
     left: u64,
     refused: bool,
 }
 
 impl<'c, C: Clock, G: Rng> LiveSource<'c, C, G> {
-    ghost use Rattle.vault_live.specs.Live.{IsFresh};
+    ghost use Rattle.vault_live.specs.Live.{Fixes, IsFresh};
 
     /// A source that gives this many pairs. It takes no memory yet.
     pub fn new(alloc: Global, clock: &'c C, generator: G, times: u64) -> LiveSource<'c, C, G>
-        ensures { IsFresh result times }
+        ensures fresh { IsFresh result times }
+        ensures free { Fixes result None None }
+    {
+        LiveSource::fixed(alloc, clock, generator, times, None, None)
+    }
+
+    /// A source that gives this many pairs, with this moment and these digits where there are some.
+    pub fn fixed(
+        alloc: Global,
+        clock: &'c C,
+        generator: G,
+        times: u64,
+        moment: Option<Moment>,
+        digits: Option<Digits>,
+    ) -> LiveSource<'c, C, G>
+        ensures fresh { IsFresh result times }
+        ensures fixed { Fixes result moment digits }
     {
         LiveSource {
             clock,
             generator,
+            moment,
+            digits,
             given: Vec::new(alloc),
             left: times,
             refused: false,
         }
     }
 
-    // The clock's second, where it is a moment.
-    fn moment(&self) -> Option<Moment> {
-        let now = SystemTime::now(self.clock).ok()?;
-        let since = now.duration_since(UNIX_EPOCH).ok()?;
-        Moment::new(since.as_secs()).ok()
+    // The moment of the next pair.
+    fn moment(&self) -> Option<Moment>
+        ensures fixed { (now : _) → self.now.moment ≡ Some now → result ≡ Some now }
+    {
+        match self.moment {
+            Some(moment) => Some(moment),
+            None => moment_of(self.clock),
+        }
+    }
+
+    // The digits of the next pair.
+    fn digits(&mut self) -> Digits
+        ensures fixed { (drawn : _) → self.old.digits ≡ Some drawn → result ≡ drawn }
+        ensures same { self.new ≡ record self.old { generator = self.new.generator } }
+    {
+        match self.digits {
+            Some(digits) => digits,
+            None => drawn(&mut self.generator),
+        }
     }
 }
 
 impl<'c, C: Clock, G: Rng> Source for LiveSource<'c, C, G> {
-    ghost use Rattle.vault_live.specs.Live.{pairs_of};
+    ghost use Rattle.vault_live.specs.Live.{Continues, pairs_of};
 
     ghost given = { pairs_of };
 
@@ -53,7 +94,7 @@ impl<'c, C: Clock, G: Rng> Source for LiveSource<'c, C, G> {
 
     ghost has_refused = { λ s. s.refused };
 
-    ghost precedes = { λ _ _. Unit {0} };
+    ghost precedes = { Continues };
 
     fn next(&mut self) -> Result<(Moment, Digits), SourceFault> {
         if self.left == 0 {
@@ -64,7 +105,7 @@ impl<'c, C: Clock, G: Rng> Source for LiveSource<'c, C, G> {
             self.refused = true;
             return Err(SourceFault);
         };
-        let digits = drawn(&mut self.generator);
+        let digits = self.digits();
         if self.given.push((now, digits)).is_err() {
             self.refused = true;
             return Err(SourceFault);
@@ -81,9 +122,12 @@ impl<'c, C: Clock, G: Rng> Source for LiveSource<'c, C, G> {
         self.refused
     }
 
-    ghost reflexive = { λ s. tt };
+    ghost reflexive = { λ s m d f. (f, λ all. all) };
 
-    ghost transitive = { λ r s t p q. tt };
+    ghost transitive = { λ r s t p q m d f. (
+      (q m d (p m d f).0).0,
+      λ all. (q m d (p m d f).0).1 ((p m d f).1 all),
+    ) };
 }
 
 #[cfg(test)]

@@ -8,6 +8,7 @@ use std::test::Fail;
 use std::time::Duration;
 use vault_pan::draw::candidate;
 use vault_pan::pan::Pan;
+use vault_pan::token::Token;
 
 /// A clock that stands at a number of seconds, or can't be read.
 #[derive(Drop)]
@@ -60,4 +61,36 @@ fn a_clock_outside_the_moments_gives_no_pair(rt: HostRuntime) {
     };
     let mut source = LiveSource::new(rt.alloc(), &clock, StdRng::seed_from_u64(7), 2);
     assert!(rt; source.next().is_ok());
+}
+
+/// The moment and the first candidate that a source gives, where these are fixed.
+fn given<H: AllocGlobal>(
+    rt: &H,
+    clock: &StandingClock,
+    moment: Option<Moment>,
+    digits: Option<Digits>,
+) -> Result<(u64, Option<Token>), &'static str> {
+    let number = Pan::read(b"4111111111111111").map_err(|_| "no number")?;
+    let generator = StdRng::seed_from_u64(7);
+    let mut source = LiveSource::fixed(rt.alloc(), clock, generator, 2, moment, digits);
+    source.next().map_err(|_| "no pair")?;
+    let pair = source.next().map_err(|_| "no pair")?;
+    Ok((pair.0.seconds(), candidate(&pair.1, 0, &number)))
+}
+
+#[test]
+fn what_is_fixed_stands_in_each_pair(rt: HostRuntime) -> Result<(), Fail> {
+    let zeros = Digits::new(&[0; 300]);
+    let seven = Moment::new(7).ok();
+    let token = Token::read(b"0000000000001111").ok();
+    let clock = StandingClock {
+        seconds: Some(1000),
+    };
+    assert!(rt; given(&rt, &clock, seven, zeros)? == (7, token));
+    assert!(rt; given(&rt, &clock, None, zeros)? == (1000, token));
+    let unread = StandingClock { seconds: None };
+    let drawn = given(&rt, &unread, seven, None)?;
+    assert_eq!(rt; drawn.0, 7);
+    assert!(rt; drawn.1 != token);
+    Ok(())
 }

@@ -1,4 +1,4 @@
-use Rattle.std.proofs.Common.{◌≡◌, true, false, ◌<◌, length, arith}
+use Rattle.std.proofs.Common.{◌≡◌, true, false, length, arith}
 use Rattle.vault_live.proofs.draw.drawn.Goals as goal
 
 pub unreachable-requires : goal.unreachable-requires
