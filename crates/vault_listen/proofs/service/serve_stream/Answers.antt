@@ -1,0 +1,20 @@
+use Rattle.std.proofs.Common.{◌≡◌, false, refl, true}
+use Rattle.vault_listen.specs.Service.{vault_passing}
+use Rattle.vault_listen.proofs.Ending.{end_kept, end_undecided, none_kept}
+use Rattle.vault_listen.proofs.service.serve_stream.Goals as goal
+
+pub returns-then-is_err-clause-left : goal.returns-then-is_err-clause-left
+returns-then-is_err-clause-left g c =
+    none_kept (vault_passing g.T.Tables.is_honest g.T.Tables.holds g.T.Tables.leaves c.args.vault.now
+    c.args.vault.now) (λ V b. (b.1, g.met.T.Tables.settled _ V b.1.0 b.0)) 1
+
+pub returns-then-store_failed-clause-left : goal.returns-then-store_failed-clause-left
+returns-then-store_failed-clause-left g c =
+    end_undecided c.serve_connection-ended.result _ _ _ (c.if-store_failed.ensures.0 refl)
+    c.serve_connection-ended.ensures.answered.1
+
+pub returns-clause-left : goal.returns-clause-left
+returns-clause-left g c =
+    end_kept c.serve_connection-ended.result _ _ _
+    (λ same. let e : false ≡ true = c.if-store_failed.ensures.1 same in absurd (cc))
+    c.serve_connection-ended.ensures.answered.1

@@ -1,0 +1,52 @@
+//! One connection, answered with the clock's moments and drawn digits.
+ghost use Rattle.std.specs.Prelude.{◌≡◌, Bool, false, Err, List, [], MatchResult};
+ghost use Rattle.vault_store.specs.Applied.{is_broken, tables_of};
+ghost use Rattle.vault_wire.specs.Watching.{inner_of, is_stopped};
+ghost use Rattle.vault_http.specs.Exchanges.{Pair};
+ghost use Rattle.vault_http.specs.Faults.{Tells, failures};
+ghost use Rattle.vault_http.specs.Passing.{Passage, passing};
+ghost use Rattle.vault_http.specs.Served.{IsServed, IsStopped};
+
+use rand_core::Rng;
+use std::alloc::Global;
+use std::io::{Read, Write};
+use std::time::Clock;
+use vault_http::fault::ServeFault;
+use vault_http::serve::serve_by;
+use vault_http::served::Served;
+use vault_live::live::LiveSource;
+use vault_routes::route::Routes;
+use vault_store::tables::Tables;
+use vault_store::vault::Vault;
+use vault_wire::watched::Watched;
+
+/// The most messages of a connection.
+pub const MESSAGES: u64 = 1000;
+
+/// Answers the messages of one connection, at most 1000, each with the clock's second and digits of its own.
+///
+/// 60 Source: the 1001st message, or a clock that can't be read. 61 Read and 62 Write: the reader or the writer
+/// failed. 63 Store: the store failed, or the vault was broken before. 64 Memory: memory was refused.
+pub fn serve_connection<C: Clock, G: Rng, R: Read, W: Write, T: Tables>(
+    alloc: Global,
+    clock: &C,
+    generator: &mut G,
+    routes: &Routes,
+    reader: &mut Watched<R>,
+    writer: &mut Watched<W>,
+    vault: &mut Vault<T>,
+) -> Result<Served, ServeFault>
+    ensures answered { (pairs : List Pair) × (let w : Passage = passing (λ ps. ps) [] pairs
+        W.contents writer.old writer.new T.is_honest T.holds T.leaves vault.old vault.new in
+        MatchResult result
+        (IsServed (R.remaining (inner_of reader.old)) (R.remaining (inner_of reader.new)) w)
+        (IsStopped (R.remaining (inner_of reader.old)) (R.remaining (inner_of reader.new)) w)) }
+    ensures told { (refused : Bool) × Tells result
+        (failures false (is_stopped reader.old) (is_stopped writer.old) (is_broken vault.old))
+        (failures refused (is_stopped reader.new) (is_stopped writer.new) (is_broken vault.new)) }
+    ensures sturdy { T.may_fail ≡ false → is_broken vault.old ≡ false → ¬ (result ≡ Err ServeFault.Store) }
+    ensures honest { T.is_honest (tables_of vault.new) → T.is_honest (tables_of vault.old) }
+{
+    let mut source = LiveSource::new(alloc, clock, generator, MESSAGES);
+    serve_by(alloc, routes, reader, writer, vault, &mut source)
+}

@@ -1,0 +1,8 @@
+//! A vault that is served over a listener, one connection after the other.
+#![tactic(auto)]
+
+pub mod connection;
+pub mod fault;
+mod linger;
+pub mod refusal;
+pub mod service;

@@ -1,0 +1,42 @@
+//! The end of a connection whose answers are still under way.
+ghost use Rattle.std.specs.Prelude.{ℕ, ◌≤◌, List, length};
+ghost use Rattle.std.specs.Io.KnownBytes.{Consumes};
+
+use std::io::Read;
+use std::net::{Shutdown, TcpStream};
+
+/// The most bytes that are thrown away at once.
+const PIECE: usize = 4096;
+
+/// The most pieces that are thrown away.
+const PIECES: usize = 16;
+
+/// Reads and throws away at most 16 pieces, up to the end of the input or to the reader's first error.
+fn discard<R: Read>(reader: &mut R)
+    ensures bounded { (bytes : List ℕ) × (length bytes ≤ 65536)
+        × Consumes (R.remaining reader.old) (R.remaining reader.new) bytes }
+{
+    let mut piece = [0u8; PIECE];
+    for _ in 0..PIECES {
+        let Ok(count) = reader.read(&mut piece) else {
+            return;
+        };
+        if count == 0 {
+            return;
+        }
+    }
+}
+
+/// Tells the peer that no more answers come, and takes at most 64 KiB of what it still sends.
+///
+/// A connection that is closed while bytes of its peer are unread is reset, and what was under way to the peer
+/// may be lost.
+pub(crate) fn linger(stream: &TcpStream) {
+    let mut reader = stream;
+    if stream.shutdown(Shutdown::Write).is_ok() {
+        discard(&mut reader);
+    }
+}
+
+#[cfg(test)]
+mod tests;

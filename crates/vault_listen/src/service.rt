@@ -1,0 +1,173 @@
+//! Connections of a listener, served one after the other by one vault.
+ghost use Rattle.std.specs.Prelude.{◌≡◌, ◌≢◌, ◌↔◌, false, true, Err, IsTrue, MatchResult};
+ghost use Rattle.vault_store.specs.Applied.{is_broken, tables_of};
+ghost use Rattle.vault_http.specs.Passing.{Passage};
+ghost use Rattle.vault_listen.specs.Service.{AllKept, Ends, vault_passing};
+
+use crate::connection::serve_connection;
+use crate::fault::ListenFault;
+use crate::linger::linger;
+use rand_core::Rng;
+use std::alloc::Global;
+use std::io;
+use std::io::ErrorKind;
+use std::net::{OpenListener, TcpStream};
+use std::time::{Clock, Duration};
+use vault_http::fault::ServeFault;
+use vault_http::served::Served;
+use vault_routes::route::Routes;
+use vault_store::tables::Tables;
+use vault_store::vault::Vault;
+use vault_wire::watched::Watched;
+
+/// How many seconds a peer may send nothing or take nothing.
+pub const PATIENCE: u64 = 5;
+
+/// Whether a failed accept lost one connection, and the listener can go on.
+fn loses_one(kind: ErrorKind) -> bool {
+    match kind {
+        ErrorKind::ConnectionAborted
+        | ErrorKind::ConnectionReset
+        | ErrorKind::HostUnreachable
+        | ErrorKind::NetworkDown
+        | ErrorKind::NetworkUnreachable => true,
+        _ => false,
+    }
+}
+
+/// Whether the store failed in a connection that ended so.
+fn store_failed(ended: Result<Served, ServeFault>) -> bool
+    ensures { IsTrue result ↔ (ended ≡ Err ServeFault.Store) }
+{
+    match ended {
+        Err(ServeFault::Store) => true,
+        Ok(_)
+        | Err(ServeFault::Source | ServeFault::Read | ServeFault::Write | ServeFault::Memory) => {
+            false
+        }
+    }
+}
+
+/// Lets reads and writes wait so long, and no longer.
+fn limit_waits(stream: &TcpStream, patience: Duration) -> io::Result<()> {
+    stream.set_read_timeout(Some(patience))?;
+    stream.set_write_timeout(Some(patience))
+}
+
+/// Serves an accepted connection. Its only fault is 63 Store; any other end is that connection's alone.
+fn serve_stream<C: Clock, G: Rng, T: Tables>(
+    alloc: Global,
+    clock: &C,
+    generator: &mut G,
+    routes: &Routes,
+    stream: &TcpStream,
+    patience: Duration,
+    vault: &mut Vault<T>,
+) -> Result<(), ListenFault>
+    ensures left { let w : Passage = vault_passing T.is_honest T.holds T.leaves vault.old vault.new in
+        MatchResult result (λ _. AllKept 1 w) (Ends 1 w) }
+    ensures store { MatchResult result (λ _. is_broken vault.new ≡ is_broken vault.old)
+        (λ fault. (fault ≡ ListenFault.Store) × (is_broken vault.new ≡ true)) }
+    ensures sturdy { T.may_fail ≡ false → is_broken vault.old ≡ false → ¬ (result ≡ Err ListenFault.Store) }
+    ensures honest { T.is_honest (tables_of vault.new) → T.is_honest (tables_of vault.old) }
+{
+    if limit_waits(stream, patience).is_err() {
+        return Ok(());
+    }
+    let mut reader = Watched::new(stream);
+    let mut writer = Watched::new(stream);
+    let ended = serve_connection(
+        alloc,
+        clock,
+        generator,
+        routes,
+        &mut reader,
+        &mut writer,
+        vault,
+    );
+    if !reader.failed() && !writer.failed() {
+        linger(stream);
+    }
+    if store_failed(ended) {
+        return Err(ListenFault::Store);
+    }
+    Ok(())
+}
+
+/// Serves connections as `serve_on` does, where a peer may be silent so long.
+fn serve_within<L: OpenListener<Stream = TcpStream>, C: Clock, G: Rng, T: Tables>(
+    alloc: Global,
+    clock: &C,
+    generator: &mut G,
+    listener: &L,
+    connections: u64,
+    patience: Duration,
+    vault: &mut Vault<T>,
+) -> Result<(), ListenFault>
+    ensures left { let w : Passage = vault_passing T.is_honest T.holds T.leaves vault.old vault.new in
+        MatchResult result (λ _. AllKept connections w) (Ends connections w) }
+    ensures store { result ≡ Err ListenFault.Store → is_broken vault.new ≡ true }
+    ensures others { result ≢ Err ListenFault.Store → is_broken vault.new ≡ is_broken vault.old }
+    ensures memory { result ≡ Err ListenFault.Memory → vault.new ≡ vault.old }
+    ensures sturdy { T.may_fail ≡ false → is_broken vault.old ≡ false → ¬ (result ≡ Err ListenFault.Store) }
+    ensures honest { T.is_honest (tables_of vault.new) → T.is_honest (tables_of vault.old) }
+{
+    let Ok(routes) = Routes::new(alloc) else {
+        return Err(ListenFault::Memory);
+    };
+    for _ in 0..connections {
+        match listener.accept() {
+            Ok((stream, _)) => {
+                if let Err(fault) = serve_stream(
+                    alloc, clock, generator, &routes, &stream, patience, vault,
+                ) {
+                    return Err(fault);
+                }
+            }
+            Err(error) if loses_one(error.kind()) => {}
+            Err(_) => return Err(ListenFault::Accept),
+        }
+    }
+    Ok(())
+}
+
+/// Serves so many connections, one after the other, by one vault.
+///
+/// A connection ends at its end or at a message that closes it; after a fault of its bytes, which is answered;
+/// after 1000 messages, or where the clock can't be read (60); where its peer fails, or sends or takes nothing
+/// for 5 seconds (61, 62); or for want of memory (64). Unless its reader or writer failed, the peer may then
+/// still read its answers: at most 64 KiB of what it sends are thrown away, in at most 16 reads. A connection
+/// that was lost before it was accepted counts as one. None of these ends the service.
+///
+/// 63 Store: the store failed, or the vault was broken before; nothing more is accepted. 64 Memory: memory was
+/// refused before the first connection. 80 Accept: the listener failed.
+pub fn serve_on<L: OpenListener<Stream = TcpStream>, C: Clock, G: Rng, T: Tables>(
+    alloc: Global,
+    clock: &C,
+    generator: &mut G,
+    listener: &L,
+    connections: u64,
+    vault: &mut Vault<T>,
+) -> Result<(), ListenFault>
+    ensures left { let w : Passage = vault_passing T.is_honest T.holds T.leaves vault.old vault.new in
+        MatchResult result (λ _. AllKept connections w) (Ends connections w) }
+    ensures store { result ≡ Err ListenFault.Store → is_broken vault.new ≡ true }
+    ensures others { result ≢ Err ListenFault.Store → is_broken vault.new ≡ is_broken vault.old }
+    ensures memory { result ≡ Err ListenFault.Memory → vault.new ≡ vault.old }
+    ensures sturdy { T.may_fail ≡ false → is_broken vault.old ≡ false → ¬ (result ≡ Err ListenFault.Store) }
+    ensures honest { T.is_honest (tables_of vault.new) → T.is_honest (tables_of vault.old) }
+{
+    let patience = Duration::from_secs(PATIENCE);
+    serve_within(
+        alloc,
+        clock,
+        generator,
+        listener,
+        connections,
+        patience,
+        vault,
+    )
+}
+
+#[cfg(test)]
+mod tests;
