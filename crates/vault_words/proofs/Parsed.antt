@@ -1,0 +1,129 @@
+-- What a parse of the words gives.
+use Rattle.std.proofs.Common.{◌≡◌, codes, List, [], Option, Some, None, Result, Ok, Err, true, false}
+use Rattle.std.proofs.Common.{sym, ◌∙◌, ap, refl, subst, inl, inr}
+use Rattle.std.specs.Option.{option_map}
+use Rattle.std.specs.Box.{box_value}
+use Rattle.std.specs.Str.{bytes_eq}
+use Rattle.clap.specs.Words.{App, HasKind, HasMatchesOf, IsAmong, Row, Text, fault_of, found_of, is_simple}
+use Rattle.clap.specs.Words.{is_simple_and_free, kind_of, rows_of, subcommand_name_of, subcommand_of}
+use Rattle.clap.specs.Words.{subcommand_rows_of}
+use Rattle.clap.specs.declared.error.Error.{Error}
+use Rattle.clap.specs.declared.error.kind.ErrorKind.{ErrorKind}
+use Rattle.clap.specs.declared.parser.matches.ArgMatches.{ArgMatches}
+use Rattle.clap.specs.declared.parser.matches.ArgMatches.TheViews.{out-ArgMatches, out-SubCommand}
+use Rattle.vault_words.specs.Commands.{AsksPipe, AsksTrial, vault_app}
+use Rattle.vault_words.specs.Jobs.{Asks, AsksBy, Explains, StandsFor}
+use Rattle.vault_words.specs.Values.{Finds}
+use Rattle.vault_words.specs.declared.commands.pipe.PipeJob.{PipeJob}
+use Rattle.vault_words.specs.declared.commands.trial.TrialJob.{TrialJob}
+use Rattle.vault_words.specs.declared.jobs.Job.{Job}
+use Rattle.vault_words.specs.declared.jobs.Job.TheVariants.{Trial, Merchant, Grant, Withdraw, Pipe}
+use Rattle.vault_words.specs.declared.jobs.Job.TheVariants.{Serve, Check}
+use Rattle.vault_words.specs.declared.jobs.JobFault.{JobFault}
+use Rattle.vault_words.specs.declared.jobs.JobFault.TheVariants.{Help, BadWords, Memory}
+
+-- a name with values, as the parse met a subcommand
+abbrev Met : Type 0
+Met = Text × List Row
+
+-- the name and the values of a subcommand, by the two getters
+met_both : {A : Type 0} (name_of : A → Text) (rows_in : A → List Row) (o : Option A) (name : Text)
+    (rows : List Row) → Some name ≡ option_map name_of o
+    → Some rows ≡ option_map (λ (p : Met). p.1)
+    (option_map {T = A} {U = Met} (λ a. (name_of a, rows_in a)) o)
+    → option_map {T = A} {U = Met} (λ a. (name_of a, rows_in a)) o ≡ Some (name, rows)
+met_both name_of rows_in None name rows e f = absurd (cc e)
+met_both name_of rows_in (Some a) name rows e f = cc
+
+pub met : (m : ArgMatches) (name : Text) (rows : List Row) → Some name ≡ subcommand_name_of m
+    → Some rows ≡ option_map (λ (p : Met). p.1) (subcommand_rows_of m)
+    → subcommand_rows_of m ≡ Some (name, rows)
+met m name rows e f = met_both (λ b. (out-SubCommand (box_value b)).name.now)
+    (λ b. rows_of (found_of (out-SubCommand (box_value b)).matches)) (out-ArgMatches m).subcommand
+    name rows e f
+
+-- the job of the subcommand that was met
+pub by_met : {E : Type 0} (met : Option Met) (name : Text) (rows : List Row) (r : Result Job E)
+    → met ≡ Some (name, rows) → Finds r (Asks name rows) → Finds r (AsksBy met)
+by_met met name rows (Err fault) e h = λ job asked.
+    let same : (asked.0, asked.1) ≡ (name, rows) = cc (asked.2, e) in
+    h job (subst (λ (p : Met). Asks p.0 p.1 job) same asked.3)
+by_met met name rows (Ok job) e h = (name, rows, e, h)
+
+-- one text isn't two
+differ : (name a b : Text) → bytes_eq a a ≡ true → bytes_eq a b ≡ false → name ≡ a → name ≡ b → ⊥
+differ name a b one two is also =
+    let same : bytes_eq a a ≡ bytes_eq a b = ap (bytes_eq a) (sym is ∙ also) in
+    absurd (cc (same, one, two))
+
+-- the name of one subcommand, whose values ask for no job
+pub no_trial : (name : Text) (rows : List Row) → name ≡ codes "trial"
+    → ((job : TrialJob) → ¬ (AsksTrial rows job)) → (job : Job) → ¬ (Asks name rows job)
+no_trial name rows is never (Trial job) h = never job h.1
+no_trial name rows is never (Merchant job) h =
+    differ name (codes "trial") (codes "merchant") refl refl is h.0
+no_trial name rows is never (Grant job) h = differ name (codes "trial") (codes "grant") refl refl is h.0
+no_trial name rows is never (Withdraw job) h =
+    differ name (codes "trial") (codes "withdraw") refl refl is h.0
+no_trial name rows is never (Pipe job) h = differ name (codes "trial") (codes "pipe") refl refl is h.0
+no_trial name rows is never (Serve job) h = differ name (codes "trial") (codes "serve") refl refl is h.0
+no_trial name rows is never (Check job) h = differ name (codes "trial") (codes "check") refl refl is h.0
+
+pub no_pipe : (name : Text) (rows : List Row) → name ≡ codes "pipe"
+    → ((job : PipeJob) → ¬ (AsksPipe rows job)) → (job : Job) → ¬ (Asks name rows job)
+no_pipe name rows is never (Trial job) h = differ name (codes "pipe") (codes "trial") refl refl is h.0
+no_pipe name rows is never (Merchant job) h =
+    differ name (codes "pipe") (codes "merchant") refl refl is h.0
+no_pipe name rows is never (Grant job) h = differ name (codes "pipe") (codes "grant") refl refl is h.0
+no_pipe name rows is never (Withdraw job) h =
+    differ name (codes "pipe") (codes "withdraw") refl refl is h.0
+no_pipe name rows is never (Pipe job) h = never job h.1
+no_pipe name rows is never (Serve job) h = differ name (codes "pipe") (codes "serve") refl refl is h.0
+no_pipe name rows is never (Check job) h = differ name (codes "pipe") (codes "check") refl refl is h.0
+
+-- the program's commands are plain enough for clap to say all of a parse
+is_plain : is_simple_and_free vault_app ≡ true
+is_plain = refl
+
+is_simple_app : is_simple vault_app ≡ true
+is_simple_app = refl
+
+-- a parse that succeeds
+pub parsed : (a : App) (words : List Text) (m : ArgMatches) → a ≡ vault_app
+    → (is_simple_and_free a ≡ true → fault_of a words ≡ []) → HasMatchesOf a words m
+    → (fault_of vault_app words ≡ []) × (subcommand_rows_of m ≡ subcommand_of vault_app words)
+parsed a words m same kinds has =
+    let plain : is_simple_and_free a ≡ true = rw same is_plain in
+    let simple : is_simple a ≡ true = rw same is_simple_app in
+    let here = ap (λ (x : App). fault_of x words) (sym same) in
+    (here ∙ kinds plain, (has simple).1 ∙ ap (λ (x : App). subcommand_of x words) same)
+
+-- a parse that fails
+refused : (words : List Text) (e : Error) (fault : JobFault) → HasKind (fault_of vault_app words) e
+    → StandsFor (kind_of e) fault → Explains vault_app words fault
+refused words e (Help text) (inl h) stands = absurd (cc)
+refused words e (Help text) (inr h) stands =
+    subst (λ (k : ErrorKind). IsAmong k (fault_of vault_app words)) stands h
+refused words e BadWords (inl h) stands = absurd (stands.1 h)
+refused words e BadWords (inr h) stands = (
+  λ is. elim (subst (IsAmong (kind_of e)) is h) [ inl k ↦ stands.0 k | inr never ↦ never ],
+  λ job asked. subst (IsAmong (kind_of e)) asked.taken h,
+)
+refused words e Memory h stands = tt
+
+pub explained : (a : App) (words : List Text) (e : Error) (fault : JobFault) → a ≡ vault_app
+    → (is_simple_and_free a ≡ true → HasKind (fault_of a words) e) → StandsFor (kind_of e) fault
+    → Explains vault_app words fault
+explained a words e fault same kinds stands =
+    let plain : is_simple_and_free a ≡ true = rw same is_plain in
+    let has = subst (λ (x : App). HasKind (fault_of x words) e) same (kinds plain) in
+    refused words e fault has stands
+
+-- a parse that succeeds, of words that ask for no job
+pub unasked : (words : List Text) (met : Option Met) → fault_of vault_app words ≡ []
+    → met ≡ subcommand_of vault_app words → ((job : Job) → ¬ (AsksBy met job))
+    → Explains vault_app words BadWords
+unasked words met none is nothing = (
+  λ help. absurd (cc (none, help)),
+  λ job asked. nothing job (subst (λ (m : Option Met). AsksBy m job) (sym is) asked.asks),
+)

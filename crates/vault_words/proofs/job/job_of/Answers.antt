@@ -1,0 +1,13 @@
+use Rattle.clap.specs.Words.{found_of, rows_of}
+use Rattle.vault_words.proofs.Parsed.{no_pipe, no_trial}
+use Rattle.vault_words.proofs.job.job_of.Goals as goal
+
+pub returns-in-Err : goal.returns-in-Err
+returns-in-Err c =
+    let rows = rows_of (found_of c.args.matches.now) in
+    no_trial c.args.name.now rows c.in-trial.is c.in-Err.ensures
+
+pub returns-in-Err-read-4 : goal.returns-in-Err-read-4
+returns-in-Err-read-4 c =
+    let rows = rows_of (found_of c.args.matches.now) in
+    no_pipe c.args.name.now rows c.in-pipe.is c.in-Err-read-4.ensures

@@ -1,0 +1,7 @@
+use Rattle.vault_words.proofs.Readings.{none_found}
+use Rattle.vault_words.proofs.values.life.Goals as goal
+
+pub returns-in_err-life : goal.returns-in_err-life
+returns-in_err-life c =
+    let r = c.from_residual in
+    none_found r.result _ r.ensures.0 (λ n h. c.in_err-life.ensures n h.0)

@@ -1,0 +1,94 @@
+-- The subcommands: the rules of their words in clap's terms, and what their values ask for.
+use Rattle.std.specs.Prelude.{List, [], ◌∷◌, true, codes}
+use Rattle.clap.specs.Words.{App, Row, Rule, Text, new_app, with_subcommand}
+use Rattle.vault_words.specs.Rules.{digits_rule, now_rule, number_option, number_rule, text_rule}
+use Rattle.vault_words.specs.Rules.{with_rules}
+use Rattle.vault_words.specs.Values.{HasConnections, HasDigits, HasLife, HasNow, HasPort, HasText}
+use Rattle.vault_words.specs.declared.commands.check.CheckJob.{CheckJob}
+use Rattle.vault_words.specs.declared.commands.merchant.MerchantJob.{MerchantJob}
+use Rattle.vault_words.specs.declared.commands.pipe.PipeJob.{PipeJob}
+use Rattle.vault_words.specs.declared.commands.rights.RightJob.{RightJob}
+use Rattle.vault_words.specs.declared.commands.serve.ServeJob.{ServeJob}
+use Rattle.vault_words.specs.declared.commands.trial.TrialJob.{TrialJob}
+
+-- trial [--now T] [--digits D] CALLER MERCHANT LIFE
+abbrev pub trial_app : App
+trial_app = with_rules (new_app (codes "trial"))
+    (now_rule ∷ digits_rule ∷ text_rule (codes "CALLER") ∷ text_rule (codes "MERCHANT")
+    ∷ number_rule (codes "LIFE") ∷ [])
+
+abbrev pub AsksTrial : List Row → TrialJob → Type 0
+AsksTrial rows job =
+    HasNow rows job.now × HasDigits rows job.digits × HasText rows (codes "CALLER") job.caller.now
+    × HasText rows (codes "MERCHANT") job.merchant.now × HasLife rows (codes "LIFE") job.life
+
+-- merchant [--now T] FILE NAME SINGLE MULTI
+abbrev pub merchant_app : App
+merchant_app = with_rules (new_app (codes "merchant"))
+    (now_rule ∷ text_rule (codes "FILE") ∷ text_rule (codes "NAME")
+    ∷ number_rule (codes "SINGLE") ∷ number_rule (codes "MULTI") ∷ [])
+
+abbrev pub AsksMerchant : List Row → MerchantJob → Type 0
+AsksMerchant rows job =
+    HasNow rows job.now × HasText rows (codes "FILE") job.file.now
+    × HasText rows (codes "NAME") job.name.now × HasLife rows (codes "SINGLE") job.single_life
+    × HasLife rows (codes "MULTI") job.multi_life
+
+-- grant, or withdraw: [--now T] FILE CALLER MERCHANT RIGHT
+abbrev pub right_app : Text → App
+right_app name = with_rules (new_app name)
+    (now_rule ∷ text_rule (codes "FILE") ∷ text_rule (codes "CALLER")
+    ∷ text_rule (codes "MERCHANT") ∷ text_rule (codes "RIGHT") ∷ [])
+
+abbrev pub AsksRight : List Row → RightJob → Type 0
+AsksRight rows job =
+    HasNow rows job.now × HasText rows (codes "FILE") job.file.now
+    × HasText rows (codes "CALLER") job.caller.now
+    × HasText rows (codes "MERCHANT") job.merchant.now × HasText rows (codes "RIGHT") job.right.now
+
+-- pipe [--now T] [--digits D] FILE
+abbrev pub pipe_app : App
+pipe_app = with_rules (new_app (codes "pipe"))
+    (now_rule ∷ digits_rule ∷ text_rule (codes "FILE") ∷ [])
+
+abbrev pub AsksPipe : List Row → PipeJob → Type 0
+AsksPipe rows job =
+    HasNow rows job.now × HasDigits rows job.digits × HasText rows (codes "FILE") job.file.now
+
+-- --connections N, which must be there
+abbrev pub connections_rule : Rule
+connections_rule = record (number_option (codes "connections")) { required = true }
+
+-- serve --connections N [--port P] FILE
+abbrev pub serve_app : App
+serve_app = with_rules (new_app (codes "serve"))
+    (connections_rule ∷ number_option (codes "port") ∷ text_rule (codes "FILE") ∷ [])
+
+abbrev pub AsksServe : List Row → ServeJob → Type 0
+AsksServe rows job =
+    HasConnections rows job.connections × HasPort rows job.port
+    × HasText rows (codes "FILE") job.file.now
+
+-- check FILE
+abbrev pub check_app : App
+check_app = with_rules (new_app (codes "check")) (text_rule (codes "FILE") ∷ [])
+
+abbrev pub AsksCheck : List Row → CheckJob → Type 0
+AsksCheck rows job = HasText rows (codes "FILE") job.file.now
+
+-- a command with these subcommands, in order
+abbrev pub with_subcommands : App → List App → App
+with_subcommands a [] = a
+with_subcommands a (s ∷ ss) = with_subcommands (with_subcommand a s.top) ss
+
+-- the program without its subcommands, one of which must be named
+abbrev pub root_app : App
+root_app =
+    let named : App = new_app (codes "vault") in
+    record named { top = record named.top { subcommand_required = true } }
+
+-- the program
+abbrev pub vault_app : App
+vault_app = with_subcommands root_app
+    (trial_app ∷ merchant_app ∷ right_app (codes "grant") ∷ right_app (codes "withdraw")
+    ∷ pipe_app ∷ serve_app ∷ check_app ∷ [])

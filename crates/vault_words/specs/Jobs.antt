@@ -1,0 +1,47 @@
+-- The job that words ask for.
+use Rattle.std.specs.Prelude.{◌≡◌, ◌≢◌, ◌⊎◌, List, [], ◌∷◌, Option, Some, codes}
+use Rattle.clap.specs.Words.{App, Row, Text, IsAmong, fault_of, subcommand_of}
+use Rattle.clap.specs.declared.error.kind.ErrorKind.{ErrorKind}
+use Rattle.clap.specs.declared.error.kind.ErrorKind.TheVariants.{DisplayHelp, OutOfMemory}
+use Rattle.vault_words.specs.Commands.{AsksCheck, AsksMerchant, AsksPipe, AsksRight, AsksServe}
+use Rattle.vault_words.specs.Commands.{AsksTrial}
+use Rattle.vault_words.specs.declared.jobs.Job.{Job}
+use Rattle.vault_words.specs.declared.jobs.Job.TheVariants.{Trial, Merchant, Grant, Withdraw, Pipe}
+use Rattle.vault_words.specs.declared.jobs.Job.TheVariants.{Serve, Check}
+use Rattle.vault_words.specs.declared.jobs.JobFault.{JobFault}
+use Rattle.vault_words.specs.declared.jobs.JobFault.TheVariants.{Help, BadWords, Memory}
+
+-- the subcommand of this name, with these values, asks for the job
+abbrev pub Asks : Text → List Row → Job → Type 0
+Asks name rows (Trial job) = (name ≡ codes "trial") × AsksTrial rows job
+Asks name rows (Merchant job) = (name ≡ codes "merchant") × AsksMerchant rows job
+Asks name rows (Grant job) = (name ≡ codes "grant") × AsksRight rows job
+Asks name rows (Withdraw job) = (name ≡ codes "withdraw") × AsksRight rows job
+Asks name rows (Pipe job) = (name ≡ codes "pipe") × AsksPipe rows job
+Asks name rows (Serve job) = (name ≡ codes "serve") × AsksServe rows job
+Asks name rows (Check job) = (name ≡ codes "check") × AsksCheck rows job
+
+-- the subcommand that was met, with its values, asks for the job
+abbrev pub AsksBy : Option (Text × List Row) → Job → Type 0
+AsksBy met job =
+    (name : Text) × (rows : List Row) × (met ≡ Some (name, rows)) × Asks name rows job
+
+-- the words are without fault, and the subcommand that they name asks for the job
+pub record IsAsked (app : App) (words : List Text) (job : Job) : Type 0 where
+  pub taken : fault_of app words ≡ []
+  pub asks : AsksBy (subcommand_of app words) job
+
+-- Why words give no job. Help is only given where it is a fault of the words that they ask for it,
+-- and is given where that is their only fault. Bad words ask for no job. A want of memory says
+-- nothing of the words.
+abbrev pub Explains : App → List Text → JobFault → Type 0
+Explains app words (Help text) = IsAmong DisplayHelp (fault_of app words)
+Explains app words BadWords =
+    (fault_of app words ≢ DisplayHelp ∷ []) × ((job : Job) → ¬ (IsAsked app words job))
+Explains app words Memory = Unit {0}
+
+-- What a refusal of this kind comes to. The text of help may find no memory.
+abbrev pub StandsFor : ErrorKind → JobFault → Type 0
+StandsFor kind (Help text) = kind ≡ DisplayHelp
+StandsFor kind BadWords = (kind ≢ DisplayHelp) × (kind ≢ OutOfMemory)
+StandsFor kind Memory = (kind ≡ DisplayHelp) ⊎ (kind ≡ OutOfMemory)

@@ -1,0 +1,5 @@
+pub mod Commands
+pub mod Digits
+pub mod Jobs
+pub mod Rules
+pub mod Values

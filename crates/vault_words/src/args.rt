@@ -1,0 +1,107 @@
+//! The arguments that subcommands have, and how a subcommand is made of them.
+ghost use Rattle.std.specs.Prelude.{◌≡◌, IfOk, codes, false};
+ghost use Rattle.clap.specs.Words.{App, Rule, new_app, rule_of, with_rule};
+ghost use Rattle.vault_words.specs.Rules.{IsApp, number_option, number_rule, text_option, text_rule};
+ghost use Rattle.vault_words.specs.Rules.{digits_rule, now_rule};
+
+use clap::{Arg, ArgAction, Command, value_parser};
+use std::alloc::{AllocError, Global};
+
+/// A text that must stand at its place.
+pub(crate) fn text<'a>(alloc: Global, id: &'a str, help: &'a str) -> Arg<'a>
+    ensures rule { rule_of result ≡ text_rule id.entry.now }
+    ensures local { result.global ≡ false }
+{
+    Arg::new(alloc, id)
+        .required(true)
+        .action(ArgAction::Set)
+        .help(help)
+}
+
+/// A whole number that must stand at its place.
+pub(crate) fn number<'a>(alloc: Global, id: &'a str, help: &'a str) -> Arg<'a>
+    ensures rule { rule_of result ≡ number_rule id.entry.now }
+    ensures local { result.global ≡ false }
+{
+    text(alloc, id, help).value_parser(value_parser!(u64))
+}
+
+/// A text behind `--` and its name, which may be left out.
+fn text_after<'a>(alloc: Global, id: &'a str, value: &'a str, help: &'a str) -> Arg<'a>
+    ensures rule { rule_of result ≡ text_option id.entry.now }
+    ensures local { result.global ≡ false }
+{
+    text(alloc, id, help)
+        .required(false)
+        .long(id)
+        .value_name(value)
+}
+
+/// A whole number behind `--` and its name, which may be left out.
+pub(crate) fn number_after<'a>(alloc: Global, id: &'a str, value: &'a str, help: &'a str) -> Arg<'a>
+    ensures rule { rule_of result ≡ number_option id.entry.now }
+    ensures local { result.global ≡ false }
+{
+    text_after(alloc, id, value, help).value_parser(value_parser!(u64))
+}
+
+/// The moment.
+pub(crate) fn now<'a>(alloc: Global) -> Arg<'a>
+    ensures rule { rule_of result ≡ now_rule }
+    ensures local { result.global ≡ false }
+{
+    number_after(
+        alloc,
+        "now",
+        "T",
+        "The moment, in seconds since 1970, in place of the clock's",
+    )
+}
+
+/// The digits that stand for drawn ones.
+pub(crate) fn digits<'a>(alloc: Global) -> Arg<'a>
+    ensures rule { rule_of result ≡ digits_rule }
+    ensures local { result.global ≡ false }
+{
+    text_after(
+        alloc,
+        "digits",
+        "D",
+        "1 to 300 digits, repeated up to 300, in place of drawn ones",
+    )
+}
+
+/// The file of a vault.
+pub(crate) fn file<'a>(alloc: Global) -> Arg<'a>
+    ensures rule { rule_of result ≡ text_rule (codes "FILE") }
+    ensures local { result.global ≡ false }
+{
+    text(
+        alloc,
+        "FILE",
+        "The vault's file; it is made if it isn't there",
+    )
+}
+
+/// A command of this name, without arguments.
+pub(crate) fn command<'a>(alloc: Global, name: &'a str, about: &'a str) -> Command<'a>
+    ensures { IsApp result (new_app name.entry.now) }
+{
+    Command::new(alloc, name).about(about)
+}
+
+/// The command with notes, which help has behind its words.
+pub(crate) fn with_notes<'a>(command: Command<'a>, notes: &'a str) -> Command<'a>
+    ensures { (a : App) → IsApp command.entry a → IsApp result a }
+{
+    command.after_help(notes)
+}
+
+/// The command with one more argument.
+pub(crate) fn add<'a>(command: Command<'a>, arg: Arg<'a>) -> Result<Command<'a>, AllocError>
+    ensures { IfOk result (λ r. (a : App) (rule : Rule) → IsApp command.entry a
+        → rule_of arg.entry ≡ rule → arg.entry.global ≡ false
+        → IsApp r (with_rule a rule)) }
+{
+    command.arg(arg)
+}

@@ -1,0 +1,8 @@
+//! The subcommands: the words of each one, and the values that they give.
+
+pub mod check;
+pub mod merchant;
+pub mod pipe;
+pub mod rights;
+pub mod serve;
+pub mod trial;

@@ -1,0 +1,102 @@
+//! The job that words ask for.
+ghost use Rattle.std.specs.Prelude.{MatchResult, map};
+ghost use Rattle.clap.specs.Words.{found_of, kind_of, rows_of, subcommand_rows_of};
+ghost use Rattle.vault_words.specs.Commands.{vault_app};
+ghost use Rattle.vault_words.specs.Jobs.{Asks, AsksBy, Explains, IsAsked, StandsFor};
+ghost use Rattle.vault_words.specs.Values.{Finds};
+
+use crate::commands::check::CheckJob;
+use crate::commands::merchant::MerchantJob;
+use crate::commands::pipe::PipeJob;
+use crate::commands::rights::RightJob;
+use crate::commands::serve::ServeJob;
+use crate::commands::trial::TrialJob;
+use crate::jobs::{Job, JobFault};
+use crate::tree::tree;
+use crate::values::BadValue;
+use clap::error::ErrorKind;
+use clap::{ArgMatches, Error};
+use std::alloc::Global;
+use std::convert::AsStr;
+
+/// The job of the subcommand of this name.
+fn job_of<'a>(name: &str, matches: &ArgMatches<'a>) -> Result<Job<'a>, BadValue>
+    ensures { Finds result (Asks name.now (rows_of (found_of matches.now))) }
+{
+    match name {
+        "trial" => match TrialJob::read(matches) {
+            Ok(job) => Ok(Job::Trial(job)),
+            Err(fault) => Err(fault),
+        },
+        "merchant" => match MerchantJob::read(matches) {
+            Ok(job) => Ok(Job::Merchant(job)),
+            Err(fault) => Err(fault),
+        },
+        "grant" => match RightJob::read(matches) {
+            Ok(job) => Ok(Job::Grant(job)),
+            Err(fault) => Err(fault),
+        },
+        "withdraw" => match RightJob::read(matches) {
+            Ok(job) => Ok(Job::Withdraw(job)),
+            Err(fault) => Err(fault),
+        },
+        "pipe" => match PipeJob::read(matches) {
+            Ok(job) => Ok(Job::Pipe(job)),
+            Err(fault) => Err(fault),
+        },
+        "serve" => match ServeJob::read(matches) {
+            Ok(job) => Ok(Job::Serve(job)),
+            Err(fault) => Err(fault),
+        },
+        "check" => match CheckJob::read(matches) {
+            Ok(job) => Ok(Job::Check(job)),
+            Err(fault) => Err(fault),
+        },
+        _ => Err(BadValue),
+    }
+}
+
+/// The job of the subcommand that was met.
+fn asked_by<'a>(matches: &ArgMatches<'a>) -> Result<Job<'a>, BadValue>
+    ensures { Finds result (AsksBy (subcommand_rows_of matches.now)) }
+{
+    match matches.subcommand() {
+        Some((name, given)) => job_of(name, given),
+        None => Err(BadValue),
+    }
+}
+
+/// What a refusal of the words comes to.
+fn fault_of(alloc: Global, error: &Error) -> JobFault
+    ensures { StandsFor (kind_of error.now) result }
+{
+    match error.kind() {
+        ErrorKind::OutOfMemory => JobFault::Memory,
+        ErrorKind::DisplayHelp => match error.to_string(alloc) {
+            Ok(text) => JobFault::Help(text),
+            Err(_) => JobFault::Memory,
+        },
+        _ => JobFault::BadWords,
+    }
+}
+
+/// The job that words ask for. The first of them is the program's name, as in `env::args`.
+pub fn job<'a, S: AsStr>(alloc: Global, words: &'a [S]) -> Result<Job<'a>, JobFault>
+    ensures { MatchResult result
+        (IsAsked vault_app (map S.text words.now))
+        (Explains vault_app (map S.text words.now)) }
+{
+    let Ok(tree) = tree(alloc) else {
+        return Err(JobFault::Memory);
+    };
+    match tree.try_get_matches_from(words) {
+        Ok(matches) => match asked_by(&matches) {
+            Ok(job) => Ok(job),
+            Err(BadValue) => Err(JobFault::BadWords),
+        },
+        Err(error) => Err(fault_of(alloc, &error)),
+    }
+}
+
+#[cfg(test)]
+mod tests;

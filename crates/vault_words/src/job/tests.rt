@@ -1,0 +1,213 @@
+//! Words and what they ask for.
+ghost use Rattle.std.specs.Prelude.{◌<◌};
+
+mod help;
+mod ranges;
+
+use crate::digits::drawn;
+use crate::job::job;
+use crate::jobs::{Job, JobFault};
+use std::alloc::Global;
+use std::process::Abort;
+use std::test::Fail;
+use vault_core::moment::Moment;
+use vault_pan::draw::{Digits, candidate};
+use vault_pan::pan::Pan;
+use vault_pan::token::Token;
+
+/// Two groups of digits, of which the first gives the number's own digits.
+const TWO_GROUPS: &str = "411111111111000000000000000000";
+
+/// Words with options, and the jobs that they ask for.
+const WITH_OPTIONS: [(&[&str], &str); 7] = [
+    (
+        &["vault", "trial", "--now", "1000", "till-1", "shop1", "60"],
+        "Trial(TrialJob { now: Some(Moment { seconds: 1000 }), digits: None, \
+         caller: \"till-1\", merchant: \"shop1\", life: 60 })",
+    ),
+    (
+        &["vault", "merchant", "v.db", "--now=7", "shop1", "60", "0"],
+        "Merchant(MerchantJob { now: Some(Moment { seconds: 7 }), file: \"v.db\", \
+         name: \"shop1\", single_life: 60, multi_life: 0 })",
+    ),
+    (
+        &[
+            "vault", "grant", "v.db", "till-1", "shop1", "view", "--now", "8",
+        ],
+        "Grant(RightJob { now: Some(Moment { seconds: 8 }), file: \"v.db\", \
+         caller: \"till-1\", merchant: \"shop1\", right: \"view\" })",
+    ),
+    (
+        &[
+            "vault", "withdraw", "--now", "9", "v.db", "till-1", "shop1", "view",
+        ],
+        "Withdraw(RightJob { now: Some(Moment { seconds: 9 }), file: \"v.db\", \
+         caller: \"till-1\", merchant: \"shop1\", right: \"view\" })",
+    ),
+    (
+        &["vault", "pipe", "v.db", "--now", "0"],
+        "Pipe(PipeJob { now: Some(Moment { seconds: 0 }), digits: None, file: \"v.db\" })",
+    ),
+    (
+        &[
+            "vault",
+            "serve",
+            "--port",
+            "8080",
+            "--connections",
+            "3",
+            "v.db",
+        ],
+        "Serve(ServeJob { connections: 3, port: 8080, file: \"v.db\" })",
+    ),
+    (
+        &["vault", "serve", "v.db", "--connections=3", "--port=8080"],
+        "Serve(ServeJob { connections: 3, port: 8080, file: \"v.db\" })",
+    ),
+];
+
+/// Words without options that may be left out, and the jobs that they ask for.
+const WITHOUT_OPTIONS: [(&[&str], &str); 8] = [
+    (
+        &["vault", "trial", "till-1", "shop1", "60"],
+        "Trial(TrialJob { now: None, digits: None, caller: \"till-1\", \
+         merchant: \"shop1\", life: 60 })",
+    ),
+    (
+        &["vault", "merchant", "v.db", "shop1", "60", "3600"],
+        "Merchant(MerchantJob { now: None, file: \"v.db\", name: \"shop1\", \
+         single_life: 60, multi_life: 3600 })",
+    ),
+    (
+        &["vault", "grant", "v.db", "till-1", "shop1", "view"],
+        "Grant(RightJob { now: None, file: \"v.db\", caller: \"till-1\", \
+         merchant: \"shop1\", right: \"view\" })",
+    ),
+    (
+        &["vault", "withdraw", "v.db", "till-1", "shop1", "view"],
+        "Withdraw(RightJob { now: None, file: \"v.db\", caller: \"till-1\", \
+         merchant: \"shop1\", right: \"view\" })",
+    ),
+    (
+        &["vault", "pipe", "v.db"],
+        "Pipe(PipeJob { now: None, digits: None, file: \"v.db\" })",
+    ),
+    (
+        &["vault", "serve", "--connections", "1", "v.db"],
+        "Serve(ServeJob { connections: 1, port: 0, file: \"v.db\" })",
+    ),
+    (
+        &["vault", "check", "a folder/v.db"],
+        "Check(CheckJob { file: \"a folder/v.db\" })",
+    ),
+    (
+        &["vault", "check", "--", "--help"],
+        "Check(CheckJob { file: \"--help\" })",
+    ),
+];
+
+/// A job, or why there is none.
+#[derive(Clone, Copy, Debug, PartialEq, Eq)]
+enum Answer {
+    Job,
+    Help,
+    BadWords,
+    Memory,
+}
+
+/// What words are answered by.
+fn answer_to(alloc: Global, words: &[&str]) -> Answer {
+    match job(alloc, words) {
+        Ok(_) => Answer::Job,
+        Err(JobFault::Help(_)) => Answer::Help,
+        Err(JobFault::BadWords) => Answer::BadWords,
+        Err(JobFault::Memory) => Answer::Memory,
+    }
+}
+
+/// The words ask for the job that is written so.
+fn assert_job<H: Abort + AllocGlobal>(rt: &H, words: &[&str], wanted: &str) -> Result<(), Fail> {
+    match job(rt.alloc(), words) {
+        Ok(job) => {
+            let text = format!(in rt.alloc(); "{job:?}")?;
+            assert_eq!(rt; text.as_str(), wanted, "{words:?}");
+        }
+        Err(fault) => assert!(rt; false, "{words:?}: {fault:?}"),
+    }
+    Ok(())
+}
+
+#[test]
+fn words_with_options_have_their_values(rt: HostRuntime) -> Result<(), Fail> {
+    for (words, wanted) in WITH_OPTIONS {
+        assert_job(&rt, words, wanted)?;
+    }
+    Ok(())
+}
+
+#[test]
+fn words_without_options_have_their_values(rt: HostRuntime) -> Result<(), Fail> {
+    for (words, wanted) in WITHOUT_OPTIONS {
+        assert_job(&rt, words, wanted)?;
+    }
+    Ok(())
+}
+
+/// The moment and the digits of a job that may have both.
+fn drawing(job: &Job<'_>) -> Option<(Moment, Digits)> {
+    let (now, digits) = match job {
+        Job::Trial(trial) => (trial.now, trial.digits),
+        Job::Pipe(pipe) => (pipe.now, pipe.digits),
+        _ => return None,
+    };
+    Some((now?, digits?))
+}
+
+/// The candidate of this place for the token of 4111111111111111.
+fn candidate_at(rt: &impl Abort, digits: &Digits, k: usize) -> Option<Token>
+    requires { k < 20 }
+{
+    let pan = Pan::read(b"4111111111111111").expect(rt, "a card number");
+    candidate(digits, k, &pan)
+}
+
+#[test]
+fn digits_are_those_of_the_words(rt: HostRuntime) -> Result<(), Fail> {
+    let cases: [&[&str]; 4] = [
+        &[
+            "vault", "trial", "--now", "5", "--digits", "2", "till-1", "shop1", "60",
+        ],
+        &[
+            "vault",
+            "trial",
+            "till-1",
+            "--digits=2",
+            "shop1",
+            "60",
+            "--now=5",
+        ],
+        &["vault", "pipe", "--digits", "2", "--now", "5", "v.db"],
+        &["vault", "pipe", "v.db", "--now", "5", "--digits", "2"],
+    ];
+    for words in cases {
+        let Ok(job) = job(rt.alloc(), words) else {
+            return Err("a job")?;
+        };
+        let (now, digits) = drawing(&job).ok_or("a moment and digits")?;
+        assert_eq!(rt; now.seconds(), 5);
+        let token = candidate_at(&rt, &digits, 0).ok_or("a candidate")?;
+        assert_eq!(rt; token.as_str(), "2222222222221111");
+    }
+    Ok(())
+}
+
+#[test]
+fn digits_repeat_until_there_are_300(rt: HostRuntime) -> Result<(), Fail> {
+    let digits = drawn(TWO_GROUPS.as_bytes()).ok_or("digits")?;
+    for k in 0..20 {
+        let text = candidate_at(&rt, &digits, k).map(|token| token.as_str() == "0000000000001111");
+        let wanted = if k % 2 == 0 { None } else { Some(true) };
+        assert_eq!(rt; text, wanted, "candidate {k}");
+    }
+    Ok(())
+}

@@ -1,0 +1,91 @@
+//! What help says.
+
+use crate::job::job;
+use crate::jobs::JobFault;
+use std::alloc::Global;
+use std::test::Fail;
+
+/// `vault help`
+const PROGRAM: &str = "\
+Keeps card numbers, and gives tokens for them
+
+Usage: vault <COMMAND>
+
+Commands:
+  trial     Answers messages from standard input by a vault in memory
+  merchant  Sets how long a merchant's tokens live
+  grant     Gives a caller a right at a merchant
+  withdraw  Takes a right at a merchant from a caller
+  pipe      Answers messages from standard input by the vault in FILE
+  serve     Answers messages of connections by the vault in FILE
+  check     Checks that FILE holds a sound vault
+  help      Print this message or the help of the given subcommand(s)
+
+Options:
+  -h, --help  Print help
+";
+
+/// `vault help serve`
+const SERVE: &str = "\
+Answers messages of connections by the vault in FILE
+
+Usage: vault serve [OPTIONS] --connections <N> <FILE>
+
+Arguments:
+  <FILE>  The vault's file; it is made if it isn't there
+
+Options:
+      --connections <N>  Ends after this many connections, 1 to 1000000
+      --port <P>         The port, 0 to 65535; 0, any free one, if left out
+  -h, --help             Print help
+
+It listens on 127.0.0.1 alone. The line `listening P` on standard output says
+that it does, and P is its port. Connections are served one after the other,
+and one whose peer sends or takes nothing for 5 seconds is ended.
+";
+
+/// The help that the words ask for.
+fn help(alloc: Global, words: &[&str]) -> Result<String, Fail> {
+    match job(alloc, words) {
+        Err(JobFault::Help(text)) => Ok(text),
+        _ => Err("help")?,
+    }
+}
+
+#[test]
+fn help_is_the_text_of_the_command(rt: HostRuntime) -> Result<(), Fail> {
+    let cases: [(&[&str], &str); 6] = [
+        (&["vault", "--help"], PROGRAM),
+        (&["vault", "-h"], PROGRAM),
+        (&["vault", "help"], PROGRAM),
+        (&["vault", "serve", "--help"], SERVE),
+        (&["vault", "serve", "v.db", "-h"], SERVE),
+        (&["vault", "help", "serve"], SERVE),
+    ];
+    for (words, wanted) in cases {
+        let text = help(rt.alloc(), words)?;
+        assert_eq!(rt; text.as_str(), wanted, "{words:?}");
+    }
+    Ok(())
+}
+
+#[test]
+fn help_fits_24_lines_of_80_columns(rt: HostRuntime) -> Result<(), Fail> {
+    let cases: [&[&str]; 8] = [
+        &["vault", "help"],
+        &["vault", "help", "trial"],
+        &["vault", "help", "merchant"],
+        &["vault", "help", "grant"],
+        &["vault", "help", "withdraw"],
+        &["vault", "help", "pipe"],
+        &["vault", "help", "serve"],
+        &["vault", "help", "check"],
+    ];
+    for words in cases {
+        let text = help(rt.alloc(), words)?;
+        let height = text.as_str().lines().count();
+        let width = text.as_str().lines().map(|line| line.chars().count()).max();
+        assert!(rt; height <= 24 && width <= Some(80), "{text}");
+    }
+    Ok(())
+}

@@ -1,0 +1,38 @@
+//! What words can ask for.
+
+use crate::commands::check::CheckJob;
+use crate::commands::merchant::MerchantJob;
+use crate::commands::pipe::PipeJob;
+use crate::commands::rights::RightJob;
+use crate::commands::serve::ServeJob;
+use crate::commands::trial::TrialJob;
+
+/// Why words are no job.
+#[derive(Debug, Drop)]
+pub enum JobFault {
+    /// Help was asked for. This is its text.
+    Help(String),
+    /// The words ask for no job.
+    BadWords,
+    /// Memory was refused.
+    Memory,
+}
+
+/// What words ask for. Names, rights and files are still to be read.
+#[derive(Clone, Copy, Debug)]
+pub enum Job<'a> {
+    /// Messages from standard input are answered by a vault in memory, which ends with the program.
+    Trial(TrialJob<'a>),
+    /// A merchant's lives are set.
+    Merchant(MerchantJob<'a>),
+    /// A caller is given a right.
+    Grant(RightJob<'a>),
+    /// A right is taken from a caller.
+    Withdraw(RightJob<'a>),
+    /// Messages from standard input are answered by the vault in a file.
+    Pipe(PipeJob<'a>),
+    /// Messages of connections are answered by the vault in a file.
+    Serve(ServeJob<'a>),
+    /// A file is checked whole.
+    Check(CheckJob<'a>),
+}

@@ -1,0 +1,44 @@
+//! The tree of the program's commands.
+ghost use Rattle.std.specs.Prelude.{IfOk};
+ghost use Rattle.clap.specs.Words.{App, with_subcommand};
+ghost use Rattle.vault_words.specs.Commands.{root_app, vault_app};
+ghost use Rattle.vault_words.specs.Rules.{IsApp};
+
+use crate::args::command;
+use crate::commands::check::check;
+use crate::commands::merchant::merchant;
+use crate::commands::pipe::pipe;
+use crate::commands::rights::{grant, withdraw};
+use crate::commands::serve::serve;
+use crate::commands::trial::trial;
+use clap::Command;
+use std::alloc::{AllocError, Global};
+
+/// The program's command without its subcommands, one of which must be named.
+fn root<'a>(alloc: Global) -> Command<'a>
+    ensures { IsApp result root_app }
+{
+    let about = "Keeps card numbers, and gives tokens for them";
+    command(alloc, "vault", about).subcommand_required(true)
+}
+
+/// The command with one more subcommand.
+fn with<'a>(command: Command<'a>, subcommand: Command<'a>) -> Result<Command<'a>, AllocError>
+    ensures { IfOk result (λ r. (a s : App) → IsApp command.entry a → IsApp subcommand.entry s
+        → IsApp r (with_subcommand a s.top)) }
+{
+    command.subcommand(subcommand)
+}
+
+/// The program's command, of which each word of its own is a subcommand.
+pub(crate) fn tree<'a>(alloc: Global) -> Result<Command<'a>, AllocError>
+    ensures { IfOk result (λ c. IsApp c vault_app) }
+{
+    let tree = with(root(alloc), trial(alloc)?)?;
+    let tree = with(tree, merchant(alloc)?)?;
+    let tree = with(tree, grant(alloc)?)?;
+    let tree = with(tree, withdraw(alloc)?)?;
+    let tree = with(tree, pipe(alloc)?)?;
+    let tree = with(tree, serve(alloc)?)?;
+    with(tree, check(alloc)?)
+}

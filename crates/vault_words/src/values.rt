@@ -1,0 +1,100 @@
+//! The values that a subcommand was given.
+ghost use Rattle.std.specs.Prelude.{IsTrue, ◌↔◌};
+ghost use Rattle.clap.specs.Words.{found_of, rows_of};
+ghost use Rattle.vault_words.specs.Values.{Finds, HasConnections, HasDigits, HasLife, HasNow};
+ghost use Rattle.vault_words.specs.Values.{HasNumber, HasPort, HasText, IsLeftOut};
+
+use crate::digits::drawn;
+use clap::ArgMatches;
+use vault_core::command::LONGEST_LIFE;
+use vault_core::moment::Moment;
+use vault_pan::draw::Digits;
+
+/// The most connections that a service can be asked for.
+const MOST_CONNECTIONS: u64 = 1_000_000;
+
+/// A value is missing, or isn't one that the job takes.
+#[derive(Clone, Copy, Debug)]
+pub(crate) struct BadValue;
+
+/// The text of this name.
+pub(crate) fn text<'a>(matches: &ArgMatches<'a>, id: &str) -> Result<&'a str, BadValue>
+    ensures { Finds result (λ text. HasText (rows_of (found_of matches.now)) id.now text.now) }
+{
+    matches.get_str(id).ok_or(BadValue)
+}
+
+/// Whether there is no value of this name.
+fn is_left_out(matches: &ArgMatches<'_>, id: &str) -> bool
+    ensures { IsTrue result ↔ IsLeftOut (rows_of (found_of matches.now)) id.now }
+{
+    matches.get_str(id).is_none()
+}
+
+/// The whole number of this name.
+fn number(matches: &ArgMatches<'_>, id: &str) -> Result<u64, BadValue>
+    ensures { Finds result (HasNumber (rows_of (found_of matches.now)) id.now) }
+{
+    matches.get_one(id).ok_or(BadValue)
+}
+
+/// The life of this name, in seconds.
+pub(crate) fn life(matches: &ArgMatches<'_>, id: &str) -> Result<u64, BadValue>
+    ensures { Finds result (HasLife (rows_of (found_of matches.now)) id.now) }
+{
+    let life = number(matches, id)?;
+    if life > LONGEST_LIFE {
+        return Err(BadValue);
+    }
+    Ok(life)
+}
+
+/// The moment that `--now` gives, if it is there.
+pub(crate) fn now(matches: &ArgMatches<'_>) -> Result<Option<Moment>, BadValue>
+    ensures { Finds result (HasNow (rows_of (found_of matches.now))) }
+{
+    if is_left_out(matches, "now") {
+        return Ok(None);
+    }
+    match Moment::new(number(matches, "now")?) {
+        Ok(now) => Ok(Some(now)),
+        Err(_) => Err(BadValue),
+    }
+}
+
+/// The digits that `--digits` gives, if it is there.
+pub(crate) fn digits(matches: &ArgMatches<'_>) -> Result<Option<Digits>, BadValue>
+    ensures { Finds result (HasDigits (rows_of (found_of matches.now))) }
+{
+    let Some(text) = matches.get_str("digits") else {
+        return Ok(None);
+    };
+    match drawn(text.as_bytes()) {
+        Some(digits) => Ok(Some(digits)),
+        None => Err(BadValue),
+    }
+}
+
+/// How many connections `--connections` gives.
+pub(crate) fn connections(matches: &ArgMatches<'_>) -> Result<u64, BadValue>
+    ensures { Finds result (HasConnections (rows_of (found_of matches.now))) }
+{
+    let count = number(matches, "connections")?;
+    if count == 0 || count > MOST_CONNECTIONS {
+        return Err(BadValue);
+    }
+    Ok(count)
+}
+
+/// The port that `--port` gives, or 0, any free one, where it isn't there.
+pub(crate) fn port(matches: &ArgMatches<'_>) -> Result<u16, BadValue>
+    ensures { Finds result (HasPort (rows_of (found_of matches.now))) }
+{
+    if is_left_out(matches, "port") {
+        return Ok(0);
+    }
+    match u16::try_from(number(matches, "port")?) {
+        Ok(port) => Ok(port),
+        Err(_) => Err(BadValue),
+    }
+}
