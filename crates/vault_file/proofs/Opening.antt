@@ -1,0 +1,112 @@
+-- What an open and a check come to.
+use Rattle.std.proofs.Common.{◌≡◌, ◌⊎◌, inl, inr, ◌≤◌, ℕ, ℤ, Some, None, arith, refl, sym, ap, subst, ◌∙◌}
+use Rattle.std.proofs.Math.Logic.{∥∥₁_map}
+use Rattle.sqlite.specs.Effect.{Database, IsDatabase}
+use Rattle.sqlite.specs.Files.{AreFoundIn, file_state}
+use Rattle.sqlite.specs.Held.{Held}
+use Rattle.sqlite.specs.State.{State, HasCleanDisk, IsUnchanged}
+use Rattle.sqlite.specs.View.{doubt}
+use Rattle.sqlite_disk.specs.declared.Disk.{Ghosts}
+use Rattle.sqlite_store.specs.declared.store.FileStore.{FileStore}
+use Rattle.sqlite_wal.specs.Recovery.{Image}
+use Rattle.vault_core.specs.Sound.{Sound}
+use Rattle.vault_core.specs.Vault.{Vault}
+use Rattle.vault_file.specs.Found.{IsFoundIn, IsNoVerdict, OpensFrom}
+use Rattle.vault_file.specs.declared.fault.NotOpened.{NotOpened}
+use Rattle.vault_file.specs.declared.fault.NotOpened.TheVariants.{Refused, Fault}
+use Rattle.vault_recover.specs.Crashed.{IsOpenOf, Keeps, KeepsEither}
+use Rattle.vault_recover.specs.Opened.{IsFit, IsNoRefusal, Opens, StandsSound}
+use Rattle.vault_recover.specs.declared.fault.OpenFault.{OpenFault}
+use Rattle.vault_recover.specs.declared.fault.OpenFault.TheVariants.{WrongSchema, Damaged, Memory, Store}
+use Rattle.vault_recover.proofs.Judged.{ours_of}
+use Rattle.vault_sql.specs.Holds.{Holds}
+use Rattle.vault_sql.specs.Schema.{no_schema}
+use Rattle.vault_sql.specs.Stands.{Stands}
+
+-- what is there isn't missing
+pub there : {X : Type 0} (x : X) → Some x ≡ None → ⊥
+there x same = let clash = same in cc
+
+-- a refusal that is neither 30 nor 31
+pub no_verdict : (e : OpenFault) → IsNoRefusal e → IsNoVerdict (Fault e)
+no_verdict (WrongSchema version) neither = absurd (neither.0 version refl)
+no_verdict (Damaged rule) neither = absurd (neither.1 rule refl)
+no_verdict Memory neither = (λ same. omega (arith, same), λ same. omega (arith, same))
+no_verdict Store neither = (λ same. omega (arith, same), λ same. omega (arith, same))
+
+fault_in : NotOpened → OpenFault
+fault_in Refused = Memory
+fault_in (Fault fault) = fault
+
+pub same_fault : (e f : OpenFault) → Fault e ≡ Fault f → e ≡ f
+unfolding fault_in
+same_fault e f same = ap fault_in same
+
+-- what holds a sound vault stands for it
+stands_sound : (s : State) (V : Vault) → Sound V → Holds s V → StandsSound s.now
+stands_sound s V sound held = record { schema = held.schema; vault = V; sound = sound; stands = held.stands }
+
+-- what isn't changed holds the vault still
+pub still_held : (old new : State) → IsUnchanged old new → new.step_limit ≡ old.step_limit → (V : Vault) → Holds old V → Holds new V
+still_held old new same limit V held = record {
+  is_open = same.0.is_open;
+  autocommit = same.0.mode ∙ held.autocommit;
+  unlimited = limit ∙ held.unlimited;
+  schema = ap (λ (d : Database). d.schema) same.0.now_is ∙ held.schema;
+  sound = subst IsDatabase (sym same.0.now_is) held.sound;
+  settled = same.0.now_is ∙ held.settled ∙ sym same.0.committed_is;
+  stands = subst (λ (d : Database). Stands d.trees V) (sym same.0.now_is) held.stands;
+}
+
+module _ {D : Type 0} {g : Ghosts D} (image : Image) (first : Held (FileStore D g)) (found : HasCleanDisk (file_state first) → IsOpenOf image first) where
+  pub found_in : HasCleanDisk (file_state first) → IsFoundIn image (file_state first).now
+  found_in clean =
+      let it = found clean in
+      let same : (file_state first).committed.trees ≡ (file_state first).now.trees = ap (λ (d : Database). d.trees) (sym it.opened.0.clean) in
+      record {
+        is = (it.opened.1 it.opened.0.is_open).0;
+        holds = λ db held. sym same ∙ it.found.holds db held;
+        reads = subst (AreFoundIn image) same it.found.reads;
+      }
+
+  module _ (again : HasCleanDisk (file_state first) → (V : Vault) → Keeps image V → Holds (file_state first) V) where
+    -- an open that succeeds
+    pub opens_from : (conn : Held (FileStore D g))
+        → (HasCleanDisk (file_state first) → (V W : Vault) → KeepsEither image V W → ∥ (Holds (file_state first) V ⊎ Holds (file_state first) W) ∥₁)
+        → (HasCleanDisk (file_state conn) → Opens (file_state first) (file_state conn)) → OpensFrom image conn
+    opens_from conn either opens =
+        let on : HasCleanDisk (file_state conn) → (V : Vault) → Sound V → Holds (file_state first) V → Holds (file_state conn) V = λ clean V sound held.
+        (opens clean).same (ours_of (file_state first).now (stands_sound (file_state first) V sound held)) V held.stands in
+        record {
+          first = first;
+          found = found;
+          opens = opens;
+          again = λ was clean V sound keeps. on clean V sound (again was V keeps);
+          either = λ was clean V W sound other keeps. ∥∥₁_map (either was V W keeps) (λ held. elim held [
+            | inl one ↦ inl (on clean V sound one)
+            | inr one ↦ inr (on clean W other one)
+          ]);
+        }
+
+    -- An open or a check that fails with this fault. Where the disk is clean after it, and the fault is one of the
+    -- schema or the rows, there were tables, so the disk was clean before it.
+    module _ (last : Held (FileStore D g)) (e : OpenFault) (never : HasCleanDisk (file_state last) → IsFit (file_state first).now → IsNoRefusal e)
+        (quiet : ((file_state first).now.schema ≡ no_schema → ⊥) → doubt (file_state first).is_clean ≤ doubt (file_state last).is_clean)
+        (clean : HasCleanDisk (file_state last)) where
+      was_clean : ((file_state first).now.schema ≡ no_schema → ⊥) → HasCleanDisk (file_state first)
+      was_clean some = omega (arith, quiet some, clean)
+
+      pub never_kept : (V : Vault) → Sound V → Keeps image V → IsNoVerdict (Fault e)
+      never_kept V sound keeps =
+          let fit : ((file_state first).now.schema ≡ no_schema → ⊥) → IsNoRefusal e = λ some.
+          never clean (inl (stands_sound (file_state first) V sound (again (was_clean some) V keeps))) in
+          no_verdict e (
+            λ n same. (fit (λ blank. (never clean (inr blank)).0 n same)).0 n same,
+            λ rule same. (fit (λ blank. (never clean (inr blank)).1 rule same)).1 rule same,
+          )
+
+      pub found_wrong : (n : ℤ) → Fault e ≡ Fault (WrongSchema n) → IsFoundIn image (file_state first).now
+      found_wrong n same = found_in (was_clean (λ blank. (never clean (inr blank)).0 n (same_fault e (WrongSchema n) same)))
+
+      pub found_damaged : (rule : ℕ) → Fault e ≡ Fault (Damaged rule) → IsFoundIn image (file_state first).now
+      found_damaged rule same = found_in (was_clean (λ blank. (never clean (inr blank)).1 rule (same_fault e (Damaged rule) same)))

@@ -1,0 +1,26 @@
+use Rattle.std.proofs.Common.{◌≡◌, arith, sym, ap, subst, ◌∙◌}
+use Rattle.sqlite.specs.Files.{file_state}
+use Rattle.sqlite.specs.State.{HasCleanDisk}
+use Rattle.sqlite.specs.View.{IsClean}
+use Rattle.sqlite_store.specs.FileStore.{view}
+use Rattle.vault_core.specs.Vault.{Vault}
+use Rattle.vault_recover.specs.Crashed.{AreHeld, Reopens}
+use Rattle.vault_sql.specs.Holds.{Holds}
+use Rattle.vault_store.specs.Applied.{Contains, tables_of}
+use Rattle.vault_file.proofs.open.close_files.Given.{Over}
+use Rattle.vault_file.proofs.open.close_files.Goals as goal
+
+same : (g : Over) (c : goal.After-close g) → c.into_connection.result ≡ (tables_of c.args.vault).conn
+same g c = c.into_connection.ensures ∙ ap (λ t. t.conn) c.into_tables.ensures
+
+held : (g : Over) (c : goal.After-close g) → IsClean (view c.close.result) → (V : Vault) → Contains AreHeld c.args.vault V
+    → Holds (file_state c.into_connection.result) V
+held g c clean V contains =
+    subst (λ h. HasCleanDisk (file_state h) → Holds (file_state h) V) (sym (same g c)) contains.0.1 (omega (arith, c.close.ensures.clean, clean))
+
+pub returns-clause-before : goal.returns-clause-before
+returns-clause-before g c clean V contains =
+    subst (λ h. Reopens h.store V) (same g c) (c.close.ensures.reopens clean V (held g c clean V contains))
+
+pub returns-clause-after : goal.returns-clause-after
+returns-clause-after g c clean V contains = c.close.ensures.after clean V (held g c clean V contains)

@@ -1,0 +1,35 @@
+use Rattle.sqlite.specs.Files.{file_state}
+use Rattle.sqlite_wal.specs.Files.{image_at}
+use Rattle.vault_file.proofs.Opening.{found_damaged, found_wrong, never_kept, opens_from, same_fault, there}
+use Rattle.vault_file.proofs.open.open_from.Goals as goal
+use Rattle.vault_recover.specs.declared.fault.OpenFault.TheVariants.{WrongSchema, Damaged}
+use Rattle.vault_store.specs.Applied.{tables_of}
+
+pub returns-in-Ok-clause-found : goal.returns-in-Ok-clause-found
+returns-in-Ok-clause-found g c =
+    opens_from (image_at g.S.Start) c.in-Some.conn c.in-Some.ensures.opened c.in-Some.ensures.again
+    (tables_of c.in-Ok.vault).conn c.in-Some.ensures.either c.in-Ok.ensures.opens
+
+pub returns-in-Err-clause-no_path : goal.returns-in-Err-clause-no_path
+returns-in-Err-clause-no_path g c none = absurd (there c.in-Some.conn (c.in-Some.ensures.no_path none))
+
+pub returns-in-Err-clause-damaged : goal.returns-in-Err-clause-damaged
+returns-in-Err-clause-damaged g c clean rule same = (
+  (file_state c.in-Some.conn).now,
+  found_damaged (image_at g.S.Start) c.in-Some.conn c.in-Some.ensures.opened c.in-Some.ensures.again c.in-Err.refusal.1 c.in-Err.refusal.0
+      c.in-Err.ensures.never (λ some. (c.in-Err.ensures.quiet some).clean) clean rule same,
+  c.in-Err.ensures.damaged clean rule (same_fault c.in-Err.refusal.0 (Damaged rule) same),
+)
+
+pub returns-in-Err-clause-wrong : goal.returns-in-Err-clause-wrong
+returns-in-Err-clause-wrong g c clean n same = (
+  (file_state c.in-Some.conn).now,
+  found_wrong (image_at g.S.Start) c.in-Some.conn c.in-Some.ensures.opened c.in-Some.ensures.again c.in-Err.refusal.1 c.in-Err.refusal.0
+      c.in-Err.ensures.never (λ some. (c.in-Err.ensures.quiet some).clean) clean n same,
+  c.in-Err.ensures.wrong clean n (same_fault c.in-Err.refusal.0 (WrongSchema n) same),
+)
+
+pub returns-in-Err-clause-never : goal.returns-in-Err-clause-never
+returns-in-Err-clause-never g c clean V sound keeps =
+    never_kept (image_at g.S.Start) c.in-Some.conn c.in-Some.ensures.opened c.in-Some.ensures.again c.in-Err.refusal.1 c.in-Err.refusal.0
+    c.in-Err.ensures.never (λ some. (c.in-Err.ensures.quiet some).clean) clean V sound keeps

@@ -1,0 +1,58 @@
+-- What is found in the files at a path.
+use Rattle.std.specs.Prelude.{◌≡◌, ◌≢◌, ◌⊎◌, ℕ, List, [], codes, take}
+use Rattle.sqlite.specs.Effect.{Database, IsDatabase}
+use Rattle.sqlite.specs.Files.{AreFoundIn, file_state}
+use Rattle.sqlite.specs.Held.{Held}
+use Rattle.sqlite.specs.State.{HasCleanDisk}
+use Rattle.sqlite_disk.specs.declared.Disk.{Ghosts}
+use Rattle.sqlite_store.specs.declared.store.FileStore.{FileStore}
+use Rattle.sqlite_wal.specs.Recovery.{Image}
+use Rattle.vault_core.specs.Sound.{Sound}
+use Rattle.vault_core.specs.Vault.{Vault, empty_vault}
+use Rattle.vault_file.specs.Faults.{number_of}
+use Rattle.vault_file.specs.declared.fault.NotOpened.{NotOpened}
+use Rattle.vault_recover.specs.Crashed.{IsOpenOf, Keeps, KeepsEither, MayFind}
+use Rattle.vault_recover.specs.Opened.{IsSoundOf, Opens}
+use Rattle.vault_recover.specs.Sizes.{sizes_of}
+use Rattle.vault_recover.specs.declared.sizes.Sizes.{Sizes}
+use Rattle.vault_sql.specs.Holds.{Holds}
+use Rattle.vault_sql.specs.Schema.{no_schema}
+
+-- no file's name: nothing at all, `:memory:`, and what begins with `file:`
+abbrev pub IsNoPath : List ℕ → Type 0
+IsNoPath path = (path ≡ []) ⊎ ((path ≡ codes ":memory:") ⊎ (take 5 path ≡ codes "file:"))
+
+-- a log and a database file without a byte
+abbrev pub no_bytes : Image
+no_bytes = record { log = []; db = [] }
+
+-- the database that an open of files with these bytes finds: the one that the bytes hold
+pub record IsFoundIn (image : Image) (db : Database) : Type 0 where
+  pub is : IsDatabase db
+  pub holds : MayFind image db.trees
+  pub reads : AreFoundIn image db.trees
+
+-- Files with these bytes hold a database of which this is true.
+abbrev pub HoldsSuch : Image → (Database → Type 0) → Type 0
+HoldsSuch image IsSuch = (db : Database) × IsFoundIn image db × IsSuch db
+
+-- neither a wrong schema nor damage
+abbrev pub IsNoVerdict : NotOpened → Type 0
+IsNoVerdict why = (number_of why ≢ 30) × (number_of why ≢ 31)
+
+-- these are the sizes of the vault there: the empty one, where there is no table
+abbrev pub HasSizes : Database → Sizes → Type 0
+HasSizes db sizes = (db.schema ≡ no_schema) × (sizes ≡ sizes_of empty_vault) ⊎ IsSoundOf db sizes
+
+module _ {D : Type 0} {g : Ghosts D} where
+  -- A connection was opened over files with these bytes, and this one comes from opening the vault there. What a
+  -- stop left is found: a vault that the bytes keep is held, and of two that they may keep one.
+  pub record OpensFrom (image : Image) (conn : Held (FileStore D g)) : Type 0 where
+    pub first : Held (FileStore D g)
+    pub found : HasCleanDisk (file_state first) → IsOpenOf image first
+    pub opens : HasCleanDisk (file_state conn) → Opens (file_state first) (file_state conn)
+    pub again : HasCleanDisk (file_state first) → HasCleanDisk (file_state conn)
+        → (V : Vault) → Sound V → Keeps image V → Holds (file_state conn) V
+    pub either : HasCleanDisk (file_state first) → HasCleanDisk (file_state conn)
+        → (V W : Vault) → Sound V → Sound W → KeepsEither image V W
+        → ∥ (Holds (file_state conn) V ⊎ Holds (file_state conn) W) ∥₁

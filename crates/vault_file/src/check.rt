@@ -1,0 +1,67 @@
+//! The whole check of the file at a path.
+ghost use Rattle.std.specs.Prelude.{◌≡◌, ◌↔◌, ℕ, ℤ, None, Err, IfOk, IfErr, IfSome, IsErrAnd};
+ghost use Rattle.sqlite.specs.Files.{file_state};
+ghost use Rattle.sqlite.specs.State.{HasCleanDisk};
+ghost use Rattle.sqlite_wal.specs.Files.{image_at};
+ghost use Rattle.vault_core.specs.Sound.{Sound};
+ghost use Rattle.vault_core.specs.Vault.{Vault as Content};
+ghost use Rattle.vault_file.specs.Found.{HasSizes, HoldsSuch, IsNoPath, IsNoVerdict};
+ghost use Rattle.vault_recover.specs.Crashed.{Keeps};
+ghost use Rattle.vault_recover.specs.Opened.{IsKnown, IsLeastBroken, IsWrong};
+ghost use Rattle.vault_sql.specs.Holds.{Holds};
+
+use crate::fault::NotOpened;
+use crate::make::open_private;
+use sqlite::{Connection, FileFrom, FileStore, Start, Unknown};
+use vault_recover::check::check;
+use vault_recover::fault::OpenFault;
+use vault_recover::reopen::close;
+use vault_recover::sizes::Sizes;
+
+/// Checks the file at a path whole, and says how much the vault in it holds. The connection is given back, and with
+/// a refusal where there is one. The vault is not written. A file that isn't there is made, as `open_from` makes it,
+/// and is the empty vault.
+///
+/// Refused by 30 to 34 as `open_from` refuses.
+pub fn check_from<S: Start>(
+    rt: &HostRuntime,
+    path: &str,
+    start: S,
+) -> Result<
+    (Sizes, Connection<FileStore<FileFrom<S>>>),
+    (NotOpened, Option<Connection<FileStore<FileFrom<S>>>>),
+>
+    ensures no_path { IsNoPath path.now → IsErrAnd result (λ e. e.0 ≡ NotOpened.Refused) }
+    ensures sizes { IfOk result (λ told. HasCleanDisk (file_state told.1)
+        → HoldsSuch (image_at S.Start) (λ db. IsKnown db → HasSizes db told.0)) }
+    ensures kept { IfOk result (λ told. HasCleanDisk (file_state told.1)
+        → (V : Content) → Sound V → Keeps (image_at S.Start) V → Holds (file_state told.1) V) }
+    ensures refused { IfErr result (λ e. (e.0 ≡ NotOpened.Refused) ↔ (e.1 ≡ None)) }
+    ensures damaged { IfErr result (λ e. IfSome e.1 (λ conn. HasCleanDisk (file_state conn) → (rule : ℕ)
+        → e.0 ≡ NotOpened.Fault (OpenFault.Damaged rule) → HoldsSuch (image_at S.Start) (λ db. IsKnown db → IsLeastBroken db rule))) }
+    ensures wrong { IfErr result (λ e. IfSome e.1 (λ conn. HasCleanDisk (file_state conn) → (n : ℤ)
+        → e.0 ≡ NotOpened.Fault (OpenFault.WrongSchema n) → HoldsSuch (image_at S.Start) (λ db. IsKnown db → IsWrong db n))) }
+    ensures never { IfErr result (λ e. IfSome e.1 (λ conn. HasCleanDisk (file_state conn)
+        → (V : Content) → Sound V → Keeps (image_at S.Start) V → IsNoVerdict e.0)) }
+{
+    let Some(mut conn) = open_private(rt, path, start) else {
+        return Err((NotOpened::Refused, None));
+    };
+    match check(rt.alloc(), &mut conn) {
+        Ok(sizes) => Ok((sizes, conn)),
+        Err(fault) => Err((NotOpened::Fault(fault), Some(conn))),
+    }
+}
+
+/// Checks the file at a path whole, as `check_from` does over a file that holds what it may.
+pub fn check_file(rt: &HostRuntime, path: &str) -> Result<Sizes, NotOpened>
+    ensures no_path { IsNoPath path.now → result ≡ Err NotOpened.Refused }
+{
+    match check_from(rt, path, Unknown) {
+        Ok(told) => {
+            drop(close(told.1));
+            Ok(told.0)
+        }
+        Err(refusal) => Err(refusal.0),
+    }
+}

@@ -1,0 +1,58 @@
+//! Why the file at a path isn't opened.
+ghost use Rattle.std.specs.Prelude.{◌≡◌};
+ghost use Rattle.vault_file.specs.Faults.{detail_of, number_of};
+
+use std::fmt;
+use vault_recover::fault::OpenFault;
+
+/// Why no vault is opened from the file at a path.
+#[derive(Clone, Copy, Debug, PartialEq, Eq, Drop)]
+pub enum NotOpened {
+    /// 34: the database or the host refuses the file itself.
+    Refused,
+    /// 30 to 33: the file is opened, and what it holds is refused.
+    Fault(OpenFault),
+}
+
+impl NotOpened {
+    /// The number of the refusal.
+    pub fn number(&self) -> u8
+        ensures { result ≡ number_of self.now }
+    {
+        match self {
+            NotOpened::Refused => 34,
+            NotOpened::Fault(fault) => fault.number(),
+        }
+    }
+
+    /// The version that the file says, with 30; the rule that its rows break, with 31.
+    pub fn detail(&self) -> Option<i64>
+        ensures { result ≡ detail_of self.now }
+    {
+        match self {
+            NotOpened::Fault(OpenFault::WrongSchema(version)) => Some(*version),
+            NotOpened::Fault(OpenFault::Damaged(rule)) => Some(i64::from(*rule)),
+            NotOpened::Fault(OpenFault::Memory | OpenFault::Store) | NotOpened::Refused => None,
+        }
+    }
+}
+
+/// The number of the refusal and, after a space, its detail.
+impl fmt::Display for NotOpened {
+    ghost use Rattle.std.specs.Prelude.{Some};
+    ghost use Rattle.vault_file.specs.Faults.{words_of};
+
+    ghost output = { λ fault. Some (words_of fault) };
+
+    fn fmt<W: fmt::Write>(&self, f: &mut fmt::Formatter<W>) -> fmt::Result {
+        match self {
+            NotOpened::Refused => f.write_str("34"),
+            NotOpened::Fault(OpenFault::WrongSchema(version)) => write!(f, "30 {version}"),
+            NotOpened::Fault(OpenFault::Damaged(rule)) => write!(f, "31 {rule}"),
+            NotOpened::Fault(OpenFault::Memory) => f.write_str("32"),
+            NotOpened::Fault(OpenFault::Store) => f.write_str("33"),
+        }
+    }
+}
+
+impl std::error::Error for NotOpened {}

@@ -1,0 +1,9 @@
+//! The vault in the file at a path.
+#![tactic(auto)]
+
+pub mod check;
+pub mod fault;
+mod make;
+pub mod open;
+#[cfg(test)]
+mod tests;

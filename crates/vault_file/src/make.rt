@@ -1,0 +1,63 @@
+//! The file at a path, made where there is none.
+ghost use Rattle.std.specs.Prelude.{◌≡◌, ◌⊎◌, ◌↔◌, false, None, IfSome, IsTrue};
+ghost use Rattle.sqlite.specs.Files.{file_state};
+ghost use Rattle.sqlite.specs.State.{HasCleanDisk};
+ghost use Rattle.sqlite_wal.specs.Files.{image_at};
+ghost use Rattle.vault_core.specs.Vault.{Vault};
+ghost use Rattle.vault_file.specs.Found.{IsNoPath};
+ghost use Rattle.vault_recover.specs.Crashed.{IsOpenOf, Keeps, KeepsEither};
+ghost use Rattle.vault_sql.specs.Holds.{Holds};
+
+use sqlite::{Connection, FileFrom, FileStore, Start};
+use std::fs::{OpenOptions, Permissions};
+use std::io;
+use std::os::unix::fs::{OpenOptionsExt, PermissionsExt};
+use vault_recover::reopen::open_path;
+
+/// Its owner alone may read and write it.
+const PRIVATE: u32 = 0o600;
+
+/// Whether the words name no file: the database keeps `:memory:` and what begins with `file:` for itself.
+fn is_no_path(path: &str) -> bool
+    ensures { IsTrue result ↔ IsNoPath path.now }
+{
+    path.is_empty() || path == ":memory:" || path.starts_with("file:")
+}
+
+/// Makes an empty file that its owner alone may read and write, whatever the umask takes away. What has the name
+/// already stays as it is.
+fn make_private(rt: &HostRuntime, path: &str) -> io::Result<()> {
+    match OpenOptions::new()
+        .read(true)
+        .write(true)
+        .create_new(true)
+        .mode(PRIVATE)
+        .open(rt, path)
+    {
+        Ok(file) => file.set_permissions(Permissions::from_mode(PRIVATE)),
+        Err(error) if error.kind() == io::ErrorKind::AlreadyExists => Ok(()),
+        Err(error) => Err(error),
+    }
+}
+
+/// Opens the file at a path, or makes it for its owner alone.
+pub(crate) fn open_private<S: Start>(
+    rt: &HostRuntime,
+    path: &str,
+    start: S,
+) -> Option<Connection<FileStore<FileFrom<S>>>>
+    ensures no_path { IsNoPath path.now → result ≡ None }
+    ensures idle { IfSome result (λ c. c.in_transaction ≡ false) }
+    ensures unlimited { IfSome result (λ c. c.step_limit ≡ None) }
+    ensures opened { IfSome result (λ c. HasCleanDisk (file_state c) → IsOpenOf (image_at S.Start) c) }
+    ensures again { IfSome result (λ c. HasCleanDisk (file_state c) → (V : Vault) → Keeps (image_at S.Start) V → Holds (file_state c) V) }
+    ensures either { IfSome result (λ c. HasCleanDisk (file_state c) → (V W : Vault) → KeepsEither (image_at S.Start) V W → ∥ (Holds (file_state c) V ⊎ Holds (file_state c) W) ∥₁) }
+{
+    if is_no_path(path) {
+        return None;
+    }
+    match make_private(rt, path) {
+        Ok(()) => open_path(rt, path, start),
+        Err(_) => None,
+    }
+}
