@@ -1,7 +1,7 @@
 -- What the end of one connection leaves of a vault.
-use Rattle.std.proofs.Common.{◌≡◌, ◌≢◌, ℕ, ◌<◌, List, [], ◌∷◌, ◌++◌, refl, sym, subst, ap, ◌∙◌}
+use Rattle.std.proofs.Common.{◌≡◌, ◌≢◌, ℕ, List, [], ◌∷◌, ◌++◌, refl, sym, subst, ap}
 use Rattle.std.proofs.Common.{append-nil, arith, inl, inr}
-use Rattle.std.specs.Prelude.{Bool, true, false, Option, Some, None, Result, Ok, Err, MatchResult}
+use Rattle.std.specs.Prelude.{Bool, Option, None, Result, Ok, Err, MatchResult}
 use Rattle.std.proofs.lemmas.List.Elements.{All-cons, All-nil}
 use Rattle.vault_core.specs.Vault.{Vault as Content}
 use Rattle.vault_wire.specs.Parts.{Parts}
@@ -26,20 +26,25 @@ pub one_kept : (w : Passage) (ps : List Parts) (pairs : List Pair) (xs : List Ex
     → ((V : Content) → IsBefore w V → Keeps w (vault_after V xs)) → AllKept 1 (vault_part w)
 one_kept w ps pairs xs asked kept = record {
   connections = xs ∷ [];
-  counted = omega arith;
+  counted = refl;
   asked = All-cons IsConnection xs [] (is_connection ps pairs xs asked) (All-nil IsConnection);
   kept = λ V b. subst (λ ys. Keeps w (vault_after V ys)) (sym (append-nil xs)) (kept V b);
 }
 
--- no exchange at all
-pub none_kept : (w : Passage) → ((V : Content) → IsBefore w V → Keeps w V) → (n : ℕ) → AllKept n (vault_part w)
+-- no connection at all
+pub none_kept : (w : Passage) → ((V : Content) → IsBefore w V → Keeps w V) → AllKept 0 (vault_part w)
 unfolding vault_after
-none_kept w kept n = record {
+none_kept w kept = record {
   connections = [];
-  counted = omega arith;
+  counted = refl;
   asked = All-nil IsConnection;
   kept = kept;
 }
+
+-- a connection without an exchange
+pub lost_kept : (w : Passage) → ((V : Content) → IsBefore w V → Keeps w V) → AllKept 1 (vault_part w)
+unfolding vault_after
+lost_kept w kept = one_kept w [] [] [] tt kept
 
 stop_kept : (e : ServeFault) (w : Passage) (ps : List Parts) → e ≢ fault.Store
     → Stops e w (up_to_close ps) → AllKept 1 (vault_part w)

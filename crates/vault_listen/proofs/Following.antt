@@ -1,5 +1,5 @@
 -- Connections after connections.
-use Rattle.std.proofs.Common.{◌≡◌, ℕ, ◌+◌, ◌≤◌, List, [], ◌∷◌, ◌++◌, length, refl, sym, subst, ap, ◌∙◌}
+use Rattle.std.proofs.Common.{◌≡◌, ℕ, ◌+◌, ◌≤◌, List, [], ◌∷◌, ◌++◌, sym, subst, ap, ◌∙◌}
 use Rattle.std.proofs.Common.{append_assoc, arith, length-append}
 use Rattle.std.proofs.lemmas.Grind.{flat_map-append}
 use Rattle.std.proofs.lemmas.List.Elements.{All-append}
@@ -15,14 +15,6 @@ all_of-append : (xss yss : List (List Exchange)) → all_of (xss ++ yss) ≡ all
 all_of-append xss yss = flat_map-append (λ (xs : List Exchange). xs) xss yss
 
 -- there may be more
-pub at_most : (n m : ℕ) (w : Passage) → n ≤ m → AllKept n w → AllKept m w
-at_most n m w le a = record {
-  connections = a.connections;
-  counted = omega (arith, a.counted, le);
-  asked = a.asked;
-  kept = a.kept;
-}
-
 pub fewer : (n m : ℕ) (w : Passage) → n ≤ m → OneUndecided n w → OneUndecided m w
 fewer n m w le a = record {
   connections = a.connections;
@@ -51,7 +43,8 @@ module _ {T : Type 0} (honest : T → Type 0) (holds : T → Content → Type 0)
         ≡ vault_after (vault_after V (all_of a.connections)) (all_of b.connections) =
         ap (vault_after V) (all_of-append a.connections b.connections)
         ∙ vault_after-append V (all_of a.connections) (all_of b.connections) in
-        subst (λ W. Keeps w W) (sym whole) (b.kept (vault_after V (all_of a.connections)) (before.0, first.0));
+        subst (λ W. Keeps w W) (sym whole)
+        (b.kept (vault_after V (all_of a.connections)) (before.0, first.0));
   }
 
   pub undecided_then : OneUndecided 1 (vault_passing honest holds leaves v1 v2)

@@ -1,5 +1,5 @@
 -- What connections leave of a vault.
-use Rattle.std.specs.Prelude.{◌≡◌, ℕ, ◌≤◌, ◌<◌, List, [], ◌∷◌, ◌++◌, length, map, All, Option, None}
+use Rattle.std.specs.Prelude.{◌≡◌, ℕ, ◌<◌, List, [], ◌∷◌, ◌++◌, length, map, All, None}
 use Rattle.std.specs.List.{flat_map}
 use Rattle.vault_core.specs.Vault.{Vault as Content}
 use Rattle.vault_store.specs.Applied.{Contains, tables_of}
@@ -23,7 +23,8 @@ vault_passing honest holds leaves v v' = record {
   left_new = leaves (tables_of v');
 }
 
--- exchanges of one connection: its messages, up to the first that closes it, are asked, each with a pair of its own
+-- exchanges of one connection: their messages, up to the first that closes it, are asked, each with a pair
+-- of its own
 abbrev pub IsConnection : List Exchange → Type 0
 IsConnection xs = (pairs : List Pair) × AskFirst (up_to_close (map (λ x. x.parts) xs)) pairs xs
 
@@ -31,10 +32,11 @@ IsConnection xs = (pairs : List Pair) × AskFirst (up_to_close (map (λ x. x.par
 abbrev pub all_of : List (List Exchange) → List Exchange
 all_of connections = flat_map (λ xs. xs) connections
 
--- at most so many connections were served, and the vault after their exchanges is kept
-pub record AllKept (most : ℕ) (w : Passage) : Type 0 where
+-- so many connections were served, some of them without an exchange, and the vault after their exchanges
+-- is kept
+pub record AllKept (count : ℕ) (w : Passage) : Type 0 where
   pub connections : List (List Exchange)
-  pub counted : length connections ≤ most
+  pub counted : length connections ≡ count
   pub asked : All IsConnection connections
   pub kept : (V : Content) → IsBefore w V → Keeps w (vault_after V (all_of connections))
 
@@ -51,8 +53,8 @@ pub record OneUndecided (most : ℕ) (w : Passage) : Type 0 where
       → w.left_new (vault_after V (all_of connections ++ last))
       (vault_after V (all_of connections ++ last ++ undecided ∷ []))
 
--- what a fault that ends the service leaves
+-- what a fault that ends the service before so many connections leaves
 abbrev pub Ends : ℕ → Passage → ListenFault → Type 0
 Ends most w Store = OneUndecided most w
-Ends most w Memory = AllKept most w
-Ends most w Accept = AllKept most w
+Ends most w Memory = AllKept 0 w
+Ends most w Accept = (count : ℕ) × (count < most) × AllKept count w

@@ -29,8 +29,8 @@ fn discard<R: Read>(reader: &mut R)
 
 /// Tells the peer that no more answers come, and takes at most 64 KiB of what it still sends.
 ///
-/// A connection that is closed while bytes of its peer are unread is reset, and what was under way to the peer
-/// may be lost.
+/// A connection that is closed while bytes of its peer are unread is reset, and what was under way to the
+/// peer may be lost.
 pub(crate) fn linger(stream: &TcpStream) {
     let mut reader = stream;
     if stream.shutdown(Shutdown::Write).is_ok() {

@@ -23,7 +23,8 @@ use vault_wire::watched::Watched;
 /// How many seconds a peer may send nothing or take nothing.
 pub const PATIENCE: u64 = 5;
 
-/// Whether a failed accept lost one connection, and the listener can go on.
+/// Whether a failed accept lost one connection, and the listener can go on. A signal isn't among them: the
+/// accept of `TcpListener` calls again after one.
 fn loses_one(kind: ErrorKind) -> bool {
     match kind {
         ErrorKind::ConnectionAborted
@@ -133,14 +134,15 @@ fn serve_within<L: OpenListener<Stream = TcpStream>, C: Clock, G: Rng, T: Tables
 
 /// Serves so many connections, one after the other, by one vault.
 ///
-/// A connection ends at its end or at a message that closes it; after a fault of its bytes, which is answered;
-/// after 1000 messages, or where the clock can't be read (60); where its peer fails, or sends or takes nothing
-/// for 5 seconds (61, 62); or for want of memory (64). Unless its reader or writer failed, the peer may then
-/// still read its answers: at most 64 KiB of what it sends are thrown away, in at most 16 reads. A connection
-/// that was lost before it was accepted counts as one. None of these ends the service.
+/// A connection ends with its bytes, or at a message that closes it; after a fault of its bytes, which is
+/// answered; after 1000 messages, or where the clock can't be read (60); where its peer fails, or sends or
+/// takes nothing for 5 seconds (61, 62); or for want of memory (64). Unless its reader or writer failed, the
+/// peer is told that no more answers come, and what it still sends is thrown away, so that its answers reach
+/// it: at most 64 KiB in at most 16 reads, of at most 5 seconds each. A connection that was lost before it
+/// was accepted counts as one. None of these ends the service.
 ///
-/// 63 Store: the store failed, or the vault was broken before; nothing more is accepted. 64 Memory: memory was
-/// refused before the first connection. 80 Accept: the listener failed.
+/// 63 Store: the store failed, or the vault was broken before; nothing more is accepted. 64 Memory: memory
+/// was refused before the first connection. 80 Accept: the listener failed.
 pub fn serve_on<L: OpenListener<Stream = TcpStream>, C: Clock, G: Rng, T: Tables>(
     alloc: Global,
     clock: &C,

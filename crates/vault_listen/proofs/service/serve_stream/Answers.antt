@@ -1,12 +1,12 @@
 use Rattle.std.proofs.Common.{◌≡◌, false, refl, true}
 use Rattle.vault_listen.specs.Service.{vault_passing}
-use Rattle.vault_listen.proofs.Ending.{end_kept, end_undecided, none_kept}
+use Rattle.vault_listen.proofs.Ending.{end_kept, end_undecided, lost_kept}
 use Rattle.vault_listen.proofs.service.serve_stream.Goals as goal
 
 pub returns-then-is_err-clause-left : goal.returns-then-is_err-clause-left
 returns-then-is_err-clause-left g c =
-    none_kept (vault_passing g.T.Tables.is_honest g.T.Tables.holds g.T.Tables.leaves c.args.vault.now
-    c.args.vault.now) (λ V b. (b.1, g.met.T.Tables.settled _ V b.1.0 b.0)) 1
+    lost_kept (vault_passing g.T.Tables.is_honest g.T.Tables.holds g.T.Tables.leaves c.args.vault.now
+    c.args.vault.now) (λ V b. (b.1, g.met.T.Tables.settled _ V b.1.0 b.0))
 
 pub returns-then-store_failed-clause-left : goal.returns-then-store_failed-clause-left
 returns-then-store_failed-clause-left g c =
