@@ -17,6 +17,7 @@ trial_app = with_rules (new_app (codes "trial"))
     (now_rule ∷ digits_rule ∷ text_rule (codes "CALLER") ∷ text_rule (codes "MERCHANT")
     ∷ number_rule (codes "LIFE") ∷ [])
 
+-- the values of trial ask for this job
 abbrev pub AsksTrial : List Row → TrialJob → Type 0
 AsksTrial rows job =
     HasNow rows job.now × HasDigits rows job.digits × HasText rows (codes "CALLER") job.caller.now
@@ -28,6 +29,7 @@ merchant_app = with_rules (new_app (codes "merchant"))
     (now_rule ∷ text_rule (codes "FILE") ∷ text_rule (codes "NAME")
     ∷ number_rule (codes "SINGLE") ∷ number_rule (codes "MULTI") ∷ [])
 
+-- the values of merchant ask for this job
 abbrev pub AsksMerchant : List Row → MerchantJob → Type 0
 AsksMerchant rows job =
     HasNow rows job.now × HasText rows (codes "FILE") job.file.now
@@ -40,6 +42,7 @@ right_app name = with_rules (new_app name)
     (now_rule ∷ text_rule (codes "FILE") ∷ text_rule (codes "CALLER")
     ∷ text_rule (codes "MERCHANT") ∷ text_rule (codes "RIGHT") ∷ [])
 
+-- the values of grant, or of withdraw, ask for this job
 abbrev pub AsksRight : List Row → RightJob → Type 0
 AsksRight rows job =
     HasNow rows job.now × HasText rows (codes "FILE") job.file.now
@@ -51,6 +54,7 @@ abbrev pub pipe_app : App
 pipe_app = with_rules (new_app (codes "pipe"))
     (now_rule ∷ digits_rule ∷ text_rule (codes "FILE") ∷ [])
 
+-- the values of pipe ask for this job
 abbrev pub AsksPipe : List Row → PipeJob → Type 0
 AsksPipe rows job =
     HasNow rows job.now × HasDigits rows job.digits × HasText rows (codes "FILE") job.file.now
@@ -64,6 +68,7 @@ abbrev pub serve_app : App
 serve_app = with_rules (new_app (codes "serve"))
     (connections_rule ∷ number_option (codes "port") ∷ text_rule (codes "FILE") ∷ [])
 
+-- the values of serve ask for this job
 abbrev pub AsksServe : List Row → ServeJob → Type 0
 AsksServe rows job =
     HasConnections rows job.connections × HasPort rows job.port
@@ -73,6 +78,7 @@ AsksServe rows job =
 abbrev pub check_app : App
 check_app = with_rules (new_app (codes "check")) (text_rule (codes "FILE") ∷ [])
 
+-- the values of check ask for this job
 abbrev pub AsksCheck : List Row → CheckJob → Type 0
 AsksCheck rows job = HasText rows (codes "FILE") job.file.now
 
