@@ -47,7 +47,8 @@ stands_sound : (s : State) (V : Vault) → Sound V → Holds s V → StandsSound
 stands_sound s V sound held = record { schema = held.schema; vault = V; sound = sound; stands = held.stands }
 
 -- what isn't changed holds the vault still
-pub still_held : (old new : State) → IsUnchanged old new → new.step_limit ≡ old.step_limit → (V : Vault) → Holds old V → Holds new V
+pub still_held : (old new : State) → IsUnchanged old new → new.step_limit ≡ old.step_limit
+    → (V : Vault) → Holds old V → Holds new V
 still_held old new same limit V held = record {
   is_open = same.0.is_open;
   autocommit = same.0.mode ∙ held.autocommit;
@@ -58,25 +59,32 @@ still_held old new same limit V held = record {
   stands = subst (λ (d : Database). Stands d.trees V) (sym same.0.now_is) held.stands;
 }
 
-module _ {D : Type 0} {g : Ghosts D} (image : Image) (first : Held (FileStore D g)) (found : HasCleanDisk (file_state first) → IsOpenOf image first) where
+module _ {D : Type 0} {g : Ghosts D} (image : Image) (first : Held (FileStore D g))
+    (found : HasCleanDisk (file_state first) → IsOpenOf image first) where
   pub found_in : HasCleanDisk (file_state first) → IsFoundIn image (file_state first).now
   found_in clean =
       let it = found clean in
-      let same : (file_state first).committed.trees ≡ (file_state first).now.trees = ap (λ (d : Database). d.trees) (sym it.opened.0.clean) in
+      let same : (file_state first).committed.trees ≡ (file_state first).now.trees =
+      ap (λ (d : Database). d.trees) (sym it.opened.0.clean) in
       record {
         is = (it.opened.1 it.opened.0.is_open).0;
         holds = λ db held. sym same ∙ it.found.holds db held;
         reads = subst (AreFoundIn image) same it.found.reads;
       }
 
-  module _ (again : HasCleanDisk (file_state first) → (V : Vault) → Keeps image V → Holds (file_state first) V) where
+  module _ (again : HasCleanDisk (file_state first)
+      → (V : Vault) → Keeps image V → Holds (file_state first) V) where
     -- an open that succeeds
     pub opens_from : (conn : Held (FileStore D g))
-        → (HasCleanDisk (file_state first) → (V W : Vault) → KeepsEither image V W → ∥ (Holds (file_state first) V ⊎ Holds (file_state first) W) ∥₁)
-        → (HasCleanDisk (file_state conn) → Opens (file_state first) (file_state conn)) → OpensFrom image conn
+        → (HasCleanDisk (file_state first) → (V W : Vault) → KeepsEither image V W
+        → ∥ (Holds (file_state first) V ⊎ Holds (file_state first) W) ∥₁)
+        → (HasCleanDisk (file_state conn) → Opens (file_state first) (file_state conn))
+        → OpensFrom image conn
     opens_from conn either opens =
-        let on : HasCleanDisk (file_state conn) → (V : Vault) → Sound V → Holds (file_state first) V → Holds (file_state conn) V = λ clean V sound held.
-        (opens clean).same (ours_of (file_state first).now (stands_sound (file_state first) V sound held)) V held.stands in
+        let on : HasCleanDisk (file_state conn) → (V : Vault) → Sound V → Holds (file_state first) V
+        → Holds (file_state conn) V = λ clean V sound held.
+        let ours = ours_of (file_state first).now (stands_sound (file_state first) V sound held) in
+        (opens clean).same ours V held.stands in
         record {
           first = first;
           found = found;
@@ -88,10 +96,12 @@ module _ {D : Type 0} {g : Ghosts D} (image : Image) (first : Held (FileStore D 
           ]);
         }
 
-    -- An open or a check that fails with this fault. Where the disk is clean after it, and the fault is one of the
-    -- schema or the rows, there were tables, so the disk was clean before it.
-    module _ (last : Held (FileStore D g)) (e : OpenFault) (never : HasCleanDisk (file_state last) → IsFit (file_state first).now → IsNoRefusal e)
-        (quiet : ((file_state first).now.schema ≡ no_schema → ⊥) → doubt (file_state first).is_clean ≤ doubt (file_state last).is_clean)
+    -- An open or a check that fails with this fault. Where the disk is clean after it, and the fault is
+    -- one of the schema or the rows, there were tables, so the disk was clean before it.
+    module _ (last : Held (FileStore D g)) (e : OpenFault)
+        (never : HasCleanDisk (file_state last) → IsFit (file_state first).now → IsNoRefusal e)
+        (quiet : ((file_state first).now.schema ≡ no_schema → ⊥)
+        → doubt (file_state first).is_clean ≤ doubt (file_state last).is_clean)
         (clean : HasCleanDisk (file_state last)) where
       was_clean : ((file_state first).now.schema ≡ no_schema → ⊥) → HasCleanDisk (file_state first)
       was_clean some = omega (arith, quiet some, clean)
@@ -106,7 +116,10 @@ module _ {D : Type 0} {g : Ghosts D} (image : Image) (first : Held (FileStore D 
           )
 
       pub found_wrong : (n : ℤ) → Fault e ≡ Fault (WrongSchema n) → IsFoundIn image (file_state first).now
-      found_wrong n same = found_in (was_clean (λ blank. (never clean (inr blank)).0 n (same_fault e (WrongSchema n) same)))
+      found_wrong n same =
+          found_in (was_clean (λ blank. (never clean (inr blank)).0 n (same_fault e (WrongSchema n) same)))
 
-      pub found_damaged : (rule : ℕ) → Fault e ≡ Fault (Damaged rule) → IsFoundIn image (file_state first).now
-      found_damaged rule same = found_in (was_clean (λ blank. (never clean (inr blank)).1 rule (same_fault e (Damaged rule) same)))
+      pub found_damaged : (rule : ℕ) → Fault e ≡ Fault (Damaged rule)
+          → IsFoundIn image (file_state first).now
+      found_damaged rule same =
+          found_in (was_clean (λ blank. (never clean (inr blank)).1 rule (same_fault e (Damaged rule) same)))

@@ -45,8 +45,8 @@ abbrev pub HasSizes : Database → Sizes → Type 0
 HasSizes db sizes = (db.schema ≡ no_schema) × (sizes ≡ sizes_of empty_vault) ⊎ IsSoundOf db sizes
 
 module _ {D : Type 0} {g : Ghosts D} where
-  -- A connection was opened over files with these bytes, and this one comes from opening the vault there. What a
-  -- stop left is found: a vault that the bytes keep is held, and of two that they may keep one.
+  -- A connection was opened over files with these bytes, and this one comes from opening the vault there.
+  -- What a stop left is found: a vault that the bytes keep is held, and of two that they may keep one.
   pub record OpensFrom (image : Image) (conn : Held (FileStore D g)) : Type 0 where
     pub first : Held (FileStore D g)
     pub found : HasCleanDisk (file_state first) → IsOpenOf image first

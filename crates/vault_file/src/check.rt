@@ -18,9 +18,9 @@ use vault_recover::fault::OpenFault;
 use vault_recover::reopen::close;
 use vault_recover::sizes::Sizes;
 
-/// Checks the file at a path whole, and says how much the vault in it holds. The connection is given back, and with
-/// a refusal where there is one. The vault is not written. A file that isn't there is made, as `open_from` makes it,
-/// and is the empty vault.
+/// Checks the file at a path whole, and says how much the vault in it holds. The connection is given back,
+/// and with a refusal where there is one. The vault is not written. A file that isn't there is made, as
+/// `open_from` makes it, and is the empty vault.
 ///
 /// Refused by 30 to 34 as `open_from` refuses.
 pub fn check_from<S: Start>(
@@ -37,10 +37,12 @@ pub fn check_from<S: Start>(
     ensures kept { IfOk result (λ told. HasCleanDisk (file_state told.1)
         → (V : Content) → Sound V → Keeps (image_at S.Start) V → Holds (file_state told.1) V) }
     ensures refused { IfErr result (λ e. (e.0 ≡ NotOpened.Refused) ↔ (e.1 ≡ None)) }
-    ensures damaged { IfErr result (λ e. IfSome e.1 (λ conn. HasCleanDisk (file_state conn) → (rule : ℕ)
-        → e.0 ≡ NotOpened.Fault (OpenFault.Damaged rule) → HoldsSuch (image_at S.Start) (λ db. IsKnown db → IsLeastBroken db rule))) }
-    ensures wrong { IfErr result (λ e. IfSome e.1 (λ conn. HasCleanDisk (file_state conn) → (n : ℤ)
-        → e.0 ≡ NotOpened.Fault (OpenFault.WrongSchema n) → HoldsSuch (image_at S.Start) (λ db. IsKnown db → IsWrong db n))) }
+    ensures damaged { IfErr result (λ e. IfSome e.1 (λ conn. HasCleanDisk (file_state conn)
+        → (rule : ℕ) → e.0 ≡ NotOpened.Fault (OpenFault.Damaged rule)
+        → HoldsSuch (image_at S.Start) (λ db. IsKnown db → IsLeastBroken db rule))) }
+    ensures wrong { IfErr result (λ e. IfSome e.1 (λ conn. HasCleanDisk (file_state conn)
+        → (n : ℤ) → e.0 ≡ NotOpened.Fault (OpenFault.WrongSchema n)
+        → HoldsSuch (image_at S.Start) (λ db. IsKnown db → IsWrong db n))) }
     ensures never { IfErr result (λ e. IfSome e.1 (λ conn. HasCleanDisk (file_state conn)
         → (V : Content) → Sound V → Keeps (image_at S.Start) V → IsNoVerdict e.0)) }
 {

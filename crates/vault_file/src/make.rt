@@ -24,8 +24,8 @@ fn is_no_path(path: &str) -> bool
     path.is_empty() || path == ":memory:" || path.starts_with("file:")
 }
 
-/// Makes an empty file that its owner alone may read and write, whatever the umask takes away. What has the name
-/// already stays as it is.
+/// Makes an empty file that its owner alone may read and write, whatever the umask takes away. What has the
+/// name already stays as it is.
 fn make_private(rt: &HostRuntime, path: &str) -> io::Result<()> {
     match OpenOptions::new()
         .read(true)
@@ -50,8 +50,11 @@ pub(crate) fn open_private<S: Start>(
     ensures idle { IfSome result (λ c. c.in_transaction ≡ false) }
     ensures unlimited { IfSome result (λ c. c.step_limit ≡ None) }
     ensures opened { IfSome result (λ c. HasCleanDisk (file_state c) → IsOpenOf (image_at S.Start) c) }
-    ensures again { IfSome result (λ c. HasCleanDisk (file_state c) → (V : Vault) → Keeps (image_at S.Start) V → Holds (file_state c) V) }
-    ensures either { IfSome result (λ c. HasCleanDisk (file_state c) → (V W : Vault) → KeepsEither (image_at S.Start) V W → ∥ (Holds (file_state c) V ⊎ Holds (file_state c) W) ∥₁) }
+    ensures again { IfSome result (λ c. HasCleanDisk (file_state c)
+        → (V : Vault) → Keeps (image_at S.Start) V → Holds (file_state c) V) }
+    ensures either { IfSome result (λ c. HasCleanDisk (file_state c)
+        → (V W : Vault) → KeepsEither (image_at S.Start) V W
+        → ∥ (Holds (file_state c) V ⊎ Holds (file_state c) W) ∥₁) }
 {
     if is_no_path(path) {
         return None;

@@ -28,14 +28,14 @@ pub type TablesFrom<S> = SqlTables<FileStore<FileFrom<S>>>;
 /// The tables in the file at a path.
 pub type FileTables = TablesFrom<Unknown>;
 
-/// Opens the vault in the file at a path. A file that isn't there is made, empty, for its owner alone to read and
-/// write, and so is its log; a file that is there keeps its mode. An empty file gets the tables of the empty vault.
-/// A refusal comes with the connection, where there is one.
+/// Opens the vault in the file at a path. A file that isn't there is made, empty, for its owner alone to
+/// read and write, and so is its log; a file that is there keeps its mode. An empty file gets the tables
+/// of the empty vault. A refusal comes with the connection, where there is one.
 ///
-/// Refused by 34 where the words name no file, or one that is open already, isn't a regular file with one name, can't
-/// be made, read and written, or is no database; and also where memory ran out before there was a connection, which
-/// looks the same. Such a file is as it was, but beside one that is no database an empty log may stay: to take it
-/// away isn't safe, since a program that opens the file now may use it.
+/// Refused by 34 where the words name no file, or one that is open already, isn't a regular file with one
+/// name, can't be made, read and written, or is no database; and also where memory ran out before there
+/// was a connection, which looks the same. Such a file is as it was, but beside one that is no database an
+/// empty log may stay: to take it away isn't safe, since a program that opens the file now may use it.
 /// Refused by 30 to 33 as `vault_recover::open` refuses.
 pub fn open_from<S: Start>(
     rt: &HostRuntime,
@@ -46,10 +46,12 @@ pub fn open_from<S: Start>(
     ensures fresh { IfOk result (λ vault. (is_broken vault ≡ false) × ((tables_of vault).failed ≡ false)) }
     ensures found { IfOk result (λ vault. OpensFrom (image_at S.Start) (tables_of vault).conn) }
     ensures refused { IfErr result (λ e. (e.0 ≡ NotOpened.Refused) ↔ (e.1 ≡ None)) }
-    ensures damaged { IfErr result (λ e. IfSome e.1 (λ conn. HasCleanDisk (file_state conn) → (rule : ℕ)
-        → e.0 ≡ NotOpened.Fault (OpenFault.Damaged rule) → HoldsSuch (image_at S.Start) (λ db. IsKnown db → IsLeastBroken db rule))) }
-    ensures wrong { IfErr result (λ e. IfSome e.1 (λ conn. HasCleanDisk (file_state conn) → (n : ℤ)
-        → e.0 ≡ NotOpened.Fault (OpenFault.WrongSchema n) → HoldsSuch (image_at S.Start) (λ db. IsKnown db → IsWrong db n))) }
+    ensures damaged { IfErr result (λ e. IfSome e.1 (λ conn. HasCleanDisk (file_state conn)
+        → (rule : ℕ) → e.0 ≡ NotOpened.Fault (OpenFault.Damaged rule)
+        → HoldsSuch (image_at S.Start) (λ db. IsKnown db → IsLeastBroken db rule))) }
+    ensures wrong { IfErr result (λ e. IfSome e.1 (λ conn. HasCleanDisk (file_state conn)
+        → (n : ℤ) → e.0 ≡ NotOpened.Fault (OpenFault.WrongSchema n)
+        → HoldsSuch (image_at S.Start) (λ db. IsKnown db → IsWrong db n))) }
     ensures never { IfErr result (λ e. IfSome e.1 (λ conn. HasCleanDisk (file_state conn)
         → (V : Content) → Sound V → Keeps (image_at S.Start) V → IsNoVerdict e.0)) }
 {
@@ -62,9 +64,9 @@ pub fn open_from<S: Start>(
     }
 }
 
-/// Opens the vault in the file at a path, and refuses as `open_from` does. Torn writes are read as SQLite reads them:
-/// each byte is the old one or the new one. `found` is said here of a file that was empty; `open_from` says it of
-/// every other.
+/// Opens the vault in the file at a path, and refuses as `open_from` does. Torn writes are read as SQLite
+/// reads them: each byte is the old one or the new one. `found` is said here of a file that was empty;
+/// `open_from` says it of every other.
 pub fn open_vault(rt: &HostRuntime, path: &str) -> Result<Vault<FileTables>, NotOpened>
     ensures no_path { IsNoPath path.now → result ≡ Err NotOpened.Refused }
     ensures fresh { IfOk result (λ vault. (is_broken vault ≡ false) × ((tables_of vault).failed ≡ false)) }
@@ -79,7 +81,8 @@ pub fn open_vault(rt: &HostRuntime, path: &str) -> Result<Vault<FileTables>, Not
 /// Ends a vault, and gives its files back. Whoever opens them after a stop finds the vault that was held.
 pub fn close_files<D: Disk + Drop>(vault: Vault<SqlTables<FileStore<D>>>) -> FileStore<D>
     ensures clean { doubt (file_state (tables_of vault).conn).is_clean ≤ doubt (view result).is_clean }
-    ensures before { IsClean (view result) → (V : Content) → Contains AreHeld vault V → Reopens (tables_of vault).conn.store V }
+    ensures before { IsClean (view result)
+        → (V : Content) → Contains AreHeld vault V → Reopens (tables_of vault).conn.store V }
     ensures after { IsClean (view result) → (V : Content) → Contains AreHeld vault V → Reopens result V }
 {
     close(vault.into_tables().into_connection())

@@ -1,21 +1,24 @@
 use Rattle.std.proofs.Common.{arith}
 use Rattle.sqlite.specs.Files.{file_state}
 use Rattle.sqlite_wal.specs.Files.{image_at}
-use Rattle.vault_file.proofs.Opening.{found_damaged, found_in, found_wrong, never_kept, same_fault, still_held, there}
+use Rattle.vault_file.proofs.Opening.{found_damaged, found_in, found_wrong, never_kept}
+use Rattle.vault_file.proofs.Opening.{same_fault, still_held, there}
 use Rattle.vault_file.proofs.check.check_from.Goals as goal
 use Rattle.vault_recover.specs.declared.fault.OpenFault.TheVariants.{WrongSchema, Damaged}
 
 pub returns-in-Ok-clause-sizes : goal.returns-in-Ok-clause-sizes
 returns-in-Ok-clause-sizes g c clean = (
   (file_state c.in-Some.conn).now,
-  found_in (image_at g.S.Start) c.in-Some.conn c.in-Some.ensures.opened (omega (arith, c.check.ensures.quiet.clean, clean)),
+  found_in (image_at g.S.Start) c.in-Some.conn c.in-Some.ensures.opened
+      (omega (arith, c.check.ensures.quiet.clean, clean)),
   c.in-Ok.ensures.sound clean,
 )
 
 pub returns-in-Ok-clause-kept : goal.returns-in-Ok-clause-kept
 returns-in-Ok-clause-kept g c clean V sound keeps =
     let held = c.in-Some.ensures.again (omega (arith, c.check.ensures.quiet.clean, clean)) V keeps in
-    still_held (file_state c.in-Some.conn) (file_state c.check.new.conn) (c.in-Ok.ensures.kept clean held.schema) c.check.ensures.quiet.limit V held
+    still_held (file_state c.in-Some.conn) (file_state c.check.new.conn)
+    (c.in-Ok.ensures.kept clean held.schema) c.check.ensures.quiet.limit V held
 
 pub returns-in-Err-clause-no_path : goal.returns-in-Err-clause-no_path
 returns-in-Err-clause-no_path g c none = absurd (there c.in-Some.conn (c.in-Some.ensures.no_path none))
@@ -23,7 +26,9 @@ returns-in-Err-clause-no_path g c none = absurd (there c.in-Some.conn (c.in-Some
 pub returns-in-Err-clause-damaged : goal.returns-in-Err-clause-damaged
 returns-in-Err-clause-damaged g c clean rule same = (
   (file_state c.in-Some.conn).now,
-  found_damaged (image_at g.S.Start) c.in-Some.conn c.in-Some.ensures.opened c.in-Some.ensures.again c.check.new.conn c.in-Err.fault
+  found_damaged (image_at g.S.Start) c.in-Some.conn
+      c.in-Some.ensures.opened c.in-Some.ensures.again
+      c.check.new.conn c.in-Err.fault
       c.in-Err.ensures.never (λ some. c.check.ensures.quiet.clean) clean rule same,
   c.in-Err.ensures.damaged clean rule (same_fault c.in-Err.fault (Damaged rule) same),
 )
@@ -31,12 +36,16 @@ returns-in-Err-clause-damaged g c clean rule same = (
 pub returns-in-Err-clause-wrong : goal.returns-in-Err-clause-wrong
 returns-in-Err-clause-wrong g c clean n same = (
   (file_state c.in-Some.conn).now,
-  found_wrong (image_at g.S.Start) c.in-Some.conn c.in-Some.ensures.opened c.in-Some.ensures.again c.check.new.conn c.in-Err.fault
+  found_wrong (image_at g.S.Start) c.in-Some.conn
+      c.in-Some.ensures.opened c.in-Some.ensures.again
+      c.check.new.conn c.in-Err.fault
       c.in-Err.ensures.never (λ some. c.check.ensures.quiet.clean) clean n same,
   c.in-Err.ensures.wrong clean n (same_fault c.in-Err.fault (WrongSchema n) same),
 )
 
 pub returns-in-Err-clause-never : goal.returns-in-Err-clause-never
 returns-in-Err-clause-never g c clean V sound keeps =
-    never_kept (image_at g.S.Start) c.in-Some.conn c.in-Some.ensures.opened c.in-Some.ensures.again c.check.new.conn c.in-Err.fault
+    never_kept (image_at g.S.Start) c.in-Some.conn
+    c.in-Some.ensures.opened c.in-Some.ensures.again
+    c.check.new.conn c.in-Err.fault
     c.in-Err.ensures.never (λ some. c.check.ensures.quiet.clean) clean V sound keeps

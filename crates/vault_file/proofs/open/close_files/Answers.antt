@@ -13,10 +13,12 @@ use Rattle.vault_file.proofs.open.close_files.Goals as goal
 same : (g : Over) (c : goal.After-close g) → c.into_connection.result ≡ (tables_of c.args.vault).conn
 same g c = c.into_connection.ensures ∙ ap (λ t. t.conn) c.into_tables.ensures
 
-held : (g : Over) (c : goal.After-close g) → IsClean (view c.close.result) → (V : Vault) → Contains AreHeld c.args.vault V
+held : (g : Over) (c : goal.After-close g) → IsClean (view c.close.result)
+    → (V : Vault) → Contains AreHeld c.args.vault V
     → Holds (file_state c.into_connection.result) V
 held g c clean V contains =
-    subst (λ h. HasCleanDisk (file_state h) → Holds (file_state h) V) (sym (same g c)) contains.0.1 (omega (arith, c.close.ensures.clean, clean))
+    subst (λ h. HasCleanDisk (file_state h) → Holds (file_state h) V) (sym (same g c)) contains.0.1
+    (omega (arith, c.close.ensures.clean, clean))
 
 pub returns-clause-before : goal.returns-clause-before
 returns-clause-before g c clean V contains =

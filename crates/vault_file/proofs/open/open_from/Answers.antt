@@ -16,7 +16,9 @@ returns-in-Err-clause-no_path g c none = absurd (there c.in-Some.conn (c.in-Some
 pub returns-in-Err-clause-damaged : goal.returns-in-Err-clause-damaged
 returns-in-Err-clause-damaged g c clean rule same = (
   (file_state c.in-Some.conn).now,
-  found_damaged (image_at g.S.Start) c.in-Some.conn c.in-Some.ensures.opened c.in-Some.ensures.again c.in-Err.refusal.1 c.in-Err.refusal.0
+  found_damaged (image_at g.S.Start) c.in-Some.conn
+      c.in-Some.ensures.opened c.in-Some.ensures.again
+      c.in-Err.refusal.1 c.in-Err.refusal.0
       c.in-Err.ensures.never (λ some. (c.in-Err.ensures.quiet some).clean) clean rule same,
   c.in-Err.ensures.damaged clean rule (same_fault c.in-Err.refusal.0 (Damaged rule) same),
 )
@@ -24,12 +26,16 @@ returns-in-Err-clause-damaged g c clean rule same = (
 pub returns-in-Err-clause-wrong : goal.returns-in-Err-clause-wrong
 returns-in-Err-clause-wrong g c clean n same = (
   (file_state c.in-Some.conn).now,
-  found_wrong (image_at g.S.Start) c.in-Some.conn c.in-Some.ensures.opened c.in-Some.ensures.again c.in-Err.refusal.1 c.in-Err.refusal.0
+  found_wrong (image_at g.S.Start) c.in-Some.conn
+      c.in-Some.ensures.opened c.in-Some.ensures.again
+      c.in-Err.refusal.1 c.in-Err.refusal.0
       c.in-Err.ensures.never (λ some. (c.in-Err.ensures.quiet some).clean) clean n same,
   c.in-Err.ensures.wrong clean n (same_fault c.in-Err.refusal.0 (WrongSchema n) same),
 )
 
 pub returns-in-Err-clause-never : goal.returns-in-Err-clause-never
 returns-in-Err-clause-never g c clean V sound keeps =
-    never_kept (image_at g.S.Start) c.in-Some.conn c.in-Some.ensures.opened c.in-Some.ensures.again c.in-Err.refusal.1 c.in-Err.refusal.0
+    never_kept (image_at g.S.Start) c.in-Some.conn
+    c.in-Some.ensures.opened c.in-Some.ensures.again
+    c.in-Err.refusal.1 c.in-Err.refusal.0
     c.in-Err.ensures.never (λ some. (c.in-Err.ensures.quiet some).clean) clean V sound keeps
