@@ -1,0 +1,111 @@
+# Steps that a script takes with the program, one line each. The scripts of examples/ read it; they are called
+# with the program as their first argument; left out, it is where `rt run` and the gate leave it.
+here=$(cd "$(dirname "$0")" && pwd)
+program=${1:-$here/../crates/vault_cli/out/vault_cli}
+case $program in
+/*) ;;
+*) program=$PWD/$program ;;
+esac
+if [ ! -x "$program" ]; then
+    echo "no program at $program: sh build.sh builds it, and its path may be given"
+    echo "0 passed, 1 failed"
+    exit 1
+fi
+
+passed=0
+failed=0
+service=
+folder=$(mktemp -d)
+trap 'stop_service; rm -rf "$folder"' EXIT
+trap 'exit 1' HUP INT TERM
+cd "$folder" || exit 1
+
+# A service that is still there at the end is ended.
+stop_service() {
+    [ -z "$service" ] || kill "$service" 2> /dev/null || true
+    service=
+}
+
+# One step: its name, what is wanted as a pattern of the shell, and what came.
+step() {
+    case $3 in
+    $2)
+        passed=$((passed + 1))
+        echo "ok      $1: $3"
+        ;;
+    *)
+        failed=$((failed + 1))
+        echo "FAILED  $1: wanted $2"
+        echo "        but came $3"
+        ;;
+    esac
+}
+
+# What a command says on both streams, and then its exit status.
+told() {
+    code=0
+    "$@" > told.out 2>&1 || code=$?
+    said=$(tr '\n' '|' < told.out)
+    echo "${said%|} ($code)"
+}
+
+# Waits for a tenth of a second.
+pause() {
+    sleep 0.1 2> /dev/null || sleep 1
+}
+
+# Starts a service of so many connections over a file, on a free port, and waits for its line.
+start_service() {
+    : > listening
+    "$program" serve --connections "$1" --port 0 "$2" > listening 2> service.err &
+    service=$!
+    port=
+    tries=0
+    while [ -z "$port" ] && [ "$tries" -lt 100 ]; do
+        pause
+        port=$(sed -n 's/^listening \([0-9][0-9]*\)$/\1/p' listening)
+        tries=$((tries + 1))
+    done
+    step "a service says its port" 'listening [0-9]*' "$(cat listening service.err)"
+}
+
+# Asks the service as a caller: the caller, the method, the target, and what else curl is to be told. Answers
+# the body, and then the status.
+ask() {
+    caller=$1 method=$2 target=$3
+    shift 3
+    curl -sS --noproxy '*' --max-time 20 -w ' %{http_code}' -X "$method" -H "X-Vault-Caller: $caller" "$@" \
+        "http://127.0.0.1:$port$target" 2>&1 || true
+}
+
+# Asks for a single-use token of a card number, with a request number.
+ask_token() {
+    ask till-1 POST /v1/merchants/shop1/tokens -H "X-Vault-Request: $1" \
+        --data '{"number":"4111111111111111","use":"single"}'
+}
+
+# The token in an answer.
+token_of() {
+    echo "$1" | sed -n 's/.*"token":"\([0-9]*\)".*/\1/p'
+}
+
+install_curl() {
+    apt-get install -y curl || { apt-get update && apt-get install -y curl; } || apk add curl
+}
+
+# Makes sure that curl is there.
+need_curl() {
+    command -v curl > /dev/null && return
+    install_curl > curl.log 2>&1 || true
+    command -v curl > /dev/null && return
+    echo "curl is missing and couldn't be installed: 'apt-get install curl' or 'apk add curl' does it"
+    failed=$((failed + 1))
+    end
+}
+
+# Counts the steps, and ends.
+end() {
+    echo "$passed passed, $failed failed"
+    [ "$failed" -eq 0 ] || exit 1
+    exit 0
+}

@@ -1,0 +1,112 @@
+#!/bin/sh
+# The exit statuses of the program with their lines, the modes of the files that it makes, and a service that
+# is killed. sh examples/statuses.sh [PROGRAM]
+set -eu
+. "$(dirname "$0")/shared/steps.sh"
+need_curl
+
+# What a command says on standard error, with standard output where nothing can be written.
+told_full() {
+    code=0
+    "$@" > /dev/full 2> told.err || code=$?
+    echo "$(cat told.err) ($code)"
+}
+
+# The permissions of a file.
+mode() {
+    ls -l "$1" | cut -c 1-10
+}
+
+# 0
+step "0: a file that isn't there is made" 'sound 0 0 0 (0)' "$(told "$program" check new.db)"
+step "0: help" 'Keeps card numbers*' "$(told "$program" help)"
+step "0: a merchant" 'done (0)' "$(told "$program" merchant shop.db shop1 86400 0)"
+step "0: a right" 'done (0)' "$(told "$program" grant shop.db till-1 shop1 tokenize)"
+step "0: a right is taken away" 'done (0)' "$(told "$program" withdraw shop.db till-1 shop1 view)"
+step "0: nothing is asked in a pipe" ' (0)' "$(told "$program" pipe shop.db < /dev/null)"
+
+# 1
+step "1: a bad name" 'refused 4 (1)' "$(told "$program" merchant none.db Shop1 60 0)"
+step "1: a word that is no right" 'refused 71 (1)' "$(told "$program" grant none.db till-1 shop1 sell)"
+step "1: and no file is made" 'none' "$([ -e none.db ] && echo made || echo none)"
+step "1: a merchant that isn't known" 'refused 7 (1)' "$(told "$program" grant shop.db till-1 shop2 view)"
+
+# 2
+step "2: no word" 'vault: bad words (2)' "$(told "$program")"
+step "2: a word that is none" 'vault: bad words (2)' "$(told "$program" trail)"
+step "2: connections are missing" 'vault: bad words (2)' "$(told "$program" serve shop.db)"
+step "2: a port that is none" 'vault: bad words (2)' \
+    "$(told "$program" serve --connections 1 --port 65536 shop.db)"
+
+# 3
+echo 'A line of text, and no database.' > text
+mkdir folder
+step "3: a text" 'vault: file not opened 34 (3)' "$(told "$program" check text)"
+step "3: it stays as it was" 'A line of text, and no database.' "$(cat text)"
+step "3: a folder" 'vault: file not opened 34 (3)' "$(told "$program" check folder)"
+step "3: a path into nowhere" 'vault: file not opened 34 (3)' "$(told "$program" check nowhere/vault.db)"
+step "3: no name of a file" 'vault: file not opened 34 (3)' "$(told "$program" pipe :memory:)"
+start_service 100 shop.db
+step "3: a file that is in use" 'vault: file not opened 34 (3)' "$(told "$program" check shop.db)"
+
+# 4
+step "4: a port that is taken" 'vault: stopped 80 (4)' \
+    "$(told "$program" serve --connections 1 --port "$port" new.db)"
+step "4: a full disk behind the output" 'vault: stopped 62 (4)' "$(told_full "$program" check new.db)"
+step "4: a closed output" 'vault: stopped 62 (4)' "$(
+    code=0
+    "$program" check new.db >&- 2> told.err || code=$?
+    echo "$(cat told.err) ($code)"
+)"
+step "4: and the file is as it was" 'sound 0 0 0 (0)' "$(told "$program" check new.db)"
+step "4: an input that can't be read" 'vault: stopped 61 (4)' "$(told "$program" pipe new.db < folder)"
+step "4: the 1001st message" 'vault: stopped 60 (4)' "$(
+    i=0
+    while [ "$i" -le 1000 ]; do
+        printf 'GET /v1/merchants/shop1/audit HTTP/1.1\r\n\r\n'
+        i=$((i + 1))
+    done | {
+        code=0
+        "$program" pipe new.db > answers 2> told.err || code=$?
+        echo "$(cat told.err) ($code)"
+    }
+)"
+step "4: a thousand were answered" '1000' "$(tr '{' '\n' < answers | grep -c '^"refused":58}')"
+
+# Modes
+for mask in 000 0777; do
+    made=$(umask "$mask" && "$program" check "mode$mask.db" 2>&1 || true)
+    step "a file made under umask $mask" 'sound 0 0 0 -rw-------' "$made $(mode "mode$mask.db")"
+done
+: > open.db
+chmod 644 open.db
+step "an existing file keeps its mode" 'sound 0 0 0 -rw-r--r--' "$("$program" check open.db) $(mode open.db)"
+
+# A service is killed among requests. What it answered is answered again by the next one.
+: > before
+request=0
+while [ "$request" -lt 90 ]; do
+    request=$((request + 1))
+    [ "$request" -ne 20 ] || kill -9 "$service" &
+    answer=$(ask_token "$request")
+    case $answer in
+    *' 200') echo "$request $answer" >> before ;;
+    *) break ;;
+    esac
+done
+wait "$service" 2> /dev/null || true
+service=
+answered=$(wc -l < before | tr -d ' ')
+step "a service that is killed at its 20th request or after had answered" '[1-9][0-9]' "$answered"
+start_service "$answered" shop.db
+: > after
+while read -r request answer; do
+    echo "$request $(ask_token "$request")" >> after
+done < before
+step "the next one answers the same" 'the same' "$(cmp before after && echo 'the same')"
+code=0
+wait "$service" || code=$?
+service=
+step "and ends" '0' "$code"
+step "no answer was lost" "sound 1 * (0)" "$(told "$program" check shop.db)"
+end
