@@ -1,5 +1,5 @@
+pub mod Flushing
 pub mod Lines
-pub mod Parsed
+pub mod Moments
 pub mod Stops
-pub mod Trials
-pub mod Values
+pub mod Telling

@@ -1,29 +1,28 @@
--- The lines by which the program tells why it stopped.
-use Rattle.std.proofs.Common.{◌≡◌, codes, refl}
-use Rattle.std.specs.Fmt.{digits}
-use Rattle.vault_cli.specs.Told.{stop_line}
+-- The line that says that a file isn't opened.
+use Rattle.std.proofs.Common.{◌≡◌, ℕ, ℤ, List, [], ◌++◌, Option, Some, None, codes, decimal}
+use Rattle.std.proofs.Common.{sym, ◌∙◌, ap, append-nil}
+use Rattle.vault_file.specs.Faults.{detail_of, number_of}
+use Rattle.vault_file.specs.declared.fault.NotOpened.{NotOpened}
+use Rattle.vault_cli.specs.Ending.{detail_text, not_opened_line}
 
--- no memory before there was a job
-pub line_20 : codes "vault: stopped 20\n" ≡ stop_line 20
-unfolding digits
-line_20 = refl
+-- what stands before the detail
+abbrev front_of : ℕ → List ℕ
+front_of n = codes "vault: file not opened " ++ decimal n
 
-pub line_60 : codes "vault: stopped 60\n" ≡ stop_line 60
-unfolding digits
-line_60 = refl
+-- the line with this number and this detail
+whole : (f : NotOpened) (n : ℕ) (detail : Option ℤ) → n ≡ number_of f → detail_of f ≡ detail
+    → front_of n ++ detail_text detail ++ codes "\n" ≡ not_opened_line f
+whole f n detail number is =
+    ap (λ k. front_of k ++ detail_text detail ++ codes "\n") number
+    ∙ ap (λ d. front_of (number_of f) ++ detail_text d ++ codes "\n") (sym is)
 
-pub line_61 : codes "vault: stopped 61\n" ≡ stop_line 61
-unfolding digits
-line_61 = refl
+-- there is none
+pub without_detail : (f : NotOpened) (n : ℕ) → n ≡ number_of f → detail_of f ≡ None
+    → front_of n ++ codes "\n" ≡ not_opened_line f
+without_detail f n number is =
+    ap (λ text. text ++ codes "\n") (sym (append-nil (front_of n))) ∙ whole f n None number is
 
-pub line_62 : codes "vault: stopped 62\n" ≡ stop_line 62
-unfolding digits
-line_62 = refl
-
-pub line_63 : codes "vault: stopped 63\n" ≡ stop_line 63
-unfolding digits
-line_63 = refl
-
-pub line_64 : codes "vault: stopped 64\n" ≡ stop_line 64
-unfolding digits
-line_64 = refl
+-- there is one
+pub with_detail : (f : NotOpened) (n : ℕ) (m : ℤ) → n ≡ number_of f → detail_of f ≡ Some m
+    → front_of n ++ detail_text (Some m) ++ codes "\n" ≡ not_opened_line f
+with_detail f n m number is = whole f n (Some m) number is

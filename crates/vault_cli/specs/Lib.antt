@@ -1,6 +1,7 @@
-pub mod Digits
-pub mod Jobs
+pub mod Carried
+pub mod Ending
+pub mod Piped
 pub mod Ran
+pub mod Tasks
 pub mod Told
-pub mod Tree
 pub mod Trial

@@ -1,5 +1,5 @@
 -- The vault of a trial, and what a trial does with its input.
-use Rattle.std.specs.Prelude.{◌≡◌, ℕ, List, [], ◌∷◌, ◌++◌, length, map, take, replicate, false}
+use Rattle.std.specs.Prelude.{◌≡◌, ℕ, List, [], ◌∷◌, ◌++◌, length, map, take, All, false}
 use Rattle.std.specs.Prelude.{Option, Some, None}
 use Rattle.std.specs.Io.KnownBytes.{Appends, Consumes, IsAtEnd}
 use Rattle.vault_core.specs.Table.{after}
@@ -9,9 +9,11 @@ use Rattle.vault_core.specs.declared.command.Command.TheVariants.{SetMerchant, G
 use Rattle.vault_core.specs.declared.right.Right.{Right}
 use Rattle.vault_core.specs.declared.right.Right.TheVariants.{Tokenize, Detokenize, View}
 use Rattle.vault_core.specs.declared.right.Right.TheVariants.{Revoke, Purge, Audit}
+use Rattle.vault_live.specs.Live.{IsPairOf}
 use Rattle.vault_wire.specs.Messages.{Request, Reads}
 use Rattle.vault_wire.specs.declared.fault.WireFault.{WireFault}
-use Rattle.vault_http.specs.Exchanges.{Exchange, AskFirst, has_close, last_text, shown, texts, up_to_close}
+use Rattle.vault_http.specs.Exchanges.{AskFirst, Exchange, Pair, has_close, last_text, shown, texts}
+use Rattle.vault_http.specs.Exchanges.{up_to_close}
 use Rattle.vault_http.specs.Served.{Begins, answered_fault}
 
 -- all rights
@@ -42,18 +44,20 @@ abbrev pub Known : Type 0
 Known = Option (List ℕ)
 
 -- The bytes that were read are messages, and an open rest or a fault. All messages up to the first that
--- closes are asked, each with the same moment and digits; what went out is the texts that answer them, each
--- by the vault that those before it leave, and then the one that answers the fault; and where nothing closes,
--- no byte is left.
-pub record IsTrial
-    (left_old left_new sent_old sent_new : Known) (V : Content) (now : ℕ) (drawn : List ℕ) : Type 0 where
+-- closes are asked, each with a pair of the fixed moment and digits, where these are fixed; what went out is
+-- the texts that answer them, each by the vault that those before it leave, and then the one that answers
+-- the fault; and where nothing closes, no byte is left.
+pub record IsTrial (left_old left_new sent_old sent_new : Known) (V : Content)
+    (now : Option ℕ) (digits : Option (List ℕ)) : Type 0 where
   pub bytes : List ℕ
   pub messages : List Request
   pub fault : Option WireFault
+  pub pairs : List Pair
   pub exchanges : List Exchange
   pub read : Consumes left_old left_new bytes
   pub reads : Reads bytes messages fault
-  pub asked : AskFirst (up_to_close (shown messages)) (replicate (length exchanges) (now, drawn)) exchanges
+  pub fixed : All (IsPairOf now digits) pairs
+  pub asked : AskFirst (up_to_close (shown messages)) pairs exchanges
   pub whole : length exchanges ≡ length (up_to_close (shown messages))
   pub ended : has_close (shown messages) ≡ false → fault ≡ None → IsAtEnd left_new
   pub sent : Appends sent_old sent_new (texts V exchanges ++ last_text (answered_fault messages fault))
@@ -68,15 +72,17 @@ IsLast bytes messages exchanges (Some e) =
 -- The bytes that were read begin with messages. The first of them, up to the first that closes at most, are
 -- asked as in a trial, and of the texts that answer them, and the one that answers a fault after them, a
 -- beginning went out.
-pub record IsCut
-    (left_old left_new sent_old sent_new : Known) (V : Content) (now : ℕ) (drawn : List ℕ) : Type 0 where
+pub record IsCut (left_old left_new sent_old sent_new : Known) (V : Content)
+    (now : Option ℕ) (digits : Option (List ℕ)) : Type 0 where
   pub bytes : List ℕ
   pub messages : List Request
+  pub pairs : List Pair
   pub exchanges : List Exchange
   pub last : Option WireFault
   pub count : ℕ
   pub read : Consumes left_old left_new bytes
   pub begins : Begins bytes messages
-  pub asked : AskFirst (up_to_close (shown messages)) (replicate (length exchanges) (now, drawn)) exchanges
+  pub fixed : All (IsPairOf now digits) pairs
+  pub asked : AskFirst (up_to_close (shown messages)) pairs exchanges
   pub ends : IsLast bytes messages exchanges last
   pub sent : Appends sent_old sent_new (take count (texts V exchanges ++ last_text last))

@@ -1,12 +1,18 @@
 //! The program `vault`: tokens in place of card numbers.
 #![tactic(auto)]
 
-pub mod digits;
-pub mod job;
-pub mod jobs;
+mod answer;
+mod change;
+mod clock;
+mod commands;
+pub mod ending;
+mod listening;
+pub mod pipe;
+mod report;
 pub mod run;
+pub mod source;
+mod task;
 mod told;
-mod tree;
 pub mod trial;
 
 use run::{no_words, run};
@@ -25,7 +31,7 @@ fn main(rt: HostRuntime) -> ExitCode {
     let mut errors = Watched::new(rt.stderr());
     let status = match words(&rt) {
         Ok(words) => run(&rt, words.as_slice(), &mut input, &mut output, &mut errors),
-        Err(error) => no_words(&error, &mut errors),
+        Err(error) => no_words(&error, &mut output, &mut errors),
     };
     ExitCode::from(status)
 }

@@ -1,31 +1,29 @@
 //! A vault in memory that answers the messages of an input.
-ghost use Rattle.std.specs.Prelude.{◌≡◌, ◌↔◌, false, IfErr, IfOk, OnErr, OnOk};
+ghost use Rattle.std.specs.Prelude.{◌≡◌, false, Err, IfErr, IfOk, OnErr, OnOk};
 ghost use Rattle.vault_core.specs.Proper.{HasLivesInRange};
 ghost use Rattle.vault_core.specs.Scalar.{IsLife};
 ghost use Rattle.vault_core.specs.Vault.{Vault as Content};
 ghost use Rattle.vault_store.specs.Applied.{Contains, is_broken};
 ghost use Rattle.vault_store.specs.Held.{IsHeld};
 ghost use Rattle.vault_wire.specs.Watching.{inner_of, is_stopped};
-ghost use Rattle.vault_http.specs.Faults.{number_of};
-ghost use Rattle.vault_cli.specs.Told.{IsCause};
+ghost use Rattle.vault_cli.specs.Ending.{IsCause};
 ghost use Rattle.vault_cli.specs.Trial.{IsCut, IsTrial, left_by, trial_vault as trial_vault_lem};
 
+use crate::pipe::pipe;
+use crate::source::source;
 use std::alloc::{AllocError, Global};
 use std::io::{Read, Write};
+use std::random::RandomSource;
+use std::time::Clock;
 use vault_core::command::Command;
 use vault_core::moment::Moment;
 use vault_core::name::{Caller, MerchantId};
 use vault_core::right::Right;
-use vault_core::source::FixedSource;
 use vault_http::fault::ServeFault;
-use vault_http::serve::serve;
 use vault_pan::draw::Digits;
 use vault_store::memory::MemTables;
 use vault_store::vault::{Fault, Vault};
 use vault_wire::watched::Watched;
-
-/// The most messages that a trial answers.
-const MOST_MESSAGES: u64 = 1000;
 
 /// What a trial is asked with.
 #[derive(Clone, Copy, Debug)]
@@ -34,8 +32,12 @@ pub struct Trial {
     pub merchant: MerchantId,
     /// The life of a single-use token, in seconds.
     pub life: u64,
-    pub moment: Moment,
-    pub digits: Digits,
+    /// The moment of the merchant and of its rights.
+    pub made: Moment,
+    /// The moment of each message, where it isn't the clock's.
+    pub moment: Option<Moment>,
+    /// The digits of each message, where they aren't drawn.
+    pub digits: Option<Digits>,
 }
 
 /// Changes the vault by a command.
@@ -59,7 +61,7 @@ fn change(vault: &mut Vault<MemTables>, command: &Command) -> Result<(), AllocEr
 fn trial_vault(alloc: Global, trial: &Trial) -> Result<Vault<MemTables>, AllocError>
     requires { IsLife trial.now.life }
     ensures holds { IfOk result (λ vault. Contains IsHeld vault
-        (trial_vault_lem trial.now.caller trial.now.merchant trial.now.life trial.now.moment)) }
+        (trial_vault_lem trial.now.caller trial.now.merchant trial.now.life trial.now.made)) }
     ensures unbroken { IfOk result (λ vault. is_broken vault ≡ false) }
 {
     let mut vault = Vault::new(MemTables::new(alloc));
@@ -67,7 +69,7 @@ fn trial_vault(alloc: Global, trial: &Trial) -> Result<Vault<MemTables>, AllocEr
         merchant: trial.merchant,
         single_life: trial.life,
         multi_life: 0,
-        now: trial.moment,
+        now: trial.made,
     };
     change(&mut vault, &set)?;
     give(&mut vault, trial, Right::Tokenize)?;
@@ -84,25 +86,27 @@ fn give(vault: &mut Vault<MemTables>, trial: &Trial, right: Right) -> Result<(),
     requires { is_broken vault.old ≡ false }
     ensures given { OnOk result ((V : Content) → Contains IsHeld vault.old V
         → Contains IsHeld vault.new
-        (left_by V (Command.Grant trial.now.caller trial.now.merchant right trial.now.moment))) }
+        (left_by V (Command.Grant trial.now.caller trial.now.merchant right trial.now.made))) }
     ensures unbroken { is_broken vault.new ≡ false }
 {
     let grant = Command::Grant {
         caller: trial.caller,
         merchant: trial.merchant,
         right,
-        now: trial.moment,
+        now: trial.made,
     };
     change(vault, &grant)
 }
 
 /// Answers the messages of the input, up to its end, to a message that closes the connection, or to a
-/// fault of the bytes, which is answered too. Each message has the trial's moment and its digits.
+/// fault of the bytes, which is answered too. Each message has the moment and the digits that the trial
+/// fixes, or else the clock's and drawn ones.
 ///
-/// 60 Source: 1000 messages were answered and there is another one. 61 Read: the reader failed. 62 Write: the
-/// writer failed, perhaps only when it was to hand on what it had taken. 64 Memory: memory was refused.
-pub fn serve_trial<R: Read, W: Write>(
-    alloc: Global,
+/// 60 Source: 1000 messages were answered and there is another one, the clock can't be read, or there is
+/// nothing to draw digits from. 61 Read: the reader failed. 62 Write: the writer failed, perhaps only when
+/// it was to hand on what it had taken. 64 Memory: memory was refused.
+pub fn serve_trial<H: AllocGlobal + Clock + RandomSource, R: Read, W: Write>(
+    rt: &H,
     trial: &Trial,
     input: &mut Watched<R>,
     output: &mut Watched<W>,
@@ -111,22 +115,19 @@ pub fn serve_trial<R: Read, W: Write>(
     ensures served { OnOk result (IsTrial
         (R.remaining (inner_of input.old)) (R.remaining (inner_of input.new))
         (W.contents (inner_of output.old)) (W.contents (inner_of output.new))
-        (trial_vault_lem trial.now.caller trial.now.merchant trial.now.life trial.now.moment)
+        (trial_vault_lem trial.now.caller trial.now.merchant trial.now.life trial.now.made)
         trial.now.moment trial.now.digits) }
     ensures handed_on { OnOk result (is_stopped output.new ≡ false) }
     ensures cut { OnErr result (IsCut
         (R.remaining (inner_of input.old)) (R.remaining (inner_of input.new))
         (W.contents (inner_of output.old)) (W.contents (inner_of output.new))
-        (trial_vault_lem trial.now.caller trial.now.merchant trial.now.life trial.now.moment)
+        (trial_vault_lem trial.now.caller trial.now.merchant trial.now.life trial.now.made)
         trial.now.moment trial.now.digits) }
-    ensures stopped { IfErr result (λ e. IsCause (number_of e)
-        (is_stopped input.new) (is_stopped output.new)) }
+    ensures stopped { IfErr result (λ e. IsCause e (is_stopped input.new) (is_stopped output.new)) }
+    ensures sturdy { ¬ (result ≡ Err ServeFault.Store) }
 {
+    let alloc = rt.alloc();
     let mut vault = trial_vault(alloc, trial)?;
-    let mut source = FixedSource::new(trial.moment, trial.digits, MOST_MESSAGES);
-    serve(alloc, input, output, &mut vault, &mut source)?;
-    if output.flush().is_err() {
-        return Err(ServeFault::Write);
-    }
-    Ok(())
+    let mut pairs = source(rt, trial.moment, trial.digits)?;
+    pipe(alloc, input, output, &mut vault, &mut pairs)
 }

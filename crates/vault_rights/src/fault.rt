@@ -8,7 +8,7 @@ use vault_core::name::BadName;
 const NOT_TOML: u8 = 70;
 
 /// A word is no right.
-const UNKNOWN_RIGHT: u8 = 71;
+pub const UNKNOWN_RIGHT: u8 = 71;
 
 /// A key is no name of a caller or a merchant.
 const BAD_NAME: u8 = 72;

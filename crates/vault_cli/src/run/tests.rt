@@ -2,7 +2,6 @@
 ghost use Rattle.std.specs.Prelude.{◌<◌, length};
 
 use super::run;
-use std::process::Abort;
 use vault_wire::watched::Watched;
 
 /// The answer to the worked message.
@@ -28,7 +27,7 @@ impl Ran {
 }
 
 /// Runs the program on words and bytes.
-fn run_on<H: AllocGlobal>(rt: &H, words: &[&str], input: &[u8]) -> Ran {
+fn run_on(rt: &HostRuntime, words: &[&str], input: &[u8]) -> Ran {
     let mut output = Vec::new(rt.alloc());
     let mut errors = Vec::new(rt.alloc());
     let mut reader = Watched::new(input);
@@ -43,42 +42,37 @@ fn run_on<H: AllocGlobal>(rt: &H, words: &[&str], input: &[u8]) -> Ran {
 }
 
 /// Runs `trial` with these digits.
-fn trial<H: AllocGlobal>(rt: &H, digits: &str, input: &[u8]) -> Ran {
+fn trial(rt: &HostRuntime, digits: &str, input: &[u8]) -> Ran {
     let words = [
         "vault", "trial", "--now", "1000", "--digits", digits, "till-1", "shop1", "60",
     ];
     run_on(rt, words.as_slice(), input)
 }
 
-/// A message that asks for a token of a number.
-fn asking<H: AllocGlobal + Abort>(rt: &H, number: &str) -> String
+/// A message that asks for a token of a number; nothing, for want of memory.
+fn asking<H: AllocGlobal>(rt: &H, number: &str) -> String
     requires { length number.now < 100 }
 {
     let size = 28 + number.len();
-    format!(in rt.alloc();
+    let text = format!(in rt.alloc();
         "POST /v1/merchants/shop1/tokens HTTP/1.1\r\nHost: vault\r\nX-Vault-Caller: till-1\r\n\
          X-Vault-Request: 7\r\nContent-Length: {size}\r\n\r\n\
          {{\"number\":\"{number}\",\"use\":\"single\"}}"
-    )
-    .expect(rt, "memory")
+    );
+    text.unwrap_or(String::new(rt.alloc()))
 }
 
-/// The answer with this status line and body.
-fn answer<H: AllocGlobal + Abort>(rt: &H, status: &str, body: &str) -> String {
+/// The answer with this status line and body; nothing, for want of memory.
+fn answer<H: AllocGlobal>(rt: &H, status: &str, body: &str) -> String {
     let size = body.len();
-    format!(in rt.alloc();
+    let text = format!(in rt.alloc();
         "HTTP/1.1 {status}\r\nContent-Type: application/json\r\nContent-Length: {size}\r\n\r\n{body}"
-    ).expect(rt, "memory")
+    );
+    text.unwrap_or(String::new(rt.alloc()))
 }
 
 /// Whether the number, asked with these digits, is answered with this status line and body.
-fn answers<H: AllocGlobal + Abort>(
-    rt: &H,
-    digits: &str,
-    number: &str,
-    status: &str,
-    body: &str,
-) -> bool
+fn answers(rt: &HostRuntime, digits: &str, number: &str, status: &str, body: &str) -> bool
     requires { length number.now < 100 }
 {
     let message = asking(rt, number);
@@ -290,6 +284,7 @@ fn a_use_that_is_not_offered_is_refused(rt: HostRuntime) {
     assert!(rt; trial(&rt, "0", multi).is(0, wrong_use.as_str(), ""));
 }
 
+mod files;
 mod sequence;
 mod streams;
 mod words;

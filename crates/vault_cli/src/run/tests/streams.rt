@@ -40,7 +40,7 @@ impl Write for Unflushed {
 }
 
 /// Whether a trial of the worked message over this reader and writer stops with this line.
-fn stops<H: AllocGlobal, R: Read, W: Write>(rt: &H, reader: R, writer: W, line: &[u8]) -> bool
+fn stops<R: Read, W: Write>(rt: &HostRuntime, reader: R, writer: W, line: &[u8]) -> bool
 where
     R: Drop,
     W: Drop,

@@ -1,0 +1,41 @@
+-- Bytes that a flush keeps.
+use Rattle.std.proofs.Common.{◌≡◌, ℕ, List, ◌++◌, Option, Some, None, ◌∙◌}
+use Rattle.std.specs.Io.KnownBytes.{Appends, Keeps}
+use Rattle.vault_http.specs.Exchanges.{last_text, texts}
+use Rattle.vault_http.specs.Passing.{Passage}
+use Rattle.vault_http.specs.Served.{IsServed}
+use Rattle.vault_http.specs.declared.served.Served.{Served}
+
+-- bytes that went out before a flush
+kept_after : (old mid new : Option (List ℕ)) (bs : List ℕ) → Appends old mid bs → Keeps mid new
+    → Appends old new bs
+kept_after None mid new bs h k = tt
+kept_after (Some xs) None new bs h k = absurd h
+kept_after (Some xs) (Some ys) None bs h k = absurd k
+kept_after (Some xs) (Some ys) (Some zs) bs h k = k ∙ h
+
+-- what was served before a flush is served after it
+pub flushed : (left_old left_new gone : Option (List ℕ)) (w : Passage) (served : Served)
+    → IsServed left_old left_new w served → Keeps w.sent_new gone
+    → IsServed left_old left_new (record w { sent_new = gone }) served
+flushed left_old left_new gone w served s kept = record {
+  bytes = s.bytes;
+  messages = s.messages;
+  fault = s.fault;
+  pairs = s.pairs;
+  exchanges = s.exchanges;
+  read = s.read;
+  reads = s.reads;
+  taken = s.taken;
+  asked = s.asked;
+  whole = s.whole;
+  counted = s.counted;
+  told = s.told;
+  ended = s.ended;
+  answered = λ V before. (
+    kept_after w.sent_old w.sent_new gone (texts V s.exchanges ++ last_text served.fault)
+        (s.answered V before).0
+        kept,
+    (s.answered V before).1,
+  );
+}

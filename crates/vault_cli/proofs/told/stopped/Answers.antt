@@ -1,9 +1,0 @@
-use Rattle.std.proofs.Common.{List, ℕ, subst}
-use Rattle.vault_cli.specs.Told.{Tells}
-use Rattle.vault_cli.proofs.told.stopped.Goals as goal
-
-pub returns-clause-told : goal.returns-clause-told
-returns-clause-told g c =
-    let old = g.E.Write.contents c.args.errors.now.inner in
-    let new = g.E.Write.contents c.tell.new.writer.inner in
-    subst (λ (line : List ℕ). Tells old new c.tell.new.writer.stopped line) c.stop_line.ensures c.tell.ensures

@@ -1,0 +1,8 @@
+//! What each subcommand does.
+
+pub(crate) mod check;
+pub(crate) mod merchant;
+pub(crate) mod pipe;
+pub(crate) mod rights;
+pub(crate) mod serve;
+pub(crate) mod trial;

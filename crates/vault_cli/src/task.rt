@@ -1,0 +1,127 @@
+//! What is done with the vault in a file.
+ghost use Rattle.std.specs.Prelude.{◌≡◌, MatchResult, codes, false};
+ghost use Rattle.vault_core.specs.Proper.{HasLivesInRange};
+ghost use Rattle.vault_store.specs.Applied.{is_broken};
+ghost use Rattle.vault_wire.specs.Watching.{inner_of, is_stopped};
+ghost use Rattle.vault_cli.specs.Ran.{IsCauseOf, IsHeard, Streams, streams};
+ghost use Rattle.vault_cli.specs.Tasks.{FileEnds, IsProper, Says, TaskEnds};
+
+use crate::answer::answer;
+use crate::change::{Verdict, change};
+use crate::ending::{Ending, Stop};
+use crate::listening::serve_at;
+use crate::pipe::pipe;
+use crate::source::source;
+use std::io::{Read, Write};
+use vault_core::command::Command;
+use vault_core::moment::Moment;
+use vault_file::open::{close_vault, open_vault};
+use vault_pan::draw::Digits;
+use vault_store::tables::Tables;
+use vault_store::vault::Vault;
+use vault_wire::watched::Watched;
+
+/// What is done with the vault in a file.
+#[derive(Clone, Copy, Debug)]
+pub(crate) enum Task {
+    /// Carries out one command.
+    Change(Command),
+    /// Answers the messages of the input, with this moment and these digits, where they are fixed.
+    Pipe(Option<Moment>, Option<Digits>),
+    /// Serves so many connections on a port.
+    Serve(u16, u64),
+}
+
+/// Carries out a command, and says `done`.
+fn do_change<W: Write, T: Tables>(
+    vault: &mut Vault<T>,
+    command: &Command,
+    output: &mut Watched<W>,
+) -> Result<Verdict, Stop>
+    requires lives { HasLivesInRange command.now }
+    requires unbroken { is_broken vault.old ≡ false }
+    ensures { Says result (output.new ≡ output.old) (W.contents (inner_of output.old))
+        (W.contents (inner_of output.new)) (is_stopped output.new) (codes "done\n") }
+{
+    match change(vault, command) {
+        Ok(Verdict::Done) => match answer(output, &["done\n"]) {
+            Ok(()) => Ok(Verdict::Done),
+            Err(fault) => Err(Stop::Service(fault)),
+        },
+        Ok(Verdict::Refused(number)) => Ok(Verdict::Refused(number)),
+        Err(fault) => Err(Stop::Vault(fault)),
+    }
+}
+
+/// Answers the messages of the input.
+fn do_pipe<R: Read, W: Write, T: Tables>(
+    rt: &HostRuntime,
+    moment: Option<Moment>,
+    digits: Option<Digits>,
+    vault: &mut Vault<T>,
+    input: &mut Watched<R>,
+    output: &mut Watched<W>,
+) -> Result<(), Stop>
+    ensures { let s : Streams = streams R.remaining input.old input.new W.contents output.old output.new in
+        MatchResult result (λ _. (s.writer ≡ false) × IsHeard s) (λ stop. IsCauseOf stop s) }
+{
+    let mut pairs = match source(rt, moment, digits) {
+        Ok(pairs) => pairs,
+        Err(fault) => return Err(Stop::Service(fault)),
+    };
+    match pipe(rt.alloc(), input, output, vault, &mut pairs) {
+        Ok(()) => Ok(()),
+        Err(fault) => Err(Stop::Service(fault)),
+    }
+}
+
+/// Does a task on a vault.
+fn do_task<R: Read, W: Write, T: Tables>(
+    rt: &HostRuntime,
+    task: &Task,
+    vault: &mut Vault<T>,
+    input: &mut Watched<R>,
+    output: &mut Watched<W>,
+) -> Result<Verdict, Stop>
+    requires proper { IsProper task.now }
+    requires unbroken { is_broken vault.old ≡ false }
+    ensures { let s : Streams = streams R.remaining input.old input.new W.contents output.old output.new in
+        TaskEnds task.now result (input.new ≡ input.old) (output.new ≡ output.old) s }
+{
+    match *task {
+        Task::Change(ref command) => do_change(vault, command, output),
+        Task::Pipe(moment, digits) => match do_pipe(rt, moment, digits, vault, input, output) {
+            Ok(()) => Ok(Verdict::Done),
+            Err(stop) => Err(stop),
+        },
+        Task::Serve(port, connections) => match serve_at(rt, port, connections, vault, output) {
+            Ok(()) => Ok(Verdict::Done),
+            Err(stop) => Err(stop),
+        },
+    }
+}
+
+/// Does a task on the vault in the file at a path.
+pub(crate) fn do_on_file<R: Read, W: Write>(
+    rt: &HostRuntime,
+    path: &str,
+    task: &Task,
+    input: &mut Watched<R>,
+    output: &mut Watched<W>,
+) -> Ending
+    requires { IsProper task.now }
+    ensures { let s : Streams = streams R.remaining input.old input.new W.contents output.old output.new in
+        FileEnds task.now result (input.new ≡ input.old) (output.new ≡ output.old) s }
+{
+    let mut vault = match open_vault(rt, path) {
+        Ok(vault) => vault,
+        Err(fault) => return Ending::NotOpened(fault),
+    };
+    let ended = do_task(rt, task, &mut vault, input, output);
+    close_vault(vault);
+    match ended {
+        Ok(Verdict::Done) => Ending::Done,
+        Ok(Verdict::Refused(number)) => Ending::Refused(number),
+        Err(stop) => Ending::Stopped(stop),
+    }
+}
