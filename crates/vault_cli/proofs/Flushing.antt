@@ -1,5 +1,5 @@
 -- Bytes that a flush keeps.
-use Rattle.std.proofs.Common.{◌≡◌, ℕ, List, ◌++◌, Option, Some, None, ◌∙◌}
+use Rattle.std.proofs.Common.{ℕ, List, ◌++◌, Option, Some, None, ◌∙◌}
 use Rattle.std.specs.Io.KnownBytes.{Appends, Keeps}
 use Rattle.vault_http.specs.Exchanges.{last_text, texts}
 use Rattle.vault_http.specs.Passing.{Passage}

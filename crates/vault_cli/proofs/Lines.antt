@@ -1,5 +1,5 @@
 -- The line that says that a file isn't opened.
-use Rattle.std.proofs.Common.{◌≡◌, ℕ, ℤ, List, [], ◌++◌, Option, Some, None, codes, decimal}
+use Rattle.std.proofs.Common.{◌≡◌, ℕ, ℤ, List, ◌++◌, Option, Some, None, codes, decimal}
 use Rattle.std.proofs.Common.{sym, ◌∙◌, ap, append-nil}
 use Rattle.vault_file.specs.Faults.{detail_of, number_of}
 use Rattle.vault_file.specs.declared.fault.NotOpened.{NotOpened}

@@ -1,5 +1,5 @@
 -- A moment that words fix.
-use Rattle.std.proofs.Common.{◌≡◌, ℕ, Option, Some, None}
+use Rattle.std.proofs.Common.{ℕ, Option, Some, None}
 use Rattle.vault_cli.specs.Ran.{IsMomentOf}
 
 -- there is one, whether or not they do

@@ -1,7 +1,7 @@
 -- A line that is written part by part.
 use Rattle.std.proofs.Common.{◌≡◌, ℕ, ◌+◌, ◌<◌, ◌≤◌, List, [], ◌∷◌, ◌++◌, length, take, drop, get_or}
 use Rattle.std.proofs.Common.{Option, arith}
-use Rattle.std.proofs.Common.{Result, Ok, Err, Bool, true, sym, ◌∙◌, ap, subst, append_assoc, append-nil}
+use Rattle.std.proofs.Common.{Result, Ok, Err, true, sym, ◌∙◌, ap, subst, append_assoc, append-nil}
 use Rattle.std.specs.Prelude.{OnErr, is_err}
 use Rattle.std.specs.List.{flat_map}
 use Rattle.std.specs.Io.KnownBytes.{Appends}

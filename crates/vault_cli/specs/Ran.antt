@@ -19,7 +19,6 @@ use Rattle.vault_http.specs.declared.fault.ServeFault.TheVariants as service
 use Rattle.vault_words.specs.Commands.{vault_app}
 use Rattle.vault_words.specs.Jobs.{IsAsked}
 use Rattle.vault_words.specs.declared.commands.rights.RightJob.{RightJob}
-use Rattle.vault_words.specs.declared.commands.trial.TrialJob.{TrialJob}
 use Rattle.vault_words.specs.declared.jobs.Job.{Job}
 use Rattle.vault_words.specs.declared.jobs.Job.TheVariants.{Trial, Merchant, Grant, Withdraw, Pipe}
 use Rattle.vault_words.specs.declared.jobs.Job.TheVariants.{Serve, Check}

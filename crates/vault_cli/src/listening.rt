@@ -1,6 +1,10 @@
 //! A vault served on a port.
-ghost use Rattle.std.specs.Prelude.{◌≡◌, ℕ, IfErr, OnOk, false};
+ghost use Rattle.std.specs.Prelude.{◌≡◌, ℕ, IfErr, IsErr, OnOk, false, true};
 ghost use Rattle.std.specs.Io.KnownBytes.{Appends};
+ghost use Rattle.vault_store.specs.Applied.{is_broken};
+ghost use Rattle.vault_http.specs.Passing.{Passage};
+ghost use Rattle.vault_listen.specs.Service.{vault_passing};
+ghost use Rattle.vault_cli.specs.Carried.{IsKept, IsTorn};
 ghost use Rattle.vault_wire.specs.Watching.{inner_of, is_stopped};
 ghost use Rattle.vault_cli.specs.Ran.{listening_line};
 ghost use Rattle.vault_cli.specs.Tasks.{IsListeningStop};
@@ -41,10 +45,16 @@ pub(crate) fn serve_at<W: Write, T: Tables>(
     vault: &mut Vault<T>,
     output: &mut Watched<W>,
 ) -> Result<(), Stop>
+    requires { is_broken vault.old ≡ false }
     ensures listened { OnOk result ((port : ℕ) × Appends (W.contents (inner_of output.old))
         (W.contents (inner_of output.new)) (listening_line port)) }
     ensures handed_on { OnOk result (is_stopped output.new ≡ false) }
     ensures stopped { IfErr result (λ stop. IsListeningStop stop (is_stopped output.new)) }
+    ensures kept { let w : Passage = vault_passing T.is_honest T.holds T.leaves vault.old vault.new in
+        is_broken vault.new ≡ false → IsKept w }
+    ensures torn { let w : Passage = vault_passing T.is_honest T.holds T.leaves vault.old vault.new in
+        is_broken vault.new ≡ true → IsTorn w }
+    ensures broken { is_broken vault.new ≡ true → IsErr result }
 {
     let Ok(mut generator) = make_rng::<StdRng, _>(rt) else {
         return Err(Stop::Service(ServeFault::Source));

@@ -75,7 +75,20 @@ pub fn run<S: AsStr, R: Read, W: Write, E: Write>(
     input: &mut Watched<R>,
     output: &mut Watched<W>,
     errors: &mut Watched<E>,
-) -> u8 {
+) -> u8
+    ensures ended { let s : Streams =
+        streams R.remaining input.old input.new W.contents output.old output.new in
+        EndsBy (map S.text words.now) result
+        (input.new ≡ input.old) (output.new ≡ output.old) (errors.new ≡ errors.old) s
+        (Tells (W.contents (inner_of output.old)) (W.contents (inner_of output.new))
+        (is_stopped output.new))
+        (Tells (E.contents (inner_of errors.old)) (E.contents (inner_of errors.new))
+        (is_stopped errors.new)) }
+    ensures status { (result ≡ 0) ⊎ (result ≡ 1) ⊎ (result ≡ 2) ⊎ (result ≡ 3) ⊎ (result ≡ 4) }
+    ensures silent { (result ≡ 0) ⊎ (result ≡ 1) → errors.new ≡ errors.old }
+    ensures unread { (result ≡ 1) ⊎ (result ≡ 2) ⊎ (result ≡ 3) → input.new ≡ input.old }
+    ensures unsent { (result ≡ 2) ⊎ (result ≡ 3) → output.new ≡ output.old }
+{
     let ending = ended(rt, words, input, output);
     report(&ending, output, errors)
 }

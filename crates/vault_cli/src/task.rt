@@ -1,7 +1,10 @@
 //! What is done with the vault in a file.
-ghost use Rattle.std.specs.Prelude.{◌≡◌, MatchResult, codes, false};
+ghost use Rattle.std.specs.Prelude.{◌≡◌, IsErr, MatchResult, codes, false, true};
 ghost use Rattle.vault_core.specs.Proper.{HasLivesInRange};
 ghost use Rattle.vault_store.specs.Applied.{is_broken};
+ghost use Rattle.vault_http.specs.Passing.{Passage};
+ghost use Rattle.vault_listen.specs.Service.{vault_passing};
+ghost use Rattle.vault_cli.specs.Carried.{IsKept, IsTorn};
 ghost use Rattle.vault_wire.specs.Watching.{inner_of, is_stopped};
 ghost use Rattle.vault_cli.specs.Ran.{IsCauseOf, IsHeard, Streams, streams};
 ghost use Rattle.vault_cli.specs.Tasks.{FileEnds, IsProper, Says, TaskEnds};
@@ -40,8 +43,13 @@ fn do_change<W: Write, T: Tables>(
 ) -> Result<Verdict, Stop>
     requires lives { HasLivesInRange command.now }
     requires unbroken { is_broken vault.old ≡ false }
-    ensures { Says result (output.new ≡ output.old) (W.contents (inner_of output.old))
+    ensures said { Says result (output.new ≡ output.old) (W.contents (inner_of output.old))
         (W.contents (inner_of output.new)) (is_stopped output.new) (codes "done\n") }
+    ensures kept { let w : Passage = vault_passing T.is_honest T.holds T.leaves vault.old vault.new in
+        is_broken vault.new ≡ false → IsKept w }
+    ensures torn { let w : Passage = vault_passing T.is_honest T.holds T.leaves vault.old vault.new in
+        is_broken vault.new ≡ true → IsTorn w }
+    ensures broken { is_broken vault.new ≡ true → IsErr result }
 {
     match change(vault, command) {
         Ok(Verdict::Done) => match answer(output, &["done\n"]) {
@@ -62,8 +70,15 @@ fn do_pipe<R: Read, W: Write, T: Tables>(
     input: &mut Watched<R>,
     output: &mut Watched<W>,
 ) -> Result<(), Stop>
-    ensures { let s : Streams = streams R.remaining input.old input.new W.contents output.old output.new in
+    requires { is_broken vault.old ≡ false }
+    ensures streams { let s : Streams =
+        streams R.remaining input.old input.new W.contents output.old output.new in
         MatchResult result (λ _. (s.writer ≡ false) × IsHeard s) (λ stop. IsCauseOf stop s) }
+    ensures kept { let w : Passage = vault_passing T.is_honest T.holds T.leaves vault.old vault.new in
+        is_broken vault.new ≡ false → IsKept w }
+    ensures torn { let w : Passage = vault_passing T.is_honest T.holds T.leaves vault.old vault.new in
+        is_broken vault.new ≡ true → IsTorn w }
+    ensures broken { is_broken vault.new ≡ true → IsErr result }
 {
     let mut pairs = match source(rt, moment, digits) {
         Ok(pairs) => pairs,
@@ -85,8 +100,14 @@ fn do_task<R: Read, W: Write, T: Tables>(
 ) -> Result<Verdict, Stop>
     requires proper { IsProper task.now }
     requires unbroken { is_broken vault.old ≡ false }
-    ensures { let s : Streams = streams R.remaining input.old input.new W.contents output.old output.new in
+    ensures ends { let s : Streams =
+        streams R.remaining input.old input.new W.contents output.old output.new in
         TaskEnds task.now result (input.new ≡ input.old) (output.new ≡ output.old) s }
+    ensures kept { let w : Passage = vault_passing T.is_honest T.holds T.leaves vault.old vault.new in
+        is_broken vault.new ≡ false → IsKept w }
+    ensures torn { let w : Passage = vault_passing T.is_honest T.holds T.leaves vault.old vault.new in
+        is_broken vault.new ≡ true → IsTorn w }
+    ensures broken { is_broken vault.new ≡ true → IsErr result }
 {
     match *task {
         Task::Change(ref command) => do_change(vault, command, output),

@@ -2,7 +2,6 @@ use Rattle.std.proofs.Common.{◌⊎◌}
 use Rattle.vault_live.specs.Live.{pairs_of}
 use Rattle.vault_store.specs.Held.{IsHeld}
 use Rattle.vault_http.specs.Passing.{Passage, passing}
-use Rattle.vault_http.specs.declared.fault.ServeFault.{ServeFault}
 use Rattle.vault_cli.specs.Piped.{IsPiped, StopsPiping}
 use Rattle.vault_cli.specs.Trial.{IsCut, IsTrial, trial_vault}
 use Rattle.vault_cli.proofs.Stops.{cut_piping, fixed_pairs, if_err_then, nothing_cut, on_err, on_ok_then}
