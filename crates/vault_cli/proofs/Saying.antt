@@ -4,11 +4,13 @@ use Rattle.clap.specs.Words.{Text}
 use Rattle.vault_wire.specs.Watching.{inner_of, is_stopped}
 use Rattle.vault_wire.specs.declared.watched.Watched.{Watched}
 use Rattle.vault_cli.specs.Ending.{Says, refusal_line}
-use Rattle.vault_cli.specs.Ran.{IsBegun, IsCauseOf, IsDone, Ran, Said, Streams, streams}
-use Rattle.vault_cli.specs.Told.{Tells}
+use Rattle.vault_jobs.specs.Causes.{IsCauseOf}
+use Rattle.vault_jobs.specs.Streams.{Streams, streams}
+use Rattle.vault_jobs.specs.Told.{Tells}
+use Rattle.vault_jobs.specs.declared.stop.Stop.TheVariants.{Vault}
+use Rattle.vault_cli.specs.Ran.{IsBegun, IsDone, Ran, Said}
 use Rattle.vault_cli.specs.declared.ending.Ending.{Ending}
 use Rattle.vault_store.specs.declared.vault.Fault.TheVariants as vault
-use Rattle.vault_cli.specs.declared.ending.Stop.TheVariants.{Vault}
 use Rattle.vault_cli.specs.declared.ending.Ending.TheVariants.{Done, Refused, BadWords, NotOpened, Stopped}
 
 module _ {R W : Type 0} (remaining : R → Option (List ℕ)) (contents : W → Option (List ℕ)) (i0 i1 : Watched R)

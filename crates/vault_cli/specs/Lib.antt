@@ -1,7 +1,3 @@
-pub mod Carried
 pub mod Ending
-pub mod Piped
+pub mod Files
 pub mod Ran
-pub mod Tasks
-pub mod Told
-pub mod Trial

@@ -1,7 +1,5 @@
 -- What the program did, by how it ended.
-use Rattle.std.specs.Prelude.{◌≡◌, ◌≢◌, ◌⊎◌, ℕ, ◌++◌, List, Option, Some, None, Bool, false}
-use Rattle.std.specs.Prelude.{codes, decimal}
-use Rattle.std.specs.Io.KnownBytes.{Appends, Consumes, IsAtEnd}
+use Rattle.std.specs.Prelude.{◌≡◌, ◌≢◌, ◌⊎◌, ℕ, ◌++◌, List, false, codes, decimal}
 use Rattle.clap.specs.Words.{IsAmong, Text, fault_of}
 use Rattle.clap.specs.declared.error.kind.ErrorKind.TheVariants.{DisplayHelp}
 use Rattle.vault_core.specs.Name.{IsName}
@@ -10,11 +8,7 @@ use Rattle.vault_core.specs.Words.{right_word}
 use Rattle.vault_core.specs.declared.right.Right.{Right}
 use Rattle.vault_store.specs.declared.vault.Fault.TheVariants as vault
 use Rattle.vault_recover.specs.declared.sizes.Sizes.{Sizes}
-use Rattle.vault_wire.specs.Messages.{Reads, Request}
-use Rattle.vault_wire.specs.Watching.{inner_of, is_stopped}
-use Rattle.vault_wire.specs.declared.fault.WireFault.{WireFault}
-use Rattle.vault_wire.specs.declared.watched.Watched.{Watched}
-use Rattle.vault_http.specs.Exchanges.{has_close, shown}
+use Rattle.vault_http.specs.declared.fault.ServeFault.{ServeFault}
 use Rattle.vault_http.specs.declared.fault.ServeFault.TheVariants as service
 use Rattle.vault_words.specs.Commands.{vault_app}
 use Rattle.vault_words.specs.Jobs.{IsAsked}
@@ -22,34 +16,16 @@ use Rattle.vault_words.specs.declared.commands.rights.RightJob.{RightJob}
 use Rattle.vault_words.specs.declared.jobs.Job.{Job}
 use Rattle.vault_words.specs.declared.jobs.Job.TheVariants.{Trial, Merchant, Grant, Withdraw, Pipe}
 use Rattle.vault_words.specs.declared.jobs.Job.TheVariants.{Serve, Check}
-use Rattle.vault_cli.specs.Ending.{IsCause, bad_words_line, not_opened_line, number_of, refusal_line}
-use Rattle.vault_cli.specs.Ending.{status_of, stop_line}
-use Rattle.vault_cli.specs.Trial.{IsCut, IsTrial, Known, trial_vault}
+use Rattle.vault_jobs.specs.Causes.{IsCauseOf, number_of}
+use Rattle.vault_jobs.specs.Moments.{IsMomentOf}
+use Rattle.vault_jobs.specs.Streams.{IsHeard, Streams, Writes}
+use Rattle.vault_jobs.specs.Tasks.{listening_line}
+use Rattle.vault_jobs.specs.Trial.{IsCut, IsTrial, trial_vault}
+use Rattle.vault_jobs.specs.declared.stop.Stop.{Stop}
+use Rattle.vault_jobs.specs.declared.stop.Stop.TheVariants.{Vault, Service}
+use Rattle.vault_cli.specs.Ending.{bad_words_line, not_opened_line, refusal_line, status_of, stop_line}
 use Rattle.vault_cli.specs.declared.ending.Ending.{Ending}
 use Rattle.vault_cli.specs.declared.ending.Ending.TheVariants.{Done, Refused, BadWords, NotOpened, Stopped}
-use Rattle.vault_cli.specs.declared.ending.Stop.{Stop}
-use Rattle.vault_cli.specs.declared.ending.Stop.TheVariants.{Vault, Service, Listener}
-
--- The input and the output before a job and after it: the bytes that the one has left and the other has
--- taken, and whether they have failed.
-pub record Streams : Type 0 where
-  pub left_old : Known
-  pub left_new : Known
-  pub sent_old : Known
-  pub sent_new : Known
-  pub reader : Bool
-  pub writer : Bool
-
-abbrev pub streams : {R W : Type 0} → (R → Known) → Watched R → Watched R
-    → (W → Known) → Watched W → Watched W → Streams
-streams remaining r r' contents w w' = record {
-  left_old = remaining (inner_of r);
-  left_new = remaining (inner_of r');
-  sent_old = contents (inner_of w);
-  sent_new = contents (inner_of w');
-  reader = is_stopped r';
-  writer = is_stopped w';
-}
 
 -- the lives of a job are lives
 abbrev pub HasLives : Job → Type 0
@@ -61,24 +37,7 @@ HasLives (Pipe j) = Unit {0}
 HasLives (Serve j) = Unit {0}
 HasLives (Check j) = Unit {0}
 
--- the line was written
-abbrev pub Writes : Streams → List ℕ → Type 0
-Writes s line = Appends s.sent_old s.sent_new line
-
--- the bytes that were read are messages, and an open rest or a fault; where nothing closes no byte is left
-abbrev pub IsHeard : Streams → Type 0
-IsHeard s = (bytes : List ℕ) × (messages : List Request) × (fault : Option WireFault)
-    × Consumes s.left_old s.left_new bytes × Reads bytes messages fault
-    × (has_close (shown messages) ≡ false → fault ≡ None → IsAtEnd s.left_new)
-
--- the moment is the one that is fixed, where one is
-abbrev pub IsMomentOf : Option ℕ → ℕ → Type 0
-IsMomentOf fixed moment = (now : ℕ) → fixed ≡ Some now → moment ≡ now
-
--- the line of a service that listens, and of a file that is sound
-abbrev pub listening_line : ℕ → List ℕ
-listening_line port = codes "listening " ++ decimal port ++ codes "\n"
-
+-- the line of a file that is sound
 abbrev pub sound_line : Sizes → List ℕ
 sound_line sizes = codes "sound " ++ decimal sizes.merchants ++ codes " " ++ decimal sizes.entries
     ++ codes " " ++ decimal sizes.records ++ codes "\n"
@@ -95,15 +54,10 @@ IsDone (Pipe j) unread s = IsHeard s
 IsDone (Serve j) unread s = unread × ((port : ℕ) × Writes s (listening_line port))
 IsDone (Check j) unread s = unread × ((sizes : Sizes) × Writes s (sound_line sizes))
 
--- the reader or the writer stops a job only where it failed
-abbrev pub IsCauseOf : Stop → Streams → Type 0
-IsCauseOf (Vault f) s = Unit {0}
-IsCauseOf (Service f) s = IsCause f s.reader s.writer
-IsCauseOf (Listener f) s = Unit {0}
-
 -- what a job that is stopped read and wrote
 abbrev pub IsBegun : Job → Stop → Type 0 → Streams → Type 0
-IsBegun (Trial j) stop unread s = (stop ≢ Service service.Store) × ((made : ℕ) × IsMomentOf j.now made
+IsBegun (Trial j) stop unread s = ((fault : ServeFault) × (stop ≡ Service fault) × (fault ≢ service.Store))
+    × ((made : ℕ) × IsMomentOf j.now made
     × IsCut s.left_old s.left_new s.sent_old s.sent_new (trial_vault j.caller.now j.merchant.now j.life made)
     j.now j.digits)
 IsBegun (Merchant j) stop unread s = unread

@@ -1,37 +1,6 @@
 //! How a job ends.
-ghost use Rattle.std.specs.Prelude.{◌≡◌};
-
 use vault_file::fault::NotOpened;
-use vault_http::fault::ServeFault;
-use vault_listen::fault::ListenFault;
-use vault_store::vault::Fault;
-
-/// Why a job stopped.
-#[derive(Clone, Copy, Debug, PartialEq, Eq, Drop)]
-pub enum Stop {
-    /// 20 to 22: a command of the words wasn't answered, or there was no memory for the words.
-    Vault(Fault),
-    /// 60 to 64: messages weren't all answered; 60 too where the clock can't be read, 62 where a line can't
-    /// be written.
-    Service(ServeFault),
-    /// 63, 64 or 80: connections weren't all served.
-    Listener(ListenFault),
-}
-
-impl Stop {
-    ghost use Rattle.vault_cli.specs.Ending.{number_of};
-
-    /// The number of the fault.
-    pub fn number(self) -> u8
-        ensures { result ≡ number_of self }
-    {
-        match self {
-            Stop::Vault(fault) => fault.number(),
-            Stop::Service(fault) => fault.number(),
-            Stop::Listener(fault) => fault.number(),
-        }
-    }
-}
+use vault_jobs::stop::Stop;
 
 /// How a job ended.
 #[derive(Clone, Copy, Debug, PartialEq, Eq, Drop)]

@@ -1,19 +1,11 @@
 //! The program `vault`: tokens in place of card numbers.
 #![tactic(auto)]
 
-mod answer;
-mod change;
-mod clock;
 mod commands;
 pub mod ending;
-mod listening;
-pub mod pipe;
+mod on_file;
 mod report;
 pub mod run;
-pub mod source;
-mod task;
-mod told;
-pub mod trial;
 
 use run::{no_words, run};
 use std::process::ExitCode;

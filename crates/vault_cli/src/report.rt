@@ -2,13 +2,13 @@
 ghost use Rattle.std.specs.Prelude.{◌≡◌, ◌++◌, codes, decimal};
 ghost use Rattle.vault_wire.specs.Watching.{inner_of, is_stopped};
 ghost use Rattle.vault_cli.specs.Ending.{Says, not_opened_line, status_of};
-ghost use Rattle.vault_cli.specs.Told.{Tells};
+ghost use Rattle.vault_jobs.specs.Told.{Tells};
 
 use crate::ending::Ending;
-use crate::told::tell;
 use itoa::Buffer;
 use std::io::Write;
 use vault_file::fault::NotOpened;
+use vault_jobs::told::tell;
 use vault_wire::watched::Watched;
 
 /// Writes a line that ends with a number.

@@ -3,8 +3,9 @@ ghost use Rattle.std.specs.Prelude.{◌≡◌, ◌≢◌, ◌↔◌, ◌⊎◌, 
 ghost use Rattle.std.specs.IoError.{error_kind};
 ghost use Rattle.vault_wire.specs.Watching.{inner_of, is_stopped};
 ghost use Rattle.vault_cli.specs.Ending.{bad_words_line, stop_line};
-ghost use Rattle.vault_cli.specs.Ran.{Ends, EndsBy, HasLives, Ran, Streams, streams};
-ghost use Rattle.vault_cli.specs.Told.{Tells};
+ghost use Rattle.vault_jobs.specs.Streams.{Streams, streams};
+ghost use Rattle.vault_jobs.specs.Told.{Tells};
+ghost use Rattle.vault_cli.specs.Ran.{Ends, EndsBy, HasLives, Ran};
 
 use crate::commands::check::check;
 use crate::commands::merchant::merchant;
@@ -12,11 +13,12 @@ use crate::commands::pipe::pipe;
 use crate::commands::rights::{grant, withdraw};
 use crate::commands::serve::serve;
 use crate::commands::trial::trial;
-use crate::ending::{Ending, Stop};
+use crate::ending::Ending;
 use crate::report::report;
-use crate::told::tell;
 use std::convert::AsStr;
 use std::io::{Error, ErrorKind, Read, Write};
+use vault_jobs::stop::Stop;
+use vault_jobs::told::tell;
 use vault_store::vault::Fault;
 use vault_wire::watched::Watched;
 use vault_words::job::job;

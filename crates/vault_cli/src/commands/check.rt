@@ -1,14 +1,16 @@
 //! `check`: the whole check of a file.
 ghost use Rattle.std.specs.Prelude.{◌≡◌};
 ghost use Rattle.vault_wire.specs.Watching.{inner_of};
-ghost use Rattle.vault_cli.specs.Ran.{Ends, Streams, streams};
+ghost use Rattle.vault_jobs.specs.Streams.{Streams, streams};
+ghost use Rattle.vault_cli.specs.Ran.{Ends};
 ghost use Rattle.vault_words.specs.declared.jobs.Job.{Job};
 
-use crate::answer::answer;
-use crate::ending::{Ending, Stop};
+use crate::ending::Ending;
 use itoa::Buffer;
 use std::io::{Read, Write};
 use vault_file::check::check_file;
+use vault_jobs::answer::answer;
+use vault_jobs::stop::Stop;
 use vault_wire::watched::Watched;
 use vault_words::commands::check::CheckJob;
 

@@ -1,17 +1,19 @@
 //! `merchant`: a merchant's lives.
 ghost use Rattle.std.specs.Prelude.{◌≡◌};
 ghost use Rattle.vault_wire.specs.Watching.{inner_of};
-ghost use Rattle.vault_cli.specs.Ran.{Ends, Streams, streams};
+ghost use Rattle.vault_jobs.specs.Streams.{Streams, streams};
+ghost use Rattle.vault_cli.specs.Ran.{Ends};
 ghost use Rattle.vault_words.specs.declared.jobs.Job.{Job};
 ghost use Rattle.vault_core.specs.Scalar.{IsLife};
 
-use crate::clock::moment;
 use crate::ending::Ending;
-use crate::task::{Task, do_on_file};
+use crate::on_file::do_on_file;
 use std::io::{Read, Write};
 use vault_core::command::Command;
 use vault_core::name::MerchantId;
 use vault_core::refusal::BAD_NAME;
+use vault_jobs::clock::moment;
+use vault_jobs::task::Task;
 use vault_wire::watched::Watched;
 use vault_words::commands::merchant::MerchantJob;
 

@@ -1,17 +1,19 @@
 //! `grant` and `withdraw`: a caller's right at a merchant.
 ghost use Rattle.std.specs.Prelude.{◌≡◌, MatchResult};
 ghost use Rattle.vault_wire.specs.Watching.{inner_of};
-ghost use Rattle.vault_cli.specs.Ran.{Ends, IsMisnamed, IsRight, Streams, AreNames, streams};
+ghost use Rattle.vault_jobs.specs.Streams.{Streams, streams};
+ghost use Rattle.vault_cli.specs.Ran.{AreNames, Ends, IsMisnamed, IsRight};
 ghost use Rattle.vault_words.specs.declared.jobs.Job.{Job};
 
-use crate::clock::moment;
 use crate::ending::Ending;
-use crate::task::{Task, do_on_file};
+use crate::on_file::do_on_file;
 use std::io::{Read, Write};
 use vault_core::command::Command;
 use vault_core::name::{Caller, MerchantId};
 use vault_core::refusal::BAD_NAME;
 use vault_core::right::Right;
+use vault_jobs::clock::moment;
+use vault_jobs::task::Task;
 use vault_rights::fault::UNKNOWN_RIGHT;
 use vault_wire::watched::Watched;
 use vault_words::commands::rights::RightJob;

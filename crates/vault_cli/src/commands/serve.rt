@@ -1,12 +1,14 @@
 //! `serve`: the vault of a file served on a port.
 ghost use Rattle.std.specs.Prelude.{◌≡◌};
 ghost use Rattle.vault_wire.specs.Watching.{inner_of};
-ghost use Rattle.vault_cli.specs.Ran.{Ends, Streams, streams};
+ghost use Rattle.vault_jobs.specs.Streams.{Streams, streams};
+ghost use Rattle.vault_cli.specs.Ran.{Ends};
 ghost use Rattle.vault_words.specs.declared.jobs.Job.{Job};
 
 use crate::ending::Ending;
-use crate::task::{Task, do_on_file};
+use crate::on_file::do_on_file;
 use std::io::{Read, Write};
+use vault_jobs::task::Task;
 use vault_wire::watched::Watched;
 use vault_words::commands::serve::ServeJob;
 

@@ -1,16 +1,18 @@
 //! `trial`: messages answered by a vault in memory.
 ghost use Rattle.std.specs.Prelude.{◌≡◌};
 ghost use Rattle.vault_wire.specs.Watching.{inner_of};
-ghost use Rattle.vault_cli.specs.Ran.{Ends, Streams, streams};
+ghost use Rattle.vault_jobs.specs.Streams.{Streams, streams};
+ghost use Rattle.vault_cli.specs.Ran.{Ends};
 ghost use Rattle.vault_words.specs.declared.jobs.Job.{Job};
 ghost use Rattle.vault_core.specs.Scalar.{IsLife};
 
-use crate::clock::moment;
-use crate::ending::{Ending, Stop};
-use crate::trial::{Trial, serve_trial};
+use crate::ending::Ending;
 use std::io::{Read, Write};
 use vault_core::name::{Caller, MerchantId};
 use vault_core::refusal::BAD_NAME;
+use vault_jobs::clock::moment;
+use vault_jobs::stop::Stop;
+use vault_jobs::trial::{Trial, serve_trial};
 use vault_wire::watched::Watched;
 use vault_words::commands::trial::TrialJob;
 

@@ -1,6 +1,6 @@
 use Rattle.std.proofs.Common.{ℕ, refl, subst}
 use Rattle.vault_cli.specs.Ending.{stop_line}
-use Rattle.vault_cli.specs.Told.{Tells}
+use Rattle.vault_jobs.specs.Told.{Tells}
 use Rattle.vault_cli.proofs.report.report.Goals as goal
 
 pub returns-in-Stopped-clause-said : goal.returns-in-Stopped-clause-said

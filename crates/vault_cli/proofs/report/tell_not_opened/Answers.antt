@@ -1,7 +1,7 @@
 use Rattle.std.proofs.Common.{List, ℕ, ◌++◌, codes, decimal, ap, subst, sym, w64, SFits, rules, ◌∙◌}
 use Rattle.std.specs.Fmt.{signed_decimal}
 use Rattle.std.proofs.lemmas.Int.{to_z-of_z}
-use Rattle.vault_cli.specs.Told.{Tells}
+use Rattle.vault_jobs.specs.Told.{Tells}
 use Rattle.vault_cli.proofs.Lines.{with_detail, without_detail}
 use Rattle.vault_cli.proofs.report.tell_not_opened.Goals as goal
 

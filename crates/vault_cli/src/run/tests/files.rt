@@ -1,6 +1,7 @@
 //! The program on files of the tests' own folders.
 
 use super::{FIRST_TOKEN, Ran, answer, asking, run_on, trial};
+use std::net::TcpListener;
 use std::test::Fail;
 use std::{fs, io};
 
@@ -109,6 +110,31 @@ fn a_file_that_is_no_vault_is_not_opened(rt: HostRuntime) -> io::Result<()> {
         assert!(rt; ends(&rt, ["vault", "check", file].as_slice(), 3, "", line));
         assert!(rt; ends(&rt, ["vault", "pipe", file].as_slice(), 3, "", line));
     }
+    Ok(())
+}
+
+#[test]
+fn each_status_goes_with_its_line(rt: HostRuntime) -> Result<(), Fail> {
+    make_folder(&rt, "statuses")?;
+    let file = "statuses/vault.db";
+    let taken = TcpListener::bind(&rt, ("127.0.0.1", 0))?;
+    let port = taken.local_addr()?.port();
+    let port = format!(in rt.alloc(); "{port}")?;
+    let port = port.as_str();
+    let life = [
+        "vault", "merchant", "--now", "1000", file, "shop1", "60", "0",
+    ];
+    let serve = ["vault", "serve", "--connections", "1", "--port", port, file];
+    assert!(rt; ends(&rt, life.as_slice(), 0, "done\n", ""));
+    let unknown = ["vault", "grant", file, "till-1", "shop2", "view"];
+    assert!(rt; ends(&rt, unknown.as_slice(), 1, "refused 7\n", ""));
+    let unread = ["vault", "serve", file];
+    assert!(rt; ends(&rt, unread.as_slice(), 2, "", "vault: bad words\n"));
+    let folder = ["vault", "check", "statuses"];
+    assert!(rt; ends(&rt, folder.as_slice(), 3, "", "vault: file not opened 34\n"));
+    assert!(rt; ends(&rt, serve.as_slice(), 4, "", "vault: stopped 80\n"));
+    let check = ["vault", "check", file];
+    assert!(rt; ends(&rt, check.as_slice(), 0, "sound 1 0 0\n", ""));
     Ok(())
 }
 

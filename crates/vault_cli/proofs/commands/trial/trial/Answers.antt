@@ -1,6 +1,8 @@
-use Rattle.vault_cli.specs.Trial.{trial_vault}
-use Rattle.vault_cli.proofs.Moments.{some_moment}
-use Rattle.vault_cli.proofs.Stops.{nothing_cut}
+use Rattle.std.proofs.Common.{refl}
+use Rattle.vault_http.specs.declared.fault.ServeFault.TheVariants as service
+use Rattle.vault_jobs.specs.Trial.{trial_vault}
+use Rattle.vault_jobs.proofs.Moments.{some_moment}
+use Rattle.vault_jobs.proofs.Stops.{nothing_cut}
 use Rattle.vault_cli.proofs.commands.trial.trial.Goals as goal
 
 pub returns-in-Err : goal.returns-in-Err
@@ -12,5 +14,8 @@ returns-in-Err g c =
     let sent = g.W.Write.contents c.args.output.now.inner in
     rw c.in-Err.ensures.fault (
       tt,
-      ((λ is. absurd (cc (is))), (made.0, made.1, nothing_cut left sent V job.now job.digits)),
+      (
+        (service.Source, refl, λ is. absurd (cc (is))),
+        (made.0, made.1, nothing_cut left sent V job.now job.digits),
+      ),
     )

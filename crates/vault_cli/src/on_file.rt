@@ -1,0 +1,37 @@
+//! What is done with the vault in a file.
+ghost use Rattle.std.specs.Prelude.{◌≡◌};
+ghost use Rattle.vault_jobs.specs.Streams.{Streams, streams};
+ghost use Rattle.vault_jobs.specs.Tasks.{IsProper};
+ghost use Rattle.vault_cli.specs.Files.{FileEnds};
+
+use crate::ending::Ending;
+use std::io::{Read, Write};
+use vault_file::open::{close_vault, open_vault};
+use vault_jobs::change::Verdict;
+use vault_jobs::task::{Task, do_task};
+use vault_wire::watched::Watched;
+
+/// Does a task on the vault in the file at a path.
+pub(crate) fn do_on_file<R: Read, W: Write>(
+    rt: &HostRuntime,
+    path: &str,
+    task: &Task,
+    input: &mut Watched<R>,
+    output: &mut Watched<W>,
+) -> Ending
+    requires { IsProper task.now }
+    ensures { let s : Streams = streams R.remaining input.old input.new W.contents output.old output.new in
+        FileEnds task.now result (input.new ≡ input.old) (output.new ≡ output.old) s }
+{
+    let mut vault = match open_vault(rt, path) {
+        Ok(vault) => vault,
+        Err(fault) => return Ending::NotOpened(fault),
+    };
+    let ended = do_task(rt, task, &mut vault, input, output);
+    close_vault(vault);
+    match ended {
+        Ok(Verdict::Done) => Ending::Done,
+        Ok(Verdict::Refused(number)) => Ending::Refused(number),
+        Err(stop) => Ending::Stopped(stop),
+    }
+}

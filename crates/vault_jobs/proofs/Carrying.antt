@@ -1,0 +1,122 @@
+-- What messages and connections leave of a vault, as commands.
+use Rattle.std.proofs.Common.{◌≡◌, ◌≢◌, ℕ, ◌≤◌, List, [], ◌∷◌, ◌++◌, length, Option, Bool}
+use Rattle.std.proofs.Common.{true, false, Result, Ok, Err}
+use Rattle.std.proofs.Common.{inl, inr, ◌∙◌, ap, subst, refl, arith, append-nil}
+use Rattle.std.proofs.lemmas.Grind.{flat_map-append}
+use Rattle.vault_core.specs.Runs.{run}
+use Rattle.vault_core.specs.declared.command.Command.{Command}
+use Rattle.vault_http.specs.Exchanges.{Exchange, commands_in, commands_of, vault_after}
+use Rattle.vault_http.specs.Faults.{Failures, Tells, failures}
+use Rattle.vault_http.specs.Passing.{Passage}
+use Rattle.vault_http.specs.declared.fault.ServeFault.{ServeFault}
+use Rattle.vault_http.specs.declared.fault.ServeFault.TheVariants as fault
+use Rattle.vault_listen.specs.Service.{AllKept, Ends, OneUndecided, all_of}
+use Rattle.vault_listen.specs.declared.fault.ListenFault.{ListenFault}
+use Rattle.vault_listen.specs.declared.fault.ListenFault.TheVariants as listen
+use Rattle.vault_listen.proofs.Ending.{served_kept, stopped_kept, stopped_undecided, vault_part}
+use Rattle.vault_jobs.specs.Carried.{IsKept, IsTorn}
+use Rattle.vault_jobs.specs.Piped.{IsPiped, StopsPiping}
+use Rattle.vault_jobs.specs.Streams.{Known}
+
+-- the commands of exchanges are carried out
+pub kept_of : (n : ℕ) (w : Passage) → AllKept n w → IsKept w
+unfolding vault_after
+kept_of n w a = (commands_of (all_of a.connections), a.kept)
+
+-- an exchange asks for one command at most
+one_at_most : (wanted : Result Command ℕ) → length (commands_in wanted) ≤ 1
+one_at_most (Ok c) = omega arith
+one_at_most (Err n) = omega arith
+
+-- the commands of exchanges and of one more
+commands_then : (xs : List Exchange) (x : Exchange)
+    → commands_of (xs ++ x ∷ []) ≡ commands_of xs ++ commands_in x.wanted
+commands_then xs x =
+    flat_map-append (λ (y : Exchange). commands_in y.wanted) xs (x ∷ [])
+    ∙ ap (λ cs. commands_of xs ++ cs) (append-nil (commands_in x.wanted))
+
+-- where one exchange is undecided one command at most is
+pub torn_of : (n : ℕ) (w : Passage) → OneUndecided n w → IsTorn w
+unfolding vault_after
+torn_of n w a =
+    let before : List Exchange = all_of a.connections ++ a.last in (
+      commands_of before,
+      commands_in a.undecided.wanted,
+      one_at_most a.undecided.wanted,
+      λ V b. subst (λ cs. w.left_new (run (commands_of before) V) (run cs V))
+          (commands_then before a.undecided) (a.left V b),
+    )
+
+-- messages that are served to their end, and messages that stop
+pub piped_kept : (old new : Known) (w : Passage) → IsPiped old new w → IsKept (vault_part w)
+piped_kept old new w (served, s) = kept_of 1 (vault_part w) (served_kept old new w served s)
+
+pub stop_kept : (e : ServeFault) (old new : Known) (w : Passage) → e ≢ fault.Store → StopsPiping old new w e
+    → IsKept (vault_part w)
+stop_kept e old new w n (inl s) = kept_of 1 (vault_part w) (stopped_kept e old new w n s)
+stop_kept e old new w n (inr (is, p)) = piped_kept old new w p
+
+pub stop_torn : (e : ServeFault) (old new : Known) (w : Passage) → e ≡ fault.Store → StopsPiping old new w e
+    → IsTorn (vault_part w)
+stop_torn fault.Source old new w is s = absurd (cc (is))
+stop_torn fault.Read old new w is s = absurd (cc (is))
+stop_torn fault.Write old new w is s = absurd (cc (is))
+stop_torn fault.Store old new w is (inl s) = torn_of 1 (vault_part w) (stopped_undecided old new w s)
+stop_torn fault.Store old new w is (inr (other, p)) = absurd (cc (other))
+stop_torn fault.Memory old new w is s = absurd (cc (is))
+
+-- a vault that wasn't broken is broken exactly by a store that fails
+pub is_store : (e : ServeFault) (s r w v s' r' w' v' : Bool) → v ≡ false
+    → Tells {X = Unit {0}} (Err e) (failures s r w v) (failures s' r' w' v') → v' ≡ true → e ≡ fault.Store
+is_store fault.Source s r w v s' r' w' v' z t b =
+    let h = ap (λ (f : Failures). f.vault) t in
+    absurd (cc (z, h, b))
+is_store fault.Read s r w v s' r' w' v' z t b =
+    let h = ap (λ (f : Failures). f.vault) t in
+    absurd (cc (z, h, b))
+is_store fault.Write s r w v s' r' w' v' z t b =
+    let h = ap (λ (f : Failures). f.vault) t in
+    absurd (cc (z, h, b))
+is_store fault.Store s r w v s' r' w' v' z t b = refl
+is_store fault.Memory s r w v s' r' w' v' z t b =
+    let h = ap (λ (f : Failures). f.vault) t in
+    absurd (cc (z, h, b))
+
+pub no_store : (e : ServeFault) (s r w v s' r' w' v' : Bool)
+    → Tells {X = Unit {0}} (Err e) (failures s r w v) (failures s' r' w' v') → v' ≡ false → e ≢ fault.Store
+no_store fault.Source s r w v s' r' w' v' t b is = absurd (cc (is))
+no_store fault.Read s r w v s' r' w' v' t b is = absurd (cc (is))
+no_store fault.Write s r w v s' r' w' v' t b is = absurd (cc (is))
+no_store fault.Store s r w v s' r' w' v' t b is =
+    let h = ap (λ (f : Failures). f.vault) t in
+    absurd (cc (h, b))
+no_store fault.Memory s r w v s' r' w' v' t b is = absurd (cc (is))
+
+-- connections that are not all served
+pub listen_kept : (f : ListenFault) (n : ℕ) (w : Passage) → f ≢ listen.Store → Ends n w f → IsKept w
+listen_kept listen.Store n w other a = absurd (other refl)
+listen_kept listen.Memory n w other a = kept_of 0 w a
+listen_kept listen.Accept n w other (count, below, a) = kept_of count w a
+
+pub listen_torn : (f : ListenFault) (n : ℕ) (w : Passage) → f ≡ listen.Store → Ends n w f → IsTorn w
+listen_torn listen.Store n w is a = torn_of n w a
+listen_torn listen.Memory n w is a = absurd (cc (is))
+listen_torn listen.Accept n w is a = absurd (cc (is))
+
+-- a service that leaves a whole vault wasn't stopped by its store, and one that leaves a broken one was
+pub listen_other : (f : ListenFault) (r : Result (Unit {0}) ListenFault) (new : Bool) → r ≡ Err f
+    → new ≡ false
+    → (r ≡ Err listen.Store → new ≡ true) → f ≢ listen.Store
+listen_other f r new same whole store is =
+    let broken : new ≡ true = store (same ∙ ap Err is) in
+    absurd (cc (whole, broken))
+
+pub listen_store : (f : ListenFault) (r : Result (Unit {0}) ListenFault) (old new : Bool) → r ≡ Err f
+    → old ≡ false → new ≡ true → (r ≢ Err listen.Store → new ≡ old) → f ≡ listen.Store
+listen_store listen.Store r old new same z b others = refl
+listen_store listen.Memory r old new same z b others =
+    let kept : new ≡ old = others (λ is. absurd (cc (same, is))) in
+    absurd (cc (z, b, kept))
+listen_store listen.Accept r old new same z b others =
+    let kept : new ≡ old = others (λ is. absurd (cc (same, is))) in
+    absurd (cc (z, b, kept))

@@ -1,0 +1,5 @@
+pub mod Carrying
+pub mod Flushing
+pub mod Moments
+pub mod Stops
+pub mod Telling

@@ -1,0 +1,28 @@
+use Rattle.std.proofs.Common.{refl}
+use Rattle.vault_http.specs.Passing.{Passage}
+use Rattle.vault_listen.specs.Service.{vault_passing}
+use Rattle.vault_jobs.proofs.Carrying.{kept_of, listen_kept, listen_torn, listen_store, listen_other}
+use Rattle.vault_jobs.proofs.listening.serve_at.Goals as goal
+
+pub returns-in-Ok-serve_on-clause-kept : goal.returns-in-Ok-serve_on-clause-kept
+returns-in-Ok-serve_on-clause-kept g c = λ _.
+    let w : Passage = vault_passing g.T.Tables.is_honest g.T.Tables.holds g.T.Tables.leaves
+    c.args.vault.now c.serve_on.new.vault in
+    kept_of c.args.connections w c.in-Ok-serve_on.ensures.left
+
+pub returns-clause-kept : goal.returns-clause-kept
+returns-clause-kept g c = λ whole.
+    let w : Passage = vault_passing g.T.Tables.is_honest g.T.Tables.holds g.T.Tables.leaves
+    c.args.vault.now c.serve_on.new.vault in
+    let e = c.in-Err-serve_on.fault in
+    listen_kept e c.args.connections w (listen_other e _ _ refl whole c.in-Err-serve_on.ensures.store)
+    c.in-Err-serve_on.ensures.left
+
+pub returns-clause-torn : goal.returns-clause-torn
+returns-clause-torn g c = λ broken.
+    let w : Passage = vault_passing g.T.Tables.is_honest g.T.Tables.holds g.T.Tables.leaves
+    c.args.vault.now c.serve_on.new.vault in
+    let e = c.in-Err-serve_on.fault in
+    listen_torn e c.args.connections w
+    (listen_store e _ _ _ refl c.requires broken c.in-Err-serve_on.ensures.others)
+    c.in-Err-serve_on.ensures.left

@@ -1,0 +1,33 @@
+use Rattle.vault_live.specs.Live.{pairs_of}
+use Rattle.vault_http.specs.Passing.{Passage, passing}
+use Rattle.vault_jobs.proofs.Carrying.{is_store, no_store, piped_kept, stop_kept, stop_torn}
+use Rattle.vault_jobs.proofs.task.do_pipe.Goals as goal
+
+pub returns-in-Ok-pipe-clause-kept : goal.returns-in-Ok-pipe-clause-kept
+returns-in-Ok-pipe-clause-kept g c = λ _.
+    let left = g.R.Read.remaining c.args.input.now.inner in
+    let rest = g.R.Read.remaining c.pipe.new.input.inner in
+    let w : Passage = passing pairs_of c.in-Ok.pairs c.pipe.new.source g.W.Write.contents
+    c.args.output.now c.pipe.new.output g.T.Tables.is_honest g.T.Tables.holds g.T.Tables.leaves
+    c.args.vault.now c.pipe.new.vault in
+    piped_kept left rest w c.in-Ok-pipe.ensures.served
+
+pub returns-clause-kept : goal.returns-clause-kept
+returns-clause-kept g c = λ whole.
+    let left = g.R.Read.remaining c.args.input.now.inner in
+    let rest = g.R.Read.remaining c.pipe.new.input.inner in
+    let w : Passage = passing pairs_of c.in-Ok.pairs c.pipe.new.source g.W.Write.contents
+    c.args.output.now c.pipe.new.output g.T.Tables.is_honest g.T.Tables.holds g.T.Tables.leaves
+    c.args.vault.now c.pipe.new.vault in
+    let other = no_store c.in-Err-pipe.fault _ _ _ _ _ _ _ _ c.in-Err-pipe.ensures.told whole in
+    stop_kept c.in-Err-pipe.fault left rest w other c.in-Err-pipe.ensures.stopped
+
+pub returns-clause-torn : goal.returns-clause-torn
+returns-clause-torn g c = λ broken.
+    let left = g.R.Read.remaining c.args.input.now.inner in
+    let rest = g.R.Read.remaining c.pipe.new.input.inner in
+    let w : Passage = passing pairs_of c.in-Ok.pairs c.pipe.new.source g.W.Write.contents
+    c.args.output.now c.pipe.new.output g.T.Tables.is_honest g.T.Tables.holds g.T.Tables.leaves
+    c.args.vault.now c.pipe.new.vault in
+    let is = is_store c.in-Err-pipe.fault _ _ _ _ _ _ _ _ c.requires c.in-Err-pipe.ensures.told broken in
+    stop_torn c.in-Err-pipe.fault left rest w is c.in-Err-pipe.ensures.stopped

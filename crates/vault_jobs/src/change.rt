@@ -1,0 +1,48 @@
+//! One command on a vault.
+ghost use Rattle.std.specs.Prelude.{◌≡◌, Err, false, true};
+ghost use Rattle.vault_core.specs.Proper.{HasLivesInRange};
+ghost use Rattle.vault_core.specs.Table.{reply as reply_lem};
+ghost use Rattle.vault_core.specs.Vault.{Vault as Content};
+ghost use Rattle.vault_store.specs.Applied.{Contains, is_broken, tables_of};
+ghost use Rattle.vault_http.specs.Passing.{Passage};
+ghost use Rattle.vault_listen.specs.Service.{vault_passing};
+ghost use Rattle.vault_jobs.specs.Carried.{IsAnswered, IsKept, IsTorn};
+
+use vault_core::command::Command;
+use vault_core::reply::Reply;
+use vault_store::tables::Tables;
+use vault_store::vault::{Fault, Vault};
+
+/// What a vault replies to a command of the words.
+#[derive(Clone, Copy, Debug, PartialEq, Eq, Drop)]
+pub enum Verdict {
+    /// It is done.
+    Done,
+    /// It is refused, by this number.
+    Refused(u8),
+}
+
+/// Carries out one command that is answered by done or refused.
+///
+/// 20 Memory: memory was refused, and nothing changed. 21 Store: the store failed, or its reply is neither.
+pub fn change<T: Tables>(vault: &mut Vault<T>, command: &Command) -> Result<Verdict, Fault>
+    requires lives { HasLivesInRange command.now }
+    requires unbroken { is_broken vault.old ≡ false }
+    ensures answered { T.is_honest (tables_of vault.new) → (V : Content) → Contains T.holds vault.old V
+        → IsAnswered result (reply_lem V command.now) }
+    ensures kept { let w : Passage = vault_passing T.is_honest T.holds T.leaves vault.old vault.new in
+        is_broken vault.new ≡ false → IsKept w }
+    ensures torn { let w : Passage = vault_passing T.is_honest T.holds T.leaves vault.old vault.new in
+        is_broken vault.new ≡ true → IsTorn w }
+    ensures broken { is_broken vault.new ≡ true → result ≡ Err Fault.Store }
+    ensures honest { T.is_honest (tables_of vault.new) → T.is_honest (tables_of vault.old) }
+{
+    match vault.apply(command) {
+        Ok(Reply::Done) => Ok(Verdict::Done),
+        Ok(Reply::Refused(number)) => Ok(Verdict::Refused(number)),
+        Ok(_) => Err(Fault::Store),
+        Err(Fault::Memory) => Err(Fault::Memory),
+        Err(Fault::Store) => Err(Fault::Store),
+        Err(Fault::Reopen) => Err(Fault::Reopen),
+    }
+}

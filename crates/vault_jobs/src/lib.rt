@@ -1,0 +1,13 @@
+//! What the program does with a vault and its streams, over any tables: it knows no words and no file.
+#![tactic(auto)]
+
+pub mod answer;
+pub mod change;
+pub mod clock;
+pub mod listening;
+pub mod pipe;
+pub mod source;
+pub mod stop;
+pub mod task;
+pub mod told;
+pub mod trial;

@@ -1,0 +1,54 @@
+//! The messages of standard input answered on standard output.
+ghost use Rattle.std.specs.Prelude.{◌≡◌, false, Err, IfErr, OnOk};
+ghost use Rattle.vault_store.specs.Applied.{is_broken, tables_of};
+ghost use Rattle.vault_wire.specs.Watching.{inner_of, is_stopped};
+ghost use Rattle.vault_http.specs.Faults.{Tells, failures};
+ghost use Rattle.vault_http.specs.Passing.{Passage, passing};
+ghost use Rattle.vault_jobs.specs.Piped.{IsPiped, StopsPiping};
+
+use std::alloc::Global;
+use std::io::{Read, Write};
+use vault_core::source::Source;
+use vault_http::fault::ServeFault;
+use vault_http::serve::serve;
+use vault_store::tables::Tables;
+use vault_store::vault::Vault;
+use vault_wire::watched::Watched;
+
+/// Answers the messages of the input, up to its end, to a message that closes the connection, or to a fault
+/// of the bytes, which is answered too; and hands the answers on.
+///
+/// 60 Source: the source has no pair for a message. 61 Read: the reader failed. 62 Write: the writer failed,
+/// perhaps only when it was to hand on what it had taken. 63 Store: the store failed. 64 Memory: memory was
+/// refused.
+pub fn pipe<R: Read, W: Write, T: Tables, S: Source>(
+    alloc: Global,
+    input: &mut Watched<R>,
+    output: &mut Watched<W>,
+    vault: &mut Vault<T>,
+    source: &mut S,
+) -> Result<(), ServeFault>
+    ensures served { let w : Passage = passing S.given source.old source.new W.contents output.old output.new
+        T.is_honest T.holds T.leaves vault.old vault.new in
+        OnOk result (IsPiped (R.remaining (inner_of input.old)) (R.remaining (inner_of input.new)) w) }
+    ensures stopped { let w : Passage = passing S.given source.old source.new W.contents output.old output.new
+        T.is_honest T.holds T.leaves vault.old vault.new in
+        IfErr result (StopsPiping (R.remaining (inner_of input.old)) (R.remaining (inner_of input.new)) w) }
+    ensures handed_on { OnOk result (is_stopped output.new ≡ false) }
+    ensures told { Tells result
+        (failures (S.has_refused source.old) (is_stopped input.old) (is_stopped output.old)
+        (is_broken vault.old))
+        (failures (S.has_refused source.new) (is_stopped input.new) (is_stopped output.new)
+        (is_broken vault.new)) }
+    ensures later { S.precedes source.old source.new }
+    ensures sturdy { T.may_fail ≡ false → is_broken vault.old ≡ false → ¬ (result ≡ Err ServeFault.Store) }
+    ensures honest { T.is_honest (tables_of vault.new) → T.is_honest (tables_of vault.old) }
+{
+    match serve(alloc, input, output, vault, source) {
+        Ok(_) => match output.flush() {
+            Ok(()) => Ok(()),
+            Err(_) => Err(ServeFault::Write),
+        },
+        Err(fault) => Err(fault),
+    }
+}

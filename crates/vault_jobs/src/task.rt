@@ -1,0 +1,123 @@
+//! What is done with a vault.
+ghost use Rattle.std.specs.Prelude.{◌≡◌, IsErr, MatchResult, codes, false, true};
+ghost use Rattle.vault_core.specs.Proper.{HasLivesInRange};
+ghost use Rattle.vault_store.specs.Applied.{is_broken};
+ghost use Rattle.vault_http.specs.Passing.{Passage};
+ghost use Rattle.vault_listen.specs.Service.{vault_passing};
+ghost use Rattle.vault_jobs.specs.Carried.{IsKept, IsTorn};
+ghost use Rattle.vault_wire.specs.Watching.{inner_of, is_stopped};
+ghost use Rattle.vault_jobs.specs.Causes.{IsCauseOf};
+ghost use Rattle.vault_jobs.specs.Streams.{IsHeard, Streams, streams};
+ghost use Rattle.vault_jobs.specs.Tasks.{IsProper, Says, TaskEnds};
+
+use crate::answer::answer;
+use crate::change::{Verdict, change};
+use crate::listening::serve_at;
+use crate::pipe::pipe;
+use crate::source::source;
+use crate::stop::Stop;
+use std::io::{Read, Write};
+use vault_core::command::Command;
+use vault_core::moment::Moment;
+use vault_pan::draw::Digits;
+use vault_store::tables::Tables;
+use vault_store::vault::Vault;
+use vault_wire::watched::Watched;
+
+/// What is done with a vault.
+#[derive(Clone, Copy, Debug)]
+pub enum Task {
+    /// Carries out one command.
+    Change(Command),
+    /// Answers the messages of the input, with this moment and these digits, where they are fixed.
+    Pipe(Option<Moment>, Option<Digits>),
+    /// Serves so many connections on a port.
+    Serve(u16, u64),
+}
+
+/// Carries out a command, and says `done`.
+fn do_change<W: Write, T: Tables>(
+    vault: &mut Vault<T>,
+    command: &Command,
+    output: &mut Watched<W>,
+) -> Result<Verdict, Stop>
+    requires lives { HasLivesInRange command.now }
+    requires unbroken { is_broken vault.old ≡ false }
+    ensures said { Says result (output.new ≡ output.old) (W.contents (inner_of output.old))
+        (W.contents (inner_of output.new)) (is_stopped output.new) (codes "done\n") }
+    ensures kept { let w : Passage = vault_passing T.is_honest T.holds T.leaves vault.old vault.new in
+        is_broken vault.new ≡ false → IsKept w }
+    ensures torn { let w : Passage = vault_passing T.is_honest T.holds T.leaves vault.old vault.new in
+        is_broken vault.new ≡ true → IsTorn w }
+    ensures broken { is_broken vault.new ≡ true → IsErr result }
+{
+    match change(vault, command) {
+        Ok(Verdict::Done) => match answer(output, &["done\n"]) {
+            Ok(()) => Ok(Verdict::Done),
+            Err(fault) => Err(Stop::Service(fault)),
+        },
+        Ok(Verdict::Refused(number)) => Ok(Verdict::Refused(number)),
+        Err(fault) => Err(Stop::Vault(fault)),
+    }
+}
+
+/// Answers the messages of the input.
+fn do_pipe<R: Read, W: Write, T: Tables>(
+    rt: &HostRuntime,
+    moment: Option<Moment>,
+    digits: Option<Digits>,
+    vault: &mut Vault<T>,
+    input: &mut Watched<R>,
+    output: &mut Watched<W>,
+) -> Result<(), Stop>
+    requires { is_broken vault.old ≡ false }
+    ensures streams { let s : Streams =
+        streams R.remaining input.old input.new W.contents output.old output.new in
+        MatchResult result (λ _. (s.writer ≡ false) × IsHeard s) (λ stop. IsCauseOf stop s) }
+    ensures kept { let w : Passage = vault_passing T.is_honest T.holds T.leaves vault.old vault.new in
+        is_broken vault.new ≡ false → IsKept w }
+    ensures torn { let w : Passage = vault_passing T.is_honest T.holds T.leaves vault.old vault.new in
+        is_broken vault.new ≡ true → IsTorn w }
+    ensures broken { is_broken vault.new ≡ true → IsErr result }
+{
+    let mut pairs = match source(rt, moment, digits) {
+        Ok(pairs) => pairs,
+        Err(fault) => return Err(Stop::Service(fault)),
+    };
+    match pipe(rt.alloc(), input, output, vault, &mut pairs) {
+        Ok(()) => Ok(()),
+        Err(fault) => Err(Stop::Service(fault)),
+    }
+}
+
+/// Does a task on a vault.
+pub fn do_task<R: Read, W: Write, T: Tables>(
+    rt: &HostRuntime,
+    task: &Task,
+    vault: &mut Vault<T>,
+    input: &mut Watched<R>,
+    output: &mut Watched<W>,
+) -> Result<Verdict, Stop>
+    requires proper { IsProper task.now }
+    requires unbroken { is_broken vault.old ≡ false }
+    ensures ends { let s : Streams =
+        streams R.remaining input.old input.new W.contents output.old output.new in
+        TaskEnds task.now result (input.new ≡ input.old) (output.new ≡ output.old) s }
+    ensures kept { let w : Passage = vault_passing T.is_honest T.holds T.leaves vault.old vault.new in
+        is_broken vault.new ≡ false → IsKept w }
+    ensures torn { let w : Passage = vault_passing T.is_honest T.holds T.leaves vault.old vault.new in
+        is_broken vault.new ≡ true → IsTorn w }
+    ensures broken { is_broken vault.new ≡ true → IsErr result }
+{
+    match *task {
+        Task::Change(ref command) => do_change(vault, command, output),
+        Task::Pipe(moment, digits) => match do_pipe(rt, moment, digits, vault, input, output) {
+            Ok(()) => Ok(Verdict::Done),
+            Err(stop) => Err(stop),
+        },
+        Task::Serve(port, connections) => match serve_at(rt, port, connections, vault, output) {
+            Ok(()) => Ok(Verdict::Done),
+            Err(stop) => Err(stop),
+        },
+    }
+}

@@ -1,0 +1,136 @@
+//! A vault in memory that answers the messages of an input.
+ghost use Rattle.std.specs.Prelude.{◌≡◌, false, Err, IfErr, IfOk, OnErr, OnOk};
+ghost use Rattle.vault_core.specs.Proper.{HasLivesInRange};
+ghost use Rattle.vault_core.specs.Scalar.{IsLife};
+ghost use Rattle.vault_core.specs.Vault.{Vault as Content};
+ghost use Rattle.vault_store.specs.Applied.{Contains, is_broken};
+ghost use Rattle.vault_store.specs.Held.{IsHeld};
+ghost use Rattle.vault_wire.specs.Watching.{inner_of, is_stopped};
+ghost use Rattle.vault_jobs.specs.Causes.{IsCause};
+ghost use Rattle.vault_jobs.specs.Trial.{IsCut, IsTrial, left_by, trial_vault as trial_vault_lem};
+
+use crate::pipe::pipe;
+use crate::source::source;
+use std::alloc::{AllocError, Global};
+use std::io::{Read, Write};
+use std::random::RandomSource;
+use std::time::Clock;
+use vault_core::command::Command;
+use vault_core::moment::Moment;
+use vault_core::name::{Caller, MerchantId};
+use vault_core::right::Right;
+use vault_http::fault::ServeFault;
+use vault_pan::draw::Digits;
+use vault_store::memory::MemTables;
+use vault_store::vault::{Fault, Vault};
+use vault_wire::watched::Watched;
+
+/// What a trial is asked with.
+#[derive(Clone, Copy, Debug)]
+pub struct Trial {
+    pub caller: Caller,
+    pub merchant: MerchantId,
+    /// The life of a single-use token, in seconds.
+    pub life: u64,
+    /// The moment of the merchant and of its rights.
+    pub made: Moment,
+    /// The moment of each message, where it isn't the clock's.
+    pub moment: Option<Moment>,
+    /// The digits of each message, where they aren't drawn.
+    pub digits: Option<Digits>,
+}
+
+/// Changes the vault by a command.
+#[tactic(auto, unfolding(crate::specs::Trial::left_by))]
+fn change(vault: &mut Vault<MemTables>, command: &Command) -> Result<(), AllocError>
+    requires lives { HasLivesInRange command.now }
+    requires unbroken { is_broken vault.old ≡ false }
+    ensures changed { OnOk result ((V : Content) → Contains IsHeld vault.old V
+        → Contains IsHeld vault.new (left_by V command.now)) }
+    ensures unbroken { is_broken vault.new ≡ false }
+{
+    match vault.apply(command) {
+        Ok(_) => Ok(()),
+        Err(Fault::Memory) => Err(AllocError),
+        Err(Fault::Store) => unreachable!(),
+        Err(Fault::Reopen) => unreachable!(),
+    }
+}
+
+/// The vault of a trial: its merchant is set and its caller gets all rights.
+fn trial_vault(alloc: Global, trial: &Trial) -> Result<Vault<MemTables>, AllocError>
+    requires { IsLife trial.now.life }
+    ensures holds { IfOk result (λ vault. Contains IsHeld vault
+        (trial_vault_lem trial.now.caller trial.now.merchant trial.now.life trial.now.made)) }
+    ensures unbroken { IfOk result (λ vault. is_broken vault ≡ false) }
+{
+    let mut vault = Vault::new(MemTables::new(alloc));
+    let set = Command::SetMerchant {
+        merchant: trial.merchant,
+        single_life: trial.life,
+        multi_life: 0,
+        now: trial.made,
+    };
+    change(&mut vault, &set)?;
+    give(&mut vault, trial, Right::Tokenize)?;
+    give(&mut vault, trial, Right::Detokenize)?;
+    give(&mut vault, trial, Right::View)?;
+    give(&mut vault, trial, Right::Revoke)?;
+    give(&mut vault, trial, Right::Purge)?;
+    give(&mut vault, trial, Right::Audit)?;
+    Ok(vault)
+}
+
+/// Gives the caller of the trial a right at its merchant.
+fn give(vault: &mut Vault<MemTables>, trial: &Trial, right: Right) -> Result<(), AllocError>
+    requires { is_broken vault.old ≡ false }
+    ensures given { OnOk result ((V : Content) → Contains IsHeld vault.old V
+        → Contains IsHeld vault.new
+        (left_by V (Command.Grant trial.now.caller trial.now.merchant right trial.now.made))) }
+    ensures unbroken { is_broken vault.new ≡ false }
+{
+    let grant = Command::Grant {
+        caller: trial.caller,
+        merchant: trial.merchant,
+        right,
+        now: trial.made,
+    };
+    change(vault, &grant)
+}
+
+/// Answers the messages of the input, up to its end, to a message that closes the connection, or to a
+/// fault of the bytes, which is answered too. Each message has the moment and the digits that the trial
+/// fixes, or else the clock's and drawn ones.
+///
+/// 60 Source: 1000 messages were answered and there is another one, the clock can't be read, or there is
+/// nothing to draw digits from. 61 Read: the reader failed. 62 Write: the writer failed, perhaps only when
+/// it was to hand on what it had taken. 64 Memory: memory was refused.
+pub fn serve_trial<H: AllocGlobal + Clock + RandomSource, R: Read, W: Write>(
+    rt: &H,
+    trial: &Trial,
+    input: &mut Watched<R>,
+    output: &mut Watched<W>,
+) -> Result<(), ServeFault>
+    requires { IsLife trial.now.life }
+    ensures served { OnOk result (IsTrial
+        (R.remaining (inner_of input.old)) (R.remaining (inner_of input.new))
+        (W.contents (inner_of output.old)) (W.contents (inner_of output.new))
+        (trial_vault_lem trial.now.caller trial.now.merchant trial.now.life trial.now.made)
+        trial.now.moment trial.now.digits) }
+    ensures handed_on { OnOk result (is_stopped output.new ≡ false) }
+    ensures cut { OnErr result (IsCut
+        (R.remaining (inner_of input.old)) (R.remaining (inner_of input.new))
+        (W.contents (inner_of output.old)) (W.contents (inner_of output.new))
+        (trial_vault_lem trial.now.caller trial.now.merchant trial.now.life trial.now.made)
+        trial.now.moment trial.now.digits) }
+    ensures stopped { IfErr result (λ e. IsCause e (is_stopped input.new) (is_stopped output.new)) }
+    ensures sturdy { ¬ (result ≡ Err ServeFault.Store) }
+{
+    let alloc = rt.alloc();
+    let mut vault = trial_vault(alloc, trial)?;
+    let mut pairs = source(rt, trial.moment, trial.digits)?;
+    pipe(alloc, input, output, &mut vault, &mut pairs)
+}
+
+#[cfg(test)]
+mod tests;
