@@ -1,12 +1,14 @@
 -- What a job leaves of the vault that it works on.
-use Rattle.std.specs.Prelude.{◌≡◌, ◌≤◌, List, ◌++◌, length, Result, Ok, Err}
+use Rattle.std.specs.Prelude.{◌≡◌, ◌≢◌, ◌≤◌, List, ◌++◌, length, Bool, true, false, Result, Ok, Err}
 use Rattle.vault_core.specs.Runs.{run}
+use Rattle.vault_core.specs.Table.{after, reply}
 use Rattle.vault_core.specs.Vault.{Vault as Content}
 use Rattle.vault_core.specs.declared.command.Command.{Command}
 use Rattle.vault_core.specs.declared.reply.Reply.{Reply}
-use Rattle.vault_core.specs.declared.reply.Reply.TheVariants as reply
+use Rattle.vault_core.specs.declared.reply.Reply.TheVariants as answer
 use Rattle.vault_http.specs.Passing.{IsBefore, Keeps, Passage}
 use Rattle.vault_store.specs.declared.vault.Fault.{Fault}
+use Rattle.vault_store.specs.declared.vault.Fault.TheVariants.{Memory, Store, Reopen}
 use Rattle.vault_jobs.specs.declared.change.Verdict.{Verdict}
 use Rattle.vault_jobs.specs.declared.change.Verdict.TheVariants.{Done, Refused}
 
@@ -20,8 +22,18 @@ abbrev pub IsTorn : Passage → Type 0
 IsTorn w = (commands more : List Command) × (length more ≤ 1)
     × ((V : Content) → IsBefore w V → w.left_new (run commands V) (run (commands ++ more) V))
 
--- a command is done, or refused, as the vault replies
-abbrev pub IsAnswered : Result Verdict Fault → Reply → Type 0
-IsAnswered (Ok Done) r = r ≡ reply.Done
-IsAnswered (Ok (Refused n)) r = r ≡ reply.Refused n
-IsAnswered (Err e) r = Unit {0}
+-- the reply that a verdict stands for
+abbrev pub reply_of : Verdict → Reply
+reply_of Done = answer.Done
+reply_of (Refused n) = answer.Refused n
+
+-- One command is carried out. Done or refused: so the vault replies, and the vault after it is kept. 20: the
+-- vault before it is. 21: the store failed, the vault is broken, and a crash leaves the vault before the
+-- command or the one after it; or it isn't broken, and its reply is neither done nor refused.
+abbrev pub Carries : Command → Passage → Bool → Result Verdict Fault → Type 0
+Carries c w broken (Ok v) = (V : Content) → IsBefore w V → (reply V c ≡ reply_of v) × Keeps w (after V c)
+Carries c w broken (Err Memory) = (V : Content) → IsBefore w V → Keeps w V
+Carries c w broken (Err Store) =
+    (broken ≡ true → (V : Content) → IsBefore w V → w.left_new V (after V c))
+    × (broken ≡ false → (V : Content) → IsBefore w V → (v : Verdict) → reply V c ≢ reply_of v)
+Carries c w broken (Err Reopen) = ⊥

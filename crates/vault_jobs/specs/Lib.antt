@@ -1,5 +1,6 @@
 pub mod Carried
 pub mod Causes
+pub mod Grants
 pub mod Moments
 pub mod Piped
 pub mod Streams

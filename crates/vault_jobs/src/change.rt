@@ -1,12 +1,10 @@
 //! One command on a vault.
 ghost use Rattle.std.specs.Prelude.{◌≡◌, Err, false, true};
 ghost use Rattle.vault_core.specs.Proper.{HasLivesInRange};
-ghost use Rattle.vault_core.specs.Table.{reply as reply_lem};
-ghost use Rattle.vault_core.specs.Vault.{Vault as Content};
-ghost use Rattle.vault_store.specs.Applied.{Contains, is_broken, tables_of};
+ghost use Rattle.vault_store.specs.Applied.{is_broken, tables_of};
 ghost use Rattle.vault_http.specs.Passing.{Passage};
 ghost use Rattle.vault_listen.specs.Service.{vault_passing};
-ghost use Rattle.vault_jobs.specs.Carried.{IsAnswered, IsKept, IsTorn};
+ghost use Rattle.vault_jobs.specs.Carried.{Carries, IsKept, IsTorn};
 
 use vault_core::command::Command;
 use vault_core::reply::Reply;
@@ -28,8 +26,8 @@ pub enum Verdict {
 pub fn change<T: Tables>(vault: &mut Vault<T>, command: &Command) -> Result<Verdict, Fault>
     requires lives { HasLivesInRange command.now }
     requires unbroken { is_broken vault.old ≡ false }
-    ensures answered { T.is_honest (tables_of vault.new) → (V : Content) → Contains T.holds vault.old V
-        → IsAnswered result (reply_lem V command.now) }
+    ensures carried { let w : Passage = vault_passing T.is_honest T.holds T.leaves vault.old vault.new in
+        Carries command.now w (is_broken vault.new) result }
     ensures kept { let w : Passage = vault_passing T.is_honest T.holds T.leaves vault.old vault.new in
         is_broken vault.new ≡ false → IsKept w }
     ensures torn { let w : Passage = vault_passing T.is_honest T.holds T.leaves vault.old vault.new in

@@ -4,6 +4,7 @@
 pub mod answer;
 pub mod change;
 pub mod clock;
+pub mod grants;
 pub mod listening;
 pub mod pipe;
 pub mod source;

@@ -1,5 +1,5 @@
 //! What is done with a vault.
-ghost use Rattle.std.specs.Prelude.{◌≡◌, IsErr, MatchResult, codes, false, true};
+ghost use Rattle.std.specs.Prelude.{◌≡◌, IsErr, MatchResult, codes, false, length, true};
 ghost use Rattle.vault_core.specs.Proper.{HasLivesInRange};
 ghost use Rattle.vault_store.specs.Applied.{is_broken};
 ghost use Rattle.vault_http.specs.Passing.{Passage};
@@ -8,17 +8,21 @@ ghost use Rattle.vault_jobs.specs.Carried.{IsKept, IsTorn};
 ghost use Rattle.vault_wire.specs.Watching.{inner_of, is_stopped};
 ghost use Rattle.vault_jobs.specs.Causes.{IsCauseOf};
 ghost use Rattle.vault_jobs.specs.Streams.{IsHeard, Streams, streams};
-ghost use Rattle.vault_jobs.specs.Tasks.{IsProper, Says, TaskEnds};
+ghost use Rattle.vault_jobs.specs.Tasks.{IsProper, Says, TaskEnds, granted_line};
 
 use crate::answer::answer;
 use crate::change::{Verdict, change};
+use crate::grants::give_all;
 use crate::listening::serve_at;
 use crate::pipe::pipe;
 use crate::source::source;
 use crate::stop::Stop;
+use itoa::Buffer;
 use std::io::{Read, Write};
 use vault_core::command::Command;
 use vault_core::moment::Moment;
+use vault_core::name::{Caller, MerchantId};
+use vault_core::right::Right;
 use vault_pan::draw::Digits;
 use vault_store::tables::Tables;
 use vault_store::vault::Vault;
@@ -26,9 +30,11 @@ use vault_wire::watched::Watched;
 
 /// What is done with a vault.
 #[derive(Clone, Copy, Debug)]
-pub enum Task {
+pub enum Task<'a> {
     /// Carries out one command.
     Change(Command),
+    /// Gives rights at a moment, to the first that is refused.
+    Give(&'a [(Caller, MerchantId, Right)], Moment),
     /// Answers the messages of the input, with this moment and these digits, where they are fixed.
     Pipe(Option<Moment>, Option<Digits>),
     /// Serves so many connections on a port.
@@ -56,6 +62,35 @@ fn do_change<W: Write, T: Tables>(
             Ok(()) => Ok(Verdict::Done),
             Err(fault) => Err(Stop::Service(fault)),
         },
+        Ok(Verdict::Refused(number)) => Ok(Verdict::Refused(number)),
+        Err(fault) => Err(Stop::Vault(fault)),
+    }
+}
+
+/// Gives rights, and says how many.
+fn do_give<W: Write, T: Tables>(
+    vault: &mut Vault<T>,
+    rights: &[(Caller, MerchantId, Right)],
+    now: Moment,
+    output: &mut Watched<W>,
+) -> Result<Verdict, Stop>
+    requires { is_broken vault.old ≡ false }
+    ensures said { Says result (output.new ≡ output.old) (W.contents (inner_of output.old))
+        (W.contents (inner_of output.new)) (is_stopped output.new) (granted_line (length rights.now)) }
+    ensures kept { let w : Passage = vault_passing T.is_honest T.holds T.leaves vault.old vault.new in
+        is_broken vault.new ≡ false → IsKept w }
+    ensures torn { let w : Passage = vault_passing T.is_honest T.holds T.leaves vault.old vault.new in
+        is_broken vault.new ≡ true → IsTorn w }
+    ensures broken { is_broken vault.new ≡ true → IsErr result }
+{
+    match give_all(vault, rights, now) {
+        Ok(Verdict::Done) => {
+            let mut digits = Buffer::new();
+            match answer(output, &["granted ", digits.format(rights.len()), "\n"]) {
+                Ok(()) => Ok(Verdict::Done),
+                Err(fault) => Err(Stop::Service(fault)),
+            }
+        }
         Ok(Verdict::Refused(number)) => Ok(Verdict::Refused(number)),
         Err(fault) => Err(Stop::Vault(fault)),
     }
@@ -93,7 +128,7 @@ fn do_pipe<R: Read, W: Write, T: Tables>(
 /// Does a task on a vault.
 pub fn do_task<R: Read, W: Write, T: Tables>(
     rt: &HostRuntime,
-    task: &Task,
+    task: &Task<'_>,
     vault: &mut Vault<T>,
     input: &mut Watched<R>,
     output: &mut Watched<W>,
@@ -111,6 +146,7 @@ pub fn do_task<R: Read, W: Write, T: Tables>(
 {
     match *task {
         Task::Change(ref command) => do_change(vault, command, output),
+        Task::Give(rights, now) => do_give(vault, rights, now, output),
         Task::Pipe(moment, digits) => match do_pipe(rt, moment, digits, vault, input, output) {
             Ok(()) => Ok(Verdict::Done),
             Err(stop) => Err(stop),
