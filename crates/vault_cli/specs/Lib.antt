@@ -1,3 +1,4 @@
 pub mod Ending
 pub mod Files
 pub mod Ran
+pub mod Rights

@@ -1,11 +1,12 @@
 -- What the program did, by how it ended.
-use Rattle.std.specs.Prelude.{◌≡◌, ◌≢◌, ◌⊎◌, ℕ, ◌++◌, List, false, codes, decimal}
+use Rattle.std.specs.Prelude.{◌≡◌, ◌≢◌, ◌⊎◌, ℕ, ◌++◌, List, length, false, codes, decimal}
 use Rattle.clap.specs.Words.{IsAmong, Text, fault_of}
 use Rattle.clap.specs.declared.error.kind.ErrorKind.TheVariants.{DisplayHelp}
 use Rattle.vault_core.specs.Name.{IsName}
 use Rattle.vault_core.specs.Scalar.{IsLife}
 use Rattle.vault_core.specs.Words.{right_word}
 use Rattle.vault_core.specs.declared.right.Right.{Right}
+use Rattle.vault_rights.specs.Named.{Row}
 use Rattle.vault_store.specs.declared.vault.Fault.TheVariants as vault
 use Rattle.vault_recover.specs.declared.sizes.Sizes.{Sizes}
 use Rattle.vault_http.specs.declared.fault.ServeFault.{ServeFault}
@@ -14,16 +15,17 @@ use Rattle.vault_words.specs.Commands.{vault_app}
 use Rattle.vault_words.specs.Jobs.{IsAsked}
 use Rattle.vault_words.specs.declared.commands.rights.RightJob.{RightJob}
 use Rattle.vault_words.specs.declared.jobs.Job.{Job}
-use Rattle.vault_words.specs.declared.jobs.Job.TheVariants.{Trial, Merchant, Grant, Withdraw, Pipe}
+use Rattle.vault_words.specs.declared.jobs.Job.TheVariants.{Trial, Merchant, Grant, Withdraw, Rights, Pipe}
 use Rattle.vault_words.specs.declared.jobs.Job.TheVariants.{Serve, Check}
 use Rattle.vault_jobs.specs.Causes.{IsCauseOf, number_of}
 use Rattle.vault_jobs.specs.Moments.{IsMomentOf}
 use Rattle.vault_jobs.specs.Streams.{IsHeard, Streams, Writes}
-use Rattle.vault_jobs.specs.Tasks.{listening_line}
+use Rattle.vault_jobs.specs.Tasks.{granted_line, listening_line}
 use Rattle.vault_jobs.specs.Trial.{IsCut, IsTrial, trial_vault}
 use Rattle.vault_jobs.specs.declared.stop.Stop.{Stop}
 use Rattle.vault_jobs.specs.declared.stop.Stop.TheVariants.{Vault, Service}
 use Rattle.vault_cli.specs.Ending.{bad_words_line, not_opened_line, refusal_line, status_of, stop_line}
+use Rattle.vault_cli.specs.Rights.{IsListed, IsRefusedText}
 use Rattle.vault_cli.specs.declared.ending.Ending.{Ending}
 use Rattle.vault_cli.specs.declared.ending.Ending.TheVariants.{Done, Refused, BadWords, NotOpened, Stopped}
 
@@ -33,6 +35,7 @@ HasLives (Trial j) = IsLife j.life
 HasLives (Merchant j) = IsLife j.single_life × IsLife j.multi_life
 HasLives (Grant j) = Unit {0}
 HasLives (Withdraw j) = Unit {0}
+HasLives (Rights j) = Unit {0}
 HasLives (Pipe j) = Unit {0}
 HasLives (Serve j) = Unit {0}
 HasLives (Check j) = Unit {0}
@@ -50,6 +53,8 @@ IsDone (Trial j) unread s = (made : ℕ) × IsMomentOf j.now made
 IsDone (Merchant j) unread s = unread × Writes s (codes "done\n")
 IsDone (Grant j) unread s = unread × Writes s (codes "done\n")
 IsDone (Withdraw j) unread s = unread × Writes s (codes "done\n")
+IsDone (Rights j) unread s =
+    unread × ((rows : List Row) × IsListed rows × Writes s (granted_line (length rows)))
 IsDone (Pipe j) unread s = IsHeard s
 IsDone (Serve j) unread s = unread × ((port : ℕ) × Writes s (listening_line port))
 IsDone (Check j) unread s = unread × ((sizes : Sizes) × Writes s (sound_line sizes))
@@ -63,6 +68,7 @@ IsBegun (Trial j) stop unread s = ((fault : ServeFault) × (stop ≡ Service fau
 IsBegun (Merchant j) stop unread s = unread
 IsBegun (Grant j) stop unread s = unread
 IsBegun (Withdraw j) stop unread s = unread
+IsBegun (Rights j) stop unread s = unread
 IsBegun (Pipe j) stop unread s = Unit {0}
 IsBegun (Serve j) stop unread s = unread
 IsBegun (Check j) stop unread s = unread
@@ -85,6 +91,7 @@ IsRefused (Trial j) n = (n ≡ 4) × ¬ (IsName j.caller.now × IsName j.merchan
 IsRefused (Merchant j) n = (n ≡ 4) × ¬ (IsName j.name.now) ⊎ IsName j.name.now
 IsRefused (Grant j) n = IsMisnamed j n ⊎ AreNames j × IsRight j
 IsRefused (Withdraw j) n = IsMisnamed j n ⊎ AreNames j × IsRight j
+IsRefused (Rights j) n = IsRefusedText n ⊎ ((rows : List Row) × IsListed rows)
 IsRefused (Pipe j) n = ⊥
 IsRefused (Serve j) n = ⊥
 IsRefused (Check j) n = ⊥
@@ -95,6 +102,7 @@ IsOnFile (Trial j) = ⊥
 IsOnFile (Merchant j) = IsName j.name.now
 IsOnFile (Grant j) = AreNames j × IsRight j
 IsOnFile (Withdraw j) = AreNames j × IsRight j
+IsOnFile (Rights j) = (rows : List Row) × IsListed rows
 IsOnFile (Pipe j) = Unit {0}
 IsOnFile (Serve j) = Unit {0}
 IsOnFile (Check j) = Unit {0}

@@ -4,5 +4,6 @@ pub(crate) mod check;
 pub(crate) mod merchant;
 pub(crate) mod pipe;
 pub(crate) mod rights;
+pub(crate) mod rights_file;
 pub(crate) mod serve;
 pub(crate) mod trial;

@@ -15,7 +15,7 @@ use vault_wire::watched::Watched;
 pub(crate) fn do_on_file<R: Read, W: Write>(
     rt: &HostRuntime,
     path: &str,
-    task: &Task,
+    task: &Task<'_>,
     input: &mut Watched<R>,
     output: &mut Watched<W>,
 ) -> Ending

@@ -11,6 +11,7 @@ use crate::commands::check::check;
 use crate::commands::merchant::merchant;
 use crate::commands::pipe::pipe;
 use crate::commands::rights::{grant, withdraw};
+use crate::commands::rights_file::rights;
 use crate::commands::serve::serve;
 use crate::commands::trial::trial;
 use crate::ending::Ending;
@@ -40,6 +41,7 @@ fn do_job<R: Read, W: Write>(
         Job::Merchant(job) => merchant(rt, job, input, output),
         Job::Grant(job) => grant(rt, job, input, output),
         Job::Withdraw(job) => withdraw(rt, job, input, output),
+        Job::Rights(job) => rights(rt, job, input, output),
         Job::Pipe(job) => pipe(rt, job, input, output),
         Job::Serve(job) => serve(rt, job, input, output),
         Job::Check(job) => check(rt, job, input, output),

@@ -7,13 +7,16 @@ use Rattle.vault_http.specs.declared.fault.ServeFault.TheVariants as fault
 use Rattle.vault_listen.specs.Faults as listener
 use Rattle.vault_jobs.specs.Streams.{Streams}
 use Rattle.vault_jobs.specs.declared.stop.Stop.{Stop}
-use Rattle.vault_jobs.specs.declared.stop.Stop.TheVariants.{Vault, Service, Listener}
+use Rattle.vault_jobs.specs.declared.stop.Stop.TheVariants.{Vault, Service, Listener, Rights}
+use Rattle.vault_jobs.specs.declared.stop.Unread.TheVariants as unread
 
 -- the number of what stopped a job
 abbrev pub number_of : Stop → ℕ
 number_of (Vault f) = fault_number f
 number_of (Service f) = service.number_of f
 number_of (Listener f) = listener.number_of f
+number_of (Rights unread.Memory) = 74
+number_of (Rights unread.File) = 80
 
 -- a service is stopped by its reader only where that failed, and by its writer only where that failed
 abbrev pub IsCause : ServeFault → Bool → Bool → Type 0
@@ -28,3 +31,4 @@ abbrev pub IsCauseOf : Stop → Streams → Type 0
 IsCauseOf (Vault f) s = Unit {0}
 IsCauseOf (Service f) s = IsCause f s.reader s.writer
 IsCauseOf (Listener f) s = Unit {0}
+IsCauseOf (Rights f) s = Unit {0}

@@ -8,7 +8,7 @@ use Rattle.vault_jobs.specs.Streams.{IsHeard, Known, Streams, Writes}
 use Rattle.vault_jobs.specs.declared.change.Verdict.{Verdict}
 use Rattle.vault_jobs.specs.declared.change.Verdict.TheVariants as verdict
 use Rattle.vault_jobs.specs.declared.stop.Stop.{Stop}
-use Rattle.vault_jobs.specs.declared.stop.Stop.TheVariants.{Vault, Service, Listener}
+use Rattle.vault_jobs.specs.declared.stop.Stop.TheVariants.{Vault, Service, Listener, Rights}
 use Rattle.vault_jobs.specs.declared.task.Task.{Task}
 use Rattle.vault_jobs.specs.declared.task.Task.TheVariants.{Change, Give, Pipe, Serve}
 
@@ -43,6 +43,7 @@ IsListeningStop (Service service.Write) writer = writer ≡ true
 IsListeningStop (Service service.Store) writer = Unit {0}
 IsListeningStop (Service service.Memory) writer = Unit {0}
 IsListeningStop (Listener f) writer = Unit {0}
+IsListeningStop (Rights f) writer = ⊥
 
 -- with Done the line went out, with a refusal nothing
 abbrev pub Says : Result Verdict Stop → Type 0 → Known → Known → Bool → List ℕ → Type 0

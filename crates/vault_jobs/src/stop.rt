@@ -3,7 +3,17 @@ ghost use Rattle.std.specs.Prelude.{◌≡◌};
 
 use vault_http::fault::ServeFault;
 use vault_listen::fault::ListenFault;
+use vault_rights::fault::RightsFault;
 use vault_store::vault::Fault;
+
+/// Why a rights file isn't read.
+#[derive(Clone, Copy, Debug, PartialEq, Eq, Drop)]
+pub enum Unread {
+    /// 74: memory was refused.
+    Memory,
+    /// 80: the host refuses the file.
+    File,
+}
 
 /// Why a job stopped.
 #[derive(Clone, Copy, Debug, PartialEq, Eq, Drop)]
@@ -15,6 +25,8 @@ pub enum Stop {
     Service(ServeFault),
     /// 63, 64 or 80: connections weren't all served.
     Listener(ListenFault),
+    /// 74 or 80: the rights file wasn't read.
+    Rights(Unread),
 }
 
 impl Stop {
@@ -28,6 +40,8 @@ impl Stop {
             Stop::Vault(fault) => fault.number(),
             Stop::Service(fault) => fault.number(),
             Stop::Listener(fault) => fault.number(),
+            Stop::Rights(Unread::Memory) => RightsFault::Memory.number(),
+            Stop::Rights(Unread::File) => ListenFault::Accept.number(),
         }
     }
 }

@@ -17,8 +17,8 @@ use Rattle.vault_words.specs.Values.{Finds}
 use Rattle.vault_words.specs.declared.commands.pipe.PipeJob.{PipeJob}
 use Rattle.vault_words.specs.declared.commands.trial.TrialJob.{TrialJob}
 use Rattle.vault_words.specs.declared.jobs.Job.{Job}
-use Rattle.vault_words.specs.declared.jobs.Job.TheVariants.{Trial, Merchant, Grant, Withdraw, Pipe}
-use Rattle.vault_words.specs.declared.jobs.Job.TheVariants.{Serve, Check}
+use Rattle.vault_words.specs.declared.jobs.Job.TheVariants.{Trial, Merchant, Grant, Withdraw}
+use Rattle.vault_words.specs.declared.jobs.Job.TheVariants.{Rights, Pipe, Serve, Check}
 use Rattle.vault_words.specs.declared.jobs.JobFault.{JobFault}
 use Rattle.vault_words.specs.declared.jobs.JobFault.TheVariants.{Help, BadWords, Memory}
 
@@ -65,6 +65,8 @@ no_trial name rows is never (Merchant job) h =
 no_trial name rows is never (Grant job) h = differ name (codes "trial") (codes "grant") refl refl is h.0
 no_trial name rows is never (Withdraw job) h =
     differ name (codes "trial") (codes "withdraw") refl refl is h.0
+no_trial name rows is never (Rights job) h =
+    differ name (codes "trial") (codes "rights") refl refl is h.0
 no_trial name rows is never (Pipe job) h = differ name (codes "trial") (codes "pipe") refl refl is h.0
 no_trial name rows is never (Serve job) h = differ name (codes "trial") (codes "serve") refl refl is h.0
 no_trial name rows is never (Check job) h = differ name (codes "trial") (codes "check") refl refl is h.0
@@ -77,6 +79,7 @@ no_pipe name rows is never (Merchant job) h =
 no_pipe name rows is never (Grant job) h = differ name (codes "pipe") (codes "grant") refl refl is h.0
 no_pipe name rows is never (Withdraw job) h =
     differ name (codes "pipe") (codes "withdraw") refl refl is h.0
+no_pipe name rows is never (Rights job) h = differ name (codes "pipe") (codes "rights") refl refl is h.0
 no_pipe name rows is never (Pipe job) h = never job h.1
 no_pipe name rows is never (Serve job) h = differ name (codes "pipe") (codes "serve") refl refl is h.0
 no_pipe name rows is never (Check job) h = differ name (codes "pipe") (codes "check") refl refl is h.0

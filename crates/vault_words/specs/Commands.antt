@@ -8,6 +8,7 @@ use Rattle.vault_words.specs.declared.commands.check.CheckJob.{CheckJob}
 use Rattle.vault_words.specs.declared.commands.merchant.MerchantJob.{MerchantJob}
 use Rattle.vault_words.specs.declared.commands.pipe.PipeJob.{PipeJob}
 use Rattle.vault_words.specs.declared.commands.rights.RightJob.{RightJob}
+use Rattle.vault_words.specs.declared.commands.rights_file.RightsFileJob.{RightsFileJob}
 use Rattle.vault_words.specs.declared.commands.serve.ServeJob.{ServeJob}
 use Rattle.vault_words.specs.declared.commands.trial.TrialJob.{TrialJob}
 
@@ -48,6 +49,17 @@ AsksRight rows job =
     HasNow rows job.now × HasText rows (codes "FILE") job.file.now
     × HasText rows (codes "CALLER") job.caller.now
     × HasText rows (codes "MERCHANT") job.merchant.now × HasText rows (codes "RIGHT") job.right.now
+
+-- rights [--now T] FILE RIGHTS
+abbrev pub rights_app : App
+rights_app = with_rules (new_app (codes "rights"))
+    (now_rule ∷ text_rule (codes "FILE") ∷ text_rule (codes "RIGHTS") ∷ [])
+
+-- the values of rights ask for this job
+abbrev pub AsksRights : List Row → RightsFileJob → Type 0
+AsksRights rows job =
+    HasNow rows job.now × HasText rows (codes "FILE") job.file.now
+    × HasText rows (codes "RIGHTS") job.rights.now
 
 -- pipe [--now T] [--digits D] FILE
 abbrev pub pipe_app : App
@@ -97,4 +109,4 @@ root_app =
 abbrev pub vault_app : App
 vault_app = with_subcommands root_app
     (trial_app ∷ merchant_app ∷ right_app (codes "grant") ∷ right_app (codes "withdraw")
-    ∷ pipe_app ∷ serve_app ∷ check_app ∷ [])
+    ∷ rights_app ∷ pipe_app ∷ serve_app ∷ check_app ∷ [])

@@ -4,5 +4,6 @@ pub mod check;
 pub mod merchant;
 pub mod pipe;
 pub mod rights;
+pub mod rights_file;
 pub mod serve;
 pub mod trial;

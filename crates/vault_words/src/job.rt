@@ -9,6 +9,7 @@ use crate::commands::check::CheckJob;
 use crate::commands::merchant::MerchantJob;
 use crate::commands::pipe::PipeJob;
 use crate::commands::rights::RightJob;
+use crate::commands::rights_file::RightsFileJob;
 use crate::commands::serve::ServeJob;
 use crate::commands::trial::TrialJob;
 use crate::jobs::{Job, JobFault};
@@ -38,6 +39,10 @@ fn job_of<'a>(name: &str, matches: &ArgMatches<'a>) -> Result<Job<'a>, BadValue>
         },
         "withdraw" => match RightJob::read(matches) {
             Ok(job) => Ok(Job::Withdraw(job)),
+            Err(fault) => Err(fault),
+        },
+        "rights" => match RightsFileJob::read(matches) {
+            Ok(job) => Ok(Job::Rights(job)),
             Err(fault) => Err(fault),
         },
         "pipe" => match PipeJob::read(matches) {

@@ -4,6 +4,7 @@ use crate::commands::check::CheckJob;
 use crate::commands::merchant::MerchantJob;
 use crate::commands::pipe::PipeJob;
 use crate::commands::rights::RightJob;
+use crate::commands::rights_file::RightsFileJob;
 use crate::commands::serve::ServeJob;
 use crate::commands::trial::TrialJob;
 
@@ -29,6 +30,8 @@ pub enum Job<'a> {
     Grant(RightJob<'a>),
     /// A right is taken from a caller.
     Withdraw(RightJob<'a>),
+    /// The rights that a rights file lists are granted.
+    Rights(RightsFileJob<'a>),
     /// Messages from standard input are answered by the vault in a file.
     Pipe(PipeJob<'a>),
     /// Messages of connections are answered by the vault in a file.

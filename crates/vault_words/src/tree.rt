@@ -9,6 +9,7 @@ use crate::commands::check::check;
 use crate::commands::merchant::merchant;
 use crate::commands::pipe::pipe;
 use crate::commands::rights::{grant, withdraw};
+use crate::commands::rights_file::rights;
 use crate::commands::serve::serve;
 use crate::commands::trial::trial;
 use clap::Command;
@@ -38,6 +39,7 @@ pub(crate) fn tree<'a>(alloc: Global) -> Result<Command<'a>, AllocError>
     let tree = with(tree, merchant(alloc)?)?;
     let tree = with(tree, grant(alloc)?)?;
     let tree = with(tree, withdraw(alloc)?)?;
+    let tree = with(tree, rights(alloc)?)?;
     let tree = with(tree, pipe(alloc)?)?;
     let tree = with(tree, serve(alloc)?)?;
     with(tree, check(alloc)?)

@@ -285,6 +285,7 @@ fn a_use_that_is_not_offered_is_refused(rt: HostRuntime) {
 }
 
 mod files;
+mod rights;
 mod sequence;
 mod streams;
 mod words;

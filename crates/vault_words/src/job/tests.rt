@@ -19,7 +19,7 @@ use vault_pan::token::Token;
 const TWO_GROUPS: &str = "411111111111000000000000000000";
 
 /// Words with options, and the jobs that they ask for.
-const WITH_OPTIONS: [(&[&str], &str); 7] = [
+const WITH_OPTIONS: [(&[&str], &str); 9] = [
     (
         &["vault", "trial", "--now", "1000", "till-1", "shop1", "60"],
         "Trial(TrialJob { now: Some(Moment { seconds: 1000 }), digits: None, \
@@ -45,6 +45,16 @@ const WITH_OPTIONS: [(&[&str], &str); 7] = [
          caller: \"till-1\", merchant: \"shop1\", right: \"view\" })",
     ),
     (
+        &["vault", "rights", "--now", "10", "v.db", "rights.toml"],
+        "Rights(RightsFileJob { now: Some(Moment { seconds: 10 }), file: \"v.db\", \
+         rights: \"rights.toml\" })",
+    ),
+    (
+        &["vault", "rights", "rights.toml", "--now=10", "v.db"],
+        "Rights(RightsFileJob { now: Some(Moment { seconds: 10 }), file: \"rights.toml\", \
+         rights: \"v.db\" })",
+    ),
+    (
         &["vault", "pipe", "v.db", "--now", "0"],
         "Pipe(PipeJob { now: Some(Moment { seconds: 0 }), digits: None, file: \"v.db\" })",
     ),
@@ -67,7 +77,7 @@ const WITH_OPTIONS: [(&[&str], &str); 7] = [
 ];
 
 /// Words without options that may be left out, and the jobs that they ask for.
-const WITHOUT_OPTIONS: [(&[&str], &str); 8] = [
+const WITHOUT_OPTIONS: [(&[&str], &str); 9] = [
     (
         &["vault", "trial", "till-1", "shop1", "60"],
         "Trial(TrialJob { now: None, digits: None, caller: \"till-1\", \
@@ -87,6 +97,10 @@ const WITHOUT_OPTIONS: [(&[&str], &str); 8] = [
         &["vault", "withdraw", "v.db", "till-1", "shop1", "view"],
         "Withdraw(RightJob { now: None, file: \"v.db\", caller: \"till-1\", \
          merchant: \"shop1\", right: \"view\" })",
+    ),
+    (
+        &["vault", "rights", "v.db", "rights.toml"],
+        "Rights(RightsFileJob { now: None, file: \"v.db\", rights: \"rights.toml\" })",
     ),
     (
         &["vault", "pipe", "v.db"],

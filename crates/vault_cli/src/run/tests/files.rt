@@ -6,13 +6,19 @@ use std::test::Fail;
 use std::{fs, io};
 
 /// An empty folder.
-fn make_folder(rt: &HostRuntime, folder: &str) -> io::Result<()> {
+pub(super) fn make_folder(rt: &HostRuntime, folder: &str) -> io::Result<()> {
     let _ = fs::remove_dir_all(rt, folder);
     fs::create_dir(rt, folder)
 }
 
 /// Whether the program ends with this status and these texts.
-fn ends(rt: &HostRuntime, words: &[&str], status: u8, output: &str, errors: &str) -> bool {
+pub(super) fn ends(
+    rt: &HostRuntime,
+    words: &[&str],
+    status: u8,
+    output: &str,
+    errors: &str,
+) -> bool {
     run_on(rt, words, b"").is(status, output, errors)
 }
 
@@ -113,26 +119,38 @@ fn a_file_that_is_no_vault_is_not_opened(rt: HostRuntime) -> io::Result<()> {
     Ok(())
 }
 
+/// How the program ends where it is to serve on a port that is taken.
+fn serve_on_taken(rt: &HostRuntime, file: &str, port: u16) -> Result<Ran, Fail> {
+    let port = format!(in rt.alloc(); "{port}")?;
+    let words = [
+        "vault",
+        "serve",
+        "--connections",
+        "1",
+        "--port",
+        port.as_str(),
+        file,
+    ];
+    Ok(run_on(rt, words.as_slice(), b""))
+}
+
 #[test]
 fn each_status_goes_with_its_line(rt: HostRuntime) -> Result<(), Fail> {
     make_folder(&rt, "statuses")?;
     let file = "statuses/vault.db";
-    let taken = TcpListener::bind(&rt, ("127.0.0.1", 0))?;
-    let port = taken.local_addr()?.port();
-    let port = format!(in rt.alloc(); "{port}")?;
-    let port = port.as_str();
-    let life = [
+    let set = [
         "vault", "merchant", "--now", "1000", file, "shop1", "60", "0",
     ];
-    let serve = ["vault", "serve", "--connections", "1", "--port", port, file];
-    assert!(rt; ends(&rt, life.as_slice(), 0, "done\n", ""));
+    assert!(rt; ends(&rt, set.as_slice(), 0, "done\n", ""));
     let unknown = ["vault", "grant", file, "till-1", "shop2", "view"];
     assert!(rt; ends(&rt, unknown.as_slice(), 1, "refused 7\n", ""));
     let unread = ["vault", "serve", file];
     assert!(rt; ends(&rt, unread.as_slice(), 2, "", "vault: bad words\n"));
     let folder = ["vault", "check", "statuses"];
     assert!(rt; ends(&rt, folder.as_slice(), 3, "", "vault: file not opened 34\n"));
-    assert!(rt; ends(&rt, serve.as_slice(), 4, "", "vault: stopped 80\n"));
+    let taken = TcpListener::bind(&rt, ("127.0.0.1", 0))?;
+    let port = taken.local_addr()?.port();
+    assert!(rt; serve_on_taken(&rt, file, port)?.is(4, "", "vault: stopped 80\n"));
     let check = ["vault", "check", file];
     assert!(rt; ends(&rt, check.as_slice(), 0, "sound 1 0 0\n", ""));
     Ok(())

@@ -16,6 +16,7 @@ Commands:
   merchant  Sets how long a merchant's tokens live
   grant     Gives a caller a right at a merchant
   withdraw  Takes a right at a merchant from a caller
+  rights    Grants what a rights file lists
   pipe      Answers messages from standard input by the vault in FILE
   serve     Answers messages of connections by the vault in FILE
   check     Checks that FILE holds a sound vault
@@ -44,6 +45,29 @@ that it does, and P is its port. Connections are served one after the other,
 and one whose peer sends or takes nothing for 5 seconds is ended.
 ";
 
+/// `vault help rights`
+const RIGHTS: &str = "\
+Grants what a rights file lists
+
+Usage: vault rights [OPTIONS] <FILE> <RIGHTS>
+
+Arguments:
+  <FILE>    The vault's file; it is made if it isn't there
+  <RIGHTS>  The rights file, in TOML
+
+Options:
+      --now <T>  The moment, in seconds since 1970, in place of the clock's
+  -h, --help     Print help
+
+A rights file has a table for each caller, and in it for each merchant the
+words of the rights that the caller gets there:
+
+  [till-1]
+  shop1 = [\"tokenize\", \"view\"]
+
+The words are tokenize, detokenize, view, revoke, purge and audit.
+";
+
 /// The help that the words ask for.
 fn help(alloc: Global, words: &[&str]) -> Result<String, Fail> {
     match job(alloc, words) {
@@ -54,10 +78,12 @@ fn help(alloc: Global, words: &[&str]) -> Result<String, Fail> {
 
 #[test]
 fn help_is_the_text_of_the_command(rt: HostRuntime) -> Result<(), Fail> {
-    let cases: [(&[&str], &str); 6] = [
+    let cases: [(&[&str], &str); 8] = [
         (&["vault", "--help"], PROGRAM),
         (&["vault", "-h"], PROGRAM),
         (&["vault", "help"], PROGRAM),
+        (&["vault", "rights", "-h"], RIGHTS),
+        (&["vault", "help", "rights"], RIGHTS),
         (&["vault", "serve", "--help"], SERVE),
         (&["vault", "serve", "v.db", "-h"], SERVE),
         (&["vault", "help", "serve"], SERVE),
@@ -71,12 +97,13 @@ fn help_is_the_text_of_the_command(rt: HostRuntime) -> Result<(), Fail> {
 
 #[test]
 fn help_fits_24_lines_of_80_columns(rt: HostRuntime) -> Result<(), Fail> {
-    let cases: [&[&str]; 8] = [
+    let cases: [&[&str]; 9] = [
         &["vault", "help"],
         &["vault", "help", "trial"],
         &["vault", "help", "merchant"],
         &["vault", "help", "grant"],
         &["vault", "help", "withdraw"],
+        &["vault", "help", "rights"],
         &["vault", "help", "pipe"],
         &["vault", "help", "serve"],
         &["vault", "help", "check"],

@@ -41,7 +41,7 @@ fn lives_are_0_to_3155760000(rt: HostRuntime) -> Result<(), Fail> {
 
 #[test]
 fn moments_are_0_to_253402300799(rt: HostRuntime) -> Result<(), Fail> {
-    let cases: [&[&str]; 5] = [
+    let cases: [&[&str]; 6] = [
         &["vault", "trial", "--now", "?", "till-1", "shop1", "60"],
         &[
             "vault", "merchant", "--now", "?", "v.db", "shop1", "60", "0",
@@ -52,6 +52,7 @@ fn moments_are_0_to_253402300799(rt: HostRuntime) -> Result<(), Fail> {
         &[
             "vault", "withdraw", "--now", "?", "v.db", "till-1", "shop1", "view",
         ],
+        &["vault", "rights", "--now", "?", "v.db", "rights.toml"],
         &["vault", "pipe", "--now", "?", "v.db"],
     ];
     for words in cases {
@@ -114,7 +115,7 @@ fn digits_are_1_to_300(rt: HostRuntime) -> Result<(), Fail> {
 
 #[test]
 fn missing_words_are_bad(rt: HostRuntime) {
-    let cases: [&[&str]; 13] = [
+    let cases: [&[&str]; 16] = [
         &[],
         &["vault"],
         &["vault", "trial"],
@@ -123,6 +124,9 @@ fn missing_words_are_bad(rt: HostRuntime) {
         &["vault", "merchant", "v.db", "shop1", "60"],
         &["vault", "grant", "v.db", "till-1", "shop1"],
         &["vault", "withdraw", "v.db", "till-1", "view"],
+        &["vault", "rights"],
+        &["vault", "rights", "rights.toml"],
+        &["vault", "rights", "v.db", "rights.toml", "--now"],
         &["vault", "pipe"],
         &["vault", "pipe", "v.db", "--digits"],
         &["vault", "serve", "v.db"],
@@ -136,7 +140,7 @@ fn missing_words_are_bad(rt: HostRuntime) {
 
 #[test]
 fn words_too_many_or_unknown_are_bad(rt: HostRuntime) {
-    let cases: [&[&str]; 12] = [
+    let cases: [&[&str]; 14] = [
         &["vault", "trail"],
         &["vault", "--version"],
         &["vault", "help", "trail"],
@@ -147,6 +151,8 @@ fn words_too_many_or_unknown_are_bad(rt: HostRuntime) {
         ],
         &["vault", "grant", "v.db", "till-1", "shop1", "view", "audit"],
         &["vault", "withdraw", "v.db", "till-1", "shop1", "view", "-x"],
+        &["vault", "rights", "v.db", "rights.toml", "shop1"],
+        &["vault", "rights", "v.db", "rights.toml", "--digits", "0"],
         &["vault", "pipe", "v.db", "--now", "1", "--now", "1"],
         &["vault", "pipe", "v.db", "w.db"],
         &["vault", "serve", "--connections", "1", "--now", "1", "v.db"],

@@ -1,0 +1,126 @@
+-- Where a batch stops, and what its records are there.
+use Rattle.std.proofs.Common.{◌≡◌, List, [], ◌∷◌, ◌++◌, sym, ap, ◌∙◌, subst, append-nil, arith}
+use Rattle.std.proofs.Common.{inl, inr, Option}
+use Rattle.std.specs.Prelude.{◌⊎◌, All, Bool, true, false, Err}
+use Rattle.std.proofs.lemmas.List.{map-append}
+use Rattle.csv.specs.declared.reader.Reader.{Reader}
+use Rattle.vault_core.specs.Keys.{Bytes}
+use Rattle.vault_http.specs.Faults.{Failures, failures}
+use Rattle.vault_http.specs.Passing.{Passage}
+use Rattle.vault_batch.specs.Asking.{Asked, Asks}
+use Rattle.vault_batch.specs.Batched.{Answered, AnsweredBefore, Unchanged, rows_of}
+use Rattle.vault_batch.specs.Beginning.{Begins, SendsFirst}
+use Rattle.vault_batch.specs.Faults.{Tells}
+use Rattle.vault_batch.specs.Lines.{first_line}
+use Rattle.vault_batch.specs.Rows.{BeginRecordsOf, Row, fields_in, header, records_with}
+use Rattle.vault_batch.specs.Stops.{IsBatched, RowStops, Stops}
+use Rattle.vault_batch.specs.declared.counts.Counts.{Counts}
+use Rattle.vault_batch.specs.declared.fault.BatchFault.{BatchFault}
+use Rattle.vault_batch.specs.declared.fault.BatchFault.TheVariants as fault
+use Rattle.vault_batch.specs.declared.asker.Asker.{Asker}
+use Rattle.vault_batch.proofs.Following.{Follows, before_one, cut_one, none_more, silent_one, undecided_one}
+use Rattle.vault_batch.proofs.Tracking.{begins_all}
+
+-- the records of one row more
+pub records_more : (xs : List Asked) (x : Asked)
+    → records_with (rows_of (xs ++ x ∷ [])) ≡ records_with (rows_of xs) ++ fields_in x.row ∷ []
+records_more xs x =
+    ap (λ rs. records_with rs) (map-append (λ (y : Asked). y.row) xs (x ∷ []))
+    ∙ ap (λ rs. fields_in header ∷ rs) (map-append fields_in (rows_of xs) (x.row ∷ []))
+
+-- all are answered, and nothing was taken for the next one
+pub before_of : (who : Asker) (first : Bytes) (w : Passage) (xs : List Asked) → Answered who first w xs
+    → AnsweredBefore who first w xs
+before_of who first w xs a = record {
+  unused = [];
+  one = omega arith;
+  taken = a.taken ∙ ap (λ ps. w.given_old ++ ps) (sym (append-nil _));
+  asked = a.asked;
+  answered = a.answered;
+}
+
+-- a row at which a batch stops, after others that were answered
+module _ (left : Option Bytes) (who : Asker) (second whole : Passage) (xs : List Asked)
+    (asked : All (Asks who) xs) (row : Row) (f : Follows second whole first_line xs)
+    (begin : BeginRecordsOf left (records_with (rows_of xs)))
+    (next : BeginRecordsOf left (records_with (rows_of xs) ++ fields_in row ∷ [])) where
+  next_at : (x : Asked) → x.row ≡ row
+      → BeginRecordsOf left (records_with (rows_of xs) ++ fields_in x.row ∷ [])
+  next_at x same =
+      subst (λ r. BeginRecordsOf left (records_with (rows_of xs) ++ fields_in r ∷ [])) (sym same) next
+
+  pub stops_at_row : (e : BatchFault) → RowStops who second row e → Stops left whole who e
+  stops_at_row fault.BadHeader q = absurd q
+  stops_at_row fault.Read q = absurd q
+  stops_at_row fault.Write q =
+      inr (xs, q.0, next_at q.0 q.1, cut_one who first_line second whole xs asked f q.0 q.2)
+  stops_at_row fault.Store q =
+      (xs, q.0, next_at q.0 q.1, undecided_one who first_line second whole xs asked f q.0 q.2)
+  stops_at_row fault.BadRecord q = absurd q
+  stops_at_row fault.Memory (inl q) =
+      inr (inl (xs, begin, before_one who first_line second whole xs asked f q))
+  stops_at_row fault.Memory (inr q) =
+      inr (inr (xs, q.0, next_at q.0 q.1, silent_one who first_line second whole xs asked f q.0 q.2))
+  stops_at_row fault.Source q = record {
+    rows = xs;
+    next = row;
+    records = next;
+    answered = none_more who first_line second whole xs asked f q;
+  }
+
+-- a batch that stops at its beginning
+pub stops_first : (X : Type 0) {R : Type 0} (left : Option Bytes) (rem : R → Option Bytes) (reader : Reader R) (who : Asker)
+    (w : Passage) (e : BatchFault) → Unchanged w → SendsFirst {X = X} w.sent_old w.sent_new (Err e)
+    → Begins {X = X} left rem reader (Err e) → Stops left w who e
+stops_first X left rem reader who w fault.BadHeader u s b = ((s, u), b)
+stops_first X left rem reader who w fault.Read u s b = inl (s, u)
+stops_first X left rem reader who w fault.Write u s b =
+    inl (record { sent = s.0; part = s.1; went = s.2; unchanged = u })
+stops_first X left rem reader who w fault.Store u s b = absurd s
+stops_first X left rem reader who w fault.BadRecord u s b = absurd s
+stops_first X left rem reader who w fault.Memory u s b = inl (s, u)
+stops_first X left rem reader who w fault.Source u s b = absurd s
+
+-- a batch that stops between rows, since no record was read
+pub stops_between : (left : Option Bytes) (who : Asker) (w : Passage) (xs : List Asked) (e : BatchFault)
+    → BeginRecordsOf left (records_with (rows_of xs)) → Answered who first_line w xs
+    → (e ≡ fault.Read) ⊎ (e ≡ fault.Memory) → Stops left w who e
+stops_between left who w xs e begin a (inl same) =
+    subst (Stops left w who) (sym same) (inr (record { rows = xs; records = begin; answered = a }))
+stops_between left who w xs e begin a (inr same) =
+    subst (Stops left w who) (sym same) (inr (inl (xs, begin, before_of who first_line w xs a)))
+
+-- what is told where only a writer is watched, beside the others as they were
+pub beside_writer : (s v w w' : Bool) → failures false false w' false ≡ failures false false w false
+    → failures s false w' v ≡ failures s false w v
+beside_writer s v w w' t = ap (λ (f : Failures). failures s false f.writer v) t
+
+-- a fault tells the same, whatever an answer would have been
+pub tells_as : (X Y : Type 0) (e : BatchFault) (a b c : Failures) → b ≡ a → Tells {X = X} (Err e) b c
+    → Tells {X = Y} (Err e) a c
+tells_as X Y fault.BadHeader a b c same t = t ∙ same
+tells_as X Y fault.Read a b c same t = t ∙ same
+tells_as X Y fault.Write a b c same t = t ∙ ap (λ (f : Failures). record f { writer = true }) same
+tells_as X Y fault.Store a b c same t = t ∙ ap (λ (f : Failures). record f { vault = true }) same
+tells_as X Y fault.BadRecord a b c same t = t ∙ same
+tells_as X Y fault.Memory a b c same t = t ∙ same
+tells_as X Y fault.Source a b c same t = t ∙ ap (λ (f : Failures). record f { source = true }) same
+
+between_rows : (left : Option Bytes) (w : Passage) (who : Asker) → Stops left w who fault.Read
+    → Stops left w who fault.Memory
+between_rows left w who (inl q) = inl q
+between_rows left w who (inr q) =
+    inr (inl (q.rows, q.records, before_of who first_line w q.rows q.answered))
+
+-- a stop between rows, whatever stopped it
+pub memory_for_read : (left : Option Bytes) (w : Passage) (who : Asker) (e : BatchFault) → e ≡ fault.Read
+    → Stops left w who e → Stops left w who fault.Memory
+memory_for_read left w who e same q = between_rows left w who (subst (Stops left w who) same q)
+
+-- a stop after all rows
+pub stops_after_all : (left : Option Bytes) (w : Passage) (who : Asker) (counts : Counts) (e : BatchFault)
+    (P : Type 0) → IsBatched left w who counts → (e ≡ fault.Read × P) ⊎ (e ≡ fault.Memory) → Stops left w who e
+stops_after_all left w who counts e P b (inl same) =
+    stops_between left who w b.rows e (begins_all left _ b.records) b.answered (inl same.0)
+stops_after_all left w who counts e P b (inr same) =
+    stops_between left who w b.rows e (begins_all left _ b.records) b.answered (inr same)

@@ -1,0 +1,157 @@
+use Rattle.std.proofs.Common.{◌≡◌, ◌+◌, [], ◌∷◌, ◌++◌, length, sym, ap, ◌∙◌, subst, append-nil, arith}
+use Rattle.std.proofs.Common.{length-append}
+use Rattle.std.specs.Prelude.{if◌then◌else◌}
+use Rattle.csv.specs.Records.{fields_of}
+use Rattle.vault_http.specs.Exchanges.{reply_to}
+use Rattle.vault_http.specs.Passing.{passing}
+use Rattle.vault_batch.specs.Asking.{Asked}
+use Rattle.vault_batch.specs.Batched.{rows_of}
+use Rattle.vault_batch.specs.Lines.{first_line, has_token, tokens, vault_after}
+use Rattle.vault_batch.specs.Reading.{StandsAfter, StandsNext}
+use Rattle.vault_batch.specs.Rows.{BeginRecordsOf, Fields, fields_in, records_with, row_of}
+use Rattle.vault_batch.proofs.Answering.{first_answered}
+use Rattle.vault_batch.proofs.Following.{follows, one_more}
+use Rattle.vault_batch.proofs.Lining.{counts_one, one_at_most, tokens-more, tokens-nil}
+use Rattle.vault_batch.proofs.Stopping.{beside_writer, records_more, stops_at_row, stops_between, stops_first}
+use Rattle.vault_batch.proofs.Tracking.{begins_given}
+use Rattle.vault_batch.proofs.batch.answer_rows.Goals as goal
+
+pub returns-in-Err-clause-stopped : goal.returns-in-Err-clause-stopped
+returns-in-Err-clause-stopped g c =
+    let known = g.R.Read.remaining c.args.reader.now.inner in
+    let w = passing g.S.Source.given c.args.source.now c.args.source.now g.W.Write.contents c.args.writer.now
+    c.begin.new.writer g.T.Tables.is_honest g.T.Tables.holds g.T.Tables.leaves c.args.vault.now
+    c.args.vault.now in
+    stops_first (Unit {0}) known (λ r. g.R.Read.remaining r.now.inner) c.begin.new.records c.args.asker.now w c.in-Err.fault
+    (sym (append-nil _), λ V b. (b.1, g.met.T.Tables.settled _ V b.1.0 b.0)) c.in-Err.ensures.sent
+    (c.in-Err.ensures.began known c.records_of-records.ensures)
+
+pub rows-init : goal.rows-init
+rows-init g c =
+    let known = g.R.Read.remaining c.args.reader.now.inner in
+    let w = passing g.S.Source.given c.args.source.now c.args.source.now g.W.Write.contents c.args.writer.now
+    c.begin.new.writer g.T.Tables.is_honest g.T.Tables.holds g.T.Tables.leaves c.args.vault.now
+    c.args.vault.now in
+    record {
+      asked = [];
+      stands = c.in_default.ensures.began known c.records_of-records.ensures;
+      answered = first_answered c.args.asker.now w (sym (append-nil _)) c.in_default.ensures.sent
+          (λ V b. (b.1, g.met.T.Tables.settled _ V b.1.0 b.0));
+      few = omega arith;
+      counted = λ V b. sym (tokens-nil V);
+      pairs = omega arith;
+      later = g.met.S.Source.reflexive _;
+      told = beside_writer _ _ _ _ c.in_default.ensures.told;
+      honest = λ h. h;
+    }
+
+pub returns-in-Ok-false-clause-batched : goal.returns-in-Ok-false-clause-batched
+returns-in-Ok-false-clause-batched g c =
+    let inv = c.rows.invariant in
+    let known = g.R.Read.remaining c.args.reader.now.inner in
+    record {
+      rows = inv.asked;
+      records =
+          subst (StandsNext known (λ r. g.R.Read.remaining r.now.inner) (records_with (rows_of inv.asked))
+          (fields_of c.read_record.new.fields) c.read_record.new.records) c.in-Ok-false.field-0-test
+          (c.in-Ok-false.ensures.next known _ inv.stands);
+      answered = inv.answered;
+      counted = record {
+        rows = omega (arith, inv.pairs, c.left-pairs.ensures, c.left.ensures, c.new.ensures.rows);
+        both = c.new.ensures.both;
+        tokens = λ V b. c.new.ensures.tokens ∙ inv.counted V b;
+      };
+    }
+
+pub returns-in-Err-read_record-clause-stopped : goal.returns-in-Err-read_record-clause-stopped
+returns-in-Err-read_record-clause-stopped g c =
+    let inv = c.rows.invariant in
+    let known = g.R.Read.remaining c.args.reader.now.inner in
+    let w = passing g.S.Source.given c.args.source.now c.rows.source g.W.Write.contents c.args.writer.now
+    c.rows.writer g.T.Tables.is_honest g.T.Tables.holds g.T.Tables.leaves c.args.vault.now c.rows.vault in
+    stops_between known c.args.asker.now w inv.asked c.in-Err-read_record.fault
+    (begins_given known (λ r. g.R.Read.remaining r.now.inner) c.rows.records _ inv.stands.gave)
+    inv.answered c.in-Err-read_record.ensures.only
+
+pub returns-in_default-of-clause-stopped : goal.returns-in_default-of-clause-stopped
+returns-in_default-of-clause-stopped g c =
+    let inv = c.rows.invariant in
+    let known = g.R.Read.remaining c.args.reader.now.inner in
+    let next = subst (StandsNext known (λ r. g.R.Read.remaining r.now.inner) (records_with (rows_of inv.asked))
+    (fields_of c.read_record.new.fields) c.read_record.new.records) c.in-Ok-true.field-0-test
+    (c.in-Ok-true.ensures.next known _ inv.stands) in
+    record {
+      rows = inv.asked;
+      bad = fields_of c.read_record.new.fields;
+      records =
+          begins_given known (λ r. g.R.Read.remaining r.now.inner) c.read_record.new.records _ next.gave;
+      wrong = c.in_default-of.ensures.none;
+      answered = inv.answered;
+    }
+
+pub rows-preserved : goal.rows-preserved
+rows-preserved g c =
+    let inv = c.rows.invariant in
+    let known = g.R.Read.remaining c.args.reader.now.inner in
+    let next = subst (StandsNext known (λ r. g.R.Read.remaining r.now.inner) (records_with (rows_of inv.asked))
+    (fields_of c.read_record.new.fields) c.read_record.new.records) c.in-Ok-true.field-0-test
+    (c.in-Ok-true.ensures.next known _ inv.stands) in
+    let one = c.in-Ok.ensures.answered in
+    let x : Asked = one.0 in
+    let second = passing g.S.Source.given c.rows.source c.answer_row.new.source g.W.Write.contents
+    c.rows.writer c.answer_row.new.writer g.T.Tables.is_honest g.T.Tables.holds g.T.Tables.leaves c.rows.vault
+    c.answer_row.new.vault in
+    let whole = passing g.S.Source.given c.args.source.now c.answer_row.new.source g.W.Write.contents
+    c.args.writer.now c.answer_row.new.writer g.T.Tables.is_honest g.T.Tables.holds g.T.Tables.leaves
+    c.args.vault.now c.answer_row.new.vault in
+    let f = follows g.S.Source.given c.args.source.now c.rows.source c.answer_row.new.source g.W.Write.contents
+    c.args.writer.now c.rows.writer c.answer_row.new.writer g.T.Tables.is_honest g.T.Tables.holds
+    g.T.Tables.leaves c.args.vault.now c.rows.vault c.answer_row.new.vault c.answer_row.ensures.honest
+    c.args.asker.now first_line inv.asked inv.answered in
+    let more : length (inv.asked ++ x ∷ []) ≡ length inv.asked + 1 = length-append inv.asked (x ∷ []) in
+    record {
+      asked = inv.asked ++ x ∷ [];
+      stands =
+          subst (λ rs. StandsAfter known (λ r. g.R.Read.remaining r.now.inner) rs c.read_record.new.records)
+          (ap (λ (fs : Fields). records_with (rows_of inv.asked) ++ fs ∷ [])
+          (c.in-Some.ensures.some ∙ ap fields_in (sym one.1)) ∙ sym (records_more inv.asked x)) next;
+      answered = one_more c.args.asker.now first_line second whole inv.asked inv.answered.asked f x one.2;
+      few = omega (arith, inv.few, more, c.from-tokens.ensures, one_at_most c.in-Ok.token);
+      counted = λ V b.
+          let before : c.rows.tokens ≡ tokens V inv.asked =
+          inv.counted V (c.answer_row.ensures.honest b.0, b.1) in
+          let all : tokens V (inv.asked ++ x ∷ [])
+          ≡ c.rows.tokens + (if has_token (reply_to (vault_after V inv.asked) x.wanted) then 1 else 0) =
+          tokens-more V inv.asked x
+          ∙ ap (λ n. n + (if has_token (reply_to (vault_after V inv.asked) x.wanted) then 1 else 0)) (sym before) in
+          counts_one c.in-Ok.token _ c.rows.tokens _ c.from-tokens.result c.from-tokens.ensures
+          (one.3 (vault_after V inv.asked) (f.before V b)) all;
+      pairs = omega (arith, inv.pairs, c.in-Ok.ensures.counted, more);
+      later = g.met.S.Source.transitive _ _ _ inv.later c.answer_row.ensures.later;
+      told = c.in-Ok.ensures.told ∙ inv.told;
+      honest = λ h. inv.honest (c.answer_row.ensures.honest h);
+    }
+
+pub returns-in-Err-answer_row-clause-stopped : goal.returns-in-Err-answer_row-clause-stopped
+returns-in-Err-answer_row-clause-stopped g c =
+    let inv = c.rows.invariant in
+    let known = g.R.Read.remaining c.args.reader.now.inner in
+    let next = subst (StandsNext known (λ r. g.R.Read.remaining r.now.inner) (records_with (rows_of inv.asked))
+    (fields_of c.read_record.new.fields) c.read_record.new.records) c.in-Ok-true.field-0-test
+    (c.in-Ok-true.ensures.next known _ inv.stands) in
+    let second = passing g.S.Source.given c.rows.source c.answer_row.new.source g.W.Write.contents
+    c.rows.writer c.answer_row.new.writer g.T.Tables.is_honest g.T.Tables.holds g.T.Tables.leaves c.rows.vault
+    c.answer_row.new.vault in
+    let whole = passing g.S.Source.given c.args.source.now c.answer_row.new.source g.W.Write.contents
+    c.args.writer.now c.answer_row.new.writer g.T.Tables.is_honest g.T.Tables.holds g.T.Tables.leaves
+    c.args.vault.now c.answer_row.new.vault in
+    let f = follows g.S.Source.given c.args.source.now c.rows.source c.answer_row.new.source g.W.Write.contents
+    c.args.writer.now c.rows.writer c.answer_row.new.writer g.T.Tables.is_honest g.T.Tables.holds
+    g.T.Tables.leaves c.args.vault.now c.rows.vault c.answer_row.new.vault c.answer_row.ensures.honest
+    c.args.asker.now first_line inv.asked inv.answered in
+    stops_at_row known c.args.asker.now second whole inv.asked inv.answered.asked (row_of c.in-Some.row) f
+    (begins_given known (λ r. g.R.Read.remaining r.now.inner) c.rows.records _ inv.stands.gave)
+    (subst (λ (fs : Fields). BeginRecordsOf known (records_with (rows_of inv.asked) ++ fs ∷ []))
+    c.in-Some.ensures.some
+    (begins_given known (λ r. g.R.Read.remaining r.now.inner) c.read_record.new.records _ next.gave))
+    c.in-Err-answer_row.fault c.in-Err-answer_row.ensures.stopped

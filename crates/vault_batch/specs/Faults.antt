@@ -1,0 +1,36 @@
+-- Why a batch stops, and why a row asks for nothing.
+use Rattle.std.specs.Prelude.{◌≡◌, ℕ, true, Result, Ok, Err}
+use Rattle.vault_pan.specs.Pan.{fault_number}
+use Rattle.vault_http.specs.Faults.{Failures}
+use Rattle.vault_batch.specs.declared.fault.BatchFault.{BatchFault}
+use Rattle.vault_batch.specs.declared.fault.BatchFault.TheVariants as fault
+use Rattle.vault_batch.specs.declared.row.RowFault.{RowFault}
+use Rattle.vault_batch.specs.declared.row.RowFault.TheVariants as row
+
+-- the numbers of the faults
+abbrev pub number_of : BatchFault → ℕ
+number_of fault.BadHeader = 40
+number_of fault.Read = 41
+number_of fault.Write = 42
+number_of fault.Store = 43
+number_of fault.BadRecord = 44
+number_of fault.Memory = 45
+number_of fault.Source = 46
+
+-- the numbers by which rows are refused
+abbrev pub refusal_of : RowFault → ℕ
+refusal_of (row.Request e) = 5
+refusal_of (row.Number e) = fault_number e
+refusal_of (row.Use e) = 19
+
+-- A fault of the writer, the store or the source comes exactly where that one fails: it has failed now, and
+-- all else is as it was. Of the reader nothing is told here.
+abbrev pub Tells : {X : Type 0} → Result X BatchFault → Failures → Failures → Type 0
+Tells (Ok x) old new = new ≡ old
+Tells (Err fault.BadHeader) old new = new ≡ old
+Tells (Err fault.Read) old new = new ≡ old
+Tells (Err fault.Write) old new = new ≡ record old { writer = true }
+Tells (Err fault.Store) old new = new ≡ record old { vault = true }
+Tells (Err fault.BadRecord) old new = new ≡ old
+Tells (Err fault.Memory) old new = new ≡ old
+Tells (Err fault.Source) old new = new ≡ record old { source = true }

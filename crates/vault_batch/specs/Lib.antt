@@ -1,0 +1,9 @@
+pub mod Asking
+pub mod Batched
+pub mod Beginning
+pub mod Faults
+pub mod Laws
+pub mod Lines
+pub mod Reading
+pub mod Rows
+pub mod Stops

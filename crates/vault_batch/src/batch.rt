@@ -1,0 +1,184 @@
+//! The rows of a batch answered, each before the next one is read.
+ghost use Rattle.std.specs.Prelude.{◌≡◌, ◌⊎◌, [], true, false, Err, IfErr, IfOk, OnOk, Option};
+ghost use Rattle.std.specs.Io.KnownBytes.{IsAtEnd};
+ghost use Rattle.vault_http.specs.Faults.{failures};
+ghost use Rattle.vault_http.specs.Passing.{Passage, passing};
+ghost use Rattle.vault_store.specs.Applied.{is_broken, tables_of};
+ghost use Rattle.vault_wire.specs.Watching.{inner_of, is_stopped};
+ghost use Rattle.vault_core.specs.Keys.{Bytes};
+ghost use Rattle.vault_batch.specs.Faults.{Tells};
+ghost use Rattle.vault_batch.specs.Beginning.{Begins, SendsFirst};
+ghost use Rattle.vault_batch.specs.Reading.{StandsAfter};
+ghost use Rattle.vault_batch.specs.Stops.{IsBatched, Stops};
+ghost use Rattle.vault_batch.specs.declared.asker.Asker.{Asker as Asking};
+
+use crate::answer::answer_row;
+use crate::asker::Asker;
+use crate::counts::Counts;
+use crate::fault::BatchFault;
+use crate::records::{read_record, records_of};
+use crate::row::{Row, is_header};
+use csv::{ByteRecord, Reader};
+use std::alloc::Global;
+use std::io::{Read, Write};
+use vault_core::name::{Caller, MerchantId};
+use vault_core::source::Source;
+use vault_store::tables::Tables;
+use vault_store::vault::Vault;
+use vault_wire::send::send;
+use vault_wire::watched::Watched;
+
+/// What goes out before all rows' lines.
+const FIRST_LINE: &[u8] = b"request,answer,detail\n";
+
+/// Reads the header, and sends what comes before all rows' lines.
+fn begin<R: Read, W: Write>(
+    records: &mut Reader<R>,
+    fields: &mut ByteRecord,
+    writer: &mut Watched<W>,
+) -> Result<(), BatchFault>
+    ensures began { (known : Option Bytes) → StandsAfter known R.remaining [] records.old
+        → Begins known R.remaining records.new result }
+    ensures sent { SendsFirst (W.contents (inner_of writer.old)) (W.contents (inner_of writer.new)) result }
+    ensures told { Tells result
+        (failures false false (is_stopped writer.old) false)
+        (failures false false (is_stopped writer.new) false) }
+{
+    match read_record(records, fields) {
+        Ok(true) => {}
+        Ok(false) => return Err(BatchFault::BadHeader),
+        Err(fault) => return Err(fault),
+    }
+    if !is_header(fields) {
+        return Err(BatchFault::BadHeader);
+    }
+    if send(writer, FIRST_LINE).is_err() {
+        return Err(BatchFault::Write);
+    }
+    Ok(())
+}
+
+/// Answers the rows of the records, without a look at the reader after them.
+fn answer_rows<R: Read, W: Write, T: Tables, S: Source>(
+    alloc: Global,
+    reader: &mut Watched<R>,
+    writer: &mut Watched<W>,
+    vault: &mut Vault<T>,
+    asker: &Asker,
+    source: &mut S,
+) -> Result<Counts, BatchFault>
+    ensures batched { let w : Passage = passing S.given source.old source.new W.contents writer.old writer.new
+        T.is_honest T.holds T.leaves vault.old vault.new in
+        IfOk result (IsBatched (R.remaining (inner_of reader.old)) w asker.now) }
+    ensures stopped { let w : Passage = passing S.given source.old source.new W.contents writer.old writer.new
+        T.is_honest T.holds T.leaves vault.old vault.new in
+        IfErr result (Stops (R.remaining (inner_of reader.old)) w asker.now) }
+    ensures told { Tells result
+        (failures (S.has_refused source.old) false (is_stopped writer.old) (is_broken vault.old))
+        (failures (S.has_refused source.new) false (is_stopped writer.new) (is_broken vault.new)) }
+    ensures later { S.precedes source.old source.new }
+    ensures sturdy { T.may_fail ≡ false → is_broken vault.old ≡ false → ¬ (result ≡ Err BatchFault.Store) }
+    ensures honest { T.is_honest (tables_of vault.new) → T.is_honest (tables_of vault.old) }
+{
+    let mut records = records_of(alloc, &mut *reader);
+    let mut fields = ByteRecord::new(alloc);
+    if let Err(fault) = begin(&mut records, &mut fields, writer) {
+        return Err(fault);
+    }
+    let pairs = source.left();
+    let mut tokens = 0;
+    'rows: loop {
+        match read_record(&mut records, &mut fields) {
+            Ok(true) => {}
+            Ok(false) => return Ok(Counts::new(pairs - source.left(), tokens)),
+            Err(fault) => return Err(fault),
+        }
+        let Some(row) = Row::of(&fields) else {
+            return Err(BatchFault::BadRecord);
+        };
+        match answer_row(alloc, row, *asker, writer, vault, source) {
+            Ok(token) => tokens += u64::from(token),
+            Err(fault) => return Err(fault),
+        }
+    }
+}
+
+/// Reads on to the end of the reader's bytes.
+fn at_end<R: Read>(reader: &mut Watched<R>) -> Result<(), BatchFault>
+    ensures end { OnOk result (IsAtEnd (R.remaining (inner_of reader.new))) }
+    ensures calm { OnOk result (is_stopped reader.new ≡ false) }
+    ensures only { IfErr result (λ e. ((e ≡ BatchFault.Read) × (is_stopped reader.new ≡ true))
+        ⊎ (e ≡ BatchFault.Memory)) }
+{
+    for _ in 0..u64::MAX {
+        let mut one = [0; 1];
+        match reader.read(&mut one) {
+            Ok(0) => return Ok(()),
+            Ok(_) => {}
+            Err(_) => return Err(BatchFault::Read),
+        }
+    }
+    Err(BatchFault::Memory)
+}
+
+/// Answers the rows of a batch: each asks for a token, by a caller and at a merchant.
+///
+/// The reader's bytes are records of comma-separated fields: first `request`, `number` and `use`, and then a
+/// row each. The answer is a line `request,answer,detail`, and then for each row a line with its request, the
+/// token and the first second at which it isn't live; or its request, `refused` and the number of the
+/// refusal. A request that is no number of a request is written as `0`. Each line ends with a line feed.
+///
+/// A row is read after the line of the row before went out, and what it changes is written before its own
+/// line goes out. One pair of the source is taken for each row, also for one that is refused. What the reader
+/// gives after the end of its bytes is passed over.
+///
+/// 40 BadHeader: the first record isn't the header, or there is none. 41 Read and 42 Write: the reader or the
+/// writer failed. 43 Store: the store failed, or the vault was broken before. 44 BadRecord: a record hasn't
+/// three fields. 45 Memory: memory was refused. 46 Source: the source has no pair for a row. The rows before
+/// that are answered. The row at 41, 44 and 46 isn't recorded, that at 42, 43 and 45 is or isn't.
+pub fn batch<R: Read, W: Write, T: Tables, S: Source>(
+    alloc: Global,
+    reader: &mut Watched<R>,
+    writer: &mut Watched<W>,
+    vault: &mut Vault<T>,
+    caller: Caller,
+    merchant: MerchantId,
+    source: &mut S,
+) -> Result<Counts, BatchFault>
+    ensures batched { let w : Passage = passing S.given source.old source.new W.contents writer.old writer.new
+        T.is_honest T.holds T.leaves vault.old vault.new in
+        let who : Asking = record { caller = caller; merchant = merchant } in
+        IfOk result (IsBatched (R.remaining (inner_of reader.old)) w who) }
+    ensures end { OnOk result (IsAtEnd (R.remaining (inner_of reader.new))) }
+    ensures calm { OnOk result (is_stopped reader.new ≡ false) }
+    ensures stopped { let w : Passage = passing S.given source.old source.new W.contents writer.old writer.new
+        T.is_honest T.holds T.leaves vault.old vault.new in
+        let who : Asking = record { caller = caller; merchant = merchant } in
+        IfErr result (Stops (R.remaining (inner_of reader.old)) w who) }
+    ensures read { result ≡ Err BatchFault.Read → is_stopped reader.new ≡ true }
+    ensures told { Tells result
+        (failures (S.has_refused source.old) false (is_stopped writer.old) (is_broken vault.old))
+        (failures (S.has_refused source.new) false (is_stopped writer.new) (is_broken vault.new)) }
+    ensures later { S.precedes source.old source.new }
+    ensures sturdy { T.may_fail ≡ false → is_broken vault.old ≡ false → ¬ (result ≡ Err BatchFault.Store) }
+    ensures honest { T.is_honest (tables_of vault.new) → T.is_honest (tables_of vault.old) }
+{
+    let asker = Asker { caller, merchant };
+    match answer_rows(alloc, reader, writer, vault, &asker, source) {
+        Ok(counts) => match at_end(reader) {
+            Ok(()) => Ok(counts),
+            Err(fault) => Err(fault),
+        },
+        Err(BatchFault::Read) => {
+            if reader.failed() {
+                Err(BatchFault::Read)
+            } else {
+                Err(BatchFault::Memory)
+            }
+        }
+        Err(fault) => Err(fault),
+    }
+}
+
+#[cfg(test)]
+mod tests;

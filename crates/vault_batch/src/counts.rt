@@ -1,0 +1,29 @@
+//! How many rows a batch answered.
+ghost use Rattle.std.specs.Prelude.{◌≡◌, ◌+◌, ◌≤◌};
+
+/// How many rows a batch answered, and how.
+#[derive(Clone, Copy, PartialEq, Eq, Debug, Drop)]
+pub struct Counts {
+    /// All rows.
+    pub rows: u64,
+    /// The rows whose line has a token.
+    pub tokens: u64,
+    /// The other rows.
+    pub refused: u64,
+}
+
+impl Counts {
+    /// Of so many rows, of which so many have a token.
+    pub(crate) fn new(rows: u64, tokens: u64) -> Counts
+        requires { tokens ≤ rows }
+        ensures rows { result.rows ≡ rows }
+        ensures tokens { result.tokens ≡ tokens }
+        ensures both { result.rows ≡ result.tokens + result.refused }
+    {
+        Counts {
+            rows,
+            tokens,
+            refused: rows - tokens,
+        }
+    }
+}

@@ -1,0 +1,58 @@
+//! `rights [--now T] FILE RIGHTS`
+ghost use Rattle.std.specs.Prelude.{IfOk};
+ghost use Rattle.clap.specs.Words.{found_of, rows_of};
+ghost use Rattle.vault_words.specs.Commands.{AsksRights, rights_app};
+ghost use Rattle.vault_words.specs.Rules.{IsApp};
+ghost use Rattle.vault_words.specs.Values.{Finds};
+
+use crate::args::{self, add};
+use crate::values::{self, BadValue};
+use clap::{ArgMatches, Command};
+use std::alloc::{AllocError, Global};
+use vault_core::moment::Moment;
+
+/// What the rights of a rights file are granted with.
+#[derive(Clone, Copy, Debug)]
+pub struct RightsFileJob<'a> {
+    /// The moment; the clock's, if there is none.
+    pub now: Option<Moment>,
+    /// The file of the vault.
+    pub file: &'a str,
+    /// The rights file, whose text is TOML.
+    pub rights: &'a str,
+}
+
+impl<'a> RightsFileJob<'a> {
+    /// The job that the values of `rights` ask for.
+    pub(crate) fn read(matches: &ArgMatches<'a>) -> Result<RightsFileJob<'a>, BadValue>
+        ensures { Finds result (AsksRights (rows_of (found_of matches.now))) }
+    {
+        Ok(RightsFileJob {
+            now: values::now(matches)?,
+            file: values::text(matches, "FILE")?,
+            rights: values::text(matches, "RIGHTS")?,
+        })
+    }
+}
+
+/// What help says of `rights` behind its words.
+const NOTES: &str = "\
+A rights file has a table for each caller, and in it for each merchant the
+words of the rights that the caller gets there:
+
+  [till-1]
+  shop1 = [\"tokenize\", \"view\"]
+
+The words are tokenize, detokenize, view, revoke, purge and audit.";
+
+/// The command `rights`.
+pub(crate) fn rights<'a>(alloc: Global) -> Result<Command<'a>, AllocError>
+    ensures { IfOk result (λ c. IsApp c rights_app) }
+{
+    let about = "Grants what a rights file lists";
+    let listed = args::text(alloc, "RIGHTS", "The rights file, in TOML");
+    let command = args::with_notes(args::command(alloc, "rights", about), NOTES);
+    let command = add(command, args::now(alloc))?;
+    let command = add(command, args::file(alloc))?;
+    add(command, listed)
+}
