@@ -23,11 +23,15 @@ step "0: help" 'Keeps card numbers*' "$(told "$program" help)"
 step "0: a merchant" 'done (0)' "$(told "$program" merchant shop.db shop1 86400 0)"
 step "0: a right" 'done (0)' "$(told "$program" grant shop.db till-1 shop1 tokenize)"
 step "0: a right is taken away" 'done (0)' "$(told "$program" withdraw shop.db till-1 shop1 view)"
+printf '[till-1]\nshop1 = ["view", "tokenize", "view"]\n[back]\nshop1 = ["purge"]\n' > rights.toml
+step "0: the rights of a file" 'granted 3 (0)' "$(told "$program" rights shop.db rights.toml)"
 step "0: nothing is asked in a pipe" ' (0)' "$(told "$program" pipe shop.db < /dev/null)"
 
 # 1
 step "1: a bad name" 'refused 4 (1)' "$(told "$program" merchant none.db Shop1 60 0)"
 step "1: a word that is no right" 'refused 71 (1)' "$(told "$program" grant none.db till-1 shop1 sell)"
+echo '[till-1' > text.toml
+step "1: a rights file that is none" 'refused 70 (1)' "$(told "$program" rights none.db text.toml)"
 step "1: and no file is made" 'none' "$([ -e none.db ] && echo made || echo none)"
 step "1: a merchant that isn't known" 'refused 7 (1)' "$(told "$program" grant shop.db till-1 shop2 view)"
 
@@ -52,6 +56,8 @@ step "3: a file that is in use" 'vault: file not opened 34 (3)' "$(told "$progra
 # 4
 step "4: a port that is taken" 'vault: stopped 80 (4)' \
     "$(told "$program" serve --connections 1 --port "$port" new.db)"
+step "4: a rights file that isn't there" 'vault: stopped 80 (4)' \
+    "$(told "$program" rights new.db none.toml)"
 step "4: a full disk behind the output" 'vault: stopped 62 (4)' "$(told_full "$program" check new.db)"
 step "4: a closed output" 'vault: stopped 62 (4)' "$(
     code=0
