@@ -1,6 +1,6 @@
 -- A row after others that were answered.
-use Rattle.std.proofs.Common.{◌≡◌, ℕ, ◌<◌, List, [], ◌∷◌, ◌++◌, length, take, refl, sym, ap, ◌∙◌, subst, append_assoc}
-use Rattle.std.proofs.Common.{append-nil}
+use Rattle.std.proofs.Common.{◌≡◌, ℕ, ◌<◌, List, [], ◌∷◌, ◌++◌, length, take, refl, sym, ap, ◌∙◌, subst}
+use Rattle.std.proofs.Common.{append_assoc, append-nil}
 use Rattle.std.specs.Prelude.{All, Option}
 use Rattle.std.proofs.lemmas.List.{map-append}
 use Rattle.std.proofs.lemmas.List.Elements.{All-append}
@@ -13,7 +13,8 @@ use Rattle.vault_http.specs.Passing.{Passage, passing, IsBefore, Keeps, Sends, T
 use Rattle.vault_http.proofs.Bytes.{appends_both}
 use Rattle.vault_core.specs.Keys.{Bytes}
 use Rattle.vault_batch.specs.Asking.{Asked, Asks}
-use Rattle.vault_batch.specs.Batched.{Answered, AnsweredBefore, CutAt, SilentAt, UndecidedAt, line_at, pairs_of}
+use Rattle.vault_batch.specs.Batched.{Answered, AnsweredBefore, CutAt, SilentAt, UndecidedAt, line_at}
+use Rattle.vault_batch.specs.Batched.{pairs_of}
 use Rattle.vault_batch.specs.Lines.{lines, vault_after}
 use Rattle.vault_batch.specs.declared.asker.Asker.{Asker}
 use Rattle.vault_batch.proofs.Lining.{lines-more, lines-nil, lines-one, vault_after-append, vault_after-nil}
@@ -50,7 +51,8 @@ module _ (who : Asker) (first : Bytes) (second whole : Passage) (xs : List Asked
       (ap (λ t. (first ++ lines V xs) ++ t) (lines-nil (vault_after V xs)) ∙ append-nil (first ++ lines V xs))
       (f.sends V _ b s)
 
-  kept_none : (V : Content) → Keeps second (vault_after (vault_after V xs) []) → Keeps whole (vault_after V xs)
+  kept_none : (V : Content) → Keeps second (vault_after (vault_after V xs) [])
+      → Keeps whole (vault_after V xs)
   kept_none V k = f.keeps _ (subst (Keeps second) (vault_after-nil (vault_after V xs)) k)
 
   kept_one : (V : Content) (x : Asked) → Keeps second (vault_after (vault_after V xs) (x ∷ []))
@@ -63,7 +65,8 @@ module _ (who : Asker) (first : Bytes) (second whole : Passage) (xs : List Asked
     asked = asked_one x q.asked;
     answered = λ V b.
         let a = q.answered (vault_after V xs) (f.before V b) in
-        let out : (first ++ lines V xs) ++ lines (vault_after V xs) (x ∷ []) ≡ first ++ lines V (xs ++ x ∷ []) =
+        let out : (first ++ lines V xs) ++ lines (vault_after V xs) (x ∷ [])
+        ≡ first ++ lines V (xs ++ x ∷ []) =
         ap (λ t. first ++ lines V xs ++ t) (lines-one (vault_after V xs) x)
         ∙ append_assoc first (lines V xs) (line_at (vault_after V xs) x)
         ∙ ap (λ t. first ++ t) (sym (lines-more V xs x)) in

@@ -69,9 +69,10 @@ module _ (left : Option Bytes) (who : Asker) (second whole : Passage) (xs : List
   }
 
 -- a batch that stops at its beginning
-pub stops_first : (X : Type 0) {R : Type 0} (left : Option Bytes) (rem : R → Option Bytes) (reader : Reader R) (who : Asker)
-    (w : Passage) (e : BatchFault) → Unchanged w → SendsFirst {X = X} w.sent_old w.sent_new (Err e)
-    → Begins {X = X} left rem reader (Err e) → Stops left w who e
+pub stops_first : (X : Type 0) {R : Type 0} (left : Option Bytes) (rem : R → Option Bytes)
+    (reader : Reader R) (who : Asker) (w : Passage) (e : BatchFault) → Unchanged w
+    → SendsFirst {X = X} w.sent_old w.sent_new (Err e) → Begins {X = X} left rem reader (Err e)
+    → Stops left w who e
 stops_first X left rem reader who w fault.BadHeader u s b = ((s, u), b)
 stops_first X left rem reader who w fault.Read u s b = inl (s, u)
 stops_first X left rem reader who w fault.Write u s b =
@@ -119,7 +120,8 @@ memory_for_read left w who e same q = between_rows left w who (subst (Stops left
 
 -- a stop after all rows
 pub stops_after_all : (left : Option Bytes) (w : Passage) (who : Asker) (counts : Counts) (e : BatchFault)
-    (P : Type 0) → IsBatched left w who counts → (e ≡ fault.Read × P) ⊎ (e ≡ fault.Memory) → Stops left w who e
+    (P : Type 0) → IsBatched left w who counts → ((e ≡ fault.Read) × P) ⊎ (e ≡ fault.Memory)
+    → Stops left w who e
 stops_after_all left w who counts e P b (inl same) =
     stops_between left who w b.rows e (begins_all left _ b.records) b.answered (inl same.0)
 stops_after_all left w who counts e P b (inr same) =

@@ -11,7 +11,8 @@ use Rattle.vault_batch.specs.declared.fault.BatchFault.{BatchFault}
 use Rattle.vault_batch.specs.declared.fault.BatchFault.TheVariants as fault
 
 -- the header was read, or it isn't there
-abbrev pub Begins : {X R : Type 0} → Option Bytes → (R → Option Bytes) → Reader R → Result X BatchFault → Type 0
+abbrev pub Begins : {X R : Type 0} → Option Bytes → (R → Option Bytes) → Reader R → Result X BatchFault
+    → Type 0
 Begins known remaining reader (Ok x) = StandsAfter known remaining (fields_in header ∷ []) reader
 Begins known remaining reader (Err fault.BadHeader) = HasNoHeader known
 Begins known remaining reader (Err fault.Read) = Unit {0}

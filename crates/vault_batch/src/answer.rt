@@ -41,10 +41,13 @@ fn apply<T: Tables>(vault: &mut Vault<T>, command: &Command) -> Result<Reply, Ba
     ensures memory { result ≡ Err BatchFault.Memory
         → (V : Content) → Contains T.holds vault.old V → Contains T.holds vault.new V }
     ensures store { result ≡ Err BatchFault.Store → T.is_honest (tables_of vault.new)
-        → (V : Content) → Contains T.holds vault.old V → T.leaves (tables_of vault.new) V (after V command.now) }
+        → (V : Content) → Contains T.holds vault.old V
+        → T.leaves (tables_of vault.new) V (after V command.now) }
     ensures only { IfErr result (λ e. (e ≡ BatchFault.Memory) ⊎ (e ≡ BatchFault.Store)) }
+    ensures broken { (result ≡ Err BatchFault.Store) ↔ (is_broken vault.new ≡ true) }
     ensures told { Tells result
-        (failures false false false (is_broken vault.old)) (failures false false false (is_broken vault.new)) }
+        (failures false false false (is_broken vault.old))
+        (failures false false false (is_broken vault.new)) }
     ensures sturdy { T.may_fail ≡ false → is_broken vault.old ≡ false → ¬ (result ≡ Err BatchFault.Store) }
     ensures honest { T.is_honest (tables_of vault.new) → T.is_honest (tables_of vault.old) }
 {
@@ -76,7 +79,8 @@ fn decide<T: Tables>(
         → T.leaves (tables_of vault.new) V (left_by V wanted)) }
     ensures only { IfErr result (λ e. (e ≡ BatchFault.Memory) ⊎ (e ≡ BatchFault.Store)) }
     ensures told { Tells result
-        (failures false false false (is_broken vault.old)) (failures false false false (is_broken vault.new)) }
+        (failures false false false (is_broken vault.old))
+        (failures false false false (is_broken vault.new)) }
     ensures sturdy { T.may_fail ≡ false → is_broken vault.old ≡ false → ¬ (result ≡ Err BatchFault.Store) }
     ensures honest { T.is_honest (tables_of vault.new) → T.is_honest (tables_of vault.old) }
 {
@@ -123,8 +127,8 @@ pub(crate) fn answer_row<W: Write, T: Tables, S: Source>(
     vault: &mut Vault<T>,
     source: &mut S,
 ) -> Result<bool, BatchFault>
-    ensures answered { let w : Passage = passing S.given source.old source.new W.contents writer.old writer.new
-        T.is_honest T.holds T.leaves vault.old vault.new in
+    ensures answered { let w : Passage = passing S.given source.old source.new W.contents writer.old
+        writer.new T.is_honest T.holds T.leaves vault.old vault.new in
         IfOk result (λ token. (x : Asked) × (x.row ≡ row_of row.entry) × Answered asker [] w (x ∷ [])
         × ((V : Content) → IsBefore w V → token ≡ has_token_lem (reply_to V x.wanted))) }
     ensures stopped { let w : Passage = passing S.given source.old source.new W.contents writer.old writer.new

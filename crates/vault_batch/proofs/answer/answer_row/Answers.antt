@@ -87,7 +87,7 @@ returns-then-is_err-clause-stopped g c =
           (λ V b.
           let now = d.2 b.0 V b.1 in
           let text = c.deref.ensures.value ∙ c.in-Ok-line.ensures
-          ∙ ap (λ r. line_of (record { request = c.written_request-request.result.now; reply = r })) now.0 in (
+          ∙ ap (λ r. line_of (record { request = x.request; reply = r })) now.0 in (
             subst (λ (t : List ℕ). sent.0 < length t) text sent.1,
             subst (λ (t : List ℕ). Appends (g.W.Write.contents (inner_of c.args.writer.now))
                 (g.W.Write.contents (inner_of c.send.new.writer)) (take sent.0 t)) text sent.2,
@@ -114,7 +114,7 @@ returns-clause-answered g c =
           (λ V b.
           let now = d.2 b.0 V b.1 in
           let text = c.deref.ensures.value ∙ c.in-Ok-line.ensures
-          ∙ ap (λ r. line_of (record { request = c.written_request-request.result.now; reply = r })) now.0 in (
+          ∙ ap (λ r. line_of (record { request = x.request; reply = r })) now.0 in (
             subst (λ (t : List ℕ). Appends (g.W.Write.contents (inner_of c.args.writer.now))
                 (g.W.Write.contents (inner_of c.send.new.writer)) t) text sent,
             (now.1, g.met.T.Tables.settled _ _ now.1.0 b.0),

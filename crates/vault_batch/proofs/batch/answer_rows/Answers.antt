@@ -22,7 +22,8 @@ returns-in-Err-clause-stopped g c =
     let w = passing g.S.Source.given c.args.source.now c.args.source.now g.W.Write.contents c.args.writer.now
     c.begin.new.writer g.T.Tables.is_honest g.T.Tables.holds g.T.Tables.leaves c.args.vault.now
     c.args.vault.now in
-    stops_first (Unit {0}) known (λ r. g.R.Read.remaining r.now.inner) c.begin.new.records c.args.asker.now w c.in-Err.fault
+    stops_first (Unit {0}) known (λ r. g.R.Read.remaining r.now.inner) c.begin.new.records c.args.asker.now w
+    c.in-Err.fault
     (sym (append-nil _), λ V b. (b.1, g.met.T.Tables.settled _ V b.1.0 b.0)) c.in-Err.ensures.sent
     (c.in-Err.ensures.began known c.records_of-records.ensures)
 
@@ -77,8 +78,9 @@ pub returns-in_default-of-clause-stopped : goal.returns-in_default-of-clause-sto
 returns-in_default-of-clause-stopped g c =
     let inv = c.rows.invariant in
     let known = g.R.Read.remaining c.args.reader.now.inner in
-    let next = subst (StandsNext known (λ r. g.R.Read.remaining r.now.inner) (records_with (rows_of inv.asked))
-    (fields_of c.read_record.new.fields) c.read_record.new.records) c.in-Ok-true.field-0-test
+    let next = subst (StandsNext known (λ r. g.R.Read.remaining r.now.inner)
+    (records_with (rows_of inv.asked)) (fields_of c.read_record.new.fields)
+    c.read_record.new.records) c.in-Ok-true.field-0-test
     (c.in-Ok-true.ensures.next known _ inv.stands) in
     record {
       rows = inv.asked;
@@ -93,8 +95,9 @@ pub rows-preserved : goal.rows-preserved
 rows-preserved g c =
     let inv = c.rows.invariant in
     let known = g.R.Read.remaining c.args.reader.now.inner in
-    let next = subst (StandsNext known (λ r. g.R.Read.remaining r.now.inner) (records_with (rows_of inv.asked))
-    (fields_of c.read_record.new.fields) c.read_record.new.records) c.in-Ok-true.field-0-test
+    let next = subst (StandsNext known (λ r. g.R.Read.remaining r.now.inner)
+    (records_with (rows_of inv.asked)) (fields_of c.read_record.new.fields)
+    c.read_record.new.records) c.in-Ok-true.field-0-test
     (c.in-Ok-true.ensures.next known _ inv.stands) in
     let one = c.in-Ok.ensures.answered in
     let x : Asked = one.0 in
@@ -104,9 +107,10 @@ rows-preserved g c =
     let whole = passing g.S.Source.given c.args.source.now c.answer_row.new.source g.W.Write.contents
     c.args.writer.now c.answer_row.new.writer g.T.Tables.is_honest g.T.Tables.holds g.T.Tables.leaves
     c.args.vault.now c.answer_row.new.vault in
-    let f = follows g.S.Source.given c.args.source.now c.rows.source c.answer_row.new.source g.W.Write.contents
-    c.args.writer.now c.rows.writer c.answer_row.new.writer g.T.Tables.is_honest g.T.Tables.holds
-    g.T.Tables.leaves c.args.vault.now c.rows.vault c.answer_row.new.vault c.answer_row.ensures.honest
+    let f = follows g.S.Source.given c.args.source.now c.rows.source c.answer_row.new.source
+    g.W.Write.contents c.args.writer.now c.rows.writer c.answer_row.new.writer g.T.Tables.is_honest
+    g.T.Tables.holds g.T.Tables.leaves c.args.vault.now c.rows.vault c.answer_row.new.vault
+    c.answer_row.ensures.honest
     c.args.asker.now first_line inv.asked inv.answered in
     let more : length (inv.asked ++ x ∷ []) ≡ length inv.asked + 1 = length-append inv.asked (x ∷ []) in
     record {
@@ -123,7 +127,8 @@ rows-preserved g c =
           let all : tokens V (inv.asked ++ x ∷ [])
           ≡ c.rows.tokens + (if has_token (reply_to (vault_after V inv.asked) x.wanted) then 1 else 0) =
           tokens-more V inv.asked x
-          ∙ ap (λ n. n + (if has_token (reply_to (vault_after V inv.asked) x.wanted) then 1 else 0)) (sym before) in
+          ∙ ap (λ n. n + (if has_token (reply_to (vault_after V inv.asked) x.wanted) then 1 else 0))
+          (sym before) in
           counts_one c.in-Ok.token _ c.rows.tokens _ c.from-tokens.result c.from-tokens.ensures
           (one.3 (vault_after V inv.asked) (f.before V b)) all;
       pairs = omega (arith, inv.pairs, c.in-Ok.ensures.counted, more);
@@ -136,8 +141,9 @@ pub returns-in-Err-answer_row-clause-stopped : goal.returns-in-Err-answer_row-cl
 returns-in-Err-answer_row-clause-stopped g c =
     let inv = c.rows.invariant in
     let known = g.R.Read.remaining c.args.reader.now.inner in
-    let next = subst (StandsNext known (λ r. g.R.Read.remaining r.now.inner) (records_with (rows_of inv.asked))
-    (fields_of c.read_record.new.fields) c.read_record.new.records) c.in-Ok-true.field-0-test
+    let next = subst (StandsNext known (λ r. g.R.Read.remaining r.now.inner)
+    (records_with (rows_of inv.asked)) (fields_of c.read_record.new.fields)
+    c.read_record.new.records) c.in-Ok-true.field-0-test
     (c.in-Ok-true.ensures.next known _ inv.stands) in
     let second = passing g.S.Source.given c.rows.source c.answer_row.new.source g.W.Write.contents
     c.rows.writer c.answer_row.new.writer g.T.Tables.is_honest g.T.Tables.holds g.T.Tables.leaves c.rows.vault
@@ -145,9 +151,10 @@ returns-in-Err-answer_row-clause-stopped g c =
     let whole = passing g.S.Source.given c.args.source.now c.answer_row.new.source g.W.Write.contents
     c.args.writer.now c.answer_row.new.writer g.T.Tables.is_honest g.T.Tables.holds g.T.Tables.leaves
     c.args.vault.now c.answer_row.new.vault in
-    let f = follows g.S.Source.given c.args.source.now c.rows.source c.answer_row.new.source g.W.Write.contents
-    c.args.writer.now c.rows.writer c.answer_row.new.writer g.T.Tables.is_honest g.T.Tables.holds
-    g.T.Tables.leaves c.args.vault.now c.rows.vault c.answer_row.new.vault c.answer_row.ensures.honest
+    let f = follows g.S.Source.given c.args.source.now c.rows.source c.answer_row.new.source
+    g.W.Write.contents c.args.writer.now c.rows.writer c.answer_row.new.writer g.T.Tables.is_honest
+    g.T.Tables.holds g.T.Tables.leaves c.args.vault.now c.rows.vault c.answer_row.new.vault
+    c.answer_row.ensures.honest
     c.args.asker.now first_line inv.asked inv.answered in
     stops_at_row known c.args.asker.now second whole inv.asked inv.answered.asked (row_of c.in-Some.row) f
     (begins_given known (λ r. g.R.Read.remaining r.now.inner) c.rows.records _ inv.stands.gave)
