@@ -1,7 +1,7 @@
 -- Rights that are given one after the other.
-use Rattle.std.proofs.Common.{◌≡◌, ◌≢◌, ℕ, ◌+◌, ◌<◌, List, [], ◌∷◌, ◌++◌, length, map, take, get_or, replicate}
-use Rattle.std.proofs.Common.{Option, Some, None, Bool, true, false, Result, Ok, Err, sym, ◌∙◌, ap, subst, refl}
-use Rattle.std.proofs.Common.{arith}
+use Rattle.std.proofs.Common.{◌≡◌, ◌≢◌, ℕ, ◌+◌, ◌<◌, List, [], ◌∷◌, ◌++◌, length, map, take, get_or}
+use Rattle.std.proofs.Common.{Option, Some, None, Bool, true, false, Result, Ok, Err, sym, ◌∙◌, ap, subst}
+use Rattle.std.proofs.Common.{arith, refl, replicate}
 use Rattle.std.specs.Option.{option_map_or}
 use Rattle.std.proofs.lemmas.List.{length-map, map-append, replicate-append-replicate, take-map, take_more}
 use Rattle.vault_core.specs.Runs.{replies, run}
@@ -48,7 +48,8 @@ grants_more now rows i row is below =
     ∙ map-append f (take i rows) (row ∷ []) ∙ ap (λ cs. cs ++ f row ∷ []) (sym (take-map f i rows))
 
 -- what isn't broken where an answer came
-pub unbroken : {X E : Type 0} (broken : Bool) (x : X) (e : E) → (broken ≡ true → Ok x ≡ Err e) → broken ≡ false
+pub unbroken : {X E : Type 0} (broken : Bool) (x : X) (e : E) → (broken ≡ true → Ok x ≡ Err e)
+    → broken ≡ false
 unbroken true x e only = absurd (cc (only refl))
 unbroken false x e only = refl
 
@@ -71,7 +72,8 @@ granted_or_refused caller m right now V =
     by_merchant None is = (Refused no_merchant, ap answered is)
     by_merchant (Some merchant) is = (Done, ap answered is)
 
-module _ {T : Type 0} (honest : T → Type 0) (holds : T → Content → Type 0) (leaves : T → Content → Content → Type 0)
+module _ {T : Type 0} (honest : T → Type 0) (holds : T → Content → Type 0)
+    (leaves : T → Content → Content → Type 0)
     (v0 v1 v2 : Vault T) (cs : List Command) (i : ℕ) (c : Command) (broken : Bool)
     (more : take (i + 1) cs ≡ take i cs ++ c ∷ []) (below : i < length cs)
     (goes : honest (tables_of v2) → honest (tables_of v1))
@@ -109,7 +111,8 @@ module _ {T : Type 0} (honest : T → Type 0) (holds : T → Content → Type 0)
       )
 
   -- the command is refused
-  pub refused_then : (n : ℕ) → Carries c step broken (Ok (Refused n)) → CarriesAll cs whole broken (Ok (Refused n))
+  pub refused_then : (n : ℕ) → Carries c step broken (Ok (Refused n))
+      → CarriesAll cs whole broken (Ok (Refused n))
   refused_then n carried = (
     i,
     below,

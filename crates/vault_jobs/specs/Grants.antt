@@ -25,7 +25,8 @@ AreDone k cs V = replies (take k cs) V ≡ replicate k answer.Done
 -- one, which is refused by this number; nothing after it. 20: all before one, and nothing of that one. 21:
 -- all before one, the vault is broken, and a crash leaves the vault before that one or the one after it.
 abbrev pub CarriesAll : List Command → Passage → Bool → Result Verdict Fault → Type 0
-CarriesAll cs w broken (Ok Done) = (V : Content) → IsBefore w V → AreDone (length cs) cs V × Keeps w (run cs V)
+CarriesAll cs w broken (Ok Done) =
+    (V : Content) → IsBefore w V → AreDone (length cs) cs V × Keeps w (run cs V)
 CarriesAll cs w broken (Ok (Refused n)) = (k : ℕ) × (k < length cs) × ((V : Content) → IsBefore w V
     → (replies (take (k + 1) cs) V ≡ replicate k answer.Done ++ answer.Refused n ∷ [])
     × Keeps w (run (take (k + 1) cs) V))
