@@ -8,10 +8,11 @@ use Rattle.vault_jobs.specs.Causes.{IsCauseOf}
 use Rattle.vault_jobs.specs.Streams.{Streams, streams}
 use Rattle.vault_jobs.specs.Told.{Tells}
 use Rattle.vault_jobs.specs.declared.stop.Stop.TheVariants.{Vault}
-use Rattle.vault_cli.specs.Ran.{IsBegun, IsDone, Ran, Said}
+use Rattle.vault_cli.specs.Ran.{IsBegun, IsDone, IsRefusedInPart, Ran, Said}
 use Rattle.vault_cli.specs.declared.ending.Ending.{Ending}
 use Rattle.vault_store.specs.declared.vault.Fault.TheVariants as vault
-use Rattle.vault_cli.specs.declared.ending.Ending.TheVariants.{Done, Refused, BadWords, NotOpened, Stopped}
+use Rattle.vault_cli.specs.declared.ending.Ending.TheVariants.{Done, Refused, SomeRefused, BadWords}
+use Rattle.vault_cli.specs.declared.ending.Ending.TheVariants.{NotOpened, Stopped}
 
 module _ {R W : Type 0} (remaining : R → Option (List ℕ)) (contents : W → Option (List ℕ)) (i0 i1 : Watched R)
     (o0 o1 o2 : Watched W) (words : List Text) (silent : Type 0) (errors : List ℕ → Type 0) where
@@ -40,6 +41,11 @@ module _ {R W : Type 0} (remaining : R → Option (List ℕ)) (contents : W → 
   said_of (Refused n) (inr (inl (help, is, unread))) said = absurd (cc (is))
   said_of (Refused n) (inr (inr (inl (none, is, unread, unsent)))) said = absurd (cc (is))
   said_of (Refused n) (inr (inr (inr (is, unread, unsent)))) said = absurd (cc (is))
+  said_of SomeRefused (inl (job, asked, part)) (same, quiet) =
+      (quiet, (job, asked, later (λ s. (s.writer ≡ false) × IsRefusedInPart job s) same part))
+  said_of SomeRefused (inr (inl (help, is, unread))) said = absurd (cc (is))
+  said_of SomeRefused (inr (inr (inl (none, is, unread, unsent)))) said = absurd (cc (is))
+  said_of SomeRefused (inr (inr (inr (is, unread, unsent)))) said = absurd (cc (is))
   said_of BadWords (inl (job, asked, never)) said = absurd never
   said_of BadWords (inr (inl (help, is, unread))) said = absurd (cc (is))
   said_of BadWords (inr (inr (inl (none, is, unread, unsent)))) (same, line) =

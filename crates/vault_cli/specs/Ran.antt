@@ -13,10 +13,13 @@ use Rattle.vault_http.specs.declared.fault.ServeFault.{ServeFault}
 use Rattle.vault_http.specs.declared.fault.ServeFault.TheVariants as service
 use Rattle.vault_words.specs.Commands.{vault_app}
 use Rattle.vault_words.specs.Jobs.{IsAsked}
+use Rattle.vault_words.specs.declared.commands.batch.BatchJob.{BatchJob}
 use Rattle.vault_words.specs.declared.commands.rights.RightJob.{RightJob}
 use Rattle.vault_words.specs.declared.jobs.Job.{Job}
-use Rattle.vault_words.specs.declared.jobs.Job.TheVariants.{Trial, Merchant, Grant, Withdraw, Rights, Pipe}
+use Rattle.vault_words.specs.declared.jobs.Job.TheVariants.{Trial, Merchant, Grant, Withdraw, Rights, Pipe, Batch}
 use Rattle.vault_words.specs.declared.jobs.Job.TheVariants.{Serve, Check}
+use Rattle.vault_batch.specs.declared.counts.Counts.{Counts}
+use Rattle.vault_jobs.specs.Batched.{IsTabled}
 use Rattle.vault_jobs.specs.Causes.{IsCauseOf, number_of}
 use Rattle.vault_jobs.specs.Moments.{IsMomentOf}
 use Rattle.vault_jobs.specs.Streams.{IsHeard, Streams, Writes}
@@ -27,7 +30,8 @@ use Rattle.vault_jobs.specs.declared.stop.Stop.TheVariants.{Vault, Service}
 use Rattle.vault_cli.specs.Ending.{bad_words_line, not_opened_line, refusal_line, status_of, stop_line}
 use Rattle.vault_cli.specs.Rights.{IsListed, IsRefusedText}
 use Rattle.vault_cli.specs.declared.ending.Ending.{Ending}
-use Rattle.vault_cli.specs.declared.ending.Ending.TheVariants.{Done, Refused, BadWords, NotOpened, Stopped}
+use Rattle.vault_cli.specs.declared.ending.Ending.TheVariants.{Done, Refused, SomeRefused, BadWords}
+use Rattle.vault_cli.specs.declared.ending.Ending.TheVariants.{NotOpened, Stopped}
 
 -- the lives of a job are lives
 abbrev pub HasLives : Job → Type 0
@@ -37,6 +41,7 @@ HasLives (Grant j) = Unit {0}
 HasLives (Withdraw j) = Unit {0}
 HasLives (Rights j) = Unit {0}
 HasLives (Pipe j) = Unit {0}
+HasLives (Batch j) = Unit {0}
 HasLives (Serve j) = Unit {0}
 HasLives (Check j) = Unit {0}
 
@@ -56,6 +61,7 @@ IsDone (Withdraw j) unread s = unread × Writes s (codes "done\n")
 IsDone (Rights j) unread s =
     unread × ((rows : List Row) × IsListed rows × Writes s (granted_line (length rows)))
 IsDone (Pipe j) unread s = IsHeard s
+IsDone (Batch j) unread s = (counts : Counts) × IsTabled s counts × (counts.refused ≡ 0)
 IsDone (Serve j) unread s = unread × ((port : ℕ) × Writes s (listening_line port))
 IsDone (Check j) unread s = unread × ((sizes : Sizes) × Writes s (sound_line sizes))
 
@@ -70,6 +76,7 @@ IsBegun (Grant j) stop unread s = unread
 IsBegun (Withdraw j) stop unread s = unread
 IsBegun (Rights j) stop unread s = unread
 IsBegun (Pipe j) stop unread s = Unit {0}
+IsBegun (Batch j) stop unread s = Unit {0}
 IsBegun (Serve j) stop unread s = unread
 IsBegun (Check j) stop unread s = unread
 
@@ -93,6 +100,7 @@ IsRefused (Grant j) n = IsMisnamed j n ⊎ AreNames j × IsRight j
 IsRefused (Withdraw j) n = IsMisnamed j n ⊎ AreNames j × IsRight j
 IsRefused (Rights j) n = IsRefusedText n ⊎ ((rows : List Row) × IsListed rows)
 IsRefused (Pipe j) n = ⊥
+IsRefused (Batch j) n = (n ≡ 4) × ¬ (IsName j.caller.now × IsName j.merchant.now)
 IsRefused (Serve j) n = ⊥
 IsRefused (Check j) n = ⊥
 
@@ -104,13 +112,31 @@ IsOnFile (Grant j) = AreNames j × IsRight j
 IsOnFile (Withdraw j) = AreNames j × IsRight j
 IsOnFile (Rights j) = (rows : List Row) × IsListed rows
 IsOnFile (Pipe j) = Unit {0}
+IsOnFile (Batch j) = IsName j.caller.now × IsName j.merchant.now
 IsOnFile (Serve j) = Unit {0}
 IsOnFile (Check j) = Unit {0}
+
+-- it is a batch, of which some rows are refused
+abbrev pub IsRefusedInPart : Job → Streams → Type 0
+IsRefusedInPart (Trial j) s = ⊥
+IsRefusedInPart (Merchant j) s = ⊥
+IsRefusedInPart (Grant j) s = ⊥
+IsRefusedInPart (Withdraw j) s = ⊥
+IsRefusedInPart (Rights j) s = ⊥
+IsRefusedInPart (Pipe j) s = ⊥
+IsRefusedInPart (Batch j) s = (counts : Counts) × IsTabled s counts × (counts.refused ≢ 0)
+IsRefusedInPart (Serve j) s = ⊥
+IsRefusedInPart (Check j) s = ⊥
+
+-- it is a batch
+abbrev pub IsBatch : Job → Type 0
+IsBatch job = (j : BatchJob) × (job ≡ Batch j)
 
 -- how a job ends; a job that is refused, or whose file isn't opened, leaves both streams alone
 abbrev pub Ends : Job → Ending → Type 0 → Type 0 → Streams → Type 0
 Ends job Done unread unsent s = (s.writer ≡ false) × IsDone job unread s
 Ends job (Refused n) unread unsent s = unread × unsent × IsRefused job n
+Ends job SomeRefused unread unsent s = (s.writer ≡ false) × IsRefusedInPart job s
 Ends job BadWords unread unsent s = ⊥
 Ends job (NotOpened f) unread unsent s = unread × unsent × IsOnFile job
 Ends job (Stopped stop) unread unsent s = IsCauseOf stop s × IsBegun job stop unread s
@@ -139,6 +165,8 @@ Said words Done unread unsent silent s output errors = silent
     × (AsksFor words (λ job. (s.writer ≡ false) × IsDone job unread s) ⊎ AsksHelp words × unread)
 Said words (Refused n) unread unsent silent s output errors = silent × unread × output (refusal_line n)
     × AsksFor words (λ job. IsRefused job n)
+Said words SomeRefused unread unsent silent s output errors = silent
+    × AsksFor words (λ job. (s.writer ≡ false) × IsRefusedInPart job s)
 Said words BadWords unread unsent silent s output errors = unread × unsent × errors bad_words_line
     × ((job : Job) → ¬ (IsAsked vault_app words job))
 Said words (NotOpened f) unread unsent silent s output errors = unread × unsent × errors (not_opened_line f)

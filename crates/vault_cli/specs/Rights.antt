@@ -8,7 +8,8 @@ use Rattle.vault_rights.specs.declared.fault.RightsFault.{RightsFault}
 use Rattle.vault_jobs.specs.declared.stop.Stop.TheVariants as stop
 use Rattle.vault_jobs.specs.declared.stop.Unread.{Unread}
 use Rattle.vault_cli.specs.declared.ending.Ending.{Ending}
-use Rattle.vault_cli.specs.declared.ending.Ending.TheVariants.{Done, Refused, BadWords, NotOpened, Stopped}
+use Rattle.vault_cli.specs.declared.ending.Ending.TheVariants.{Done, Refused, SomeRefused, BadWords}
+use Rattle.vault_cli.specs.declared.ending.Ending.TheVariants.{NotOpened, Stopped}
 
 -- the rows are the rights that a text's document names, in order and each once
 abbrev pub IsListed : List Row → Type 0
@@ -24,6 +25,7 @@ IsRefusedText n = (text : List ℕ) × (fault : RightsFault)
 abbrev pub IsUnlisted : Ending → Type 0
 IsUnlisted Done = ⊥
 IsUnlisted (Refused n) = IsRefusedText n
+IsUnlisted SomeRefused = ⊥
 IsUnlisted BadWords = ⊥
 IsUnlisted (NotOpened f) = ⊥
 IsUnlisted (Stopped s) = (unread : Unread) × (s ≡ stop.Rights unread)

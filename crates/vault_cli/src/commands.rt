@@ -1,5 +1,6 @@
 //! What each subcommand does.
 
+pub(crate) mod batch;
 pub(crate) mod check;
 pub(crate) mod merchant;
 pub(crate) mod pipe;

@@ -9,6 +9,8 @@ pub enum Ending {
     Done,
     /// The words' names or the vault refused, by this number.
     Refused(u8),
+    /// Some rows of a batch are refused, as their lines say.
+    SomeRefused,
     /// The words ask for no job.
     BadWords,
     /// The file isn't opened.

@@ -7,8 +7,7 @@ ghost use Rattle.vault_cli.specs.Files.{FileEnds};
 use crate::ending::Ending;
 use std::io::{Read, Write};
 use vault_file::open::{close_vault, open_vault};
-use vault_jobs::change::Verdict;
-use vault_jobs::task::{Task, do_task};
+use vault_jobs::task::{Outcome, Task, do_task};
 use vault_wire::watched::Watched;
 
 /// Does a task on the vault in the file at a path.
@@ -30,8 +29,9 @@ pub(crate) fn do_on_file<R: Read, W: Write>(
     let ended = do_task(rt, task, &mut vault, input, output);
     close_vault(vault);
     match ended {
-        Ok(Verdict::Done) => Ending::Done,
-        Ok(Verdict::Refused(number)) => Ending::Refused(number),
+        Ok(Outcome::Done) => Ending::Done,
+        Ok(Outcome::Refused(number)) => Ending::Refused(number),
+        Ok(Outcome::SomeRefused) => Ending::SomeRefused,
         Err(stop) => Ending::Stopped(stop),
     }
 }

@@ -64,6 +64,7 @@ pub(crate) fn report<W: Write, E: Write>(
             tell_numbered(output, "refused ", *number);
             1
         }
+        Ending::SomeRefused => 1,
         Ending::BadWords => {
             tell(errors, &["vault: bad words\n"]);
             2

@@ -5,8 +5,9 @@ ghost use Rattle.vault_wire.specs.Watching.{inner_of, is_stopped};
 ghost use Rattle.vault_cli.specs.Ending.{bad_words_line, stop_line};
 ghost use Rattle.vault_jobs.specs.Streams.{Streams, streams};
 ghost use Rattle.vault_jobs.specs.Told.{Tells};
-ghost use Rattle.vault_cli.specs.Ran.{Ends, EndsBy, HasLives, Ran};
+ghost use Rattle.vault_cli.specs.Ran.{AsksFor, Ends, EndsBy, HasLives, IsBatch, Ran};
 
+use crate::commands::batch::batch;
 use crate::commands::check::check;
 use crate::commands::merchant::merchant;
 use crate::commands::pipe::pipe;
@@ -43,6 +44,7 @@ fn do_job<R: Read, W: Write>(
         Job::Withdraw(job) => withdraw(rt, job, input, output),
         Job::Rights(job) => rights(rt, job, input, output),
         Job::Pipe(job) => pipe(rt, job, input, output),
+        Job::Batch(job) => batch(rt, job, input, output),
         Job::Serve(job) => serve(rt, job, input, output),
         Job::Check(job) => check(rt, job, input, output),
     }
@@ -90,7 +92,8 @@ pub fn run<S: AsStr, R: Read, W: Write, E: Write>(
         (is_stopped errors.new)) }
     ensures status { (result ≡ 0) ⊎ (result ≡ 1) ⊎ (result ≡ 2) ⊎ (result ≡ 3) ⊎ (result ≡ 4) }
     ensures silent { (result ≡ 0) ⊎ (result ≡ 1) → errors.new ≡ errors.old }
-    ensures unread { (result ≡ 1) ⊎ (result ≡ 2) ⊎ (result ≡ 3) → input.new ≡ input.old }
+    ensures unread { (result ≡ 2) ⊎ (result ≡ 3) → input.new ≡ input.old }
+    ensures unread_refused { result ≡ 1 → (input.new ≡ input.old) ⊎ AsksFor (map S.text words.now) IsBatch }
     ensures unsent { (result ≡ 2) ⊎ (result ≡ 3) → output.new ≡ output.old }
 {
     let ending = ended(rt, words, input, output);

@@ -24,7 +24,7 @@ unfolding vault_after
 kept_of n w a = (commands_of (all_of a.connections), a.kept)
 
 -- an exchange asks for one command at most
-one_at_most : (wanted : Result Command ℕ) → length (commands_in wanted) ≤ 1
+pub one_at_most : (wanted : Result Command ℕ) → length (commands_in wanted) ≤ 1
 one_at_most (Ok c) = omega arith
 one_at_most (Err n) = omega arith
 

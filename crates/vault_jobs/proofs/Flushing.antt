@@ -5,6 +5,10 @@ use Rattle.vault_http.specs.Exchanges.{last_text, texts}
 use Rattle.vault_http.specs.Passing.{Passage}
 use Rattle.vault_http.specs.Served.{IsServed}
 use Rattle.vault_http.specs.declared.served.Served.{Served}
+use Rattle.vault_batch.specs.Lines.{first_line, lines}
+use Rattle.vault_batch.specs.Stops.{IsBatched}
+use Rattle.vault_batch.specs.declared.asker.Asker.{Asker}
+use Rattle.vault_batch.specs.declared.counts.Counts.{Counts}
 
 -- bytes that went out before a flush
 kept_after : (old mid new : Option (List ℕ)) (bs : List ℕ) → Appends old mid bs → Keeps mid new
@@ -38,4 +42,26 @@ flushed left_old left_new gone w served s kept = record {
         kept,
     (s.answered V before).1,
   );
+}
+
+-- rows that were answered before a flush are answered after it
+pub batch_flushed : (left gone : Option (List ℕ)) (w : Passage) (who : Asker) (counts : Counts)
+    → IsBatched left w who counts → Keeps w.sent_new gone
+    → IsBatched left (record w { sent_new = gone }) who counts
+batch_flushed left gone w who counts b kept = record {
+  rows = b.rows;
+  records = b.records;
+  answered = record {
+    taken = b.answered.taken;
+    asked = b.answered.asked;
+    answered = λ V before. (
+      kept_after w.sent_old w.sent_new gone (first_line ++ lines V b.rows) (b.answered.answered V before).0 kept,
+      (b.answered.answered V before).1,
+    );
+  };
+  counted = record {
+    rows = b.counted.rows;
+    both = b.counted.both;
+    tokens = b.counted.tokens;
+  };
 }

@@ -1,3 +1,4 @@
+pub mod Batching
 pub mod Carrying
 pub mod Flushing
 pub mod Giving

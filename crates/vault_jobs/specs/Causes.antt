@@ -1,13 +1,18 @@
 -- What stops a job.
 use Rattle.std.specs.Prelude.{◌≡◌, ℕ, Bool, true}
 use Rattle.vault_store.specs.Applied.{fault_number}
+use Rattle.vault_batch.specs.Faults as batch
+use Rattle.vault_batch.specs.Stops.{HasNoHeader}
+use Rattle.vault_batch.specs.declared.fault.BatchFault.{BatchFault}
+use Rattle.vault_batch.specs.declared.fault.BatchFault.TheVariants as row
 use Rattle.vault_http.specs.Faults as service
 use Rattle.vault_http.specs.declared.fault.ServeFault.{ServeFault}
 use Rattle.vault_http.specs.declared.fault.ServeFault.TheVariants as fault
 use Rattle.vault_listen.specs.Faults as listener
+use Rattle.vault_jobs.specs.Batched.{HasBadRecord}
 use Rattle.vault_jobs.specs.Streams.{Streams}
 use Rattle.vault_jobs.specs.declared.stop.Stop.{Stop}
-use Rattle.vault_jobs.specs.declared.stop.Stop.TheVariants.{Vault, Service, Listener, Rights}
+use Rattle.vault_jobs.specs.declared.stop.Stop.TheVariants.{Vault, Service, Listener, Rights, Batch}
 use Rattle.vault_jobs.specs.declared.stop.Unread.TheVariants as unread
 
 -- the number of what stopped a job
@@ -15,6 +20,7 @@ abbrev pub number_of : Stop → ℕ
 number_of (Vault f) = fault_number f
 number_of (Service f) = service.number_of f
 number_of (Listener f) = listener.number_of f
+number_of (Batch f) = batch.number_of f
 number_of (Rights unread.Memory) = 74
 number_of (Rights unread.File) = 80
 
@@ -26,9 +32,20 @@ IsCause fault.Source reader writer = Unit {0}
 IsCause fault.Store reader writer = Unit {0}
 IsCause fault.Memory reader writer = Unit {0}
 
--- the reader or the writer stops a job only where it failed
+-- and so is a batch; and by its bytes only where they are no batch
+abbrev pub IsBatchCause : BatchFault → Streams → Type 0
+IsBatchCause row.BadHeader s = HasNoHeader s.left_old
+IsBatchCause row.Read s = s.reader ≡ true
+IsBatchCause row.Write s = s.writer ≡ true
+IsBatchCause row.Store s = Unit {0}
+IsBatchCause row.BadRecord s = HasBadRecord s.left_old
+IsBatchCause row.Memory s = Unit {0}
+IsBatchCause row.Source s = Unit {0}
+
+-- the reader or the writer stops a job only where it failed, and the rows of a batch only where they are none
 abbrev pub IsCauseOf : Stop → Streams → Type 0
 IsCauseOf (Vault f) s = Unit {0}
 IsCauseOf (Service f) s = IsCause f s.reader s.writer
 IsCauseOf (Listener f) s = Unit {0}
 IsCauseOf (Rights f) s = Unit {0}
+IsCauseOf (Batch f) s = IsBatchCause f s

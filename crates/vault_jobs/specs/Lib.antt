@@ -1,3 +1,4 @@
+pub mod Batched
 pub mod Carried
 pub mod Causes
 pub mod Grants

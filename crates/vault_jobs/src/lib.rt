@@ -2,6 +2,7 @@
 #![tactic(auto)]
 
 pub mod answer;
+pub mod batch;
 pub mod change;
 pub mod clock;
 pub mod grants;

@@ -1,11 +1,12 @@
-//! The pairs that a job's messages are asked with.
-ghost use Rattle.std.specs.Prelude.{◌≡◌, IfErr, IfOk};
+//! The pairs that a job's messages and rows are asked with.
+ghost use Rattle.std.specs.Prelude.{◌≡◌, IfErr, IfOk, IfSome};
 ghost use Rattle.vault_live.specs.Live.{Fixes, IsFresh};
 
 use rand::make_rng;
 use rand::rngs::StdRng;
 use std::random::RandomSource;
 use std::time::Clock;
+use vault_batch::fault::BatchFault;
 use vault_core::moment::Moment;
 use vault_http::fault::ServeFault;
 use vault_live::live::LiveSource;
@@ -14,8 +15,27 @@ use vault_pan::draw::Digits;
 /// The most messages of one job.
 const MOST_MESSAGES: u64 = 1000;
 
-/// The pairs of a job: 1000 of them, each with the moment and the digits that the words give, or else the
-/// clock's and drawn ones.
+/// The most rows of one batch.
+const MOST_ROWS: u64 = 100_000;
+
+/// So many pairs, each with the moment and the digits that the words give, or else the clock's and drawn
+/// ones; none where there is nothing to draw digits from.
+fn pairs<H: AllocGlobal + Clock + RandomSource>(
+    rt: &H,
+    times: u64,
+    moment: Option<Moment>,
+    digits: Option<Digits>,
+) -> Option<LiveSource<'_, H, StdRng>>
+    ensures fresh { IfSome result (λ s. IsFresh s times) }
+    ensures fixed { IfSome result (λ s. Fixes s moment digits) }
+{
+    let Ok(generator) = make_rng(rt) else {
+        return None;
+    };
+    Some(LiveSource::fixed(rt.alloc(), rt, generator, times, moment, digits))
+}
+
+/// The pairs of a job's messages: 1000 of them.
 ///
 /// 60 Source: there is nothing to draw digits from.
 pub fn source<H: AllocGlobal + Clock + RandomSource>(
@@ -27,8 +47,26 @@ pub fn source<H: AllocGlobal + Clock + RandomSource>(
     ensures fixed { IfOk result (λ s. Fixes s moment digits) }
     ensures fault { IfErr result (λ e. e ≡ ServeFault.Source) }
 {
-    let Ok(generator) = make_rng(rt) else {
-        return Err(ServeFault::Source);
-    };
-    Ok(LiveSource::fixed(rt.alloc(), rt, generator, MOST_MESSAGES, moment, digits))
+    match pairs(rt, MOST_MESSAGES, moment, digits) {
+        Some(source) => Ok(source),
+        None => Err(ServeFault::Source),
+    }
+}
+
+/// The pairs of a batch's rows: 100000 of them.
+///
+/// 46 Source: there is nothing to draw digits from.
+pub fn row_source<H: AllocGlobal + Clock + RandomSource>(
+    rt: &H,
+    moment: Option<Moment>,
+    digits: Option<Digits>,
+) -> Result<LiveSource<'_, H, StdRng>, BatchFault>
+    ensures fresh { IfOk result (λ s. IsFresh s 100000) }
+    ensures fixed { IfOk result (λ s. Fixes s moment digits) }
+    ensures fault { IfErr result (λ e. e ≡ BatchFault.Source) }
+{
+    match pairs(rt, MOST_ROWS, moment, digits) {
+        Some(source) => Ok(source),
+        None => Err(BatchFault::Source),
+    }
 }

@@ -1,6 +1,7 @@
 //! Why a job stops.
 ghost use Rattle.std.specs.Prelude.{◌≡◌};
 
+use vault_batch::fault::BatchFault;
 use vault_http::fault::ServeFault;
 use vault_listen::fault::ListenFault;
 use vault_rights::fault::RightsFault;
@@ -27,6 +28,8 @@ pub enum Stop {
     Listener(ListenFault),
     /// 74 or 80: the rights file wasn't read.
     Rights(Unread),
+    /// 40 to 46: rows weren't all answered.
+    Batch(BatchFault),
 }
 
 impl Stop {
@@ -40,6 +43,7 @@ impl Stop {
             Stop::Vault(fault) => fault.number(),
             Stop::Service(fault) => fault.number(),
             Stop::Listener(fault) => fault.number(),
+            Stop::Batch(fault) => fault.number(),
             Stop::Rights(Unread::Memory) => RightsFault::Memory.number(),
             Stop::Rights(Unread::File) => ListenFault::Accept.number(),
         }

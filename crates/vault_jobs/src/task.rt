@@ -8,17 +8,19 @@ ghost use Rattle.vault_jobs.specs.Carried.{IsKept, IsTorn};
 ghost use Rattle.vault_wire.specs.Watching.{inner_of, is_stopped};
 ghost use Rattle.vault_jobs.specs.Causes.{IsCauseOf};
 ghost use Rattle.vault_jobs.specs.Streams.{IsHeard, Streams, streams};
-ghost use Rattle.vault_jobs.specs.Tasks.{IsProper, Says, TaskEnds, granted_line};
+ghost use Rattle.vault_jobs.specs.Tasks.{BatchEnds, IsProper, Says, TaskEnds, granted_line};
 
 use crate::answer::answer;
+use crate::batch::batch_input;
 use crate::change::{Verdict, change};
 use crate::grants::give_all;
 use crate::listening::serve_at;
 use crate::pipe::pipe;
-use crate::source::source;
+use crate::source::{row_source, source};
 use crate::stop::Stop;
 use itoa::Buffer;
 use std::io::{Read, Write};
+use vault_batch::asker::Asker;
 use vault_core::command::Command;
 use vault_core::moment::Moment;
 use vault_core::name::{Caller, MerchantId};
@@ -35,10 +37,23 @@ pub enum Task<'a> {
     Change(Command),
     /// Gives rights at a moment, to the first that is refused.
     Give(&'a [(Caller, MerchantId, Right)], Moment),
+    /// Answers the rows of the input, with this moment and these digits, where they are fixed.
+    Batch(Asker, Option<Moment>, Option<Digits>),
     /// Answers the messages of the input, with this moment and these digits, where they are fixed.
     Pipe(Option<Moment>, Option<Digits>),
     /// Serves so many connections on a port.
     Serve(u16, u64),
+}
+
+/// How a task ends that isn't stopped.
+#[derive(Clone, Copy, Debug, PartialEq, Eq, Drop)]
+pub enum Outcome {
+    /// It is done.
+    Done,
+    /// It is refused, by this number.
+    Refused(u8),
+    /// Some rows of a batch are refused; their lines say so.
+    SomeRefused,
 }
 
 /// Carries out a command, and says `done`.
@@ -46,7 +61,7 @@ fn do_change<W: Write, T: Tables>(
     vault: &mut Vault<T>,
     command: &Command,
     output: &mut Watched<W>,
-) -> Result<Verdict, Stop>
+) -> Result<Outcome, Stop>
     requires lives { HasLivesInRange command.now }
     requires unbroken { is_broken vault.old ≡ false }
     ensures said { Says result (output.new ≡ output.old) (W.contents (inner_of output.old))
@@ -59,10 +74,10 @@ fn do_change<W: Write, T: Tables>(
 {
     match change(vault, command) {
         Ok(Verdict::Done) => match answer(output, &["done\n"]) {
-            Ok(()) => Ok(Verdict::Done),
+            Ok(()) => Ok(Outcome::Done),
             Err(fault) => Err(Stop::Service(fault)),
         },
-        Ok(Verdict::Refused(number)) => Ok(Verdict::Refused(number)),
+        Ok(Verdict::Refused(number)) => Ok(Outcome::Refused(number)),
         Err(fault) => Err(Stop::Vault(fault)),
     }
 }
@@ -73,7 +88,7 @@ fn do_give<W: Write, T: Tables>(
     rights: &[(Caller, MerchantId, Right)],
     now: Moment,
     output: &mut Watched<W>,
-) -> Result<Verdict, Stop>
+) -> Result<Outcome, Stop>
     requires { is_broken vault.old ≡ false }
     ensures said { Says result (output.new ≡ output.old) (W.contents (inner_of output.old))
         (W.contents (inner_of output.new)) (is_stopped output.new) (granted_line (length rights.now)) }
@@ -87,12 +102,43 @@ fn do_give<W: Write, T: Tables>(
         Ok(Verdict::Done) => {
             let mut digits = Buffer::new();
             match answer(output, &["granted ", digits.format(rights.len()), "\n"]) {
-                Ok(()) => Ok(Verdict::Done),
+                Ok(()) => Ok(Outcome::Done),
                 Err(fault) => Err(Stop::Service(fault)),
             }
         }
-        Ok(Verdict::Refused(number)) => Ok(Verdict::Refused(number)),
+        Ok(Verdict::Refused(number)) => Ok(Outcome::Refused(number)),
         Err(fault) => Err(Stop::Vault(fault)),
+    }
+}
+
+/// Answers the rows of the input.
+fn do_batch<R: Read, W: Write, T: Tables>(
+    rt: &HostRuntime,
+    asker: Asker,
+    moment: Option<Moment>,
+    digits: Option<Digits>,
+    vault: &mut Vault<T>,
+    input: &mut Watched<R>,
+    output: &mut Watched<W>,
+) -> Result<Outcome, Stop>
+    requires { is_broken vault.old ≡ false }
+    ensures ends { let s : Streams =
+        streams R.remaining input.old input.new W.contents output.old output.new in
+        BatchEnds result s }
+    ensures kept { let w : Passage = vault_passing T.is_honest T.holds T.leaves vault.old vault.new in
+        is_broken vault.new ≡ false → IsKept w }
+    ensures torn { let w : Passage = vault_passing T.is_honest T.holds T.leaves vault.old vault.new in
+        is_broken vault.new ≡ true → IsTorn w }
+    ensures broken { is_broken vault.new ≡ true → IsErr result }
+{
+    let mut pairs = match row_source(rt, moment, digits) {
+        Ok(pairs) => pairs,
+        Err(fault) => return Err(Stop::Batch(fault)),
+    };
+    match batch_input(rt.alloc(), input, output, vault, asker, &mut pairs) {
+        Ok(counts) if counts.refused == 0 => Ok(Outcome::Done),
+        Ok(_) => Ok(Outcome::SomeRefused),
+        Err(fault) => Err(Stop::Batch(fault)),
     }
 }
 
@@ -132,7 +178,7 @@ pub fn do_task<R: Read, W: Write, T: Tables>(
     vault: &mut Vault<T>,
     input: &mut Watched<R>,
     output: &mut Watched<W>,
-) -> Result<Verdict, Stop>
+) -> Result<Outcome, Stop>
     requires proper { IsProper task.now }
     requires unbroken { is_broken vault.old ≡ false }
     ensures ends { let s : Streams =
@@ -147,12 +193,15 @@ pub fn do_task<R: Read, W: Write, T: Tables>(
     match *task {
         Task::Change(ref command) => do_change(vault, command, output),
         Task::Give(rights, now) => do_give(vault, rights, now, output),
+        Task::Batch(asker, moment, digits) => {
+            do_batch(rt, asker, moment, digits, vault, input, output)
+        }
         Task::Pipe(moment, digits) => match do_pipe(rt, moment, digits, vault, input, output) {
-            Ok(()) => Ok(Verdict::Done),
+            Ok(()) => Ok(Outcome::Done),
             Err(stop) => Err(stop),
         },
         Task::Serve(port, connections) => match serve_at(rt, port, connections, vault, output) {
-            Ok(()) => Ok(Verdict::Done),
+            Ok(()) => Ok(Outcome::Done),
             Err(stop) => Err(stop),
         },
     }

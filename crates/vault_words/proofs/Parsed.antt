@@ -11,14 +11,15 @@ use Rattle.clap.specs.declared.error.Error.{Error}
 use Rattle.clap.specs.declared.error.kind.ErrorKind.{ErrorKind}
 use Rattle.clap.specs.declared.parser.matches.ArgMatches.{ArgMatches}
 use Rattle.clap.specs.declared.parser.matches.ArgMatches.TheViews.{out-ArgMatches, out-SubCommand}
-use Rattle.vault_words.specs.Commands.{AsksPipe, AsksTrial, vault_app}
+use Rattle.vault_words.specs.Commands.{AsksBatch, AsksPipe, AsksTrial, vault_app}
 use Rattle.vault_words.specs.Jobs.{Asks, AsksBy, Explains, StandsFor}
 use Rattle.vault_words.specs.Values.{Finds}
+use Rattle.vault_words.specs.declared.commands.batch.BatchJob.{BatchJob}
 use Rattle.vault_words.specs.declared.commands.pipe.PipeJob.{PipeJob}
 use Rattle.vault_words.specs.declared.commands.trial.TrialJob.{TrialJob}
 use Rattle.vault_words.specs.declared.jobs.Job.{Job}
 use Rattle.vault_words.specs.declared.jobs.Job.TheVariants.{Trial, Merchant, Grant, Withdraw}
-use Rattle.vault_words.specs.declared.jobs.Job.TheVariants.{Rights, Pipe, Serve, Check}
+use Rattle.vault_words.specs.declared.jobs.Job.TheVariants.{Rights, Pipe, Batch, Serve, Check}
 use Rattle.vault_words.specs.declared.jobs.JobFault.{JobFault}
 use Rattle.vault_words.specs.declared.jobs.JobFault.TheVariants.{Help, BadWords, Memory}
 
@@ -68,6 +69,7 @@ no_trial name rows is never (Withdraw job) h =
 no_trial name rows is never (Rights job) h =
     differ name (codes "trial") (codes "rights") refl refl is h.0
 no_trial name rows is never (Pipe job) h = differ name (codes "trial") (codes "pipe") refl refl is h.0
+no_trial name rows is never (Batch job) h = differ name (codes "trial") (codes "batch") refl refl is h.0
 no_trial name rows is never (Serve job) h = differ name (codes "trial") (codes "serve") refl refl is h.0
 no_trial name rows is never (Check job) h = differ name (codes "trial") (codes "check") refl refl is h.0
 
@@ -81,8 +83,25 @@ no_pipe name rows is never (Withdraw job) h =
     differ name (codes "pipe") (codes "withdraw") refl refl is h.0
 no_pipe name rows is never (Rights job) h = differ name (codes "pipe") (codes "rights") refl refl is h.0
 no_pipe name rows is never (Pipe job) h = never job h.1
+no_pipe name rows is never (Batch job) h = differ name (codes "pipe") (codes "batch") refl refl is h.0
 no_pipe name rows is never (Serve job) h = differ name (codes "pipe") (codes "serve") refl refl is h.0
 no_pipe name rows is never (Check job) h = differ name (codes "pipe") (codes "check") refl refl is h.0
+
+pub no_batch : (name : Text) (rows : List Row) → name ≡ codes "batch"
+    → ((job : BatchJob) → ¬ (AsksBatch rows job)) → (job : Job) → ¬ (Asks name rows job)
+no_batch name rows is never (Trial job) h =
+    differ name (codes "batch") (codes "trial") refl refl is h.0
+no_batch name rows is never (Merchant job) h =
+    differ name (codes "batch") (codes "merchant") refl refl is h.0
+no_batch name rows is never (Grant job) h = differ name (codes "batch") (codes "grant") refl refl is h.0
+no_batch name rows is never (Withdraw job) h =
+    differ name (codes "batch") (codes "withdraw") refl refl is h.0
+no_batch name rows is never (Rights job) h =
+    differ name (codes "batch") (codes "rights") refl refl is h.0
+no_batch name rows is never (Pipe job) h = differ name (codes "batch") (codes "pipe") refl refl is h.0
+no_batch name rows is never (Batch job) h = never job h.1
+no_batch name rows is never (Serve job) h = differ name (codes "batch") (codes "serve") refl refl is h.0
+no_batch name rows is never (Check job) h = differ name (codes "batch") (codes "check") refl refl is h.0
 
 -- the program's commands are plain enough for clap to say all of a parse
 is_plain : is_simple_and_free vault_app ≡ true

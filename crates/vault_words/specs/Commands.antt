@@ -4,6 +4,7 @@ use Rattle.clap.specs.Words.{App, Row, Rule, Text, new_app, with_subcommand}
 use Rattle.vault_words.specs.Rules.{digits_rule, now_rule, number_option, number_rule, text_rule}
 use Rattle.vault_words.specs.Rules.{with_rules}
 use Rattle.vault_words.specs.Values.{HasConnections, HasDigits, HasLife, HasNow, HasPort, HasText}
+use Rattle.vault_words.specs.declared.commands.batch.BatchJob.{BatchJob}
 use Rattle.vault_words.specs.declared.commands.check.CheckJob.{CheckJob}
 use Rattle.vault_words.specs.declared.commands.merchant.MerchantJob.{MerchantJob}
 use Rattle.vault_words.specs.declared.commands.pipe.PipeJob.{PipeJob}
@@ -71,6 +72,19 @@ abbrev pub AsksPipe : List Row → PipeJob → Type 0
 AsksPipe rows job =
     HasNow rows job.now × HasDigits rows job.digits × HasText rows (codes "FILE") job.file.now
 
+-- batch [--now T] [--digits D] FILE CALLER MERCHANT
+abbrev pub batch_app : App
+batch_app = with_rules (new_app (codes "batch"))
+    (now_rule ∷ digits_rule ∷ text_rule (codes "FILE") ∷ text_rule (codes "CALLER")
+    ∷ text_rule (codes "MERCHANT") ∷ [])
+
+-- the values of batch ask for this job
+abbrev pub AsksBatch : List Row → BatchJob → Type 0
+AsksBatch rows job =
+    HasNow rows job.now × HasDigits rows job.digits × HasText rows (codes "FILE") job.file.now
+    × HasText rows (codes "CALLER") job.caller.now
+    × HasText rows (codes "MERCHANT") job.merchant.now
+
 -- --connections N, which must be there
 abbrev pub connections_rule : Rule
 connections_rule = record (number_option (codes "connections")) { required = true }
@@ -109,4 +123,4 @@ root_app =
 abbrev pub vault_app : App
 vault_app = with_subcommands root_app
     (trial_app ∷ merchant_app ∷ right_app (codes "grant") ∷ right_app (codes "withdraw")
-    ∷ rights_app ∷ pipe_app ∷ serve_app ∷ check_app ∷ [])
+    ∷ rights_app ∷ pipe_app ∷ batch_app ∷ serve_app ∷ check_app ∷ [])

@@ -1,5 +1,6 @@
 //! The subcommands: the words of each one, and the values that they give.
 
+pub mod batch;
 pub mod check;
 pub mod merchant;
 pub mod pipe;

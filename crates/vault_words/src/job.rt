@@ -5,6 +5,7 @@ ghost use Rattle.vault_words.specs.Commands.{vault_app};
 ghost use Rattle.vault_words.specs.Jobs.{Asks, AsksBy, Explains, IsAsked, StandsFor};
 ghost use Rattle.vault_words.specs.Values.{Finds};
 
+use crate::commands::batch::BatchJob;
 use crate::commands::check::CheckJob;
 use crate::commands::merchant::MerchantJob;
 use crate::commands::pipe::PipeJob;
@@ -20,43 +21,31 @@ use clap::{ArgMatches, Error};
 use std::alloc::Global;
 use std::convert::AsStr;
 
+/// The job of this kind, with the values that its struct reads. The borrow rules don't cover `?` and
+/// `map` on most of these structs, so it is a `match`.
+macro_rules! read {
+    ($matches:ident, $values:ident, $job:path) => {
+        match $values::read($matches) {
+            Ok(job) => Ok($job(job)),
+            Err(fault) => Err(fault),
+        }
+    };
+}
+
 /// The job of the subcommand of this name.
 fn job_of<'a>(name: &str, matches: &ArgMatches<'a>) -> Result<Job<'a>, BadValue>
     ensures { Finds result (Asks name.now (rows_of (found_of matches.now))) }
 {
     match name {
-        "trial" => match TrialJob::read(matches) {
-            Ok(job) => Ok(Job::Trial(job)),
-            Err(fault) => Err(fault),
-        },
-        "merchant" => match MerchantJob::read(matches) {
-            Ok(job) => Ok(Job::Merchant(job)),
-            Err(fault) => Err(fault),
-        },
-        "grant" => match RightJob::read(matches) {
-            Ok(job) => Ok(Job::Grant(job)),
-            Err(fault) => Err(fault),
-        },
-        "withdraw" => match RightJob::read(matches) {
-            Ok(job) => Ok(Job::Withdraw(job)),
-            Err(fault) => Err(fault),
-        },
-        "rights" => match RightsFileJob::read(matches) {
-            Ok(job) => Ok(Job::Rights(job)),
-            Err(fault) => Err(fault),
-        },
-        "pipe" => match PipeJob::read(matches) {
-            Ok(job) => Ok(Job::Pipe(job)),
-            Err(fault) => Err(fault),
-        },
-        "serve" => match ServeJob::read(matches) {
-            Ok(job) => Ok(Job::Serve(job)),
-            Err(fault) => Err(fault),
-        },
-        "check" => match CheckJob::read(matches) {
-            Ok(job) => Ok(Job::Check(job)),
-            Err(fault) => Err(fault),
-        },
+        "trial" => read!(matches, TrialJob, Job::Trial),
+        "merchant" => read!(matches, MerchantJob, Job::Merchant),
+        "grant" => read!(matches, RightJob, Job::Grant),
+        "withdraw" => read!(matches, RightJob, Job::Withdraw),
+        "rights" => read!(matches, RightsFileJob, Job::Rights),
+        "pipe" => read!(matches, PipeJob, Job::Pipe),
+        "batch" => read!(matches, BatchJob, Job::Batch),
+        "serve" => read!(matches, ServeJob, Job::Serve),
+        "check" => read!(matches, CheckJob, Job::Check),
         _ => Err(BadValue),
     }
 }

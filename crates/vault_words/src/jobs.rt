@@ -1,5 +1,6 @@
 //! What words can ask for.
 
+use crate::commands::batch::BatchJob;
 use crate::commands::check::CheckJob;
 use crate::commands::merchant::MerchantJob;
 use crate::commands::pipe::PipeJob;
@@ -34,6 +35,8 @@ pub enum Job<'a> {
     Rights(RightsFileJob<'a>),
     /// Messages from standard input are answered by the vault in a file.
     Pipe(PipeJob<'a>),
+    /// The rows of a batch from standard input are answered by the vault in a file.
+    Batch(BatchJob<'a>),
     /// Messages of connections are answered by the vault in a file.
     Serve(ServeJob<'a>),
     /// A file is checked whole.

@@ -5,6 +5,7 @@ ghost use Rattle.vault_words.specs.Commands.{root_app, vault_app};
 ghost use Rattle.vault_words.specs.Rules.{IsApp};
 
 use crate::args::command;
+use crate::commands::batch::batch;
 use crate::commands::check::check;
 use crate::commands::merchant::merchant;
 use crate::commands::pipe::pipe;
@@ -41,6 +42,7 @@ pub(crate) fn tree<'a>(alloc: Global) -> Result<Command<'a>, AllocError>
     let tree = with(tree, withdraw(alloc)?)?;
     let tree = with(tree, rights(alloc)?)?;
     let tree = with(tree, pipe(alloc)?)?;
+    let tree = with(tree, batch(alloc)?)?;
     let tree = with(tree, serve(alloc)?)?;
     with(tree, check(alloc)?)
 }

@@ -284,6 +284,7 @@ fn a_use_that_is_not_offered_is_refused(rt: HostRuntime) {
     assert!(rt; trial(&rt, "0", multi).is(0, wrong_use.as_str(), ""));
 }
 
+mod batch;
 mod files;
 mod rights;
 mod sequence;

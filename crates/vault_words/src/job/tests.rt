@@ -19,7 +19,7 @@ use vault_pan::token::Token;
 const TWO_GROUPS: &str = "411111111111000000000000000000";
 
 /// Words with options, and the jobs that they ask for.
-const WITH_OPTIONS: [(&[&str], &str); 9] = [
+const WITH_OPTIONS: [(&[&str], &str); 11] = [
     (
         &["vault", "trial", "--now", "1000", "till-1", "shop1", "60"],
         "Trial(TrialJob { now: Some(Moment { seconds: 1000 }), digits: None, \
@@ -59,6 +59,16 @@ const WITH_OPTIONS: [(&[&str], &str); 9] = [
         "Pipe(PipeJob { now: Some(Moment { seconds: 0 }), digits: None, file: \"v.db\" })",
     ),
     (
+        &["vault", "batch", "--now", "11", "v.db", "till-1", "shop1"],
+        "Batch(BatchJob { now: Some(Moment { seconds: 11 }), digits: None, file: \"v.db\", \
+         caller: \"till-1\", merchant: \"shop1\" })",
+    ),
+    (
+        &["vault", "batch", "v.db", "shop1", "till-1", "--now=11"],
+        "Batch(BatchJob { now: Some(Moment { seconds: 11 }), digits: None, file: \"v.db\", \
+         caller: \"shop1\", merchant: \"till-1\" })",
+    ),
+    (
         &[
             "vault",
             "serve",
@@ -77,7 +87,7 @@ const WITH_OPTIONS: [(&[&str], &str); 9] = [
 ];
 
 /// Words without options that may be left out, and the jobs that they ask for.
-const WITHOUT_OPTIONS: [(&[&str], &str); 9] = [
+const WITHOUT_OPTIONS: [(&[&str], &str); 10] = [
     (
         &["vault", "trial", "till-1", "shop1", "60"],
         "Trial(TrialJob { now: None, digits: None, caller: \"till-1\", \
@@ -105,6 +115,11 @@ const WITHOUT_OPTIONS: [(&[&str], &str); 9] = [
     (
         &["vault", "pipe", "v.db"],
         "Pipe(PipeJob { now: None, digits: None, file: \"v.db\" })",
+    ),
+    (
+        &["vault", "batch", "v.db", "till-1", "shop1"],
+        "Batch(BatchJob { now: None, digits: None, file: \"v.db\", caller: \"till-1\", \
+         merchant: \"shop1\" })",
     ),
     (
         &["vault", "serve", "--connections", "1", "v.db"],
@@ -172,6 +187,7 @@ fn drawing(job: &Job<'_>) -> Option<(Moment, Digits)> {
     let (now, digits) = match job {
         Job::Trial(trial) => (trial.now, trial.digits),
         Job::Pipe(pipe) => (pipe.now, pipe.digits),
+        Job::Batch(batch) => (batch.now, batch.digits),
         _ => return None,
     };
     Some((now?, digits?))
@@ -187,7 +203,7 @@ fn candidate_at(rt: &impl Abort, digits: &Digits, k: usize) -> Option<Token>
 
 #[test]
 fn digits_are_those_of_the_words(rt: HostRuntime) -> Result<(), Fail> {
-    let cases: [&[&str]; 4] = [
+    let cases: [&[&str]; 6] = [
         &[
             "vault", "trial", "--now", "5", "--digits", "2", "till-1", "shop1", "60",
         ],
@@ -202,6 +218,18 @@ fn digits_are_those_of_the_words(rt: HostRuntime) -> Result<(), Fail> {
         ],
         &["vault", "pipe", "--digits", "2", "--now", "5", "v.db"],
         &["vault", "pipe", "v.db", "--now", "5", "--digits", "2"],
+        &[
+            "vault", "batch", "--now", "5", "--digits", "2", "v.db", "till-1", "shop1",
+        ],
+        &[
+            "vault",
+            "batch",
+            "v.db",
+            "--digits=2",
+            "till-1",
+            "shop1",
+            "--now=5",
+        ],
     ];
     for words in cases {
         let Ok(job) = job(rt.alloc(), words) else {

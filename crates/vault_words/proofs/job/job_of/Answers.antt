@@ -1,5 +1,5 @@
 use Rattle.clap.specs.Words.{found_of, rows_of}
-use Rattle.vault_words.proofs.Parsed.{no_pipe, no_trial}
+use Rattle.vault_words.proofs.Parsed.{no_batch, no_pipe, no_trial}
 use Rattle.vault_words.proofs.job.job_of.Goals as goal
 
 pub returns-in-Err : goal.returns-in-Err
@@ -11,3 +11,8 @@ pub returns-in-Err-read-5 : goal.returns-in-Err-read-5
 returns-in-Err-read-5 c =
     let rows = rows_of (found_of c.args.matches.now) in
     no_pipe c.args.name.now rows c.in-pipe.is c.in-Err-read-5.ensures
+
+pub returns-in-Err-read-6 : goal.returns-in-Err-read-6
+returns-in-Err-read-6 c =
+    let rows = rows_of (found_of c.args.matches.now) in
+    no_batch c.args.name.now rows c.in-batch.is c.in-Err-read-6.ensures

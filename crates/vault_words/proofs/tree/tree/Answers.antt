@@ -9,5 +9,6 @@ returns c =
     let h₄ = c.in_ok-tree-4.ensures _ _ h₃ c.in_ok-withdraw.ensures in
     let h₅ = c.in_ok-tree-5.ensures _ _ h₄ c.in_ok-rights.ensures in
     let h₆ = c.in_ok-tree-6.ensures _ _ h₅ c.in_ok-pipe.ensures in
-    let h₇ = c.in_ok-tree-7.ensures _ _ h₆ c.in_ok-serve.ensures in
-    IfOk-weaker c.with-8.result _ _ (λ r h. h _ _ h₇ c.in_ok-check.ensures) c.with-8.ensures
+    let h₇ = c.in_ok-tree-7.ensures _ _ h₆ c.in_ok-batch.ensures in
+    let h₈ = c.in_ok-tree-8.ensures _ _ h₇ c.in_ok-serve.ensures in
+    IfOk-weaker c.with-9.result _ _ (λ r h. h _ _ h₈ c.in_ok-check.ensures) c.with-9.ensures

@@ -18,31 +18,13 @@ Commands:
   withdraw  Takes a right at a merchant from a caller
   rights    Grants what a rights file lists
   pipe      Answers messages from standard input by the vault in FILE
+  batch     Answers a CSV batch on standard input with tokens
   serve     Answers messages of connections by the vault in FILE
   check     Checks that FILE holds a sound vault
   help      Print this message or the help of the given subcommand(s)
 
 Options:
   -h, --help  Print help
-";
-
-/// `vault help serve`
-const SERVE: &str = "\
-Answers messages of connections by the vault in FILE
-
-Usage: vault serve [OPTIONS] --connections <N> <FILE>
-
-Arguments:
-  <FILE>  The vault's file; it is made if it isn't there
-
-Options:
-      --connections <N>  Ends after this many connections, 1 to 1000000
-      --port <P>         The port, 0 to 65535; 0, any free one, if left out
-  -h, --help             Print help
-
-It listens on 127.0.0.1 alone. The line `listening P` on standard output says
-that it does, and P is its port. Connections are served one after the other,
-and one whose peer sends or takes nothing for 5 seconds is ended.
 ";
 
 /// `vault help rights`
@@ -68,6 +50,48 @@ words of the rights that the caller gets there:
 The words are tokenize, detokenize, view, revoke, purge and audit.
 ";
 
+/// `vault help batch`
+const BATCH: &str = "\
+Answers a CSV batch on standard input with tokens
+
+Usage: vault batch [OPTIONS] <FILE> <CALLER> <MERCHANT>
+
+Arguments:
+  <FILE>      The vault's file; it is made if it isn't there
+  <CALLER>    The caller who asks for the tokens
+  <MERCHANT>  The merchant for which the tokens are
+
+Options:
+      --now <T>     The moment, in seconds since 1970, in place of the clock's
+      --digits <D>  1 to 300 digits, repeated up to 300, in place of drawn ones
+  -h, --help        Print help
+
+The first line is `request,number,use`, and each row after it is a request
+number, a card number, and single or multi. The answer's first line is
+`request,answer,detail`. A row is answered by its request number, the token
+and the moment at which it expires, in seconds since 1970; or by its request
+number, `refused` and the number of the refusal.
+";
+
+/// `vault help serve`
+const SERVE: &str = "\
+Answers messages of connections by the vault in FILE
+
+Usage: vault serve [OPTIONS] --connections <N> <FILE>
+
+Arguments:
+  <FILE>  The vault's file; it is made if it isn't there
+
+Options:
+      --connections <N>  Ends after this many connections, 1 to 1000000
+      --port <P>         The port, 0 to 65535; 0, any free one, if left out
+  -h, --help             Print help
+
+It listens on 127.0.0.1 alone. The line `listening P` on standard output says
+that it does, and P is its port. Connections are served one after the other,
+and one whose peer sends or takes nothing for 5 seconds is ended.
+";
+
 /// The help that the words ask for.
 fn help(alloc: Global, words: &[&str]) -> Result<String, Fail> {
     match job(alloc, words) {
@@ -78,12 +102,14 @@ fn help(alloc: Global, words: &[&str]) -> Result<String, Fail> {
 
 #[test]
 fn help_is_the_text_of_the_command(rt: HostRuntime) -> Result<(), Fail> {
-    let cases: [(&[&str], &str); 8] = [
+    let cases: [(&[&str], &str); 10] = [
         (&["vault", "--help"], PROGRAM),
         (&["vault", "-h"], PROGRAM),
         (&["vault", "help"], PROGRAM),
         (&["vault", "rights", "-h"], RIGHTS),
         (&["vault", "help", "rights"], RIGHTS),
+        (&["vault", "batch", "v.db", "--help"], BATCH),
+        (&["vault", "help", "batch"], BATCH),
         (&["vault", "serve", "--help"], SERVE),
         (&["vault", "serve", "v.db", "-h"], SERVE),
         (&["vault", "help", "serve"], SERVE),
@@ -97,7 +123,7 @@ fn help_is_the_text_of_the_command(rt: HostRuntime) -> Result<(), Fail> {
 
 #[test]
 fn help_fits_24_lines_of_80_columns(rt: HostRuntime) -> Result<(), Fail> {
-    let cases: [&[&str]; 9] = [
+    let cases: [&[&str]; 10] = [
         &["vault", "help"],
         &["vault", "help", "trial"],
         &["vault", "help", "merchant"],
@@ -105,6 +131,7 @@ fn help_fits_24_lines_of_80_columns(rt: HostRuntime) -> Result<(), Fail> {
         &["vault", "help", "withdraw"],
         &["vault", "help", "rights"],
         &["vault", "help", "pipe"],
+        &["vault", "help", "batch"],
         &["vault", "help", "serve"],
         &["vault", "help", "check"],
     ];

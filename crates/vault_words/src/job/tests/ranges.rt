@@ -41,7 +41,7 @@ fn lives_are_0_to_3155760000(rt: HostRuntime) -> Result<(), Fail> {
 
 #[test]
 fn moments_are_0_to_253402300799(rt: HostRuntime) -> Result<(), Fail> {
-    let cases: [&[&str]; 6] = [
+    let cases: [&[&str]; 7] = [
         &["vault", "trial", "--now", "?", "till-1", "shop1", "60"],
         &[
             "vault", "merchant", "--now", "?", "v.db", "shop1", "60", "0",
@@ -54,6 +54,7 @@ fn moments_are_0_to_253402300799(rt: HostRuntime) -> Result<(), Fail> {
         ],
         &["vault", "rights", "--now", "?", "v.db", "rights.toml"],
         &["vault", "pipe", "--now", "?", "v.db"],
+        &["vault", "batch", "--now", "?", "v.db", "till-1", "shop1"],
     ];
     for words in cases {
         assert_answer(&rt, words, "0", Answer::Job)?;
@@ -99,9 +100,10 @@ fn connections_are_1_to_1000000_and_ports_end_at_65535(rt: HostRuntime) -> Resul
 fn digits_are_1_to_300(rt: HostRuntime) -> Result<(), Fail> {
     let long = [b'7'; 301];
     let long = from_utf8(&long).expect(&rt, "a text");
-    let cases: [&[&str]; 2] = [
+    let cases: [&[&str]; 3] = [
         &["vault", "trial", "--digits", "?", "till-1", "shop1", "60"],
         &["vault", "pipe", "--digits", "?", "v.db"],
+        &["vault", "batch", "--digits", "?", "v.db", "till-1", "shop1"],
     ];
     for words in cases {
         assert_answer(&rt, words, "0", Answer::Job)?;
@@ -115,7 +117,7 @@ fn digits_are_1_to_300(rt: HostRuntime) -> Result<(), Fail> {
 
 #[test]
 fn missing_words_are_bad(rt: HostRuntime) {
-    let cases: [&[&str]; 16] = [
+    let cases: [&[&str]; 19] = [
         &[],
         &["vault"],
         &["vault", "trial"],
@@ -129,6 +131,9 @@ fn missing_words_are_bad(rt: HostRuntime) {
         &["vault", "rights", "v.db", "rights.toml", "--now"],
         &["vault", "pipe"],
         &["vault", "pipe", "v.db", "--digits"],
+        &["vault", "batch"],
+        &["vault", "batch", "till-1", "shop1"],
+        &["vault", "batch", "v.db", "till-1", "shop1", "--digits"],
         &["vault", "serve", "v.db"],
         &["vault", "serve", "--connections", "1"],
         &["vault", "check"],
@@ -140,7 +145,7 @@ fn missing_words_are_bad(rt: HostRuntime) {
 
 #[test]
 fn words_too_many_or_unknown_are_bad(rt: HostRuntime) {
-    let cases: [&[&str]; 14] = [
+    let cases: [&[&str]; 16] = [
         &["vault", "trail"],
         &["vault", "--version"],
         &["vault", "help", "trail"],
@@ -155,6 +160,8 @@ fn words_too_many_or_unknown_are_bad(rt: HostRuntime) {
         &["vault", "rights", "v.db", "rights.toml", "--digits", "0"],
         &["vault", "pipe", "v.db", "--now", "1", "--now", "1"],
         &["vault", "pipe", "v.db", "w.db"],
+        &["vault", "batch", "v.db", "till-1", "shop1", "60"],
+        &["vault", "batch", "v.db", "till-1", "shop1", "--port", "0"],
         &["vault", "serve", "--connections", "1", "--now", "1", "v.db"],
         &["vault", "check", "--now", "1", "v.db"],
     ];
