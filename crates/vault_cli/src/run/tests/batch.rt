@@ -108,7 +108,15 @@ fn a_batch_that_comes_again_is_answered_the_tokens_that_stand(rt: HostRuntime) -
     let second = "request,answer,detail\n1,0000000000001111,1060\n2,1111111111111111,1065\n";
     assert!(rt; batch_at(&rt, file, "1005", "1", TWO).is(0, second, ""));
     assert!(rt; batch_at(&rt, file, "1010", "2", TWO).is(0, second, ""));
-    assert!(rt; ends(&rt, ["vault", "check", file].as_slice(), 0, "sound 1 2 2\n", ""));
+    assert!(rt;
+        ends(
+            &rt,
+            ["vault", "check", file].as_slice(),
+            0,
+            "sound 1 2 2\n",
+            ""
+        )
+    );
     Ok(())
 }
 
@@ -125,7 +133,15 @@ fn what_is_no_batch_is_stopped_after_the_rows_before_it(rt: HostRuntime) -> io::
     assert!(rt; batch_at(&rt, file, "1000", "0", short).is(4, lines, "vault: stopped 44\n"));
     let long = "request,number,use\n1,4111111111111111,single\n2,4111111111111111,single,\n";
     assert!(rt; batch_at(&rt, file, "1005", "1", long).is(4, lines, "vault: stopped 44\n"));
-    assert!(rt; ends(&rt, ["vault", "check", file].as_slice(), 0, "sound 1 1 1\n", ""));
+    assert!(rt;
+        ends(
+            &rt,
+            ["vault", "check", file].as_slice(),
+            0,
+            "sound 1 1 1\n",
+            ""
+        )
+    );
     Ok(())
 }
 
