@@ -1,11 +1,11 @@
 -- What rows leave of a vault, as commands.
-use Rattle.std.proofs.Common.{◌≡◌, ◌≢◌, List, [], ◌∷◌, ◌++◌, Bool, true, false, Result, Err}
+use Rattle.std.proofs.Common.{◌≡◌, ◌≢◌, ◌⊎◌, List, [], ◌∷◌, ◌++◌, Bool, true, false, Result, Err}
 use Rattle.std.proofs.Common.{inl, inr, ◌∙◌, ap, subst, refl, append-nil}
 use Rattle.std.proofs.lemmas.Grind.{flat_map-append}
 use Rattle.vault_core.specs.Runs.{run}
 use Rattle.vault_core.specs.declared.command.Command.{Command}
 use Rattle.vault_http.specs.Exchanges.{commands_in}
-use Rattle.vault_http.specs.Faults.{Failures, failures}
+use Rattle.vault_http.specs.Faults.{Failures}
 use Rattle.vault_http.specs.Passing.{Passage}
 use Rattle.vault_listen.proofs.Ending.{vault_part}
 use Rattle.vault_batch.specs.Asking.{Asked}
@@ -74,37 +74,27 @@ pub batch_torn : (e : BatchFault) (left : Known) (w : Passage) (who : Asker) →
 batch_torn e left w who is (inl s) = stopped_torn left w who (subst (λ f. Stops left w who f) is s)
 batch_torn e left w who is (inr (other, b)) = absurd (cc (is, other))
 
--- a vault that wasn't broken is broken exactly by a store that fails
-pub batch_store : (e : BatchFault) (s r w v s' r' w' v' : Bool) → v ≡ false
-    → Tells {X = Unit {0}} (Err e) (failures s r w v) (failures s' r' w' v') → v' ≡ true → e ≡ fault.Store
-batch_store fault.Store s r w v s' r' w' v' z t b = refl
-batch_store fault.BadHeader s r w v s' r' w' v' z t b =
-    let h = ap (λ (f : Failures). f.vault) t in
-    absurd (cc (z, h, b))
-batch_store fault.Read s r w v s' r' w' v' z t b =
-    let h = ap (λ (f : Failures). f.vault) t in
-    absurd (cc (z, h, b))
-batch_store fault.Write s r w v s' r' w' v' z t b =
-    let h = ap (λ (f : Failures). f.vault) t in
-    absurd (cc (z, h, b))
-batch_store fault.BadRecord s r w v s' r' w' v' z t b =
-    let h = ap (λ (f : Failures). f.vault) t in
-    absurd (cc (z, h, b))
-batch_store fault.Memory s r w v s' r' w' v' z t b =
-    let h = ap (λ (f : Failures). f.vault) t in
-    absurd (cc (z, h, b))
-batch_store fault.Source s r w v s' r' w' v' z t b =
-    let h = ap (λ (f : Failures). f.vault) t in
-    absurd (cc (z, h, b))
+-- a vault is broken by a store that fails, and by nothing else
+store_or_same : (e : BatchFault) (old new : Failures) → Tells {X = Unit {0}} (Err e) old new
+    → (e ≡ fault.Store) ⊎ (new.vault ≡ old.vault)
+store_or_same fault.Store old new told = inl refl
+store_or_same fault.BadHeader old new told = inr (ap (λ f. f.vault) told)
+store_or_same fault.Read old new told = inr (ap (λ f. f.vault) told)
+store_or_same fault.Write old new told = inr (ap (λ f. f.vault) told)
+store_or_same fault.BadRecord old new told = inr (ap (λ f. f.vault) told)
+store_or_same fault.Memory old new told = inr (ap (λ f. f.vault) told)
+store_or_same fault.Source old new told = inr (ap (λ f. f.vault) told)
 
-pub batch_other : (e : BatchFault) (s r w v s' r' w' v' : Bool)
-    → Tells {X = Unit {0}} (Err e) (failures s r w v) (failures s' r' w' v') → v' ≡ false → e ≢ fault.Store
-batch_other fault.Store s r w v s' r' w' v' t b is =
-    let h = ap (λ (f : Failures). f.vault) t in
-    absurd (cc (h, b))
-batch_other fault.BadHeader s r w v s' r' w' v' t b is = absurd (cc (is))
-batch_other fault.Read s r w v s' r' w' v' t b is = absurd (cc (is))
-batch_other fault.Write s r w v s' r' w' v' t b is = absurd (cc (is))
-batch_other fault.BadRecord s r w v s' r' w' v' t b is = absurd (cc (is))
-batch_other fault.Memory s r w v s' r' w' v' t b is = absurd (cc (is))
-batch_other fault.Source s r w v s' r' w' v' t b is = absurd (cc (is))
+pub batch_store : (e : BatchFault) (old new : Failures) → old.vault ≡ false
+    → Tells {X = Unit {0}} (Err e) old new → new.vault ≡ true → e ≡ fault.Store
+batch_store e old new whole told broken = store_of (store_or_same e old new told)
+  where
+    store_of : (e ≡ fault.Store) ⊎ (new.vault ≡ old.vault) → e ≡ fault.Store
+    store_of (inl is) = is
+    store_of (inr same) = absurd (cc (whole, same, broken))
+
+pub batch_other : (e : BatchFault) (old new : Failures) → Tells {X = Unit {0}} (Err e) old new
+    → new.vault ≡ false → e ≢ fault.Store
+batch_other e old new told whole is =
+    let broken = ap (λ f. f.vault) (subst (λ f. Tells {X = Unit {0}} (Err f) old new) is told) in
+    absurd (cc (whole, broken))

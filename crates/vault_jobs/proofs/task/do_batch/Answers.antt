@@ -26,7 +26,7 @@ returns-clause-kept g c = λ whole.
     c.args.output.now c.batch_input.new.output g.T.Tables.is_honest g.T.Tables.holds g.T.Tables.leaves
     c.args.vault.now c.batch_input.new.vault in
     let e = c.in-Err-batch_input.fault in
-    let other = batch_other e _ _ _ _ _ _ _ _ c.in-Err-batch_input.ensures.told whole in
+    let other = batch_other e _ _ c.in-Err-batch_input.ensures.told whole in
     batch_kept e left w c.args.asker other c.in-Err-batch_input.ensures.stopped
 
 pub returns-clause-torn : goal.returns-clause-torn
@@ -36,5 +36,5 @@ returns-clause-torn g c = λ broken.
     c.args.output.now c.batch_input.new.output g.T.Tables.is_honest g.T.Tables.holds g.T.Tables.leaves
     c.args.vault.now c.batch_input.new.vault in
     let e = c.in-Err-batch_input.fault in
-    let is = batch_store e _ _ _ _ _ _ _ _ c.requires c.in-Err-batch_input.ensures.told broken in
+    let is = batch_store e _ _ c.requires c.in-Err-batch_input.ensures.told broken in
     batch_torn e left w c.args.asker is c.in-Err-batch_input.ensures.stopped
