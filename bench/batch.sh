@@ -1,0 +1,21 @@
+#!/bin/sh
+# Times a batch of rows by the program, and by Python's csv and sqlite3, in turn. sh bench/batch.sh [PROGRAM]
+# N is how many rows the batch has, and ROUNDS how often each side is timed.
+set -eu
+here=$(cd "$(dirname "$0")" && pwd)
+program=${1:-$here/../crates/vault_cli/out/vault_cli}
+if [ ! -x "$program" ]; then
+    echo "no program at $program: sh build.sh builds it, and its path may be given" >&2
+    exit 1
+fi
+if ! command -v python3 > /dev/null; then
+    echo "python3 is missing" >&2
+    exit 1
+fi
+
+# What the figures depend on beside the machine's load, which stands with them.
+cores=$(getconf _NPROCESSORS_ONLN)
+disk=$(df -P "${TMPDIR:-/tmp}" | awk 'NR == 2 { print $1 }')
+echo "$cores cores, the files on $disk"
+echo
+python3 "$here/batch.py" "$program"
