@@ -97,11 +97,14 @@ pub(crate) fn with_notes<'a>(command: Command<'a>, notes: &'a str) -> Command<'a
     command.after_help(notes)
 }
 
-/// The command with one more argument.
-pub(crate) fn add<'a>(command: Command<'a>, arg: Arg<'a>) -> Result<Command<'a>, AllocError>
-    ensures { IfOk result (λ r. (a : App) (rule : Rule) → IsApp command.entry a
+/// The command with one more argument, where there was memory for those before it.
+pub(crate) fn add<'a>(
+    command: Result<Command<'a>, AllocError>,
+    arg: Arg<'a>,
+) -> Result<Command<'a>, AllocError>
+    ensures { (a : App) (rule : Rule) → IfOk command.entry (λ c. IsApp c a)
         → rule_of arg.entry ≡ rule → arg.entry.global ≡ false
-        → IsApp r (with_rule a rule)) }
+        → IfOk result (λ c. IsApp c (with_rule a rule)) }
 {
-    command.arg(arg)
+    command?.arg(arg)
 }

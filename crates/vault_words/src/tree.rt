@@ -24,25 +24,29 @@ fn root<'a>(alloc: Global) -> Command<'a>
     command(alloc, "vault", about).subcommand_required(true)
 }
 
-/// The command with one more subcommand.
-fn with<'a>(command: Command<'a>, subcommand: Command<'a>) -> Result<Command<'a>, AllocError>
-    ensures { IfOk result (λ r. (a s : App) → IsApp command.entry a → IsApp subcommand.entry s
-        → IsApp r (with_subcommand a s.top)) }
+/// The command with one more subcommand, where there was memory for both.
+fn with<'a>(
+    command: Result<Command<'a>, AllocError>,
+    subcommand: Result<Command<'a>, AllocError>,
+) -> Result<Command<'a>, AllocError>
+    ensures { (a s : App) → IfOk command.entry (λ c. IsApp c a)
+        → IfOk subcommand.entry (λ c. IsApp c s)
+        → IfOk result (λ c. IsApp c (with_subcommand a s.top)) }
 {
-    command.subcommand(subcommand)
+    command?.subcommand(subcommand?)
 }
 
 /// The program's command, of which each word of its own is a subcommand.
 pub(crate) fn tree<'a>(alloc: Global) -> Result<Command<'a>, AllocError>
     ensures { IfOk result (λ c. IsApp c vault_app) }
 {
-    let tree = with(root(alloc), trial(alloc)?)?;
-    let tree = with(tree, merchant(alloc)?)?;
-    let tree = with(tree, grant(alloc)?)?;
-    let tree = with(tree, withdraw(alloc)?)?;
-    let tree = with(tree, rights(alloc)?)?;
-    let tree = with(tree, pipe(alloc)?)?;
-    let tree = with(tree, batch(alloc)?)?;
-    let tree = with(tree, serve(alloc)?)?;
-    with(tree, check(alloc)?)
+    let tree = with(Ok(root(alloc)), trial(alloc));
+    let tree = with(tree, merchant(alloc));
+    let tree = with(tree, grant(alloc));
+    let tree = with(tree, withdraw(alloc));
+    let tree = with(tree, rights(alloc));
+    let tree = with(tree, pipe(alloc));
+    let tree = with(tree, batch(alloc));
+    let tree = with(tree, serve(alloc));
+    with(tree, check(alloc))
 }

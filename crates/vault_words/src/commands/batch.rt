@@ -58,10 +58,10 @@ pub(crate) fn batch<'a>(alloc: Global) -> Result<Command<'a>, AllocError>
     let caller = args::text(alloc, "CALLER", "The caller who asks for the tokens");
     let merchant_help = "The merchant for which the tokens are";
     let merchant = args::text(alloc, "MERCHANT", merchant_help);
-    let command = args::with_notes(args::command(alloc, "batch", about), NOTES);
-    let command = add(command, args::now(alloc))?;
-    let command = add(command, args::digits(alloc))?;
-    let command = add(command, args::file(alloc))?;
-    let command = add(command, caller)?;
+    let command = Ok(args::with_notes(args::command(alloc, "batch", about), NOTES));
+    let command = add(command, args::now(alloc));
+    let command = add(command, args::digits(alloc));
+    let command = add(command, args::file(alloc));
+    let command = add(command, caller);
     add(command, merchant)
 }

@@ -34,5 +34,5 @@ pub(crate) fn check<'a>(alloc: Global) -> Result<Command<'a>, AllocError>
 {
     let about = "Checks that FILE holds a sound vault";
     let file = args::text(alloc, "FILE", "The vault's file");
-    add(args::command(alloc, "check", about), file)
+    add(Ok(args::command(alloc, "check", about)), file)
 }

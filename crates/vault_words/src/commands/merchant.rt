@@ -54,10 +54,10 @@ pub(crate) fn merchant<'a>(alloc: Global) -> Result<Command<'a>, AllocError>
     let single = args::number(alloc, "SINGLE", single_help);
     let multi_help = "How many seconds a multi-use token lives; 0 offers none";
     let multi = args::number(alloc, "MULTI", multi_help);
-    let command = args::with_notes(args::command(alloc, "merchant", about), NOTES);
-    let command = add(command, args::now(alloc))?;
-    let command = add(command, args::file(alloc))?;
-    let command = add(command, name)?;
-    let command = add(command, single)?;
+    let command = Ok(args::with_notes(args::command(alloc, "merchant", about), NOTES));
+    let command = add(command, args::now(alloc));
+    let command = add(command, args::file(alloc));
+    let command = add(command, name);
+    let command = add(command, single);
     add(command, multi)
 }

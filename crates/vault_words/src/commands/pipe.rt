@@ -41,7 +41,7 @@ pub(crate) fn pipe<'a>(alloc: Global) -> Result<Command<'a>, AllocError>
     ensures { IfOk result (λ c. IsApp c pipe_app) }
 {
     let about = "Answers messages from standard input by the vault in FILE";
-    let command = add(args::command(alloc, "pipe", about), args::now(alloc))?;
-    let command = add(command, args::digits(alloc))?;
+    let command = add(Ok(args::command(alloc, "pipe", about)), args::now(alloc));
+    let command = add(command, args::digits(alloc));
     add(command, args::file(alloc))
 }

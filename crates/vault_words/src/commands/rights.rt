@@ -49,10 +49,10 @@ fn on_right<'a>(alloc: Global, name: &'a str, about: &'a str) -> Result<Command<
     let merchant = args::text(alloc, "MERCHANT", "The merchant at which the right holds");
     let words = "tokenize, detokenize, view, revoke, purge or audit";
     let right = args::text(alloc, "RIGHT", words);
-    let command = add(args::command(alloc, name, about), args::now(alloc))?;
-    let command = add(command, args::file(alloc))?;
-    let command = add(command, caller)?;
-    let command = add(command, merchant)?;
+    let command = add(Ok(args::command(alloc, name, about)), args::now(alloc));
+    let command = add(command, args::file(alloc));
+    let command = add(command, caller);
+    let command = add(command, merchant);
     add(command, right)
 }
 

@@ -51,8 +51,8 @@ pub(crate) fn rights<'a>(alloc: Global) -> Result<Command<'a>, AllocError>
 {
     let about = "Grants what a rights file lists";
     let listed = args::text(alloc, "RIGHTS", "The rights file, in TOML");
-    let command = args::with_notes(args::command(alloc, "rights", about), NOTES);
-    let command = add(command, args::now(alloc))?;
-    let command = add(command, args::file(alloc))?;
+    let command = Ok(args::with_notes(args::command(alloc, "rights", about), NOTES));
+    let command = add(command, args::now(alloc));
+    let command = add(command, args::file(alloc));
     add(command, listed)
 }

@@ -56,8 +56,8 @@ pub(crate) fn serve<'a>(alloc: Global) -> Result<Command<'a>, AllocError>
     let about = "Answers messages of connections by the vault in FILE";
     let which = "The port, 0 to 65535; 0, any free one, if left out";
     let port = args::number_after(alloc, "port", "P", which);
-    let command = args::with_notes(args::command(alloc, "serve", about), NOTES);
-    let command = add(command, connections(alloc))?;
-    let command = add(command, port)?;
+    let command = Ok(args::with_notes(args::command(alloc, "serve", about), NOTES));
+    let command = add(command, connections(alloc));
+    let command = add(command, port);
     add(command, args::file(alloc))
 }

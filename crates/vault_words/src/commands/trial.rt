@@ -52,9 +52,9 @@ pub(crate) fn trial<'a>(alloc: Global) -> Result<Command<'a>, AllocError>
     let merchant = args::text(alloc, "MERCHANT", merchant_help);
     let life_help = "How many seconds a single-use token lives, up to 3155760000";
     let life = args::number(alloc, "LIFE", life_help);
-    let command = add(args::command(alloc, "trial", about), args::now(alloc))?;
-    let command = add(command, args::digits(alloc))?;
-    let command = add(command, caller)?;
-    let command = add(command, merchant)?;
+    let command = add(Ok(args::command(alloc, "trial", about)), args::now(alloc));
+    let command = add(command, args::digits(alloc));
+    let command = add(command, caller);
+    let command = add(command, merchant);
     add(command, life)
 }

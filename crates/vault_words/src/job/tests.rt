@@ -190,7 +190,7 @@ fn drawing(job: &Job<'_>) -> Option<(Moment, Digits)> {
         Job::Batch(batch) => (batch.now, batch.digits),
         _ => return None,
     };
-    Some((now?, digits?))
+    now.zip(digits)
 }
 
 /// The candidate of this place for the token of 4111111111111111.

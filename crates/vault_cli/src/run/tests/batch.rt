@@ -2,6 +2,7 @@
 
 use super::files::{ends, make_folder};
 use super::{Ran, run_on};
+use std::alloc::Global;
 use std::process::Abort;
 use std::{fs, io};
 use vault_batch::asker::Asker;
@@ -13,6 +14,7 @@ use vault_core::source::FixedSource;
 use vault_jobs::batch::batch_input;
 use vault_pan::draw::Digits;
 use vault_store::memory::MemTables;
+use vault_store::tables::Tables;
 use vault_store::vault::Vault;
 use vault_wire::watched::Watched;
 
@@ -58,44 +60,58 @@ fn batch_at(rt: &HostRuntime, file: &str, now: &str, digit: &str, input: &str) -
     run_on(rt, words.as_slice(), input.as_bytes())
 }
 
+/// Changes the vault by a command.
+fn change(rt: &impl Abort, vault: &mut Vault<MemTables>, command: &Command) {
+    assert!(rt; command.proper());
+    assert!(rt; vault.apply(command).is_ok());
+}
+
+/// The same shop in ordered maps.
+fn shop<H: AllocGlobal + Abort>(rt: &H, asker: Asker, now: Moment) -> Vault<MemTables> {
+    let mut vault = Vault::new(MemTables::new(rt.alloc()));
+    let set = Command::SetMerchant {
+        merchant: asker.merchant,
+        single_life: 60,
+        multi_life: 100,
+        now,
+    };
+    change(rt, &mut vault, &set);
+    let grant = Command::Grant {
+        caller: asker.caller,
+        merchant: asker.merchant,
+        right: Right::Tokenize,
+        now,
+    };
+    change(rt, &mut vault, &grant);
+    vault
+}
+
+/// The lines of a batch over a vault.
+fn lines<T: Tables>(
+    alloc: Global,
+    vault: &mut Vault<T>,
+    asker: Asker,
+    source: FixedSource,
+    input: &str,
+) -> Vec<u8> {
+    let mut source = source;
+    let mut output = Vec::new(alloc);
+    let mut reader = Watched::new(input.as_bytes());
+    let mut writer = Watched::new(&mut output);
+    let _ = batch_input(alloc, &mut reader, &mut writer, vault, asker, &mut source);
+    output
+}
+
 /// The lines of a batch at 1000 with digits 0, over the same shop in ordered maps.
 fn lines_over_maps<H: AllocGlobal + Abort>(rt: &H, input: &str) -> Vec<u8> {
     let now = Moment::new(1000).expect(rt, "a moment");
     let caller = Caller::read(b"till-1").expect(rt, "a name");
     let merchant = MerchantId::read(b"shop1").expect(rt, "a name");
-    let mut vault = Vault::new(MemTables::new(rt.alloc()));
-    let set = Command::SetMerchant {
-        merchant,
-        single_life: 60,
-        multi_life: 100,
-        now,
-    };
-    assert!(rt; set.proper());
-    assert!(rt; vault.apply(&set).is_ok());
-    let grant = Command::Grant {
-        caller,
-        merchant,
-        right: Right::Tokenize,
-        now,
-    };
-    assert!(rt; grant.proper());
-    assert!(rt; vault.apply(&grant).is_ok());
-    let digits = Digits::new(&[0; 300]).expect(rt, "digits");
-    let mut source = FixedSource::new(now, digits, 100);
-    let mut output = Vec::new(rt.alloc());
-    let mut reader = Watched::new(input.as_bytes());
-    let mut writer = Watched::new(&mut output);
     let asker = Asker { caller, merchant };
-    let ended = batch_input(
-        rt.alloc(),
-        &mut reader,
-        &mut writer,
-        &mut vault,
-        asker,
-        &mut source,
-    );
-    assert!(rt; ended.is_ok());
-    output
+    let digits = Digits::new(&[0; 300]).expect(rt, "digits");
+    let source = FixedSource::new(now, digits, 100);
+    let mut vault = shop(rt, asker, now);
+    lines(rt.alloc(), &mut vault, asker, source, input)
 }
 
 #[test]
