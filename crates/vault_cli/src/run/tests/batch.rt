@@ -67,7 +67,7 @@ fn change(rt: &impl Abort, vault: &mut Vault<MemTables>, command: &Command) {
 }
 
 /// The same shop in ordered maps.
-fn shop<H: AllocGlobal + Abort>(rt: &H, asker: Asker, now: Moment) -> Vault<MemTables> {
+fn shop<H: AllocGlobal + Abort>(rt: &H, asker: &Asker, now: Moment) -> Vault<MemTables> {
     let mut vault = Vault::new(MemTables::new(rt.alloc()));
     let set = Command::SetMerchant {
         merchant: asker.merchant,
@@ -90,7 +90,7 @@ fn shop<H: AllocGlobal + Abort>(rt: &H, asker: Asker, now: Moment) -> Vault<MemT
 fn lines<T: Tables>(
     alloc: Global,
     vault: &mut Vault<T>,
-    asker: Asker,
+    asker: &Asker,
     source: FixedSource,
     input: &str,
 ) -> Vec<u8> {
@@ -110,8 +110,8 @@ fn lines_over_maps<H: AllocGlobal + Abort>(rt: &H, input: &str) -> Vec<u8> {
     let asker = Asker { caller, merchant };
     let digits = Digits::new(&[0; 300]).expect(rt, "digits");
     let source = FixedSource::new(now, digits, 100);
-    let mut vault = shop(rt, asker, now);
-    lines(rt.alloc(), &mut vault, asker, source, input)
+    let mut vault = shop(rt, &asker, now);
+    lines(rt.alloc(), &mut vault, &asker, source, input)
 }
 
 #[test]

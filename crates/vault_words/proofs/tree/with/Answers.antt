@@ -16,4 +16,5 @@ returns c a s is has =
     let sub = c.in_ok-subcommand.field-0 in
     let at : IsApp old a = subst (Makes a) c.in_ok-command.was is in
     let one : IsApp sub s = subst (Makes s) c.in_ok-subcommand.was has in
-    IfOk-weaker c.subcommand.result _ _ (λ new adds. with_sub old sub new a s adds at one) c.subcommand.ensures
+    IfOk-weaker c.subcommand.result _ _ (λ new adds. with_sub old sub new a s adds at one)
+        c.subcommand.ensures
