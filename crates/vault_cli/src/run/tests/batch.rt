@@ -98,7 +98,7 @@ fn lines<T: Tables>(
     let mut output = Vec::new(alloc);
     let mut reader = Watched::new(input.as_bytes());
     let mut writer = Watched::new(&mut output);
-    let _ = batch_input(alloc, &mut reader, &mut writer, vault, asker, &mut source);
+    let _ = batch_input(alloc, &mut reader, &mut writer, vault, *asker, &mut source);
     output
 }
 
