@@ -82,15 +82,6 @@ IsRefusedInPart (Batch who now digits) s = (counts : Counts) × IsTabled s count
 IsRefusedInPart (Pipe now digits) s = ⊥
 IsRefusedInPart (Serve port connections) s = ⊥
 
--- how a batch ends: done, where no row is refused, or with some that are
-abbrev pub BatchEnds : Result Outcome Stop → Streams → Type 0
-BatchEnds (Ok outcome.Done) s =
-    (s.writer ≡ false) × ((counts : Counts) × IsTabled s counts × (counts.refused ≡ 0))
-BatchEnds (Ok (outcome.Refused n)) s = ⊥
-BatchEnds (Ok outcome.SomeRefused) s =
-    (s.writer ≡ false) × ((counts : Counts) × IsTabled s counts × (counts.refused ≢ 0))
-BatchEnds (Err stop) s = IsCauseOf stop s
-
 -- how a task ends on a vault
 abbrev pub TaskEnds : Task → Result Outcome Stop → Type 0 → Type 0 → Streams → Type 0
 TaskEnds task (Ok outcome.Done) unread unsent s = (s.writer ≡ false) × IsTaskDone task unread s

@@ -8,7 +8,8 @@ ghost use Rattle.vault_jobs.specs.Carried.{IsKept, IsTorn};
 ghost use Rattle.vault_wire.specs.Watching.{inner_of, is_stopped};
 ghost use Rattle.vault_jobs.specs.Causes.{IsCauseOf};
 ghost use Rattle.vault_jobs.specs.Streams.{IsHeard, Streams, streams};
-ghost use Rattle.vault_jobs.specs.Tasks.{BatchEnds, IsProper, Says, TaskEnds, granted_line};
+ghost use Rattle.vault_jobs.specs.Tasks.{IsProper, Says, TaskEnds, granted_line};
+ghost use Rattle.vault_jobs.specs.declared.task.Task.{Task};
 
 use crate::answer::answer;
 use crate::batch::batch_input;
@@ -124,7 +125,7 @@ fn do_batch<R: Read, W: Write, T: Tables>(
     requires { is_broken vault.old ≡ false }
     ensures ends { let s : Streams =
         streams R.remaining input.old input.new W.contents output.old output.new in
-        BatchEnds result s }
+        TaskEnds (Task.Batch asker moment digits) result (input.new ≡ input.old) (output.new ≡ output.old) s }
     ensures kept { let w : Passage = vault_passing T.is_honest T.holds T.leaves vault.old vault.new in
         is_broken vault.new ≡ false → IsKept w }
     ensures torn { let w : Passage = vault_passing T.is_honest T.holds T.leaves vault.old vault.new in
