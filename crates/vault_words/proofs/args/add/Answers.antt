@@ -12,4 +12,4 @@ returns c a rule is same local =
     let at : IsApp old a =
     subst (λ (r : Result Command AllocError). IfOk r (λ k. IsApp k a)) c.in_ok-command.was is in
     IfOk-weaker c.arg.result _ _ (λ new adds. with_arg old new c.args.arg a rule adds at same local)
-        c.arg.ensures
+    c.arg.ensures

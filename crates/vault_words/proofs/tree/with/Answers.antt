@@ -17,4 +17,4 @@ returns c a s is has =
     let at : IsApp old a = subst (Makes a) c.in_ok-command.was is in
     let one : IsApp sub s = subst (Makes s) c.in_ok-subcommand.was has in
     IfOk-weaker c.subcommand.result _ _ (λ new adds. with_sub old sub new a s adds at one)
-        c.subcommand.ensures
+    c.subcommand.ensures
