@@ -20,7 +20,7 @@ use Rattle.vault_recover.specs.declared.fault.OpenFault.{OpenFault}
 use Rattle.vault_recover.specs.declared.fault.OpenFault.TheVariants.{WrongSchema, Damaged, Memory, Store}
 use Rattle.vault_recover.proofs.Judged.{ours_of}
 use Rattle.vault_sql.specs.Holds.{Holds}
-use Rattle.vault_sql.specs.Schema.{no_schema}
+use Rattle.sql_maps.specs.Schema.{no_schema}
 use Rattle.vault_sql.specs.Stands.{Stands}
 
 -- what is there isn't missing

@@ -16,7 +16,7 @@ use Rattle.vault_recover.specs.Opened.{IsSoundOf, Opens}
 use Rattle.vault_recover.specs.Sizes.{sizes_of}
 use Rattle.vault_recover.specs.declared.sizes.Sizes.{Sizes}
 use Rattle.vault_sql.specs.Holds.{Holds}
-use Rattle.vault_sql.specs.Schema.{no_schema}
+use Rattle.sql_maps.specs.Schema.{no_schema}
 
 -- no file's name: nothing at all, `:memory:`, and what begins with `file:`
 abbrev pub IsNoPath : List ℕ → Type 0

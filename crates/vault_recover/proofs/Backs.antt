@@ -7,9 +7,9 @@ use Rattle.vault_core.specs.Vault.{Merchant}
 use Rattle.vault_core.specs.declared.usage.Use.{Use}
 use Rattle.vault_core.specs.declared.usage.Use.TheVariants.{Single, Multi}
 use Rattle.vault_rules.specs.Showing.{usage_number}
-use Rattle.vault_sql.specs.Rows.{use_number}
+use Rattle.vault_schema.specs.Version1.Rows.{use_number}
 use Rattle.vault_sql.specs.Stands.{lives_in, unless_zero}
-use Rattle.vault_sql.specs.declared.merchants.Lives.{Lives}
+use Rattle.vault_schema.specs.declared.v1.Lives.{Lives}
 
 -- the number of a use is one, by either name
 pub same_number : (u : Use) → use_number u ≡ usage_number u

@@ -16,8 +16,8 @@ use Rattle.vault_rules.specs.declared.rows.RawCount.{RawCount}
 use Rattle.vault_rules.specs.declared.rows.RawEntry.{RawEntry}
 use Rattle.vault_rules.specs.declared.rows.RawRecord.{RawRecord}
 use Rattle.vault_rules.specs.declared.rows.RawRight.{RawRight}
-use Rattle.vault_sql.specs.Rows.{merchant_row, count_row, entry_row, record_row, right_row, text_or_null, number_or_null}
-use Rattle.vault_sql.specs.declared.merchants.Lives.{Lives}
+use Rattle.vault_schema.specs.Version1.Rows.{merchant_row, count_row, entry_row, record_row, right_row, text_or_null, number_or_null}
+use Rattle.vault_schema.specs.declared.v1.Lives.{Lives}
 
 abbrev text_in : Value → Bytes
 text_in (Text t) = t

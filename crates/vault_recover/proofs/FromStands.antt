@@ -23,7 +23,7 @@ use Rattle.vault_core.specs.declared.usage.Use.TheVariants.{Single, Multi}
 use Rattle.vault_recover.proofs.Backs.{given_back, lives_back, some_unless}
 use Rattle.vault_recover.proofs.Decoded.{merchant_decoded, count_decoded, entry_decoded, record_decoded, right_decoded, int_in}
 use Rattle.vault_recover.proofs.VersionRows.{alone, one_shown}
-use Rattle.vault_recover.proofs.Whole.{has_permuted}
+use Rattle.sql_maps.proofs.Answers.{has_permuted}
 use Rattle.vault_recover.specs.Opened.{AreRaws}
 use Rattle.vault_recover.specs.Raw.{version_values, merchant_values, count_values, entry_values, record_values, right_values}
 use Rattle.vault_recover.specs.Reading.{shown_by, version_columns}
@@ -40,11 +40,12 @@ use Rattle.vault_rules.specs.declared.rows.RawMerchant.{RawMerchant}
 use Rattle.vault_rules.specs.declared.rows.RawCount.{RawCount}
 use Rattle.vault_rules.specs.declared.rows.RawEntry.{RawEntry}
 use Rattle.vault_rules.specs.declared.rows.Rows.{Rows}
-use Rattle.vault_sql.proofs.Codings.{merchant_coding}
-use Rattle.vault_sql.proofs.HowMany.{as_many}
-use Rattle.vault_sql.specs.Rows.{AreRowsOf, merchant_row, count_row, entry_row as entry_encoded, record_row, right_row}
+use Rattle.vault_schema.proofs.Version1.Codes.{merchant_coding}
+use Rattle.sql_maps.proofs.HowMany.{as_many}
+use Rattle.sql_maps.specs.Rows.{AreRowsOf}
+use Rattle.vault_schema.specs.Version1.Rows.{merchant_row, count_row, entry_row as entry_encoded, record_row, right_row}
 use Rattle.vault_sql.specs.Stands.{Stands, count_at, lives_in, lookups_of}
-use Rattle.vault_sql.specs.declared.merchants.Lives.{Lives}
+use Rattle.vault_schema.specs.declared.v1.Lives.{Lives}
 
 -- a row as it stands is a pair, and each pair is a row as it stands
 module _ {K X R : Type 0} (encode : K → X → Row) (values : R → Row) (held : K → Option X) (items : List R) (tree : List Row)

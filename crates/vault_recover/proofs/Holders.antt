@@ -12,7 +12,7 @@ use Rattle.vault_recover.specs.Names.{holder_of, is_blank, is_vault, has_some}
 use Rattle.vault_recover.specs.Sizes.{sizes_of}
 use Rattle.vault_recover.specs.declared.names.Holder.TheVariants.{Nobody, Vault, Mixed, Other}
 use Rattle.vault_recover.specs.declared.sizes.Sizes.{Sizes}
-use Rattle.vault_sql.specs.Schema.{no_schema}
+use Rattle.sql_maps.specs.Schema.{no_schema}
 
 none : {X : Type 0} (xs : List X) → (length xs == 0) ≡ true → xs ≡ []
 none [] e = refl

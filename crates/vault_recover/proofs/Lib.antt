@@ -13,8 +13,5 @@ pub mod Results
 pub mod Rising
 pub mod Standing
 pub mod Stood
-pub mod TableTexts
 pub mod Tallies
 pub mod VersionRows
-pub mod Whole
-pub mod WholeRows

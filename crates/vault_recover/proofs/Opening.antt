@@ -12,7 +12,8 @@ use Rattle.vault_recover.specs.declared.names.Holder.TheVariants.{Nobody, Vault 
 use Rattle.vault_recover.specs.declared.sizes.Sizes.{Sizes}
 use Rattle.vault_sql.specs.Holds.{Holds}
 use Rattle.vault_sql.specs.Making.{IsReady}
-use Rattle.vault_sql.specs.Schema.{no_schema, vault_schema}
+use Rattle.sql_maps.specs.Schema.{no_schema}
+use Rattle.vault_sql.specs.Schema.{vault_schema}
 use Rattle.vault_sql.specs.Stands.{Stands}
 
 -- only the last commit may be left

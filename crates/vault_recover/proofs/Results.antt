@@ -1,6 +1,10 @@
 -- What holds of a result, from what holds of it.
 use Rattle.std.proofs.Common.{◌≡◌, ◌≢◌, ℕ, ℤ, Ok, Err, Result, IfOk, IfErr, OnOk}
+use Rattle.sqlite.specs.State.{State}
+use Rattle.sql_maps.specs.States.{Reads}
 use Rattle.vault_recover.specs.Faults.{failure}
+use Rattle.vault_recover.specs.Reading.{IsQuiet}
+use Rattle.vault_sql.specs.Schema.{vault_schema}
 use Rattle.vault_recover.specs.declared.fault.OpenFault.TheVariants.{WrongSchema, Damaged}
 use Rattle.vault_recover.specs.declared.fault.ReadFault.{ReadFault}
 use Rattle.vault_recover.specs.declared.fault.ReadFault.TheVariants as read
@@ -9,7 +13,8 @@ pub if_ok : {A E : Type 0} {P Q : A → Type 0} (r : Result A E) → ((a : A) �
 if_ok (Ok a) f h = f a h
 if_ok (Err e) f h = tt
 
-pub if_err : {A E : Type 0} {P Q : E → Type 0} (r : Result A E) → ((e : E) → P e → Q e) → IfErr r P → IfErr r Q
+pub if_err : {A E : Type 0} {P Q : E → Type 0} (r : Result A E) → ((e : E) → P e → Q e) → IfErr r P
+    → IfErr r Q
 if_err (Ok a) f h = tt
 if_err (Err e) f h = f e h
 
@@ -31,3 +36,9 @@ undamaged read.Store rule e = cc
 pub unversioned : (fault : ReadFault) (n : ℤ) → failure fault ≢ WrongSchema n
 unversioned read.Memory n e = cc
 unversioned read.Store n e = cc
+
+-- a query is quiet
+pub quiet : {R E : Type 0} (result : Result R E) (old new : State) → Reads vault_schema result old new
+    → IsQuiet old new
+quiet result old new reads =
+    record { clean = reads.clean; mode = reads.mode; limit = reads.limit; left = reads.left }

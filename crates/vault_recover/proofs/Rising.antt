@@ -11,7 +11,7 @@ use Rattle.sqlite_rules.specs.Lists.{Has}
 use Rattle.sqlite_rules.proofs.ListLemmas.{all_has, all_from}
 use Rattle.sqlite_rules.proofs.ProbeLemmas.{has_mapped}
 use Rattle.sqlite_value.proofs.OrderLemmas.{value_cmp-Int}
-use Rattle.vault_sql.specs.Rows.{IsApart}
+use Rattle.sql_maps.specs.Rows.{IsApart}
 use Rattle.vault_recover.specs.Apart.{id_row, Rises}
 
 abbrev pub IsAdjacent : List ℤ → ℕ → Type 0

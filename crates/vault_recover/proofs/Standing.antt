@@ -9,9 +9,9 @@ use Rattle.sqlite.specs.View.{is_int}
 use Rattle.sqlite_rules.specs.Lists.{Has}
 use Rattle.sqlite_rules.proofs.ProbeLemmas.{has_mapped, mapped_has}
 use Rattle.vault_recover.proofs.Tallies.{apart_permuted}
-use Rattle.vault_recover.proofs.Whole.{has_permuted}
-use Rattle.vault_sql.proofs.ByKey.{Coding}
-use Rattle.vault_sql.specs.Rows.{AreRowsOf, IsApart}
+use Rattle.sql_maps.proofs.Answers.{has_permuted}
+use Rattle.sql_maps.proofs.ByKey.{Coding}
+use Rattle.sql_maps.specs.Rows.{AreRowsOf, IsApart}
 
 module _ {K X R : Type 0} {cmp : K → K → Ordering} (encode : K → X → Row) (coding : Coding cmp encode)
     (values : R → Row) (key : R → K) (value : R → X) (held : K → Option X) (items : List R) (tree : List Row) where

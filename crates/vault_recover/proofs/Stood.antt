@@ -38,11 +38,12 @@ use Rattle.vault_rules.specs.declared.rows.RawEntry.{RawEntry}
 use Rattle.vault_rules.specs.declared.rows.RawRecord.{RawRecord}
 use Rattle.vault_rules.specs.declared.rows.RawRight.{RawRight}
 use Rattle.vault_rules.specs.declared.rows.Rows.{Rows}
-use Rattle.vault_sql.proofs.Codings.{merchant_coding, count_coding, entry_coding, record_coding, right_coding}
-use Rattle.vault_sql.specs.Rows.{AreRowsOf, merchant_row as merchant_encoded, count_row, entry_row as entry_encoded, record_row as record_encoded, right_row as right_encoded, text_or_null, number_or_null}
+use Rattle.vault_schema.proofs.Version1.Codes.{merchant_coding, count_coding, entry_coding, record_coding, right_coding}
+use Rattle.sql_maps.specs.Rows.{AreRowsOf}
+use Rattle.vault_schema.specs.Version1.Rows.{merchant_row as merchant_encoded, count_row, entry_row as entry_encoded, record_row as record_encoded, right_row as right_encoded, text_or_null, number_or_null}
 use Rattle.vault_sql.specs.Schema.{vault_schema}
 use Rattle.vault_sql.specs.Stands.{Stands, count_at, lives_in, unless_zero, lookups_of}
-use Rattle.vault_sql.specs.declared.merchants.Lives.{Lives}
+use Rattle.vault_schema.specs.declared.v1.Lives.{Lives}
 
 same_moment : (o : Option ℕ) → int_value (option_map pos o) ≡ number_or_null o
 same_moment None = refl

@@ -11,7 +11,7 @@ use Rattle.sqlite.specs.Tree.{rowid}
 use Rattle.sqlite_rules.specs.Lists.{Has}
 use Rattle.sqlite_rules.proofs.ListLemmas.{all_has, all_from}
 use Rattle.sqlite_value.proofs.OrderLemmas.{value_cmp_total}
-use Rattle.vault_sql.specs.Rows.{IsApart}
+use Rattle.sql_maps.specs.Rows.{IsApart}
 
 abbrev hit : Value → Row → ℕ
 hit id r = cond (is_eq (value_cmp (rowid r) id)) 1 0

@@ -13,12 +13,14 @@ use Rattle.sqlite_rules.proofs.RuleLemmas.{keeps_at}
 use Rattle.sqlite_schema.specs.Rules.{are_typed}
 use Rattle.sqlite_schema.specs.declared.schema.Constraint.TheVariants.{Datatype}
 use Rattle.sqlite_sql.specs.Ops.{is_null}
-use Rattle.vault_recover.proofs.Whole.{has_permuted}
+use Rattle.sql_maps.proofs.Answers.{has_permuted}
 use Rattle.vault_recover.specs.Opened.{AreVersions}
 use Rattle.vault_recover.specs.Raw.{version_values}
 use Rattle.vault_recover.specs.Reading.{shown_by, version_columns}
 use Rattle.vault_rules.specs.declared.rows.RawVersion.{RawVersion}
-use Rattle.vault_sql.specs.Schema.{vault_schema, vault}
+use Rattle.vault_sql.specs.Schema.{vault_schema}
+use Rattle.sql_maps.specs.Schema.{table_of}
+use Rattle.vault_schema.specs.Version1.Tables.{vault}
 
 null_is : (v : Value) → is_null v ≡ true → v ≡ Null
 null_is Null e = refl
@@ -56,6 +58,6 @@ version_stands db ours sound versions are v one id version =
     (subst (λ vs. IsPermutation (map (shown_by version_columns) (db.trees 0)) (map version_values vs)) one are) in
     let row = one_shown (shown_by version_columns) (db.trees 0) (version_values v) shown in
     let there : Has (db.trees 0) row.0 = subst (λ rs. Has rs row.0) (sym row.1) (inl refl) in
-    let listed = subst (λ (s : Schema). Has s.tables vault) (sym ours) (inl refl) in
-    let typed = (and_parts _ _ (keeps_at Datatype db.schema db.trees vault row.0 (sound.obeys.rules Datatype) listed there)).0 in
+    let listed = subst (λ (s : Schema). Has s.tables (table_of vault)) (sym ours) (inl refl) in
+    let typed = (and_parts _ _ (keeps_at Datatype db.schema db.trees (table_of vault) row.0 (sound.obeys.rules Datatype) listed there)).0 in
     row.1 ∙ ap (λ r. r ∷ []) (version_row row.0 typed (ap (λ rs. column rs 0) row.2 ∙ ap Int id) (ap (λ rs. column rs 1) row.2 ∙ ap Int version))

@@ -5,7 +5,7 @@ use Rattle.sqlite.specs.Tree.{IsAscending}
 use Rattle.sqlite.specs.declared.types.Value.TheVariants.{Int}
 use Rattle.vault_recover.specs.Raw.{merchant_values, count_values, entry_values, record_values, right_values}
 use Rattle.vault_rules.specs.declared.rows.Rows.{Rows}
-use Rattle.vault_sql.specs.Rows.{IsApart}
+use Rattle.sql_maps.specs.Rows.{IsApart}
 
 -- a row of its rowid alone
 abbrev pub id_row : ℤ → Row

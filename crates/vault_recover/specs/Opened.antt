@@ -25,7 +25,8 @@ use Rattle.vault_rules.specs.declared.rows.RawRight.{RawRight}
 use Rattle.vault_rules.specs.declared.rows.Rows.{Rows}
 use Rattle.vault_sql.specs.Holds.{Holds}
 use Rattle.vault_sql.specs.Making.{IsReady}
-use Rattle.vault_sql.specs.Schema.{no_schema, vault_schema}
+use Rattle.sql_maps.specs.Schema.{no_schema}
+use Rattle.vault_sql.specs.Schema.{vault_schema}
 use Rattle.vault_sql.specs.Stands.{Stands}
 
 -- the rows of `vault` as they stand, in some order

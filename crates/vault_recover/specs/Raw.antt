@@ -3,7 +3,7 @@ use Rattle.std.specs.Prelude.{ℤ, [], ◌∷◌, Option, Some, None, option_map
 use Rattle.sqlite.specs.declared.types.Value.{Value}
 use Rattle.sqlite.specs.declared.types.Value.TheVariants.{Null, Int, Text}
 use Rattle.sqlite.specs.Order.{Row}
-use Rattle.vault_sql.specs.Rows.{text_or_null}
+use Rattle.vault_schema.specs.Version1.Rows.{text_or_null}
 use Rattle.vault_rules.specs.declared.rows.RawVersion.{RawVersion}
 use Rattle.vault_rules.specs.declared.rows.RawMerchant.{RawMerchant}
 use Rattle.vault_rules.specs.declared.rows.RawCount.{RawCount}

@@ -1,47 +1,13 @@
 -- Reading the whole of a table.
-use Rattle.std.specs.Prelude.{◌≡◌, ◌≤◌, ◌<◌, ℕ, pos, negsuc, false, List, [], ◌∷◌, map, None, length}
-use Rattle.sqlite.specs.Collation.TheVariants.{Binary}
-use Rattle.sqlite.specs.Command.TheVariants.{Select}
+use Rattle.std.specs.Prelude.{◌≡◌, ◌≤◌, ◌<◌, false, List, [], ◌∷◌, length}
 use Rattle.sqlite.specs.Effect.{Database}
-use Rattle.sqlite.specs.Listing.{understood, reads_listing}
 use Rattle.sqlite.specs.Order.{Row}
-use Rattle.sqlite.specs.Program.{overlay}
-use Rattle.sqlite.specs.Query.{Query, inner, end}
 use Rattle.sqlite.specs.State.{State, HasCleanDisk}
-use Rattle.sqlite.specs.Term.{Term, eval_all, lit, col}
-use Rattle.sqlite.specs.Tree.{Trees}
+use Rattle.sqlite.specs.Term.{Term, eval_all, col}
 use Rattle.sqlite.specs.View.{doubt}
-use Rattle.sqlite.specs.declared.types.Value.TheVariants.{Int}
-use Rattle.sqlite.proofs.Callers.{IsPlain, command_of}
 use Rattle.sqlite_rules.specs.Lists.{Has}
-use Rattle.sqlite_value.specs.declared.keys.Key.{Key}
-use Rattle.vault_sql.specs.Holds.{LeavesNoMore}
+use Rattle.sql_maps.specs.States.{LeavesNoMore}
 use Rattle.vault_sql.specs.Schema.{vault_schema}
-
-abbrev by_bytes : Key
-by_bytes = record { collation = Binary; descending = false }
-
--- the whole of a table, ordered by these terms
-abbrev pub whole_of : ℕ → List Term → List Term → Query
-whole_of tree order project = record {
-  from = inner tree end;
-  filter = [];
-  group = None;
-  project = project;
-  distinct = false;
-  collations = [];
-  order = map (λ t. (t, by_bytes)) order;
-  limit = lit (Int (negsuc 0));
-  offset = lit (Int (pos 0));
-}
-
--- the text reads the whole of a table of a vault
-pub record ReadsWhole (text : List ℕ) (tree : ℕ) (order project : List Term) : Type 0 where
-  pub names : List (List ℕ)
-  pub is : command_of (understood vault_schema text) ≡ Select (record { lets = []; body = whole_of tree order project }) names
-  pub plain : IsPlain (understood vault_schema text)
-  pub unlisted : reads_listing vault_schema text ≡ false
-  pub bare : (db : Trees) → overlay db [] tree ≡ db tree
 
 -- what the terms show of a row
 abbrev pub shown_by : List Term → Row → Row

@@ -2,7 +2,7 @@
 ghost use Rattle.std.specs.Prelude.{◌≡◌, map, IfOk, IsTrue};
 ghost use Rattle.vault_recover.specs.Apart.{AreApart, id_row, Rises};
 ghost use Rattle.vault_recover.specs.Raw.{merchant_values, count_values, entry_values, record_values, right_values};
-ghost use Rattle.vault_sql.specs.Rows.{IsApart};
+ghost use Rattle.sql_maps.specs.Rows.{IsApart};
 
 use std::alloc::{AllocError, Global};
 use vault_rules::rows::{RawCount, RawEntry, RawMerchant, RawRecord, RawRight, Rows};

@@ -7,7 +7,8 @@ ghost use Rattle.vault_recover.specs.Names.{holder_of};
 ghost use Rattle.vault_recover.specs.Opened.{IsFit, IsKnown, IsLeastBroken, IsNoRefusal, IsSoundOf, IsWrong};
 ghost use Rattle.vault_recover.specs.Reading.{IsQuiet};
 ghost use Rattle.vault_recover.specs.Sizes.{sizes_of};
-ghost use Rattle.vault_sql.specs.Schema.{no_schema, vault_schema};
+ghost use Rattle.sql_maps.specs.Schema.{no_schema};
+ghost use Rattle.vault_sql.specs.Schema.{vault_schema};
 
 use crate::fault::OpenFault;
 use crate::names::{Holder, holder_in};

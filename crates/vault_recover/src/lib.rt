@@ -13,7 +13,6 @@ mod read;
 pub mod reopen;
 mod rows;
 pub mod sizes;
-mod table;
 #[cfg(test)]
 mod tests;
 mod verdict;

@@ -5,7 +5,7 @@ ghost use Rattle.sqlite.specs.State.{HasCleanDisk};
 ghost use Rattle.vault_recover.specs.Names.{HasOtherTables};
 ghost use Rattle.vault_recover.specs.Opened.{IsFit, IsKnown, IsLeastBroken, IsNoRefusal, IsWrong, LeavesFound, Opens};
 ghost use Rattle.vault_recover.specs.Reading.{IsQuiet};
-ghost use Rattle.vault_sql.specs.Schema.{no_schema};
+ghost use Rattle.sql_maps.specs.Schema.{no_schema};
 ghost use Rattle.vault_store.specs.Applied.{is_broken, tables_of};
 
 use crate::fault::OpenFault;

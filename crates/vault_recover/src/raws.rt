@@ -3,7 +3,7 @@ ghost use Rattle.std.specs.Int.{w64};
 ghost use Rattle.std.specs.Prelude.{◌≡◌, FitsSigned, map, IfOk, option_map, string_bytes};
 ghost use Rattle.sqlite.specs.Order.{column};
 ghost use Rattle.sqlite.specs.declared.types.Value.TheVariants.{Int};
-ghost use Rattle.vault_sql.specs.Rows.{text_or_null};
+ghost use Rattle.vault_schema.specs.Version1.Rows.{text_or_null};
 ghost use Rattle.vault_recover.specs.Raw.{int_value, version_values, merchant_values, count_values, entry_values, record_values, right_values};
 
 use crate::fault::ReadFault;

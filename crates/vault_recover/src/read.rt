@@ -10,26 +10,13 @@ ghost use Rattle.vault_sql.specs.Schema.{vault_schema};
 
 use crate::fault::ReadFault;
 use crate::raws;
-use crate::table::table_rows;
+use sql_maps::run::rows_of;
 use sqlite::{Alter, Connection};
 use std::alloc::Global;
 use vault_rules::rows::{RawCount, RawEntry, RawMerchant, RawRecord, RawRight, RawVersion};
-
-const VERSIONS: &str = "SELECT id, version FROM vault ORDER BY id";
-
-const MERCHANTS: &str =
-    "SELECT rowid, name, single_life, multi_life, moment FROM merchants ORDER BY name";
-
-const COUNTS: &str = "SELECT rowid, merchant, kind, total FROM counts ORDER BY merchant, kind";
-
-const ENTRIES: &str =
-    "SELECT rowid, merchant, token, number, usage, birth, expires, revoked FROM entries ORDER BY merchant, token";
-
-const RECORDS: &str =
-    "SELECT rowid, caller, request, merchant, token, usage FROM records ORDER BY caller, request";
-
-const RIGHTS: &str =
-    "SELECT rowid, caller, merchant, what FROM rights ORDER BY caller, merchant, what";
+use vault_schema::v1::{
+    READ_COUNTS, READ_ENTRIES, READ_MERCHANTS, READ_RECORDS, READ_RIGHTS, READ_VERSIONS,
+};
 
 /// The rows of `vault`.
 pub(crate) fn versions<S: Alter>(
@@ -41,7 +28,7 @@ pub(crate) fn versions<S: Alter>(
     ensures kept { HasCleanDisk (state S.Store conn.new) → OnOk result ((state S.Store conn.old).now.schema ≡ vault_schema → IsUnchanged (state S.Store conn.old) (state S.Store conn.new)) }
     ensures quiet { IsQuiet (state S.Store conn.old) (state S.Store conn.new) }
 {
-    let rows = table_rows(conn, VERSIONS)?;
+    let rows = rows_of(conn, READ_VERSIONS, &[])?;
     raws::versions(alloc, &rows)
 }
 
@@ -55,7 +42,7 @@ pub(crate) fn merchants<S: Alter>(
     ensures kept { HasCleanDisk (state S.Store conn.new) → OnOk result ((state S.Store conn.old).now.schema ≡ vault_schema → IsUnchanged (state S.Store conn.old) (state S.Store conn.new)) }
     ensures quiet { IsQuiet (state S.Store conn.old) (state S.Store conn.new) }
 {
-    let rows = table_rows(conn, MERCHANTS)?;
+    let rows = rows_of(conn, READ_MERCHANTS, &[])?;
     raws::merchants(alloc, &rows)
 }
 
@@ -69,7 +56,7 @@ pub(crate) fn counts<S: Alter>(
     ensures kept { HasCleanDisk (state S.Store conn.new) → OnOk result ((state S.Store conn.old).now.schema ≡ vault_schema → IsUnchanged (state S.Store conn.old) (state S.Store conn.new)) }
     ensures quiet { IsQuiet (state S.Store conn.old) (state S.Store conn.new) }
 {
-    let rows = table_rows(conn, COUNTS)?;
+    let rows = rows_of(conn, READ_COUNTS, &[])?;
     raws::counts(alloc, &rows)
 }
 
@@ -83,7 +70,7 @@ pub(crate) fn entries<S: Alter>(
     ensures kept { HasCleanDisk (state S.Store conn.new) → OnOk result ((state S.Store conn.old).now.schema ≡ vault_schema → IsUnchanged (state S.Store conn.old) (state S.Store conn.new)) }
     ensures quiet { IsQuiet (state S.Store conn.old) (state S.Store conn.new) }
 {
-    let rows = table_rows(conn, ENTRIES)?;
+    let rows = rows_of(conn, READ_ENTRIES, &[])?;
     raws::entries(alloc, &rows)
 }
 
@@ -97,7 +84,7 @@ pub(crate) fn records<S: Alter>(
     ensures kept { HasCleanDisk (state S.Store conn.new) → OnOk result ((state S.Store conn.old).now.schema ≡ vault_schema → IsUnchanged (state S.Store conn.old) (state S.Store conn.new)) }
     ensures quiet { IsQuiet (state S.Store conn.old) (state S.Store conn.new) }
 {
-    let rows = table_rows(conn, RECORDS)?;
+    let rows = rows_of(conn, READ_RECORDS, &[])?;
     raws::records(alloc, &rows)
 }
 
@@ -111,6 +98,6 @@ pub(crate) fn rights<S: Alter>(
     ensures kept { HasCleanDisk (state S.Store conn.new) → OnOk result ((state S.Store conn.old).now.schema ≡ vault_schema → IsUnchanged (state S.Store conn.old) (state S.Store conn.new)) }
     ensures quiet { IsQuiet (state S.Store conn.old) (state S.Store conn.new) }
 {
-    let rows = table_rows(conn, RIGHTS)?;
+    let rows = rows_of(conn, READ_RIGHTS, &[])?;
     raws::rights(alloc, &rows)
 }

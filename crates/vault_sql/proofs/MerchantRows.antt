@@ -1,5 +1,6 @@
 -- The row of a merchant, put together from its own table and its counts.
-use Rattle.std.proofs.Common.{◌≡◌, inl, inr, ℕ, pos, ◌==◌, true, false, cond, List, Option, Some, None, option_map, refl, sym, ap, ◌∙◌, arith}
+use Rattle.std.proofs.Common.{◌≡◌, inl, inr, slice_get, ℕ, pos, ◌==◌, true, false, cond, List, Option, Some}
+use Rattle.std.proofs.Common.{None, option_map, refl, sym, ap, ◌∙◌, arith}
 use Rattle.std.proofs.lemmas.Bool.Decides.{nat_tests}
 use Rattle.std.proofs.lemmas.Grind.{common_steps}
 use Rattle.std.specs.Option.{option_map_or}
@@ -10,27 +11,38 @@ use Rattle.vault_core.specs.Keys.{Bytes}
 use Rattle.vault_core.specs.Vault.{Vault, Merchant, merchant_at, made}
 use Rattle.vault_core.specs.Window.{row_at, row_of}
 use Rattle.vault_core.specs.declared.row.MerchantRow.{MerchantRow}
-use Rattle.vault_sql.specs.Shown.{IsTotalOf, ShowsCounts}
+use Rattle.sql_maps.specs.Rows.{one_of}
+use Rattle.vault_schema.specs.Version1.Rows.{lives_columns}
+use Rattle.vault_sql.specs.Shown.{IsTotalOf, ShowsCounts, ShowsLives}
 use Rattle.vault_sql.specs.Stands.{count_at, lives_in, unless_zero}
-use Rattle.vault_sql.specs.declared.merchants.Lives.{Lives}
+use Rattle.vault_schema.specs.declared.v1.Lives.{Lives}
 
 -- a count that is shown is the count, and one that isn't is 0
-shown_or_zero : (n : ℕ) → ((total : ℕ) → unless_zero n ≡ Some total → total ≡ n) × (((total : ℕ) → unless_zero n ≡ Some total → ⊥) → 0 ≡ n)
+shown_or_zero : (n : ℕ) → ((total : ℕ) → unless_zero n ≡ Some total → total ≡ n)
+    × (((total : ℕ) → unless_zero n ≡ Some total → ⊥) → 0 ≡ n)
 shown_or_zero n =
-    elim (n == 0) as (λ b. (n == 0) ≡ b → ((total : ℕ) → cond b None (Some n) ≡ Some total → total ≡ n) × (((total : ℕ) → cond b None (Some n) ≡ Some total → ⊥) → 0 ≡ n)) [
-      | true ↦ λ e. (λ total is. let clash = is in cc, λ none. let zero : n ≡ 0 = grind (arith, nat_tests, common_steps) in sym zero)
+    elim (n == 0)
+    as (λ b. (n == 0) ≡ b → ((total : ℕ) → cond b None (Some n) ≡ Some total → total ≡ n)
+    × (((total : ℕ) → cond b None (Some n) ≡ Some total → ⊥) → 0 ≡ n)) [
+      | true ↦ λ e. (
+        λ total is. let clash = is in cc,
+        λ none. let zero : n ≡ 0 =
+            grind (arith, nat_tests, common_steps) in sym zero,
+      )
       | false ↦ λ e. (λ total is. sym (some_same is), λ none. absurd (none n refl))
     ] refl
 
 -- the total of a kind among the rows of a merchant's counts is its count of that kind
-pub total_is : (V : Vault) (m : Bytes) (rows : List Row) (kind total : ℕ) → ShowsCounts rows V m → IsTotalOf kind rows total → total ≡ count_at V m kind
+pub total_is : (V : Vault) (m : Bytes) (rows : List Row) (kind total : ℕ) → ShowsCounts rows V m
+    → IsTotalOf kind rows total → total ≡ count_at V m kind
 total_is V m rows kind total shows (inl it) =
     let row = shows.sound it.0 it.1 in
     let of_kind : Int (pos row.0) ≡ Int (pos kind) = sym (ap (λ r. column r 0) row.2) ∙ it.2 in
     let has_total : Int (pos row.1) ≡ Int (pos total) = sym (ap (λ r. column r 1) row.2) ∙ it.3 in
     let same_kind : row.0 ≡ kind = cc in
     let same_total : row.1 ≡ total = cc in
-    (shown_or_zero (count_at V m kind)).0 total (sym (ap (λ k. unless_zero (count_at V m k)) same_kind) ∙ row.3 ∙ ap (λ n. Some n) same_total)
+    (shown_or_zero (count_at V m kind)).0 total
+    (sym (ap (λ k. unless_zero (count_at V m k)) same_kind) ∙ row.3 ∙ ap (λ n. Some n) same_total)
 total_is V m rows kind total shows (inr none) =
     none.0 ∙ (shown_or_zero (count_at V m kind)).1 (λ n is. none.1 _ (shows.complete kind n is) refl)
 
@@ -44,14 +56,43 @@ row_with x made given denied = record {
   denied = denied;
 }
 
-pub row_is : (V : Vault) (m : Bytes) (x : Lives) → Some x ≡ option_map lives_in (merchant_at V m) → (one two three : ℕ)
-    → one ≡ count_at V m 1 → two ≡ count_at V m 2 → three ≡ count_at V m 3 → Some (row_with x one two three) ≡ row_at V m
+pub row_is : (V : Vault) (m : Bytes) (x : Lives) → Some x ≡ option_map lives_in (merchant_at V m)
+    → (one two three : ℕ)
+    → one ≡ count_at V m 1 → two ≡ count_at V m 2 → three ≡ count_at V m 3
+    → Some (row_with x one two three) ≡ row_at V m
 row_is V m x is one two three e f g = go (merchant_at V m) refl
   where
     go : (o : Option Merchant) → merchant_at V m ≡ o → Some (row_with x one two three) ≡ row_at V m
     go None none = let clash = is ∙ ap (option_map lives_in) none in cc
     go (Some merchant) known =
         let same : x ≡ lives_in merchant = some_same (is ∙ ap (option_map lives_in) known) in
-        let given : two ≡ merchant.given = f ∙ ap (λ (o : Option Merchant). option_map_or (λ (y : Merchant). y.given) o 0) known in
-        let denied : three ≡ merchant.denied = g ∙ ap (λ (o : Option Merchant). option_map_or (λ (y : Merchant). y.denied) o 0) known in
+        let given : two ≡ merchant.given = f
+        ∙ ap (λ (o : Option Merchant). option_map_or (λ (y : Merchant). y.given) o 0) known in
+        let denied : three ≡ merchant.denied = g
+        ∙ ap (λ (o : Option Merchant). option_map_or (λ (y : Merchant). y.denied) o 0) known in
         (λ i. Some (row_with (same i) (e i) (given i) (denied i))) ∙ sym (ap (option_map (row_of V m)) known)
+
+-- the lives that the one row of a query shows are those that are there
+pub lives_shown : (o : Option Lives) (rows : List Row) (row : Row) (x : Lives) → rows ≡ one_of lives_columns o
+    → Some row ≡ slice_get rows 0 → ShowsLives row x → Some x ≡ o
+lives_shown None rows row x is first shows = let clash = first ∙ ap (λ l. slice_get l 0) is in cc
+lives_shown (Some y) rows row x is first shows =
+    let same : row ≡ lives_columns y = some_same (first ∙ ap (λ l. slice_get l 0) is) in
+    let single : Int (pos x.single_life) ≡ Int (pos y.single_life) = sym shows.single_life
+    ∙ ap (λ r. column r 0) same in
+    let multi : Int (pos x.multi_life) ≡ Int (pos y.multi_life) = sym shows.multi_life
+    ∙ ap (λ r. column r 1) same in
+    let moment : Int (pos x.moment) ≡ Int (pos y.moment) = sym shows.moment ∙ ap (λ r. column r 2) same in
+    let one : x.single_life ≡ y.single_life = cc in
+    let two : x.multi_life ≡ y.multi_life = cc in
+    let three : x.moment ≡ y.moment = cc in
+    λ i. Some (record { single_life = one i; multi_life = two i; moment = three i })
+
+-- where no lives are there, there is no row
+pub no_row : (V : Vault) (m : Bytes) (found : Option Lives) → found ≡ option_map lives_in (merchant_at V m)
+    → found ≡ None → None ≡ row_at V m
+no_row V m found is none = go (merchant_at V m) (sym none ∙ is)
+  where
+    go : (o : Option Merchant) → None ≡ option_map lives_in o → None ≡ option_map (row_of V m) o
+    go None same = refl
+    go (Some merchant) same = cc

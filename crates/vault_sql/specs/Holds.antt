@@ -1,12 +1,12 @@
 -- Connections that hold a vault.
 use Rattle.std.specs.Prelude.{◌≡◌, ◌⊎◌, false, None, IsTrue}
-use Rattle.sqlite.specs.Effect.{Database, IsDatabase}
+use Rattle.sqlite.specs.Effect.{IsDatabase}
 use Rattle.sqlite.specs.State.{State}
 use Rattle.sqlite.specs.Tree.{Trees}
 use Rattle.sqlite_catalog.specs.Listing.{IsSound}
 use Rattle.vault_core.specs.Vault.{Vault}
 use Rattle.vault_sql.specs.Schema.{vault_schema}
-use Rattle.vault_sql.specs.Stands.{Lookups, StandsFor, Stands}
+use Rattle.vault_sql.specs.Stands.{Stands}
 
 -- the connection is outside a transaction, and what it sees stands for the vault
 pub record Holds (s : State) (V : Vault) : Type 0 where
@@ -17,28 +17,6 @@ pub record Holds (s : State) (V : Vault) : Type 0 where
   pub sound : IsDatabase s.now
   pub settled : s.now ≡ s.committed
   pub stands : Stands s.now.trees V
-
--- each vault that was held is held still
-abbrev pub StillHolds : State → State → Type 0
-StillHolds old new = (V : Vault) → Holds old V → Holds new V
-
--- inside a transaction over this last commit, where what is seen stands for these lookups
-pub record Within (s : State) (base : Database) (h : Lookups) : Type 0 where
-  pub is_open : IsTrue s.is_open
-  pub inside : IsTrue s.in_transaction
-  pub unlimited : s.step_limit ≡ None
-  pub schema : s.now.schema ≡ vault_schema
-  pub sound : IsDatabase s.now
-  pub committed : s.committed ≡ base
-  pub stands : StandsFor s.now.trees h
-
--- one step of a transaction, and what it makes of the lookups
-abbrev pub Takes : State → State → (Lookups → Type 0) → (Lookups → Lookups) → Type 0
-Takes old new Can after = (base : Database) (h : Lookups) → Within old base h → Can h → Within new base (after h)
-
--- a crash has no new outcome
-abbrev pub LeavesNoMore : State → State → Type 0
-LeavesNoMore old new = (db : Trees) → new.may_leave db → old.may_leave db
 
 -- a sound database in the schema of a vault, whose rows are those of this one
 pub record AreOurs (db : Trees) (V : Vault) : Type 0 where

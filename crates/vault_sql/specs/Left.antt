@@ -5,7 +5,8 @@ use Rattle.sqlite.specs.State.{State}
 use Rattle.sqlite.specs.Tree.{Trees}
 use Rattle.vault_core.specs.Vault.{Vault}
 use Rattle.sqlite_catalog.specs.Listing.{IsSound}
-use Rattle.vault_sql.specs.Holds.{AreOurs, Holds, LeavesEither, LeavesNoMore}
+use Rattle.sql_maps.specs.States.{LeavesNoMore}
+use Rattle.vault_sql.specs.Holds.{AreOurs, Holds, LeavesEither}
 use Rattle.vault_sql.specs.Schema.{vault_schema}
 use Rattle.vault_sql.specs.Stands.{Stands}
 
@@ -14,15 +15,18 @@ pub last_commit : (s : State) (V : Vault) (db : Trees) → Holds s V → db ≡ 
 last_commit s V db held is =
     let same : s.now.trees ≡ db = ap (λ (d : Database). d.trees) held.settled ∙ sym is in
     record {
-      sound = subst (λ (t : Trees). IsSound vault_schema t) same (subst (λ schema. IsSound schema s.now.trees) held.schema held.sound);
+      sound = subst (λ (t : Trees). IsSound vault_schema t) same
+          (subst (λ schema. IsSound schema s.now.trees) held.schema held.sound);
       stands = subst (λ (t : Trees). Stands t V) same held.stands;
     }
 
 -- where only the last commit may be left, each state that is left stands for the vault that is held
-pub left_alone : (s : State) (V : Vault) → Holds s V → ((db : Trees) → s.may_leave db → db ≡ s.committed.trees) → LeavesEither s V V
+pub left_alone : (s : State) (V : Vault) → Holds s V
+    → ((db : Trees) → s.may_leave db → db ≡ s.committed.trees) → LeavesEither s V V
 left_alone s V held alone = λ db left. inl (last_commit s V db held (alone db left))
 
 -- what leaves no more than that leaves nothing else either
-pub left_after : (old new : State) (V : Vault) → Holds old V → ((db : Trees) → old.may_leave db → db ≡ old.committed.trees)
+pub left_after : (old new : State) (V : Vault) → Holds old V
+    → ((db : Trees) → old.may_leave db → db ≡ old.committed.trees)
     → LeavesNoMore old new → LeavesEither new V V
 left_after old new V held alone no_more = λ db left. left_alone old V held alone db (no_more db left)

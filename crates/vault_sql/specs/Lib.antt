@@ -1,7 +1,7 @@
+pub mod Calls
 pub mod Holds
 pub mod Left
 pub mod Making
-pub mod Rows
 pub mod Schema
 pub mod Shown
 pub mod Stands

@@ -1,5 +1,5 @@
 -- Rows that are shown.
-use Rattle.std.specs.Prelude.{◌≡◌, ◌⊎◌, ℕ, pos, List, [], ◌∷◌, Option, Some, None}
+use Rattle.std.specs.Prelude.{◌≡◌, ◌⊎◌, ℕ, pos, List, [], ◌∷◌, Some}
 use Rattle.sqlite.specs.Order.{Row, column}
 use Rattle.sqlite.specs.declared.types.Value.TheVariants.{Int, Text}
 use Rattle.sqlite_rules.specs.Lists.{Has}
@@ -7,18 +7,9 @@ use Rattle.vault_core.specs.Keys.{Bytes}
 use Rattle.vault_core.specs.Vault.{Vault}
 use Rattle.vault_core.specs.declared.row.Entry.{Entry}
 use Rattle.vault_core.specs.declared.row.Record.{Record}
-use Rattle.vault_sql.specs.declared.merchants.Lives.{Lives}
-use Rattle.vault_sql.specs.Rows.{text_or_null, number_or_null, use_number}
+use Rattle.vault_schema.specs.declared.v1.Lives.{Lives}
+use Rattle.vault_schema.specs.Version1.Rows.{text_or_null, number_or_null, use_number}
 use Rattle.vault_sql.specs.Stands.{count_at, unless_zero}
-
--- the one row of what is there, or none
-abbrev pub one_of : {X : Type 0} → (X → Row) → Option X → List Row
-one_of show None = []
-one_of show (Some x) = show x ∷ []
-
--- a row of one number
-abbrev pub number_column : ℕ → Row
-number_column n = Int (pos n) ∷ []
 
 -- a row of one text
 abbrev pub text_column : Bytes → Row
@@ -50,8 +41,10 @@ count_columns kind total = Int (pos kind) ∷ Int (pos total) ∷ []
 
 -- rows are the counts of a merchant that are not 0, each with its kind
 pub record ShowsCounts (rows : List Row) (V : Vault) (m : Bytes) : Type 0 where
-  pub sound : (r : Row) → Has rows r → (kind : ℕ) × (total : ℕ) × (r ≡ count_columns kind total) × (unless_zero (count_at V m kind) ≡ Some total)
-  pub complete : (kind total : ℕ) → unless_zero (count_at V m kind) ≡ Some total → Has rows (count_columns kind total)
+  pub sound : (r : Row) → Has rows r → (kind : ℕ) × (total : ℕ) × (r ≡ count_columns kind total)
+      × (unless_zero (count_at V m kind) ≡ Some total)
+  pub complete : (kind total : ℕ) → unless_zero (count_at V m kind) ≡ Some total
+      → Has rows (count_columns kind total)
 
 -- a row of this kind has the total, or the total is 0 and no row is of this kind
 abbrev pub IsTotalOf : ℕ → List Row → ℕ → Type 0

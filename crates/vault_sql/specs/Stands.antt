@@ -1,25 +1,13 @@
 -- The rows that stand for a vault.
-use Rattle.std.specs.Prelude.{◌≡◌, ℕ, pos, ◌==◌, [], ◌∷◌, Option, Some, None, cond, option_map, if◌then◌else◌}
+use Rattle.std.specs.Prelude.{ℕ, ◌==◌, Option, Some, None, cond, option_map, if◌then◌else◌}
 use Rattle.std.specs.Option.{option_map_or}
 use Rattle.std.specs.FinMap as map
 use Rattle.std.specs.FinSet as set
-use Rattle.sqlite.specs.declared.types.Value.TheVariants.{Null, Int}
 use Rattle.sqlite.specs.Tree.{Trees}
 use Rattle.vault_core.specs.Keys.{Bytes}
 use Rattle.vault_core.specs.Vault.{Vault, Merchant, merchant_at, made}
-use Rattle.vault_core.specs.declared.right.Right.{Right}
-use Rattle.vault_core.specs.declared.row.Entry.{Entry}
-use Rattle.vault_core.specs.declared.row.Record.{Record}
-use Rattle.vault_sql.specs.Rows.{AreRowsOf, merchant_row, count_row, entry_row, record_row, right_row}
-use Rattle.vault_sql.specs.declared.merchants.Lives.{Lives}
-
--- what the tables have at each key
-pub record Lookups : Type 0 where
-  pub merchants : Bytes → Option Lives
-  pub counts : Bytes × ℕ → Option ℕ
-  pub entries : Bytes × Bytes → Option Entry
-  pub records : Bytes × ℕ → Option Record
-  pub rights : Bytes × (Bytes × Right) → Option (Unit {0})
+use Rattle.vault_schema.specs.Version1.Claims.{Lookups, StandsFor}
+use Rattle.vault_schema.specs.declared.v1.Lives.{Lives}
 
 -- the lives and the moment of a merchant, without its counts
 abbrev pub lives_in : Merchant → Lives
@@ -47,15 +35,6 @@ lookups_of V = record {
   records = map.get V.records;
   rights = λ key. cond (set.contains V.rights key) (Some tt) None;
 }
-
--- the rows of each table are the pairs that are looked up; the version is 1
-pub record StandsFor (db : Trees) (h : Lookups) : Type 0 where
-  pub version : db 0 ≡ (Int (pos 1) ∷ Null ∷ Int (pos 1) ∷ []) ∷ []
-  pub merchants : AreRowsOf merchant_row (db 1) h.merchants
-  pub counts : AreRowsOf count_row (db 3) h.counts
-  pub entries : AreRowsOf entry_row (db 5) h.entries
-  pub records : AreRowsOf record_row (db 8) h.records
-  pub rights : AreRowsOf right_row (db 10) h.rights
 
 -- the rows of the tables are those of the vault
 abbrev pub Stands : Trees → Vault → Type 0

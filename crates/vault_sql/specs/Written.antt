@@ -1,7 +1,5 @@
 -- What changes make of the lookups.
-use Rattle.std.specs.Prelude.{◌<◌, ◌^◌, ◌+◌, ℕ, Bool, Option, Some, None, cond, unwrap_or, if◌then◌else◌}
-use Rattle.std.specs.Ordering.{eq_by_cmp}
-use Rattle.std.specs.declared.cmp.Ordering.{Ordering}
+use Rattle.std.specs.Prelude.{◌<◌, ◌^◌, ◌+◌, ℕ, Bool, Option, Some, None, unwrap_or, if◌then◌else◌}
 use Rattle.vault_core.specs.Keys.{Bytes, bytes_cmp, entry_cmp, record_cmp, right_cmp}
 use Rattle.vault_core.specs.declared.changes.Changes.{Changes}
 use Rattle.vault_core.specs.declared.changes.Count.{Count}
@@ -10,12 +8,9 @@ use Rattle.vault_core.specs.declared.changes.Lives as core
 use Rattle.vault_core.specs.declared.right.Right.{Right}
 use Rattle.vault_core.specs.declared.row.Entry.{Entry}
 use Rattle.vault_core.specs.declared.row.Record.{Record}
-use Rattle.vault_sql.specs.declared.merchants.Lives.{Lives}
-use Rattle.vault_sql.specs.Stands.{Lookups}
-
--- a value at a key, and the others as they were
-abbrev pub put : {K X : Type 0} → (K → K → Ordering) → (K → Option X) → K → Option X → K → Option X
-put cmp held key value q = cond (eq_by_cmp cmp q key) value (held q)
+use Rattle.vault_schema.specs.declared.v1.Lives.{Lives}
+use Rattle.sql_maps.specs.Rows.{put}
+use Rattle.vault_schema.specs.Version1.Claims.{Lookups}
 
 -- the row of lives that change
 abbrev pub lives_of : core.Lives → Lives
@@ -43,7 +38,8 @@ raise held (Some x) None = held
 raise held (Some x) (Some count) = raise_at held (x.merchant, kind_of count)
 
 -- the entries with the one that changes
-abbrev pub put_entry : (Bytes × Bytes → Option Entry) → Option (Bytes × Bytes × Entry) → Bytes × Bytes → Option Entry
+abbrev pub put_entry : (Bytes × Bytes → Option Entry) → Option (Bytes × Bytes × Entry) → Bytes × Bytes
+    → Option Entry
 put_entry held None = held
 put_entry held (Some x) = put entry_cmp held (x.0, x.1) (Some x.2)
 
@@ -53,7 +49,8 @@ put_record held None = held
 put_record held (Some x) = put record_cmp held (x.0, x.1) (Some x.2)
 
 -- the rights with the one that is given, or without the one that is taken
-abbrev pub put_right : (Bytes × (Bytes × Right) → Option (Unit {0})) → Option (Bytes × Bytes × Right × Bool) → Bytes × (Bytes × Right) → Option (Unit {0})
+abbrev pub put_right : (Bytes × (Bytes × Right) → Option (Unit {0})) → Option (Bytes × Bytes × Right × Bool)
+    → Bytes × (Bytes × Right) → Option (Unit {0})
 put_right held None = held
 put_right held (Some x) = put right_cmp held (x.0, (x.1, x.2)) (if x.3 then Some tt else None)
 

@@ -1,38 +1,28 @@
 //! The rows of merchants and their counts.
 ghost use Rattle.std.specs.FinMap as map;
-ghost use Rattle.std.specs.Prelude.{◌≡◌, ◌≤◌, ◌<◌, ◌^◌, false, [], ◌∷◌, Some, IfOk, OnOk, option_map};
+ghost use Rattle.std.specs.Prelude.{◌≡◌, ◌<◌, ◌^◌, [], ◌∷◌, Some, IfOk, option_map};
 ghost use Rattle.sqlite.specs.Held.{state};
-ghost use Rattle.sqlite.specs.State.{HasCleanDisk};
-ghost use Rattle.sqlite.specs.View.{doubt};
 ghost use Rattle.vault_core.specs.Sound.{Sound};
-ghost use Rattle.vault_core.specs.Vault.{Vault, merchant_at};
+ghost use Rattle.vault_core.specs.Vault.{merchant_at};
 ghost use Rattle.vault_core.specs.Window.{row_at};
 ghost use Rattle.vault_core.specs.Keys.{bytes_cmp};
-ghost use Rattle.vault_sql.specs.Holds.{Holds, LeavesNoMore, StillHolds, Takes};
-ghost use Rattle.vault_sql.specs.Rows.{lives_columns};
-ghost use Rattle.vault_sql.specs.Shown.{one_of, number_column, IsTotalOf, ShowsCounts, ShowsLives};
+ghost use Rattle.vault_sql.specs.Calls.{Makes, Tells};
+ghost use Rattle.vault_schema.specs.Version1.Rows.{lives_columns, number_column};
+ghost use Rattle.vault_sql.specs.Shown.{IsTotalOf, ShowsCounts, ShowsLives};
 ghost use Rattle.vault_sql.specs.Stands.{lives_in};
-ghost use Rattle.vault_sql.specs.Written.{HasRoomAt, put, raise_at};
+ghost use Rattle.sql_maps.specs.Rows.{one_of, put};
+ghost use Rattle.vault_sql.specs.Written.{HasRoomAt, raise_at};
 
 use crate::columns::moment_in;
 use crate::fault::StoreFault;
 use crate::text::merchant_text;
+use sql_maps::run::{rows_of, step};
 use sqlite::{Alter, Connection, Error, Row, Transaction, params};
-use vault_core::moment::Moment;
 use vault_core::name::MerchantId;
 use vault_core::row::MerchantRow;
-
-const LIVES: &str = "SELECT single_life, multi_life, moment FROM merchants WHERE name = ?1";
-
-const COUNTS: &str = "SELECT kind, total FROM counts WHERE merchant = ?1";
-
-const HOW_MANY: &str = "SELECT count(*) FROM merchants";
-
-const PUT_MERCHANT: &str =
-    "INSERT INTO merchants VALUES (?1, ?2, ?3, ?4) ON CONFLICT (name) DO UPDATE SET single_life = ?2, multi_life = ?3, moment = ?4";
-
-const RAISE: &str =
-    "INSERT INTO counts VALUES (?1, ?2, 1) ON CONFLICT (merchant, kind) DO UPDATE SET total = total + 1";
+use vault_schema::v1::{
+    COUNT_MERCHANTS, FIND_COUNTS, FIND_LIVES, Lives, PUT_MERCHANT, RAISE_COUNT,
+};
 
 /// The kind of the count of tokens made.
 pub(crate) const MADE: u8 = 1;
@@ -43,23 +33,11 @@ pub(crate) const GIVEN: u8 = 2;
 /// The kind of the count of numbers denied.
 pub(crate) const DENIED: u8 = 3;
 
-/// A merchant as its own table has it, without its counts.
-#[derive(Clone, Copy, Debug)]
-pub struct Lives {
-    pub single_life: u64,
-    pub multi_life: u64,
-    pub moment: Moment,
-}
-
 /// The row of a merchant's lives.
 fn lives_rows<S: Alter>(conn: &mut Connection<S>, m: &str) -> Result<Vec<Row>, Error>
-    ensures told { HasCleanDisk (state S.Store conn.new) → IfOk result (λ rows. (V : Vault) → Holds (state S.Store conn.old) V → rows.items ≡ one_of lives_columns (option_map lives_in (merchant_at V m.now))) }
-    ensures kept { HasCleanDisk (state S.Store conn.new) → OnOk result (StillHolds (state S.Store conn.old) (state S.Store conn.new)) }
-    ensures idle { conn.old.in_transaction ≡ false → conn.new.in_transaction ≡ false }
-    ensures clean { doubt (state S.Store conn.old).is_clean ≤ doubt (state S.Store conn.new).is_clean }
-    ensures left { HasCleanDisk (state S.Store conn.new) → (V : Vault) → Holds (state S.Store conn.old) V → LeavesNoMore (state S.Store conn.old) (state S.Store conn.new) }
+    ensures { Tells result (state S.Store conn.old) (state S.Store conn.new) (λ V rows. rows.items ≡ one_of lives_columns (option_map lives_in (merchant_at V m.now))) }
 {
-    conn.query_all(LIVES, params![m])
+    rows_of(conn, FIND_LIVES, params![m])
 }
 
 /// The lives that a row shows.
@@ -78,11 +56,7 @@ fn lives_of(row: &Row) -> Result<Lives, StoreFault>
 
 /// The lives of a merchant.
 fn lives_at<S: Alter>(conn: &mut Connection<S>, m: &MerchantId) -> Result<Option<Lives>, StoreFault>
-    ensures told { HasCleanDisk (state S.Store conn.new) → IfOk result (λ found. (V : Vault) → Holds (state S.Store conn.old) V → found ≡ option_map lives_in (merchant_at V m.now)) }
-    ensures kept { HasCleanDisk (state S.Store conn.new) → OnOk result (StillHolds (state S.Store conn.old) (state S.Store conn.new)) }
-    ensures idle { conn.old.in_transaction ≡ false → conn.new.in_transaction ≡ false }
-    ensures clean { doubt (state S.Store conn.old).is_clean ≤ doubt (state S.Store conn.new).is_clean }
-    ensures left { HasCleanDisk (state S.Store conn.new) → (V : Vault) → Holds (state S.Store conn.old) V → LeavesNoMore (state S.Store conn.old) (state S.Store conn.new) }
+    ensures { Tells result (state S.Store conn.old) (state S.Store conn.new) (λ V found. found ≡ option_map lives_in (merchant_at V m.now)) }
 {
     let rows = lives_rows(conn, merchant_text(m))?;
     match rows.first() {
@@ -93,13 +67,9 @@ fn lives_at<S: Alter>(conn: &mut Connection<S>, m: &MerchantId) -> Result<Option
 
 /// The rows of a merchant's counts.
 fn count_rows<S: Alter>(conn: &mut Connection<S>, m: &str) -> Result<Vec<Row>, Error>
-    ensures told { HasCleanDisk (state S.Store conn.new) → IfOk result (λ rows. (V : Vault) → Holds (state S.Store conn.old) V → ShowsCounts rows.items V m.now) }
-    ensures kept { HasCleanDisk (state S.Store conn.new) → OnOk result (StillHolds (state S.Store conn.old) (state S.Store conn.new)) }
-    ensures idle { conn.old.in_transaction ≡ false → conn.new.in_transaction ≡ false }
-    ensures clean { doubt (state S.Store conn.old).is_clean ≤ doubt (state S.Store conn.new).is_clean }
-    ensures left { HasCleanDisk (state S.Store conn.new) → (V : Vault) → Holds (state S.Store conn.old) V → LeavesNoMore (state S.Store conn.old) (state S.Store conn.new) }
+    ensures { Tells result (state S.Store conn.old) (state S.Store conn.new) (λ V rows. ShowsCounts rows.items V m.now) }
 {
-    conn.query_all(COUNTS, params![m])
+    rows_of(conn, FIND_COUNTS, params![m])
 }
 
 /// The total that rows of counts show of this kind.
@@ -120,11 +90,7 @@ pub(crate) fn merchant<S: Alter>(
     conn: &mut Connection<S>,
     m: &MerchantId,
 ) -> Result<Option<MerchantRow>, StoreFault>
-    ensures told { HasCleanDisk (state S.Store conn.new) → IfOk result (λ found. (V : Vault) → Holds (state S.Store conn.old) V → found ≡ row_at V m.now) }
-    ensures kept { HasCleanDisk (state S.Store conn.new) → OnOk result (StillHolds (state S.Store conn.old) (state S.Store conn.new)) }
-    ensures idle { conn.old.in_transaction ≡ false → conn.new.in_transaction ≡ false }
-    ensures clean { doubt (state S.Store conn.old).is_clean ≤ doubt (state S.Store conn.new).is_clean }
-    ensures left { HasCleanDisk (state S.Store conn.new) → (V : Vault) → Holds (state S.Store conn.old) V → LeavesNoMore (state S.Store conn.old) (state S.Store conn.new) }
+    ensures { Tells result (state S.Store conn.old) (state S.Store conn.new) (λ V found. found ≡ row_at V m.now) }
 {
     let Some(lives) = lives_at(conn, m)? else {
         return Ok(None);
@@ -145,22 +111,14 @@ pub(crate) fn merchant<S: Alter>(
 
 /// The row of the number of merchants.
 fn how_many_rows<S: Alter>(conn: &mut Connection<S>) -> Result<Vec<Row>, Error>
-    ensures told { HasCleanDisk (state S.Store conn.new) → IfOk result (λ rows. (V : Vault) → Holds (state S.Store conn.old) V → Sound V → rows.items ≡ number_column (map.len V.merchants) ∷ []) }
-    ensures kept { HasCleanDisk (state S.Store conn.new) → OnOk result (StillHolds (state S.Store conn.old) (state S.Store conn.new)) }
-    ensures idle { conn.old.in_transaction ≡ false → conn.new.in_transaction ≡ false }
-    ensures clean { doubt (state S.Store conn.old).is_clean ≤ doubt (state S.Store conn.new).is_clean }
-    ensures left { HasCleanDisk (state S.Store conn.new) → (V : Vault) → Holds (state S.Store conn.old) V → LeavesNoMore (state S.Store conn.old) (state S.Store conn.new) }
+    ensures { Tells result (state S.Store conn.old) (state S.Store conn.new) (λ V rows. Sound V → rows.items ≡ number_column (map.len V.merchants) ∷ []) }
 {
-    conn.query_all(HOW_MANY, &[])
+    rows_of(conn, COUNT_MERCHANTS, &[])
 }
 
 /// How many merchants there are.
 pub(crate) fn how_many<S: Alter>(conn: &mut Connection<S>) -> Result<u64, StoreFault>
-    ensures told { HasCleanDisk (state S.Store conn.new) → IfOk result (λ found. (V : Vault) → Holds (state S.Store conn.old) V → Sound V → found ≡ map.len V.merchants) }
-    ensures kept { HasCleanDisk (state S.Store conn.new) → OnOk result (StillHolds (state S.Store conn.old) (state S.Store conn.new)) }
-    ensures idle { conn.old.in_transaction ≡ false → conn.new.in_transaction ≡ false }
-    ensures clean { doubt (state S.Store conn.old).is_clean ≤ doubt (state S.Store conn.new).is_clean }
-    ensures left { HasCleanDisk (state S.Store conn.new) → (V : Vault) → Holds (state S.Store conn.old) V → LeavesNoMore (state S.Store conn.old) (state S.Store conn.new) }
+    ensures { Tells result (state S.Store conn.old) (state S.Store conn.new) (λ V found. Sound V → found ≡ map.len V.merchants) }
 {
     let rows = how_many_rows(conn)?;
     match rows.first() {
@@ -178,25 +136,20 @@ pub(crate) fn put_merchant<S: Alter>(
     requires single { x.now.single_life < 2 ^ 63 }
     requires multi { x.now.multi_life < 2 ^ 63 }
     ensures same_reference { tx.new.conn.ghost_name ≡ tx.old.conn.ghost_name }
-    ensures clean { doubt (state S.Store tx.old.conn.now).is_clean ≤ doubt (state S.Store tx.new.conn.now).is_clean }
-    ensures left { HasCleanDisk (state S.Store tx.new.conn.now) → LeavesNoMore (state S.Store tx.old.conn.now) (state S.Store tx.new.conn.now) }
-    ensures done { HasCleanDisk (state S.Store tx.new.conn.now) → OnOk result (Takes (state S.Store tx.old.conn.now) (state S.Store tx.new.conn.now) (λ _. Unit {0}) (λ h. record h { merchants = put bytes_cmp h.merchants m.now (Some x.now) })) }
+    ensures done { Makes result (state S.Store tx.old.conn.now) (state S.Store tx.new.conn.now) (λ _. Unit {0}) (λ h. record h { merchants = put bytes_cmp h.merchants m.now (Some x.now) }) }
 {
     let moment = x.moment.seconds();
-    tx.execute(
+    step(
+        tx,
         PUT_MERCHANT,
         params![m, x.single_life as i64, x.multi_life as i64, moment as i64],
-    )?;
-    Ok(())
+    )
 }
 
 /// Raises a count of a merchant by one.
 pub(crate) fn raise<S: Alter>(tx: &mut Transaction<'_, S>, m: &str, kind: u8) -> Result<(), Error>
     ensures same_reference { tx.new.conn.ghost_name ≡ tx.old.conn.ghost_name }
-    ensures clean { doubt (state S.Store tx.old.conn.now).is_clean ≤ doubt (state S.Store tx.new.conn.now).is_clean }
-    ensures left { HasCleanDisk (state S.Store tx.new.conn.now) → LeavesNoMore (state S.Store tx.old.conn.now) (state S.Store tx.new.conn.now) }
-    ensures done { HasCleanDisk (state S.Store tx.new.conn.now) → OnOk result (Takes (state S.Store tx.old.conn.now) (state S.Store tx.new.conn.now) (λ h. HasRoomAt h.counts (m.now, kind)) (λ h. record h { counts = raise_at h.counts (m.now, kind) })) }
+    ensures done { Makes result (state S.Store tx.old.conn.now) (state S.Store tx.new.conn.now) (λ h. HasRoomAt h.counts (m.now, kind)) (λ h. record h { counts = raise_at h.counts (m.now, kind) }) }
 {
-    tx.execute(RAISE, params![m, kind as i64])?;
-    Ok(())
+    step(tx, RAISE_COUNT, params![m, kind as i64])
 }

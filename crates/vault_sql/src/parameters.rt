@@ -1,7 +1,7 @@
 //! Values as parameters of a statement.
 ghost use Rattle.std.specs.Prelude.{◌≡◌};
 ghost use Rattle.sqlite_value.specs.Value.{owned};
-ghost use Rattle.vault_sql.specs.Rows.{number_or_null, text_or_null, use_number};
+ghost use Rattle.vault_schema.specs.Version1.Rows.{number_or_null, text_or_null, use_number};
 
 use sqlite::types::ValueRef;
 use vault_core::moment::Moment;

@@ -1,29 +1,23 @@
 //! The rows of records.
-ghost use Rattle.std.specs.Prelude.{◌≡◌, ◌≤◌, ◌<◌, ◌^◌, false, Some, IfOk, OnOk};
+ghost use Rattle.std.specs.Prelude.{◌≡◌, ◌<◌, ◌^◌, Some, IfOk};
 ghost use Rattle.sqlite.specs.Held.{state};
-ghost use Rattle.sqlite.specs.State.{HasCleanDisk};
-ghost use Rattle.sqlite.specs.View.{doubt};
-ghost use Rattle.vault_core.specs.Vault.{Vault, record_at};
+ghost use Rattle.vault_core.specs.Vault.{record_at};
 ghost use Rattle.vault_core.specs.Keys.{record_cmp};
-ghost use Rattle.vault_sql.specs.Holds.{Holds, LeavesNoMore, StillHolds, Takes};
-ghost use Rattle.vault_sql.specs.Rows.{record_columns};
-ghost use Rattle.vault_sql.specs.Shown.{one_of, ShowsRecord};
-ghost use Rattle.vault_sql.specs.Written.{put};
+ghost use Rattle.vault_sql.specs.Calls.{Makes, Tells};
+ghost use Rattle.vault_schema.specs.Version1.Rows.{record_columns};
+ghost use Rattle.vault_sql.specs.Shown.{ShowsRecord};
+ghost use Rattle.sql_maps.specs.Rows.{one_of, put};
 
 use crate::columns::{merchant_in, token_in, usage_in};
 use crate::fault::StoreFault;
 use crate::parameters::usage_number;
 use crate::text::{caller_text, merchant_text};
+use sql_maps::run::{rows_of, step};
 use sqlite::{Alter, Connection, Error, Row, Transaction, params};
 use vault_core::name::Caller;
 use vault_core::request::RequestNo;
 use vault_core::row::Record;
-
-const RECORD: &str =
-    "SELECT merchant, token, usage FROM records WHERE caller = ?1 AND request = ?2";
-
-const PUT_RECORD: &str =
-    "INSERT INTO records VALUES (?1, ?2, ?3, ?4, ?5) ON CONFLICT (caller, request) DO UPDATE SET merchant = ?3, token = ?4, usage = ?5";
+use vault_schema::v1::{FIND_RECORD, PUT_RECORD};
 
 /// The row of a record.
 fn record_rows<S: Alter>(
@@ -32,13 +26,9 @@ fn record_rows<S: Alter>(
     request: u64,
 ) -> Result<Vec<Row>, Error>
     requires { request < 2 ^ 63 }
-    ensures told { HasCleanDisk (state S.Store conn.new) → IfOk result (λ rows. (V : Vault) → Holds (state S.Store conn.old) V → rows.items ≡ one_of record_columns (record_at V caller.now request)) }
-    ensures kept { HasCleanDisk (state S.Store conn.new) → OnOk result (StillHolds (state S.Store conn.old) (state S.Store conn.new)) }
-    ensures idle { conn.old.in_transaction ≡ false → conn.new.in_transaction ≡ false }
-    ensures clean { doubt (state S.Store conn.old).is_clean ≤ doubt (state S.Store conn.new).is_clean }
-    ensures left { HasCleanDisk (state S.Store conn.new) → (V : Vault) → Holds (state S.Store conn.old) V → LeavesNoMore (state S.Store conn.old) (state S.Store conn.new) }
+    ensures { Tells result (state S.Store conn.old) (state S.Store conn.new) (λ V rows. rows.items ≡ one_of record_columns (record_at V caller.now request)) }
 {
-    conn.query_all(RECORD, params![caller, request as i64])
+    rows_of(conn, FIND_RECORD, params![caller, request as i64])
 }
 
 /// The record that a row shows.
@@ -61,11 +51,7 @@ pub(crate) fn recorded<S: Alter>(
     caller: &Caller,
     request: RequestNo,
 ) -> Result<Option<Record>, StoreFault>
-    ensures told { HasCleanDisk (state S.Store conn.new) → IfOk result (λ found. (V : Vault) → Holds (state S.Store conn.old) V → found ≡ record_at V caller.now request) }
-    ensures kept { HasCleanDisk (state S.Store conn.new) → OnOk result (StillHolds (state S.Store conn.old) (state S.Store conn.new)) }
-    ensures idle { conn.old.in_transaction ≡ false → conn.new.in_transaction ≡ false }
-    ensures clean { doubt (state S.Store conn.old).is_clean ≤ doubt (state S.Store conn.new).is_clean }
-    ensures left { HasCleanDisk (state S.Store conn.new) → (V : Vault) → Holds (state S.Store conn.old) V → LeavesNoMore (state S.Store conn.old) (state S.Store conn.new) }
+    ensures { Tells result (state S.Store conn.old) (state S.Store conn.new) (λ V found. found ≡ record_at V caller.now request) }
 {
     let rows = record_rows(conn, caller_text(caller), request.get())?;
     match rows.first() {
@@ -83,16 +69,14 @@ pub(crate) fn put_record<S: Alter>(
 ) -> Result<(), Error>
     requires { request < 2 ^ 63 }
     ensures same_reference { tx.new.conn.ghost_name ≡ tx.old.conn.ghost_name }
-    ensures clean { doubt (state S.Store tx.old.conn.now).is_clean ≤ doubt (state S.Store tx.new.conn.now).is_clean }
-    ensures left { HasCleanDisk (state S.Store tx.new.conn.now) → LeavesNoMore (state S.Store tx.old.conn.now) (state S.Store tx.new.conn.now) }
-    ensures done { HasCleanDisk (state S.Store tx.new.conn.now) → OnOk result (Takes (state S.Store tx.old.conn.now) (state S.Store tx.new.conn.now) (λ _. Unit {0}) (λ h. record h { records = put record_cmp h.records (caller.now, request) (Some answered.now) })) }
+    ensures done { Makes result (state S.Store tx.old.conn.now) (state S.Store tx.new.conn.now) (λ _. Unit {0}) (λ h. record h { records = put record_cmp h.records (caller.now, request) (Some answered.now) }) }
 {
     let m = merchant_text(&answered.merchant);
     let token = answered.token.as_str();
     let usage = usage_number(answered.usage);
-    tx.execute(
+    step(
+        tx,
         PUT_RECORD,
         params![caller, request as i64, m, token, usage as i64],
-    )?;
-    Ok(())
+    )
 }

@@ -1,26 +1,19 @@
 //! The rows of rights.
-ghost use Rattle.std.specs.Prelude.{◌≡◌, ◌≤◌, false, [], ◌∷◌, cond, Some, None, IfOk, OnOk};
+ghost use Rattle.std.specs.Prelude.{◌≡◌, [], ◌∷◌, cond, Some, None};
 ghost use Rattle.sqlite.specs.Held.{state};
-ghost use Rattle.sqlite.specs.State.{HasCleanDisk};
-ghost use Rattle.sqlite.specs.View.{doubt};
 ghost use Rattle.vault_core.specs.Keys.{right_cmp, right_number};
-ghost use Rattle.vault_core.specs.Vault.{Vault, has_right};
-ghost use Rattle.vault_sql.specs.Holds.{Holds, LeavesNoMore, StillHolds, Takes};
-ghost use Rattle.vault_sql.specs.Shown.{number_column};
-ghost use Rattle.vault_sql.specs.Written.{put};
+ghost use Rattle.vault_core.specs.Vault.{has_right};
+ghost use Rattle.vault_sql.specs.Calls.{Makes, Tells};
+ghost use Rattle.vault_schema.specs.Version1.Rows.{number_column};
+ghost use Rattle.sql_maps.specs.Rows.{put};
 
 use crate::fault::StoreFault;
 use crate::text::{caller_text, merchant_text};
+use sql_maps::run::{rows_of, step};
 use sqlite::{Alter, Connection, Error, Row, Transaction, params};
 use vault_core::name::{Caller, MerchantId};
 use vault_core::right::Right;
-
-const RIGHT: &str = "SELECT what FROM rights WHERE caller = ?1 AND merchant = ?2 AND what = ?3";
-
-const GIVE: &str =
-    "INSERT INTO rights VALUES (?1, ?2, ?3) ON CONFLICT (caller, merchant, what) DO NOTHING";
-
-const TAKE: &str = "DELETE FROM rights WHERE caller = ?1 AND merchant = ?2 AND what = ?3";
+use vault_schema::v1::{FIND_RIGHT, GIVE_RIGHT, TAKE_RIGHT};
 
 /// The number of a right.
 fn number_of(right: Right) -> u8
@@ -43,14 +36,10 @@ fn right_rows<S: Alter>(
     m: &str,
     right: Right,
 ) -> Result<Vec<Row>, Error>
-    ensures told { HasCleanDisk (state S.Store conn.new) → IfOk result (λ rows. (V : Vault) → Holds (state S.Store conn.old) V → rows.items ≡ cond (has_right V caller.now m.now right) (number_column (right_number right) ∷ []) []) }
-    ensures kept { HasCleanDisk (state S.Store conn.new) → OnOk result (StillHolds (state S.Store conn.old) (state S.Store conn.new)) }
-    ensures idle { conn.old.in_transaction ≡ false → conn.new.in_transaction ≡ false }
-    ensures clean { doubt (state S.Store conn.old).is_clean ≤ doubt (state S.Store conn.new).is_clean }
-    ensures left { HasCleanDisk (state S.Store conn.new) → (V : Vault) → Holds (state S.Store conn.old) V → LeavesNoMore (state S.Store conn.old) (state S.Store conn.new) }
+    ensures { Tells result (state S.Store conn.old) (state S.Store conn.new) (λ V rows. rows.items ≡ cond (has_right V caller.now m.now right) (number_column (right_number right) ∷ []) []) }
 {
     let what = number_of(right);
-    conn.query_all(RIGHT, params![caller, m, what as i64])
+    rows_of(conn, FIND_RIGHT, params![caller, m, what as i64])
 }
 
 /// Whether a caller has a right at a merchant.
@@ -60,11 +49,7 @@ pub(crate) fn has<S: Alter>(
     m: &MerchantId,
     right: Right,
 ) -> Result<bool, StoreFault>
-    ensures told { HasCleanDisk (state S.Store conn.new) → IfOk result (λ found. (V : Vault) → Holds (state S.Store conn.old) V → found ≡ has_right V caller.now m.now right) }
-    ensures kept { HasCleanDisk (state S.Store conn.new) → OnOk result (StillHolds (state S.Store conn.old) (state S.Store conn.new)) }
-    ensures idle { conn.old.in_transaction ≡ false → conn.new.in_transaction ≡ false }
-    ensures clean { doubt (state S.Store conn.old).is_clean ≤ doubt (state S.Store conn.new).is_clean }
-    ensures left { HasCleanDisk (state S.Store conn.new) → (V : Vault) → Holds (state S.Store conn.old) V → LeavesNoMore (state S.Store conn.old) (state S.Store conn.new) }
+    ensures { Tells result (state S.Store conn.old) (state S.Store conn.new) (λ V found. found ≡ has_right V caller.now m.now right) }
 {
     let rows = right_rows(conn, caller_text(caller), merchant_text(m), right)?;
     Ok(!rows.is_empty())
@@ -78,13 +63,10 @@ pub(crate) fn give<S: Alter>(
     right: Right,
 ) -> Result<(), Error>
     ensures same_reference { tx.new.conn.ghost_name ≡ tx.old.conn.ghost_name }
-    ensures clean { doubt (state S.Store tx.old.conn.now).is_clean ≤ doubt (state S.Store tx.new.conn.now).is_clean }
-    ensures left { HasCleanDisk (state S.Store tx.new.conn.now) → LeavesNoMore (state S.Store tx.old.conn.now) (state S.Store tx.new.conn.now) }
-    ensures done { HasCleanDisk (state S.Store tx.new.conn.now) → OnOk result (Takes (state S.Store tx.old.conn.now) (state S.Store tx.new.conn.now) (λ _. Unit {0}) (λ h. record h { rights = put right_cmp h.rights (caller.now, (m.now, right)) (Some tt) })) }
+    ensures done { Makes result (state S.Store tx.old.conn.now) (state S.Store tx.new.conn.now) (λ _. Unit {0}) (λ h. record h { rights = put right_cmp h.rights (caller.now, (m.now, right)) (Some tt) }) }
 {
     let what = number_of(right);
-    tx.execute(GIVE, params![caller, m, what as i64])?;
-    Ok(())
+    step(tx, GIVE_RIGHT, params![caller, m, what as i64])
 }
 
 /// Takes a right from a caller, whether or not it was there.
@@ -95,11 +77,8 @@ pub(crate) fn take<S: Alter>(
     right: Right,
 ) -> Result<(), Error>
     ensures same_reference { tx.new.conn.ghost_name ≡ tx.old.conn.ghost_name }
-    ensures clean { doubt (state S.Store tx.old.conn.now).is_clean ≤ doubt (state S.Store tx.new.conn.now).is_clean }
-    ensures left { HasCleanDisk (state S.Store tx.new.conn.now) → LeavesNoMore (state S.Store tx.old.conn.now) (state S.Store tx.new.conn.now) }
-    ensures done { HasCleanDisk (state S.Store tx.new.conn.now) → OnOk result (Takes (state S.Store tx.old.conn.now) (state S.Store tx.new.conn.now) (λ _. Unit {0}) (λ h. record h { rights = put right_cmp h.rights (caller.now, (m.now, right)) None })) }
+    ensures done { Makes result (state S.Store tx.old.conn.now) (state S.Store tx.new.conn.now) (λ _. Unit {0}) (λ h. record h { rights = put right_cmp h.rights (caller.now, (m.now, right)) None }) }
 {
     let what = number_of(right);
-    tx.execute(TAKE, params![caller, m, what as i64])?;
-    Ok(())
+    step(tx, TAKE_RIGHT, params![caller, m, what as i64])
 }

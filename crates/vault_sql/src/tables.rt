@@ -1,5 +1,5 @@
 //! Tables in a database.
-ghost use Rattle.std.specs.Prelude.{◌≡◌, false};
+ghost use Rattle.std.specs.Prelude.{◌≡◌, true, false, Err};
 
 use crate::entries::{current, entry};
 use crate::merchants::{how_many, merchant};
@@ -45,6 +45,16 @@ impl<S: Alter> SqlTables<S> {
         let SqlTables { conn, failed: _ } = self;
         conn
     }
+
+    /// A call of the database failed, so all from now on is failed.
+    fn fail<T>(&mut self) -> Result<T, TablesFault>
+        ensures told { result ≡ Err TablesFault.Store }
+        ensures failed { self.new.failed ≡ true }
+        ensures conn { self.new.conn ≡ self.old.conn }
+    {
+        self.failed = true;
+        Err(TablesFault::Store)
+    }
 }
 
 impl<S: Alter> Tables for SqlTables<S> {
@@ -83,10 +93,7 @@ impl<S: Alter> Tables for SqlTables<S> {
         }
         match merchant(&mut self.conn, &m) {
             Ok(found) => Ok(found),
-            Err(_) => {
-                self.failed = true;
-                Err(TablesFault::Store)
-            }
+            Err(_) => self.fail(),
         }
     }
 
@@ -96,10 +103,7 @@ impl<S: Alter> Tables for SqlTables<S> {
         }
         match how_many(&mut self.conn) {
             Ok(found) => Ok(found),
-            Err(_) => {
-                self.failed = true;
-                Err(TablesFault::Store)
-            }
+            Err(_) => self.fail(),
         }
     }
 
@@ -109,10 +113,7 @@ impl<S: Alter> Tables for SqlTables<S> {
         }
         match has(&mut self.conn, &c, &m, r) {
             Ok(found) => Ok(found),
-            Err(_) => {
-                self.failed = true;
-                Err(TablesFault::Store)
-            }
+            Err(_) => self.fail(),
         }
     }
 
@@ -122,10 +123,7 @@ impl<S: Alter> Tables for SqlTables<S> {
         }
         match recorded(&mut self.conn, &c, n) {
             Ok(found) => Ok(found),
-            Err(_) => {
-                self.failed = true;
-                Err(TablesFault::Store)
-            }
+            Err(_) => self.fail(),
         }
     }
 
@@ -135,10 +133,7 @@ impl<S: Alter> Tables for SqlTables<S> {
         }
         match entry(&mut self.conn, &m, &t) {
             Ok(found) => Ok(found),
-            Err(_) => {
-                self.failed = true;
-                Err(TablesFault::Store)
-            }
+            Err(_) => self.fail(),
         }
     }
 
@@ -148,10 +143,7 @@ impl<S: Alter> Tables for SqlTables<S> {
         }
         match current(&mut self.conn, &m, &p, at) {
             Ok(found) => Ok(found),
-            Err(_) => {
-                self.failed = true;
-                Err(TablesFault::Store)
-            }
+            Err(_) => self.fail(),
         }
     }
 
@@ -160,15 +152,11 @@ impl<S: Alter> Tables for SqlTables<S> {
             return Err(TablesFault::Store);
         }
         if !are_storable(ch) {
-            self.failed = true;
-            return Err(TablesFault::Store);
+            return self.fail();
         }
         match write(&mut self.conn, ch) {
             Ok(()) => Ok(()),
-            Err(_) => {
-                self.failed = true;
-                Err(TablesFault::Store)
-            }
+            Err(_) => self.fail(),
         }
     }
 }

@@ -5,7 +5,7 @@ use Rattle.vault_recover.proofs.apart.records.Goals as goal
 use Rattle.vault_recover.specs.Apart.{id_row}
 use Rattle.vault_recover.specs.Raw.{record_values}
 use Rattle.vault_rules.specs.declared.rows.RawRecord.{RawRecord}
-use Rattle.vault_sql.specs.Rows.{IsApart}
+use Rattle.sql_maps.specs.Rows.{IsApart}
 
 pub returns : goal.returns
 returns c =

@@ -1,24 +1,36 @@
-use Rattle.std.proofs.Common.{sym, subst₂, ◌∙◌}
+use Rattle.std.proofs.Common.{[], refl, sym, subst, ◌∙◌}
 use Rattle.std.specs.List.Sorted.{IsPermutation}
 use Rattle.sqlite.specs.Held.{state}
-use Rattle.vault_recover.proofs.Results.{if_ok, on_ok}
-use Rattle.vault_recover.proofs.TableTexts.{reads_entries}
-use Rattle.vault_recover.proofs.WholeRows.{entries_shown}
+use Rattle.sql_maps.proofs.Reading.{reads_long}
+use Rattle.vault_schema.specs.Version1.Tables.{entries}
+use Rattle.vault_schema.proofs.Version1.Texts.{read_entries_is}
+use Rattle.vault_recover.proofs.Results.{if_ok, on_ok, quiet}
+use Rattle.vault_sql.specs.Schema.{vault_schema}
 use Rattle.vault_recover.proofs.read.entries.Goals as goal
 
 pub returns-in_err-rows-clause-quiet : goal.returns-in_err-rows-clause-quiet
-returns-in_err-rows-clause-quiet g c = c.table_rows.ensures.quiet 5 _ _ reads_entries
+returns-in_err-rows-clause-quiet g c = quiet _ (state g.S.Store c.args.conn.now)
+    (state g.S.Store c.rows_of.new.conn) (c.rows_of.ensures.reads vault_schema (read_entries_is [] []).plain)
 
 pub returns-clause-told : goal.returns-clause-told
 returns-clause-told g c clean =
     if_ok c.entries.result (λ raws same ours.
-    subst₂ IsPermutation (entries_shown (state g.S.Store c.args.conn.now).now ours.schema (c.in_ok-rows.ensures.live clean 5 _ _ reads_entries ours.schema) ours.full) (sym (same ∙ c.deref.ensures.value)) (c.in_ok-rows.ensures.told clean 5 _ _ reads_entries ours.schema)) c.entries.ensures
+    subst (IsPermutation _) (sym (same ∙ c.deref.ensures.value))
+    (reads_long vault_schema (state g.S.Store c.args.conn.now) (state g.S.Store c.rows_of.new.conn)
+    ours.schema
+    (c.in_ok-rows.ensures.sound clean vault_schema (read_entries_is [] []).plain ours.schema) _ _ entries 3
+    refl _ (read_entries_is [] []) (c.in_ok-rows.ensures.told clean) refl ours.full)) c.entries.ensures
 
 pub returns-clause-live : goal.returns-clause-live
-returns-clause-live g c clean = on_ok c.entries.result (λ ours. c.in_ok-rows.ensures.live clean 5 _ _ reads_entries ours)
+returns-clause-live g c clean =
+    on_ok c.entries.result
+    (λ ours. c.in_ok-rows.ensures.sound clean vault_schema (read_entries_is [] []).plain ours)
 
 pub returns-clause-kept : goal.returns-clause-kept
-returns-clause-kept g c clean = on_ok c.entries.result (λ ours. c.in_ok-rows.ensures.kept clean 5 _ _ reads_entries ours)
+returns-clause-kept g c clean =
+    on_ok c.entries.result
+    (λ ours. (c.in_ok-rows.ensures.reads vault_schema (read_entries_is [] []).plain).kept clean ours)
 
 pub returns-clause-quiet : goal.returns-clause-quiet
-returns-clause-quiet g c = c.table_rows.ensures.quiet 5 _ _ reads_entries
+returns-clause-quiet g c = quiet _ (state g.S.Store c.args.conn.now) (state g.S.Store c.rows_of.new.conn)
+    (c.rows_of.ensures.reads vault_schema (read_entries_is [] []).plain)

@@ -1,22 +1,33 @@
-use Rattle.std.proofs.Common.{refl, sym, subst₂, ◌∙◌}
+use Rattle.std.proofs.Common.{[], sym, subst, ◌∙◌}
 use Rattle.std.specs.List.Sorted.{IsPermutation}
-use Rattle.vault_recover.proofs.Results.{if_ok, on_ok}
-use Rattle.vault_recover.proofs.TableTexts.{reads_versions}
+use Rattle.sqlite.specs.Held.{state}
+use Rattle.sql_maps.proofs.Reading.{reads_all}
+use Rattle.vault_schema.proofs.Version1.Texts.{read_versions_is}
+use Rattle.vault_recover.proofs.Results.{if_ok, on_ok, quiet}
+use Rattle.vault_sql.specs.Schema.{vault_schema}
 use Rattle.vault_recover.proofs.read.versions.Goals as goal
 
 pub returns-in_err-rows-clause-quiet : goal.returns-in_err-rows-clause-quiet
-returns-in_err-rows-clause-quiet g c = c.table_rows.ensures.quiet 0 _ _ reads_versions
+returns-in_err-rows-clause-quiet g c = quiet _ (state g.S.Store c.args.conn.now)
+    (state g.S.Store c.rows_of.new.conn) (c.rows_of.ensures.reads vault_schema (read_versions_is [] []).plain)
 
 pub returns-clause-told : goal.returns-clause-told
 returns-clause-told g c clean =
     if_ok c.versions.result (λ raws same ours.
-    subst₂ IsPermutation refl (sym (same ∙ c.deref.ensures.value)) (c.in_ok-rows.ensures.told clean 0 _ _ reads_versions ours.schema)) c.versions.ensures
+    subst (IsPermutation _) (sym (same ∙ c.deref.ensures.value))
+    (reads_all vault_schema (state g.S.Store c.args.conn.now) (state g.S.Store c.rows_of.new.conn) ours.schema
+    _ _ 0 _ _ (read_versions_is [] []) (c.in_ok-rows.ensures.told clean))) c.versions.ensures
 
 pub returns-clause-live : goal.returns-clause-live
-returns-clause-live g c clean = on_ok c.versions.result (λ ours. c.in_ok-rows.ensures.live clean 0 _ _ reads_versions ours)
+returns-clause-live g c clean =
+    on_ok c.versions.result
+    (λ ours. c.in_ok-rows.ensures.sound clean vault_schema (read_versions_is [] []).plain ours)
 
 pub returns-clause-kept : goal.returns-clause-kept
-returns-clause-kept g c clean = on_ok c.versions.result (λ ours. c.in_ok-rows.ensures.kept clean 0 _ _ reads_versions ours)
+returns-clause-kept g c clean =
+    on_ok c.versions.result
+    (λ ours. (c.in_ok-rows.ensures.reads vault_schema (read_versions_is [] []).plain).kept clean ours)
 
 pub returns-clause-quiet : goal.returns-clause-quiet
-returns-clause-quiet g c = c.table_rows.ensures.quiet 0 _ _ reads_versions
+returns-clause-quiet g c = quiet _ (state g.S.Store c.args.conn.now) (state g.S.Store c.rows_of.new.conn)
+    (c.rows_of.ensures.reads vault_schema (read_versions_is [] []).plain)

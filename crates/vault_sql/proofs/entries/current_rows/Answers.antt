@@ -1,24 +1,18 @@
-use Rattle.std.proofs.Common.{◌≡◌, option_map}
+use Rattle.std.proofs.Common.{[]}
 use Rattle.sqlite.specs.Held.{state}
-use Rattle.vault_core.specs.Repeats.{current}
-use Rattle.vault_core.specs.Sound.{Sound}
-use Rattle.vault_core.specs.Window.{moment_at}
-use Rattle.vault_sql.specs.Shown.{one_of, text_column}
-use Rattle.vault_sql.proofs.Calls.{query_keeps, query_leaves, told, small}
+use Rattle.sql_maps.proofs.Calls.{small}
+use Rattle.vault_schema.proofs.Version1.Texts.{current_is}
+use Rattle.vault_sql.specs.Schema.{vault_schema}
+use Rattle.vault_sql.proofs.Calls.{tells}
 use Rattle.vault_sql.proofs.Lookups.{shows_current}
-use Rattle.vault_sql.proofs.QueryTexts.{current_text, current_is}
 use Rattle.vault_sql.proofs.entries.current_rows.Goals as goal
 
-pub returns-clause-told : goal.returns-clause-told
-returns-clause-told g c clean =
-    told (λ rows. rows.items) current_text _ (state g.S.Store c.args.conn.now) (state g.S.Store c.query_all.new.self)
-    (λ V rows. Sound V → moment_at V c.args.m.now c.args.at ≡ c.args.at → rows ≡ one_of text_column (option_map (λ held. held.0) (current V c.args.m.now c.args.number.now c.args.at)))
-    (λ V h rows shown sound now. shows_current (state g.S.Store c.args.conn.now) (state g.S.Store c.query_all.new.self) V h sound c.args.m.now c.args.number.now c.args.at now rows shown) c.query_all.result
-    (rw (c.params-to_sql.ensures, c.params-to_sql-2.ensures, c.params-to_sql-3.ensures, small _ c.requires) at (c.query_all.ensures.ok clean))
-
-pub returns-clause-kept : goal.returns-clause-kept
-returns-clause-kept g c clean =
-    query_keeps (λ rows. rows.items) current_text _ (state g.S.Store c.args.conn.now) (state g.S.Store c.query_all.new.self) c.query_all.result current_is.plain c.query_all.ensures.survives.limit (c.query_all.ensures.ok clean)
-
-pub returns-clause-left : goal.returns-clause-left
-returns-clause-left g c = query_leaves current_text _ (state g.S.Store c.args.conn.now) (state g.S.Store c.query_all.new.self) current_is.plain c.query_all.ensures.survives
+pub returns : goal.returns
+returns g c =
+    tells (λ rows. rows.items) c.rows_of.result (state g.S.Store c.args.conn.now)
+    (state g.S.Store c.rows_of.new.conn) _ _ _
+    (c.rows_of.ensures.reads vault_schema (current_is [] []).plain) c.rows_of.ensures.told (λ V rows it shown.
+    λ sound now.
+    shows_current _ _ V it sound c.args.m.now c.args.number.now c.args.at now rows.items
+    (rw (c.params-to_sql.ensures, c.params-to_sql-2.ensures, c.params-to_sql-3.ensures, small _ c.requires) at
+    shown))

@@ -1,22 +1,22 @@
-use Rattle.std.proofs.Common.{◌≡◌, option_map}
+use Rattle.std.proofs.Common.{[], refl}
 use Rattle.sqlite.specs.Held.{state}
-use Rattle.vault_core.specs.Vault.{merchant_at}
-use Rattle.vault_sql.specs.Rows.{lives_columns}
-use Rattle.vault_sql.specs.Shown.{one_of}
-use Rattle.vault_sql.specs.Stands.{lives_in}
-use Rattle.vault_sql.proofs.Calls.{query_keeps, query_leaves, told}
-use Rattle.vault_sql.proofs.Lookups.{shows_merchant}
-use Rattle.vault_sql.proofs.QueryTexts.{merchant_text, merchant_is}
+use Rattle.sql_maps.proofs.Reading.{look_up}
+use Rattle.vault_core.specs.Keys.{bytes_cmp}
+use Rattle.vault_schema.specs.Version1.Claims.{claims}
+use Rattle.vault_schema.specs.Version1.Rows.{merchant_key, lives_columns}
+use Rattle.vault_schema.specs.Version1.Tables.{merchants}
+use Rattle.vault_schema.proofs.Version1.Codes.{merchant_codes}
+use Rattle.vault_schema.proofs.Version1.Texts.{lives_is}
+use Rattle.vault_sql.specs.Schema.{vault_schema}
+use Rattle.vault_sql.specs.Stands.{lookups_of}
+use Rattle.vault_sql.proofs.Calls.{tells}
 use Rattle.vault_sql.proofs.merchants.lives_rows.Goals as goal
 
-pub returns-clause-told : goal.returns-clause-told
-returns-clause-told g c clean =
-    told (λ rows. rows.items) merchant_text _ (state g.S.Store c.args.conn.now) (state g.S.Store c.query_all.new.self) (λ V rows. rows ≡ one_of lives_columns (option_map lives_in (merchant_at V c.args.m.now)))
-    (λ V h rows shown. shows_merchant (state g.S.Store c.args.conn.now) (state g.S.Store c.query_all.new.self) V h rows c.args.m.now shown) c.query_all.result (rw (c.params-to_sql.ensures) at (c.query_all.ensures.ok clean))
-
-pub returns-clause-kept : goal.returns-clause-kept
-returns-clause-kept g c clean =
-    query_keeps (λ rows. rows.items) merchant_text _ (state g.S.Store c.args.conn.now) (state g.S.Store c.query_all.new.self) c.query_all.result merchant_is.plain c.query_all.ensures.survives.limit (c.query_all.ensures.ok clean)
-
-pub returns-clause-left : goal.returns-clause-left
-returns-clause-left g c = query_leaves merchant_text _ (state g.S.Store c.args.conn.now) (state g.S.Store c.query_all.new.self) merchant_is.plain c.query_all.ensures.survives
+pub returns : goal.returns
+returns g c =
+    tells (λ rows. rows.items) c.rows_of.result (state g.S.Store c.args.conn.now)
+    (state g.S.Store c.rows_of.new.conn) _ _ _
+    (c.rows_of.ensures.reads vault_schema (lives_is [] []).plain) c.rows_of.ensures.told (λ V rows it shown.
+    look_up vault_schema (claims (lookups_of V)) _ _ it _ _ rows.items shown merchants 1 refl bytes_cmp 1
+    merchant_key lives_columns merchant_codes (lookups_of V).merchants (λ are. are)
+    _ (lives_is [] []) c.args.m.now (rw (c.params-to_sql.ensures) refl) lives_columns (λ n x. refl))

@@ -10,16 +10,27 @@ loop-row-init c = tt
 
 pub returns-then-found-kind : goal.returns-then-found-kind
 returns-then-found-kind c =
-    let there : Has c.args.rows.now c.row-item.result = has_at c.args.rows.now c.loop-row.row-index c.row-item.result c.loop-row-test.true c.row-item.is in
-    inl (c.row-item.result, there, c.in_ok-found.ensures.ok.1 ∙ ap (λ n. Int (pos n)) c.if-found-kind.true, c.in_ok-get.ensures.ok.1)
+    let there : Has c.args.rows.now c.row-item.result =
+    has_at c.args.rows.now c.loop-row.row-index c.row-item.result c.loop-row-test.true c.row-item.is in
+    inl (
+      c.row-item.result,
+      there,
+      c.in_ok-found.ensures.ok.1
+          ∙ ap (λ n. Int (pos n)) c.if-found-kind.true,
+      c.in_ok-get.ensures.ok.1,
+    )
 
 pub loop-row-preserved : goal.loop-row-preserved
 loop-row-preserved c =
-    all_more _ c.args.rows.now c.loop-row.row-index c.row-item.result c.loop-row-test.true c.row-item.is c.loop-row.invariant
+    all_more _ c.args.rows.now c.loop-row.row-index c.row-item.result c.loop-row-test.true c.row-item.is
+    c.loop-row.invariant
     (λ is. c.if-found-kind.false (let same = sym c.in_ok-found.ensures.ok.1 ∙ is in cc))
 
 pub returns : goal.returns
 returns c =
     let all = c.args.rows.now in
-    let whole : take c.loop-row.row-index all ≡ all = ap (λ i. take i all) (let last = c.loop-row.auto.row-index-end in let past = c.loop-row-test.false in omega (arith, last, past)) ∙ take-length all in
+    let whole : take c.loop-row.row-index all ≡ all =
+    ap (λ i. take i all)
+    (let last = c.loop-row.auto.row-index-end in let past = c.loop-row-test.false in
+    omega (arith, last, past)) ∙ take-length all in
     inr (refl, λ r there. all_has _ all r (rw whole at c.loop-row.invariant) there)

@@ -1,23 +1,25 @@
-use Rattle.std.proofs.Common.{◌≡◌}
+use Rattle.std.proofs.Common.{[], refl}
 use Rattle.sqlite.specs.Held.{state}
-use Rattle.vault_core.specs.Vault.{record_at}
-use Rattle.vault_sql.specs.Rows.{record_columns}
-use Rattle.vault_sql.specs.Shown.{one_of}
-use Rattle.vault_sql.proofs.Lookups.{shows_record}
-use Rattle.vault_sql.proofs.Calls.{query_keeps, query_leaves, told, small}
-use Rattle.vault_sql.proofs.QueryTexts.{record_text, record_is}
+use Rattle.sql_maps.proofs.Calls.{small}
+use Rattle.sql_maps.proofs.Reading.{look_up}
+use Rattle.vault_core.specs.Keys.{record_cmp}
+use Rattle.vault_schema.specs.Version1.Claims.{claims}
+use Rattle.vault_schema.specs.Version1.Rows.{numbered_key, record_columns}
+use Rattle.vault_schema.specs.Version1.Tables.{records}
+use Rattle.vault_schema.proofs.Version1.Codes.{record_codes}
+use Rattle.vault_schema.proofs.Version1.Texts.{record_is}
+use Rattle.vault_sql.specs.Schema.{vault_schema}
+use Rattle.vault_sql.specs.Stands.{lookups_of}
+use Rattle.vault_sql.proofs.Calls.{tells}
 use Rattle.vault_sql.proofs.records.record_rows.Goals as goal
 
-pub returns-clause-told : goal.returns-clause-told
-returns-clause-told g c clean =
-    told (λ rows. rows.items) record_text _ (state g.S.Store c.args.conn.now) (state g.S.Store c.query_all.new.self)
-    (λ V rows. rows ≡ one_of record_columns (record_at V c.args.caller.now c.args.request))
-    (λ V h rows shown. shows_record (state g.S.Store c.args.conn.now) (state g.S.Store c.query_all.new.self) V h rows c.args.caller.now c.args.request shown) c.query_all.result
-    (rw (c.params-to_sql.ensures, c.params-to_sql-2.ensures, small _ c.requires) at (c.query_all.ensures.ok clean))
-
-pub returns-clause-kept : goal.returns-clause-kept
-returns-clause-kept g c clean =
-    query_keeps (λ rows. rows.items) record_text _ (state g.S.Store c.args.conn.now) (state g.S.Store c.query_all.new.self) c.query_all.result record_is.plain c.query_all.ensures.survives.limit (c.query_all.ensures.ok clean)
-
-pub returns-clause-left : goal.returns-clause-left
-returns-clause-left g c = query_leaves record_text _ (state g.S.Store c.args.conn.now) (state g.S.Store c.query_all.new.self) record_is.plain c.query_all.ensures.survives
+pub returns : goal.returns
+returns g c =
+    tells (λ rows. rows.items) c.rows_of.result (state g.S.Store c.args.conn.now)
+    (state g.S.Store c.rows_of.new.conn) _ _ _
+    (c.rows_of.ensures.reads vault_schema (record_is [] []).plain) c.rows_of.ensures.told (λ V rows it shown.
+    look_up vault_schema (claims (lookups_of V)) _ _ it _ _ rows.items shown records 4 refl record_cmp 2
+    numbered_key record_columns record_codes (lookups_of V).records (λ are. are)
+    _ (record_is [] []) (c.args.caller.now, c.args.request)
+    (rw (c.params-to_sql.ensures, c.params-to_sql-2.ensures, small _ c.requires) refl) record_columns
+    (λ n x. refl))

@@ -6,4 +6,6 @@ use Rattle.vault_sql.proofs.text.as_text.Goals as goal
 
 pub unreachable-requires : goal.unreachable-requires
 unreachable-requires c =
-    c.in_default.ensures.cases.0 (IsUtf8-from_ascii _ (IsAscii-from_all _ (λ k d inside. let small = c.requires.2 k d inside in grind (arith, nat_tests))))
+    c.in_default.ensures.cases.0
+    (IsUtf8-from_ascii _
+    (IsAscii-from_all _ (λ k d inside. let small = c.requires.2 k d inside in grind (arith, nat_tests))))

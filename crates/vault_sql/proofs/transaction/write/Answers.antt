@@ -1,49 +1,70 @@
-use Rattle.std.proofs.Common.{◌≡◌, sym, subst, arith, rules, inl, inr, OnOk}
+use Rattle.std.proofs.Common.{◌≡◌, subst, arith, rules, inl, inr, OnOk}
 use Rattle.sqlite.specs.Held.{state}
 use Rattle.sqlite.specs.State.{HasCleanDisk}
+use Rattle.sql_maps.proofs.Calls.{begun, committed, leaves_either, on_ok, steps_then}
 use Rattle.vault_core.specs.Changes.{Fit, plus}
 use Rattle.vault_core.specs.Sound.{Sound}
 use Rattle.vault_core.specs.Vault.{Vault}
-use Rattle.vault_sql.specs.Holds.{Holds, Within}
-use Rattle.vault_sql.specs.Left.{last_commit}
-use Rattle.vault_sql.specs.Stands.{Lookups, lookups_of}
-use Rattle.vault_sql.proofs.Calls.{on_ok, begun_within, committed_holds, ours_within}
+use Rattle.vault_schema.specs.Version1.Claims.{Lookups, claims}
+use Rattle.vault_sql.specs.Calls.{IsWithin}
+use Rattle.vault_sql.specs.Holds.{Holds, LeavesEither}
+use Rattle.vault_sql.specs.Schema.{vault_schema}
+use Rattle.vault_sql.specs.Stands.{lookups_of}
+use Rattle.vault_sql.proofs.Calls.{as_held, as_ours, as_vault}
 use Rattle.vault_sql.proofs.WrittenPlus.{has_room, written_plus}
 use Rattle.vault_sql.proofs.transaction.write.Given.{Over}
 use Rattle.vault_sql.proofs.transaction.write.Goals as goal
 
-ready : (g : Over) (c : goal.After-conn-2-1 g) → HasCleanDisk (state g.S.Store c.commit.new.self.0) → (V : Vault) → Holds (state g.S.Store c.args.conn.now) V → Sound V → Fit V c.args.ch.now
-    → Within (state g.S.Store c.write_caller.new.tx.conn.now) (state g.S.Store c.args.conn.now).committed (lookups_of (plus V c.args.ch.now))
+-- before the commit all changes were written
+ready : (g : Over) (c : goal.After-conn-2-1 g) → HasCleanDisk (state g.S.Store c.commit.new.self.0)
+    → (V : Vault) → Holds (state g.S.Store c.args.conn.now) V → Sound V → Fit V c.args.ch.now
+    → IsWithin (state g.S.Store c.write_caller.new.tx.conn.now) (state g.S.Store c.args.conn.now).committed
+    (lookups_of (plus V c.args.ch.now))
 ready g c late V h sound fit =
     let old = state g.S.Store c.args.conn.now in
-    let begun : Within (state g.S.Store c.transaction-tx.result.conn.now) old.committed (lookups_of V) = rw c.transaction-tx.ensures.begun (begun_within old V h) in
-    let second : HasCleanDisk (state g.S.Store c.write_caller.new.tx.conn.now) = omega (arith, c.commit.ensures.survives.clean) in
-    let first : HasCleanDisk (state g.S.Store c.write_merchant.new.tx.conn.now) = omega (arith, c.in_ok-write_caller.ensures.clean) in
-    subst (λ (after : Lookups). Within (state g.S.Store c.write_caller.new.tx.conn.now) old.committed after) (written_plus V c.args.ch.now fit)
-    (c.in_ok-write_caller.ensures.done second old.committed _ (c.in_ok-write_merchant.ensures.done first old.committed (lookups_of V) begun (has_room V sound c.args.ch.now.lives c.args.ch.now.count)) tt)
+    let first : IsWithin (state g.S.Store c.transaction-tx.result.conn.now) old.committed (lookups_of V) =
+    rw c.transaction-tx.ensures.begun (begun vault_schema (claims (lookups_of V)) old (as_held old V h)) in
+    let third : HasCleanDisk (state g.S.Store c.write_caller.new.tx.conn.now) =
+    omega (arith, c.commit.ensures.survives.clean) in
+    let second : HasCleanDisk (state g.S.Store c.write_merchant.new.tx.conn.now) =
+    omega (arith, c.in_ok-write_caller.ensures.done.steps.clean) in
+    subst (λ (after : Lookups). IsWithin (state g.S.Store c.write_caller.new.tx.conn.now) old.committed after)
+    (written_plus V c.args.ch.now fit)
+    (c.in_ok-write_caller.ensures.done.done third old.committed _
+    (c.in_ok-write_merchant.ensures.done.done second old.committed (lookups_of V) first
+    (has_room V sound c.args.ch.now.lives c.args.ch.now.count)) tt)
 
 pub returns-clause-done : goal.returns-clause-done
 returns-clause-done g c clean =
     let end = c.commit.new.self.0 in
     let same : end ≡ c.conn-2-1.given.0 = search rules in
     let late : HasCleanDisk (state g.S.Store end) = search rules in
-    let mid = state g.S.Store c.write_caller.new.tx.conn.now in
-    subst (λ h. OnOk c.commit.result ((V : Vault) → Holds (state g.S.Store c.args.conn.now) V → Sound V → Fit V c.args.ch.now → Holds (state g.S.Store h) (plus V c.args.ch.now))) same
-    (on_ok c.commit.result (c.commit.ensures.ok late) (λ done V h sound fit. committed_holds mid (state g.S.Store end) _ _ (ready g c late V h sound fit) done.1 c.commit.ensures.survives.limit))
+    let old = state g.S.Store c.args.conn.now in
+    subst (λ h. OnOk c.commit.result
+    ((V : Vault) → Holds old V → Sound V → Fit V c.args.ch.now
+    → Holds (state g.S.Store h) (plus V c.args.ch.now))) same
+    (on_ok c.commit.result (c.commit.ensures.ok late) (λ done V h sound fit.
+    as_vault (state g.S.Store end) (plus V c.args.ch.now)
+    (committed vault_schema (claims (lookups_of (plus V c.args.ch.now)))
+    (state g.S.Store c.write_caller.new.tx.conn.now) (state g.S.Store end) old.committed
+    (ready g c late V h sound fit) done.1 c.commit.ensures.survives.limit)))
 
 pub returns-clause-crash : goal.returns-clause-crash
-returns-clause-crash g c clean V h sound fit db left =
+returns-clause-crash g c clean V h sound fit =
     let end = c.commit.new.self.0 in
     let same : end ≡ c.conn-2-1.given.0 = search rules in
     let late : HasCleanDisk (state g.S.Store end) = search rules in
     let old = state g.S.Store c.args.conn.now in
-    let was : g.S.Store.recovers end.store db = subst (λ h. g.S.Store.recovers h.store db) (sym same) left in
-    let second : HasCleanDisk (state g.S.Store c.write_caller.new.tx.conn.now) = omega (arith, c.commit.ensures.survives.clean) in
-    let first : HasCleanDisk (state g.S.Store c.write_merchant.new.tx.conn.now) = omega (arith, c.in_ok-write_caller.ensures.clean) in
-    elim (c.commit.ensures.survives.crash late db was) [
-      | inl before ↦
-          let begun : (state g.S.Store c.transaction-tx.result.conn.now).may_leave db = c.in_ok-write_merchant.ensures.left first db (c.in_ok-write_caller.ensures.left second db before) in
-          let at_first : old.may_leave db = rw c.transaction-tx.ensures.begun at begun in
-          inl (last_commit old V db h (g.met.S.Store.settled c.args.conn.now.store db h.is_open at_first))
-      | inr made ↦ inr (ours_within (state g.S.Store c.write_caller.new.tx.conn.now) old.committed (plus V c.args.ch.now) db (ready g c late V h sound fit) made)
-    ]
+    let both =
+    steps_then _ _ _ c.in_ok-write_merchant.ensures.done.steps c.in_ok-write_caller.ensures.done.steps in
+    subst (λ x. LeavesEither (state g.S.Store x) V (plus V c.args.ch.now)) same (λ db left.
+    elim (leaves_either vault_schema vault_schema (claims (lookups_of V))
+    (claims (lookups_of (plus V c.args.ch.now))) old
+    (state g.S.Store c.transaction-tx.result.conn.now) (state g.S.Store c.write_caller.new.tx.conn.now)
+    (state g.S.Store end) (as_held old V h)
+    (λ db left. g.met.S.Store.settled c.args.conn.now.store db h.is_open left)
+    (λ db left. rw c.transaction-tx.ensures.begun at left)
+    both late c.commit.ensures.survives (ready g c late V h sound fit) db left) [
+      | inl before ↦ inl (as_ours V db before)
+      | inr after ↦ inr (as_ours (plus V c.args.ch.now) db after)
+    ])

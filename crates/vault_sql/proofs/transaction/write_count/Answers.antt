@@ -1,5 +1,6 @@
 use Rattle.vault_sql.proofs.transaction.write_count.Goals as goal
 
 pub returns-in-Some-count-clause-done : goal.returns-in-Some-count-clause-done
-returns-in-Some-count-clause-done g c clean =
-    rw (c.in-Some.is, c.in-Some-count.is) (rw (c.merchant_text.ensures, c.kind_of.ensures) at (c.raise.ensures.done clean))
+returns-in-Some-count-clause-done g c =
+    rw (c.in-Some.is, c.in-Some-count.is)
+    (rw (c.merchant_text.ensures, c.kind_of.ensures) at c.raise.ensures.done)

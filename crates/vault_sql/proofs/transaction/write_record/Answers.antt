@@ -1,4 +1,5 @@
 use Rattle.vault_sql.proofs.transaction.write_record.Goals as goal
 
 pub returns-in-Some-clause-done : goal.returns-in-Some-clause-done
-returns-in-Some-clause-done g c clean = rw (c.in-Some.is) (rw (c.caller_text.ensures, c.get.ensures.value) at (c.put_record.ensures.done clean))
+returns-in-Some-clause-done g c =
+    rw (c.in-Some.is) (rw (c.caller_text.ensures, c.get.ensures.value) at c.put_record.ensures.done)

@@ -1,0 +1,41 @@
+//! A query, and a statement further in a transaction, with what any text does.
+ghost use Rattle.std.specs.Prelude.{◌≡◌, ℕ, IsTrue, Ok, IfOk, OnOk};
+ghost use Rattle.sqlite.specs.Effect.{IsDatabase};
+ghost use Rattle.sqlite.specs.Held.{state};
+ghost use Rattle.sqlite.specs.Listing.{understood};
+ghost use Rattle.sqlite.specs.State.{ExecutesInside, HasCleanDisk, Shown};
+ghost use Rattle.sqlite.specs.Values.{bound};
+ghost use Rattle.sqlite.proofs.Callers.{IsPlain};
+ghost use Rattle.sql_maps.specs.States.{Reads, Steps};
+
+use sqlite::{Alter, Connection, Error, Row, Transaction};
+use sqlite_value::value::ValueRef;
+
+/// The rows that a query shows.
+pub fn rows_of<S: Alter>(
+    conn: &mut Connection<S>,
+    sql: &str,
+    params: &[ValueRef<'_>],
+) -> Result<Vec<Row>, Error>
+    ensures told { HasCleanDisk (state S.Store conn.new) → IfOk result (λ rows. Shown sql.now (bound params.now) (state S.Store conn.old) (state S.Store conn.new) rows.items) }
+    ensures reads { (s : _) → IsPlain (understood s sql.now) → Reads s result (state S.Store conn.old) (state S.Store conn.new) }
+    ensures sound { HasCleanDisk (state S.Store conn.new) → (s : _) → IsPlain (understood s sql.now) → (state S.Store conn.old).now.schema ≡ s → OnOk result (IsDatabase (state S.Store conn.old).now) }
+{
+    // a database whose schema can be asked for is sound
+    let _live = conn.schema();
+    conn.query_all(sql, params)
+}
+
+/// One statement further in a transaction.
+pub fn step<S: Alter>(
+    tx: &mut Transaction<'_, S>,
+    sql: &str,
+    params: &[ValueRef<'_>],
+) -> Result<(), Error>
+    ensures same_reference { tx.new.conn.ghost_name ≡ tx.old.conn.ghost_name }
+    ensures steps { Steps (state S.Store tx.old.conn.now) (state S.Store tx.new.conn.now) }
+    ensures ran { HasCleanDisk (state S.Store tx.new.conn.now) → OnOk result (IsTrue (state S.Store tx.old.conn.now).in_transaction → (count : ℕ) × ExecutesInside 0 sql.now (bound params.now) (state S.Store tx.old.conn.now) (state S.Store tx.new.conn.now) (Ok count)) }
+{
+    tx.execute(sql, params)?;
+    Ok(())
+}

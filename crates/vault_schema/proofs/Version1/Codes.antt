@@ -1,0 +1,154 @@
+-- Each key and value of schema 1 is told by its columns.
+use Rattle.std.proofs.Common.{◌≡◌, ℕ, pos, [], ◌==◌, true, cond, Option, Some, None, refl, sym, ap, ◌∙◌}
+use Rattle.std.specs.Ordering.{nat_cmp}
+use Rattle.sqlite.specs.Kind.TheVariants.{Integer, Text as Words}
+use Rattle.sqlite.specs.Order.{column}
+use Rattle.sqlite.specs.declared.types.Value.{Value}
+use Rattle.sqlite.specs.declared.types.Value.TheVariants.{Int, Text}
+use Rattle.sql_maps.specs.Codes.{Codes, fits}
+use Rattle.sql_maps.proofs.ByKey.{Coding}
+use Rattle.sql_maps.proofs.Keys.{coding}
+use Rattle.sql_maps.proofs.KeyTests.{text_eq, number_eq, and_true, two_tests, three_tests}
+use Rattle.vault_core.proofs.Maps.{bytes_total, bytes_exact, entry_total, entry_exact, record_total}
+use Rattle.vault_core.proofs.Maps.{record_exact, right_total, right_exact}
+use Rattle.vault_core.specs.Keys.{Bytes, bytes_cmp, entry_cmp, record_cmp, right_cmp, right_number}
+use Rattle.vault_core.specs.declared.usage.Use.{Use}
+use Rattle.vault_core.specs.declared.usage.Use.TheVariants.{Single, Multi}
+use Rattle.vault_schema.specs.Version1.Rows.{text_or_null, number_or_null, use_number, merchant_key}
+use Rattle.vault_schema.specs.Version1.Rows.{lives_columns, numbered_key, number_column, entry_key}
+use Rattle.vault_schema.specs.Version1.Rows.{entry_columns, record_columns, right_key, no_columns}
+use Rattle.vault_schema.specs.Version1.Rows.{merchant_row, count_row, entry_row, record_row, right_row}
+use Rattle.vault_schema.specs.Version1.Tables.{merchants, counts, entries, records, rights}
+
+-- ---- a value and back
+
+abbrev number_in : Value → ℕ
+number_in (Int (pos n)) = n
+number_in _ = 0
+
+abbrev text_in : Value → Bytes
+text_in (Text t) = t
+text_in _ = []
+
+abbrev maybe_text : Value → Option Bytes
+maybe_text (Text t) = Some t
+maybe_text _ = None
+
+abbrev maybe_number : Value → Option ℕ
+maybe_number (Int (pos n)) = Some n
+maybe_number _ = None
+
+abbrev use_in : Value → Use
+use_in v = cond (number_in v == 1) Single Multi
+
+text_back : (o : Option Bytes) → maybe_text (text_or_null o) ≡ o
+text_back None = refl
+text_back (Some t) = refl
+
+number_back : (o : Option ℕ) → maybe_number (number_or_null o) ≡ o
+number_back None = refl
+number_back (Some n) = refl
+
+use_back : (u : Use) → use_in (Int (pos (use_number u))) ≡ u
+use_back Single = refl
+use_back Multi = refl
+
+text_fits : (o : Option Bytes) → fits Words (text_or_null o) ≡ true
+text_fits None = refl
+text_fits (Some t) = refl
+
+number_fits : (o : Option ℕ) → fits Integer (number_or_null o) ≡ true
+number_fits None = refl
+number_fits (Some n) = refl
+
+-- ---- the tables
+
+pub merchant_codes : Codes bytes_cmp merchants.columns 1 merchant_key lives_columns
+merchant_codes = record {
+  total = bytes_total;
+  exact = bytes_exact;
+  long = λ k. refl;
+  same = λ q k. rw (text_eq q k) (and_true _);
+  value_back = λ x y e. λ i. record {
+    single_life = number_in (column (e i) 0);
+    multi_life = number_in (column (e i) 1);
+    moment = number_in (column (e i) 2);
+  };
+  fit = λ k x. refl;
+}
+
+pub count_codes : Codes record_cmp counts.columns 2 numbered_key number_column
+count_codes = record {
+  total = record_total;
+  exact = record_exact;
+  long = λ k. refl;
+  same = λ q k. rw (text_eq q.0 k.0, number_eq q.1 k.1) (two_tests (bytes_cmp q.0 k.0) (nat_cmp q.1 k.1));
+  value_back = λ x y e. ap (λ r. number_in (column r 0)) e;
+  fit = λ k x. refl;
+}
+
+pub entry_codes : Codes entry_cmp entries.columns 2 entry_key entry_columns
+entry_codes = record {
+  total = entry_total;
+  exact = entry_exact;
+  long = λ k. refl;
+  same = λ q k. rw (text_eq q.0 k.0, text_eq q.1 k.1) (two_tests (bytes_cmp q.0 k.0) (bytes_cmp q.1 k.1));
+  value_back = λ x y e.
+      let number : x.number ≡ y.number = sym (text_back x.number) ∙ ap (λ r. maybe_text (column r 0)) e
+      ∙ text_back y.number in
+      let usage : x.usage ≡ y.usage = sym (use_back x.usage) ∙ ap (λ r. use_in (column r 1)) e
+      ∙ use_back y.usage in
+      let revoked : x.revoked ≡ y.revoked = sym (number_back x.revoked)
+      ∙ ap (λ r. maybe_number (column r 4)) e ∙ number_back y.revoked in
+      λ i. record {
+        number = number i;
+        usage = usage i;
+        birth = number_in (column (e i) 2);
+        expires = number_in (column (e i) 3);
+        revoked = revoked i;
+      };
+  fit = λ k x. rw (text_fits x.number, number_fits x.revoked) refl;
+}
+
+pub record_codes : Codes record_cmp records.columns 2 numbered_key record_columns
+record_codes = record {
+  total = record_total;
+  exact = record_exact;
+  long = λ k. refl;
+  same = count_codes.same;
+  value_back = λ x y e.
+      let usage : x.usage ≡ y.usage = sym (use_back x.usage) ∙ ap (λ r. use_in (column r 2)) e
+      ∙ use_back y.usage in
+      λ i. record { merchant = text_in (column (e i) 0); token = text_in (column (e i) 1); usage = usage i };
+  fit = λ k x. refl;
+}
+
+pub right_codes : Codes right_cmp rights.columns 3 right_key no_columns
+right_codes = record {
+  total = right_total;
+  exact = right_exact;
+  long = λ k. refl;
+  same = λ q k.
+      rw (text_eq q.0 k.0, text_eq q.1.0 k.1.0, number_eq (right_number q.1.1) (right_number k.1.1))
+      (three_tests (bytes_cmp q.0 k.0) (bytes_cmp q.1.0 k.1.0)
+      (nat_cmp (right_number q.1.1) (right_number k.1.1)));
+  value_back = λ x y e. refl;
+  fit = λ k x. refl;
+}
+
+-- ---- rows tell their keys and values
+
+pub merchant_coding : Coding bytes_cmp merchant_row
+merchant_coding = coding bytes_cmp merchants.columns 1 merchant_key lives_columns merchant_codes
+
+pub count_coding : Coding record_cmp count_row
+count_coding = coding record_cmp counts.columns 2 numbered_key number_column count_codes
+
+pub entry_coding : Coding entry_cmp entry_row
+entry_coding = coding entry_cmp entries.columns 2 entry_key entry_columns entry_codes
+
+pub record_coding : Coding record_cmp record_row
+record_coding = coding record_cmp records.columns 2 numbered_key record_columns record_codes
+
+pub right_coding : Coding right_cmp right_row
+right_coding = coding right_cmp rights.columns 3 right_key no_columns right_codes

@@ -1,0 +1,64 @@
+-- The tables and indexes of schema 1.
+use Rattle.std.specs.Prelude.{[], ◌∷◌, Some, codes}
+use Rattle.sqlite.specs.Kind.TheVariants.{Integer, Text}
+use Rattle.sqlite.specs.Schema.{Schema}
+use Rattle.sql_maps.specs.Schema.{Descriptor, table_of, keyed_by, key_index, plain_index, present, optional}
+
+-- the version, in the row with the id 1; the id stands in the rowid
+abbrev pub vault : Descriptor
+vault = record {
+  name = codes "vault";
+  tree = 0;
+  columns = optional (codes "id") Integer ∷ present (codes "version") Integer ∷ [];
+  rowid = Some 0;
+  primary = 0 ∷ [];
+  uniques = [];
+}
+
+-- merchants by name
+abbrev pub merchants : Descriptor
+merchants =
+    keyed_by 1 1 (codes "merchants")
+    (present (codes "name") Text ∷ present (codes "single_life") Integer
+    ∷ present (codes "multi_life") Integer ∷ present (codes "moment") Integer ∷ [])
+
+-- counts by merchant and kind
+abbrev pub counts : Descriptor
+counts =
+    keyed_by 2 3 (codes "counts")
+    (present (codes "merchant") Text ∷ present (codes "kind") Integer ∷ present (codes "total") Integer ∷ [])
+
+-- entries by merchant and token
+abbrev pub entries : Descriptor
+entries =
+    keyed_by 2 5 (codes "entries")
+    (present (codes "merchant") Text ∷ present (codes "token") Text ∷ optional (codes "number") Text
+    ∷ present (codes "usage") Integer ∷ present (codes "birth") Integer
+    ∷ present (codes "expires") Integer ∷ optional (codes "revoked") Integer ∷ [])
+
+-- records by caller and request
+abbrev pub records : Descriptor
+records =
+    keyed_by 2 8 (codes "records")
+    (present (codes "caller") Text ∷ present (codes "request") Integer ∷ present (codes "merchant") Text
+    ∷ present (codes "token") Text ∷ present (codes "usage") Integer ∷ [])
+
+-- rights, each its key alone
+abbrev pub rights : Descriptor
+rights =
+    keyed_by 3 10 (codes "rights")
+    (present (codes "caller") Text ∷ present (codes "merchant") Text ∷ present (codes "what") Integer ∷ [])
+
+-- all tables and indexes, with their trees
+abbrev pub v1 : Schema
+v1 = record {
+  tables = table_of vault ∷ table_of merchants ∷ table_of counts ∷ table_of entries ∷ table_of records
+      ∷ table_of rights ∷ [];
+  indexes = key_index 2 (codes "sqlite_autoindex_merchants_1") 1 (1 ∷ [])
+      ∷ key_index 4 (codes "sqlite_autoindex_counts_1") 3 (1 ∷ 2 ∷ [])
+      ∷ key_index 6 (codes "sqlite_autoindex_entries_1") 5 (1 ∷ 2 ∷ [])
+      ∷ plain_index 7 (codes "entries_number") 5 (1 ∷ 3 ∷ [])
+      ∷ key_index 9 (codes "sqlite_autoindex_records_1") 8 (1 ∷ 2 ∷ [])
+      ∷ key_index 11 (codes "sqlite_autoindex_rights_1") 10 (1 ∷ 2 ∷ 3 ∷ []) ∷ [];
+  views = [];
+}

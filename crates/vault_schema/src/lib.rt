@@ -1,0 +1,4 @@
+//! The schemas of a vault's database, one module a version.
+#![tactic(auto)]
+
+pub mod v1;

@@ -1,0 +1,112 @@
+//! Schema 1: the texts that make its tables, and those that read and write them.
+use vault_core::moment::Moment;
+
+/// A merchant as its own table has it, without its counts.
+#[derive(Clone, Copy, Debug)]
+pub struct Lives {
+    pub single_life: u64,
+    pub multi_life: u64,
+    pub moment: Moment,
+}
+
+/// Makes the table of the version.
+pub const CREATE_VAULT: &str =
+    "CREATE TABLE vault (id INTEGER PRIMARY KEY, version INTEGER NOT NULL) STRICT";
+
+/// Makes the table of merchants.
+pub const CREATE_MERCHANTS: &str =
+    "CREATE TABLE merchants (name TEXT NOT NULL PRIMARY KEY, single_life INTEGER NOT NULL, multi_life INTEGER NOT NULL, moment INTEGER NOT NULL) STRICT";
+
+/// Makes the table of counts.
+pub const CREATE_COUNTS: &str =
+    "CREATE TABLE counts (merchant TEXT NOT NULL, kind INTEGER NOT NULL, total INTEGER NOT NULL, PRIMARY KEY (merchant, kind)) STRICT";
+
+/// Makes the table of entries.
+pub const CREATE_ENTRIES: &str =
+    "CREATE TABLE entries (merchant TEXT NOT NULL, token TEXT NOT NULL, number TEXT, usage INTEGER NOT NULL, birth INTEGER NOT NULL, expires INTEGER NOT NULL, revoked INTEGER, PRIMARY KEY (merchant, token)) STRICT";
+
+/// Makes the index of entries by number.
+pub const CREATE_ENTRIES_NUMBER: &str = "CREATE INDEX entries_number ON entries (merchant, number)";
+
+/// Makes the table of records.
+pub const CREATE_RECORDS: &str =
+    "CREATE TABLE records (caller TEXT NOT NULL, request INTEGER NOT NULL, merchant TEXT NOT NULL, token TEXT NOT NULL, usage INTEGER NOT NULL, PRIMARY KEY (caller, request)) STRICT";
+
+/// Makes the table of rights.
+pub const CREATE_RIGHTS: &str =
+    "CREATE TABLE rights (caller TEXT NOT NULL, merchant TEXT NOT NULL, what INTEGER NOT NULL, PRIMARY KEY (caller, merchant, what)) STRICT";
+
+/// Writes the version.
+pub const PUT_VERSION: &str = "INSERT INTO vault VALUES (1, 1)";
+
+/// The lives of a merchant.
+pub const FIND_LIVES: &str =
+    "SELECT single_life, multi_life, moment FROM merchants WHERE name = ?1";
+
+/// The counts of a merchant.
+pub const FIND_COUNTS: &str = "SELECT kind, total FROM counts WHERE merchant = ?1";
+
+/// How many merchants there are.
+pub const COUNT_MERCHANTS: &str = "SELECT count(*) FROM merchants";
+
+/// What a merchant's token stands for.
+pub const FIND_ENTRY: &str =
+    "SELECT number, usage, birth, expires, revoked FROM entries WHERE merchant = ?1 AND token = ?2";
+
+/// The multi-use token of a number that is live at a moment.
+pub const FIND_CURRENT: &str =
+    "SELECT token FROM entries WHERE merchant = ?1 AND number = ?2 AND usage = 2 AND revoked IS NULL AND expires > ?3";
+
+/// What a caller's request was answered.
+pub const FIND_RECORD: &str =
+    "SELECT merchant, token, usage FROM records WHERE caller = ?1 AND request = ?2";
+
+/// The right of a caller at a merchant.
+pub const FIND_RIGHT: &str =
+    "SELECT what FROM rights WHERE caller = ?1 AND merchant = ?2 AND what = ?3";
+
+/// Writes the lives and the moment of a merchant, whether or not it was there.
+pub const PUT_MERCHANT: &str =
+    "INSERT INTO merchants VALUES (?1, ?2, ?3, ?4) ON CONFLICT (name) DO UPDATE SET single_life = ?2, multi_life = ?3, moment = ?4";
+
+/// Raises a count of a merchant by one, whether or not it was there.
+pub const RAISE_COUNT: &str =
+    "INSERT INTO counts VALUES (?1, ?2, 1) ON CONFLICT (merchant, kind) DO UPDATE SET total = total + 1";
+
+/// Writes an entry, whether or not it was there.
+pub const PUT_ENTRY: &str =
+    "INSERT INTO entries VALUES (?1, ?2, ?3, ?4, ?5, ?6, ?7) ON CONFLICT (merchant, token) DO UPDATE SET number = ?3, usage = ?4, birth = ?5, expires = ?6, revoked = ?7";
+
+/// Writes a record, whether or not it was there.
+pub const PUT_RECORD: &str =
+    "INSERT INTO records VALUES (?1, ?2, ?3, ?4, ?5) ON CONFLICT (caller, request) DO UPDATE SET merchant = ?3, token = ?4, usage = ?5";
+
+/// Gives a caller a right, whether or not it was there.
+pub const GIVE_RIGHT: &str =
+    "INSERT INTO rights VALUES (?1, ?2, ?3) ON CONFLICT (caller, merchant, what) DO NOTHING";
+
+/// Takes a right from a caller, whether or not it was there.
+pub const TAKE_RIGHT: &str = "DELETE FROM rights WHERE caller = ?1 AND merchant = ?2 AND what = ?3";
+
+/// The whole of `vault`, by its id.
+pub const READ_VERSIONS: &str = "SELECT id, version FROM vault ORDER BY id";
+
+/// The whole of `merchants`, by its key.
+pub const READ_MERCHANTS: &str =
+    "SELECT rowid, name, single_life, multi_life, moment FROM merchants ORDER BY name";
+
+/// The whole of `counts`, by its key.
+pub const READ_COUNTS: &str =
+    "SELECT rowid, merchant, kind, total FROM counts ORDER BY merchant, kind";
+
+/// The whole of `entries`, by its key.
+pub const READ_ENTRIES: &str =
+    "SELECT rowid, merchant, token, number, usage, birth, expires, revoked FROM entries ORDER BY merchant, token";
+
+/// The whole of `records`, by its key.
+pub const READ_RECORDS: &str =
+    "SELECT rowid, caller, request, merchant, token, usage FROM records ORDER BY caller, request";
+
+/// The whole of `rights`, by its key.
+pub const READ_RIGHTS: &str =
+    "SELECT rowid, caller, merchant, what FROM rights ORDER BY caller, merchant, what";
