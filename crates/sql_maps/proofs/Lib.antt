@@ -8,6 +8,7 @@ pub mod HowMany
 pub mod KeyTests
 pub mod Keys
 pub mod Making
+pub mod Parts
 pub mod Plain
 pub mod PutByKey
 pub mod Reading

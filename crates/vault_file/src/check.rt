@@ -7,7 +7,8 @@ ghost use Rattle.vault_core.specs.Sound.{Sound};
 ghost use Rattle.vault_core.specs.Vault.{Vault as Content};
 ghost use Rattle.vault_file.specs.Found.{HasSizes, HoldsSuch, IsNoPath, IsNoVerdict};
 ghost use Rattle.vault_recover.specs.Crashed.{Keeps};
-ghost use Rattle.vault_recover.specs.Opened.{IsKnown, IsLeastBroken, IsWrong};
+ghost use Rattle.vault_recover.specs.Opened.{IsLeastBroken, IsWrong};
+ghost use Rattle.vault_recover.specs.Reading.{IsFull};
 ghost use Rattle.vault_sql.specs.Holds.{Holds};
 
 use crate::fault::NotOpened;
@@ -33,16 +34,16 @@ pub fn check_from<S: Start>(
 >
     ensures no_path { IsNoPath path.now → IsErrAnd result (λ e. e.0 ≡ NotOpened.Refused) }
     ensures sizes { IfOk result (λ told. HasCleanDisk (file_state told.1)
-        → HoldsSuch (image_at S.Start) (λ db. IsKnown db → HasSizes db told.0)) }
+        → HoldsSuch (image_at S.Start) (λ db. IsFull db → HasSizes db told.0)) }
     ensures kept { IfOk result (λ told. HasCleanDisk (file_state told.1)
         → (V : Content) → Sound V → Keeps (image_at S.Start) V → Holds (file_state told.1) V) }
     ensures refused { IfErr result (λ e. (e.0 ≡ NotOpened.Refused) ↔ (e.1 ≡ None)) }
     ensures damaged { IfErr result (λ e. IfSome e.1 (λ conn. HasCleanDisk (file_state conn)
         → (rule : ℕ) → e.0 ≡ NotOpened.Fault (OpenFault.Damaged rule)
-        → HoldsSuch (image_at S.Start) (λ db. IsKnown db → IsLeastBroken db rule))) }
+        → HoldsSuch (image_at S.Start) (λ db. IsFull db → IsLeastBroken db rule))) }
     ensures wrong { IfErr result (λ e. IfSome e.1 (λ conn. HasCleanDisk (file_state conn)
         → (n : ℤ) → e.0 ≡ NotOpened.Fault (OpenFault.WrongSchema n)
-        → HoldsSuch (image_at S.Start) (λ db. IsKnown db → IsWrong db n))) }
+        → HoldsSuch (image_at S.Start) (λ db. IsWrong db n))) }
     ensures never { IfErr result (λ e. IfSome e.1 (λ conn. HasCleanDisk (file_state conn)
         → (V : Content) → Sound V → Keeps (image_at S.Start) V → IsNoVerdict e.0)) }
 {

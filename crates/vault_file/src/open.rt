@@ -9,7 +9,8 @@ ghost use Rattle.vault_core.specs.Sound.{Sound};
 ghost use Rattle.vault_core.specs.Vault.{Vault as Content};
 ghost use Rattle.vault_file.specs.Found.{HoldsSuch, IsNoPath, IsNoVerdict, OpensFrom, no_bytes};
 ghost use Rattle.vault_recover.specs.Crashed.{AreHeld, Keeps, Reopens, ReopensEither};
-ghost use Rattle.vault_recover.specs.Opened.{IsKnown, IsLeastBroken, IsWrong};
+ghost use Rattle.vault_recover.specs.Opened.{IsLeastBroken, IsWrong};
+ghost use Rattle.vault_recover.specs.Reading.{IsFull};
 ghost use Rattle.vault_store.specs.Applied.{Contains, is_broken, tables_of};
 
 use crate::fault::NotOpened;
@@ -48,10 +49,10 @@ pub fn open_from<S: Start>(
     ensures refused { IfErr result (λ e. (e.0 ≡ NotOpened.Refused) ↔ (e.1 ≡ None)) }
     ensures damaged { IfErr result (λ e. IfSome e.1 (λ conn. HasCleanDisk (file_state conn)
         → (rule : ℕ) → e.0 ≡ NotOpened.Fault (OpenFault.Damaged rule)
-        → HoldsSuch (image_at S.Start) (λ db. IsKnown db → IsLeastBroken db rule))) }
+        → HoldsSuch (image_at S.Start) (λ db. IsFull db → IsLeastBroken db rule))) }
     ensures wrong { IfErr result (λ e. IfSome e.1 (λ conn. HasCleanDisk (file_state conn)
         → (n : ℤ) → e.0 ≡ NotOpened.Fault (OpenFault.WrongSchema n)
-        → HoldsSuch (image_at S.Start) (λ db. IsKnown db → IsWrong db n))) }
+        → HoldsSuch (image_at S.Start) (λ db. IsWrong db n))) }
     ensures never { IfErr result (λ e. IfSome e.1 (λ conn. HasCleanDisk (file_state conn)
         → (V : Content) → Sound V → Keeps (image_at S.Start) V → IsNoVerdict e.0)) }
 {

@@ -6,19 +6,18 @@ use Rattle.sqlite.specs.Order.{Row}
 use Rattle.sqlite.specs.State.{State, IsUnchanged}
 use Rattle.vault_recover.proofs.Chains.{ours_then}
 use Rattle.vault_recover.proofs.FromStands.{stands_shows, version_of}
-use Rattle.vault_recover.proofs.Holders.{blank_nobody}
+use Rattle.vault_recover.proofs.Opening.{apart}
 use Rattle.vault_recover.proofs.Once.{apart_keys}
 use Rattle.vault_recover.proofs.Stood.{they_stand}
 use Rattle.vault_recover.proofs.Tallies.{apart_permuted}
 use Rattle.vault_recover.specs.Apart.{AreApart}
 use Rattle.vault_recover.specs.Opened.{AreRaws, AreVersions, IsFit, IsLeastBroken, IsNoRefusal, IsOtherVersion, IsSoundOf, StandsSound}
-use Rattle.vault_recover.specs.Names.{holder_of}
 use Rattle.vault_recover.specs.Reading.{IsOurs}
 use Rattle.vault_recover.specs.Sizes.{counts_of}
 use Rattle.vault_recover.specs.Versions.{is_other, other_version}
 use Rattle.vault_recover.specs.declared.fault.OpenFault.{OpenFault}
 use Rattle.vault_recover.specs.declared.fault.OpenFault.TheVariants.{WrongSchema, Damaged}
-use Rattle.vault_recover.specs.declared.names.Holder.TheVariants as holder
+use Rattle.vault_sql.specs.Schema.{vault_schema}
 use Rattle.vault_recover.specs.declared.sizes.Sizes.{Sizes}
 use Rattle.vault_rules.proofs.AllKept.{all_kept}
 use Rattle.vault_rules.proofs.Found.{many_is}
@@ -111,12 +110,12 @@ module _ (db : Database) (it : StandsSound db) where
       behind (v ∷ row) e = omega (arith, e)
 
 -- a database that is fit is refused by no version and no rule
-pub no_refusal : {A : Type 0} (db : Database) → holder_of db.schema ≡ holder.Vault → (r : Result A OpenFault)
+pub no_refusal : {A : Type 0} (db : Database) → db.schema ≡ vault_schema → (r : Result A OpenFault)
     → IfErr r (λ e. (rule : ℕ) → e ≡ Damaged rule → IsOurs db → IsLeastBroken db rule)
-    → IfErr r (λ e. (n : ℤ) → e ≡ WrongSchema n → IsOurs db → IsOtherVersion db n)
+    → IfErr r (λ e. (n : ℤ) → e ≡ WrongSchema n → db.schema ≡ vault_schema → IsOtherVersion db n)
     → IfErr r (λ e. IsFit db → IsNoRefusal e)
 no_refusal db vault (Ok a) damaged versioned = tt
 no_refusal db vault (Err e) damaged versioned = λ fit. elim fit as (λ _. IsNoRefusal e) [
-  | inl it ↦ (λ n same. never_other db it n (versioned n same (ours_of db it)), λ rule same. never_broken db it rule (damaged rule same (ours_of db it)))
-  | inr blank ↦ absurd (let clash = sym (blank_nobody db.schema blank) ∙ vault in cc)
+  | inl it ↦ (λ n same. never_other db it n (versioned n same vault), λ rule same. never_broken db it rule (damaged rule same (ours_of db it)))
+  | inr blank ↦ absurd (apart (sym blank ∙ vault))
 ]

@@ -1,14 +1,12 @@
 -- What an open comes to.
 use Rattle.std.proofs.Common.{◌≡◌, ◌⊎◌, inl, inr, not, false, Bool, None, IsTrue, sym, ap, subst, ◌∙◌}
 use Rattle.sqlite.specs.Effect.{Database, IsDatabase}
+use Rattle.sqlite.specs.Schema.{Schema}
 use Rattle.sqlite.specs.State.{State, HasCleanDisk, IsUnchanged}
 use Rattle.sqlite.specs.Tree.{Trees}
 use Rattle.vault_core.specs.Vault.{Vault, empty_vault}
-use Rattle.vault_recover.proofs.Holders.{blank_nobody}
-use Rattle.vault_recover.specs.Names.{holder_of}
 use Rattle.vault_recover.specs.Opened.{IsSoundOf, LeavesFound, Opens}
 use Rattle.vault_recover.specs.Reading.{IsOurs, IsQuiet}
-use Rattle.vault_recover.specs.declared.names.Holder.TheVariants.{Nobody, Vault as Ours}
 use Rattle.vault_recover.specs.declared.sizes.Sizes.{Sizes}
 use Rattle.vault_sql.specs.Holds.{Holds}
 use Rattle.vault_sql.specs.Making.{IsReady}
@@ -26,13 +24,13 @@ left_held old V settled h db left =
     subst (λ (t : Trees). Stands t V) (ap (λ (d : Database). d.trees) h.settled ∙ sym (settled db h.is_open left)) h.stands
 
 -- a schema that holds a vault, and one that holds nothing
-apart : no_schema ≡ vault_schema → ⊥
-apart e = let clash : Nobody ≡ Ours = ap holder_of e in cc
+pub apart : no_schema ≡ vault_schema → ⊥
+apart e = let clash = ap (λ (s : Schema). s.tables) e in cc
 
-pub left_vault : (old new : State) → holder_of old.now.schema ≡ Ours → IsSettled old → IsQuiet old new → HasCleanDisk new → LeavesFound old new
+pub left_vault : (old new : State) → old.now.schema ≡ vault_schema → IsSettled old → IsQuiet old new → HasCleanDisk new → LeavesFound old new
 left_vault old new ours settled quiet clean = record {
   held = λ V h db left. left_held old V settled h db (quiet.left clean h.schema db left);
-  blank = λ ready blank db left. absurd (let clash = sym (blank_nobody old.now.schema blank) ∙ ours in cc);
+  blank = λ ready blank db left. absurd (apart (sym blank ∙ ours));
 }
 
 pub left_as_it_was : (old : State) → (old.now.schema ≡ no_schema → ⊥) → IsSettled old → LeavesFound old old
@@ -49,13 +47,13 @@ left_blank old new blank crash = record {
 }
 
 pub opens_vault : (old new : State) (autocommit : Bool) (sizes : Sizes) → autocommit ≡ not old.in_transaction → old.in_transaction ≡ false → old.step_limit ≡ None
-    → (IsTrue autocommit → IsTrue old.is_open → old.now ≡ old.committed) → holder_of old.now.schema ≡ Ours → new.step_limit ≡ old.step_limit
+    → (IsTrue autocommit → IsTrue old.is_open → old.now ≡ old.committed) → old.now.schema ≡ vault_schema → new.step_limit ≡ old.step_limit
     → (IsOurs old.now → IsSoundOf old.now sizes) → (old.now.schema ≡ vault_schema → IsUnchanged old new) → Opens old new
 opens_vault old new autocommit sizes is idle unlimited settled ours limit sound kept = record {
   whose = inr ours;
   ours = λ it. let found = (sound it).it in (record { vault = found.vault; sound = found.sound; holds = holds it found.vault found.stands }, (kept it.schema).0.now_is);
   same = holds;
-  blank = λ is_open blank. absurd (let clash = sym (blank_nobody old.now.schema blank) ∙ ours in cc);
+  blank = λ is_open blank. absurd (apart (sym blank ∙ ours));
 }
   where
     holds : IsOurs old.now → (V : Vault) → Stands old.now.trees V → Holds new V

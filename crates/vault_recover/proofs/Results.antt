@@ -1,10 +1,11 @@
 -- What holds of a result, from what holds of it.
-use Rattle.std.proofs.Common.{◌≡◌, ◌≢◌, ℕ, ℤ, Ok, Err, Result, IfOk, IfErr, OnOk}
+use Rattle.std.proofs.Common.{◌≡◌, ◌≢◌, ◌∙◌, sym, ℕ, ℤ, Ok, Err, Result, IfOk, IfErr, OnOk}
 use Rattle.sqlite.specs.State.{State}
 use Rattle.sql_maps.specs.States.{Reads}
-use Rattle.vault_recover.specs.Faults.{failure}
+use Rattle.vault_recover.specs.Faults.{IsJudged, failure}
 use Rattle.vault_recover.specs.Reading.{IsQuiet}
 use Rattle.vault_sql.specs.Schema.{vault_schema}
+use Rattle.vault_recover.specs.declared.fault.OpenFault.{OpenFault}
 use Rattle.vault_recover.specs.declared.fault.OpenFault.TheVariants.{WrongSchema, Damaged}
 use Rattle.vault_recover.specs.declared.fault.ReadFault.{ReadFault}
 use Rattle.vault_recover.specs.declared.fault.ReadFault.TheVariants as read
@@ -28,6 +29,10 @@ same_rule a b e = cc
 pub same_version : (a b : ℤ) → WrongSchema a ≡ WrongSchema b → a ≡ b
 same_version a b e = cc
 
+-- a result has one fault
+pub one_fault : {A : Type 0} (r : Result A OpenFault) (e f : OpenFault) → r ≡ Err e → r ≡ Err f → e ≡ f
+one_fault r e f a b = let same = sym a ∙ b in cc
+
 -- a reading that failed says nothing of the schema or the rows
 pub undamaged : (fault : ReadFault) (rule : ℕ) → failure fault ≢ Damaged rule
 undamaged read.Memory rule e = cc
@@ -36,6 +41,10 @@ undamaged read.Store rule e = cc
 pub unversioned : (fault : ReadFault) (n : ℤ) → failure fault ≢ WrongSchema n
 unversioned read.Memory n e = cc
 unversioned read.Store n e = cc
+
+pub unjudged : (fault : ReadFault) → IsJudged (failure fault) → ⊥
+unjudged read.Memory e = e
+unjudged read.Store e = e
 
 -- a query is quiet
 pub quiet : {R E : Type 0} (result : Result R E) (old new : State) → Reads vault_schema result old new

@@ -12,6 +12,13 @@ number_of (Damaged rule) = 31
 number_of Memory = 32
 number_of Store = 33
 
+-- a refusal of what was read, and not a failure to read it: 30 or 31
+abbrev pub IsJudged : OpenFault → Type 0
+IsJudged (WrongSchema version) = Unit {0}
+IsJudged (Damaged rule) = Unit {0}
+IsJudged Memory = ⊥
+IsJudged Store = ⊥
+
 -- a reading that failed says nothing of the schema or the rows
 abbrev pub failure : ReadFault → OpenFault
 failure read.Memory = Memory

@@ -1,57 +1,50 @@
--- Whose tables a file holds, by their names.
-use Rattle.std.specs.Prelude.{◌≡◌, ◌⊎◌, ◌&&◌, ◌||◌, ◌==◌, ℕ, Bool, List, length, codes, bytes_eq, if◌then◌else◌}
+-- Whose tables a database has.
+use Rattle.std.specs.Prelude.{◌≡◌, ◌⊎◌, ◌||◌, ℕ, Bool, List, [], length, map, not, IsTrue}
 use Rattle.std.specs.List.{list_any}
+use Rattle.std.specs.Option.{is_some}
 use Rattle.sqlite.specs.Schema.{Schema}
+use Rattle.sqlite_schema.specs.Names.{table_named, index_named, view_named}
+use Rattle.sql_maps.specs.Schema.{no_schema}
 use Rattle.vault_recover.specs.declared.names.Holder.{Holder}
 use Rattle.vault_recover.specs.declared.names.Holder.TheVariants.{Nobody, Vault, Mixed, Other}
+use Rattle.vault_schema.specs.declared.v1.TheConstants.{NAMES}
+use Rattle.vault_sql.specs.Schema.{vault_schema}
 
--- a table has this name
-abbrev pub has_table : Schema → List ℕ → Bool
-has_table s name = list_any (λ t. bytes_eq t.name name) s.tables
+-- a table, an index, or a view or another object has this name, as SQL compares names
+abbrev pub is_taken : Schema → List ℕ → Bool
+is_taken s name = is_some (table_named s name) || is_some (index_named s name) || is_some (view_named s name)
 
--- an index has it
-abbrev pub has_index : Schema → List ℕ → Bool
-has_index s name = list_any (λ i. bytes_eq i.name name) s.indexes
+-- the names of a vault's tables, and of the index that isn't a key's
+abbrev pub vault_names : List (List ℕ)
+vault_names = map (λ name. name.now) NAMES
 
--- a view or another object has it
-abbrev pub has_view : Schema → List ℕ → Bool
-has_view s name = list_any (λ v. bytes_eq v.name name) s.views
+-- one of these names is taken
+abbrev pub any_taken : Schema → List (List ℕ) → Bool
+any_taken s names = list_any (λ name. is_taken s name) names
 
--- a name is taken
-abbrev pub has_name : Schema → List ℕ → Bool
-has_name s name = has_table s name || has_index s name || has_view s name
+-- one of them is missing
+abbrev pub any_missing : Schema → List (List ℕ) → Bool
+any_missing s names = list_any (λ name. not (is_taken s name)) names
 
--- each table of a vault is there
-abbrev pub has_tables : Schema → Bool
-has_tables s =
-    has_table s (codes "vault") && has_table s (codes "merchants") && has_table s (codes "counts")
-    && has_table s (codes "entries") && has_table s (codes "records") && has_table s (codes "rights")
+-- there are no more and no fewer than the six tables and six indexes of a vault
+pub record IsNumbered (s : Schema) : Type 0 where
+  pub tables : length s.tables ≡ 6
+  pub indexes : length s.indexes ≡ 6
+  pub views : s.views ≡ []
 
--- there is nothing but the tables and indexes of a vault
-abbrev pub is_vault : Schema → Bool
-is_vault s =
-    length s.tables == 6 && length s.indexes == 6 && length s.views == 0 && has_tables s
-    && has_index s (codes "entries_number")
+-- some of these names are taken, and not all of them, or others stand beside them
+pub record IsMixed (s : Schema) (names : List (List ℕ)) : Type 0 where
+  pub some : IsTrue (any_taken s names)
+  pub partly : IsTrue (any_missing s names) ⊎ (¬ IsNumbered s)
 
--- a name of a vault is taken
-abbrev pub has_some : Schema → Bool
-has_some s =
-    has_name s (codes "vault") || has_name s (codes "merchants") || has_name s (codes "counts")
-    || has_name s (codes "entries") || has_name s (codes "entries_number") || has_name s (codes "records")
-    || has_name s (codes "rights")
+-- there is something, which isn't the schema of a vault
+pub record IsForeign (s : Schema) : Type 0 where
+  pub some : ¬ (s ≡ no_schema)
+  pub other : ¬ (s ≡ vault_schema)
 
--- there is no table, index or view
-abbrev pub is_blank : Schema → Bool
-is_blank s = length s.tables == 0 && length s.indexes == 0 && length s.views == 0
-
--- whose tables there are: nobody's, a vault's alone, some of a vault's, or others
-abbrev pub holder_of : Schema → Holder
-holder_of s =
-    if is_blank s then Nobody
-    else if is_vault s then Vault
-    else if has_some s then Mixed
-    else Other
-
--- there are tables that aren't a vault's, or not alone, or not all of a vault's
-abbrev pub HasOtherTables : Schema → Type 0
-HasOtherTables s = (holder_of s ≡ Mixed) ⊎ (holder_of s ≡ Other)
+-- whose tables there are
+abbrev pub IsOf : Holder → Schema → Type 0
+IsOf Nobody s = s ≡ no_schema
+IsOf Vault s = s ≡ vault_schema
+IsOf Mixed s = IsForeign s × IsMixed s vault_names
+IsOf Other s = IsForeign s × (¬ IsMixed s vault_names)

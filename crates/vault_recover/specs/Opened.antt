@@ -1,19 +1,18 @@
 -- What an open finds.
-use Rattle.std.specs.Prelude.{◌≡◌, ◌≢◌, ◌⊎◌, ℕ, ℤ, pos, List, map, Some, IsTrue}
+use Rattle.std.specs.Prelude.{◌≡◌, ◌≢◌, ◌⊎◌, ℕ, ℤ, pos, List, map, Some, None, IsTrue}
 use Rattle.std.specs.List.Sorted.{IsPermutation}
 use Rattle.sqlite.specs.Effect.{Database, IsDatabase}
 use Rattle.sqlite.specs.State.{State}
 use Rattle.sqlite.specs.Tree.{Trees}
 use Rattle.vault_core.specs.Sound.{Sound}
 use Rattle.vault_core.specs.Vault.{Vault, empty_vault}
-use Rattle.vault_recover.specs.Names.{holder_of}
+use Rattle.vault_recover.specs.Names.{IsMixed, vault_names}
 use Rattle.vault_recover.specs.Raw.{version_values, merchant_values, count_values, entry_values, record_values, right_values}
 use Rattle.vault_recover.specs.Reading.{IsOurs, shown_by, version_columns}
 use Rattle.vault_recover.specs.Sizes.{sizes_of}
 use Rattle.vault_recover.specs.Versions.{other_version}
 use Rattle.vault_recover.specs.declared.fault.OpenFault.{OpenFault}
 use Rattle.vault_recover.specs.declared.fault.OpenFault.TheVariants.{WrongSchema, Damaged}
-use Rattle.vault_recover.specs.declared.names.Holder.TheVariants as holder
 use Rattle.vault_recover.specs.declared.sizes.Sizes.{Sizes}
 use Rattle.vault_rules.specs.Rules as rules
 use Rattle.vault_rules.specs.declared.rows.RawVersion.{RawVersion}
@@ -50,11 +49,12 @@ pub record AreRaws (db : Trees) (rows : Rows) : Type 0 where
   pub merchants : AreMerchants db rows.merchants.items rows.counts.items
   pub others : AreOthers db rows.entries.items rows.records.items rows.rights.items
 
--- the rows break this rule, and none below it
+-- the version is 1, and the rows break this rule and none below it
 pub record IsLeastBroken (db : Database) (rule : ℕ) : Type 0 where
   pub rows : Rows
   pub is : IsDatabase db
   pub are : AreRaws db.trees rows
+  pub version : other_version rows.versions.items ≡ None
   pub least : rules.IsLeastBroken rows rule
 
 -- the row of `vault` with the id 1 says this version, which isn't 1
@@ -82,14 +82,9 @@ pub record HoldsSound (s : State) : Type 0 where
   pub sound : Sound vault
   pub holds : Holds s vault
 
--- The premise on a file: where it has the names of a vault's tables and indexes, and no others, these are a
--- vault's tables.
-abbrev pub IsKnown : Database → Type 0
-IsKnown db = holder_of db.schema ≡ holder.Vault → IsOurs db
-
 -- the version is another one, or 0 where some of a vault's names are taken and not all, or not alone
 abbrev pub IsWrong : Database → ℤ → Type 0
-IsWrong db n = (n ≡ pos 0) × (holder_of db.schema ≡ holder.Mixed) ⊎ IsOtherVersion db n
+IsWrong db n = (n ≡ pos 0) × IsMixed db.schema vault_names ⊎ IsOtherVersion db n
 
 -- the database stands for a sound vault, or has no table, index or view
 abbrev pub IsFit : Database → Type 0
@@ -102,7 +97,7 @@ IsNoRefusal e = ((n : ℤ) → e ≢ WrongSchema n) × ((rule : ℕ) → e ≢ D
 -- A vault's tables hold a sound vault and are as they were, so a vault that they stand for is held; without a
 -- table they hold the empty vault.
 pub record Opens (old new : State) : Type 0 where
-  pub whose : (old.now.schema ≡ no_schema) ⊎ (holder_of old.now.schema ≡ holder.Vault)
+  pub whose : (old.now.schema ≡ no_schema) ⊎ (old.now.schema ≡ vault_schema)
   pub ours : IsOurs old.now → HoldsSound new × (new.now ≡ old.now)
   pub same : IsOurs old.now → (V : Vault) → Stands old.now.trees V → Holds new V
   pub blank : IsTrue old.is_open → old.now.schema ≡ no_schema → Holds new empty_vault

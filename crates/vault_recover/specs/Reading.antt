@@ -17,11 +17,15 @@ shown_by project row = eval_all project ([] ∷ row ∷ [])
 abbrev pub version_columns : List Term
 version_columns = col 1 0 ∷ col 1 2 ∷ []
 
--- A database in the schema of a vault. Each row of `entries` has all its columns: the last one may be NULL,
--- so nothing else says that no row was made before it was added.
+-- The premise on a file: each row of `entries` has all its columns. The last one may be NULL, so nothing else
+-- says that no row was made before it was added; no statement of this program adds one.
+abbrev pub IsFull : Database → Type 0
+IsFull db = (row : Row) → Has (db.trees 5) row → 7 < length row
+
+-- a database in the schema of a vault, with full rows
 pub record IsOurs (db : Database) : Type 0 where
   pub schema : db.schema ≡ vault_schema
-  pub full : (row : Row) → Has (db.trees 5) row → 7 < length row
+  pub full : IsFull db
 
 -- Whether or not it failed, a call made no doubt of the disk go away, no transaction and no limit, and a crash
 -- leaves nothing that it did not leave before.

@@ -1,11 +1,12 @@
 //! The whole check of a file.
-ghost use Rattle.std.specs.Prelude.{◌≡◌, ◌⊎◌, ℤ, ℕ, IfOk, IfErr, OnOk};
+ghost use Rattle.std.specs.Prelude.{◌≡◌, ◌⊎◌, ℤ, ℕ, pos, Err, IfOk, IfErr, OnOk};
 ghost use Rattle.sqlite.specs.Held.{state};
 ghost use Rattle.sqlite.specs.State.{HasCleanDisk, IsUnchanged};
 ghost use Rattle.vault_core.specs.Vault.{empty_vault};
-ghost use Rattle.vault_recover.specs.Names.{holder_of};
-ghost use Rattle.vault_recover.specs.Opened.{IsFit, IsKnown, IsLeastBroken, IsNoRefusal, IsSoundOf, IsWrong};
-ghost use Rattle.vault_recover.specs.Reading.{IsQuiet};
+ghost use Rattle.vault_recover.specs.Faults.{IsJudged};
+ghost use Rattle.vault_recover.specs.Names.{IsForeign, IsMixed, vault_names};
+ghost use Rattle.vault_recover.specs.Opened.{IsFit, IsLeastBroken, IsNoRefusal, IsSoundOf, IsWrong};
+ghost use Rattle.vault_recover.specs.Reading.{IsFull, IsQuiet};
 ghost use Rattle.vault_recover.specs.Sizes.{sizes_of};
 ghost use Rattle.sql_maps.specs.Schema.{no_schema};
 ghost use Rattle.vault_sql.specs.Schema.{vault_schema};
@@ -22,15 +23,26 @@ use std::alloc::Global;
 ///
 /// Refused by 30 with the version that the file says, where it isn't 1, or with 0 where some of a vault's names
 /// are there and one is missing, or others stand beside them; by 31 with the least rule that the rows break; by
-/// 32 where memory ran out; by 33 where the database failed, or the tables are another program's alone.
+/// 32 where memory ran out; by 33 where the database failed, the tables are another program's alone, or a vault's
+/// tables stand in another order or form than this program makes them. After 30 and 31 the connection sees what
+/// it saw.
 pub fn check<S: Alter>(alloc: Global, conn: &mut Connection<S>) -> Result<Sizes, OpenFault>
-    ensures sound { HasCleanDisk (state S.Store conn.new) → IfOk result (λ sizes. IsKnown (state S.Store conn.old).now
+    ensures sound { HasCleanDisk (state S.Store conn.new) → IfOk result (λ sizes. IsFull (state S.Store conn.old).now
         → ((state S.Store conn.old).now.schema ≡ no_schema) × (sizes ≡ sizes_of empty_vault) ⊎ IsSoundOf (state S.Store conn.old).now sizes) }
-    ensures damaged { HasCleanDisk (state S.Store conn.new) → IfErr result (λ e. (rule : ℕ) → e ≡ OpenFault.Damaged rule → IsKnown (state S.Store conn.old).now → IsLeastBroken (state S.Store conn.old).now rule) }
-    ensures wrong { HasCleanDisk (state S.Store conn.new) → IfErr result (λ e. (n : ℤ) → e ≡ OpenFault.WrongSchema n → IsKnown (state S.Store conn.old).now → IsWrong (state S.Store conn.old).now n) }
+    ensures damaged { HasCleanDisk (state S.Store conn.new) → IfErr result (λ e. (rule : ℕ) → e ≡ OpenFault.Damaged rule
+        → IsFull (state S.Store conn.old).now → IsLeastBroken (state S.Store conn.old).now rule) }
+    ensures wrong { HasCleanDisk (state S.Store conn.new) → IfErr result (λ e. (n : ℤ) → e ≡ OpenFault.WrongSchema n
+        → IsWrong (state S.Store conn.old).now n) }
     ensures never { HasCleanDisk (state S.Store conn.new) → IfErr result (λ e. IsFit (state S.Store conn.old).now → IsNoRefusal e) }
-    ensures kept { HasCleanDisk (state S.Store conn.new) → OnOk result ((state S.Store conn.old).now.schema ≡ vault_schema → IsUnchanged (state S.Store conn.old) (state S.Store conn.new)) }
-    ensures untouched { ¬ (holder_of (state S.Store conn.old).now.schema ≡ Holder.Vault) → conn.new ≡ conn.old }
+    ensures mixed { IsForeign (state S.Store conn.old).now.schema → IsMixed (state S.Store conn.old).now.schema vault_names
+        → result ≡ Err (OpenFault.WrongSchema (pos 0)) }
+    ensures strange { IsForeign (state S.Store conn.old).now.schema → ¬ IsMixed (state S.Store conn.old).now.schema vault_names
+        → result ≡ Err OpenFault.Store }
+    ensures kept { HasCleanDisk (state S.Store conn.new) → OnOk result ((state S.Store conn.old).now.schema ≡ vault_schema
+        → IsUnchanged (state S.Store conn.old) (state S.Store conn.new)) }
+    ensures sees { HasCleanDisk (state S.Store conn.new) → IfErr result (λ e. IsJudged e
+        → (state S.Store conn.old).now.schema ≡ vault_schema → IsUnchanged (state S.Store conn.old) (state S.Store conn.new)) }
+    ensures untouched { ¬ ((state S.Store conn.old).now.schema ≡ vault_schema) → conn.new ≡ conn.old }
     ensures quiet { IsQuiet (state S.Store conn.old) (state S.Store conn.new) }
 {
     match holder_in(conn.schema()) {

@@ -1,108 +1,85 @@
-//! Whose tables a file holds, by their names.
-ghost use Rattle.std.specs.Prelude.{◌≡◌};
-ghost use Rattle.vault_recover.specs.Names as names;
+//! Whose tables a file holds.
+ghost use Rattle.std.specs.Prelude.{◌≡◌, map, Decides};
+ghost use Rattle.sql_maps.specs.Schema.{no_schema};
+ghost use Rattle.vault_recover.specs.Names as spec;
 
 use sqlite_schema::schema::Schema;
+use vault_schema::v1::NAMES;
+use vault_schema::v1::shape::is_v1;
 
 /// Whose tables a file holds.
 #[derive(Clone, Copy, Debug, PartialEq, Eq)]
 pub(crate) enum Holder {
     /// No table, index or view.
     Nobody,
-    /// The tables and indexes of a vault, and no others.
+    /// The tables and indexes of a vault, as this program makes them, and no others.
     Vault,
     /// Some of a vault's names, and not all, or others beside them.
     Mixed,
-    /// None of a vault's names.
+    /// None of a vault's names, or all of them alone in another order or form.
     Other,
 }
 
-/// Whether there is a table of this name.
-fn has_table(schema: &Schema, name: &str) -> bool
-    ensures { result ≡ names.has_table schema.now name.now }
+/// Whether a table, an index, or a view or another object has this name.
+fn is_taken(schema: &Schema, name: &str) -> bool
+    ensures { result ≡ spec.is_taken schema.now name.now }
 {
-    schema
-        .tables
-        .as_slice()
-        .iter()
-        .any(|t| t.name.as_slice() == name.as_bytes())
+    let name = name.as_bytes();
+    schema.table_named(name).is_some()
+        || schema.index_named(name).is_some()
+        || schema.view_named(name).is_some()
 }
 
-/// Whether there is an index of this name.
-fn has_index(schema: &Schema, name: &str) -> bool
-    ensures { result ≡ names.has_index schema.now name.now }
+/// Whether one of these names is taken.
+fn any_taken(schema: &Schema, names: &[&str]) -> bool
+    ensures { result ≡ spec.any_taken schema.now (map (λ name. name.now) names.now) }
 {
-    schema
-        .indexes
-        .as_slice()
-        .iter()
-        .any(|i| i.name.as_slice() == name.as_bytes())
+    match names {
+        [] => false,
+        [name, names @ ..] => is_taken(schema, name) || any_taken(schema, names),
+    }
 }
 
-/// Whether a view or another object has this name.
-fn has_view(schema: &Schema, name: &str) -> bool
-    ensures { result ≡ names.has_view schema.now name.now }
+/// Whether one of them is missing.
+fn any_missing(schema: &Schema, names: &[&str]) -> bool
+    ensures { result ≡ spec.any_missing schema.now (map (λ name. name.now) names.now) }
 {
-    schema
-        .views
-        .as_slice()
-        .iter()
-        .any(|v| v.name.as_slice() == name.as_bytes())
+    match names {
+        [] => false,
+        [name, names @ ..] => !is_taken(schema, name) || any_missing(schema, names),
+    }
 }
 
-/// Whether a name is taken.
-fn has_name(schema: &Schema, name: &str) -> bool
-    ensures { result ≡ names.has_name schema.now name.now }
+/// Whether there are as many tables and indexes as a vault has, and nothing else.
+fn is_numbered(schema: &Schema) -> bool
+    ensures { Decides result (spec.IsNumbered schema.now) }
 {
-    has_table(schema, name) || has_index(schema, name) || has_view(schema, name)
+    schema.tables.len() == 6 && schema.indexes.len() == 6 && schema.views.is_empty()
 }
 
-/// Whether each table of a vault is there.
-fn has_tables(schema: &Schema) -> bool
-    ensures { result ≡ names.has_tables schema.now }
+/// Whether some of these names are taken, and not all of them, or others stand beside them.
+fn is_mixed(schema: &Schema, names: &[&str]) -> bool
+    ensures { Decides result (spec.IsMixed schema.now (map (λ name. name.now) names.now)) }
 {
-    has_table(schema, "vault")
-        && has_table(schema, "merchants")
-        && has_table(schema, "counts")
-        && has_table(schema, "entries")
-        && has_table(schema, "records")
-        && has_table(schema, "rights")
+    any_taken(schema, names) && (any_missing(schema, names) || !is_numbered(schema))
 }
 
-/// Whether there is nothing but the tables and indexes of a vault.
-fn is_vault(schema: &Schema) -> bool
-    ensures { result ≡ names.is_vault schema.now }
+/// Whether there is no table, index or view.
+fn is_blank(schema: &Schema) -> bool
+    ensures { Decides result (schema.now ≡ no_schema) }
 {
-    schema.tables.len() == 6
-        && schema.indexes.len() == 6
-        && schema.views.is_empty()
-        && has_tables(schema)
-        && has_index(schema, "entries_number")
-}
-
-/// Whether a name of a vault is taken.
-fn has_some(schema: &Schema) -> bool
-    ensures { result ≡ names.has_some schema.now }
-{
-    has_name(schema, "vault")
-        || has_name(schema, "merchants")
-        || has_name(schema, "counts")
-        || has_name(schema, "entries")
-        || has_name(schema, "entries_number")
-        || has_name(schema, "records")
-        || has_name(schema, "rights")
+    schema.tables.is_empty() && schema.indexes.is_empty() && schema.views.is_empty()
 }
 
 /// Whose tables a schema has.
 pub(crate) fn holder_in(schema: &Schema) -> Holder
-    ensures { result ≡ names.holder_of schema.now }
+    ensures { spec.IsOf result schema.now }
 {
-    if schema.tables.is_empty() && schema.indexes.is_empty() && schema.views.is_empty() {
-        return Holder::Nobody;
-    }
-    if is_vault(schema) {
+    if is_blank(schema) {
+        Holder::Nobody
+    } else if is_v1(schema) {
         Holder::Vault
-    } else if has_some(schema) {
+    } else if is_mixed(schema, &NAMES) {
         Holder::Mixed
     } else {
         Holder::Other

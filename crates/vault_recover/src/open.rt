@@ -1,11 +1,13 @@
 //! A vault is opened from a file.
-ghost use Rattle.std.specs.Prelude.{◌≡◌, ℤ, ℕ, false, None, IfOk, IfErr, IsErr, OnOk};
+ghost use Rattle.std.specs.Prelude.{◌≡◌, ℤ, ℕ, pos, false, None, Err, IfOk, IfErr, OnOk};
 ghost use Rattle.sqlite.specs.Held.{state};
-ghost use Rattle.sqlite.specs.State.{HasCleanDisk};
-ghost use Rattle.vault_recover.specs.Names.{HasOtherTables};
-ghost use Rattle.vault_recover.specs.Opened.{IsFit, IsKnown, IsLeastBroken, IsNoRefusal, IsWrong, LeavesFound, Opens};
-ghost use Rattle.vault_recover.specs.Reading.{IsQuiet};
+ghost use Rattle.sqlite.specs.State.{HasCleanDisk, IsUnchanged};
+ghost use Rattle.vault_recover.specs.Faults.{IsJudged};
+ghost use Rattle.vault_recover.specs.Names.{IsForeign, IsMixed, vault_names};
+ghost use Rattle.vault_recover.specs.Opened.{IsFit, IsLeastBroken, IsNoRefusal, IsWrong, LeavesFound, Opens};
+ghost use Rattle.vault_recover.specs.Reading.{IsFull, IsQuiet};
 ghost use Rattle.sql_maps.specs.Schema.{no_schema};
+ghost use Rattle.vault_sql.specs.Schema.{vault_schema};
 ghost use Rattle.vault_store.specs.Applied.{is_broken, tables_of};
 
 use crate::fault::OpenFault;
@@ -22,11 +24,16 @@ fn ready<S: Alter>(alloc: Global, conn: &mut Connection<S>) -> Result<(), OpenFa
     requires idle { conn.old.in_transaction ≡ false }
     requires unlimited { conn.old.step_limit ≡ None }
     ensures opens { HasCleanDisk (state S.Store conn.new) → OnOk result (Opens (state S.Store conn.old) (state S.Store conn.new)) }
-    ensures damaged { HasCleanDisk (state S.Store conn.new) → IfErr result (λ e. (rule : ℕ) → e ≡ OpenFault.Damaged rule → IsKnown (state S.Store conn.old).now → IsLeastBroken (state S.Store conn.old).now rule) }
-    ensures wrong { HasCleanDisk (state S.Store conn.new) → IfErr result (λ e. (n : ℤ) → e ≡ OpenFault.WrongSchema n → IsKnown (state S.Store conn.old).now → IsWrong (state S.Store conn.old).now n) }
+    ensures damaged { HasCleanDisk (state S.Store conn.new) → IfErr result (λ e. (rule : ℕ) → e ≡ OpenFault.Damaged rule → IsFull (state S.Store conn.old).now → IsLeastBroken (state S.Store conn.old).now rule) }
+    ensures wrong { HasCleanDisk (state S.Store conn.new) → IfErr result (λ e. (n : ℤ) → e ≡ OpenFault.WrongSchema n → IsWrong (state S.Store conn.old).now n) }
     ensures never { HasCleanDisk (state S.Store conn.new) → IfErr result (λ e. IsFit (state S.Store conn.old).now → IsNoRefusal e) }
     ensures left { HasCleanDisk (state S.Store conn.new) → LeavesFound (state S.Store conn.old) (state S.Store conn.new) }
-    ensures foreign { HasOtherTables (state S.Store conn.old).now.schema → IsErr result × (conn.new ≡ conn.old) }
+    ensures mixed { IsForeign (state S.Store conn.old).now.schema → IsMixed (state S.Store conn.old).now.schema vault_names
+        → (result ≡ Err (OpenFault.WrongSchema (pos 0))) × (conn.new ≡ conn.old) }
+    ensures strange { IsForeign (state S.Store conn.old).now.schema → ¬ IsMixed (state S.Store conn.old).now.schema vault_names
+        → (result ≡ Err OpenFault.Store) × (conn.new ≡ conn.old) }
+    ensures sees { HasCleanDisk (state S.Store conn.new) → IfErr result (λ e. IsJudged e
+        → (state S.Store conn.old).now.schema ≡ vault_schema → IsUnchanged (state S.Store conn.old) (state S.Store conn.new)) }
     ensures quiet { ¬ ((state S.Store conn.old).now.schema ≡ no_schema) → IsQuiet (state S.Store conn.old) (state S.Store conn.new) }
     ensures idle { conn.new.in_transaction ≡ false }
 {
@@ -50,8 +57,9 @@ fn ready<S: Alter>(alloc: Global, conn: &mut Connection<S>) -> Result<(), OpenFa
 ///
 /// Refused by 30 with the version that the file says, where it isn't 1, or with 0 where some of a vault's names
 /// are there and one is missing, or others stand beside them; by 31 with the least rule that the rows break; by
-/// 32 where memory ran out; by 33 where the database failed, or the tables are another program's alone. A
-/// refused file is as it was; but after 33 one without any table may have those of the empty vault.
+/// 32 where memory ran out; by 33 where the database failed, the tables are another program's alone, or a vault's
+/// tables stand in another order or form than this program makes them. A refused file is as it was; but after 33
+/// one without any table may have those of the empty vault. After 30 and 31 the connection sees what it saw.
 pub fn open<S: Alter>(
     alloc: Global,
     conn: Connection<S>,
@@ -60,13 +68,17 @@ pub fn open<S: Alter>(
     requires unlimited { conn.step_limit ≡ None }
     ensures fresh { IfOk result (λ vault. (is_broken vault ≡ false) × ((tables_of vault).failed ≡ false)) }
     ensures opens { IfOk result (λ vault. HasCleanDisk (state S.Store (tables_of vault).conn) → Opens (state S.Store conn) (state S.Store (tables_of vault).conn)) }
-    ensures damaged { IfErr result (λ e. HasCleanDisk (state S.Store e.1) → (rule : ℕ) → e.0 ≡ OpenFault.Damaged rule → IsKnown (state S.Store conn).now → IsLeastBroken (state S.Store conn).now rule) }
-    ensures wrong { IfErr result (λ e. HasCleanDisk (state S.Store e.1) → (n : ℤ) → e.0 ≡ OpenFault.WrongSchema n → IsKnown (state S.Store conn).now → IsWrong (state S.Store conn).now n) }
+    ensures damaged { IfErr result (λ e. HasCleanDisk (state S.Store e.1) → (rule : ℕ) → e.0 ≡ OpenFault.Damaged rule → IsFull (state S.Store conn).now → IsLeastBroken (state S.Store conn).now rule) }
+    ensures wrong { IfErr result (λ e. HasCleanDisk (state S.Store e.1) → (n : ℤ) → e.0 ≡ OpenFault.WrongSchema n → IsWrong (state S.Store conn).now n) }
     ensures never { IfErr result (λ e. HasCleanDisk (state S.Store e.1) → IsFit (state S.Store conn).now → IsNoRefusal e.0) }
     ensures left { IfOk result (λ vault. HasCleanDisk (state S.Store (tables_of vault).conn) → LeavesFound (state S.Store conn) (state S.Store (tables_of vault).conn)) }
     ensures left_refused { IfErr result (λ e. HasCleanDisk (state S.Store e.1) → LeavesFound (state S.Store conn) (state S.Store e.1)) }
-    ensures foreign { HasOtherTables (state S.Store conn).now.schema → IsErr result }
-    ensures untouched { IfErr result (λ e. HasOtherTables (state S.Store conn).now.schema → e.1 ≡ conn) }
+    ensures mixed { IsForeign (state S.Store conn).now.schema → IsMixed (state S.Store conn).now.schema vault_names
+        → result ≡ Err (OpenFault.WrongSchema (pos 0), conn) }
+    ensures strange { IsForeign (state S.Store conn).now.schema → ¬ IsMixed (state S.Store conn).now.schema vault_names
+        → result ≡ Err (OpenFault.Store, conn) }
+    ensures sees { IfErr result (λ e. HasCleanDisk (state S.Store e.1) → IsJudged e.0
+        → (state S.Store conn).now.schema ≡ vault_schema → IsUnchanged (state S.Store conn) (state S.Store e.1)) }
     ensures quiet { IfErr result (λ e. ¬ ((state S.Store conn).now.schema ≡ no_schema) → IsQuiet (state S.Store conn) (state S.Store e.1)) }
     ensures idle { IfErr result (λ e. e.1.in_transaction ≡ false) }
 {

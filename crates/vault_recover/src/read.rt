@@ -23,7 +23,7 @@ pub(crate) fn versions<S: Alter>(
     alloc: Global,
     conn: &mut Connection<S>,
 ) -> Result<Vec<RawVersion>, ReadFault>
-    ensures told { HasCleanDisk (state S.Store conn.new) → IfOk result (λ raws. IsOurs (state S.Store conn.old).now → IsPermutation (map (shown_by version_columns) ((state S.Store conn.old).now.trees 0)) (map version_values raws.items)) }
+    ensures told { HasCleanDisk (state S.Store conn.new) → IfOk result (λ raws. (state S.Store conn.old).now.schema ≡ vault_schema → IsPermutation (map (shown_by version_columns) ((state S.Store conn.old).now.trees 0)) (map version_values raws.items)) }
     ensures live { HasCleanDisk (state S.Store conn.new) → OnOk result ((state S.Store conn.old).now.schema ≡ vault_schema → IsDatabase (state S.Store conn.old).now) }
     ensures kept { HasCleanDisk (state S.Store conn.new) → OnOk result ((state S.Store conn.old).now.schema ≡ vault_schema → IsUnchanged (state S.Store conn.old) (state S.Store conn.new)) }
     ensures quiet { IsQuiet (state S.Store conn.old) (state S.Store conn.new) }

@@ -2,6 +2,7 @@
 ghost use Rattle.std.specs.Prelude.{◌≡◌, ℤ, ℕ, IfOk, IfErr, OnOk};
 ghost use Rattle.sqlite.specs.Held.{state};
 ghost use Rattle.sqlite.specs.State.{HasCleanDisk, IsUnchanged};
+ghost use Rattle.vault_recover.specs.Faults.{IsJudged};
 ghost use Rattle.vault_recover.specs.Opened.{IsLeastBroken, IsOtherVersion, IsSoundOf};
 ghost use Rattle.vault_recover.specs.Reading.{IsOurs, IsQuiet};
 ghost use Rattle.vault_sql.specs.Schema.{vault_schema};
@@ -19,7 +20,10 @@ pub(crate) fn verdict<S: Alter>(alloc: Global, conn: &mut Connection<S>) -> Resu
     ensures sound { HasCleanDisk (state S.Store conn.new) → IfOk result (λ sizes. IsOurs (state S.Store conn.old).now → IsSoundOf (state S.Store conn.old).now sizes) }
     ensures kept { HasCleanDisk (state S.Store conn.new) → OnOk result ((state S.Store conn.old).now.schema ≡ vault_schema → IsUnchanged (state S.Store conn.old) (state S.Store conn.new)) }
     ensures damaged { HasCleanDisk (state S.Store conn.new) → IfErr result (λ e. (rule : ℕ) → e ≡ OpenFault.Damaged rule → IsOurs (state S.Store conn.old).now → IsLeastBroken (state S.Store conn.old).now rule) }
-    ensures versioned { HasCleanDisk (state S.Store conn.new) → IfErr result (λ e. (n : ℤ) → e ≡ OpenFault.WrongSchema n → IsOurs (state S.Store conn.old).now → IsOtherVersion (state S.Store conn.old).now n) }
+    ensures versioned { HasCleanDisk (state S.Store conn.new) → IfErr result (λ e. (n : ℤ) → e ≡ OpenFault.WrongSchema n
+        → (state S.Store conn.old).now.schema ≡ vault_schema → IsOtherVersion (state S.Store conn.old).now n) }
+    ensures sees { HasCleanDisk (state S.Store conn.new) → IfErr result (λ e. IsJudged e
+        → (state S.Store conn.old).now.schema ≡ vault_schema → IsUnchanged (state S.Store conn.old) (state S.Store conn.new)) }
     ensures quiet { IsQuiet (state S.Store conn.old) (state S.Store conn.new) }
 {
     let versions = read::versions(alloc, conn)?;

@@ -1,4 +1,6 @@
 //! Schema 1: the texts that make its tables, and those that read and write them.
+pub mod shape;
+
 use vault_core::moment::Moment;
 
 /// A merchant as its own table has it, without its counts.
@@ -8,6 +10,17 @@ pub struct Lives {
     pub multi_life: u64,
     pub moment: Moment,
 }
+
+/// The names of its tables, and of the index that isn't a key's.
+pub const NAMES: [&str; 7] = [
+    "vault",
+    "merchants",
+    "counts",
+    "entries",
+    "entries_number",
+    "records",
+    "rights",
+];
 
 /// Makes the table of the version.
 pub const CREATE_VAULT: &str =

@@ -1,22 +1,27 @@
-use Rattle.std.proofs.Common.{◌∙◌, sym, ap, Err}
+use Rattle.std.proofs.Common.{Err}
 use Rattle.sqlite.specs.Held.{state}
+use Rattle.vault_recover.proofs.Holders.{held_by}
 use Rattle.vault_recover.proofs.Judged.{no_refusal}
 use Rattle.vault_recover.proofs.Opening.{opens_vault}
 use Rattle.vault_recover.proofs.open.ready.Goals as goal
-use Rattle.vault_recover.specs.Names.{holder_of}
 
 pub returns-in-Ok-verdict-clause-opens : goal.returns-in-Ok-verdict-clause-opens
 returns-in-Ok-verdict-clause-opens g c clean =
-    opens_vault (state g.S.Store c.args.conn.now) (state g.S.Store c.verdict.new.conn) c.is_autocommit-settled.result c.in-Ok-verdict.field-0
+    opens_vault (state g.S.Store c.args.conn.now) (state g.S.Store c.verdict.new.conn)
+    c.is_autocommit-settled.result c.in-Ok-verdict.field-0
     c.is_autocommit-settled.ensures.value c.requires.idle c.requires.unlimited c.is_autocommit-settled.ensures.settled
-    (ap holder_of (sym c.schema.ensures.value) ∙ sym c.holder_in.ensures ∙ c.in-Vault.is) c.verdict.ensures.quiet.limit
+    (held_by _ _ _ _ c.in-Vault.is c.schema.ensures.value c.holder_in.ensures) c.verdict.ensures.quiet.limit
     (c.in-Ok-verdict.ensures.sound clean) (c.in-Ok-verdict.ensures.kept clean)
 
 pub returns-in-Err-verdict-clause-damaged : goal.returns-in-Err-verdict-clause-damaged
-returns-in-Err-verdict-clause-damaged g c clean rule same known =
-    c.in-Err-verdict.ensures.damaged clean rule same (known (ap holder_of (sym c.schema.ensures.value) ∙ sym c.holder_in.ensures ∙ c.in-Vault.is))
+returns-in-Err-verdict-clause-damaged g c clean rule same full =
+    c.in-Err-verdict.ensures.damaged clean rule same (record {
+      schema = held_by _ _ _ _ c.in-Vault.is c.schema.ensures.value c.holder_in.ensures;
+      full = full;
+    })
 
 pub returns-in-Err-verdict-clause-never : goal.returns-in-Err-verdict-clause-never
 returns-in-Err-verdict-clause-never g c clean =
-    no_refusal {A = Unit {0}} (state g.S.Store c.args.conn.now).now (ap holder_of (sym c.schema.ensures.value) ∙ sym c.holder_in.ensures ∙ c.in-Vault.is)
+    no_refusal {A = Unit {0}} (state g.S.Store c.args.conn.now).now
+    (held_by _ _ _ _ c.in-Vault.is c.schema.ensures.value c.holder_in.ensures)
     (Err c.in-Err-verdict.fault) (c.in-Err-verdict.ensures.damaged clean) (c.in-Err-verdict.ensures.versioned clean)

@@ -15,7 +15,7 @@ pub returns-clause-told : goal.returns-clause-told
 returns-clause-told g c clean =
     if_ok c.versions.result (λ raws same ours.
     subst (IsPermutation _) (sym (same ∙ c.deref.ensures.value))
-    (reads_all vault_schema (state g.S.Store c.args.conn.now) (state g.S.Store c.rows_of.new.conn) ours.schema
+    (reads_all vault_schema (state g.S.Store c.args.conn.now) (state g.S.Store c.rows_of.new.conn) ours
     _ _ 0 _ _ (read_versions_is [] []) (c.in_ok-rows.ensures.told clean))) c.versions.ensures
 
 pub returns-clause-live : goal.returns-clause-live
