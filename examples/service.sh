@@ -3,7 +3,7 @@
 # pipe. sh examples/service.sh [PROGRAM]
 set -eu
 . "$(dirname "$0")/shared/steps.sh"
-need_curl
+need curl
 
 tokens=/v1/merchants/shop1/tokens
 digits12='[0-9][0-9][0-9][0-9][0-9][0-9][0-9][0-9][0-9][0-9][0-9][0-9]'

@@ -3,7 +3,7 @@
 # is killed. sh examples/statuses.sh [PROGRAM]
 set -eu
 . "$(dirname "$0")/shared/steps.sh"
-need_curl
+need curl
 
 # What a command says on standard error, with standard output where nothing can be written.
 told_full() {

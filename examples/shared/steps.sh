@@ -89,16 +89,16 @@ token_of() {
     echo "$1" | sed -n 's/.*"token":"\([0-9]*\)".*/\1/p'
 }
 
-install_curl() {
-    apt-get install -y curl || { apt-get update && apt-get install -y curl; } || apk add curl
+install() {
+    apt-get install -y "$1" || { apt-get update && apt-get install -y "$1"; } || apk add "$1"
 }
 
-# Makes sure that curl is there.
-need_curl() {
-    command -v curl > /dev/null && return
-    install_curl > curl.log 2>&1 || true
-    command -v curl > /dev/null && return
-    echo "curl is missing and couldn't be installed: 'apt-get install curl' or 'apk add curl' does it"
+# Makes sure that a program is there.
+need() {
+    command -v "$1" > /dev/null && return
+    install "$1" > install.log 2>&1 || true
+    command -v "$1" > /dev/null && return
+    echo "$1 is missing and couldn't be installed: 'apt-get install $1' or 'apk add $1' does it"
     failed=$((failed + 1))
     end
 }

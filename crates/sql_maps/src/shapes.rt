@@ -3,9 +3,8 @@ mod columns;
 mod keys;
 mod tables;
 
-pub use tables::is_schema;
-
 use sqlite_schema::schema::Kind;
+pub use tables::is_schema;
 
 /// A column of a STRICT table, by its name and its type.
 pub enum ColumnShape<'a> {

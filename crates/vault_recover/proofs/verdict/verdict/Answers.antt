@@ -20,7 +20,7 @@ returns-clause-damaged g c clean =
       is = c.in_ok-versions.ensures.live clean_mid ours.schema;
       are = raws_of old mid one ours c.in_ok-versions.versions.items (c.in_ok-versions.ensures.told clean_mid ours.schema) c.in_ok-rows.rows (c.in_ok-rows.ensures.told clean);
       version = ap (λ v. other_version v.items) c.in_ok-rows.ensures.versions ∙ ap other_version (sym c.deref.ensures.value)
-      ∙ sym c.other_version.ensures ∙ c.in_default.is;
+          ∙ sym c.other_version.ensures ∙ c.in_default.is;
       least = broken rule same;
     }) c.judge.ensures.damaged
 
