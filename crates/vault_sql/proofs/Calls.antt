@@ -1,15 +1,30 @@
 -- The one clause of a call, from what the functions that run a text say.
 use Rattle.std.proofs.Common.{◌≡◌, ℕ, List, Ok, Err, Result, IfOk, OnOk, refl, sym, IsTrue, true≢false, ◌<◌}
-use Rattle.std.proofs.Common.{◌^◌, arith, Option, Some, None}
+use Rattle.std.proofs.Common.{◌^◌, ◌∷◌, ◌++◌, [], suc, ℤ, arith, Option, Some, None}
 use Rattle.std.specs.Result.{IsErr}
 use Rattle.sqlite.specs.Effect.{Database}
 use Rattle.sqlite.specs.Order.{Row}
 use Rattle.sqlite.specs.State.{State, HasCleanDisk, ExecutesInside, Shown}
 use Rattle.sqlite.specs.Tree.{Trees}
 use Rattle.sqlite.specs.Values.{bound_value}
+use Rattle.sqlite.specs.Listing.{understood}
+use Rattle.sqlite.specs.Query.{Query}
+use Rattle.sqlite.specs.Schema.{Schema}
+use Rattle.sqlite.specs.Term.{Term}
+use Rattle.sqlite.specs.declared.types.Value.TheVariants.{Int}
+use Rattle.std.specs.declared.cmp.Ordering.{Ordering}
+use Rattle.sqlite.proofs.Callers.{IsPlain}
+use Rattle.sql_maps.specs.Codes.{row_of}
+use Rattle.sql_maps.specs.Rows.{AreRowsOf, one_of}
+use Rattle.sql_maps.specs.Texts.{IsQuery, by_key, query_of}
+use Rattle.sql_maps.proofs.Answers.{shown_as}
+use Rattle.sql_maps.proofs.Keys.{Keyed}
+use Rattle.sql_maps.proofs.Plain.{claim_at}
+use Rattle.sql_maps.proofs.Reading.{look_up}
 use Rattle.sql_maps.specs.States.{Reads, Steps}
 use Rattle.sql_maps.specs.States as maps
 use Rattle.sql_maps.proofs.Calls as calls
+use Rattle.sql_maps.proofs.Statements.{Ran}
 use Rattle.vault_core.specs.Keys.{Bytes, right_number}
 use Rattle.vault_core.specs.Vault.{Vault}
 use Rattle.vault_core.specs.declared.right.Right.{Right}
@@ -76,42 +91,64 @@ as_ours V db h = record { sound = h.sound; stands = as_fields db (lookups_of V) 
 -- ---- a query
 
 -- what its rows show of the tables is told
-pub tells : {R E : Type 0} (items : R → List Row) (result : Result R E) (old new : State) (sql : List ℕ)
-    (params : Row) (Is : Vault → R → Type 0)
-    → Reads vault_schema result old new
+pub tells : {R E : Type 0} {result : Result R E} {old new : State} {sql : List ℕ} {body : Query}
+    {Is : Vault → R → Type 0} → IsQuery vault_schema sql body
+    → ((s : Schema) → IsPlain (understood s sql) → Reads s result old new) → (items : R → List Row) (params : Row)
     → (HasCleanDisk new → IfOk result (λ rows. Shown sql params old new (items rows)))
     → ((V : Vault) (rows : R) → maps.Stands vault_schema (claims (lookups_of V)) old.now
     → Shown sql params old new (items rows) → Is V rows) → Tells result old new Is
-tells items result old new sql params Is reads told lemma = record {
-  reads = reads;
+tells {result = result} {old = old} {new = new} {sql = sql} means reads items params told lemma = record {
+  reads = reads vault_schema means.plain;
   told = λ clean. calls.if_ok result (λ rows. Shown sql params old new (items rows)) _ (told clean)
       (λ rows shown V h. lemma V rows (as_held old V h).stands shown);
 }
 
--- a call that reads leaves each vault as it was
-pub still_held : {R E : Type 0} (x : R) (old new : State)
-    → Reads vault_schema (let it : Result R E = Ok x in it) old new → HasCleanDisk new → (V : Vault)
-    → Holds old V → Holds new V
-still_held x old new reads clean V h =
-    as_vault new V
-    (calls.holds_on vault_schema (claims (lookups_of V)) old new (reads.kept clean h.schema) reads.limit
-    (as_held old V h))
+-- a look-up by key tells what is at the key
+pub looks_up : {R E K X : Type 0} {result : Result R E} {old new : State} {sql : List ℕ} {project : List Term}
+    {cmp : K → K → Ordering} {key : K → Row} {value : X → Row} (t : Keyed vault_schema cmp key value)
+    (held : Lookups → K → Option X)
+    (said : (h : Lookups) (rows : List Row) → claim_at (claims h) t.place rows
+    → AreRowsOf (row_of key value) rows (held h))
+    → IsQuery vault_schema sql (query_of t.table.tree (by_key (suc t.more)) project)
+    → ((s : Schema) → IsPlain (understood s sql) → Reads s result old new) → (items : R → List Row) (params : Row)
+    → (HasCleanDisk new → IfOk result (λ rows. Shown sql params old new (items rows)))
+    → (k : K) → params ≡ key k ++ [] → (show : X → Row)
+    → ((m : ℤ) (x : X) → shown_as params project (Int m ∷ row_of key value k x) ≡ show x)
+    → Tells result old new (λ V rows. items rows ≡ one_of show (held (lookups_of V) k))
+looks_up {old = old} {new = new} t held said means reads items params told k given show shows =
+    tells means reads items params told (λ V rows it shown.
+    look_up old new it _ params (items rows) shown t (held (lookups_of V)) (said (lookups_of V) _) _ means k given
+    show shows)
 
--- ---- a statement
+-- a call that reads leaves each vault as it was, where the connection holds one
+pub still_held : {R E : Type 0} {x : R} {old new : State} {P : Type 0}
+    → Reads vault_schema (let it : Result R E = Ok x in it) old new → (V : Vault)
+    → P × (HasCleanDisk old → Holds old V) → P × (HasCleanDisk new → Holds new V)
+still_held {old = old} {new = new} reads V h = (
+  h.0,
+  λ clean.
+      let held = h.1 (omega (arith, reads.clean, clean)) in
+      as_vault new V
+      (calls.holds_on vault_schema (claims (lookups_of V)) old new (reads.kept clean held.schema) reads.limit
+      (as_held old V held)),
+)
+
+-- a statement
 
 -- what it makes of the tables is done
-pub makes : {R E : Type 0} (result : Result R E) (old new : State) (sql : List ℕ) (params : Row)
-    (Can : Lookups → Type 0) (after : Lookups → Lookups) → Steps old new
+pub makes : {R E : Type 0} {result : Result R E} {old new : State} {sql : List ℕ} {params : Row}
+    {Can : Lookups → Type 0} {after : Lookups → Lookups} → Steps old new
     → (HasCleanDisk new
     → OnOk result
     (IsTrue old.in_transaction → (count : ℕ) × ExecutesInside 0 sql params old new (Ok count)))
-    → ((h : Lookups) (base : Database) (count : ℕ) → IsWithin old base h → Can h
-    → ExecutesInside 0 sql params old new (Ok count) → IsWithin new base (after h))
+    → ((h : Lookups) (base : Database) → Can h → Ran vault_schema (claims h) base old new sql params
+    → IsWithin new base (after h))
     → Makes result old new Can after
-makes result old new sql params Can after steps ran lemma = record {
+makes {result = result} steps ran lemma = record {
   steps = steps;
-  done = λ clean. calls.on_ok result (ran clean)
-      (λ did base h w can. let it = did w.inside in lemma h base it.0 w can it.1);
+  done = λ clean. calls.on_ok result (ran clean) (λ did base h w can.
+      let it = did w.inside in
+      lemma h base can (record { within = w; count = it.0; ran = it.1; limit = steps.limit }));
 }
 
 -- one step after another
@@ -155,19 +192,13 @@ fails_then x second third a b c Is one two failed =
       told = λ clean. if_err third _ failed;
     }
 
--- a disk that is clean was so before a query
-pub clean_before : {R E : Type 0} (result : Result R E) (old new : State) → Reads vault_schema result old new
-    → HasCleanDisk new → HasCleanDisk old
-clean_before result old new reads clean = omega (arith, reads.clean, clean)
-
 -- what a crash leaves of a connection that only read
-pub left_by : {R E : Type 0} (result : Result R E) (old new : State) (V : Vault)
-    → (HasCleanDisk old → Holds old V)
-    → (IsTrue old.is_open → (db : Trees) → old.may_leave db → db ≡ old.committed.trees)
-    → Reads vault_schema result old new → HasCleanDisk new → LeavesEither new V V
-left_by result old new V holds alone reads clean =
-    let held = holds (clean_before result old new reads clean) in
-    left_after old new V held (alone held.is_open) (reads.left clean held.schema)
+pub left_by : {R E P : Type 0} {result : Result R E} {old new : State} → Reads vault_schema result old new
+    → ((db : Trees) → IsTrue old.is_open → old.may_leave db → db ≡ old.committed.trees) → HasCleanDisk new
+    → (V : Vault) → P × (HasCleanDisk old → Holds old V) → LeavesEither new V V
+left_by {old = old} {new = new} reads alone clean V h =
+    let held = h.1 (omega (arith, reads.clean, clean)) in
+    left_after old new V held (λ db. alone db held.is_open) (reads.left clean held.schema)
 
 -- what was read is answered in other words
 pub reads_as : {R E R' E' : Type 0} (x : R) (y : R') (old new : State)

@@ -19,10 +19,9 @@ use Rattle.sqlite_sql.specs.declared.ops.CompareOp.TheVariants.{Eq, Gt}
 use Rattle.sqlite_value.proofs.OrderLemmas.{value_cmp-Int}
 use Rattle.vault_pan.specs.CardText.{same}
 use Rattle.std.proofs.lemmas.Cmp.{tied_itself}
-use Rattle.vault_core.proofs.Finds.{some_same}
 use Rattle.vault_core.proofs.Maps.{bytes_exact, bytes_total}
 use Rattle.vault_core.proofs.CurrentLemmas.{current-some, current-none}
-use Rattle.vault_core.specs.Keys.{Bytes, bytes_cmp, entry_cmp, record_cmp}
+use Rattle.vault_core.specs.Keys.{Bytes, bytes_cmp}
 use Rattle.vault_core.specs.Repeats.{current, is_reusable, same_use}
 use Rattle.vault_core.specs.Sound.{Sound}
 use Rattle.vault_core.specs.Vault.{Vault, entry_at}
@@ -37,15 +36,13 @@ use Rattle.sql_maps.specs.Rows.{one_of}
 use Rattle.sql_maps.specs.States.{Stands}
 use Rattle.sql_maps.specs.Texts.{by_key}
 use Rattle.sql_maps.proofs.KeyTests.{text_eq, number_eq, and_true, equal_is}
-use Rattle.sql_maps.proofs.Keys.{coding}
-use Rattle.sql_maps.proofs.Reading.{are_shown, how_many, shown_are, shown_one}
+use Rattle.sql_maps.proofs.Reading.{how_many, shown_are, shown_none, shown_one}
 use Rattle.vault_schema.specs.Version1.Claims.{claims}
-use Rattle.vault_schema.specs.Version1.Rows.{text_or_null, number_or_null, use_number, merchant_key}
-use Rattle.vault_schema.specs.Version1.Rows.{lives_columns, merchant_row, numbered_key, number_column}
-use Rattle.vault_schema.specs.Version1.Rows.{count_row, entry_key, entry_columns, entry_row}
-use Rattle.vault_schema.specs.Version1.Tables.{merchants, counts, entries}
+use Rattle.vault_schema.specs.Version1.Rows.{text_or_null, number_or_null, use_number}
+use Rattle.vault_schema.specs.Version1.Rows.{number_column}
+use Rattle.vault_schema.specs.Version1.Rows.{count_row, entry_row}
 use Rattle.vault_schema.specs.declared.v1.TheConstants.{FIND_COUNTS, FIND_CURRENT, COUNT_MERCHANTS}
-use Rattle.vault_schema.proofs.Version1.Codes.{merchant_codes, count_codes, entry_codes}
+use Rattle.vault_schema.proofs.Version1.Codes.{merchant_coding, count_table, entry_table}
 use Rattle.vault_schema.proofs.Version1.Texts.{counts_is, current_is, current_tests, how_many_is}
 use Rattle.vault_sql.specs.Schema.{vault_schema}
 use Rattle.vault_sql.specs.Shown.{text_column, count_columns, ShowsCounts}
@@ -55,20 +52,17 @@ use Rattle.vault_sql.specs.Stands.{lives_in, count_at, unless_zero, lookups_of}
 module _ (old new : State) (V : Vault) (it : Stands vault_schema (claims (lookups_of V)) old.now)
     (rows : List Row) where
   pub shows_counts : (m : Bytes) → Shown FIND_COUNTS.now (Text m ∷ []) old new rows → ShowsCounts rows V m
-  shows_counts m shown = record {
-    sound = λ r there.
-        let row = shown_are vault_schema (claims (lookups_of V)) old new it _ _ rows shown counts 2 refl
-        record_cmp 2 numbered_key number_column count_codes (lookups_of V).counts (λ are. are)
-        _ _ _ (counts_is [] []) (λ q y. is_eq (bytes_cmp q.0 m)) passes (λ q y. count_columns q.1 y)
-        (λ n q y. refl) r there in
-        let same : row.0.0 ≡ m = bytes_exact row.0.0 m (equal_is _ row.3) in
-        (row.0.1, row.1, row.4, ap (λ k. unless_zero (count_at V k row.0.1)) (sym same) ∙ row.2);
-    complete = λ kind total is.
-        are_shown vault_schema (claims (lookups_of V)) old new it _ _ rows shown counts 2 refl record_cmp 2
-        numbered_key number_column count_codes (lookups_of V).counts (λ are. are)
-        _ _ _ (counts_is [] []) (λ q y. is_eq (bytes_cmp q.0 m)) passes (λ q y. count_columns q.1 y)
-        (λ n q y. refl) (m, kind) total is (ap is_eq (tied_itself bytes_total m));
-  }
+  shows_counts m shown =
+      let it = shown_are old new it _ _ rows shown count_table (lookups_of V).counts (λ are. are)
+      _ _ _ (counts_is [] []) (λ q y. is_eq (bytes_cmp q.0 m)) passes (λ q y. count_columns q.1 y)
+      (λ n q y. refl) in
+      record {
+        sound = λ r there.
+            let row = it.0 r there in
+            let same : row.0.0 ≡ m = bytes_exact row.0.0 m (equal_is _ row.3) in
+            (row.0.1, row.1, row.4, ap (λ k. unless_zero (count_at V k row.0.1)) (sym same) ∙ row.2);
+        complete = λ kind total is. it.1 (m, kind) total is (ap is_eq (tied_itself bytes_total m));
+      }
     where
       -- each count of the merchant passes, whatever its kind
       passes : (n : ℤ) (q : Bytes × ℕ) (y : ℕ)
@@ -79,10 +73,8 @@ module _ (old new : State) (V : Vault) (it : Stands vault_schema (claims (lookup
   pub shows_how_many : Shown COUNT_MERCHANTS.now [] old new rows → Sound V
       → rows ≡ number_column (map.len V.merchants) ∷ []
   shows_how_many shown sound =
-      how_many vault_schema old new it.schema _ rows merchants (how_many_is [] []) shown bytes_cmp
-      merchant_row
-      (coding bytes_cmp merchants.columns 1 merchant_key lives_columns merchant_codes) lives_in V.merchants
-      it.rows.1.0 (omega (arith, sound.few))
+      how_many old new it.schema 1 (how_many_is [] []) shown merchant_coding lives_in V.merchants it.rows.1.0
+      (omega (arith, sound.few))
 
 -- ---- the live multi-use token of a number
 
@@ -146,22 +138,24 @@ pub shows_current : (old new : State) (V : Vault) → Stands vault_schema (claim
     → Shown FIND_CURRENT.now (Text m ∷ Text pan ∷ Int (pos at) ∷ []) old new rows
     → rows ≡ one_of text_column (option_map (λ held. held.0) (current V m pan at))
 shows_current old new V it sound m pan at now rows shown =
-    key_shown (current V m pan at)
-    (shown_one vault_schema (claims (lookups_of V)) old new it _ _ rows shown entries 3 refl entry_cmp 2
-    entry_key entry_columns entry_codes (lookups_of V).entries (λ are. are)
-    _ _ _ (current_is [] []) (is_good m pan at) (good_hits m pan at) alone
-    (λ (q : Bytes × Bytes). text_column q.1) (λ n q y. refl) (key_of (current V m pan at)) some none)
+    elim (current V m pan at)
+    as (λ o. current V m pan at ≡ o → rows ≡ one_of text_column (option_map (λ held. held.0) o)) [
+      | None ↦ λ e. shown_none old new it _ _ rows shown entry_table (lookups_of V).entries (λ are. are)
+          _ _ _ (current_is [] []) (is_good m pan at) (good_hits m pan at) (λ q y is good.
+          let it = own q y is good in
+          let clash = sym it.2 ∙ current-none V m pan q.1 at y e it.1 in cc)
+      | Some held ↦ λ e.
+          let there = current-some V m pan at held e in
+          shown_one old new it _ _ rows shown entry_table (lookups_of V).entries (λ are. are)
+          _ _ _ (current_is [] []) (is_good m pan at) (good_hits m pan at)
+          (λ (q : Bytes × Bytes) y. text_column q.1) (λ n q y. refl) (m, held.0) held.1 there.0
+          (ap (λ o. is_eq o && is_reusable pan at held.1) (tied_itself bytes_total m) ∙ there.1)
+          (λ q y is good.
+          let it = own q y is good in
+          it.0 ∙ ap (λ t. (m, t))
+          (one_live V sound m pan at now q.1 held.0 y held.1 it.1 it.2 there.0 there.1))
+    ] refl
   where
-    key_of : Option (Bytes × Entry) → Option (Bytes × Bytes)
-    key_of None = None
-    key_of (Some held) = Some (m, held.0)
-
-    key_shown : (o : Option (Bytes × Entry))
-        → rows ≡ one_of (λ (q : Bytes × Bytes). text_column q.1) (key_of o)
-        → rows ≡ one_of text_column (option_map (λ held. held.0) o)
-    key_shown None e = e
-    key_shown (Some held) e = e
-
     own : (q : Bytes × Bytes) (y : Entry) → map.get V.entries q ≡ Some y → is_good m pan at q y ≡ true
         → (q ≡ (m, q.1)) × (entry_at V m q.1 ≡ Some y) × (is_reusable pan at y ≡ true)
     own q y is good =
@@ -169,38 +163,3 @@ shows_current old new V it sound m pan at now rows shown =
         let same_name : q.0 ≡ m = bytes_exact q.0 m (equal_is _ parts.0) in
         let key : q ≡ (m, q.1) = λ i. (same_name i, q.1) in
         (key, ap (map.get V.entries) (sym key) ∙ is, parts.1)
-
-    alone : (a b : Bytes × Bytes) (y z : Entry) → map.get V.entries a ≡ Some y → map.get V.entries b ≡ Some z
-        → is_good m pan at a y ≡ true → is_good m pan at b z ≡ true → a ≡ b
-    alone a b y z is is' good good' =
-        let one = own a y is good in
-        let two = own b z is' good' in
-        one.0 ∙ ap (λ t. (m, t)) (one_live V sound m pan at now a.1 b.1 y z one.1 one.2 two.1 two.2)
-        ∙ sym two.0
-
-    some : (q : Bytes × Bytes) → key_of (current V m pan at) ≡ Some q
-        → (y : Entry) × (map.get V.entries q ≡ Some y) × (is_good m pan at q y ≡ true)
-    some q is = found (current V m pan at) refl is
-      where
-        found : (o : Option (Bytes × Entry)) → current V m pan at ≡ o → key_of o ≡ Some q
-            → (y : Entry) × (map.get V.entries q ≡ Some y) × (is_good m pan at q y ≡ true)
-        found None e is = let clash = is in cc
-        found (Some held) e is =
-            let there = current-some V m pan at held e in
-            let key : (m, held.0) ≡ q = some_same is in (
-              held.1,
-              ap (map.get V.entries) (sym key) ∙ there.0,
-              ap (λ (k : Bytes × Bytes). is_good m pan at k held.1) (sym key)
-                  ∙ ap (λ o. is_eq o && is_reusable pan at held.1) (tied_itself bytes_total m) ∙ there.1,
-            )
-
-    none : key_of (current V m pan at) ≡ None → (q : Bytes × Bytes) (y : Entry) → map.get V.entries q ≡ Some y
-        → is_good m pan at q y ≡ true → ⊥
-    none is q y there good = lost (current V m pan at) refl is
-      where
-        lost : (o : Option (Bytes × Entry)) → current V m pan at ≡ o → key_of o ≡ None → ⊥
-        lost None e is =
-            let it = own q y there good in
-            let fails = current-none V m pan q.1 at y e it.1 in
-            let clash = sym it.2 ∙ fails in cc
-        lost (Some held) e is = cc

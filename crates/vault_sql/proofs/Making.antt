@@ -16,9 +16,8 @@ use Rattle.sql_maps.specs.Schema.{no_schema}
 use Rattle.sql_maps.specs.States.{Claim, IsEmpty, StandsIn, Within}
 use Rattle.sql_maps.specs.Texts.{MakesTable}
 use Rattle.sql_maps.proofs.ByKey.{no_rows}
-use Rattle.sql_maps.proofs.First.{insert_first}
 use Rattle.sql_maps.proofs.Making.{makes_index, makes_table}
-use Rattle.sql_maps.proofs.Statements.{retold}
+use Rattle.sql_maps.proofs.Statements.{insert_first, retold}
 use Rattle.vault_core.proofs.Maps.{entry_total, entry_exact, get-retained}
 use Rattle.vault_core.specs.Keys.{Bytes, bytes_cmp, entry_cmp, record_cmp, right_cmp}
 use Rattle.vault_core.specs.Vault.{Merchant, empty_vault, entries_of, made, merchant_at}
@@ -140,5 +139,5 @@ version_put base old new count limit w ran =
     let ready : Within vault_schema (empties 6) base old =
     subst (λ s. Within s (empties 6) base old) all_made w in
     retold vault_schema (IsVersion 1 ∷ empties 5) (claims (lookups_of empty_vault)) base new emptied
-    (insert_first vault_schema refl (empties 6) base old new ready _ [] count ran limit vault 0 refl 3 _
+    (insert_first refl (record { within = ready; count = count; ran = ran; limit = limit }) vault 0 refl 3 _
     (put_version_is [] []) (pos 1) (Null ∷ Int (pos 1) ∷ []) ready.stands.rows.0 refl refl)

@@ -35,8 +35,7 @@ returns g c = record {
   told = λ clean V h.
       let first : HasCleanDisk (state g.S.Store c.lives_at.new.conn) =
       omega (arith, c.in_ok-counts.ensures.reads.clean, clean) in
-      let held = still_held _ (state g.S.Store c.args.conn.now) (state g.S.Store c.lives_at.new.conn)
-      c.in_ok-lives.ensures.reads first V h in
+      let held = (still_held {P = Unit {0}} c.in_ok-lives.ensures.reads V (tt, λ clean. h)).1 first in
       let shown = rw (c.merchant_text.ensures) at (c.in_ok-counts.ensures.told clean V held) in
       row_is V c.args.m.now c.in-Some.lives (sym c.in-Some.is ∙ c.in_ok-lives.ensures.told first V h) _ _ _
       (total_is V c.args.m.now _ 1 _ shown (rw (c.deref.ensures.value) at c.in_ok-made.ensures))
