@@ -62,16 +62,8 @@ module _ {K X Y : Type 0} {cmp : K → K → Ordering} {encode : K → X → Row
   put_back : (m : map.FinMap cmp Y) (k : K) (x : Y) → map.get m k ≡ Some x
       → m ≡ map.insert (map.remove m k) k x
   put_back m k x is = map.same_map c.total c.exact m (map.insert (map.remove m k) k x) (λ q.
-      elim (eq_by_cmp cmp q k)
-      as (λ b. eq_by_cmp cmp q k ≡ b → map.get m q ≡ map.get (map.insert (map.remove m k) k x) q) [
-        | true ↦ λ e. ap (map.get m) (eq_exact c q k e) ∙ is
-            ∙ sym (map.get-insert c.total (map.remove m k) k x q
-            ∙ ap (λ b. cond b (Some x) (map.get (map.remove m k) q)) e)
-        | false ↦ λ e. sym
-            (map.get-insert c.total (map.remove m k) k x q
-            ∙ ap (λ b. cond b (Some x) (map.get (map.remove m k) q)) e ∙ map.get-remove c.total m k q
-            ∙ ap (λ b. cond b None (map.get m q)) e)
-      ] refl)
+      let exact = eq_exact c q k in
+      rw (map.get-insert c.total (map.remove m k) k x q, map.get-remove c.total m k q) (grind (arith, exact)))
 
   -- a table has as many rows as the map has keys
   pub as_many : (rows : List Row) (m : map.FinMap cmp Y)
@@ -96,18 +88,11 @@ module _ {K X Y : Type 0} {cmp : K → K → Ordering} {encode : K → X → Row
       omega (arith, rest, all)
 
 -- what the query shows of rows
-one_summary : (g : Grouping) (order : List Env) (rows : List Row) → AllZip (IsSummary g) (order ∷ []) rows
-    → (row : Row) × (rows ≡ row ∷ []) × IsSummary g order row
-one_summary g order [] h = absurd h
-one_summary g order (row ∷ []) h = (row, refl, h.0)
-one_summary g order (row ∷ other ∷ more) h = absurd h.1
-
-one_value : (group : List Env) (a : Aggregate) (values : Row)
-    → AllZip (λ a v. value_over group a ≡ Some v) (a ∷ []) values
-    → (v : Value) × (values ≡ v ∷ []) × (value_over group a ≡ Some v)
-one_value group a [] h = absurd h
-one_value group a (v ∷ []) h = (v, refl, h.0)
-one_value group a (v ∷ other ∷ more) h = absurd h.1
+one_zipped : {A B : Type 0} (R : A → B → Type 0) (a : A) (bs : List B) → AllZip R (a ∷ []) bs
+    → (b : B) × (bs ≡ b ∷ []) × R a b
+one_zipped R a [] h = absurd h
+one_zipped R a (b ∷ []) h = (b, refl, h.0)
+one_zipped R a (b ∷ other ∷ more) h = absurd h.1
 
 matched : (params : Row) (rows : List Row)
     → length (flat_map (λ (r : Row). (params ∷ r ∷ []) ∷ []) rows) ≡ length rows
@@ -130,9 +115,9 @@ pub counted : (db : Trees) (tree : ℕ) (params : Row) (rows : List Row)
 counted db tree params rows a few =
     let s = a.grouped in
     let order = s.grouping.0 in
-    let one = one_summary grouping order s.rows
+    let one = one_zipped (IsSummary grouping) order s.rows
     (subst (λ g. AllZip (IsSummary grouping) g s.rows) s.grouping.2 s.summaries) in
-    let value = one_value order counting one.2.0 one.2.1 in
+    let value = one_zipped (λ a v. value_over order a ≡ Some v) counting one.2.0 one.2.1 in
     let size : length (map (eval (lit Null)) order) ≡ length (db tree) = length-map order (eval (lit Null))
     ∙ length_permutation _ order s.grouping.1 ∙ matched params (overlay db [] tree)
     ∙ ap length (bare db tree) in

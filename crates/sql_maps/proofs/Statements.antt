@@ -51,13 +51,7 @@ use Rattle.sql_maps.proofs.Steps.{Resolves, Tried, Wrote, clause_of, delete_wrot
 pub retold : (s : Schema) (claims others : List Claim) (base : Database) (st : State)
     → ((db : Trees) → StandsIn s.tables claims db → StandsIn s.tables others db) → Within s claims base st
     → Within s others base st
-retold s claims others base st tell w = record {
-  free = w.free;
-  inside = w.inside;
-  committed = w.committed;
-  stands = record
-      { schema = w.stands.schema; sound = w.stands.sound; rows = tell st.now.trees w.stands.rows };
-}
+retold s claims others base st tell w = assumption (tell st.now.trees w.stands.rows)
 
 pub plus_one : (y : ℕ) → y + 1 < 2 ^ 63 → binary (Arith Add) (Int (pos y)) (Int (pos 1)) ≡ Int (pos (y + 1))
 unfolding binary

@@ -66,24 +66,10 @@ number_bound (Some n) = refl
 -- ---- a vault that is held, as claims on the tables
 
 pub as_held : (st : State) (V : Vault) → Holds st V → maps.Holds vault_schema (claims (lookups_of V)) st
-as_held st V h = record {
-  free = record { is_open = h.is_open; unlimited = h.unlimited };
-  autocommit = h.autocommit;
-  settled = h.settled;
-  stands = record
-      { schema = h.schema; sound = h.sound; rows = as_claims st.now.trees (lookups_of V) h.stands };
-}
+as_held st V h = assumption (as_claims st.now.trees (lookups_of V) h.stands)
 
 pub as_vault : (st : State) (V : Vault) → maps.Holds vault_schema (claims (lookups_of V)) st → Holds st V
-as_vault st V h = record {
-  is_open = h.free.is_open;
-  autocommit = h.autocommit;
-  unlimited = h.free.unlimited;
-  schema = h.stands.schema;
-  sound = h.stands.sound;
-  settled = h.settled;
-  stands = as_fields st.now.trees (lookups_of V) h.stands.rows;
-}
+as_vault st V h = assumption (as_fields st.now.trees (lookups_of V) h.stands.rows)
 
 pub as_ours : (V : Vault) (db : Trees) → maps.AreOurs vault_schema (claims (lookups_of V)) db → AreOurs db V
 as_ours V db h = record { sound = h.sound; stands = as_fields db (lookups_of V) h.rows }

@@ -86,8 +86,7 @@ number_is None pan = refl
 number_is (Some number) pan = text_eq number pan ∙ sym (texts_ties number pan)
 
 usage_is : (u : Use) → is_eq (nat_cmp (use_number u) 2) ≡ same_use u Multi
-usage_is Single = refl
-usage_is Multi = refl
+usage_is u = grind arith
 
 revoked_is : (o : Option ℕ) → is_true (binary (Is Binary) (number_or_null o) Null) ≡ is_none o
 unfolding binary value_cmp lib.Ieee.is_nan lib.Ieee.lt
@@ -96,11 +95,7 @@ revoked_is (Some n) = refl
 
 later_is : (a b : ℕ) → is_true (binary (Compare Gt Binary) (Int (pos a)) (Int (pos b))) ≡ nat_lt b a
 unfolding binary
-later_is a b =
-    rw value_cmp-Int
-    (elim (is_gt (int_cmp (pos a) (pos b)))
-    as (λ t. is_gt (int_cmp (pos a) (pos b)) ≡ t → is_true (from_truth (Some t)) ≡ nat_lt b a)
-    [ true ↦ λ e. grind (arith, ints, nat_tests, e) | false ↦ λ e. grind (arith, ints, nat_tests, e) ] refl)
+later_is a b = rw value_cmp-Int (grind (arith, ints, nat_tests))
 
 -- an entry of this merchant that can be given again for this number
 abbrev is_good : Bytes → Bytes → ℕ → Bytes × Bytes → Entry → Bool
@@ -109,12 +104,7 @@ is_good m pan at key e = is_eq (bytes_cmp key.0 m) && is_reusable pan at e
 in_order : (a b : Bool) (o : Option Bytes) (pan : Bytes) (c d : Bool)
     → (a && (option_map_or (λ number. same number pan) o false && (b && (c && (d && true)))))
     ≡ (a && (b && option_map_or (λ number. same number pan) o false && (is_some o && c && d)))
-in_order false b o pan c d = refl
-in_order true false None pan c d = refl
-in_order true true None pan c d = refl
-in_order true false (Some n) pan c d = elim (same n pan) as (λ s. (s && false) ≡ false)
-    [ true ↦ refl | false ↦ refl ]
-in_order true true (Some n) pan c d = ap (λ t. same n pan && (c && t)) (and_true d)
+in_order a b o pan c d = grind arith
 
 good_hits : (m pan : Bytes) (at : ℕ) (n : ℤ) (q : Bytes × Bytes) (y : Entry)
     → list_all (holds ((Text m ∷ Text pan ∷ Int (pos at) ∷ []) ∷ (Int n ∷ entry_row q y) ∷ [])) current_tests

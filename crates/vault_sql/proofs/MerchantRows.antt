@@ -21,16 +21,7 @@ use Rattle.vault_schema.specs.declared.v1.Lives.{Lives}
 shown_or_zero : (n : ℕ) → ((total : ℕ) → unless_zero n ≡ Some total → total ≡ n)
     × (((total : ℕ) → unless_zero n ≡ Some total → ⊥) → 0 ≡ n)
 shown_or_zero n =
-    elim (n == 0)
-    as (λ b. (n == 0) ≡ b → ((total : ℕ) → cond b None (Some n) ≡ Some total → total ≡ n)
-    × (((total : ℕ) → cond b None (Some n) ≡ Some total → ⊥) → 0 ≡ n)) [
-      | true ↦ λ e. (
-        λ total is. let clash = is in cc,
-        λ none. let zero : n ≡ 0 =
-            grind (arith, nat_tests, common_steps) in sym zero,
-      )
-      | false ↦ λ e. (λ total is. sym (some_same is), λ none. absurd (none n refl))
-    ] refl
+    (λ total is. grind (arith, nat_tests), λ none. let some = none n in grind (arith, nat_tests, some))
 
 -- the total of a kind among the rows of a merchant's counts is its count of that kind
 pub total_is : (V : Vault) (m : Bytes) (rows : List Row) (kind total : ℕ) → ShowsCounts rows V m
@@ -75,24 +66,9 @@ row_is V m x is one two three e f g = go (merchant_at V m) refl
 -- the lives that the one row of a query shows are those that are there
 pub lives_shown : (o : Option Lives) (rows : List Row) (row : Row) (x : Lives) → rows ≡ one_of lives_columns o
     → Some row ≡ slice_get rows 0 → ShowsLives row x → Some x ≡ o
-lives_shown None rows row x is first shows = let clash = first ∙ ap (λ l. slice_get l 0) is in cc
-lives_shown (Some y) rows row x is first shows =
-    let same : row ≡ lives_columns y = some_same (first ∙ ap (λ l. slice_get l 0) is) in
-    let single : Int (pos x.single_life) ≡ Int (pos y.single_life) = sym shows.single_life
-    ∙ ap (λ r. column r 0) same in
-    let multi : Int (pos x.multi_life) ≡ Int (pos y.multi_life) = sym shows.multi_life
-    ∙ ap (λ r. column r 1) same in
-    let moment : Int (pos x.moment) ≡ Int (pos y.moment) = sym shows.moment ∙ ap (λ r. column r 2) same in
-    let one : x.single_life ≡ y.single_life = cc in
-    let two : x.multi_life ≡ y.multi_life = cc in
-    let three : x.moment ≡ y.moment = cc in
-    λ i. Some (record { single_life = one i; multi_life = two i; moment = three i })
+lives_shown o rows row x is first shows = grind arith
 
 -- where no lives are there, there is no row
 pub no_row : (V : Vault) (m : Bytes) (found : Option Lives) → found ≡ option_map lives_in (merchant_at V m)
     → found ≡ None → None ≡ row_at V m
-no_row V m found is none = go (merchant_at V m) (sym none ∙ is)
-  where
-    go : (o : Option Merchant) → None ≡ option_map lives_in o → None ≡ option_map (row_of V m) o
-    go None same = refl
-    go (Some merchant) same = cc
+no_row V m found is none = grind arith
