@@ -39,29 +39,23 @@ use Rattle.vault_sql.specs.Calls.{IsWithin, Makes, Tells}
 use Rattle.vault_sql.specs.Holds.{AreOurs, Holds, LeavesEither}
 use Rattle.vault_sql.specs.Left.{left_after}
 use Rattle.vault_sql.specs.Schema.{vault_schema}
-use Rattle.vault_sql.specs.Stands.{lookups_of}
+use Rattle.vault_sql.specs.Stands.{Stands, lookups_of}
+use Rattle.sqlite_catalog.specs.Listing.{IsSound}
+use Rattle.std.proofs.Common.{subst}
 
 -- ---- parameters
 
 pub small_right : (right : Right) → right_number right < 2 ^ 63
-small_right Tokenize = omega arith
-small_right Detokenize = omega arith
-small_right View = omega arith
-small_right Revoke = omega arith
-small_right Purge = omega arith
-small_right Audit = omega arith
+small_right right = grind arith
 
 pub small_use : (usage : Use) → use_number usage < 2 ^ 63
-small_use Single = omega arith
-small_use Multi = omega arith
+small_use usage = grind arith
 
 pub text_bound : (o : Option Bytes) → bound_value (text_or_null o) ≡ text_or_null o
-text_bound None = refl
-text_bound (Some text) = refl
+text_bound o = grind arith
 
 pub number_bound : (o : Option ℕ) → bound_value (number_or_null o) ≡ number_or_null o
-number_bound None = refl
-number_bound (Some n) = refl
+number_bound o = grind arith
 
 -- ---- a vault that is held, as claims on the tables
 
@@ -71,8 +65,14 @@ as_held st V h = assumption (as_claims st.now.trees (lookups_of V) h.stands)
 pub as_vault : (st : State) (V : Vault) → maps.Holds vault_schema (claims (lookups_of V)) st → Holds st V
 as_vault st V h = assumption (as_fields st.now.trees (lookups_of V) h.stands.rows)
 
-pub as_ours : (V : Vault) (db : Trees) → maps.AreOurs vault_schema (claims (lookups_of V)) db → AreOurs db V
-as_ours V db h = record { sound = h.sound; stands = as_fields db (lookups_of V) h.rows }
+-- what a commit of the transaction writes
+pub ours : {st : State} {base : Database} (V : Vault) → IsWithin st base (lookups_of V) → (db : Trees)
+    → db ≡ st.now.trees → AreOurs db V
+ours {st} V w db is = record {
+  sound = subst (λ (t : Trees). IsSound vault_schema t) (sym is)
+      (subst (λ schema. IsSound schema st.now.trees) w.stands.schema w.stands.sound);
+  stands = subst (λ (t : Trees). Stands t V) (sym is) (as_fields _ (lookups_of V) w.stands.rows);
+}
 
 -- ---- a query
 
@@ -138,13 +138,13 @@ makes {result = result} steps ran lemma = record {
 }
 
 -- one step after another
-pub makes_then : {R E R' E' : Type 0} (x : R) (second : Result R' E') (a b c : State)
-    (Can First Next : Lookups → Type 0) (f f' : Lookups → Lookups)
+pub makes_then : {R E R' E' : Type 0} {x : R} {second : Result R' E'} {a b c : State}
+    {Can First Next : Lookups → Type 0} {f f' : Lookups → Lookups}
     → Makes (let it : Result R E = Ok x in it) a b First f → Makes second b c Next f'
     → ((h : Lookups) → Can h → First h) → ((h : Lookups) → Can h → Next (f h))
     → Makes second a c Can (λ h. f' (f h))
-makes_then x second a b c Can First Next f f' one two can next = record {
-  steps = calls.steps_then a b c one.steps two.steps;
+makes_then {second = second} {b = b} {f = f} one two can next = record {
+  steps = calls.steps_then one.steps two.steps;
   done = λ clean. calls.on_ok second (two.done clean) (λ did base h w ok.
       let before : HasCleanDisk b = omega (arith, two.steps.clean, clean) in
       did base (f h) (one.done before base h w (can h ok)) (next h ok));
@@ -161,19 +161,18 @@ if_err (Err e) P failed = tt
 if_err (Ok x) P failed = absurd (true≢false (sym failed))
 
 -- where a later query fails, all that was done is that some was read
-pub fails_then : {R E R' E' R'' E'' : Type 0} (x : R) (second : Result R' E') (third : Result R'' E'')
-    (a b c : State) (Is : Vault → R'' → Type 0)
+pub fails_then : {R E R' E' R'' E'' : Type 0} {x : R} {second : Result R' E'} {third : Result R'' E''}
+    {a b c : State} {Is : Vault → R'' → Type 0}
     → Reads vault_schema (let it : Result R E = Ok x in it) a b → Reads vault_schema second b c → IsErr third
     → Tells third a c Is
-fails_then x second third a b c Is one two failed =
-    let both = calls.reads_then vault_schema (Ok x) second a b c one one.kept two in record {
+fails_then {third = third} one two failed =
+    let both = calls.reads_then one one.kept two in record {
       reads = record {
         clean = both.clean;
         mode = both.mode;
         limit = both.limit;
         left = both.left;
-        kept =
-            λ clean known. on_err third _ failed;
+        kept = λ clean known. on_err third _ failed;
       };
       told = λ clean. if_err third _ failed;
     }
@@ -187,15 +186,13 @@ left_by {old = old} {new = new} reads alone clean V h =
     left_after old new V held (λ db. alone db held.is_open) (reads.left clean held.schema)
 
 -- what was read is answered in other words
-pub reads_as : {R E R' E' : Type 0} (x : R) (y : R') (old new : State)
+pub reads_as : {R E R' E' : Type 0} {x : R} {y : R'} {old new : State}
     → Reads vault_schema (let it : Result R E = Ok x in it) old new
     → Reads vault_schema (let it : Result R' E' = Ok y in it) old new
-reads_as x y old new it =
-    record { clean = it.clean; mode = it.mode; limit = it.limit; left = it.left; kept = it.kept }
+reads_as it = assumption it
 
 -- what the answer of a query tells
-pub answers : {R E R' E' : Type 0} (x : R) (y : R') (old new : State) (Is : Vault → R → Type 0)
-    (Is' : Vault → R' → Type 0) → Tells (let it : Result R E = Ok x in it) old new Is
+pub answers : {R E R' E' : Type 0} {x : R} {y : R'} {old new : State} {Is : Vault → R → Type 0}
+    {Is' : Vault → R' → Type 0} → Tells (let it : Result R E = Ok x in it) old new Is
     → ((V : Vault) → Is V x → Is' V y) → Tells (let it : Result R' E' = Ok y in it) old new Is'
-answers x y old new Is Is' tells so =
-    record { reads = reads_as x y old new tells.reads; told = λ clean V h. so V (tells.told clean V h) }
+answers tells so = record { reads = reads_as tells.reads; told = λ clean V h. so V (tells.told clean V h) }

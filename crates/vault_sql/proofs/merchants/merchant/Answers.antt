@@ -9,29 +9,24 @@ use Rattle.vault_sql.proofs.merchants.merchant.Goals as goal
 
 pub returns-in_err-counts : goal.returns-in_err-counts
 returns-in_err-counts g c =
-    fails_then _ _ _ (state g.S.Store c.args.conn.now) _ (state g.S.Store c.count_rows.new.conn) _
-    c.in_ok-lives.ensures.reads c.in_err-counts.ensures.reads c.from_residual-in_err-counts.ensures.0
+    fails_then c.in_ok-lives.ensures.reads c.in_err-counts.ensures.reads c.from_residual-in_err-counts.ensures.0
 
 pub returns-in_err-made : goal.returns-in_err-made
 returns-in_err-made g c =
-    fails_then _ _ _ (state g.S.Store c.args.conn.now) _ (state g.S.Store c.count_rows.new.conn) _
-    c.in_ok-lives.ensures.reads c.in_ok-counts.ensures.reads c.from_residual-in_err-made.ensures.0
+    fails_then c.in_ok-lives.ensures.reads c.in_ok-counts.ensures.reads c.from_residual-in_err-made.ensures.0
 
 pub returns-in_err-given : goal.returns-in_err-given
 returns-in_err-given g c =
-    fails_then _ _ _ (state g.S.Store c.args.conn.now) _ (state g.S.Store c.count_rows.new.conn) _
-    c.in_ok-lives.ensures.reads c.in_ok-counts.ensures.reads c.from_residual-in_err-given.ensures.0
+    fails_then c.in_ok-lives.ensures.reads c.in_ok-counts.ensures.reads c.from_residual-in_err-given.ensures.0
 
 pub returns-in_err-denied : goal.returns-in_err-denied
 returns-in_err-denied g c =
-    fails_then _ _ _ (state g.S.Store c.args.conn.now) _ (state g.S.Store c.count_rows.new.conn) _
-    c.in_ok-lives.ensures.reads c.in_ok-counts.ensures.reads c.from_residual-in_err-denied.ensures.0
+    fails_then c.in_ok-lives.ensures.reads c.in_ok-counts.ensures.reads c.from_residual-in_err-denied.ensures.0
 
 pub returns : goal.returns
 returns g c = record {
-  reads = reads_as _ _ _ _
-      (reads_then vault_schema _ _ (state g.S.Store c.args.conn.now) _ (state g.S.Store c.count_rows.new.conn)
-      c.in_ok-lives.ensures.reads c.in_ok-lives.ensures.reads.kept c.in_ok-counts.ensures.reads);
+  reads = reads_as
+      (reads_then c.in_ok-lives.ensures.reads c.in_ok-lives.ensures.reads.kept c.in_ok-counts.ensures.reads);
   told = λ clean V h.
       let first : HasCleanDisk (state g.S.Store c.lives_at.new.conn) =
       omega (arith, c.in_ok-counts.ensures.reads.clean, clean) in
@@ -45,6 +40,4 @@ returns g c = record {
 
 pub returns-in_default : goal.returns-in_default
 returns-in_default g c =
-    answers _ _ (state g.S.Store c.args.conn.now) (state g.S.Store c.lives_at.new.conn) _ _
-    c.in_ok-lives.ensures
-    (λ V told. no_row V c.args.m.now _ told c.in_default.is)
+    answers c.in_ok-lives.ensures (λ V told. no_row V c.args.m.now _ told c.in_default.is)

@@ -11,7 +11,7 @@ use Rattle.vault_sql.specs.Holds.{Holds}
 use Rattle.vault_sql.specs.Making.{IsBegun, IsReady}
 use Rattle.vault_sql.specs.Schema.{vault_schema}
 use Rattle.vault_sql.specs.Stands.{Stands, lookups_of}
-use Rattle.vault_sql.proofs.Calls.{as_vault}
+use Rattle.vault_sql.proofs.Calls.{as_vault, ours}
 use Rattle.vault_sql.proofs.Making.{begun_blank}
 use Rattle.vault_sql.proofs.schema.create_all.Given.{Over}
 use Rattle.vault_sql.proofs.schema.create_all.Goals as goal
@@ -55,7 +55,5 @@ returns-clause-crash g c clean is blank db left =
           let at_first : (state g.S.Store c.args.conn.now).may_leave db = rw c.transaction-tx.ensures.begun at
           (c.in_ok-create_tables.ensures.steps.left middle db before) in
           inl (g.met.S.Store.settled c.args.conn.now.store db is.is_open at_first)
-      | inr wrote ↦ inr
-          (subst (λ t. Stands t empty_vault) (sym wrote)
-          (as_fields _ (lookups_of empty_vault) (made g c late is blank).stands.rows))
+      | inr wrote ↦ inr (ours empty_vault (made g c late is blank) db wrote).stands
     ]
