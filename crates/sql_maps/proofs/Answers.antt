@@ -1,11 +1,10 @@
 -- What a query of one table answers.
-use Rattle.std.proofs.Common.{◌≡◌, inl, inr, ℕ, List, [], ◌∷◌, map, filter, Bool, true, false, cond}
-use Rattle.std.proofs.Common.{arith, unwrap_or, Option, None, refl, sym, ap, subst, subst₂, ◌∙◌}
-use Rattle.std.proofs.lemmas.Cmp.{tied_itself}
+use Rattle.std.proofs.Common.{◌≡◌, inl, inr, ℕ, List, [], ◌∷◌, map, filter, Bool, true, false, cond, arith}
+use Rattle.std.proofs.Common.{unwrap_or, Option, None, refl, sym, ap, subst, subst₂, ◌∙◌, IsPermutation}
+use Rattle.std.proofs.Common.{flat_map}
+use Rattle.std.specs.Cmp.{tied_itself}
 use Rattle.std.proofs.lemmas.List.Sorted.{Contains-permutation, IsPermutation-map, length_permutation}
 use Rattle.std.specs.List.{list_all}
-use Rattle.std.specs.List.Sorted.{IsPermutation}
-use Rattle.std.specs.Prelude.{flat_map}
 use Rattle.sqlite.specs.Order.{Row, value_cmp}
 use Rattle.sqlite.specs.Program.{overlay}
 use Rattle.sqlite.specs.Query.{Query, IsAnswer, Output, output}

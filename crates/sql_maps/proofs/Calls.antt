@@ -1,7 +1,7 @@
 -- The clauses of a call, from what the database answers.
-use Rattle.std.proofs.lemmas.Int.{to_z_pos}
 use Rattle.std.proofs.Common.{◌<◌, ◌^◌, to_z, w64, ℕ, pos, ◌≡◌, inl, inr, List, Ok, Err, Result, IfOk, OnOk}
-use Rattle.std.proofs.Common.{refl, sym, ap, subst, ◌∙◌, arith, true, false}
+use Rattle.std.proofs.Common.{sym, ap, subst, ◌∙◌, arith, true, false}
+use Rattle.std.proofs.lemmas.Int.{to_z_pos}
 use Rattle.sqlite.specs.Clock.{timed}
 use Rattle.sqlite.specs.Effect.{Database, IsDatabase}
 use Rattle.sqlite.specs.Listing.{understood}
@@ -9,11 +9,9 @@ use Rattle.sqlite.specs.Order.{Row}
 use Rattle.sqlite.specs.Schema.{Schema}
 use Rattle.sqlite.specs.State.{State, HasCleanDisk, IsLive, Survives, Shown, Shows, ShowsRows, IsUnchanged}
 use Rattle.sqlite.specs.State.{CommitsShowing}
-use Rattle.sqlite.specs.Tree.{Trees}
 use Rattle.sqlite.specs.declared.error.Error.{Error}
-use Rattle.sqlite_catalog.specs.Listing.{IsSound}
 use Rattle.sqlite.proofs.Callers.{IsPlain, never_commits, unchanged_then}
-use Rattle.sql_maps.specs.States.{Claim, Stands, StandsIn, Holds, Within, Reads, Steps}
+use Rattle.sql_maps.specs.States.{Claim, Stands, Holds, Within, Reads, Steps}
 
 shown_unchanged : (sql : List _) (params : Row) (old new : State) (rows : List Row)
     → IsPlain (understood old.now.schema sql) → Shown sql params old new rows → IsUnchanged old new
@@ -101,10 +99,10 @@ pub begun : (s : Schema) (claims : List Claim) (st : State) → Holds s claims s
 begun s claims st h = assumption
 
 -- and one that is committed
-pub committed : (s : Schema) (claims : List Claim) (mid new : State) (base : Database)
+pub committed : {s : Schema} {claims : List Claim} {mid new : State} {base : Database}
     → Within s claims base mid → Shows mid new mid.now mid.now false → new.step_limit ≡ mid.step_limit
     → Holds s claims new
-committed s claims mid new base w h limit = record {
+committed {s} {claims} w h limit = record {
   free = record { is_open = h.is_open; unlimited = limit ∙ w.free.unlimited };
   autocommit = h.mode;
   settled = h.now_is ∙ sym h.committed_is;

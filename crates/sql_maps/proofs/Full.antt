@@ -1,7 +1,6 @@
 -- Each row of a table has a value for each column, so a query of all columns shows the rows as they stand.
 use Rattle.std.proofs.Common.{◌≡◌, inl, inr, ℕ, zero, suc, ◌+◌, ◌<◌, ◌≤◌, List, [], ◌∷◌, length, map, drop}
-use Rattle.std.proofs.Common.{not, true, false, Bool, Some, None, refl, sym, subst, ◌∙◌, true≢false, arith}
-use Rattle.std.proofs.Common.{slice_get}
+use Rattle.std.proofs.Common.{not, true, Some, None, refl, sym, subst, ◌∙◌, true≢false, arith, slice_get}
 use Rattle.std.proofs.lemmas.Bool.{and_parts}
 use Rattle.std.specs.List.{list_all}
 use Rattle.std.specs.Prelude.{◌||◌}

@@ -1,23 +1,18 @@
 -- How many rows a table has.
 use Rattle.std.proofs.Common.{◌≡◌, ℕ, inl, inr, ◌+◌, ◌≤◌, min, pos, List, [], ◌∷◌, map, filter, suc, length}
-use Rattle.std.proofs.Common.{drop, true, false, cond, Option, Some, None, is_some, option_map, refl, sym, ap}
-use Rattle.std.proofs.Common.{subst, ◌∙◌, arith}
-use Rattle.std.proofs.lemmas.Cmp.{tied_itself}
+use Rattle.std.proofs.Common.{drop, false, cond, Option, Some, None, is_some, option_map, refl, sym, ap}
+use Rattle.std.proofs.Common.{subst, ◌∙◌, arith, IsPermutation, flat_map, Ordering}
+use Rattle.std.specs.Cmp.{tied_itself}
 use Rattle.std.proofs.lemmas.List.Sorted.{length_permutation}
 use Rattle.std.specs.FinMap as map
-use Rattle.std.specs.List.Sorted.{IsPermutation}
-use Rattle.std.specs.Ordering.{eq_by_cmp}
-use Rattle.std.specs.Prelude.{flat_map}
-use Rattle.std.specs.declared.cmp.Ordering.{Ordering}
 use Rattle.sqlite.specs.Order.{Row, value_cmp}
 use Rattle.sqlite.specs.Program.{overlay}
 use Rattle.sqlite.specs.Query.{IsAnswer, Output, output}
-use Rattle.sqlite.specs.Term.{Env, eval, holds, lit}
+use Rattle.sqlite.specs.Term.{eval, holds, lit}
 use Rattle.sqlite.specs.Tree.{Trees, rowid}
 use Rattle.sqlite_sql.specs.Group.{Aggregate, Grouping, IsSummary, value_over}
 use Rattle.sqlite_sql.specs.declared.aggregate.AggregateOp.TheVariants.{CountRows}
 use Rattle.sqlite.specs.Collation.TheVariants.{Binary}
-use Rattle.sqlite.specs.declared.types.Value.{Value}
 use Rattle.std.specs.List.{AllZip, list_all}
 use Rattle.std.proofs.lemmas.List.{length-map}
 use Rattle.sqlite.specs.declared.types.Value.TheVariants.{Null, Int}
@@ -25,10 +20,9 @@ use Rattle.sqlite_rules.proofs.ListLemmas.{all_has}
 use Rattle.sqlite_value.proofs.OrderLemmas.{value_cmp_total}
 use Rattle.sqlite.proofs.Callers.{one_permutation}
 use Rattle.sql_maps.specs.Rows.{AreRowsOf, put}
-use Rattle.sql_maps.proofs.Edits.{left_over, same_held}
+use Rattle.sql_maps.proofs.ByKey.{left_over, same_held, Coding, eq_exact, eq_itself}
 use Rattle.sql_maps.specs.Texts.{counting_of}
 use Rattle.sql_maps.proofs.Answers.{bare}
-use Rattle.sql_maps.proofs.ByKey.{Coding, eq_exact, eq_itself}
 
 module _ {K X Y : Type 0} {cmp : K → K → Ordering} {encode : K → X → Row} (c : Coding cmp encode)
     (f : Y → X) where

@@ -1,11 +1,10 @@
 -- What the tests of a key come to, whatever its columns.
 use Rattle.std.proofs.Common.{◌≡◌, ◌&&◌, ◌||◌, ◌++◌, ℕ, ℤ, zero, suc, Bool, true, false, List, [], ◌∷◌}
-use Rattle.std.proofs.Common.{length, map, cond, refl, sym, ap, ◌∙◌, Some, arith, slice_get}
+use Rattle.std.proofs.Common.{length, map, cond, refl, sym, ap, ◌∙◌, Some, arith, slice_get, Ordering}
 use Rattle.std.proofs.lemmas.Bool.{and_parts}
 use Rattle.std.specs.List.{list_all, list_any}
 use Rattle.std.specs.Ordering.{eq_by_cmp}
-use Rattle.std.proofs.lemmas.Cmp.{tied_itself}
-use Rattle.std.specs.declared.cmp.Ordering.{Ordering}
+use Rattle.std.specs.Cmp.{tied_itself}
 use Rattle.sqlite.specs.Cast.{cast, cast_row, cast_all}
 use Rattle.sqlite.specs.Collation.TheVariants.{Binary}
 use Rattle.sqlite.specs.Kind.{Kind}

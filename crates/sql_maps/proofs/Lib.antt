@@ -1,7 +1,6 @@
 pub mod Answers
 pub mod ByKey
 pub mod Calls
-pub mod Edits
 pub mod Full
 pub mod HowMany
 pub mod KeyTests

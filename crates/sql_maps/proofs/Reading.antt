@@ -1,11 +1,10 @@
 -- What each kind of query shows of what the tables stand for: once for every schema and table.
-use Rattle.std.proofs.Common.{◌≡◌, ◌∙◌, ◌<◌, ◌≤◌, inl, inr, ℕ, ℤ, pos, List, [], ◌∷◌, ◌++◌, Bool, true, Option}
-use Rattle.std.proofs.Common.{Some, None, suc, refl, sym, ap, subst, slice_get, option_map, map, length}
+use Rattle.std.proofs.Common.{◌≡◌, ◌∙◌, ◌<◌, ◌≤◌, inl, inr, ℕ, ℤ, pos, List, [], ◌∷◌, ◌++◌, Bool, true}
+use Rattle.std.proofs.Common.{Option, Some, None, suc, refl, sym, ap, subst, slice_get, option_map, map}
+use Rattle.std.proofs.Common.{length, IsPermutation, Ordering}
 use Rattle.std.proofs.lemmas.List.Sorted.{IsPermutation-sym}
 use Rattle.std.specs.FinMap as finite
 use Rattle.std.specs.List.{list_all}
-use Rattle.std.specs.List.Sorted.{IsPermutation}
-use Rattle.std.specs.declared.cmp.Ordering.{Ordering}
 use Rattle.sqlite.specs.Effect.{IsDatabase}
 use Rattle.sqlite.specs.Order.{Row}
 use Rattle.sqlite.specs.Program.{overlay}

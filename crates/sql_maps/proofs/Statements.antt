@@ -2,14 +2,12 @@
 -- and table.
 use Rattle.std.proofs.Common.{◌≡◌, ◌⊎◌, inl, inr, ℕ, ℤ, pos, suc, List, [], ◌∷◌, ◌++◌, drop, map, true, cond}
 use Rattle.std.proofs.Common.{length, ◌/◌, Option, Some, None, Ok, refl, sym, ap, subst, ◌∙◌, ◌+◌, ◌<◌, ◌^◌}
-use Rattle.std.proofs.Common.{nat_lt, arith, slice_get, is_eq, int_cmp}
+use Rattle.std.proofs.Common.{nat_lt, arith, slice_get, is_eq, int_cmp, Ordering}
 use Rattle.std.proofs.lemmas.Bool.{and_parts}
 use Rattle.std.proofs.lemmas.Bool.Decides.{nat_tests}
-use Rattle.std.proofs.lemmas.Cmp.{tied_itself}
-use Rattle.std.specs.Cmp.{int_cmp_total}
+use Rattle.std.specs.Cmp.{tied_itself, int_cmp_total}
 use Rattle.std.specs.FinMap.{int_cmp-IsAntisymmetric}
 use Rattle.std.specs.List.{list_all}
-use Rattle.std.specs.declared.cmp.Ordering.{Ordering}
 use Rattle.sqlite.specs.Cast.{cast_row}
 use Rattle.sqlite.specs.Command.TheVariants.{Insert, InsertOr}
 use Rattle.sqlite.specs.Edit.{id_in, next_rowid, numbered, put_all, with_rowid, without_all}
@@ -40,8 +38,8 @@ use Rattle.sql_maps.specs.Schema.{Descriptor, table_of, columns_to, is_plain}
 use Rattle.sql_maps.specs.States.{Claim, StandsIn, Within, at_place}
 use Rattle.sql_maps.specs.Texts.{IsWrite, upsert, insert_or_nothing, delete, met_update, by_key, eq}
 use Rattle.sql_maps.proofs.Answers.{one_at, passing, shown_as, shows_none, shows_row}
-use Rattle.sql_maps.proofs.ByKey.{at_key, eq_itself, passes_key, row_at}
-use Rattle.sql_maps.proofs.Edits.{inserted, put_again, removed, replaced, same_held, same_row}
+use Rattle.sql_maps.proofs.ByKey.{at_key, eq_itself, passes_key, row_at, inserted, put_again, removed}
+use Rattle.sql_maps.proofs.ByKey.{replaced, same_held, same_row}
 use Rattle.sql_maps.proofs.Keys.{Keyed, cast_row_fits, cast_row_new, coding, hits, meets}
 use Rattle.sql_maps.proofs.KeyTests.{equal_is, int_eq, and_true}
 use Rattle.sql_maps.proofs.Plain.{claim_at, claimed, frame}

@@ -1,7 +1,6 @@
 -- A key that is UNIQUE comes once, whatever the table.
-use Rattle.std.proofs.Common.{◌≡◌, inl, ℕ, ℤ, ◌∷◌, true, false, not, ◌&&◌, refl, sym, ap, subst}
-use Rattle.std.proofs.Common.{◌∙◌, true≢false, slice_get, Some, Ordering, Less, Equal, Greater, is_eq}
-use Rattle.std.proofs.Common.{int_cmp, arith}
+use Rattle.std.proofs.Common.{◌≡◌, inl, ℕ, ℤ, ◌∷◌, true, false, not, ◌&&◌, refl, sym, ap, subst, ◌∙◌}
+use Rattle.std.proofs.Common.{true≢false, slice_get, Some, is_eq, int_cmp, arith, List}
 use Rattle.sql_maps.proofs.KeyTests.{equal_is}
 use Rattle.std.proofs.lemmas.Bool.{and_from, and_parts}
 use Rattle.std.specs.FinMap.{int_cmp-IsAntisymmetric}
@@ -18,7 +17,6 @@ use Rattle.sqlite_rules.proofs.RuleLemmas.{keeps_at}
 use Rattle.sqlite_schema.specs.Rules.{agree, differ, clashes, guards}
 use Rattle.sqlite_schema.specs.declared.schema.Constraint.TheVariants.{Unique}
 use Rattle.sqlite_schema.specs.declared.schema.Index.{Index}
-use Rattle.std.proofs.Common.{List}
 use Rattle.sqlite_value.proofs.OrderLemmas.{value_cmp-Int}
 use Rattle.sql_maps.specs.Schema.{Descriptor, table_of}
 use Rattle.sql_maps.proofs.Keys.{IsGuarded, agree_are, same_at}

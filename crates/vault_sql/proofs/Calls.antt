@@ -1,7 +1,6 @@
 -- The one clause of a call, from what the functions that run a text say.
-use Rattle.std.proofs.Common.{◌≡◌, ℕ, List, Ok, Err, Result, IfOk, OnOk, refl, sym, IsTrue, true≢false, ◌<◌}
-use Rattle.std.proofs.Common.{◌^◌, ◌∷◌, ◌++◌, [], suc, ℤ, arith, Option, Some, None}
-use Rattle.std.specs.Result.{IsErr}
+use Rattle.std.proofs.Common.{◌≡◌, ℕ, List, Ok, Err, Result, IfOk, OnOk, sym, IsTrue, true≢false, ◌<◌, ◌^◌}
+use Rattle.std.proofs.Common.{◌∷◌, ◌++◌, [], suc, ℤ, arith, Option, IsErr, Ordering, subst}
 use Rattle.sqlite.specs.Effect.{Database}
 use Rattle.sqlite.specs.Order.{Row}
 use Rattle.sqlite.specs.State.{State, HasCleanDisk, ExecutesInside, Shown}
@@ -12,7 +11,6 @@ use Rattle.sqlite.specs.Query.{Query}
 use Rattle.sqlite.specs.Schema.{Schema}
 use Rattle.sqlite.specs.Term.{Term}
 use Rattle.sqlite.specs.declared.types.Value.TheVariants.{Int}
-use Rattle.std.specs.declared.cmp.Ordering.{Ordering}
 use Rattle.sqlite.proofs.Callers.{IsPlain}
 use Rattle.sql_maps.specs.Codes.{row_of}
 use Rattle.sql_maps.specs.Rows.{AreRowsOf, one_of}
@@ -28,10 +26,7 @@ use Rattle.sql_maps.proofs.Statements.{Ran}
 use Rattle.vault_core.specs.Keys.{Bytes, right_number}
 use Rattle.vault_core.specs.Vault.{Vault}
 use Rattle.vault_core.specs.declared.right.Right.{Right}
-use Rattle.vault_core.specs.declared.right.Right.TheVariants.{Tokenize, Detokenize, View, Revoke, Purge}
-use Rattle.vault_core.specs.declared.right.Right.TheVariants.{Audit}
 use Rattle.vault_core.specs.declared.usage.Use.{Use}
-use Rattle.vault_core.specs.declared.usage.Use.TheVariants.{Single, Multi}
 use Rattle.vault_schema.specs.Version1.Claims.{Lookups, claims}
 use Rattle.vault_schema.specs.Version1.Rows.{text_or_null, number_or_null, use_number}
 use Rattle.vault_schema.proofs.Version1.AsClaims.{as_claims, as_fields}
@@ -41,7 +36,6 @@ use Rattle.vault_sql.specs.Left.{left_after}
 use Rattle.vault_sql.specs.Schema.{vault_schema}
 use Rattle.vault_sql.specs.Stands.{Stands, lookups_of}
 use Rattle.sqlite_catalog.specs.Listing.{IsSound}
-use Rattle.std.proofs.Common.{subst}
 
 -- ---- parameters
 

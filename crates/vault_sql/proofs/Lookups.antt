@@ -1,7 +1,6 @@
 -- What each query shows of a vault: exactly what it has, or nothing.
-use Rattle.std.proofs.Common.{◌≡◌, ℕ, ℤ, pos, List, [], ◌∷◌, Bool, true, false, ◌&&◌, is_eq, is_gt, is_none}
-use Rattle.std.proofs.Common.{is_some, int_cmp, nat_lt, Option, Some, None, option_map, refl, sym, ap, ◌∙◌}
-use Rattle.std.proofs.Common.{arith}
+use Rattle.std.proofs.Common.{◌≡◌, ℕ, ℤ, pos, List, [], ◌∷◌, Bool, true, false, ◌&&◌, is_eq, is_none, is_some}
+use Rattle.std.proofs.Common.{nat_lt, Option, Some, None, option_map, refl, sym, ap, ◌∙◌, arith, nat_cmp}
 use Rattle.std.proofs.lemmas.Bool.Decides.{nat_tests}
 use Rattle.std.proofs.lemmas.Bool.{and_parts}
 use Rattle.std.proofs.lemmas.Int.{ints}
@@ -9,16 +8,15 @@ use Rattle.std.specs.Cmp.Lexicographic.{texts_ties}
 use Rattle.std.specs.FinMap as map
 use Rattle.std.specs.List.{list_all}
 use Rattle.std.specs.Option.{option_map_or}
-use Rattle.std.specs.Ordering.{nat_cmp}
 use Rattle.sqlite.specs.Collation.TheVariants.{Binary}
-use Rattle.sqlite.specs.Ops.{binary, is_true, from_truth}
+use Rattle.sqlite.specs.Ops.{binary, is_true}
 use Rattle.sqlite.specs.Term.{holds}
 use Rattle.sqlite.specs.declared.types.Value.TheVariants.{Null, Int, Text}
 use Rattle.sqlite_sql.specs.declared.ops.BinaryOp.TheVariants.{Compare, Is}
 use Rattle.sqlite_sql.specs.declared.ops.CompareOp.TheVariants.{Eq, Gt}
 use Rattle.sqlite_value.proofs.OrderLemmas.{value_cmp-Int}
 use Rattle.vault_pan.specs.CardText.{same}
-use Rattle.std.proofs.lemmas.Cmp.{tied_itself}
+use Rattle.std.specs.Cmp.{tied_itself}
 use Rattle.vault_core.proofs.Maps.{bytes_exact, bytes_total}
 use Rattle.vault_core.proofs.CurrentLemmas.{current-some, current-none}
 use Rattle.vault_core.specs.Keys.{Bytes, bytes_cmp}
@@ -28,7 +26,7 @@ use Rattle.vault_core.specs.Vault.{Vault, entry_at}
 use Rattle.vault_core.specs.Window.{moment_at}
 use Rattle.vault_core.specs.declared.row.Entry.{Entry}
 use Rattle.vault_core.specs.declared.usage.Use.{Use}
-use Rattle.vault_core.specs.declared.usage.Use.TheVariants.{Single, Multi}
+use Rattle.vault_core.specs.declared.usage.Use.TheVariants.{Multi}
 use Rattle.vault_store.proofs.LiveLemmas.{one_live}
 use Rattle.sqlite.specs.Order.{Row, value_cmp}
 use Rattle.sqlite.specs.State.{State, Shown}
@@ -38,8 +36,7 @@ use Rattle.sql_maps.specs.Texts.{by_key}
 use Rattle.sql_maps.proofs.KeyTests.{text_eq, number_eq, and_true, equal_is}
 use Rattle.sql_maps.proofs.Reading.{how_many, shown_are, shown_none, shown_one}
 use Rattle.vault_schema.specs.Version1.Claims.{claims}
-use Rattle.vault_schema.specs.Version1.Rows.{text_or_null, number_or_null, use_number}
-use Rattle.vault_schema.specs.Version1.Rows.{number_column}
+use Rattle.vault_schema.specs.Version1.Rows.{text_or_null, number_or_null, use_number, number_column}
 use Rattle.vault_schema.specs.Version1.Rows.{count_row, entry_row}
 use Rattle.vault_schema.specs.declared.v1.TheConstants.{FIND_COUNTS, FIND_CURRENT, COUNT_MERCHANTS}
 use Rattle.vault_schema.proofs.Version1.Codes.{merchant_coding, count_table, entry_table}

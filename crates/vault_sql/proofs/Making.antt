@@ -1,42 +1,34 @@
 -- What making the schema leads to: the empty vault.
-use Rattle.std.proofs.Common.{◌≡◌, ◌==◌, ◌++◌, ℕ, zero, suc, pos, List, [], ◌∷◌, Option, Some, None, Ok, true}
-use Rattle.std.proofs.Common.{false, cond, Bool, option_map, refl, sym, ap, subst, ◌∙◌}
-use Rattle.std.proofs.Common.{arith}
+use Rattle.std.proofs.Common.{◌≡◌, ◌++◌, ℕ, zero, suc, pos, List, [], ◌∷◌, Option, Some, None, Ok, true, cond}
+use Rattle.std.proofs.Common.{option_map, refl, ap, subst, ◌∙◌, arith, IsTrue, Result, OnOk}
 use Rattle.std.proofs.lemmas.Bool.Decides.{nat_tests}
-use Rattle.std.proofs.Common.{IsTrue, Result, OnOk}
-use Rattle.sqlite.specs.State.{HasCleanDisk}
-use Rattle.sqlite.specs.Change.{indexed}
+use Rattle.sqlite.specs.State.{HasCleanDisk, State, ExecutesInside}
+use Rattle.sqlite.specs.Change.{indexed, created}
 use Rattle.sqlite_schema.specs.declared.schema.Index.{Index}
-use Rattle.sql_maps.specs.States.{Steps}
-use Rattle.sql_maps.specs.Texts.{MakesIndex}
+use Rattle.sql_maps.specs.States.{Steps, Claim, IsEmpty, StandsIn, Within}
+use Rattle.sql_maps.specs.Texts.{MakesIndex, MakesTable}
 use Rattle.sql_maps.proofs.Calls.{on_ok}
 use Rattle.std.specs.FinMap as map
 use Rattle.std.specs.FinSet as set
-use Rattle.std.specs.Option.{option_map_or}
 use Rattle.std.specs.Ordering.{eq_by_cmp}
 use Rattle.sqlite.specs.Effect.{Database}
-use Rattle.sqlite.specs.State.{State, ExecutesInside}
-use Rattle.sqlite.specs.Change.{created}
 use Rattle.sqlite.specs.Schema.{Schema}
 use Rattle.sqlite.specs.Table.{Table}
 use Rattle.sqlite.specs.Tree.{Trees}
 use Rattle.sqlite.specs.declared.types.Value.TheVariants.{Null, Int}
 use Rattle.sql_maps.specs.Schema.{no_schema}
-use Rattle.sql_maps.specs.States.{Claim, IsEmpty, StandsIn, Within}
-use Rattle.sql_maps.specs.Texts.{MakesTable}
 use Rattle.sql_maps.proofs.ByKey.{no_rows}
 use Rattle.sql_maps.proofs.Making.{makes_index, makes_table}
 use Rattle.sql_maps.proofs.Statements.{insert_first, retold}
 use Rattle.vault_core.proofs.Maps.{entry_total, entry_exact, get-retained}
 use Rattle.vault_core.specs.Keys.{Bytes, bytes_cmp, entry_cmp, record_cmp, right_cmp}
-use Rattle.vault_core.specs.Vault.{Merchant, empty_vault, entries_of, made, merchant_at}
+use Rattle.vault_core.specs.Vault.{Merchant, empty_vault, entries_of, made}
 use Rattle.vault_core.specs.declared.row.Entry.{Entry}
 use Rattle.vault_schema.specs.Version1.Claims.{IsVersion, claims}
 use Rattle.vault_schema.specs.Version1.Rows.{merchant_row, count_row, entry_row, record_row, right_row}
 use Rattle.vault_schema.specs.Version1.Tables.{vault, rights}
-use Rattle.vault_schema.specs.declared.v1.TheConstants.{CREATE_VAULT, CREATE_ENTRIES_NUMBER, PUT_VERSION}
-use Rattle.vault_schema.proofs.Version1.Making.{one, four, five, six, treeless, makes_vault}
-use Rattle.vault_schema.proofs.Version1.Making.{makes_entries_number, all_made}
+use Rattle.vault_schema.specs.declared.v1.TheConstants.{PUT_VERSION}
+use Rattle.vault_schema.proofs.Version1.Making.{six, treeless, all_made}
 use Rattle.vault_schema.proofs.Version1.Texts.{put_version_is}
 use Rattle.vault_sql.specs.Calls.{IsWithin}
 use Rattle.vault_sql.specs.Making.{IsBegun, IsReady}

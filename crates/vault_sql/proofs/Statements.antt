@@ -14,8 +14,8 @@ use Rattle.vault_core.specs.declared.right.Right.{Right}
 use Rattle.vault_core.specs.declared.row.Entry.{Entry}
 use Rattle.vault_core.specs.declared.row.Record.{Record}
 use Rattle.vault_schema.specs.Version1.Claims.{Lookups, claims}
-use Rattle.vault_schema.specs.Version1.Rows.{lives_columns, numbered_key}
-use Rattle.vault_schema.specs.Version1.Rows.{count_row, entry_key, entry_columns, record_columns, right_key}
+use Rattle.vault_schema.specs.Version1.Rows.{lives_columns, numbered_key, count_row, entry_key, entry_columns}
+use Rattle.vault_schema.specs.Version1.Rows.{record_columns, right_key}
 use Rattle.vault_schema.specs.declared.v1.Lives.{Lives}
 use Rattle.vault_schema.specs.declared.v1.TheConstants.{PUT_MERCHANT, RAISE_COUNT, PUT_ENTRY, PUT_RECORD}
 use Rattle.vault_schema.specs.declared.v1.TheConstants.{GIVE_RIGHT, TAKE_RIGHT}

@@ -1,12 +1,11 @@
 -- The lookups that changes write are those of the vault with the changes.
-use Rattle.std.proofs.Common.{◌≡◌, ℕ, ◌+◌, ◌≤◌, ◌==◌, Bool, true, false, cond, ◌&&◌}
-use Rattle.std.proofs.Common.{is_eq, Option, Some, None, option_map, refl, sym, ap, ◌∙◌}
-use Rattle.std.proofs.Common.{arith, if◌then◌else◌}
+use Rattle.std.proofs.Common.{◌≡◌, ℕ, ◌+◌, ◌≤◌, ◌==◌, Bool, true, false, cond, ◌&&◌, is_eq, Option, Some}
+use Rattle.std.proofs.Common.{None, option_map, refl, sym, ap, ◌∙◌, arith, if◌then◌else◌, nat_cmp}
 use Rattle.std.proofs.lemmas.Bool.Decides.{nat_tests}
 use Rattle.std.specs.FinMap as map
 use Rattle.std.specs.FinSet as set
 use Rattle.std.specs.Option.{option_map_or}
-use Rattle.std.specs.Ordering.{nat_cmp, eq_by_cmp}
+use Rattle.std.specs.Ordering.{eq_by_cmp}
 use Rattle.vault_core.proofs.Maps.{bytes_total, bytes_exact, entry_total, record_total, right_total}
 use Rattle.vault_core.specs.Changes.{Fit, plus, with_merchant, merchant_with, raised, with_entry, with_record}
 use Rattle.vault_core.specs.Changes.{with_right, made_raised}
@@ -23,8 +22,8 @@ use Rattle.vault_core.specs.declared.row.Record.{Record}
 use Rattle.vault_store.proofs.MadeLemmas.{one_at, made-plus}
 use Rattle.vault_sql.specs.Stands.{lives_in, count_at, unless_zero, lookups_of}
 use Rattle.sql_maps.specs.Rows.{put}
-use Rattle.vault_sql.specs.Written.{put_lives, kind_of, raise, put_entry, put_record, put_right}
-use Rattle.vault_sql.specs.Written.{written, HasRoom}
+use Rattle.vault_sql.specs.Written.{put_lives, kind_of, raise, put_entry, put_record, put_right, written}
+use Rattle.vault_sql.specs.Written.{HasRoom}
 use Rattle.sql_maps.proofs.KeyTests.{equal_is, then_eq}
 
 -- ---- merchants and their counts
@@ -35,15 +34,10 @@ found_plus : (merchants : map.FinMap bytes_cmp Merchant) (count : Option Count) 
     ≡ cond (eq_by_cmp bytes_cmp q x.merchant) (Some (raised count (merchant_with x (map.get merchants q))))
     (map.get merchants q)
 found_plus merchants count x q =
-    map.get-insert bytes_total merchants x.merchant (raised count (merchant_with x (map.get merchants x.merchant)))
-    q
-    ∙ elim (eq_by_cmp bytes_cmp q x.merchant) as (λ b. eq_by_cmp bytes_cmp q x.merchant ≡ b
-    → cond b (Some (raised count (merchant_with x (map.get merchants x.merchant)))) (map.get merchants q)
-    ≡ cond b (Some (raised count (merchant_with x (map.get merchants q)))) (map.get merchants q)) [
-      | true ↦ λ e. ap (λ m. Some (raised count (merchant_with x (map.get merchants m))))
-          (sym (bytes_exact q x.merchant (equal_is _ e)))
-      | false ↦ λ e. refl
-    ] refl
+    let same : is_eq (bytes_cmp q x.merchant) ≡ true → q ≡ x.merchant =
+    λ e. bytes_exact q x.merchant (equal_is _ e) in
+    rw (map.get-insert bytes_total merchants x.merchant
+    (raised count (merchant_with x (map.get merchants x.merchant))) q) (grind (arith, same))
 
 merchants_plus : (merchants : map.FinMap bytes_cmp Merchant) (count : Option Count)
     (lives : Option core.Lives) (q : Bytes)

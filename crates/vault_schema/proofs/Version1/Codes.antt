@@ -1,6 +1,6 @@
 -- Each key and value of schema 1 is told by its columns.
 use Rattle.std.proofs.Common.{◌≡◌, ℕ, pos, [], ◌==◌, true, cond, Option, Some, None, refl, sym, ap, ◌∙◌}
-use Rattle.std.specs.Ordering.{nat_cmp}
+use Rattle.std.proofs.Common.{nat_cmp}
 use Rattle.sqlite.specs.Kind.TheVariants.{Integer, Text as Words}
 use Rattle.sqlite.specs.Order.{column}
 use Rattle.sqlite.specs.declared.types.Value.{Value}

@@ -1,5 +1,4 @@
 use Rattle.std.proofs.Common.{rules}
-use Rattle.sqlite.specs.Held.{state}
 use Rattle.vault_sql.proofs.Calls.{answers}
 use Rattle.vault_sql.proofs.MerchantRows.{lives_shown}
 use Rattle.vault_sql.proofs.merchants.lives_at.Goals as goal

@@ -2,7 +2,6 @@ use Rattle.std.proofs.Common.{arith, sym, ◌∙◌}
 use Rattle.sqlite.specs.Held.{state}
 use Rattle.sqlite.specs.State.{HasCleanDisk}
 use Rattle.sql_maps.proofs.Calls.{reads_then}
-use Rattle.vault_sql.specs.Schema.{vault_schema}
 use Rattle.vault_sql.proofs.Calls.{answers, fails_then, reads_as, still_held}
 use Rattle.vault_sql.proofs.MerchantRows.{no_row, row_is, total_is}
 use Rattle.vault_sql.proofs.merchants.merchant.Goals as goal

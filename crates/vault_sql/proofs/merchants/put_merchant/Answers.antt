@@ -8,14 +8,8 @@ pub returns-clause-done : goal.returns-clause-done
 returns-clause-done g c =
     makes c.step.ensures.steps c.step.ensures.ran (λ h base can run.
     merchant_put c.args.m.now c.args.x.now
-    (rw (
-      c.params-to_sql.ensures,
-      c.params-to_sql-2.ensures,
-      c.params-to_sql-3.ensures,
-      c.params-to_sql-4.ensures,
-      c.seconds-moment.ensures.value,
-      small _ c.requires.single,
-      small _
-          c.requires.multi,
-      small c.args.x.now.moment (omega (arith, c.seconds-moment.ensures.moment)),
-    ) at run))
+    (rw (small c.args.x.now.moment (omega (arith, c.seconds-moment.ensures.moment))) at
+    (rw (small _ c.requires.multi) at
+    (rw (c.params-to_sql-4.ensures, c.seconds-moment.ensures.value, small _ c.requires.single) at
+    (rw (c.params-to_sql.ensures, c.params-to_sql-2.ensures, c.params-to_sql-3.ensures) at
+    run)))))

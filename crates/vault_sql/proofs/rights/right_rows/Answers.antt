@@ -18,13 +18,9 @@ returns g c =
     (λ V rows it read.
     look_up _ _ it _ _ rows.items read right_table (lookups_of V).rights (λ are. are)
     _ (right_is [] []) (c.args.caller.now, (c.args.m.now, c.args.right))
-    (rw (
-      c.params-to_sql.ensures,
-      c.params-to_sql-2.ensures,
-      c.params-to_sql-3.ensures,
-      c.number_of-what.ensures,
-      small _ (small_right c.args.right),
-    ) refl) (λ u. shown) (λ n x. refl)
+    (rw (c.params-to_sql.ensures, c.params-to_sql-2.ensures, c.params-to_sql-3.ensures)
+    (rw (c.number_of-what.ensures, small _ (small_right c.args.right))
+    refl)) (λ u. shown) (λ n x. refl)
     ∙ elim (has_right V c.args.caller.now c.args.m.now c.args.right)
     as (λ b. one_of (λ (u : Unit {0}). shown) (cond b (Some tt) None) ≡ cond b (shown ∷ []) [])
     [ true ↦ refl | false ↦ refl ])

@@ -46,9 +46,7 @@ returns-clause-done g c clean =
     → Holds (state g.S.Store h) (plus V c.args.ch.now))) same
     (on_ok c.commit.result (c.commit.ensures.ok late) (λ done V h sound fit.
     as_vault (state g.S.Store end) (plus V c.args.ch.now)
-    (committed vault_schema (claims (lookups_of (plus V c.args.ch.now)))
-    (state g.S.Store c.write_caller.new.tx.conn.now) (state g.S.Store end) old.committed
-    (ready g c late V h sound fit) done.1 c.commit.ensures.survives.limit)))
+    (committed (ready g c late V h sound fit) done.1 c.commit.ensures.survives.limit)))
 
 pub returns-clause-crash : goal.returns-clause-crash
 returns-clause-crash g c clean V h sound fit =
