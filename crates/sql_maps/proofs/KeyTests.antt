@@ -1,5 +1,5 @@
 -- What the tests of the statements come to.
-use Rattle.std.proofs.Common.{◌≡◌, ℕ, ℤ, pos, Bool, true, ◌∙◌, ◌&&◌, is_eq, int_cmp, arith, nat_cmp, Ordering}
+use Rattle.std.proofs.Common.{◌≡◌, ℕ, ℤ, pos, Bool, true, ◌&&◌, is_eq, int_cmp, arith, nat_cmp, Ordering}
 use Rattle.std.proofs.Common.{Equal, List}
 use Rattle.std.proofs.lemmas.Bool.Decides.{nat_tests}
 use Rattle.std.proofs.lemmas.Int.{ints}
@@ -26,12 +26,9 @@ unfolding binary
 int_eq a b =
     rw value_cmp-Int (grind arith)
 
-pub pos_eq : (a b : ℕ) → is_eq (int_cmp (pos a) (pos b)) ≡ is_eq (nat_cmp a b)
-pos_eq a b = grind (arith, ints, nat_tests)
-
 pub number_eq : (a b : ℕ)
     → is_true (binary (Compare Eq Binary) (Int (pos a)) (Int (pos b))) ≡ is_eq (nat_cmp a b)
-number_eq a b = int_eq (pos a) (pos b) ∙ pos_eq a b
+number_eq a b = rw (int_eq (pos a) (pos b)) (grind (arith, ints, nat_tests))
 
 pub then_eq : (a b : Ordering) → is_eq (ordering_then a b) ≡ (is_eq a && is_eq b)
 then_eq a b = grind arith

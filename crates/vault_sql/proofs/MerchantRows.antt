@@ -1,10 +1,9 @@
 -- The row of a merchant, put together from its own table and its counts.
-use Rattle.std.proofs.Common.{◌≡◌, inl, inr, slice_get, ℕ, pos, List, Option, Some, None, option_map, refl}
+use Rattle.std.proofs.Common.{◌≡◌, inl, inr, slice_get, ℕ, List, Option, Some, None, option_map, refl}
 use Rattle.std.proofs.Common.{sym, ap, ◌∙◌, arith}
 use Rattle.std.proofs.lemmas.Bool.Decides.{nat_tests}
 use Rattle.std.specs.Option.{option_map_or}
 use Rattle.sqlite.specs.Order.{Row, column}
-use Rattle.sqlite.specs.declared.types.Value.TheVariants.{Int}
 use Rattle.vault_core.proofs.Finds.{some_same}
 use Rattle.vault_core.specs.Keys.{Bytes}
 use Rattle.vault_core.specs.Vault.{Vault, Merchant, merchant_at, made}
@@ -27,10 +26,8 @@ pub total_is : (V : Vault) (m : Bytes) (rows : List Row) (kind total : ℕ) → 
     → IsTotalOf kind rows total → total ≡ count_at V m kind
 total_is V m rows kind total shows (inl it) =
     let row = shows.sound it.0 it.1 in
-    let of_kind : Int (pos row.0) ≡ Int (pos kind) = sym (ap (λ r. column r 0) row.2) ∙ it.2 in
-    let has_total : Int (pos row.1) ≡ Int (pos total) = sym (ap (λ r. column r 1) row.2) ∙ it.3 in
-    let same_kind : row.0 ≡ kind = cc in
-    let same_total : row.1 ≡ total = cc in
+    let same_kind : row.0 ≡ kind = (let e = sym (ap (λ r. column r 0) row.2) ∙ it.2 in cc) in
+    let same_total : row.1 ≡ total = (let e = sym (ap (λ r. column r 1) row.2) ∙ it.3 in cc) in
     (shown_or_zero (count_at V m kind)).0 total
     (sym (ap (λ k. unless_zero (count_at V m k)) same_kind) ∙ row.3 ∙ ap (λ n. Some n) same_total)
 total_is V m rows kind total shows (inr none) =

@@ -1,6 +1,6 @@
 -- What each statement that writes makes of the lookups, inside a transaction.
-use Rattle.std.proofs.Common.{◌≡◌, ◌⊎◌, inl, inr, ℕ, ℤ, pos, [], ◌∷◌, Option, Some, None, refl, sym, ap}
-use Rattle.std.proofs.Common.{subst, ◌∙◌, ◌+◌, ◌++◌, ◌<◌, ◌^◌, unwrap_or}
+use Rattle.std.proofs.Common.{arith, ◌≡◌, ◌⊎◌, ℕ, ℤ, pos, [], ◌∷◌, Option, Some, None, refl, sym}
+use Rattle.std.proofs.Common.{ap, subst, ◌∙◌, ◌+◌, ◌++◌, ◌<◌, ◌^◌, unwrap_or}
 use Rattle.sqlite.specs.Effect.{Database}
 use Rattle.sqlite.specs.Ops.{binary}
 use Rattle.sqlite.specs.State.{State}
@@ -68,8 +68,7 @@ module _ {h : Lookups} {base : Database} {old new : State} where
       keep_in refl run right_table h.rights (λ are. are) at tt 4 _ (give_is [] []) refl (there (h.rights at))
     where
       there : (o : Option (Unit {0})) → o ≡ Some tt ⊎ (o ≡ None)
-      there None = inr refl
-      there (Some it) = inl refl
+      there o = grind arith
 
   pub right_taken : (at : Bytes × (Bytes × Right))
       → Ran vault_schema (claims h) base old new TAKE_RIGHT.now (right_key at)

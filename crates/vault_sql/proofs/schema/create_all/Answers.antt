@@ -4,11 +4,9 @@ use Rattle.sqlite.specs.State.{HasCleanDisk}
 use Rattle.sql_maps.specs.Schema.{no_schema}
 use Rattle.sql_maps.proofs.Calls.{committed, on_ok}
 use Rattle.vault_core.specs.Vault.{empty_vault}
-use Rattle.vault_schema.specs.Version1.Claims.{claims}
 use Rattle.vault_sql.specs.Calls.{IsWithin}
 use Rattle.vault_sql.specs.Holds.{Holds}
 use Rattle.vault_sql.specs.Making.{IsBegun, IsReady}
-use Rattle.vault_sql.specs.Schema.{vault_schema}
 use Rattle.vault_sql.specs.Stands.{lookups_of}
 use Rattle.vault_sql.proofs.Calls.{as_vault, ours}
 use Rattle.vault_sql.proofs.Making.{begun_blank}
