@@ -50,8 +50,8 @@ answers db {params} {tree} {tests} {project} {order} {rows} a =
     ∙ ap (λ rs. map (shown_as params project) (passing params tests rs)) (bare db tree))
     (sym a.shown) (IsPermutation-map (λ (o : Output). o.1) a.kept a.ordered a.same)
   where
-    each : (q : Query) (rs : List Row) → map (λ (o : Output). o.1) (map (output q) (map (λ r. params ∷ r ∷ []) rs))
-        ≡ map (λ r. (output q (params ∷ r ∷ [])).1) rs
+    each : (q : Query) (rs : List Row) → map (λ (o : Output). o.1)
+        (map (output q) (map (λ r. params ∷ r ∷ []) rs)) ≡ map (λ r. (output q (params ∷ r ∷ [])).1) rs
     each q [] = refl
     each q (r ∷ rs) = ap (λ l. (output q (params ∷ r ∷ [])).1 ∷ l) (each q rs)
 

@@ -250,10 +250,11 @@ module _ {K X : Type 0} {cmp : K → K → Ordering} {encode : K → X → Row} 
 
 -- The row of the key is replaced by one with its rowid.
 pub replaced : {K X : Type 0} {cmp : K → K → Ordering} {encode : K → X → Row} {rows : List Row}
-    {held : K → Option X} (c : Coding cmp encode) (are : AreRowsOf encode rows held) (k : K) (x was : X) (n : ℤ)
-    → Has rows (Int n ∷ encode k was)
+    {held : K → Option X} (c : Coding cmp encode) (are : AreRowsOf encode rows held) (k : K) (x was : X)
+    (n : ℤ) → Has rows (Int n ∷ encode k was)
     → are_fresh (without_all rows (n ∷ [])) ((Int n ∷ encode k x) ∷ []) ≡ true
-    → AreRowsOf encode (put_all (without_all rows (n ∷ [])) ((Int n ∷ encode k x) ∷ [])) (put cmp held k (Some x))
+    → AreRowsOf encode (put_all (without_all rows (n ∷ [])) ((Int n ∷ encode k x) ∷ []))
+    (put cmp held k (Some x))
 replaced {cmp = cmp} {held = held} c are k x was n there fresh =
     same_held (inserted c (removed c are k n was there) k x n (put_at c are k None) fresh)
     (λ q. grind arith)

@@ -155,7 +155,8 @@ module _ {K X : Type 0} {cmp : K → K → Ordering} {columns : List Column} {n 
       ∙ same_first n (key q) (key k) (value y) [] (c.long q) (c.long k) ∙ c.same q k
 
 -- a table of a schema whose first columns are its key
-pub record Keyed {K X : Type 0} (s : Schema) (cmp : K → K → Ordering) (key : K → Row) (value : X → Row) : Type 0
+pub record Keyed {K X : Type 0} (s : Schema) (cmp : K → K → Ordering) (key : K → Row)
+    (value : X → Row) : Type 0
   where
     pub table : Descriptor
     pub place : ℕ

@@ -102,7 +102,8 @@ module _ {s : Schema} {claims : List Claim} (old new : State) (it : Stands s cla
               let from = has_mapped (shown_as params project) (passing params tests (db t.table.tree)) r
               (has_permuted rows these r (IsPermutation-sym these rows (answers db answer)) h) in
               let kept = has_filtered (tested tests) (db t.table.tree) from.0 from.1 in
-              let it = passes_good (coding t.codes) are_rows (tested tests) good passes from.0 kept.0 kept.1 in
+              let it =
+              passes_good (coding t.codes) are_rows (tested tests) good passes from.0 kept.0 kept.1 in
               (it.0, it.1, it.2, it.3, from.2 ∙ ap (shown_as params project) it.4 ∙ shows _ it.0 it.1),
           λ q y is fits.
               let row = row_at (coding t.codes) are_rows q y is in

@@ -63,8 +63,8 @@ row_with : {K X : Type 0} {encode : K → X → Row} {rows : List Row} {held : K
     → AreRowsOf encode rows held → (params : Row) (at : ℕ) (n : ℤ) (row : Row) → column params at ≡ Int n
     → Has rows (Int n ∷ row) → passing params (eq (col 1 0) (col 0 at) ∷ []) rows ≡ (Int n ∷ row) ∷ []
 row_with {rows = rows} are params at n row stands there =
-    one_at (λ r. list_all (holds (params ∷ r ∷ [])) (eq (col 1 0) (col 0 at) ∷ [])) rows (Int n ∷ row) are.apart
-    there (passes (Int n ∷ row) refl ∙ ap is_eq (tied_itself int_cmp_total n)) (λ r h e.
+    one_at (λ r. list_all (holds (params ∷ r ∷ [])) (eq (col 1 0) (col 0 at) ∷ [])) rows (Int n ∷ row)
+    are.apart there (passes (Int n ∷ row) refl ∙ ap is_eq (tied_itself int_cmp_total n)) (λ r h e.
     let same : id_in (rowid r) ≡ n =
     int_cmp-IsAntisymmetric _ n (equal_is _ (sym (passes r (are.keyed r h)) ∙ e)) in
     same_row rows r (Int n ∷ row) are.apart h there
@@ -89,7 +89,8 @@ module _ {s : Schema} (fine : is_plain s ≡ true) {claims : List Claim} {base :
   db = old.now.trees
 
   -- one table was written
-  written : IsDatabase new.now → (d : Descriptor) (place : ℕ) → slice_get s.tables place ≡ Some (table_of d) → (ids : List ℤ) (news : List Row) (Q : Claim)
+  written : IsDatabase new.now → (d : Descriptor) (place : ℕ)
+      → slice_get s.tables place ≡ Some (table_of d) → (ids : List ℤ) (news : List Row) (Q : Claim)
       → Wrote s d.tree ids news db new.now → Q (put_all (without_all (db d.tree) ids) news)
       → Within s (at_place claims place Q) base new
   written sound d place here ids news Q wrote now = record {
@@ -99,8 +100,8 @@ module _ {s : Schema} (fine : is_plain s ≡ true) {claims : List Claim} {base :
     stands = record {
       schema = wrote.schema;
       sound = sound;
-      rows = frame s.tables claims place (table_of d) Q db new.now.trees (and_parts _ _ fine).0 here wrote.beside
-          run.within.stands.rows (subst Q (sym wrote.is) now);
+      rows = frame s.tables claims place (table_of d) Q db new.now.trees (and_parts _ _ fine).0 here
+          wrote.beside run.within.stands.rows (subst Q (sym wrote.is) now);
     };
   }
 
@@ -111,8 +112,8 @@ module _ {s : Schema} (fine : is_plain s ≡ true) {claims : List Claim} {base :
       → value_rows params width (length terms / width) terms ≡ (Int id ∷ now) ∷ [] → fit d.columns now ≡ true
       → Within s (at_place claims place (λ rows. rows ≡ (Int id ∷ now) ∷ [])) base new
   insert_first d place here width terms it id now none one fits =
-      let did = insert_wrote s fine d text params old new run.count place here run.within.stands.schema run.ran.0
-      _ it in
+      let did = insert_wrote s fine d text params old new run.count place here run.within.stands.schema
+      run.ran.0 _ it in
       let news : numbered Chosen (db d.tree) (map (cast_row (table_of d)) did.0) ≡ (Int id ∷ now) ∷ [] =
       ap (λ l. numbered Chosen (db d.tree) (map (cast_row (table_of d)) l)) (did.1.1 ∙ one)
       ∙ ap (λ r. numbered Chosen (db d.tree) (r ∷ [])) (cast_row_fits d id now fits) in
@@ -150,8 +151,8 @@ module _ {s : Schema} (fine : is_plain s ≡ true) {claims : List Claim} {base :
         run.within.stands.schema run.ran.0 _ it in
         let now = λ (l : List Row) (e : did.0 ≡ l).
         subst (λ l. Wrote s t.table.tree (ids_of l) [] db new.now) e did.2 in
-        elim (at_key (coding t.codes) are_rows (λ r. list_all (holds (params ∷ r ∷ [])) (by_key (suc t.more))) k
-        (hits t.codes k params given)) as (λ _. IsPut k None) [
+        elim (at_key (coding t.codes) are_rows (λ r. list_all (holds (params ∷ r ∷ []))
+        (by_key (suc t.more))) k (hits t.codes k params given)) as (λ _. IsPut k None) [
           | inl none ↦ put_rows k None did.3 [] [] (now [] (shows_none db did.1 none.1))
               (same_held are_rows (put_again (coding t.codes) are_rows k None none.0))
           | inr at ↦ put_rows k None did.3 (at.2 ∷ []) [] (now _ (shows_row db did.1 _ at.4))
@@ -170,8 +171,8 @@ module _ {s : Schema} (fine : is_plain s ≡ true) {claims : List Claim} {base :
         → (rows : List Row)
         → Resolves update (params ++ Int n ∷ shown (table_of t.table) (fresh k first)) rows db
         → IsDatabase new.now
-        → Wrote s t.table.tree (ids_of rows) (map (λ r. cast_row (table_of t.table) (drop 1 r)) rows) db new.now
-        → IsPut k (Some x))
+        → Wrote s t.table.tree (ids_of rows) (map (λ r. cast_row (table_of t.table) (drop 1 r)) rows) db
+        new.now → IsPut k (Some x))
         → IsPut k (Some x)
     put_in k x first width terms update it one starts resolves =
         let did = upsert_wrote s fine t.table text params old new run.count t.place t.here
@@ -193,8 +194,8 @@ module _ {s : Schema} (fine : is_plain s ≡ true) {claims : List Claim} {base :
               (inserted (coding t.codes) are_rows k x _ none now.fresh)
           | inr it ↦
               let was = passes_key (coding t.codes) are_rows
-              (conflicts (Some columns) s.indexes (table_of t.table) (fresh k first)) k (meets t k first _) it.0
-              it.1 it.2 in
+              (conflicts (Some columns) s.indexes (table_of t.table) (fresh k first)) k (meets t k first _)
+              it.0 it.1 it.2 in
               resolves (id_in (rowid it.0)) was.0 was.1 (subst (Has (db t.table.tree)) was.2 it.1) it.3
               (subst (λ v. Resolves update (params ++ v ∷ shown (table_of t.table) (fresh k first)) it.3 db)
               (ap rowid was.2) it.4) did.1 it.5

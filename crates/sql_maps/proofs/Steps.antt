@@ -49,7 +49,8 @@ same_value e = cc
 
 -- One table of a schema has lost the rows with these rowids and then got these rows, and the others are as
 -- they were.
-pub record Wrote (s : Schema) (tree : ℕ) (ids : List ℤ) (news : List Row) (old : Trees) (new : Database) : Type 0
+pub record Wrote (s : Schema) (tree : ℕ) (ids : List ℤ) (news : List Row) (old : Trees)
+    (new : Database) : Type 0
   where
     pub schema : new.schema ≡ s
     pub fresh : are_fresh (without_all (old tree) ids) news ≡ true
@@ -62,7 +63,8 @@ Resolves None params rows db = rows ≡ []
 Resolves (Some body) params rows db = IsAnswer body (overlay db []) params rows
 
 -- the row is new, or it met one
-abbrev pub Tried : Schema → Descriptor → Option (List ℕ) → Option Query → Row → Row → Trees → Database → Type 0
+abbrev pub Tried : Schema → Descriptor → Option (List ℕ) → Option Query → Row → Row → Trees → Database
+    → Type 0
 Tried s d target update params new old now =
     (Wrote s d.tree [] (cast_row (table_of d) new ∷ []) old now
     × ((r : Row) → Has (old d.tree) r → conflicts target s.indexes (table_of d) new r ≡ true → ⊥))
@@ -143,7 +145,8 @@ module _ (s : Schema) (plain : is_plain s ≡ true) (d : Descriptor) where
         → (rows : List Row) × IsAnswer body (overlay db []) params rows
         × Wrote s d.tree (ids_of rows) [] db new.now × IsDatabase new.now
     delete_wrote body it =
-        let done = concluded (Delete at (record { lets = []; body = body })) it (λ w. (w.tally, w.changed, w.sound)) in
+        let done = concluded (Delete at (record { lets = []; body = body })) it
+        (λ w. (w.tally, w.changed, w.sound)) in
         let rows = went done.1 in
         let edit = went rows.2 in (
           rows.0,
@@ -156,7 +159,8 @@ module _ (s : Schema) (plain : is_plain s ≡ true) (d : Descriptor) where
     puts : (row : Row) (one : Written) → Puts task row db (Ok one)
         → Wrote s d.tree [] (cast_row (table_of d) row ∷ []) db (trees_of one)
     puts row one h = let p = went h in
-        edited (mode_of old).keys db p.0 (trees_of one) [] Given 0 (row ∷ []) (ap trees_of (same_value p.2)) p.1
+        edited (mode_of old).keys db p.0 (trees_of one) [] Given 0 (row ∷ []) (ap trees_of (same_value p.2))
+        p.1
 
     clears : (row : Row) (one : Written) (found : List Row) → Clears task Abort row db found (Ok one)
         → Puts task row db (Ok one)
@@ -166,7 +170,8 @@ module _ (s : Schema) (plain : is_plain s ≡ true) (d : Descriptor) where
     met : (target : Option (List ℕ)) (update : Option Query) (row : Row) (one : Written)
         → Upserts task Abort row db (clause_of target update ∷ []) (Ok one)
         → Tried s d target update params row db (trees_of one)
-    met target update row one ([], are, rest) = inl (puts row one (clears row one rest.0 rest.2), are.complete)
+    met target update row one ([], are, rest) = inl
+        (puts row one (clears row one rest.0 rest.2), are.complete)
     met target None row one (x ∷ more, are, rest) =
         let from = are.sound x (inl refl) in
         let same = ap trees_of (same_value rest) in
@@ -192,8 +197,8 @@ module _ (s : Schema) (plain : is_plain s ≡ true) (d : Descriptor) where
           from.1,
           from.2,
           u.0,
-          subst (λ y. IsAnswer body (overlay db []) (params ++ column y 0 ∷ shown (table_of d) row) u.0) from.3
-              (u.1.answer Null),
+          subst (λ y. IsAnswer body (overlay db []) (params ++ column y 0 ∷ shown (table_of d) row) u.0)
+              from.3 (u.1.answer Null),
           subst (λ news. Wrote s d.tree (ids_of u.0) news db (trees_of one))
               (given (without_all (db d.tree) (ids_of u.0)) (map (λ r. cast_row (table_of d) (drop 1 r)) u.0))
               (edited (mode_of old).keys db e.0 (trees_of one) (ids_of u.0) Given 1 u.0
@@ -212,11 +217,12 @@ module _ (s : Schema) (plain : is_plain s ≡ true) (d : Descriptor) where
         (source : Row)
         → IsWrite s text (InsertOr at Abort (Values terms width) (clause_of target update ∷ []))
         → value_rows params width (length terms / width) terms ≡ source ∷ []
-        → Tried s d target update params (with_rowid Chosen (db d.tree) (cast_row (table_of d) source)) db new.now
-        × IsDatabase new.now
+        → Tried s d target update params (with_rowid Chosen (db d.tree) (cast_row (table_of d) source)) db
+        new.now × IsDatabase new.now
     upsert_wrote target update terms width source it one =
         let clauses = clause_of target update ∷ [] in
-        let done = concluded (InsertOr at Abort (Values terms width) clauses) it (λ w. (w.tally, w.changed, w.sound)) in
+        let done = concluded (InsertOr at Abort (Values terms width) clauses) it
+        (λ w. (w.tally, w.changed, w.sound)) in
         let rows = went done.1 in
         let counter = went rows.2 in
         let tries = went counter.2 in

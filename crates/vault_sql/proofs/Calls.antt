@@ -73,7 +73,8 @@ ours {st} V w db is = record {
 -- what its rows show of the tables is told
 pub tells : {R E : Type 0} {result : Result R E} {old new : State} {sql : List ℕ} {body : Query}
     {Is : Vault → R → Type 0} → IsQuery vault_schema sql body
-    → ((s : Schema) → IsPlain (understood s sql) → Reads s result old new) → (items : R → List Row) (params : Row)
+    → ((s : Schema) → IsPlain (understood s sql) → Reads s result old new)
+    → (items : R → List Row) (params : Row)
     → (HasCleanDisk new → IfOk result (λ rows. Shown sql params old new (items rows)))
     → ((V : Vault) (rows : R) → maps.Stands vault_schema (claims (lookups_of V)) old.now
     → Shown sql params old new (items rows) → Is V rows) → Tells result old new Is
@@ -90,15 +91,16 @@ pub looks_up : {R E K X : Type 0} {result : Result R E} {old new : State} {sql :
     (said : (h : Lookups) (rows : List Row) → claim_at (claims h) t.place rows
     → AreRowsOf (row_of key value) rows (held h))
     → IsQuery vault_schema sql (query_of t.table.tree (by_key (suc t.more)) project)
-    → ((s : Schema) → IsPlain (understood s sql) → Reads s result old new) → (items : R → List Row) (params : Row)
+    → ((s : Schema) → IsPlain (understood s sql) → Reads s result old new)
+    → (items : R → List Row) (params : Row)
     → (HasCleanDisk new → IfOk result (λ rows. Shown sql params old new (items rows)))
     → (k : K) → params ≡ key k ++ [] → (show : X → Row)
     → ((m : ℤ) (x : X) → shown_as params project (Int m ∷ row_of key value k x) ≡ show x)
     → Tells result old new (λ V rows. items rows ≡ one_of show (held (lookups_of V) k))
 looks_up {old = old} {new = new} t held said means reads items params told k given show shows =
     tells means reads items params told (λ V rows it shown.
-    look_up old new it _ params (items rows) shown t (held (lookups_of V)) (said (lookups_of V) _) _ means k given
-    show shows)
+    look_up old new it _ params (items rows) shown t (held (lookups_of V)) (said (lookups_of V) _) _ means k
+    given show shows)
 
 -- a call that reads leaves each vault as it was, where the connection holds one
 pub still_held : {R E : Type 0} {x : R} {old new : State} {P : Type 0}

@@ -1,6 +1,7 @@
 -- What each query shows of a vault: exactly what it has, or nothing.
 use Rattle.std.proofs.Common.{◌≡◌, ℕ, ℤ, pos, List, [], ◌∷◌, Bool, true, false, ◌&&◌, is_eq, is_none, is_some}
-use Rattle.std.proofs.Common.{nat_lt, Option, Some, None, option_map, refl, sym, ap, ◌∙◌, arith, nat_cmp}
+use Rattle.std.proofs.Common.{nat_lt, Option, Some, None, option_map, refl, sym, ap, ◌∙◌, arith, nat_cmp, inl}
+use Rattle.std.proofs.Common.{inr, slice_get}
 use Rattle.std.proofs.lemmas.Bool.Decides.{nat_tests}
 use Rattle.std.proofs.lemmas.Bool.{and_parts}
 use Rattle.std.proofs.lemmas.Int.{ints}
@@ -22,13 +23,13 @@ use Rattle.vault_core.proofs.CurrentLemmas.{current-some, current-none}
 use Rattle.vault_core.specs.Keys.{Bytes, bytes_cmp}
 use Rattle.vault_core.specs.Repeats.{current, is_reusable, same_use}
 use Rattle.vault_core.specs.Sound.{Sound}
-use Rattle.vault_core.specs.Vault.{Vault, entry_at}
-use Rattle.vault_core.specs.Window.{moment_at}
+use Rattle.vault_core.specs.Vault.{Vault, entry_at, Merchant, merchant_at, made}
+use Rattle.vault_core.specs.Window.{moment_at, row_at, row_of}
 use Rattle.vault_core.specs.declared.row.Entry.{Entry}
 use Rattle.vault_core.specs.declared.usage.Use.{Use}
 use Rattle.vault_core.specs.declared.usage.Use.TheVariants.{Multi}
 use Rattle.vault_store.proofs.LiveLemmas.{one_live}
-use Rattle.sqlite.specs.Order.{Row, value_cmp}
+use Rattle.sqlite.specs.Order.{Row, value_cmp, column}
 use Rattle.sqlite.specs.State.{State, Shown}
 use Rattle.sql_maps.specs.Rows.{one_of}
 use Rattle.sql_maps.specs.States.{Stands}
@@ -37,13 +38,16 @@ use Rattle.sql_maps.proofs.KeyTests.{text_eq, number_eq, and_true, equal_is}
 use Rattle.sql_maps.proofs.Reading.{how_many, shown_are, shown_none, shown_one}
 use Rattle.vault_schema.specs.Version1.Claims.{claims}
 use Rattle.vault_schema.specs.Version1.Rows.{text_or_null, number_or_null, use_number, number_column}
-use Rattle.vault_schema.specs.Version1.Rows.{count_row, entry_row}
+use Rattle.vault_schema.specs.Version1.Rows.{count_row, entry_row, lives_columns}
 use Rattle.vault_schema.specs.declared.v1.TheConstants.{FIND_COUNTS, FIND_CURRENT, COUNT_MERCHANTS}
 use Rattle.vault_schema.proofs.Version1.Codes.{merchant_coding, count_table, entry_table}
 use Rattle.vault_schema.proofs.Version1.Texts.{counts_is, current_is, current_tests, how_many_is}
 use Rattle.vault_sql.specs.Schema.{vault_schema}
-use Rattle.vault_sql.specs.Shown.{text_column, count_columns, ShowsCounts}
+use Rattle.vault_sql.specs.Shown.{text_column, count_columns, ShowsCounts, IsTotalOf, ShowsLives}
 use Rattle.vault_sql.specs.Stands.{lives_in, count_at, unless_zero, lookups_of}
+use Rattle.vault_core.proofs.Finds.{some_same}
+use Rattle.vault_core.specs.declared.row.MerchantRow.{MerchantRow}
+use Rattle.vault_schema.specs.declared.v1.Lives.{Lives}
 
 -- the rows of a query of this vault
 module _ (old new : State) (V : Vault) (it : Stands vault_schema (claims (lookups_of V)) old.now)
@@ -150,3 +154,59 @@ shows_current old new V it sound m pan at now rows shown =
         let same_name : q.0 ≡ m = bytes_exact q.0 m (equal_is _ parts.0) in
         let key : q ≡ (m, q.1) = λ i. (same_name i, q.1) in
         (key, ap (map.get V.entries) (sym key) ∙ is, parts.1)
+
+-- ---- the row of a merchant, put together from its own table and its counts
+
+-- a count that is shown is the count, and one that isn't is 0
+shown_or_zero : (n : ℕ) → ((total : ℕ) → unless_zero n ≡ Some total → total ≡ n)
+    × (((total : ℕ) → unless_zero n ≡ Some total → ⊥) → 0 ≡ n)
+shown_or_zero n =
+    (λ total is. grind (arith, nat_tests), λ none. let some = none n in grind (arith, nat_tests, some))
+
+-- the total of a kind among the rows of a merchant's counts is its count of that kind
+pub total_is : (V : Vault) (m : Bytes) (rows : List Row) (kind total : ℕ) → ShowsCounts rows V m
+    → IsTotalOf kind rows total → total ≡ count_at V m kind
+total_is V m rows kind total shows (inl it) =
+    let row = shows.sound it.0 it.1 in
+    let same_kind : row.0 ≡ kind = (let e = sym (ap (λ r. column r 0) row.2) ∙ it.2 in cc) in
+    let same_total : row.1 ≡ total = (let e = sym (ap (λ r. column r 1) row.2) ∙ it.3 in cc) in
+    (shown_or_zero (count_at V m kind)).0 total
+    (sym (ap (λ k. unless_zero (count_at V m k)) same_kind) ∙ row.3 ∙ ap (λ n. Some n) same_total)
+total_is V m rows kind total shows (inr none) =
+    none.0 ∙ (shown_or_zero (count_at V m kind)).1 (λ n is. none.1 _ (shows.complete kind n is) refl)
+
+abbrev row_with : Lives → ℕ → ℕ → ℕ → MerchantRow
+row_with x made given denied = record {
+  single_life = x.single_life;
+  multi_life = x.multi_life;
+  moment = x.moment;
+  made = made;
+  given = given;
+  denied = denied;
+}
+
+pub row_is : (V : Vault) (m : Bytes) (x : Lives) → Some x ≡ option_map lives_in (merchant_at V m)
+    → (one two three : ℕ)
+    → one ≡ count_at V m 1 → two ≡ count_at V m 2 → three ≡ count_at V m 3
+    → Some (row_with x one two three) ≡ row_at V m
+row_is V m x is one two three e f g = go (merchant_at V m) refl
+  where
+    go : (o : Option Merchant) → merchant_at V m ≡ o → Some (row_with x one two three) ≡ row_at V m
+    go None none = let clash = is ∙ ap (option_map lives_in) none in cc
+    go (Some merchant) known =
+        let same : x ≡ lives_in merchant = some_same (is ∙ ap (option_map lives_in) known) in
+        let given : two ≡ merchant.given = f
+        ∙ ap (λ (o : Option Merchant). option_map_or (λ (y : Merchant). y.given) o 0) known in
+        let denied : three ≡ merchant.denied = g
+        ∙ ap (λ (o : Option Merchant). option_map_or (λ (y : Merchant). y.denied) o 0) known in
+        (λ i. Some (row_with (same i) (e i) (given i) (denied i))) ∙ sym (ap (option_map (row_of V m)) known)
+
+-- the lives that the one row of a query shows are those that are there
+pub lives_shown : (o : Option Lives) (rows : List Row) (row : Row) (x : Lives) → rows ≡ one_of lives_columns o
+    → Some row ≡ slice_get rows 0 → ShowsLives row x → Some x ≡ o
+lives_shown o rows row x is first shows = grind arith
+
+-- where no lives are there, there is no row
+pub no_row : (V : Vault) (m : Bytes) (found : Option Lives) → found ≡ option_map lives_in (merchant_at V m)
+    → found ≡ None → None ≡ row_at V m
+no_row V m found is none = grind arith

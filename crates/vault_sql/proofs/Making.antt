@@ -60,8 +60,8 @@ module _ {old new : State} {sql : List ℕ} (steps : Steps old new)
       b.committed b.schema tt sql did.0 did.1 steps.limit _ it IsEmpty refl
 
   -- one more table
-  pub table_made : {first : State} {s : Schema} {t : Table} (n : ℕ) → MakesTable s sql t → Reached first old s n
-      → Reached first new (created s t) (suc n)
+  pub table_made : {first : State} {s : Schema} {t : Table} (n : ℕ) → MakesTable s sql t
+      → Reached first old s n → Reached first new (created s t) (suc n)
   table_made {s = s} n it before clean base b =
       let w = before (omega (arith, steps.clean, clean)) base b in
       let did = ran clean w.inside in
@@ -69,8 +69,8 @@ module _ {old new : State} {sql : List ℕ} (steps : Steps old new)
       steps.limit _ it IsEmpty refl
 
   -- one more index
-  pub index_made : {first : State} {s : Schema} {at : ℕ} {t : Table} {i : Index} (n : ℕ) → MakesIndex s sql at t i
-      → Reached first old s n → Reached first new (indexed s t i) n
+  pub index_made : {first : State} {s : Schema} {at : ℕ} {t : Table} {i : Index} (n : ℕ)
+      → MakesIndex s sql at t i → Reached first old s n → Reached first new (indexed s t i) n
   index_made {s = s} n it before clean base b =
       let w = before (omega (arith, steps.clean, clean)) base b in
       let did = ran clean w.inside in
@@ -132,5 +132,5 @@ version_put result {old = old} {new = new} steps ran before clean =
     subst (λ s. Within s (empties 6) base old) all_made made in
     let did = ran made.inside in
     retold vault_schema (IsVersion 1 ∷ empties 5) (claims (lookups_of empty_vault)) base new emptied
-    (insert_first refl (record { within = ready; count = did.0; ran = did.1; limit = steps.limit }) vault 0 refl 3 _
-    (put_version_is [] []) (pos 1) (Null ∷ Int (pos 1) ∷ []) ready.stands.rows.0 refl refl))
+    (insert_first refl (record { within = ready; count = did.0; ran = did.1; limit = steps.limit }) vault 0
+    refl 3 _ (put_version_is [] []) (pos 1) (Null ∷ Int (pos 1) ∷ []) ready.stands.rows.0 refl refl))

@@ -64,7 +64,8 @@ raise_is n (Some x) (Some count) q kind =
     λ e. bytes_exact q x.merchant (equal_is _ e) in
     let kinds : is_eq (nat_cmp kind (kind_of count)) ≡ true → kind ≡ kind_of count =
     λ e. map.nat_cmp-IsAntisymmetric kind (kind_of count) (equal_is _ e) in
-    rw (then_eq (bytes_cmp q x.merchant) (nat_cmp kind (kind_of count))) (grind (arith, nat_tests, same, kinds))
+    rw (then_eq (bytes_cmp q x.merchant) (nat_cmp kind (kind_of count)))
+    (grind (arith, nat_tests, same, kinds))
 
 -- the count of a kind, of tokens that were made and of a merchant
 abbrev count_in : ℕ → Option Merchant → ℕ → ℕ
@@ -76,8 +77,8 @@ count_in made o kind =
 
 count_raised : (merchants : map.FinMap bytes_cmp Merchant) (lives : Option core.Lives) (count : Option Count)
     (q : Bytes) (kind was now : ℕ) → now ≡ was + one_at (made_raised count lives) q
-    → count_in now (map.get (with_merchant merchants count lives) q) kind ≡ count_in was (map.get merchants q) kind +
-    up_at lives count q kind
+    → count_in now (map.get (with_merchant merchants count lives) q) kind ≡ count_in was
+    (map.get merchants q) kind + up_at lives count q kind
 count_raised merchants None count q kind was now h = grind (arith, nat_tests)
 count_raised merchants (Some x) count q kind was now h =
     rw (found_plus merchants count x q) (grind (arith, nat_tests))

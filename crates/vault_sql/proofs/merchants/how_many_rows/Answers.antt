@@ -6,5 +6,5 @@ use Rattle.vault_sql.proofs.merchants.how_many_rows.Goals as goal
 
 pub returns : goal.returns
 returns g c =
-    tells (how_many_is [] []) c.rows_of.ensures.reads (λ rows. rows.items) _ c.rows_of.ensures.told (λ V rows it shown.
-    shows_how_many _ _ V it rows.items shown)
+    tells (how_many_is [] []) c.rows_of.ensures.reads (λ rows. rows.items) _ c.rows_of.ensures.told
+    (λ V rows it shown. shows_how_many _ _ V it rows.items shown)

@@ -1,6 +1,6 @@
 use Rattle.std.proofs.Common.{rules}
 use Rattle.vault_sql.proofs.Calls.{answers}
-use Rattle.vault_sql.proofs.MerchantRows.{lives_shown}
+use Rattle.vault_sql.proofs.Lookups.{lives_shown}
 use Rattle.vault_sql.proofs.merchants.lives_at.Goals as goal
 
 pub returns-in-Some : goal.returns-in-Some

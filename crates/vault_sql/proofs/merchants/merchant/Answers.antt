@@ -3,12 +3,13 @@ use Rattle.sqlite.specs.Held.{state}
 use Rattle.sqlite.specs.State.{HasCleanDisk}
 use Rattle.sql_maps.proofs.Calls.{reads_then}
 use Rattle.vault_sql.proofs.Calls.{answers, fails_then, reads_as, still_held}
-use Rattle.vault_sql.proofs.MerchantRows.{no_row, row_is, total_is}
+use Rattle.vault_sql.proofs.Lookups.{no_row, row_is, total_is}
 use Rattle.vault_sql.proofs.merchants.merchant.Goals as goal
 
 pub returns-in_err-counts : goal.returns-in_err-counts
 returns-in_err-counts g c =
-    fails_then c.in_ok-lives.ensures.reads c.in_err-counts.ensures.reads c.from_residual-in_err-counts.ensures.0
+    fails_then c.in_ok-lives.ensures.reads c.in_err-counts.ensures.reads
+    c.from_residual-in_err-counts.ensures.0
 
 pub returns-in_err-made : goal.returns-in_err-made
 returns-in_err-made g c =
@@ -20,7 +21,8 @@ returns-in_err-given g c =
 
 pub returns-in_err-denied : goal.returns-in_err-denied
 returns-in_err-denied g c =
-    fails_then c.in_ok-lives.ensures.reads c.in_ok-counts.ensures.reads c.from_residual-in_err-denied.ensures.0
+    fails_then c.in_ok-lives.ensures.reads c.in_ok-counts.ensures.reads
+    c.from_residual-in_err-denied.ensures.0
 
 pub returns : goal.returns
 returns g c = record {

@@ -8,4 +8,9 @@ pub returns-clause-done : goal.returns-clause-done
 returns-clause-done g c =
     makes c.step.ensures.steps c.step.ensures.ran (λ h base can run.
     count_raised (c.args.m.now, c.args.kind) can
-    (rw (c.params-to_sql.ensures, c.params-to_sql-2.ensures, small c.args.kind (omega (arith, c.ranges.kind))) at run))
+    (rw (
+      c.params-to_sql.ensures,
+      c.params-to_sql-2.ensures,
+      small c.args.kind
+          (omega (arith, c.ranges.kind)),
+    ) at run))

@@ -10,4 +10,5 @@ pub returns : goal.returns
 returns g c =
     looks_up record_table (λ h. h.records) (λ h rows are. are) (record_is [] []) c.rows_of.ensures.reads
     (λ rows. rows.items) _ c.rows_of.ensures.told (c.args.caller.now, c.args.request)
-    (rw (c.params-to_sql.ensures, c.params-to_sql-2.ensures, small _ c.requires) refl) record_columns (λ n x. refl)
+    (rw (c.params-to_sql.ensures, c.params-to_sql-2.ensures, small _ c.requires) refl) record_columns
+    (λ n x. refl)

@@ -35,7 +35,8 @@ returns-clause-done g c clean =
     subst (λ h. OnOk c.commit.result
     (IsReady old → old.now.schema ≡ no_schema → Holds (state g.S.Store h) empty_vault)) same
     (on_ok c.commit.result (c.commit.ensures.ok late) (λ done is blank.
-    as_vault (state g.S.Store end) empty_vault (committed (made g c late is blank) done.1 c.commit.ensures.survives.limit)))
+    as_vault (state g.S.Store end) empty_vault
+    (committed (made g c late is blank) done.1 c.commit.ensures.survives.limit)))
 
 pub returns-clause-crash : goal.returns-clause-crash
 returns-clause-crash g c clean is blank db left =

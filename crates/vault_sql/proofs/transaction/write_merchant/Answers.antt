@@ -4,5 +4,5 @@ use Rattle.vault_sql.proofs.transaction.write_merchant.Goals as goal
 pub returns-clause-done : goal.returns-clause-done
 returns-clause-done g c =
     makes_then
-    (makes_then c.in_ok-write_lives.ensures.done c.in_ok-write_count.ensures.done (λ h room. tt) (λ h room. room))
-    c.write_entry.ensures.done (λ h room. room) (λ h room. tt)
+    (makes_then c.in_ok-write_lives.ensures.done c.in_ok-write_count.ensures.done (λ h room. tt)
+    (λ h room. room)) c.write_entry.ensures.done (λ h room. room) (λ h room. tt)
