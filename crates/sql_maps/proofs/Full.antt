@@ -1,7 +1,6 @@
 -- Each row of a table has a value for each column, so a query of all columns shows the rows as they stand.
 use Rattle.std.proofs.Common.{◌≡◌, inl, inr, ℕ, zero, suc, ◌+◌, ◌<◌, ◌≤◌, List, [], ◌∷◌, length, map, drop}
-use Rattle.std.proofs.Common.{not, true, false, Bool, Some, None, refl, sym, subst, ◌∙◌, true≢false, arith}
-use Rattle.std.proofs.Common.{slice_get}
+use Rattle.std.proofs.Common.{not, true, Some, None, refl, sym, subst, ◌∙◌, true≢false, arith, slice_get}
 use Rattle.std.proofs.lemmas.Bool.{and_parts}
 use Rattle.std.specs.List.{list_all}
 use Rattle.std.specs.Prelude.{◌||◌}
@@ -56,12 +55,9 @@ present_many : (at : ℕ) (c : Column) (cs : List Column) (row : Row)
     → list_all (λ c. c.not_null) (c ∷ cs) ≡ true
     → are_present None at (c ∷ cs) row ≡ true → at + suc (length cs) < length row
 present_many at c [] row always e =
-    column_there row (at + 1)
-    (there c.not_null (and_parts _ _ always).0 (is_null (column row (at + 1))) (and_parts _ _ e).0)
-  where
-    there : (b : Bool) → b ≡ true → (n : Bool) → (not b || not n) ≡ true → not n ≡ true
-    there true is n h = h
-    there false is n h = absurd (true≢false (sym is))
+    let is = (and_parts c.not_null _ always).0 in
+    let test = (and_parts (not c.not_null || not (is_null (column row (at + 1)))) _ e).0 in
+    column_there row (at + 1) (rw is at test)
 present_many at c (d ∷ cs) row always e =
     omega (arith, present_many (at + 1) d cs row (and_parts _ _ always).1 (and_parts _ _ e).1)
 

@@ -1,118 +1,67 @@
 -- How many rows a table has.
 use Rattle.std.proofs.Common.{◌≡◌, ℕ, inl, inr, ◌+◌, ◌≤◌, min, pos, List, [], ◌∷◌, map, filter, suc, length}
-use Rattle.std.proofs.Common.{drop, true, false, cond, Option, Some, None, is_some, option_map, refl, sym, ap}
-use Rattle.std.proofs.Common.{subst, ◌∙◌, arith}
-use Rattle.std.proofs.lemmas.Cmp.{tied_itself}
+use Rattle.std.proofs.Common.{drop, false, cond, Option, Some, None, is_some, option_map, refl, sym, ap}
+use Rattle.std.proofs.Common.{subst, ◌∙◌, arith, IsPermutation, flat_map, Ordering}
+use Rattle.std.specs.Cmp.{tied_itself}
 use Rattle.std.proofs.lemmas.List.Sorted.{length_permutation}
 use Rattle.std.specs.FinMap as map
-use Rattle.std.specs.List.Sorted.{IsPermutation}
-use Rattle.std.specs.Ordering.{eq_by_cmp}
-use Rattle.std.specs.Prelude.{flat_map}
-use Rattle.std.specs.declared.cmp.Ordering.{Ordering}
 use Rattle.sqlite.specs.Order.{Row, value_cmp}
 use Rattle.sqlite.specs.Program.{overlay}
 use Rattle.sqlite.specs.Query.{IsAnswer, Output, output}
-use Rattle.sqlite.specs.Term.{Env, eval, holds, lit}
+use Rattle.sqlite.specs.Term.{eval, holds, lit}
 use Rattle.sqlite.specs.Tree.{Trees, rowid}
 use Rattle.sqlite_sql.specs.Group.{Aggregate, Grouping, IsSummary, value_over}
 use Rattle.sqlite_sql.specs.declared.aggregate.AggregateOp.TheVariants.{CountRows}
 use Rattle.sqlite.specs.Collation.TheVariants.{Binary}
-use Rattle.sqlite.specs.declared.types.Value.{Value}
 use Rattle.std.specs.List.{AllZip, list_all}
 use Rattle.std.proofs.lemmas.List.{length-map}
 use Rattle.sqlite.specs.declared.types.Value.TheVariants.{Null, Int}
 use Rattle.sqlite_rules.proofs.ListLemmas.{all_has}
-use Rattle.sqlite_rules.specs.Lists.{Has}
 use Rattle.sqlite_value.proofs.OrderLemmas.{value_cmp_total}
 use Rattle.sqlite.proofs.Callers.{one_permutation}
-use Rattle.sql_maps.specs.Rows.{AreRowsOf}
+use Rattle.sql_maps.specs.Rows.{AreRowsOf, put}
+use Rattle.sql_maps.proofs.ByKey.{left_over, same_held, Coding, eq_exact, eq_itself}
 use Rattle.sql_maps.specs.Texts.{counting_of}
 use Rattle.sql_maps.proofs.Answers.{bare}
-use Rattle.sql_maps.proofs.ByKey.{Coding, eq_exact, eq_itself}
 
-module _ {K X Y : Type 0} (cmp : K → K → Ordering) (encode : K → X → Row) (c : Coding cmp encode)
+module _ {K X Y : Type 0} {cmp : K → K → Ordering} {encode : K → X → Row} (c : Coding cmp encode)
     (f : Y → X) where
-  gone : (m : map.FinMap cmp Y) (k q : K)
-      → option_map f (map.get (map.remove m k) q) ≡ cond (eq_by_cmp cmp q k) None (option_map f (map.get m q))
-  gone m k q =
-      ap (option_map f) (map.get-remove c.total m k q)
-      ∙ elim (eq_by_cmp cmp q k)
-      as (λ b. option_map f (cond b None (map.get m q)) ≡ cond b None (option_map f (map.get m q)))
-      [ true ↦ refl | false ↦ refl ]
+  abbrev at_keys : map.FinMap cmp Y → K → Option X
+  at_keys m q = option_map f (map.get m q)
+
+  gone : (m : map.FinMap cmp Y) (k q : K) → at_keys (map.remove m k) q ≡ put cmp (at_keys m) k None q
+  gone m k q = rw (map.get-remove c.total m k q) (grind arith)
 
   -- the other rows are those of the map without the key of the first
   rest_are : (r : Row) (rows : List Row) (m : map.FinMap cmp Y) (k : K) (x : X) → drop 1 r ≡ encode k x
-      → AreRowsOf encode (r ∷ rows) (λ q. option_map f (map.get m q))
-      → AreRowsOf encode rows (λ q. option_map f (map.get (map.remove m k) q))
-  rest_are r rows m k x is are = record {
-    apart = are.apart.1;
-    keyed = λ s there. are.keyed s (inr there);
-    once = λ s t q y z a b e f. are.once s t q y z (inr a) (inr b) e f;
-    sound = λ s there. let it = are.sound s (inr there) in (
-      it.0,
-      it.1,
-      it.2,
-      kept it.0 (λ same. other s there it.1 (it.2 ∙ ap (λ q. encode q it.1) same))
-          ∙ it.3,
-    );
-    complete = λ q y h.
-        elim (eq_by_cmp cmp q k)
-        as (λ b. eq_by_cmp cmp q k ≡ b → (s : Row) × Has rows s × (drop 1 s ≡ encode q y)) [
-          | true ↦ λ e. let clash = sym h ∙ gone m k q
-              ∙ ap (λ b. cond b None (option_map f (map.get m q))) e in cc
-          | false ↦ λ e.
-              let it = are.complete q y
-              (sym (gone m k q ∙ ap (λ b. cond b None (option_map f (map.get m q))) e) ∙ h) in
-              elim it.1 as (λ _. (s : Row) × Has rows s × (drop 1 s ≡ encode q y)) [
-                | inl first ↦
-                    let same : q ≡ k = c.key q k y x (sym it.2 ∙ ap (drop 1) first ∙ is) in
-                    let clash = sym (ap (λ z. eq_by_cmp cmp z k) same ∙ eq_itself cmp encode c k) ∙ e in cc
-                | inr later ↦ (it.0, later, it.2)
-              ]
-        ] refl;
-  }
-    where
-      other : (s : Row) → Has rows s → (y : X) → drop 1 s ≡ encode k y → ⊥
-      other s there y e =
-          let same : r ≡ s = are.once r s k x y (inl refl) (inr there) is e in
-          all_has _ rows s are.apart.0 there
-          (ap (λ z. value_cmp (rowid z) (rowid s)) same ∙ tied_itself value_cmp_total (rowid s))
-
-      kept : (q : K) → (q ≡ k → ⊥) → option_map f (map.get (map.remove m k) q) ≡ option_map f (map.get m q)
-      kept q apart =
-          gone m k q
-          ∙ elim (eq_by_cmp cmp q k)
-          as (λ b. eq_by_cmp cmp q k ≡ b
-          → cond b None (option_map f (map.get m q)) ≡ option_map f (map.get m q)) [
-            | true ↦ λ e. absurd (apart (eq_exact cmp encode c q k e))
-            | false ↦ λ e. refl
-          ] refl
+      → AreRowsOf encode (r ∷ rows) (at_keys m) → AreRowsOf encode rows (at_keys (map.remove m k))
+  rest_are r rows m k x is are =
+      same_held (left_over c are k rows are.apart.1 (λ s there. inr there)
+      (λ s y there e.
+      let same : r ≡ s = are.once r s k x y (inl refl) (inr there) is e in
+      all_has _ rows s are.apart.0 there
+      (ap (λ z. value_cmp (rowid z) (rowid s)) same ∙ tied_itself value_cmp_total (rowid s)))
+      (λ s q y there e other. elim there [
+        | inl first ↦ absurd (other (c.key q k y x (sym e ∙ ap (drop 1) first ∙ is)))
+        | inr later ↦ later
+      ])) (gone m k)
 
   none_left : (o : Option Y) → ((x : X) → option_map f o ≡ Some x → ⊥) → o ≡ None
   none_left None h = refl
   none_left (Some y) h = absurd (h (f y) refl)
 
   held : (o : Option Y) (x : X) → option_map f o ≡ Some x → (y : Y) × (o ≡ Some y)
-  held None x e = cc
-  held (Some y) x e = (y, refl)
+  held o x e = grind arith
 
   put_back : (m : map.FinMap cmp Y) (k : K) (x : Y) → map.get m k ≡ Some x
       → m ≡ map.insert (map.remove m k) k x
   put_back m k x is = map.same_map c.total c.exact m (map.insert (map.remove m k) k x) (λ q.
-      elim (eq_by_cmp cmp q k)
-      as (λ b. eq_by_cmp cmp q k ≡ b → map.get m q ≡ map.get (map.insert (map.remove m k) k x) q) [
-        | true ↦ λ e. ap (map.get m) (eq_exact cmp encode c q k e) ∙ is
-            ∙ sym (map.get-insert c.total (map.remove m k) k x q
-            ∙ ap (λ b. cond b (Some x) (map.get (map.remove m k) q)) e)
-        | false ↦ λ e. sym
-            (map.get-insert c.total (map.remove m k) k x q
-            ∙ ap (λ b. cond b (Some x) (map.get (map.remove m k) q)) e ∙ map.get-remove c.total m k q
-            ∙ ap (λ b. cond b None (map.get m q)) e)
-      ] refl)
+      let exact = eq_exact c q k in
+      rw (map.get-insert c.total (map.remove m k) k x q, map.get-remove c.total m k q) (grind (arith, exact)))
 
   -- a table has as many rows as the map has keys
   pub as_many : (rows : List Row) (m : map.FinMap cmp Y)
-      → AreRowsOf encode rows (λ q. option_map f (map.get m q)) → length rows ≡ map.len m
+      → AreRowsOf encode rows (at_keys m) → length rows ≡ map.len m
   as_many [] m are =
       sym (ap map.len
       (map.same_map c.total c.exact m map.empty
@@ -128,23 +77,16 @@ module _ {K X Y : Type 0} (cmp : K → K → Ordering) (encode : K → X → Row
       ∙ ap (λ (o : Option Y). cond (is_some o) (map.len (map.remove m it.0))
       (map.len (map.remove m it.0) + 1))
       (map.get-remove c.total m it.0 it.0
-      ∙ ap (λ b. cond b None (map.get m it.0)) (eq_itself cmp encode c it.0)) in
+      ∙ ap (λ b. cond b None (map.get m it.0)) (eq_itself c it.0)) in
       let all : map.len m ≡ map.len (map.remove m it.0) + 1 = ap map.len back ∙ more in
       omega (arith, rest, all)
 
 -- what the query shows of rows
-one_summary : (g : Grouping) (order : List Env) (rows : List Row) → AllZip (IsSummary g) (order ∷ []) rows
-    → (row : Row) × (rows ≡ row ∷ []) × IsSummary g order row
-one_summary g order [] h = absurd h
-one_summary g order (row ∷ []) h = (row, refl, h.0)
-one_summary g order (row ∷ other ∷ more) h = absurd h.1
-
-one_value : (group : List Env) (a : Aggregate) (values : Row)
-    → AllZip (λ a v. value_over group a ≡ Some v) (a ∷ []) values
-    → (v : Value) × (values ≡ v ∷ []) × (value_over group a ≡ Some v)
-one_value group a [] h = absurd h
-one_value group a (v ∷ []) h = (v, refl, h.0)
-one_value group a (v ∷ other ∷ more) h = absurd h.1
+one_zipped : {A B : Type 0} (R : A → B → Type 0) (a : A) (bs : List B) → AllZip R (a ∷ []) bs
+    → (b : B) × (bs ≡ b ∷ []) × R a b
+one_zipped R a [] h = absurd h
+one_zipped R a (b ∷ []) h = (b, refl, h.0)
+one_zipped R a (b ∷ other ∷ more) h = absurd h.1
 
 matched : (params : Row) (rows : List Row)
     → length (flat_map (λ (r : Row). (params ∷ r ∷ []) ∷ []) rows) ≡ length rows
@@ -167,9 +109,9 @@ pub counted : (db : Trees) (tree : ℕ) (params : Row) (rows : List Row)
 counted db tree params rows a few =
     let s = a.grouped in
     let order = s.grouping.0 in
-    let one = one_summary grouping order s.rows
+    let one = one_zipped (IsSummary grouping) order s.rows
     (subst (λ g. AllZip (IsSummary grouping) g s.rows) s.grouping.2 s.summaries) in
-    let value = one_value order counting one.2.0 one.2.1 in
+    let value = one_zipped (λ a v. value_over order a ≡ Some v) counting one.2.0 one.2.1 in
     let size : length (map (eval (lit Null)) order) ≡ length (db tree) = length-map order (eval (lit Null))
     ∙ length_permutation _ order s.grouping.1 ∙ matched params (overlay db [] tree)
     ∙ ap length (bare db tree) in

@@ -1,23 +1,23 @@
 -- What the tests of a key come to, whatever its columns.
 use Rattle.std.proofs.Common.{◌≡◌, ◌&&◌, ◌||◌, ◌++◌, ℕ, ℤ, zero, suc, Bool, true, false, List, [], ◌∷◌}
-use Rattle.std.proofs.Common.{length, map, cond, refl, sym, ap, ◌∙◌, Some, arith, true≢false}
+use Rattle.std.proofs.Common.{length, map, cond, refl, sym, ap, ◌∙◌, Some, arith, slice_get, Ordering}
 use Rattle.std.proofs.lemmas.Bool.{and_parts}
 use Rattle.std.specs.List.{list_all, list_any}
 use Rattle.std.specs.Ordering.{eq_by_cmp}
-use Rattle.std.proofs.lemmas.Cmp.{tied_itself}
-use Rattle.std.specs.declared.cmp.Ordering.{Ordering}
+use Rattle.std.specs.Cmp.{tied_itself}
 use Rattle.sqlite.specs.Cast.{cast, cast_row, cast_all}
 use Rattle.sqlite.specs.Collation.TheVariants.{Binary}
 use Rattle.sqlite.specs.Kind.{Kind}
 use Rattle.sqlite.specs.Kind.TheVariants as kind
 use Rattle.sqlite.specs.Ops.{unary}
 use Rattle.sqlite.specs.Order.{Row, column}
+use Rattle.sqlite.specs.Schema.{Schema}
 use Rattle.sqlite.specs.Table.{Table}
 use Rattle.sqlite.specs.Term.{col, holds}
 use Rattle.sqlite.specs.declared.types.Value.{Value}
-use Rattle.sqlite.specs.declared.types.Value.TheVariants.{Null, Int, Text, Real, Blob}
-use Rattle.sqlite_rules.specs.Keys.{conflicts, shares, aims}
-use Rattle.sqlite_schema.specs.Rules.{agree, equal, guards}
+use Rattle.sqlite.specs.declared.types.Value.TheVariants.{Null, Int}
+use Rattle.sqlite_rules.specs.Keys.{conflicts, shares}
+use Rattle.sqlite_schema.specs.Rules.{agree, equal}
 use Rattle.sqlite_schema.specs.declared.schema.Column.{Column}
 use Rattle.sqlite_schema.specs.declared.schema.Index.{Index}
 use Rattle.sqlite_value.specs.Keys.{first_key, plain}
@@ -68,19 +68,7 @@ any_of : (target : List ℕ) (t : Table) (new row : Row) (indexes : List Index)
     → list_any (shares (Some target) t new row) indexes ≡ list_any
     (λ i. agree i.order i.columns row i.columns new) (guards_of indexes t target)
 any_of target t new row [] = refl
-any_of target t new row (i ∷ indexes) = go (guards i t) (aims (Some target) i.columns)
-    (any_of target t new row indexes)
-  where
-    go : (g a : Bool)
-        → list_any (shares (Some target) t new row) indexes ≡ list_any
-        (λ i. agree i.order i.columns row i.columns new) (guards_of indexes t target)
-        → ((g && a && agree i.order i.columns row i.columns new) || list_any (shares (Some target) t new row)
-        indexes)
-        ≡ list_any (λ i. agree i.order i.columns row i.columns new)
-        (cond (g && a) (i ∷ guards_of indexes t target) (guards_of indexes t target))
-    go true true h = ap (λ z. agree i.order i.columns row i.columns new || z) h
-    go true false h = h
-    go false a h = h
+any_of target t new row (i ∷ indexes) = let rest = any_of target t new row indexes in grind (arith, rest)
 
 -- the one unique index of these columns, which goes by bytes
 pub record IsGuarded (indexes : List Index) (t : Table) (key : List ℕ) : Type 0 where
@@ -90,8 +78,7 @@ pub record IsGuarded (indexes : List Index) (t : Table) (key : List ℕ) : Type 
   pub columns : index.columns ≡ key
 
 or_false : (a : Bool) → (a || false) ≡ a
-or_false true = refl
-or_false false = refl
+or_false a = grind arith
 
 conflicts_by : (indexes : List Index) (t : Table) (n : ℕ) (new row : Row)
     → IsGuarded indexes t (columns_to (suc n))
@@ -110,19 +97,7 @@ whole_float false v = refl
 
 cast_fits : (k : Kind) (v : Value) → fits k v ≡ true → cast k v ≡ v
 unfolding unary
-cast_fits kind.Integer Null h = whole_float _ Null
-cast_fits kind.Integer (Int n) h = whole_float _ (Int n)
-cast_fits kind.Integer (Real x) h = absurd (true≢false (sym h))
-cast_fits kind.Integer (Text t) h = absurd (true≢false (sym h))
-cast_fits kind.Integer (Blob b) h = absurd (true≢false (sym h))
-cast_fits kind.Text Null h = refl
-cast_fits kind.Text (Int n) h = absurd (true≢false (sym h))
-cast_fits kind.Text (Real x) h = absurd (true≢false (sym h))
-cast_fits kind.Text (Text t) h = refl
-cast_fits kind.Text (Blob b) h = absurd (true≢false (sym h))
-cast_fits kind.Real v h = absurd (true≢false (sym h))
-cast_fits kind.Blob v h = absurd (true≢false (sym h))
-cast_fits kind.Any v h = absurd (true≢false (sym h))
+cast_fits k v h = grind arith
 
 cast_all_fit : (cs : List Column) (vs : Row) → fit cs vs ≡ true → cast_all cs vs ≡ vs
 cast_all_fit [] vs h = refl
@@ -151,8 +126,8 @@ parts_back (x ∷ a) (y ∷ b) c e many same =
     let it = parts_back a b c e (omega (arith, many)) tail in
     ((λ i. head i ∷ it.0 i), it.1)
 
-module _ {K X : Type 0} (cmp : K → K → Ordering) (columns : List Column) (n : ℕ) (key : K → Row)
-    (value : X → Row) (c : Codes cmp columns n key value) where
+module _ {K X : Type 0} {cmp : K → K → Ordering} {columns : List Column} {n : ℕ} {key : K → Row}
+    {value : X → Row} (c : Codes cmp columns n key value) where
   key_back : (a b : K) → key a ≡ key b → a ≡ b
   key_back a b e =
       c.exact a b
@@ -173,20 +148,31 @@ module _ {K X : Type 0} (cmp : K → K → Ordering) (columns : List Column) (n 
   }
 
   -- the tests of a look-up pass the row of the key alone
-  pub hits : (k : K) (more : Row) (id : ℤ) (q : K) (y : X)
-      → list_all (holds ((key k ++ more) ∷ (Int id ∷ row_of key value q y) ∷ [])) (by_key n)
-      ≡ eq_by_cmp cmp q k
-  hits k more id q y = tests_are (below n) (Int id) (row_of key value q y) (key k ++ more)
-      ∙ same_first n (key q) (key k) (value y) more (c.long q) (c.long k) ∙ c.same q k
+  pub hits : (k : K) (params : Row) → params ≡ key k ++ [] → (id : ℤ) (q : K) (y : X)
+      → list_all (holds (params ∷ (Int id ∷ row_of key value q y) ∷ [])) (by_key n) ≡ eq_by_cmp cmp q k
+  hits k params given id q y = tests_are (below n) (Int id) (row_of key value q y) params
+      ∙ ap (same_at (below n) (row_of key value q y)) given
+      ∙ same_first n (key q) (key k) (value y) [] (c.long q) (c.long k) ∙ c.same q k
 
-module _ {K X : Type 0} (cmp : K → K → Ordering) (columns : List Column) (n : ℕ) (key : K → Row)
-    (value : X → Row) (c : Codes cmp columns (suc n) key value) (indexes : List Index) (t : Table)
-    (g : IsGuarded indexes t (columns_to (suc n))) where
-  -- a new row meets the row of its key alone
-  pub meets : (k : K) (x : X) (id m : ℤ) (q : K) (y : X)
-      → conflicts (Some (columns_to (suc n))) indexes t (Int id ∷ row_of key value k x)
-      (Int m ∷ row_of key value q y) ≡ eq_by_cmp cmp q k
-  meets k x id m q y =
-      conflicts_by indexes t n (Int id ∷ row_of key value k x) (Int m ∷ row_of key value q y) g
-      ∙ same_behind (below (suc n)) (Int m) (Int id) (row_of key value q y) (row_of key value k x)
-      ∙ same_first (suc n) (key q) (key k) (value y) (value x) (c.long q) (c.long k) ∙ c.same q k
+-- a table of a schema whose first columns are its key
+pub record Keyed {K X : Type 0} (s : Schema) (cmp : K → K → Ordering) (key : K → Row)
+    (value : X → Row) : Type 0
+  where
+    pub table : Descriptor
+    pub place : ℕ
+    pub here : slice_get s.tables place ≡ Some (table_of table)
+    pub more : ℕ
+    pub codes : Codes cmp table.columns (suc more) key value
+    pub guarded : IsGuarded s.indexes (table_of table) (columns_to (suc more))
+
+-- a new row meets the row of its key alone
+pub meets : {K X : Type 0} {s : Schema} {cmp : K → K → Ordering} {key : K → Row} {value : X → Row}
+    (t : Keyed s cmp key value) (k : K) (x : X) (id m : ℤ) (q : K) (y : X)
+    → conflicts (Some (columns_to (suc t.more))) s.indexes (table_of t.table) (Int id ∷ row_of key value k x)
+    (Int m ∷ row_of key value q y) ≡ eq_by_cmp cmp q k
+meets {key = key} {value = value} t k x id m q y =
+    conflicts_by _ (table_of t.table) t.more (Int id ∷ row_of key value k x) (Int m ∷ row_of key value q y)
+    t.guarded
+    ∙ same_behind (below (suc t.more)) (Int m) (Int id) (row_of key value q y) (row_of key value k x)
+    ∙ same_first (suc t.more) (key q) (key k) (value y) (value x) (t.codes.long q) (t.codes.long k)
+    ∙ t.codes.same q k

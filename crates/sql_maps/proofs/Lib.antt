@@ -1,8 +1,6 @@
 pub mod Answers
 pub mod ByKey
 pub mod Calls
-pub mod Edits
-pub mod First
 pub mod Full
 pub mod HowMany
 pub mod KeyTests
@@ -10,9 +8,7 @@ pub mod Keys
 pub mod Making
 pub mod Parts
 pub mod Plain
-pub mod PutByKey
 pub mod Reading
 pub mod Statements
 pub mod Steps
 pub mod Unique
-pub mod Upserts

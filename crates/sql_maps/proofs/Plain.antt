@@ -1,12 +1,10 @@
 -- What a plain schema gives: a write sets off nothing, and leaves the other tables.
 use Rattle.std.proofs.Common.{◌≡◌, ◌≢◌, ◌==◌, ℕ, zero, suc, List, [], ◌∷◌, ◌++◌, map, not, true, Some}
-use Rattle.std.proofs.Common.{slice_get, refl, sym, subst, true≢false}
+use Rattle.std.proofs.Common.{slice_get, refl, sym, subst, arith, filter_map, flat_map}
 use Rattle.std.proofs.lemmas.Bool.{and_parts}
 use Rattle.std.proofs.lemmas.Bool.Decides.{nat_tests}
 use Rattle.std.proofs.lemmas.Grind.{common_steps}
-use Rattle.std.proofs.Common.{arith, filter_map}
 use Rattle.std.specs.List.{AllByRecursion, list_all}
-use Rattle.std.specs.Prelude.{flat_map}
 use Rattle.sqlite.specs.Order.{Row}
 use Rattle.sqlite.specs.Schema.{Schema}
 use Rattle.sqlite.specs.Table.{Table}
@@ -17,8 +15,7 @@ use Rattle.sql_maps.specs.Schema.{are_apart, is_none, is_plain}
 use Rattle.sql_maps.specs.States.{Claim, StandsIn, at_place}
 
 none_is : {X : Type 0} (xs : List X) → is_none xs ≡ true → xs ≡ []
-none_is [] h = refl
-none_is (x ∷ xs) h = absurd (true≢false (sym h))
+none_is xs h = grind arith
 
 no_works_of : (schema : Schema) (keys : Keys) (depth tree : ℕ) (olds news : List Row) (tables : List Table)
     → list_all (λ t. is_none t.references) tables ≡ true

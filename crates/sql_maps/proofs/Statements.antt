@@ -1,53 +1,55 @@
 -- What each kind of statement makes of what the tables stand for, inside a transaction: once for every schema
 -- and table.
-use Rattle.std.proofs.Common.{◌≡◌, ◌≢◌, ◌⊎◌, inl, inr, ℕ, ℤ, pos, suc, List, [], ◌∷◌, ◌++◌, true, cond}
+use Rattle.std.proofs.Common.{◌≡◌, ◌⊎◌, inl, inr, ℕ, ℤ, pos, suc, List, [], ◌∷◌, ◌++◌, drop, map, true, cond}
 use Rattle.std.proofs.Common.{length, ◌/◌, Option, Some, None, Ok, refl, sym, ap, subst, ◌∙◌, ◌+◌, ◌<◌, ◌^◌}
-use Rattle.std.proofs.Common.{nat_lt, arith, slice_get}
-use Rattle.std.proofs.lemmas.Bool.Decides.{nat_tests}
-use Rattle.std.specs.List.{AllByRecursion, list_all}
-use Rattle.std.specs.Ordering.{eq_by_cmp}
+use Rattle.std.proofs.Common.{nat_lt, arith, slice_get, is_eq, int_cmp, Ordering}
 use Rattle.std.proofs.lemmas.Bool.{and_parts}
-use Rattle.std.specs.declared.cmp.Ordering.{Ordering}
+use Rattle.std.proofs.lemmas.Bool.Decides.{nat_tests}
+use Rattle.std.specs.Cmp.{tied_itself, int_cmp_total}
+use Rattle.std.specs.FinMap.{int_cmp-IsAntisymmetric}
+use Rattle.std.specs.List.{list_all}
 use Rattle.sqlite.specs.Cast.{cast_row}
-use Rattle.sqlite.specs.Edit.{next_rowid, with_rowid}
+use Rattle.sqlite.specs.Command.TheVariants.{Insert, InsertOr}
+use Rattle.sqlite.specs.Edit.{id_in, next_rowid, numbered, put_all, with_rowid, without_all}
 use Rattle.sqlite.specs.Effect.{Database, IsDatabase, value_rows}
 use Rattle.sqlite.specs.Ops.{binary, int_or, real_arith, from_int}
 use Rattle.sqlite.specs.Order.{Row, column}
-use Rattle.sqlite.specs.Rows.{shown}
+use Rattle.sqlite.specs.Query.{Query}
 use Rattle.sqlite.specs.Rowids.TheVariants.{Chosen}
+use Rattle.sqlite.specs.Rows.{shown}
 use Rattle.sqlite.specs.Schema.{Schema}
-use Rattle.sqlite.specs.Table.{Table}
+use Rattle.sqlite.specs.Source.TheVariants.{Values}
 use Rattle.sqlite.specs.State.{State, ExecutesInside}
 use Rattle.sqlite.specs.Term.{Term, col, holds}
-use Rattle.sqlite.specs.Tree.{Trees}
+use Rattle.sqlite.specs.Tree.{Trees, rowid}
+use Rattle.sqlite.specs.View.{is_int}
 use Rattle.sqlite.specs.declared.types.Value.TheVariants.{Null, Int}
+use Rattle.sqlite_rules.proofs.TableLemmas.{int_is}
 use Rattle.sqlite_rules.specs.Calls.{ids_of}
+use Rattle.sqlite_rules.specs.Keys.{conflicts}
+use Rattle.sqlite_rules.specs.Lists.{Has}
+use Rattle.sqlite_schema.specs.declared.command.Conflict.TheVariants.{Abort}
 use Rattle.sqlite_sql.specs.declared.ops.ArithOp.TheVariants.{Add}
 use Rattle.sqlite_sql.specs.declared.ops.BinaryOp.TheVariants.{Arith}
-use Rattle.sqlite.proofs.Callers.{runs_as}
-use Rattle.sql_maps.specs.Codes.{Codes, row_of}
+use Rattle.sqlite_value.proofs.OrderLemmas.{value_cmp_total}
+use Rattle.sql_maps.specs.Codes.{fit, row_of}
 use Rattle.sql_maps.specs.Rows.{AreRowsOf, put}
 use Rattle.sql_maps.specs.Schema.{Descriptor, table_of, columns_to, is_plain}
-use Rattle.sql_maps.specs.States.{Claim, StandsIn, Stands, Within, at_place}
-use Rattle.sql_maps.specs.Texts.{IsWrite, upsert, insert_or_nothing, delete, met_update, by_key}
-use Rattle.sql_maps.proofs.Answers.{shown_as}
-use Rattle.sql_maps.proofs.Keys.{IsGuarded, cast_row_fits, cast_row_new, coding, hits, meets}
+use Rattle.sql_maps.specs.States.{Claim, StandsIn, Within, at_place}
+use Rattle.sql_maps.specs.Texts.{IsWrite, upsert, insert_or_nothing, delete, met_update, by_key, eq}
+use Rattle.sql_maps.proofs.Answers.{one_at, passing, shown_as, shows_none, shows_row}
+use Rattle.sql_maps.proofs.ByKey.{at_key, eq_itself, passes_key, row_at, inserted, put_again, removed}
+use Rattle.sql_maps.proofs.ByKey.{replaced, same_held, same_row}
+use Rattle.sql_maps.proofs.Keys.{Keyed, cast_row_fits, cast_row_new, coding, hits, meets}
+use Rattle.sql_maps.proofs.KeyTests.{equal_is, int_eq, and_true}
 use Rattle.sql_maps.proofs.Plain.{claim_at, claimed, frame}
-use Rattle.sql_maps.proofs.PutByKey.{upserts_key, keeps_key, deletes_key}
-use Rattle.sql_maps.proofs.Steps.{Wrote, delete_wrote}
-use Rattle.sql_maps.proofs.Upserts.{Upserted, Kept, upsert_wrote, keep_wrote}
+use Rattle.sql_maps.proofs.Steps.{Resolves, Tried, Wrote, clause_of, delete_wrote, insert_wrote, upsert_wrote}
 
 -- a claim that is told in other words
 pub retold : (s : Schema) (claims others : List Claim) (base : Database) (st : State)
     → ((db : Trees) → StandsIn s.tables claims db → StandsIn s.tables others db) → Within s claims base st
     → Within s others base st
-retold s claims others base st tell w = record {
-  free = w.free;
-  inside = w.inside;
-  committed = w.committed;
-  stands = record
-      { schema = w.stands.schema; sound = w.stands.sound; rows = tell st.now.trees w.stands.rows };
-}
+retold s claims others base st tell w = assumption (tell st.now.trees w.stands.rows)
 
 pub plus_one : (y : ℕ) → y + 1 < 2 ^ 63 → binary (Arith Add) (Int (pos y)) (Int (pos 1)) ≡ Int (pos (y + 1))
 unfolding binary
@@ -56,129 +58,180 @@ plus_one y low =
     ap (λ b. int_or (cond b (Some (pos (y + 1))) None) (real_arith Add (from_int (pos y)) (from_int (pos 1))))
     fits
 
-module _ (s : Schema) (fine : is_plain s ≡ true) (claims : List Claim) (base : Database) (old new : State)
-    (w : Within s claims base old) (text : List ℕ) (params : Row) (count : ℕ)
-    (ran : ExecutesInside 0 text params old new (Ok count)) (limit : new.step_limit ≡ old.step_limit) where
-  -- one statement further
-  pub further : (others : List Claim) → Stands s others new.now → Within s others base new
-  further others stands = record {
-    free = record { is_open = ran.1.is_open; unlimited = limit ∙ w.free.unlimited };
-    inside = ran.1.mode;
-    committed = ran.1.committed_is ∙ w.committed;
-    stands = stands;
-  }
+-- the one row with a rowid, which stands among the parameters
+row_with : {K X : Type 0} {encode : K → X → Row} {rows : List Row} {held : K → Option X}
+    → AreRowsOf encode rows held → (params : Row) (at : ℕ) (n : ℤ) (row : Row) → column params at ≡ Int n
+    → Has rows (Int n ∷ row) → passing params (eq (col 1 0) (col 0 at) ∷ []) rows ≡ (Int n ∷ row) ∷ []
+row_with {rows = rows} are params at n row stands there =
+    one_at (λ r. list_all (holds (params ∷ r ∷ [])) (eq (col 1 0) (col 0 at) ∷ [])) rows (Int n ∷ row)
+    are.apart there (passes (Int n ∷ row) refl ∙ ap is_eq (tied_itself int_cmp_total n)) (λ r h e.
+    let same : id_in (rowid r) ≡ n =
+    int_cmp-IsAntisymmetric _ n (equal_is _ (sym (passes r (are.keyed r h)) ∙ e)) in
+    same_row rows r (Int n ∷ row) are.apart h there
+    (rw (int_is (rowid r) (are.keyed r h), same, tied_itself value_cmp_total (Int n)) refl))
+  where
+    passes : (r : Row) → is_int (rowid r) ≡ true
+        → list_all (holds (params ∷ r ∷ [])) (eq (col 1 0) (col 0 at) ∷ []) ≡ is_eq
+        (int_cmp (id_in (rowid r)) n)
+    passes r int = rw (int_is (rowid r) int, stands, int_eq (id_in (rowid r)) n) (and_true _)
 
-  module _ (d : Descriptor) (place : ℕ) (here : slice_get s.tables place ≡ Some (table_of d)) where
-    -- one table was written
-    pub written : (ids : List ℤ) (news : List Row) (Q : Claim) → Wrote s d.tree ids news old.now new.now
-        → IsDatabase new.now → Q (new.now.trees d.tree) → Within s (at_place claims place Q) base new
-    written ids news Q wrote sound now = further (at_place claims place Q) (record {
+-- a statement ran inside a transaction, over tables of which this is said
+pub record Ran (s : Schema) (claims : List Claim) (base : Database) (old new : State) (text : List ℕ)
+    (params : Row) : Type 0 where
+  pub within : Within s claims base old
+  pub count : ℕ
+  pub ran : ExecutesInside 0 text params old new (Ok count)
+  pub limit : new.step_limit ≡ old.step_limit
+
+module _ {s : Schema} (fine : is_plain s ≡ true) {claims : List Claim} {base : Database} {old new : State}
+    {text : List ℕ} {params : Row} (run : Ran s claims base old new text params) where
+  abbrev db : Trees
+  db = old.now.trees
+
+  -- one table was written
+  written : IsDatabase new.now → (d : Descriptor) (place : ℕ)
+      → slice_get s.tables place ≡ Some (table_of d) → (ids : List ℤ) (news : List Row) (Q : Claim)
+      → Wrote s d.tree ids news db new.now → Q (put_all (without_all (db d.tree) ids) news)
+      → Within s (at_place claims place Q) base new
+  written sound d place here ids news Q wrote now = record {
+    free = record { is_open = run.ran.1.is_open; unlimited = run.limit ∙ run.within.free.unlimited };
+    inside = run.ran.1.mode;
+    committed = run.ran.1.committed_is ∙ run.within.committed;
+    stands = record {
       schema = wrote.schema;
       sound = sound;
-      rows = frame s.tables claims place (table_of d) Q old.now.trees new.now.trees
-          (and_parts _ _ fine).0 here wrote.beside w.stands.rows now;
-    })
+      rows = frame s.tables claims place (table_of d) Q db new.now.trees (and_parts _ _ fine).0 here
+          wrote.beside run.within.stands.rows (subst Q (sym wrote.is) now);
+    };
+  }
 
-    -- nothing was written
-    pub unwritten : (Q : Claim) → new.now ≡ old.now → Q (old.now.trees d.tree)
-        → Within s (at_place claims place Q) base new
-    unwritten Q same now = further (at_place claims place Q)
-        (subst (Stands s (at_place claims place Q)) (sym same) (record {
-          schema = w.stands.schema;
-          sound = w.stands.sound;
-          rows = frame s.tables claims place (table_of d) Q old.now.trees old.now.trees
-              (and_parts _ _ fine).0 here (all_same s.tables) w.stands.rows now;
-        }))
-      where
-        all_same : (tables : List Table)
-            → AllByRecursion (λ u. u.tree ≢ d.tree → old.now.trees u.tree ≡ old.now.trees u.tree) tables
-        all_same [] = tt
-        all_same (t ∷ tables) = (λ far. refl, all_same tables)
+  -- INSERT of one row, with its rowid, into an empty table
+  pub insert_first : (d : Descriptor) (place : ℕ) → slice_get s.tables place ≡ Some (table_of d)
+      → (width : ℕ) (terms : List Term) → IsWrite s text (Insert place (Values terms width))
+      → (id : ℤ) (now : Row) → db d.tree ≡ []
+      → value_rows params width (length terms / width) terms ≡ (Int id ∷ now) ∷ [] → fit d.columns now ≡ true
+      → Within s (at_place claims place (λ rows. rows ≡ (Int id ∷ now) ∷ [])) base new
+  insert_first d place here width terms it id now none one fits =
+      let did = insert_wrote s fine d text params old new run.count place here run.within.stands.schema
+      run.ran.0 _ it in
+      let news : numbered Chosen (db d.tree) (map (cast_row (table_of d)) did.0) ≡ (Int id ∷ now) ∷ [] =
+      ap (λ l. numbered Chosen (db d.tree) (map (cast_row (table_of d)) l)) (did.1.1 ∙ one)
+      ∙ ap (λ r. numbered Chosen (db d.tree) (r ∷ [])) (cast_row_fits d id now fits) in
+      written did.3 d place here [] _ (λ rows. rows ≡ (Int id ∷ now) ∷ []) did.2
+      (λ i. put_all (none i) (news i))
 
-    module _ {K X : Type 0} (cmp : K → K → Ordering) (n : ℕ) (key : K → Row) (value : X → Row)
-        (c : Codes cmp d.columns (suc n) key value)
-        (held : K → Option X)
-        (said : claim_at claims place (old.now.trees d.tree)
-        → AreRowsOf (row_of key value) (old.now.trees d.tree) held) where
-      abbrev are_rows : AreRowsOf (row_of key value) (old.now.trees d.tree) held
-      are_rows = said (claimed s.tables claims place (table_of d) old.now.trees here w.stands.rows)
+  module _ {K X : Type 0} {cmp : K → K → Ordering} {key : K → Row} {value : X → Row}
+      (t : Keyed s cmp key value) (held : K → Option X)
+      (said : claim_at claims t.place (db t.table.tree)
+      → AreRowsOf (row_of key value) (db t.table.tree) held) where
+    abbrev are_rows : AreRowsOf (row_of key value) (db t.table.tree) held
+    are_rows = said (claimed s.tables claims t.place (table_of t.table) db t.here run.within.stands.rows)
 
-      -- the map with this at the key
-      abbrev pub Put : K → Option X → Claim
-      Put k x rows = AreRowsOf (row_of key value) rows (put cmp held k x)
+    abbrev columns : List ℕ
+    columns = columns_to (suc t.more)
 
-      abbrev fresh : K → X → Row
-      fresh k x = Int (next_rowid (old.now.trees d.tree)) ∷ row_of key value k x
+    -- the map with this at the key
+    abbrev pub Put : K → Option X → Claim
+    Put k o rows = AreRowsOf (row_of key value) rows (put cmp held k o)
 
-      fresh_is : (k : K) (x : X)
-          → with_rowid Chosen (old.now.trees d.tree) (cast_row (table_of d) (Null ∷ row_of key value k x))
-          ≡ fresh k x
-      fresh_is k x = ap (with_rowid Chosen (old.now.trees d.tree))
-          (cast_row_new d (row_of key value k x) (c.fit k x))
+    -- the table has this at the key, and the others are as they were
+    abbrev pub IsPut : K → Option X → Type 0
+    IsPut k o = Within s (at_place claims t.place (Put k o)) base new
 
-      -- DELETE .. WHERE key
-      pub take_in : IsWrite s text (delete place d.tree (by_key (suc n))) → (k : K) → params ≡ key k ++ []
-          → Within s (at_place claims place (Put k None)) base new
-      take_in it k given =
-          let did = delete_wrote s fine d text params old new count place here w.stands.schema ran.0 _ it in
-          written (ids_of did.0) [] (Put k None) did.2
-          (runs_as text params old new s w.stands.schema _ it.is it.plain count ran.0).sound
-          (deletes_key s fine cmp (row_of key value) (coding cmp d.columns (suc n) key value c) d.tree old.now
-          new.now held are_rows k params (by_key (suc n))
-          (λ m q y. subst
-          (λ p. list_all (holds (p ∷ (Int m ∷ row_of key value q y) ∷ [])) (by_key (suc n))
-          ≡ eq_by_cmp cmp q k) (sym given) (hits cmp d.columns (suc n) key value c k [] m q y)) did.0
-          did.1 did.2)
+    put_rows : (k : K) (o : Option X) → IsDatabase new.now → (ids : List ℤ) (news : List Row)
+        → Wrote s t.table.tree ids news db new.now
+        → Put k o (put_all (without_all (db t.table.tree) ids) news) → IsPut k o
+    put_rows k o sound ids news = written sound t.table t.place t.here ids news (Put k o)
 
-      module _ (g : IsGuarded s.indexes (table_of d) (columns_to (suc n))) (k : K) where
-        -- INSERT .. ON CONFLICT (key) DO UPDATE: a new row has the value `first`, and one that is there gets
-        -- `x`
-        pub upsert_in : (width : ℕ) (terms : List Term) (at : ℕ) (set : List Term)
-            → IsWrite s text (upsert place d.tree (suc n) width terms at set) → (x first : X)
-            → value_rows params width (length terms / width) terms ≡ (Null ∷ row_of key value k first) ∷ []
-            → (held k ≡ None → first ≡ x)
-            → ((m : ℤ) → column (params ++ Int m ∷ shown (table_of d) (fresh k first)) at ≡ Int m)
-            → ((m : ℤ) (y : X) → held k ≡ Some y
-            → shown_as (params ++ Int m ∷ shown (table_of d) (fresh k first)) (col 1 0 ∷ col 1 0 ∷ set)
-            (Int m ∷ row_of key value k y) ≡ Int m ∷ Int m ∷ row_of key value k x)
-            → Within s (at_place claims place (Put k (Some x))) base new
-        upsert_in width terms at set it x first one starts stands shows =
-            let did : Upserted s fine d params (Some (columns_to (suc n))) (met_update d.tree at set)
-            (fresh k first) old.now new.now =
-            subst (λ r. Upserted s fine d params (Some (columns_to (suc n)))
-            (met_update d.tree at set) r old.now new.now) (fresh_is k first)
-            (upsert_wrote s fine d text params old new count place here w.stands.schema ran.0 _ terms width
-            (Null ∷ row_of key value k first) it one (Some (columns_to (suc n)))
-            (met_update d.tree at set) refl) in
-            let wrote = upserts_key s fine cmp (row_of key value) (coding cmp d.columns (suc n) key value c) d
-            old.now new.now held are_rows k x (fresh k first) (next_rowid (old.now.trees d.tree))
-            (Some (columns_to (suc n)))
-            (λ none. cast_row_fits d _ (row_of key value k first) (c.fit k first)
-            ∙ ap (λ z. fresh k z) (starts none))
-            (meets cmp d.columns n key value c s.indexes (table_of d) g k first
-            (next_rowid (old.now.trees d.tree)))
-            params at set stands shows (λ m. cast_row_fits d m (row_of key value k x) (c.fit k x)) did in
-            written wrote.0 wrote.1 (Put k (Some x)) wrote.2
-            (runs_as text params old new s w.stands.schema _ it.is it.plain count ran.0).sound wrote.3
+    -- DELETE .. WHERE key
+    pub take_in : IsWrite s text (delete t.place t.table.tree (by_key (suc t.more))) → (k : K)
+        → params ≡ key k ++ [] → IsPut k None
+    take_in it k given =
+        let did = delete_wrote s fine t.table text params old new run.count t.place t.here
+        run.within.stands.schema run.ran.0 _ it in
+        let now = λ (l : List Row) (e : did.0 ≡ l).
+        subst (λ l. Wrote s t.table.tree (ids_of l) [] db new.now) e did.2 in
+        elim (at_key (coding t.codes) are_rows (λ r. list_all (holds (params ∷ r ∷ []))
+        (by_key (suc t.more))) k (hits t.codes k params given)) as (λ _. IsPut k None) [
+          | inl none ↦ put_rows k None did.3 [] [] (now [] (shows_none db did.1 none.1))
+              (same_held are_rows (put_again (coding t.codes) are_rows k None none.0))
+          | inr at ↦ put_rows k None did.3 (at.2 ∷ []) [] (now _ (shows_row db did.1 _ at.4))
+              (removed (coding t.codes) are_rows k at.2 at.0 at.3)
+        ]
 
-        -- INSERT .. ON CONFLICT (key) DO NOTHING, where what may be there is the same
-        pub keep_in : (width : ℕ) (terms : List Term)
-            → IsWrite s text (insert_or_nothing place (suc n) width terms) → (x : X)
-            → value_rows params width (length terms / width) terms ≡ (Null ∷ row_of key value k x) ∷ []
-            → held k ≡ Some x ⊎ (held k ≡ None)
-            → Within s (at_place claims place (Put k (Some x))) base new
-        keep_in width terms it x one either =
-            let did : Kept s fine d (Some (columns_to (suc n))) (fresh k x) old.now new.now =
-            subst (λ r. Kept s fine d (Some (columns_to (suc n))) r old.now new.now) (fresh_is k x)
-            (keep_wrote s fine d text params old new count place here w.stands.schema ran.0 _ terms width
-            (Null ∷ row_of key value k x) it one (Some (columns_to (suc n))) refl) in
-            elim (keeps_key s fine cmp (row_of key value) (coding cmp d.columns (suc n) key value c) d old.now
-            new.now held are_rows k x (fresh k x) (next_rowid (old.now.trees d.tree))
-            (Some (columns_to (suc n)))
-            (λ none. cast_row_fits d _ (row_of key value k x) (c.fit k x))
-            (meets cmp d.columns n key value c s.indexes (table_of d) g k x
-            (next_rowid (old.now.trees d.tree))) either did) [
-              | inl it' ↦ written it'.0 it'.1 (Put k (Some x)) it'.2
-                  (runs_as text params old new s w.stands.schema _ it.is it.plain count ran.0).sound it'.3
-              | inr it' ↦ unwritten (Put k (Some x)) it'.0 it'.1
-            ]
+    abbrev fresh : K → X → Row
+    fresh k x = Int (next_rowid (db t.table.tree)) ∷ row_of key value k x
+
+    -- INSERT .. ON CONFLICT (key): a new row has the value `first`
+    put_in : (k : K) (x first : X) (width : ℕ) (terms : List Term) (update : Option Query)
+        → IsWrite s text (InsertOr t.place Abort (Values terms width) (clause_of (Some columns) update ∷ []))
+        → value_rows params width (length terms / width) terms ≡ (Null ∷ row_of key value k first) ∷ []
+        → (held k ≡ None → first ≡ x)
+        → ((n : ℤ) (y : X) → held k ≡ Some y → Has (db t.table.tree) (Int n ∷ row_of key value k y)
+        → (rows : List Row)
+        → Resolves update (params ++ Int n ∷ shown (table_of t.table) (fresh k first)) rows db
+        → IsDatabase new.now
+        → Wrote s t.table.tree (ids_of rows) (map (λ r. cast_row (table_of t.table) (drop 1 r)) rows) db
+        new.now → IsPut k (Some x))
+        → IsPut k (Some x)
+    put_in k x first width terms update it one starts resolves =
+        let did = upsert_wrote s fine t.table text params old new run.count t.place t.here
+        run.within.stands.schema run.ran.0 (Some columns) update terms width _ it one in
+        let stored = λ (m : ℤ) (y : X). cast_row_fits t.table m (row_of key value k y) (t.codes.fit k y) in
+        elim (subst (λ r. Tried s t.table (Some columns) update params r db new.now)
+        (ap (with_rowid Chosen (db t.table.tree))
+        (cast_row_new t.table (row_of key value k first) (t.codes.fit k first))) did.0)
+        as (λ _. IsPut k (Some x)) [
+          | inl it ↦
+              let none : held k ≡ None = elim (held k) as (λ o. held k ≡ o → held k ≡ None) [
+                | None ↦ λ e. e
+                | Some y ↦ λ e. let row = row_at (coding t.codes) are_rows k y e in
+                    absurd (it.1 _ row.1 (meets t k first _ row.0 k y ∙ eq_itself (coding t.codes) k))
+              ] refl in
+              let now = subst (λ r. Wrote s t.table.tree [] (r ∷ []) db new.now)
+              (stored _ first ∙ ap (fresh k) (starts none)) it.0 in
+              put_rows k (Some x) did.1 [] _ now
+              (inserted (coding t.codes) are_rows k x _ none now.fresh)
+          | inr it ↦
+              let was = passes_key (coding t.codes) are_rows
+              (conflicts (Some columns) s.indexes (table_of t.table) (fresh k first)) k (meets t k first _)
+              it.0 it.1 it.2 in
+              resolves (id_in (rowid it.0)) was.0 was.1 (subst (Has (db t.table.tree)) was.2 it.1) it.3
+              (subst (λ v. Resolves update (params ++ v ∷ shown (table_of t.table) (fresh k first)) it.3 db)
+              (ap rowid was.2) it.4) did.1 it.5
+        ]
+
+    -- DO UPDATE: a row that is there gets `x`
+    pub upsert_in : (k : K) (x first : X) (width : ℕ) (terms : List Term) (at : ℕ) (set : List Term)
+        → IsWrite s text (upsert t.place t.table.tree (suc t.more) width terms at set)
+        → value_rows params width (length terms / width) terms ≡ (Null ∷ row_of key value k first) ∷ []
+        → (held k ≡ None → first ≡ x)
+        → ((m : ℤ) → column (params ++ Int m ∷ shown (table_of t.table) (fresh k first)) at ≡ Int m)
+        → ((m : ℤ) (y : X) → held k ≡ Some y
+        → shown_as (params ++ Int m ∷ shown (table_of t.table) (fresh k first)) (col 1 0 ∷ col 1 0 ∷ set)
+        (Int m ∷ row_of key value k y) ≡ Int m ∷ Int m ∷ row_of key value k x) → IsPut k (Some x)
+    upsert_in k x first width terms at set it one starts stands shows =
+        put_in k x first width terms (Some (met_update t.table.tree at set)) it one starts
+        (λ n y is there rows answer sound wrote.
+        let all : rows ≡ (Int n ∷ Int n ∷ row_of key value k x) ∷ [] =
+        shows_row db answer (Int n ∷ row_of key value k y) (row_with are_rows _ at n _ (stands n) there)
+        ∙ ap (λ r. r ∷ []) (shows n y is) in
+        let now = subst (λ r. Wrote s t.table.tree (n ∷ []) (r ∷ []) db new.now)
+        (cast_row_fits t.table n (row_of key value k x) (t.codes.fit k x))
+        (subst (λ l. Wrote s t.table.tree (ids_of l)
+        (map (λ r. cast_row (table_of t.table) (drop 1 r)) l) db new.now) all wrote) in
+        put_rows k (Some x) sound (n ∷ []) _ now (replaced (coding t.codes) are_rows k x y n there now.fresh))
+
+    -- DO NOTHING, where what may be there is the same
+    pub keep_in : (k : K) (x : X) (width : ℕ) (terms : List Term)
+        → IsWrite s text (insert_or_nothing t.place (suc t.more) width terms)
+        → value_rows params width (length terms / width) terms ≡ (Null ∷ row_of key value k x) ∷ []
+        → held k ≡ Some x ⊎ (held k ≡ None) → IsPut k (Some x)
+    keep_in k x width terms it one either =
+        put_in k x x width terms None it one (λ none. refl) (λ n y is there rows none sound wrote.
+        let same : held k ≡ Some x =
+        elim either [ inl same ↦ same | inr none ↦ let clash = sym is ∙ none in cc ] in
+        put_rows k (Some x) sound [] []
+        (subst (λ l. Wrote s t.table.tree (ids_of l)
+        (map (λ r. cast_row (table_of t.table) (drop 1 r)) l) db new.now) none wrote)
+        (same_held are_rows (put_again (coding t.codes) are_rows k (Some x) same)))

@@ -1,30 +1,40 @@
--- What an INSERT, an UPDATE and a DELETE of one table come to, whatever its columns.
-use Rattle.std.proofs.Common.{◌≡◌, ◌≢◌, ◌⊎◌, inl, inr, ℕ, ℤ, List, [], map, slice_get, true, Some, None}
-use Rattle.std.proofs.Common.{Ok, Err, Result, sym, ap, subst, ◌∙◌, append-nil}
+-- What an INSERT, an upsert and a DELETE of one table come to, whatever its columns.
+use Rattle.std.proofs.Common.{◌≡◌, ◌≢◌, ◌⊎◌, inl, inr, ℕ, ℤ, List, [], ◌∷◌, ◌++◌, drop, length, ◌/◌, map}
+use Rattle.std.proofs.Common.{true, slice_get, Option, Some, None, option_map, Ok, Err, Result, refl, sym, ap}
+use Rattle.std.proofs.Common.{subst, ◌∙◌, append-nil}
 use Rattle.std.specs.List.{AllByRecursion}
-use Rattle.sqlite.specs.Order.{Row}
-use Rattle.sqlite.specs.Query.{Query, IsAnswer}
-use Rattle.sqlite.specs.Program.{overlay}
-use Rattle.sqlite_schema.specs.declared.command.Command.{Command}
-use Rattle.sqlite.specs.Command.TheVariants.{Insert, Delete}
-use Rattle.sqlite.specs.Rowids.TheVariants.{Chosen, Given}
-use Rattle.sqlite.specs.Edit.{edit_of, put_all, without_all, are_fresh, numbered}
-use Rattle.sqlite_rules.specs.Edit.{have_rowids, Applies}
-use Rattle.sqlite_schema.specs.declared.schema.Keys.{Keys}
 use Rattle.sqlite.specs.Cast.{cast_row}
-use Rattle.sqlite_rules.specs.Calls.{ids_of}
-use Rattle.sqlite.specs.Rows.{Written, Task}
-use Rattle.sqlite.specs.Does.{Tally, Does, OnRows, WritesRows, AtPlace}
-use Rattle.sqlite.specs.declared.types.Value.TheVariants.{Null}
-use Rattle.sqlite.specs.Tree.{Trees}
-use Rattle.sqlite.specs.Effect.{Database, IsSource}
-use Rattle.sqlite_schema.specs.declared.command.Source.{Source}
-use Rattle.sqlite_rules.specs.declared.error.Rowids.{Rowids}
-use Rattle.sqlite_rules.specs.Action.{Writes}
-use Rattle.sqlite.specs.State.{State, mode_of, Executes}
+use Rattle.sqlite.specs.Command.TheVariants.{Insert, InsertOr, Delete}
+use Rattle.sqlite.specs.Does.{Tally, OnRows, OnTable, WritesRows, AtPlace}
+use Rattle.sqlite.specs.Edit.{edit_of, put_all, without_all, with_rowid, are_fresh, numbered}
+use Rattle.sqlite.specs.Effect.{Database, IsDatabase, IsSource, value_rows}
 use Rattle.sqlite.specs.Listing.{understood}
-use Rattle.sqlite.proofs.Callers.{runs_as, statement_of, one_step}
+use Rattle.sqlite.specs.Order.{Row, column}
+use Rattle.sqlite.specs.Program.{overlay}
+use Rattle.sqlite.specs.Query.{Query, IsAnswer}
+use Rattle.sqlite.specs.Rowids.TheVariants.{Chosen, Given}
+use Rattle.sqlite.specs.Rows.{Written, Task, Tries, TriesEach, Upserts, Clears, Puts, nothing, count_of}
+use Rattle.sqlite.specs.Rows.{shown}
 use Rattle.sqlite.specs.Schema.{Schema}
+use Rattle.sqlite.specs.Source.TheVariants.{Values}
+use Rattle.sqlite.specs.State.{State, Runs, mode_of, Executes}
+use Rattle.sqlite.specs.Table.{Table}
+use Rattle.sqlite.specs.Term.{Term}
+use Rattle.sqlite.specs.Tree.{Trees, rowid}
+use Rattle.sqlite.specs.declared.types.Value.TheVariants.{Null}
+use Rattle.sqlite_rules.proofs.ListLemmas.{all_from}
+use Rattle.sqlite_rules.proofs.PlaceLemmas.{given}
+use Rattle.sqlite_rules.specs.Action.{Writes}
+use Rattle.sqlite_rules.specs.Calls.{ids_of}
+use Rattle.sqlite_rules.specs.Keys.{conflicts}
+use Rattle.sqlite_rules.specs.Lists.{Has}
+use Rattle.sqlite_rules.specs.declared.error.Rowids.{Rowids}
+use Rattle.sqlite_schema.specs.declared.command.Command.{Command}
+use Rattle.sqlite_schema.specs.declared.command.Conflict.TheVariants.{Abort}
+use Rattle.sqlite_schema.specs.declared.command.Source.{Source}
+use Rattle.sqlite_schema.specs.declared.command.Upsert.{Upsert}
+use Rattle.sqlite_schema.specs.declared.schema.Keys.{Keys}
+use Rattle.sqlite.proofs.Callers.{runs_as, statement_of, one_step}
 use Rattle.sql_maps.specs.Schema.{Descriptor, table_of, is_plain}
 use Rattle.sql_maps.specs.Texts.{IsWrite}
 use Rattle.sql_maps.proofs.Plain.{no_works}
@@ -39,112 +49,193 @@ same_value e = cc
 
 -- One table of a schema has lost the rows with these rowids and then got these rows, and the others are as
 -- they were.
-pub record Wrote (s : Schema) (tree : ℕ) (ids : List ℤ) (news : List Row) (old new : Database) : Type 0 where
-  pub schema : new.schema ≡ s
-  pub keyed : have_rowids news ≡ true
-  pub fresh : are_fresh (without_all (old.trees tree) ids) news ≡ true
-  pub is : new.trees tree ≡ put_all (without_all (old.trees tree) ids) news
-  pub beside : AllByRecursion (λ t. t.tree ≢ tree → new.trees t.tree ≡ old.trees t.tree) s.tables
+pub record Wrote (s : Schema) (tree : ℕ) (ids : List ℤ) (news : List Row) (old : Trees)
+    (new : Database) : Type 0
+  where
+    pub schema : new.schema ≡ s
+    pub fresh : are_fresh (without_all (old tree) ids) news ≡ true
+    pub is : new.trees tree ≡ put_all (without_all (old tree) ids) news
+    pub beside : AllByRecursion (λ t. t.tree ≢ tree → new.trees t.tree ≡ old t.tree) s.tables
+
+-- what becomes of a new row that met one: an update of what its query shows, or nothing
+abbrev pub Resolves : Option Query → Row → List Row → Trees → Type 0
+Resolves None params rows db = rows ≡ []
+Resolves (Some body) params rows db = IsAnswer body (overlay db []) params rows
+
+-- the row is new, or it met one
+abbrev pub Tried : Schema → Descriptor → Option (List ℕ) → Option Query → Row → Row → Trees → Database
+    → Type 0
+Tried s d target update params new old now =
+    (Wrote s d.tree [] (cast_row (table_of d) new ∷ []) old now
+    × ((r : Row) → Has (old d.tree) r → conflicts target s.indexes (table_of d) new r ≡ true → ⊥))
+    ⊎ ((there : Row) × Has (old d.tree) there × (conflicts target s.indexes (table_of d) new there ≡ true)
+    × (rows : List Row) × Resolves update (params ++ rowid there ∷ shown (table_of d) new) rows old
+    × Wrote s d.tree (ids_of rows) (map (λ r. cast_row (table_of d) (drop 1 r)) rows) old now)
+
+-- ON CONFLICT, with an update or without
+abbrev pub clause_of : Option (List ℕ) → Option Query → Upsert
+clause_of target update =
+    record { target = target; update = option_map (λ body. record { lets = []; body = body }) update }
 
 module _ (s : Schema) (plain : is_plain s ≡ true) (d : Descriptor) where
   abbrev pub under : Trees → Database
   under db = record { schema = s; trees = db }
 
-  -- an edit that was applied to a whole database
-  pub applied_wrote : (keys : Keys) (old new : Database) (next : Trees) (ids : List ℤ) (news : List Row)
-      → new ≡ under next
-      → Applies s keys old.trees (record { table = table_of d; gone = ids; news = news }) next
-      → Wrote s d.tree ids news old new
-  applied_wrote keys old new next ids news is a = record {
-    schema = ap (λ (b : Database). b.schema) is;
-    keyed = a.keyed;
-    fresh = a.fresh;
-    is = ap (λ (b : Database). b.trees d.tree) is ∙ a.rows;
-    beside = subst
-        (λ (t : Trees). AllByRecursion (λ u. u.tree ≢ d.tree → t u.tree ≡ old.trees u.tree) s.tables)
-        (sym (ap (λ (b : Database). b.trees) is)) a.tables;
-  }
-
   -- no foreign key acts, so an edit is its one step
-  pub step_of : (keys : Keys) (db next : Trees) (ids : List ℤ) (rowids : Rowids) (from : ℕ) (rows : List Row)
-      → Writes s keys db (edit_of db (table_of d) ids rowids from rows) (Ok next)
-      → Applies s keys db (edit_of db (table_of d) ids rowids from rows) next
-  step_of keys db next ids rowids from rows wrote =
-      one_step s keys db next (edit_of db (table_of d) ids rowids from rows)
-      (no_works s plain keys 0 d.tree _ _) wrote
+  edited : (keys : Keys) (db next : Trees) (new : Database) (ids : List ℤ) (rowids : Rowids) (from : ℕ)
+      (rows : List Row)
+      → new ≡ under next → Writes s keys db (edit_of db (table_of d) ids rowids from rows) (Ok next)
+      → Wrote s d.tree ids (edit_of db (table_of d) ids rowids from rows).news db new
+  edited keys db next new ids rowids from rows is wrote =
+      let edit = edit_of db (table_of d) ids rowids from rows in
+      let a = one_step s keys db next edit (no_works s plain keys 0 d.tree _ _) wrote in
+      subst (Wrote s d.tree ids edit.news db) (sym is)
+      (record { schema = refl; fresh = a.fresh; is = a.rows; beside = a.tables })
 
   module _ (text : List ℕ) (params : Row) (old new : State) (count : ℕ) (at : ℕ)
       (here : slice_get s.tables at ≡ Some (table_of d)) (has : old.now.schema ≡ s)
       (ran : Executes text params old new (Ok count)) where
-    abbrev pub task : Task
-    task = record
-        { limit = old.step_limit; keys = (mode_of old).keys; schema = s; table = table_of d; params = params }
+    abbrev db : Trees
+    db = old.now.trees
 
-    abbrev pub Concluded : Command → Type 0
-    Concluded command = (w : Written) × WritesRows task old.now.trees command (Ok w)
-        × (new.now ≡ under w.trees)
+    abbrev task_of : Table → Task
+    task_of t =
+        record { limit = old.step_limit; keys = (mode_of old).keys; schema = s; table = t; params = params }
 
-    pub concluded : (command : Command) (tally : Tally)
-        → AtPlace
-        (λ t. OnRows
-        (record { limit = old.step_limit; keys = (mode_of old).keys; schema = s; table = t; params = params })
-        (mode_of old) None command old.now.trees) (slice_get s.tables at) (Ok (tally, new.now))
-        → Concluded command
-    concluded command tally h =
+    abbrev task : Task
+    task = task_of (table_of d)
+
+    abbrev IsOnRows : Command → Tally → Database → Type 0
+    IsOnRows command tally it = OnTable old.step_limit (mode_of old) params it at
+        (λ task. OnRows task (mode_of old) None command it.trees) (Ok (tally, new.now))
+
+    concluded : (command : Command) → IsWrite s text command
+        → (Runs old new None command (statement_of text (understood s text)) params count
+        → (tally : Tally) × IsOnRows command tally old.now × IsDatabase new.now)
+        → (w : Written) × WritesRows task db command (Ok w) × (new.now ≡ under w.trees) × IsDatabase new.now
+    concluded command it on =
+        let w = on (runs_as text params old new s has command it.is it.plain count ran) in
         let done =
         went (subst
-        (λ o. AtPlace
-        (λ t. OnRows
-        (record {
-          limit = old.step_limit;
-          keys = (mode_of old).keys;
-          schema = s;
-          table = t;
-          params =
-              params;
-        }) (mode_of old) None command old.now.trees) o (Ok (tally, new.now))) here h) in
-        (done.0, done.1, ap (λ (p : Tally × Database). p.1) (same_value (went (went done.2).2).2))
+        (λ o. AtPlace (λ t. OnRows (task_of t) (mode_of old) None command db) o (Ok (w.0, new.now))) here
+        (subst (λ x. IsOnRows command w.0 (record old.now { schema = x })) has w.1)) in
+        (done.0, done.1, ap (λ (p : Tally × Database). p.1) (same_value (went (went done.2).2).2), w.2)
 
-    abbrev pub DoesIn : Command → Tally → Schema → Type 0
-    DoesIn command tally it = Does old.step_limit (mode_of old) params (record old.now { schema = it })
-        (statement_of text (understood s text)) None command (Ok (tally, new.now))
+    abbrev trees_of : Written → Database
+    trees_of w = under w.trees
 
     pub insert_wrote : (from : Source) → IsWrite s text (Insert at from)
-        → (rows : List Row) × IsSource (under old.now.trees) params from rows
-        × Wrote s d.tree [] (numbered Chosen (old.now.trees d.tree) (map (cast_row (table_of d)) rows))
-        old.now new.now
+        → (rows : List Row) × IsSource (under db) params from rows
+        × Wrote s d.tree [] (numbered Chosen (db d.tree) (map (cast_row (table_of d)) rows)) db new.now
+        × IsDatabase new.now
     insert_wrote from it =
-        let w = runs_as text params old new s has (Insert at from) it.is it.plain count ran in
-        let done = concluded (Insert at from) w.tally (subst (DoesIn (Insert at from) w.tally) has w.changed)
-        in
+        let done = concluded (Insert at from) it (λ w. (w.tally, w.changed, w.sound)) in
         let rows = went done.1 in
-        let counter = went rows.2 in
-        let edit = went counter.2 in
-        let end = went edit.2 in
-        let trees : done.0.trees ≡ edit.0 = ap (λ (it : Written). it.trees) (same_value end.2)
-        ∙ same_value end.1 in
-        let step = step_of (mode_of old).keys old.now.trees edit.0 [] Chosen 0 rows.0 edit.1 in (
+        let edit = went (went rows.2).2 in
+        let end = went edit.2 in (
           rows.0,
-          subst (λ p. IsSource (under old.now.trees) p from rows.0)
-              (append-nil params) rows.1,
-          applied_wrote (mode_of old).keys old.now new.now edit.0 [] _
-              (done.2 ∙ ap under trees) step,
+          subst (λ p. IsSource (under db) p from rows.0) (append-nil params) rows.1,
+          edited (mode_of old).keys db edit.0 new.now [] Chosen 0 rows.0
+              (done.2 ∙ ap trees_of (same_value end.2) ∙ ap under (same_value end.1)) edit.1,
+          done.3,
         )
 
     -- a delete of the rows that pass
     pub delete_wrote : (body : Query) → IsWrite s text (Delete at (record { lets = []; body = body }))
-        → (rows : List Row) × IsAnswer body (overlay old.now.trees []) params rows
-        × Wrote s d.tree (ids_of rows) [] old.now new.now
+        → (rows : List Row) × IsAnswer body (overlay db []) params rows
+        × Wrote s d.tree (ids_of rows) [] db new.now × IsDatabase new.now
     delete_wrote body it =
-        let command = Delete at (record { lets = []; body = body }) in
-        let w = runs_as text params old new s has command it.is it.plain count ran in
-        let done = concluded command w.tally (subst (DoesIn command w.tally) has w.changed) in
+        let done = concluded (Delete at (record { lets = []; body = body })) it
+        (λ w. (w.tally, w.changed, w.sound)) in
         let rows = went done.1 in
-        let edit = went rows.2 in
-        let trees : done.0.trees ≡ edit.0 = ap (λ (it : Written). it.trees) (same_value edit.2) in
-        let step = step_of (mode_of old).keys old.now.trees edit.0 (ids_of rows.0) Given 0 [] edit.1 in (
+        let edit = went rows.2 in (
           rows.0,
           rows.1.answer Null,
-          applied_wrote (mode_of old).keys old.now new.now edit.0 (ids_of rows.0)
-              [] (done.2 ∙ ap under trees) step,
+          edited (mode_of old).keys db edit.0 new.now (ids_of rows.0) Given 0 []
+              (done.2 ∙ ap trees_of (same_value edit.2)) edit.1,
+          done.3,
+        )
+
+    puts : (row : Row) (one : Written) → Puts task row db (Ok one)
+        → Wrote s d.tree [] (cast_row (table_of d) row ∷ []) db (trees_of one)
+    puts row one h = let p = went h in
+        edited (mode_of old).keys db p.0 (trees_of one) [] Given 0 (row ∷ []) (ap trees_of (same_value p.2))
+        p.1
+
+    clears : (row : Row) (one : Written) (found : List Row) → Clears task Abort row db found (Ok one)
+        → Puts task row db (Ok one)
+    clears row one [] h = h
+    clears row one (x ∷ more) h = h
+
+    met : (target : Option (List ℕ)) (update : Option Query) (row : Row) (one : Written)
+        → Upserts task Abort row db (clause_of target update ∷ []) (Ok one)
+        → Tried s d target update params row db (trees_of one)
+    met target update row one ([], are, rest) = inl
+        (puts row one (clears row one rest.0 rest.2), are.complete)
+    met target None row one (x ∷ more, are, rest) =
+        let from = are.sound x (inl refl) in
+        let same = ap trees_of (same_value rest) in
+        inr (
+          from.0,
+          from.1,
+          from.2,
+          [],
+          refl,
+          record {
+            schema = refl;
+            fresh = refl;
+            is = ap (λ (b : Database). b.trees d.tree) same;
+            beside = all_from _ s.tables (λ t h far. ap (λ (b : Database). b.trees t.tree) same);
+          },
+        )
+    met target (Some body) row one (x ∷ more, are, rest) =
+        let from = are.sound x (inl refl) in
+        let u = went rest in
+        let e = went u.2 in
+        inr (
+          from.0,
+          from.1,
+          from.2,
+          u.0,
+          subst (λ y. IsAnswer body (overlay db []) (params ++ column y 0 ∷ shown (table_of d) row) u.0)
+              from.3 (u.1.answer Null),
+          subst (λ news. Wrote s d.tree (ids_of u.0) news db (trees_of one))
+              (given (without_all (db d.tree) (ids_of u.0)) (map (λ r. cast_row (table_of d) (drop 1 r)) u.0))
+              (edited (mode_of old).keys db e.0 (trees_of one) (ids_of u.0) Given 1 u.0
+              (ap trees_of (same_value e.2)) e.1),
+        )
+
+    tried : (target : Option (List ℕ)) (update : Option Query) (row : Row) (one : Written)
+        → Tries task Abort (clause_of target update ∷ []) row db (Ok one)
+        → Tried s d target update params row db (trees_of one)
+    tried target update row one (inl refused) = absurd (let e = refused.1 in cc)
+    tried target update row one (inr (None, judged, h)) = met target update row one h
+    tried target update row one (inr (Some why, judged, h)) = absurd (let e : Ok one ≡ Err _ = h in cc)
+
+    -- INSERT .. ON CONFLICT of one row
+    pub upsert_wrote : (target : Option (List ℕ)) (update : Option Query) (terms : List Term) (width : ℕ)
+        (source : Row)
+        → IsWrite s text (InsertOr at Abort (Values terms width) (clause_of target update ∷ []))
+        → value_rows params width (length terms / width) terms ≡ source ∷ []
+        → Tried s d target update params (with_rowid Chosen (db d.tree) (cast_row (table_of d) source)) db
+        new.now × IsDatabase new.now
+    upsert_wrote target update terms width source it one =
+        let clauses = clause_of target update ∷ [] in
+        let done = concluded (InsertOr at Abort (Values terms width) clauses) it
+        (λ w. (w.tally, w.changed, w.sound)) in
+        let rows = went done.1 in
+        let counter = went rows.2 in
+        let tries = went counter.2 in
+        let last = went tries.2 in
+        let all : rows.0 ≡ source ∷ [] = rows.1.1 ∙ ap (λ p. value_rows p width (length terms / width) terms)
+        (append-nil params) ∙ one in
+        let each =
+        went (subst
+        (λ rs. TriesEach task Abort clauses rs (count_of counter.0) (nothing db) (Ok tries.0)) all tries.1) in
+        let row = with_rowid Chosen (db d.tree) (cast_row (table_of d) source) in (
+          subst (Tried s d target update params row db)
+              (sym (done.2 ∙ ap trees_of (same_value last.2) ∙ ap under (same_value last.1)
+              ∙ ap (λ (p : Written × ℤ). trees_of p.0) (same_value each.2)))
+              (tried target update row each.0 each.1),
+          done.3,
         )

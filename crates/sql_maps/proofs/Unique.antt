@@ -1,7 +1,7 @@
 -- A key that is UNIQUE comes once, whatever the table.
-use Rattle.std.proofs.Common.{◌≡◌, inl, ℕ, ℤ, ◌∷◌, true, false, not, ◌&&◌, refl, sym, ap, subst}
-use Rattle.std.proofs.Common.{◌∙◌, true≢false, slice_get, Some, Ordering, Less, Equal, Greater, is_eq}
-use Rattle.std.proofs.Common.{int_cmp}
+use Rattle.std.proofs.Common.{◌≡◌, inl, ℕ, ℤ, ◌∷◌, true, false, not, ◌&&◌, refl, sym, ap, subst, ◌∙◌}
+use Rattle.std.proofs.Common.{true≢false, slice_get, Some, is_eq, int_cmp, arith, List}
+use Rattle.sql_maps.proofs.KeyTests.{equal_is}
 use Rattle.std.proofs.lemmas.Bool.{and_from, and_parts}
 use Rattle.std.specs.FinMap.{int_cmp-IsAntisymmetric}
 use Rattle.sqlite.specs.Effect.{Database, IsDatabase}
@@ -17,16 +17,13 @@ use Rattle.sqlite_rules.proofs.RuleLemmas.{keeps_at}
 use Rattle.sqlite_schema.specs.Rules.{agree, differ, clashes, guards}
 use Rattle.sqlite_schema.specs.declared.schema.Constraint.TheVariants.{Unique}
 use Rattle.sqlite_schema.specs.declared.schema.Index.{Index}
-use Rattle.std.proofs.Common.{List}
 use Rattle.sqlite_value.proofs.OrderLemmas.{value_cmp-Int}
 use Rattle.sql_maps.specs.Schema.{Descriptor, table_of}
 use Rattle.sql_maps.proofs.Keys.{IsGuarded, agree_are, same_at}
 
-differ_ints : (a b : ℤ) (o : Ordering) → int_cmp a b ≡ o → is_eq o ≡ false → differ (Int a) (Int b) ≡ true
+differ_ints : (a b : ℤ) → is_eq (int_cmp a b) ≡ false → differ (Int a) (Int b) ≡ true
 unfolding binary
-differ_ints a b Less e f = rw (value_cmp-Int, e) refl
-differ_ints a b Equal e f = absurd (true≢false f)
-differ_ints a b Greater e f = rw (value_cmp-Int, e) refl
+differ_ints a b e = rw value_cmp-Int (grind arith)
 
 module _ (s : Schema) (db : Database) (has : db.schema ≡ s) (sound : IsDatabase db) (d : Descriptor)
     (place : ℕ) (here : slice_get s.tables place ≡ Some (table_of d)) where
@@ -42,10 +39,9 @@ module _ (s : Schema) (db : Database) (has : db.schema ≡ s) (sound : IsDatabas
       test_has (λ i. not
       (guards i (table_of d) && clashes i.order i.columns (db.trees d.tree) (Int b ∷ o)))
       db.schema.indexes i unique (subst (λ (it : Schema). Has it.indexes i) (sym has) listed) in
-      elim (int_cmp a b) as (λ it. int_cmp a b ≡ it → a ≡ b) [
-        | Less ↦ λ e. absurd (clash clear (differ_ints a b Less e refl))
-        | Equal ↦ λ e. int_cmp-IsAntisymmetric a b e
-        | Greater ↦ λ e. absurd (clash clear (differ_ints a b Greater e refl))
+      elim (is_eq (int_cmp a b)) as (λ it. is_eq (int_cmp a b) ≡ it → a ≡ b) [
+        | true ↦ λ e. int_cmp-IsAntisymmetric a b (equal_is _ e)
+        | false ↦ λ e. absurd (clash clear (differ_ints a b e))
       ] refl
     where
       clash : not (guards i (table_of d) && clashes i.order i.columns (db.trees d.tree) (Int b ∷ o)) ≡ true

@@ -1,5 +1,5 @@
 -- Connections that hold tables in a schema, and what calls make of them.
-use Rattle.std.specs.Prelude.{◌≡◌, ◌≤◌, ◌⊎◌, ℕ, zero, suc, false, List, [], ◌∷◌, None, IsTrue, Result, OnOk}
+use Rattle.std.specs.Prelude.{◌≡◌, ◌≤◌, ℕ, zero, suc, false, List, [], ◌∷◌, None, IsTrue, Result, OnOk}
 use Rattle.sqlite.specs.Effect.{Database, IsDatabase}
 use Rattle.sqlite.specs.Order.{Row}
 use Rattle.sqlite.specs.Schema.{Schema}
@@ -7,7 +7,6 @@ use Rattle.sqlite.specs.State.{State, HasCleanDisk, IsUnchanged}
 use Rattle.sqlite.specs.Table.{Table}
 use Rattle.sqlite.specs.Tree.{Trees}
 use Rattle.sqlite.specs.View.{doubt}
-use Rattle.sqlite_catalog.specs.Listing.{IsSound}
 
 -- what is said of the rows of one table
 abbrev pub Claim : Type 1
@@ -74,12 +73,3 @@ pub record Steps (old new : State) : Type 0 where
   pub clean : doubt old.is_clean ≤ doubt new.is_clean
   pub limit : new.step_limit ≡ old.step_limit
   pub left : HasCleanDisk new → LeavesNoMore old new
-
--- each state that a crash may leave now stands in the one way or in the other
-abbrev pub LeavesEither : State → (Trees → Type 0) → (Trees → Type 0) → Type 0
-LeavesEither st Before After = (db : Trees) → st.may_leave db → Before db ⊎ After db
-
--- a sound database of this schema, whose rows are as is said
-pub record AreOurs (s : Schema) (claims : List Claim) (db : Trees) : Type 0 where
-  pub sound : IsSound s db
-  pub rows : StandsIn s.tables claims db

@@ -218,7 +218,7 @@ module _ (db : Trees) (V : Vault) (stands : Stands db V) (rows : Rows) (raws : A
   pub stands_shows : Shows rows V
   stands_shows =
       let version = version_of db stands.version rows.versions.items raws.versions in
-      let many = as_many bytes_cmp merchant_row merchant_coding lives_in (db 1) V.merchants stands.merchants in
+      let many = as_many merchant_coding lives_in (db 1) V.merchants stands.merchants in
       let size = length_permutation (db 1) (map merchant_values rows.merchants.items) raws.merchants.merchants_are in
       record {
         version = version.0;

@@ -1,6 +1,5 @@
 pub mod Calls
 pub mod Lookups
 pub mod Making
-pub mod MerchantRows
 pub mod Statements
 pub mod WrittenPlus

@@ -1,7 +1,7 @@
 -- What each query shows of a vault: exactly what it has, or nothing.
-use Rattle.std.proofs.Common.{◌≡◌, ℕ, ℤ, pos, List, [], ◌∷◌, Bool, true, false, ◌&&◌, is_eq, is_gt, is_none}
-use Rattle.std.proofs.Common.{is_some, int_cmp, nat_lt, Option, Some, None, option_map, refl, sym, ap, ◌∙◌}
-use Rattle.std.proofs.Common.{arith}
+use Rattle.std.proofs.Common.{◌≡◌, ℕ, ℤ, pos, List, [], ◌∷◌, Bool, true, false, ◌&&◌, is_eq, is_none, is_some}
+use Rattle.std.proofs.Common.{nat_lt, Option, Some, None, option_map, refl, sym, ap, ◌∙◌, arith, nat_cmp, inl}
+use Rattle.std.proofs.Common.{inr, slice_get}
 use Rattle.std.proofs.lemmas.Bool.Decides.{nat_tests}
 use Rattle.std.proofs.lemmas.Bool.{and_parts}
 use Rattle.std.proofs.lemmas.Int.{ints}
@@ -9,66 +9,61 @@ use Rattle.std.specs.Cmp.Lexicographic.{texts_ties}
 use Rattle.std.specs.FinMap as map
 use Rattle.std.specs.List.{list_all}
 use Rattle.std.specs.Option.{option_map_or}
-use Rattle.std.specs.Ordering.{nat_cmp}
 use Rattle.sqlite.specs.Collation.TheVariants.{Binary}
-use Rattle.sqlite.specs.Ops.{binary, is_true, from_truth}
+use Rattle.sqlite.specs.Ops.{binary, is_true}
 use Rattle.sqlite.specs.Term.{holds}
 use Rattle.sqlite.specs.declared.types.Value.TheVariants.{Null, Int, Text}
 use Rattle.sqlite_sql.specs.declared.ops.BinaryOp.TheVariants.{Compare, Is}
 use Rattle.sqlite_sql.specs.declared.ops.CompareOp.TheVariants.{Eq, Gt}
 use Rattle.sqlite_value.proofs.OrderLemmas.{value_cmp-Int}
 use Rattle.vault_pan.specs.CardText.{same}
-use Rattle.std.proofs.lemmas.Cmp.{tied_itself}
-use Rattle.vault_core.proofs.Finds.{some_same}
+use Rattle.std.specs.Cmp.{tied_itself}
 use Rattle.vault_core.proofs.Maps.{bytes_exact, bytes_total}
 use Rattle.vault_core.proofs.CurrentLemmas.{current-some, current-none}
-use Rattle.vault_core.specs.Keys.{Bytes, bytes_cmp, entry_cmp, record_cmp}
+use Rattle.vault_core.specs.Keys.{Bytes, bytes_cmp}
 use Rattle.vault_core.specs.Repeats.{current, is_reusable, same_use}
 use Rattle.vault_core.specs.Sound.{Sound}
-use Rattle.vault_core.specs.Vault.{Vault, entry_at}
-use Rattle.vault_core.specs.Window.{moment_at}
+use Rattle.vault_core.specs.Vault.{Vault, entry_at, Merchant, merchant_at, made}
+use Rattle.vault_core.specs.Window.{moment_at, row_at, row_of}
 use Rattle.vault_core.specs.declared.row.Entry.{Entry}
 use Rattle.vault_core.specs.declared.usage.Use.{Use}
-use Rattle.vault_core.specs.declared.usage.Use.TheVariants.{Single, Multi}
+use Rattle.vault_core.specs.declared.usage.Use.TheVariants.{Multi}
 use Rattle.vault_store.proofs.LiveLemmas.{one_live}
-use Rattle.sqlite.specs.Order.{Row, value_cmp}
+use Rattle.sqlite.specs.Order.{Row, value_cmp, column}
 use Rattle.sqlite.specs.State.{State, Shown}
 use Rattle.sql_maps.specs.Rows.{one_of}
 use Rattle.sql_maps.specs.States.{Stands}
 use Rattle.sql_maps.specs.Texts.{by_key}
 use Rattle.sql_maps.proofs.KeyTests.{text_eq, number_eq, and_true, equal_is}
-use Rattle.sql_maps.proofs.Keys.{coding}
-use Rattle.sql_maps.proofs.Reading.{are_shown, how_many, shown_are, shown_one}
+use Rattle.sql_maps.proofs.Reading.{how_many, shown_are, shown_none, shown_one}
 use Rattle.vault_schema.specs.Version1.Claims.{claims}
-use Rattle.vault_schema.specs.Version1.Rows.{text_or_null, number_or_null, use_number, merchant_key}
-use Rattle.vault_schema.specs.Version1.Rows.{lives_columns, merchant_row, numbered_key, number_column}
-use Rattle.vault_schema.specs.Version1.Rows.{count_row, entry_key, entry_columns, entry_row}
-use Rattle.vault_schema.specs.Version1.Tables.{merchants, counts, entries}
+use Rattle.vault_schema.specs.Version1.Rows.{text_or_null, number_or_null, use_number, number_column}
+use Rattle.vault_schema.specs.Version1.Rows.{count_row, entry_row, lives_columns}
 use Rattle.vault_schema.specs.declared.v1.TheConstants.{FIND_COUNTS, FIND_CURRENT, COUNT_MERCHANTS}
-use Rattle.vault_schema.proofs.Version1.Codes.{merchant_codes, count_codes, entry_codes}
+use Rattle.vault_schema.proofs.Version1.Codes.{merchant_coding, count_table, entry_table}
 use Rattle.vault_schema.proofs.Version1.Texts.{counts_is, current_is, current_tests, how_many_is}
 use Rattle.vault_sql.specs.Schema.{vault_schema}
-use Rattle.vault_sql.specs.Shown.{text_column, count_columns, ShowsCounts}
+use Rattle.vault_sql.specs.Shown.{text_column, count_columns, ShowsCounts, IsTotalOf, ShowsLives}
 use Rattle.vault_sql.specs.Stands.{lives_in, count_at, unless_zero, lookups_of}
+use Rattle.vault_core.proofs.Finds.{some_same}
+use Rattle.vault_core.specs.declared.row.MerchantRow.{MerchantRow}
+use Rattle.vault_schema.specs.declared.v1.Lives.{Lives}
 
 -- the rows of a query of this vault
 module _ (old new : State) (V : Vault) (it : Stands vault_schema (claims (lookups_of V)) old.now)
     (rows : List Row) where
   pub shows_counts : (m : Bytes) → Shown FIND_COUNTS.now (Text m ∷ []) old new rows → ShowsCounts rows V m
-  shows_counts m shown = record {
-    sound = λ r there.
-        let row = shown_are vault_schema (claims (lookups_of V)) old new it _ _ rows shown counts 2 refl
-        record_cmp 2 numbered_key number_column count_codes (lookups_of V).counts (λ are. are)
-        _ _ _ (counts_is [] []) (λ q y. is_eq (bytes_cmp q.0 m)) passes (λ q y. count_columns q.1 y)
-        (λ n q y. refl) r there in
-        let same : row.0.0 ≡ m = bytes_exact row.0.0 m (equal_is _ row.3) in
-        (row.0.1, row.1, row.4, ap (λ k. unless_zero (count_at V k row.0.1)) (sym same) ∙ row.2);
-    complete = λ kind total is.
-        are_shown vault_schema (claims (lookups_of V)) old new it _ _ rows shown counts 2 refl record_cmp 2
-        numbered_key number_column count_codes (lookups_of V).counts (λ are. are)
-        _ _ _ (counts_is [] []) (λ q y. is_eq (bytes_cmp q.0 m)) passes (λ q y. count_columns q.1 y)
-        (λ n q y. refl) (m, kind) total is (ap is_eq (tied_itself bytes_total m));
-  }
+  shows_counts m shown =
+      let it = shown_are old new it _ _ rows shown count_table (lookups_of V).counts (λ are. are)
+      _ _ _ (counts_is [] []) (λ q y. is_eq (bytes_cmp q.0 m)) passes (λ q y. count_columns q.1 y)
+      (λ n q y. refl) in
+      record {
+        sound = λ r there.
+            let row = it.0 r there in
+            let same : row.0.0 ≡ m = bytes_exact row.0.0 m (equal_is _ row.3) in
+            (row.0.1, row.1, row.4, ap (λ k. unless_zero (count_at V k row.0.1)) (sym same) ∙ row.2);
+        complete = λ kind total is. it.1 (m, kind) total is (ap is_eq (tied_itself bytes_total m));
+      }
     where
       -- each count of the merchant passes, whatever its kind
       passes : (n : ℤ) (q : Bytes × ℕ) (y : ℕ)
@@ -79,10 +74,8 @@ module _ (old new : State) (V : Vault) (it : Stands vault_schema (claims (lookup
   pub shows_how_many : Shown COUNT_MERCHANTS.now [] old new rows → Sound V
       → rows ≡ number_column (map.len V.merchants) ∷ []
   shows_how_many shown sound =
-      how_many vault_schema old new it.schema _ rows merchants (how_many_is [] []) shown bytes_cmp
-      merchant_row
-      (coding bytes_cmp merchants.columns 1 merchant_key lives_columns merchant_codes) lives_in V.merchants
-      it.rows.1.0 (omega (arith, sound.few))
+      how_many old new it.schema 1 (how_many_is [] []) shown merchant_coding lives_in V.merchants it.rows.1.0
+      (omega (arith, sound.few))
 
 -- ---- the live multi-use token of a number
 
@@ -94,8 +87,7 @@ number_is None pan = refl
 number_is (Some number) pan = text_eq number pan ∙ sym (texts_ties number pan)
 
 usage_is : (u : Use) → is_eq (nat_cmp (use_number u) 2) ≡ same_use u Multi
-usage_is Single = refl
-usage_is Multi = refl
+usage_is u = grind arith
 
 revoked_is : (o : Option ℕ) → is_true (binary (Is Binary) (number_or_null o) Null) ≡ is_none o
 unfolding binary value_cmp lib.Ieee.is_nan lib.Ieee.lt
@@ -104,11 +96,7 @@ revoked_is (Some n) = refl
 
 later_is : (a b : ℕ) → is_true (binary (Compare Gt Binary) (Int (pos a)) (Int (pos b))) ≡ nat_lt b a
 unfolding binary
-later_is a b =
-    rw value_cmp-Int
-    (elim (is_gt (int_cmp (pos a) (pos b)))
-    as (λ t. is_gt (int_cmp (pos a) (pos b)) ≡ t → is_true (from_truth (Some t)) ≡ nat_lt b a)
-    [ true ↦ λ e. grind (arith, ints, nat_tests, e) | false ↦ λ e. grind (arith, ints, nat_tests, e) ] refl)
+later_is a b = rw value_cmp-Int (grind (arith, ints, nat_tests))
 
 -- an entry of this merchant that can be given again for this number
 abbrev is_good : Bytes → Bytes → ℕ → Bytes × Bytes → Entry → Bool
@@ -117,12 +105,7 @@ is_good m pan at key e = is_eq (bytes_cmp key.0 m) && is_reusable pan at e
 in_order : (a b : Bool) (o : Option Bytes) (pan : Bytes) (c d : Bool)
     → (a && (option_map_or (λ number. same number pan) o false && (b && (c && (d && true)))))
     ≡ (a && (b && option_map_or (λ number. same number pan) o false && (is_some o && c && d)))
-in_order false b o pan c d = refl
-in_order true false None pan c d = refl
-in_order true true None pan c d = refl
-in_order true false (Some n) pan c d = elim (same n pan) as (λ s. (s && false) ≡ false)
-    [ true ↦ refl | false ↦ refl ]
-in_order true true (Some n) pan c d = ap (λ t. same n pan && (c && t)) (and_true d)
+in_order a b o pan c d = grind arith
 
 good_hits : (m pan : Bytes) (at : ℕ) (n : ℤ) (q : Bytes × Bytes) (y : Entry)
     → list_all (holds ((Text m ∷ Text pan ∷ Int (pos at) ∷ []) ∷ (Int n ∷ entry_row q y) ∷ [])) current_tests
@@ -146,22 +129,24 @@ pub shows_current : (old new : State) (V : Vault) → Stands vault_schema (claim
     → Shown FIND_CURRENT.now (Text m ∷ Text pan ∷ Int (pos at) ∷ []) old new rows
     → rows ≡ one_of text_column (option_map (λ held. held.0) (current V m pan at))
 shows_current old new V it sound m pan at now rows shown =
-    key_shown (current V m pan at)
-    (shown_one vault_schema (claims (lookups_of V)) old new it _ _ rows shown entries 3 refl entry_cmp 2
-    entry_key entry_columns entry_codes (lookups_of V).entries (λ are. are)
-    _ _ _ (current_is [] []) (is_good m pan at) (good_hits m pan at) alone
-    (λ (q : Bytes × Bytes). text_column q.1) (λ n q y. refl) (key_of (current V m pan at)) some none)
+    elim (current V m pan at)
+    as (λ o. current V m pan at ≡ o → rows ≡ one_of text_column (option_map (λ held. held.0) o)) [
+      | None ↦ λ e. shown_none old new it _ _ rows shown entry_table (lookups_of V).entries (λ are. are)
+          _ _ _ (current_is [] []) (is_good m pan at) (good_hits m pan at) (λ q y is good.
+          let it = own q y is good in
+          let clash = sym it.2 ∙ current-none V m pan q.1 at y e it.1 in cc)
+      | Some held ↦ λ e.
+          let there = current-some V m pan at held e in
+          shown_one old new it _ _ rows shown entry_table (lookups_of V).entries (λ are. are)
+          _ _ _ (current_is [] []) (is_good m pan at) (good_hits m pan at)
+          (λ (q : Bytes × Bytes) y. text_column q.1) (λ n q y. refl) (m, held.0) held.1 there.0
+          (ap (λ o. is_eq o && is_reusable pan at held.1) (tied_itself bytes_total m) ∙ there.1)
+          (λ q y is good.
+          let it = own q y is good in
+          it.0 ∙ ap (λ t. (m, t))
+          (one_live V sound m pan at now q.1 held.0 y held.1 it.1 it.2 there.0 there.1))
+    ] refl
   where
-    key_of : Option (Bytes × Entry) → Option (Bytes × Bytes)
-    key_of None = None
-    key_of (Some held) = Some (m, held.0)
-
-    key_shown : (o : Option (Bytes × Entry))
-        → rows ≡ one_of (λ (q : Bytes × Bytes). text_column q.1) (key_of o)
-        → rows ≡ one_of text_column (option_map (λ held. held.0) o)
-    key_shown None e = e
-    key_shown (Some held) e = e
-
     own : (q : Bytes × Bytes) (y : Entry) → map.get V.entries q ≡ Some y → is_good m pan at q y ≡ true
         → (q ≡ (m, q.1)) × (entry_at V m q.1 ≡ Some y) × (is_reusable pan at y ≡ true)
     own q y is good =
@@ -170,37 +155,58 @@ shows_current old new V it sound m pan at now rows shown =
         let key : q ≡ (m, q.1) = λ i. (same_name i, q.1) in
         (key, ap (map.get V.entries) (sym key) ∙ is, parts.1)
 
-    alone : (a b : Bytes × Bytes) (y z : Entry) → map.get V.entries a ≡ Some y → map.get V.entries b ≡ Some z
-        → is_good m pan at a y ≡ true → is_good m pan at b z ≡ true → a ≡ b
-    alone a b y z is is' good good' =
-        let one = own a y is good in
-        let two = own b z is' good' in
-        one.0 ∙ ap (λ t. (m, t)) (one_live V sound m pan at now a.1 b.1 y z one.1 one.2 two.1 two.2)
-        ∙ sym two.0
+-- ---- the row of a merchant, put together from its own table and its counts
 
-    some : (q : Bytes × Bytes) → key_of (current V m pan at) ≡ Some q
-        → (y : Entry) × (map.get V.entries q ≡ Some y) × (is_good m pan at q y ≡ true)
-    some q is = found (current V m pan at) refl is
-      where
-        found : (o : Option (Bytes × Entry)) → current V m pan at ≡ o → key_of o ≡ Some q
-            → (y : Entry) × (map.get V.entries q ≡ Some y) × (is_good m pan at q y ≡ true)
-        found None e is = let clash = is in cc
-        found (Some held) e is =
-            let there = current-some V m pan at held e in
-            let key : (m, held.0) ≡ q = some_same is in (
-              held.1,
-              ap (map.get V.entries) (sym key) ∙ there.0,
-              ap (λ (k : Bytes × Bytes). is_good m pan at k held.1) (sym key)
-                  ∙ ap (λ o. is_eq o && is_reusable pan at held.1) (tied_itself bytes_total m) ∙ there.1,
-            )
+-- a count that is shown is the count, and one that isn't is 0
+shown_or_zero : (n : ℕ) → ((total : ℕ) → unless_zero n ≡ Some total → total ≡ n)
+    × (((total : ℕ) → unless_zero n ≡ Some total → ⊥) → 0 ≡ n)
+shown_or_zero n =
+    (λ total is. grind (arith, nat_tests), λ none. let some = none n in grind (arith, nat_tests, some))
 
-    none : key_of (current V m pan at) ≡ None → (q : Bytes × Bytes) (y : Entry) → map.get V.entries q ≡ Some y
-        → is_good m pan at q y ≡ true → ⊥
-    none is q y there good = lost (current V m pan at) refl is
-      where
-        lost : (o : Option (Bytes × Entry)) → current V m pan at ≡ o → key_of o ≡ None → ⊥
-        lost None e is =
-            let it = own q y there good in
-            let fails = current-none V m pan q.1 at y e it.1 in
-            let clash = sym it.2 ∙ fails in cc
-        lost (Some held) e is = cc
+-- the total of a kind among the rows of a merchant's counts is its count of that kind
+pub total_is : (V : Vault) (m : Bytes) (rows : List Row) (kind total : ℕ) → ShowsCounts rows V m
+    → IsTotalOf kind rows total → total ≡ count_at V m kind
+total_is V m rows kind total shows (inl it) =
+    let row = shows.sound it.0 it.1 in
+    let same_kind : row.0 ≡ kind = (let e = sym (ap (λ r. column r 0) row.2) ∙ it.2 in cc) in
+    let same_total : row.1 ≡ total = (let e = sym (ap (λ r. column r 1) row.2) ∙ it.3 in cc) in
+    (shown_or_zero (count_at V m kind)).0 total
+    (sym (ap (λ k. unless_zero (count_at V m k)) same_kind) ∙ row.3 ∙ ap (λ n. Some n) same_total)
+total_is V m rows kind total shows (inr none) =
+    none.0 ∙ (shown_or_zero (count_at V m kind)).1 (λ n is. none.1 _ (shows.complete kind n is) refl)
+
+abbrev row_with : Lives → ℕ → ℕ → ℕ → MerchantRow
+row_with x made given denied = record {
+  single_life = x.single_life;
+  multi_life = x.multi_life;
+  moment = x.moment;
+  made = made;
+  given = given;
+  denied = denied;
+}
+
+pub row_is : (V : Vault) (m : Bytes) (x : Lives) → Some x ≡ option_map lives_in (merchant_at V m)
+    → (one two three : ℕ)
+    → one ≡ count_at V m 1 → two ≡ count_at V m 2 → three ≡ count_at V m 3
+    → Some (row_with x one two three) ≡ row_at V m
+row_is V m x is one two three e f g = go (merchant_at V m) refl
+  where
+    go : (o : Option Merchant) → merchant_at V m ≡ o → Some (row_with x one two three) ≡ row_at V m
+    go None none = let clash = is ∙ ap (option_map lives_in) none in cc
+    go (Some merchant) known =
+        let same : x ≡ lives_in merchant = some_same (is ∙ ap (option_map lives_in) known) in
+        let given : two ≡ merchant.given = f
+        ∙ ap (λ (o : Option Merchant). option_map_or (λ (y : Merchant). y.given) o 0) known in
+        let denied : three ≡ merchant.denied = g
+        ∙ ap (λ (o : Option Merchant). option_map_or (λ (y : Merchant). y.denied) o 0) known in
+        (λ i. Some (row_with (same i) (e i) (given i) (denied i))) ∙ sym (ap (option_map (row_of V m)) known)
+
+-- the lives that the one row of a query shows are those that are there
+pub lives_shown : (o : Option Lives) (rows : List Row) (row : Row) (x : Lives) → rows ≡ one_of lives_columns o
+    → Some row ≡ slice_get rows 0 → ShowsLives row x → Some x ≡ o
+lives_shown o rows row x is first shows = grind arith
+
+-- where no lives are there, there is no row
+pub no_row : (V : Vault) (m : Bytes) (found : Option Lives) → found ≡ option_map lives_in (merchant_at V m)
+    → found ≡ None → None ≡ row_at V m
+no_row V m found is none = grind arith

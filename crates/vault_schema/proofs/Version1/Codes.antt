@@ -1,13 +1,13 @@
 -- Each key and value of schema 1 is told by its columns.
 use Rattle.std.proofs.Common.{◌≡◌, ℕ, pos, [], ◌==◌, true, cond, Option, Some, None, refl, sym, ap, ◌∙◌}
-use Rattle.std.specs.Ordering.{nat_cmp}
+use Rattle.std.proofs.Common.{nat_cmp}
 use Rattle.sqlite.specs.Kind.TheVariants.{Integer, Text as Words}
 use Rattle.sqlite.specs.Order.{column}
 use Rattle.sqlite.specs.declared.types.Value.{Value}
 use Rattle.sqlite.specs.declared.types.Value.TheVariants.{Int, Text}
 use Rattle.sql_maps.specs.Codes.{Codes, fits}
 use Rattle.sql_maps.proofs.ByKey.{Coding}
-use Rattle.sql_maps.proofs.Keys.{coding}
+use Rattle.sql_maps.proofs.Keys.{Keyed, coding}
 use Rattle.sql_maps.proofs.KeyTests.{text_eq, number_eq, and_true, two_tests, three_tests}
 use Rattle.vault_core.proofs.Maps.{bytes_total, bytes_exact, entry_total, entry_exact, record_total}
 use Rattle.vault_core.proofs.Maps.{record_exact, right_total, right_exact}
@@ -18,7 +18,7 @@ use Rattle.vault_schema.specs.Version1.Rows.{text_or_null, number_or_null, use_n
 use Rattle.vault_schema.specs.Version1.Rows.{lives_columns, numbered_key, number_column, entry_key}
 use Rattle.vault_schema.specs.Version1.Rows.{entry_columns, record_columns, right_key, no_columns}
 use Rattle.vault_schema.specs.Version1.Rows.{merchant_row, count_row, entry_row, record_row, right_row}
-use Rattle.vault_schema.specs.Version1.Tables.{merchants, counts, entries, records, rights}
+use Rattle.vault_schema.specs.Version1.Tables.{v1, merchants, counts, entries, records, rights}
 
 -- ---- a value and back
 
@@ -136,19 +136,71 @@ right_codes = record {
   fit = λ k x. refl;
 }
 
+-- ---- each table in the schema, by its key
+
+abbrev pub merchant_table : Keyed v1 bytes_cmp merchant_key lives_columns
+merchant_table = record {
+  table = merchants;
+  place = 1;
+  here = refl;
+  more = 0;
+  codes = merchant_codes;
+  guarded = record { index = _; only = refl; order = refl; columns = refl };
+}
+
+abbrev pub count_table : Keyed v1 record_cmp numbered_key number_column
+count_table = record {
+  table = counts;
+  place = 2;
+  here = refl;
+  more = 1;
+  codes = count_codes;
+  guarded = record { index = _; only = refl; order = refl; columns = refl };
+}
+
+abbrev pub entry_table : Keyed v1 entry_cmp entry_key entry_columns
+entry_table = record {
+  table = entries;
+  place = 3;
+  here = refl;
+  more = 1;
+  codes = entry_codes;
+  guarded = record { index = _; only = refl; order = refl; columns = refl };
+}
+
+abbrev pub record_table : Keyed v1 record_cmp numbered_key record_columns
+record_table = record {
+  table = records;
+  place = 4;
+  here = refl;
+  more = 1;
+  codes = record_codes;
+  guarded = record { index = _; only = refl; order = refl; columns = refl };
+}
+
+abbrev pub right_table : Keyed v1 right_cmp right_key no_columns
+right_table = record {
+  table = rights;
+  place = 5;
+  here = refl;
+  more = 2;
+  codes = right_codes;
+  guarded = record { index = _; only = refl; order = refl; columns = refl };
+}
+
 -- ---- rows tell their keys and values
 
 pub merchant_coding : Coding bytes_cmp merchant_row
-merchant_coding = coding bytes_cmp merchants.columns 1 merchant_key lives_columns merchant_codes
+merchant_coding = coding merchant_codes
 
 pub count_coding : Coding record_cmp count_row
-count_coding = coding record_cmp counts.columns 2 numbered_key number_column count_codes
+count_coding = coding count_codes
 
 pub entry_coding : Coding entry_cmp entry_row
-entry_coding = coding entry_cmp entries.columns 2 entry_key entry_columns entry_codes
+entry_coding = coding entry_codes
 
 pub record_coding : Coding record_cmp record_row
-record_coding = coding record_cmp records.columns 2 numbered_key record_columns record_codes
+record_coding = coding record_codes
 
 pub right_coding : Coding right_cmp right_row
-right_coding = coding right_cmp rights.columns 3 right_key no_columns right_codes
+right_coding = coding right_codes

@@ -1,5 +1,4 @@
 use Rattle.std.proofs.Common.{arith}
-use Rattle.sqlite.specs.Held.{state}
 use Rattle.sql_maps.proofs.Calls.{small}
 use Rattle.vault_sql.proofs.Calls.{makes, small_use, text_bound, number_bound}
 use Rattle.vault_sql.proofs.Statements.{entry_put}
@@ -7,24 +6,13 @@ use Rattle.vault_sql.proofs.entries.put_entry.Goals as goal
 
 pub returns-clause-done : goal.returns-clause-done
 returns-clause-done g c =
-    makes c.step.result (state g.S.Store c.args.tx.now.conn.now) (state g.S.Store c.step.new.tx.conn.now) _ _
-    _ _
-    c.step.ensures.steps c.step.ensures.ran (λ h base count w can ran.
-    entry_put h base _ _ count w c.step.ensures.steps.limit (c.args.m.now, c.args.token.now) c.args.entry.now
-    (rw (
-      c.to_sql.ensures,
-      c.to_sql-2.ensures,
-      c.number_value.ensures,
-      c.to_sql-3.ensures,
-      c.to_sql-4.ensures,
-      c.to_sql-5.ensures,
-      c.moment_value.ensures,
-      text_bound c.args.entry.now.number,
-      number_bound c.args.entry.now.revoked,
-      c.usage_number-usage.ensures,
-      small _ (small_use c.args.entry.now.usage),
-      c.seconds-birth.ensures.value,
-      small c.args.entry.now.birth
-          (omega (arith, c.seconds-birth.ensures.moment)),
-      small _ c.requires,
-    ) at ran))
+    makes c.step.ensures.steps c.step.ensures.ran (λ h base can run.
+    entry_put (c.args.m.now, c.args.token.now) c.args.entry.now
+    (rw (small _ c.requires) at
+    (rw (small c.args.entry.now.birth (omega (arith, c.seconds-birth.ensures.moment))) at
+    (rw (c.seconds-birth.ensures.value) at
+    (rw (c.usage_number-usage.ensures, small _ (small_use c.args.entry.now.usage)) at
+    (rw (text_bound c.args.entry.now.number, number_bound c.args.entry.now.revoked) at
+    (rw (c.to_sql-4.ensures, c.to_sql-5.ensures, c.moment_value.ensures) at
+    (rw (c.to_sql.ensures, c.to_sql-2.ensures, c.number_value.ensures, c.to_sql-3.ensures) at
+    run))))))))

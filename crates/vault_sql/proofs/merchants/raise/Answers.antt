@@ -1,5 +1,4 @@
 use Rattle.std.proofs.Common.{arith}
-use Rattle.sqlite.specs.Held.{state}
 use Rattle.sql_maps.proofs.Calls.{small}
 use Rattle.vault_sql.proofs.Calls.{makes}
 use Rattle.vault_sql.proofs.Statements.{count_raised}
@@ -7,9 +6,11 @@ use Rattle.vault_sql.proofs.merchants.raise.Goals as goal
 
 pub returns-clause-done : goal.returns-clause-done
 returns-clause-done g c =
-    makes c.step.result (state g.S.Store c.args.tx.now.conn.now) (state g.S.Store c.step.new.tx.conn.now) _ _
-    _ _
-    c.step.ensures.steps c.step.ensures.ran (λ h base count w can ran.
-    count_raised h base _ _ count w c.step.ensures.steps.limit (c.args.m.now, c.args.kind) can
-    (rw (c.params-to_sql.ensures, c.params-to_sql-2.ensures, small c.args.kind (omega (arith, c.ranges.kind)))
-    at ran))
+    makes c.step.ensures.steps c.step.ensures.ran (λ h base can run.
+    count_raised (c.args.m.now, c.args.kind) can
+    (rw (
+      c.params-to_sql.ensures,
+      c.params-to_sql-2.ensures,
+      small c.args.kind
+          (omega (arith, c.ranges.kind)),
+    ) at run))

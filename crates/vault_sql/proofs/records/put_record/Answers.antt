@@ -1,4 +1,3 @@
-use Rattle.sqlite.specs.Held.{state}
 use Rattle.sql_maps.proofs.Calls.{small}
 use Rattle.vault_sql.proofs.Calls.{makes, small_use}
 use Rattle.vault_sql.proofs.Statements.{record_put}
@@ -6,20 +5,10 @@ use Rattle.vault_sql.proofs.records.put_record.Goals as goal
 
 pub returns-clause-done : goal.returns-clause-done
 returns-clause-done g c =
-    makes c.step.result (state g.S.Store c.args.tx.now.conn.now) (state g.S.Store c.step.new.tx.conn.now) _ _
-    _ _
-    c.step.ensures.steps c.step.ensures.ran (λ h base count w can ran.
-    record_put h base _ _ count w c.step.ensures.steps.limit (c.args.caller.now, c.args.request)
-    c.args.answered.now
-    (rw (
-      c.params-to_sql.ensures,
-      c.params-to_sql-2.ensures,
-      c.params-to_sql-3.ensures,
-      c.params-to_sql-4.ensures,
-      c.params-to_sql-5.ensures,
-      c.merchant_text-m.ensures,
-      c.as_str-token.ensures,
-      c.usage_number-usage.ensures,
-      small _ (small_use c.args.answered.now.usage),
-      small _ c.requires,
-    ) at ran))
+    makes c.step.ensures.steps c.step.ensures.ran (λ h base can run.
+    record_put (c.args.caller.now, c.args.request) c.args.answered.now
+    (rw (small _ (small_use c.args.answered.now.usage), small _ c.requires) at
+    (rw (c.as_str-token.ensures, c.usage_number-usage.ensures) at
+    (rw (c.params-to_sql-4.ensures, c.params-to_sql-5.ensures, c.merchant_text-m.ensures) at
+    (rw (c.params-to_sql.ensures, c.params-to_sql-2.ensures, c.params-to_sql-3.ensures) at
+    run)))))

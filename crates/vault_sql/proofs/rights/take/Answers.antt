@@ -1,4 +1,3 @@
-use Rattle.sqlite.specs.Held.{state}
 use Rattle.sql_maps.proofs.Calls.{small}
 use Rattle.vault_sql.proofs.Calls.{makes, small_right}
 use Rattle.vault_sql.proofs.Statements.{right_taken}
@@ -6,15 +5,8 @@ use Rattle.vault_sql.proofs.rights.take.Goals as goal
 
 pub returns-clause-done : goal.returns-clause-done
 returns-clause-done g c =
-    makes c.step.result (state g.S.Store c.args.tx.now.conn.now) (state g.S.Store c.step.new.tx.conn.now) _ _
-    _ _
-    c.step.ensures.steps c.step.ensures.ran (λ h base count w can ran.
-    right_taken h base _ _ count w c.step.ensures.steps.limit
-    (c.args.caller.now, (c.args.m.now, c.args.right))
-    (rw (
-      c.params-to_sql.ensures,
-      c.params-to_sql-2.ensures,
-      c.params-to_sql-3.ensures,
-      c.number_of-what.ensures,
-      small _ (small_right c.args.right),
-    ) at ran))
+    makes c.step.ensures.steps c.step.ensures.ran (λ h base can run.
+    right_taken (c.args.caller.now, (c.args.m.now, c.args.right))
+    (rw (c.number_of-what.ensures, small _ (small_right c.args.right)) at
+    (rw (c.params-to_sql.ensures, c.params-to_sql-2.ensures, c.params-to_sql-3.ensures) at
+    run)))

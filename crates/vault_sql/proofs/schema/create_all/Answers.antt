@@ -4,14 +4,11 @@ use Rattle.sqlite.specs.State.{HasCleanDisk}
 use Rattle.sql_maps.specs.Schema.{no_schema}
 use Rattle.sql_maps.proofs.Calls.{committed, on_ok}
 use Rattle.vault_core.specs.Vault.{empty_vault}
-use Rattle.vault_schema.specs.Version1.Claims.{claims}
-use Rattle.vault_schema.proofs.Version1.AsClaims.{as_fields}
 use Rattle.vault_sql.specs.Calls.{IsWithin}
 use Rattle.vault_sql.specs.Holds.{Holds}
 use Rattle.vault_sql.specs.Making.{IsBegun, IsReady}
-use Rattle.vault_sql.specs.Schema.{vault_schema}
-use Rattle.vault_sql.specs.Stands.{Stands, lookups_of}
-use Rattle.vault_sql.proofs.Calls.{as_vault}
+use Rattle.vault_sql.specs.Stands.{lookups_of}
+use Rattle.vault_sql.proofs.Calls.{as_vault, ours}
 use Rattle.vault_sql.proofs.Making.{begun_blank}
 use Rattle.vault_sql.proofs.schema.create_all.Given.{Over}
 use Rattle.vault_sql.proofs.schema.create_all.Goals as goal
@@ -38,9 +35,8 @@ returns-clause-done g c clean =
     subst (λ h. OnOk c.commit.result
     (IsReady old → old.now.schema ≡ no_schema → Holds (state g.S.Store h) empty_vault)) same
     (on_ok c.commit.result (c.commit.ensures.ok late) (λ done is blank.
-    as_vault (state g.S.Store end) empty_vault (committed vault_schema (claims (lookups_of empty_vault))
-    (state g.S.Store c.create_tables.new.tx.conn.now) (state g.S.Store end) old.committed
-    (made g c late is blank) done.1 c.commit.ensures.survives.limit)))
+    as_vault (state g.S.Store end) empty_vault
+    (committed (made g c late is blank) done.1 c.commit.ensures.survives.limit)))
 
 pub returns-clause-crash : goal.returns-clause-crash
 returns-clause-crash g c clean is blank db left =
@@ -55,7 +51,5 @@ returns-clause-crash g c clean is blank db left =
           let at_first : (state g.S.Store c.args.conn.now).may_leave db = rw c.transaction-tx.ensures.begun at
           (c.in_ok-create_tables.ensures.steps.left middle db before) in
           inl (g.met.S.Store.settled c.args.conn.now.store db is.is_open at_first)
-      | inr wrote ↦ inr
-          (subst (λ t. Stands t empty_vault) (sym wrote)
-          (as_fields _ (lookups_of empty_vault) (made g c late is blank).stands.rows))
+      | inr wrote ↦ inr (ours empty_vault (made g c late is blank) db wrote).stands
     ]

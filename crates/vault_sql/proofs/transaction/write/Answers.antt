@@ -1,7 +1,7 @@
 use Rattle.std.proofs.Common.{◌≡◌, subst, arith, rules, inl, inr, OnOk}
 use Rattle.sqlite.specs.Held.{state}
 use Rattle.sqlite.specs.State.{HasCleanDisk}
-use Rattle.sql_maps.proofs.Calls.{begun, committed, leaves_either, on_ok, steps_then}
+use Rattle.sql_maps.proofs.Calls.{begun, committed, on_ok, steps_then}
 use Rattle.vault_core.specs.Changes.{Fit, plus}
 use Rattle.vault_core.specs.Sound.{Sound}
 use Rattle.vault_core.specs.Vault.{Vault}
@@ -10,7 +10,8 @@ use Rattle.vault_sql.specs.Calls.{IsWithin}
 use Rattle.vault_sql.specs.Holds.{Holds, LeavesEither}
 use Rattle.vault_sql.specs.Schema.{vault_schema}
 use Rattle.vault_sql.specs.Stands.{lookups_of}
-use Rattle.vault_sql.proofs.Calls.{as_held, as_ours, as_vault}
+use Rattle.vault_sql.proofs.Calls.{as_held, as_vault, ours}
+use Rattle.vault_sql.specs.Left.{last_commit}
 use Rattle.vault_sql.proofs.WrittenPlus.{has_room, written_plus}
 use Rattle.vault_sql.proofs.transaction.write.Given.{Over}
 use Rattle.vault_sql.proofs.transaction.write.Goals as goal
@@ -45,9 +46,7 @@ returns-clause-done g c clean =
     → Holds (state g.S.Store h) (plus V c.args.ch.now))) same
     (on_ok c.commit.result (c.commit.ensures.ok late) (λ done V h sound fit.
     as_vault (state g.S.Store end) (plus V c.args.ch.now)
-    (committed vault_schema (claims (lookups_of (plus V c.args.ch.now)))
-    (state g.S.Store c.write_caller.new.tx.conn.now) (state g.S.Store end) old.committed
-    (ready g c late V h sound fit) done.1 c.commit.ensures.survives.limit)))
+    (committed (ready g c late V h sound fit) done.1 c.commit.ensures.survives.limit)))
 
 pub returns-clause-crash : goal.returns-clause-crash
 returns-clause-crash g c clean V h sound fit =
@@ -55,16 +54,12 @@ returns-clause-crash g c clean V h sound fit =
     let same : end ≡ c.conn-2-1.given.0 = search rules in
     let late : HasCleanDisk (state g.S.Store end) = search rules in
     let old = state g.S.Store c.args.conn.now in
-    let both =
-    steps_then _ _ _ c.in_ok-write_merchant.ensures.done.steps c.in_ok-write_caller.ensures.done.steps in
+    let both = steps_then c.in_ok-write_merchant.ensures.done.steps c.in_ok-write_caller.ensures.done.steps in
+    let middle : HasCleanDisk (state g.S.Store c.write_caller.new.tx.conn.now) =
+    omega (arith, c.commit.ensures.survives.clean) in
     subst (λ x. LeavesEither (state g.S.Store x) V (plus V c.args.ch.now)) same (λ db left.
-    elim (leaves_either vault_schema vault_schema (claims (lookups_of V))
-    (claims (lookups_of (plus V c.args.ch.now))) old
-    (state g.S.Store c.transaction-tx.result.conn.now) (state g.S.Store c.write_caller.new.tx.conn.now)
-    (state g.S.Store end) (as_held old V h)
-    (λ db left. g.met.S.Store.settled c.args.conn.now.store db h.is_open left)
-    (λ db left. rw c.transaction-tx.ensures.begun at left)
-    both late c.commit.ensures.survives (ready g c late V h sound fit) db left) [
-      | inl before ↦ inl (as_ours V db before)
-      | inr after ↦ inr (as_ours (plus V c.args.ch.now) db after)
+    elim (c.commit.ensures.survives.crash late db left) [
+      | inl before ↦ inl (last_commit old V db h (g.met.S.Store.settled c.args.conn.now.store db h.is_open
+          (rw c.transaction-tx.ensures.begun at (both.left middle db before))))
+      | inr wrote ↦ inr (ours (plus V c.args.ch.now) (ready g c late V h sound fit) db wrote)
     ])
