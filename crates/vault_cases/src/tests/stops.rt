@@ -1,5 +1,5 @@
-//! A Tokenize that is stopped at each call to the files in turn leaves its entry, its record and its count, or
-//! none of them.
+//! A Tokenize that is stopped at each call to the files in turn leaves its entry, its record and its count,
+//! or none of them.
 use super::over::Step;
 use super::steps::{all_done, done, no_files};
 use sqlite::Files;
@@ -33,8 +33,8 @@ fn copy(alloc: Global, bytes: &[u8]) -> Memory {
     }
 }
 
-/// Sends the request over files of which one may stop. It tells how the request was answered, and what is counted
-/// after a crash.
+/// Sends the request over files of which one may stop. It tells how the request was answered, and what is
+/// counted after a crash.
 fn stopped<D: Crash + Drop>(alloc: Global, files: Files<D>) -> (String, String) {
     let (told, mut files) = done(alloc, files, Step::Ask(REQUEST));
     files.log.crash();
@@ -43,8 +43,8 @@ fn stopped<D: Crash + Drop>(alloc: Global, files: Files<D>) -> (String, String) 
     (told, held)
 }
 
-/// Stops the open and the request after no call to a file, after one, after two and so on, until the request is
-/// answered, and tells how many calls that took.
+/// Stops the open and the request after no call to a file, after one, after two and so on, until the request
+/// is answered, and tells how many calls that took.
 fn calls_until_answered(rt: &impl Abort, alloc: Global, base: &Files<Memory>, is_log: bool) -> u64 {
     for calls in 0..MOST_CALLS {
         let (log, db) = if is_log {
