@@ -27,8 +27,8 @@ impl Ran {
     }
 }
 
-/// Runs the program, and answers its status alone: it has no clause, so that no caller's proof carries those of
-/// `run`.
+/// Runs the program, and answers its status alone: it has no clause, so that no caller's proof carries those
+/// of `run`.
 fn status_of<R: Read, W: Write, E: Write>(
     rt: &HostRuntime,
     words: &[&str],

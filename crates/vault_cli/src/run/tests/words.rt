@@ -28,7 +28,7 @@ fn help_is_given_with_status_0(rt: HostRuntime) {
     assert!(rt; ran.errors.is_empty());
 }
 
-/// The status where there are no words. It has no clause, so that no caller's proof carries those of `no_words`.
+/// The status where there are no words. It has no clause, so no caller's proof carries those of `no_words`.
 fn status_without_words<W: Write, E: Write>(
     error: &Error,
     output: &mut Watched<W>,
