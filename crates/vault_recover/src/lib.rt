@@ -13,6 +13,4 @@ mod read;
 pub mod reopen;
 mod rows;
 pub mod sizes;
-#[cfg(test)]
-mod tests;
 mod verdict;

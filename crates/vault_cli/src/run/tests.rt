@@ -2,6 +2,7 @@
 ghost use Rattle.std.specs.Prelude.{◌<◌, length};
 
 use super::run;
+use std::io::{Read, Write};
 use vault_wire::watched::Watched;
 
 /// The answer to the worked message.
@@ -26,6 +27,18 @@ impl Ran {
     }
 }
 
+/// Runs the program, and answers its status alone: it has no clause, so that no caller's proof carries those
+/// of `run`.
+fn status_of<R: Read, W: Write, E: Write>(
+    rt: &HostRuntime,
+    words: &[&str],
+    input: &mut Watched<R>,
+    output: &mut Watched<W>,
+    errors: &mut Watched<E>,
+) -> u8 {
+    run(rt, words, input, output, errors)
+}
+
 /// Runs the program on words and bytes.
 fn run_on(rt: &HostRuntime, words: &[&str], input: &[u8]) -> Ran {
     let mut output = Vec::new(rt.alloc());
@@ -33,7 +46,7 @@ fn run_on(rt: &HostRuntime, words: &[&str], input: &[u8]) -> Ran {
     let mut reader = Watched::new(input);
     let mut writer = Watched::new(&mut output);
     let mut teller = Watched::new(&mut errors);
-    let status = run(rt, words, &mut reader, &mut writer, &mut teller);
+    let status = status_of(rt, words, &mut reader, &mut writer, &mut teller);
     Ran {
         status,
         output,

@@ -3,6 +3,7 @@
 use super::files::{ends, make_folder};
 use super::{Ran, run_on};
 use std::alloc::Global;
+use std::io::{Read, Write};
 use std::process::Abort;
 use std::{fs, io};
 use vault_batch::asker::Asker;
@@ -86,6 +87,19 @@ fn shop<H: AllocGlobal + Abort>(rt: &H, asker: &Asker, now: Moment) -> Vault<Mem
     vault
 }
 
+/// Answers the rows of a reader. It has no clause, so that no caller's proof carries those of `batch_input`.
+fn answer_rows<R: Read, W: Write, T: Tables>(
+    alloc: Global,
+    input: &mut Watched<R>,
+    output: &mut Watched<W>,
+    vault: &mut Vault<T>,
+    asker: &Asker,
+    source: FixedSource,
+) {
+    let mut source = source;
+    let _ = batch_input(alloc, input, output, vault, *asker, &mut source);
+}
+
 /// The lines of a batch over a vault.
 fn lines<T: Tables>(
     alloc: Global,
@@ -94,11 +108,10 @@ fn lines<T: Tables>(
     source: FixedSource,
     input: &str,
 ) -> Vec<u8> {
-    let mut source = source;
     let mut output = Vec::new(alloc);
     let mut reader = Watched::new(input.as_bytes());
     let mut writer = Watched::new(&mut output);
-    let _ = batch_input(alloc, &mut reader, &mut writer, vault, *asker, &mut source);
+    answer_rows(alloc, &mut reader, &mut writer, vault, asker, source);
     output
 }
 

@@ -119,9 +119,9 @@ fn a_file_that_is_no_vault_is_not_opened(rt: HostRuntime) -> io::Result<()> {
     Ok(())
 }
 
-/// How the program ends where it is to serve on a port that is taken.
-fn serve_on_taken(rt: &HostRuntime, file: &str, port: u16) -> Result<Ran, Fail> {
-    let port = format!(in rt.alloc(); "{port}")?;
+/// How the program ends where it is to serve on this port.
+fn serve_on(rt: &HostRuntime, file: &str, port: u16) -> Ran {
+    let port = format!(in rt.alloc(); "{port}").unwrap_or(String::new(rt.alloc()));
     let words = [
         "vault",
         "serve",
@@ -131,11 +131,18 @@ fn serve_on_taken(rt: &HostRuntime, file: &str, port: u16) -> Result<Ran, Fail> 
         port.as_str(),
         file,
     ];
-    Ok(run_on(rt, words.as_slice(), b""))
+    run_on(rt, words.as_slice(), b"")
+}
+
+/// Whether the program stops by 80 where it is to serve on a port that is taken.
+fn stops_on_taken(rt: &HostRuntime, file: &str) -> io::Result<bool> {
+    let taken = TcpListener::bind(rt, ("127.0.0.1", 0))?;
+    let port = taken.local_addr()?.port();
+    Ok(serve_on(rt, file, port).is(4, "", "vault: stopped 80\n"))
 }
 
 #[test]
-fn each_status_goes_with_its_line(rt: HostRuntime) -> Result<(), Fail> {
+fn each_status_goes_with_its_line(rt: HostRuntime) -> io::Result<()> {
     make_folder(&rt, "statuses")?;
     let file = "statuses/vault.db";
     let set = [
@@ -148,9 +155,7 @@ fn each_status_goes_with_its_line(rt: HostRuntime) -> Result<(), Fail> {
     assert!(rt; ends(&rt, unread.as_slice(), 2, "", "vault: bad words\n"));
     let folder = ["vault", "check", "statuses"];
     assert!(rt; ends(&rt, folder.as_slice(), 3, "", "vault: file not opened 34\n"));
-    let taken = TcpListener::bind(&rt, ("127.0.0.1", 0))?;
-    let port = taken.local_addr()?.port();
-    assert!(rt; serve_on_taken(&rt, file, port)?.is(4, "", "vault: stopped 80\n"));
+    assert!(rt; stops_on_taken(&rt, file)?);
     let check = ["vault", "check", file];
     assert!(rt; ends(&rt, check.as_slice(), 0, "sound 1 0 0\n", ""));
     Ok(())

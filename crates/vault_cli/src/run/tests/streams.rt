@@ -1,7 +1,6 @@
 //! Readers and writers that fail.
 
-use super::asking;
-use crate::run::run;
+use super::{asking, status_of};
 use std::io::{Error, ErrorKind, Read, Result, Write};
 use vault_wire::watched::Watched;
 
@@ -52,7 +51,7 @@ where
     let mut teller = Watched::new(&mut errors);
     let mut reader = Watched::new(reader);
     let mut writer = Watched::new(writer);
-    let status = run(rt, words.as_slice(), &mut reader, &mut writer, &mut teller);
+    let status = status_of(rt, words.as_slice(), &mut reader, &mut writer, &mut teller);
     status == 4 && errors.as_slice() == line
 }
 

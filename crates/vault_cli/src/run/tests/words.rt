@@ -2,7 +2,7 @@
 
 use super::run_on;
 use crate::run::no_words;
-use std::io::{Error, ErrorKind};
+use std::io::{Error, ErrorKind, Write};
 use vault_wire::watched::Watched;
 
 #[test]
@@ -28,13 +28,22 @@ fn help_is_given_with_status_0(rt: HostRuntime) {
     assert!(rt; ran.errors.is_empty());
 }
 
+/// The status where there are no words. It has no clause, so no caller's proof carries those of `no_words`.
+fn status_without_words<W: Write, E: Write>(
+    error: &Error,
+    output: &mut Watched<W>,
+    errors: &mut Watched<E>,
+) -> u8 {
+    no_words(error, output, errors)
+}
+
 /// What is said where there are no words: the status and the line on the errors.
 fn no_words_for(rt: &HostRuntime, kind: ErrorKind) -> (u8, Vec<u8>) {
     let mut output = Vec::new(rt.alloc());
     let mut errors = Vec::new(rt.alloc());
     let mut writer = Watched::new(&mut output);
     let mut teller = Watched::new(&mut errors);
-    let status = no_words(&Error::from(kind), &mut writer, &mut teller);
+    let status = status_without_words(&Error::from(kind), &mut writer, &mut teller);
     (status, errors)
 }
 

@@ -1,8 +1,8 @@
 //! Worked cases, over ordered maps and over a database: both give the same answers, none of which is a fault.
-use super::files::{asked_of, no_files};
+use super::over::Step;
 use super::script::wrong;
+use super::steps::outcome;
 use std::alloc::Global;
-use std::test::Fail;
 use vault_store::memory::MemTables;
 use vault_store::vault::Vault;
 
@@ -89,25 +89,19 @@ const CASES: [&str; 8] = [
     TAKEN, GIVEN, EXPIRED, MULTI, REUSED, DENIED, SHOWN, WITHDRAWN,
 ];
 
-/// The first line that ordered maps answer otherwise.
-fn over_maps(alloc: Global, lines: &str) -> Result<String, Fail> {
+/// What the lines of a case tell over ordered maps.
+fn over_maps(alloc: Global, lines: &str) -> String {
     let mut vault = Vault::new(MemTables::new(alloc));
     wrong(alloc, &mut vault, lines)
 }
 
-/// The first line that a database answers otherwise.
-fn over_database(alloc: Global, lines: &str) -> Result<String, Fail> {
-    let (told, _) = asked_of(alloc, no_files(alloc), lines)?;
-    Ok(told)
-}
-
 #[test]
-fn plain_runs(rt: HostRuntime) -> Result<(), Fail> {
+fn plain_runs(rt: HostRuntime) {
     for lines in CASES {
-        let maps = over_maps(rt.alloc(), lines)?;
-        assert!(rt; maps.as_str() == "", "over maps: {maps}");
-        let tables = over_database(rt.alloc(), lines)?;
-        assert!(rt; tables.as_str() == "", "over a database: {tables}");
+        assert_eq!(rt; over_maps(rt.alloc(), lines).as_str(), "answered");
+        assert_eq!(rt;
+            outcome(rt.alloc(), &[Step::Ask(lines)]).as_str(),
+            "answered; "
+        );
     }
-    Ok(())
 }

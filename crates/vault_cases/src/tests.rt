@@ -1,8 +1,9 @@
 //! Vaults over databases: worked cases, stops, and files that were changed.
 mod changed;
-mod files;
 mod fresh;
+mod over;
 mod reopened;
 mod rows;
 mod script;
+mod steps;
 mod stops;

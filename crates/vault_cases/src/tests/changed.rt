@@ -1,0 +1,44 @@
+//! Files that were changed by statements of SQL: the check and the open refuse both, with the same number.
+use super::over::Step;
+use super::steps::outcome;
+use std::test::Fail;
+
+/// A single-use token of one merchant.
+const VAULT: &str = "open till-1 shop1 60 0 1000 = done
+tokenize till-1 shop1 7 single 4111111111111111 0 1000 = 0000000000001111 1060";
+
+/// Statements, and how the changed file is refused.
+const CASES: [(&str, &str); 13] = [
+    ("UPDATE counts SET total = 2 WHERE kind = 1", "31 10"),
+    ("UPDATE records SET usage = 2", "31 11"),
+    (
+        "UPDATE counts SET total = 2 WHERE kind = 1; UPDATE records SET usage = 2",
+        "31 10",
+    ),
+    ("DELETE FROM vault", "31 1"),
+    ("UPDATE entries SET token = '4111111111111111'", "31 5"),
+    ("UPDATE entries SET number = '4222222222222'", "31 6"),
+    ("UPDATE entries SET birth = 1001", "31 7"),
+    ("UPDATE entries SET number = NULL", "31 8"),
+    ("DELETE FROM merchants", "31 4"),
+    ("UPDATE rights SET what = 7 WHERE what = 6", "31 12"),
+    ("UPDATE vault SET version = 9", "30 9"),
+    ("DROP TABLE rights", "30 0"),
+    ("CREATE TABLE notes (line TEXT)", "30 0"),
+];
+
+#[test]
+fn a_changed_file_is_refused_by_its_least_broken_rule(rt: HostRuntime) -> Result<(), Fail> {
+    let alloc = rt.alloc();
+    for (sql, refused) in CASES {
+        let steps = [
+            Step::Ask(VAULT),
+            Step::Change(sql),
+            Step::Check,
+            Step::Ask(""),
+        ];
+        let wanted = format!(in alloc; "answered; changed; {refused}; {refused}; ")?;
+        assert_eq!(rt; outcome(alloc, &steps).as_str(), wanted.as_str(), "{sql}");
+    }
+    Ok(())
+}
