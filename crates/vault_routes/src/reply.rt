@@ -100,7 +100,6 @@ pub fn body_of(alloc: Global, reply: &Reply) -> Result<Vec<u8>, AllocError>
 #[cfg(test)]
 mod tests {
     use super::*;
-    use std::test::Fail;
     use vault_core::moment::Moment;
     use vault_core::reply::State;
     use vault_core::usage::Use;
@@ -109,9 +108,9 @@ mod tests {
     use vault_pan::token::Token;
 
     #[test]
-    fn a_reply_is_one_line_of_json(rt: HostRuntime) -> Result<(), Fail> {
-        let token = Token::read(b"0000000000001111")?;
-        let number = Pan::read(b"4111111111111111")?;
+    fn a_reply_is_one_line_of_json(rt: HostRuntime) {
+        let token = Token::read(b"0000000000001111").expect(&rt, "a token");
+        let number = Pan::read(b"4111111111111111").expect(&rt, "a card number");
         let birth = Moment::new(1000).expect(&rt, "a moment");
         let cases: [(Reply, &[u8]); 6] = [
             (Reply::Done, b"{\"done\":true}"),
@@ -145,9 +144,8 @@ mod tests {
             (Reply::Refused(57), b"{\"refused\":57}"),
         ];
         for (reply, text) in cases {
-            let body = body_of(rt.alloc(), &reply)?;
+            let body = body_of(rt.alloc(), &reply).expect(&rt, "memory");
             assert!(rt; body.as_slice() == text, "{body:?}");
         }
-        Ok(())
     }
 }

@@ -81,11 +81,10 @@ pub fn names_its_target()
 #[cfg(test)]
 mod tests {
     use super::*;
-    use std::test::Fail;
 
     #[test]
-    fn a_whole_target_has_a_route(rt: HostRuntime) -> Result<(), Fail> {
-        let routes = Routes::new(rt.alloc())?;
+    fn a_whole_target_has_a_route(rt: HostRuntime) {
+        let routes = Routes::new(rt.alloc()).expect(&rt, "memory");
         for (target, place, token) in [
             ("/v1/merchants/shop1/tokens", Place::Tokens, ""),
             ("/v1/merchants/shop1/tokens/12", Place::Token, "12"),
@@ -94,18 +93,17 @@ mod tests {
             ("/v1/merchants/shop1/tokens/number", Place::Token, "number"),
             ("/v1/merchants/shop1/audit", Place::Audit, ""),
         ] {
-            let route = routes.find(target).ok_or("no route")?;
+            let route = routes.find(target).expect(&rt, "a route");
             assert_eq!(rt; route.place, place);
             assert_eq!(rt; route.merchant, "shop1");
             assert_eq!(rt; route.token, token);
         }
         names_its_target();
-        Ok(())
     }
 
     #[test]
-    fn all_else_has_none(rt: HostRuntime) -> Result<(), Fail> {
-        let routes = Routes::new(rt.alloc())?;
+    fn all_else_has_none(rt: HostRuntime) {
+        let routes = Routes::new(rt.alloc()).expect(&rt, "memory");
         for target in [
             "/v1/merchants//tokens",
             "/v1/merchants/shop1",
@@ -123,6 +121,5 @@ mod tests {
         ] {
             assert!(rt; routes.find(target).is_none(), "{target} has a route");
         }
-        Ok(())
     }
 }

@@ -1,28 +1,45 @@
 use super::*;
+use std::process::Abort;
 use std::test::Fail;
 use vault_wire::message::first_message;
 
 // What a message is answered, by the number of its refusal; 0 for a command.
-fn refusal(rt: &HostRuntime, bytes: &[u8]) -> Result<u8, Fail> {
-    match asked(rt, bytes)? {
-        Ok(_) => Ok(0),
-        Err(fault) => Ok(fault.number()),
+fn refusal<H: AllocGlobal + Abort>(rt: &H, bytes: &[u8]) -> u8 {
+    match asked(rt, bytes) {
+        Ok(_) => 0,
+        Err(fault) => fault.number(),
     }
 }
 
-fn asked(rt: &HostRuntime, bytes: &[u8]) -> Result<Result<Command, HttpFault>, Fail> {
+// The command of the first message in bytes, at the moment 1000 and with digits 0.
+fn asked<H: AllocGlobal + Abort>(rt: &H, bytes: &[u8]) -> Result<Command, HttpFault> {
     let alloc = rt.alloc();
-    let routes = Routes::new(alloc)?;
-    let Ok(Some(message)) = first_message(alloc, bytes) else {
-        return Err("no message".into());
-    };
-    let now = Moment::new(1000)?;
-    let digits = Digits::new(&[0; 300]).ok_or("no digits")?;
-    Ok(command_of(alloc, &routes, &message, now, digits))
+    let routes = Routes::new(alloc).expect(rt, "memory");
+    let message = first_message(alloc, bytes).expect(rt, "a sound message");
+    let message = message.expect(rt, "a whole message");
+    let now = Moment::new(1000).expect(rt, "a moment");
+    let digits = Digits::new(&[0; 300]).expect(rt, "digits");
+    command_of(alloc, &routes, &message, now, digits)
+}
+
+// What a message by `till-1` with this method and target is answered: the number of its refusal,
+// 0 for a command, and the methods that the refusal allows.
+fn answer<H: AllocGlobal + Abort>(
+    rt: &H,
+    method: &str,
+    target: &str,
+) -> (u8, Option<&'static str>) {
+    let text = format!(in rt.alloc();
+        "{method} {target} HTTP/1.1\r\nX-Vault-Caller: till-1\r\n\r\n"
+    ).expect(rt, "memory");
+    match asked(rt, text.as_bytes()) {
+        Ok(_) => (0, None),
+        Err(fault) => (fault.number(), fault.allow()),
+    }
 }
 
 #[test]
-fn each_route_takes_its_methods(rt: HostRuntime) -> Result<(), Fail> {
+fn each_route_takes_its_methods(rt: HostRuntime) {
     let targets = [
         ("/v1/merchants/shop1/tokens", "POST", 58),
         ("/v1/merchants/shop1/tokens/0000000000001111", "GET", 0),
@@ -38,35 +55,25 @@ fn each_route_takes_its_methods(rt: HostRuntime) -> Result<(), Fail> {
         ),
         ("/v1/merchants/shop1/audit", "GET", 0),
     ];
-    for (target, allowed, answer) in targets {
+    for (target, allowed, taken) in targets {
         for method in ["GET", "POST", "DELETE", "PUT", "get", "post"] {
-            let text = format!(in rt.alloc();
-                "{method} {target} HTTP/1.1\r\nX-Vault-Caller: till-1\r\n\r\n"
-            )?;
-            match asked(&rt, text.as_bytes())? {
-                Ok(_) => {
-                    assert_eq!(rt; method, allowed);
-                    assert_eq!(rt; answer, 0);
-                }
-                Err(fault) if method == allowed => {
-                    assert_eq!(rt; fault.number(), answer);
-                    assert!(rt; fault.allow().is_none());
-                }
-                Err(fault) => {
-                    assert_eq!(rt; fault.number(), 57);
-                    assert_eq!(rt; fault.allow().unwrap_or(""), allowed);
-                }
+            let (number, allow) = answer(&rt, method, target);
+            if method == allowed {
+                assert_eq!(rt; number, taken);
+                assert!(rt; allow.is_none());
+            } else {
+                assert_eq!(rt; number, 57);
+                assert!(rt; allow == Some(allowed));
             }
         }
     }
-    Ok(())
 }
 
 #[test]
 fn a_command_has_what_the_message_says(rt: HostRuntime) -> Result<(), Fail> {
     let bytes =
         b"POST /v1/merchants/shop1/tokens/0000000000001111/number HTTP/1.1\r\nx-vault-CALLER: till-1\r\n\r\n";
-    let command = asked(&rt, bytes)?.expect(&rt, "a command");
+    let command = asked(&rt, bytes).expect(&rt, "a command");
     let Command::Detokenize {
         caller,
         merchant,
@@ -84,7 +91,7 @@ fn a_command_has_what_the_message_says(rt: HostRuntime) -> Result<(), Fail> {
 }
 
 #[test]
-fn the_first_refusal_is_answered(rt: HostRuntime) -> Result<(), Fail> {
+fn the_first_refusal_is_answered(rt: HostRuntime) {
     let heads: [(&[u8], u8); 9] = [
         (b"GET /v1/merchants/shop1/audits HTTP/1.1\r\n\r\n", 56),
         (b"PUT /v1/merchants/shop1/audit HTTP/1.1\r\n\r\n", 57),
@@ -115,13 +122,24 @@ fn the_first_refusal_is_answered(rt: HostRuntime) -> Result<(), Fail> {
         ),
     ];
     for (bytes, number) in heads {
-        assert_eq!(rt; refusal(&rt, bytes)?, number);
+        assert_eq!(rt; refusal(&rt, bytes), number);
     }
-    Ok(())
+}
+
+// A request for a token with this body.
+fn ordering<H: AllocGlobal + Abort>(rt: &H, body: &[u8]) -> Vec<u8> {
+    let size = body.len();
+    let fields = "X-Vault-Caller: till-1\r\nX-Vault-Request: 7\r\n";
+    let head = format!(in rt.alloc();
+        "POST /v1/merchants/shop1/tokens HTTP/1.1\r\n{fields}Content-Length: {size}\r\n\r\n"
+    ).expect(rt, "memory");
+    let mut bytes = Vec::from_slice(rt.alloc(), head.as_bytes()).expect(rt, "memory");
+    bytes.extend_from_slice(body).expect(rt, "memory");
+    bytes
 }
 
 #[test]
-fn a_body_is_read_in_order(rt: HostRuntime) -> Result<(), Fail> {
+fn a_body_is_read_in_order(rt: HostRuntime) {
     let bodies: [(&[u8], u8); 8] = [
         (b"{\"number\":\"4111111111111111\",\"use\":\"single\"}", 0),
         (
@@ -139,14 +157,6 @@ fn a_body_is_read_in_order(rt: HostRuntime) -> Result<(), Fail> {
         (b"{\"number\":\"4111111111111111\",\"use\":\"none\"}", 19),
     ];
     for (body, number) in bodies {
-        let size = body.len();
-        let fields = "X-Vault-Caller: till-1\r\nX-Vault-Request: 7\r\n";
-        let head = format!(in rt.alloc();
-            "POST /v1/merchants/shop1/tokens HTTP/1.1\r\n{fields}Content-Length: {size}\r\n\r\n"
-        )?;
-        let mut bytes = Vec::from_slice(rt.alloc(), head.as_bytes())?;
-        bytes.extend_from_slice(body)?;
-        assert_eq!(rt; refusal(&rt, &bytes)?, number);
+        assert_eq!(rt; refusal(&rt, &ordering(&rt, body)), number);
     }
-    Ok(())
 }
