@@ -5,9 +5,10 @@ set -eu
 . "$(dirname "$0")/shared/steps.sh"
 need sqlite3
 
-# Statements of SQL over a copy of the shop's file, and what the check says of it then.
+# Statements of SQL over a backup of the shop's file, and what the check says of it then.
 changed() {
-    cp shop.db changed.db
+    rm -f changed.db changed.db-*
+    cp backup.db changed.db
     sqlite3 changed.db "$1"
     told "$program" check changed.db
 }
@@ -20,6 +21,7 @@ step "a shop's file" 'sound 1 3 3 (0)' "$(told "$program" check shop.db)"
 
 # Copies need nothing.
 cp shop.db copied.db
+cp shop.db-wal copied.db-wal
 step "a copy" 'sound 1 3 3 (0)' "$(told "$program" check copied.db)"
 sqlite3 shop.db ".backup backup.db"
 step "a backup by sqlite3" 'sound 1 3 3 (0)' "$(told "$program" check backup.db)"
