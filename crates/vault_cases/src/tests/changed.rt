@@ -8,7 +8,7 @@ const VAULT: &str = "open till-1 shop1 60 0 1000 = done
 tokenize till-1 shop1 7 single 4111111111111111 0 1000 = 0000000000001111 1060";
 
 /// Statements, and how the changed file is refused.
-const CASES: [(&str, &str); 13] = [
+const CASES: [(&str, &str); 18] = [
     ("UPDATE counts SET total = 2 WHERE kind = 1", "31 10"),
     ("UPDATE records SET usage = 2", "31 11"),
     (
@@ -25,6 +25,17 @@ const CASES: [(&str, &str); 13] = [
     ("UPDATE vault SET version = 9", "30 9"),
     ("DROP TABLE rights", "30 0"),
     ("CREATE TABLE notes (line TEXT)", "30 0"),
+    ("CREATE INDEX by_token ON records (token)", "30 0"),
+    ("DROP INDEX entries_number", "30 0"),
+    ("UPDATE vault SET version = -1", "30 -1"),
+    (
+        "DROP TABLE counts; CREATE TABLE counts (merchant TEXT NOT NULL, kind INTEGER NOT NULL, total INTEGER NOT NULL, PRIMARY KEY (merchant, kind)) STRICT",
+        "33",
+    ),
+    (
+        "DROP TABLE rights; CREATE TABLE RIGHTS (caller TEXT NOT NULL, merchant TEXT NOT NULL, what INTEGER NOT NULL, PRIMARY KEY (caller, merchant, what)) STRICT",
+        "33",
+    ),
 ];
 
 #[test]
