@@ -4,7 +4,7 @@ mod keys;
 mod tables;
 
 use sqlite_schema::schema::Kind;
-pub use tables::is_schema;
+pub use tables::{is_schema, is_table};
 
 /// A column of a STRICT table, by its name and its type.
 pub enum ColumnShape<'a> {

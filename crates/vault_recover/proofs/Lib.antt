@@ -15,3 +15,4 @@ pub mod Standing
 pub mod Stood
 pub mod Tallies
 pub mod VersionRows
+pub mod Versioned

@@ -1,9 +1,10 @@
 -- What holds of a result, from what holds of it.
 use Rattle.std.proofs.Common.{◌≡◌, ◌≢◌, ◌∙◌, sym, ℕ, ℤ, Ok, Err, Result, IfOk, IfErr, OnOk}
+use Rattle.sqlite.specs.Schema.{Schema}
 use Rattle.sqlite.specs.State.{State}
 use Rattle.sql_maps.specs.States.{Reads}
 use Rattle.vault_recover.specs.Faults.{IsJudged, failure}
-use Rattle.vault_recover.specs.Reading.{IsQuiet}
+use Rattle.vault_recover.specs.Reading.{IsQuiet, IsQuietWhere}
 use Rattle.vault_sql.specs.Schema.{vault_schema}
 use Rattle.vault_recover.specs.declared.fault.OpenFault.{OpenFault}
 use Rattle.vault_recover.specs.declared.fault.OpenFault.TheVariants.{WrongSchema, Damaged}
@@ -46,7 +47,20 @@ pub unjudged : (fault : ReadFault) → IsJudged (failure fault) → ⊥
 unjudged read.Memory e = e
 unjudged read.Store e = e
 
--- a query is quiet
+pub if_so : {A E P Q : Type 0} (r : Result A E) → (P → Q) → OnOk r P → OnOk r Q
+if_so (Ok a) f h = f h
+if_so (Err e) f h = h
+
+-- a query is quiet where its schema is the one that it reads
+pub quiet_where : {R E P : Type 0} {s : Schema} (result : Result R E) (old new : State)
+    → (P → old.now.schema ≡ s) → Reads s result old new → IsQuietWhere P old new
+quiet_where result old new is reads = record {
+  clean = reads.clean;
+  mode = reads.mode;
+  limit = reads.limit;
+  left = λ clean p. reads.left clean (is p);
+}
+
 pub quiet : {R E : Type 0} (result : Result R E) (old new : State) → Reads vault_schema result old new
     → IsQuiet old new
 quiet result old new reads =

@@ -22,6 +22,7 @@ use Rattle.vault_rules.specs.declared.rows.RawEntry.{RawEntry}
 use Rattle.vault_rules.specs.declared.rows.RawRecord.{RawRecord}
 use Rattle.vault_rules.specs.declared.rows.RawRight.{RawRight}
 use Rattle.vault_rules.specs.declared.rows.Rows.{Rows}
+use Rattle.vault_schema.specs.Versioned.{HasVersion}
 use Rattle.vault_sql.specs.Holds.{Holds}
 use Rattle.vault_sql.specs.Making.{IsReady}
 use Rattle.sql_maps.specs.Schema.{no_schema}
@@ -57,11 +58,22 @@ pub record IsLeastBroken (db : Database) (rule : ℕ) : Type 0 where
   pub version : other_version rows.versions.items ≡ None
   pub least : rules.IsLeastBroken rows rule
 
--- the row of `vault` with the id 1 says this version, which isn't 1
+-- the database has a version: the row of `vault` with the id 1 says this one, which isn't 1
 pub record IsOtherVersion (db : Database) (n : ℤ) : Type 0 where
+  pub first : HasVersion db.schema
   pub versions : List RawVersion
   pub are : AreVersions db.trees versions
   pub says : other_version versions ≡ Some n
+
+-- the row of `vault` with the id 1 says the version 1, or there is no such row
+pub record IsThisVersion (db : Database) : Type 0 where
+  pub versions : List RawVersion
+  pub are : AreVersions db.trees versions
+  pub says : other_version versions ≡ None
+
+-- another version is told nowhere
+abbrev pub SaysNoOther : Database → Type 0
+SaysNoOther db = HasVersion db.schema → IsThisVersion db
 
 -- the database stands for a sound vault
 pub record StandsSound (db : Database) : Type 0 where
@@ -82,17 +94,25 @@ pub record HoldsSound (s : State) : Type 0 where
   pub sound : Sound vault
   pub holds : Holds s vault
 
--- the version is another one, or 0 where some of a vault's names are taken and not all, or not alone
+-- another version, wherever one is told; else 0, where some of a vault's names are taken and not all, or not alone
 abbrev pub IsWrong : Database → ℤ → Type 0
-IsWrong db n = (n ≡ pos 0) × IsMixed db.schema vault_names ⊎ IsOtherVersion db n
+IsWrong db n = IsOtherVersion db n ⊎ ((n ≡ pos 0) × IsMixed db.schema vault_names × SaysNoOther db)
+
+-- a refusal by another version, or this one where no other is told
+abbrev pub TellsVersion : Database → OpenFault → OpenFault → Type 0
+TellsVersion db refusal e = ((n : ℤ) × (e ≡ WrongSchema n) × IsOtherVersion db n) ⊎ ((e ≡ refusal) × SaysNoOther db)
 
 -- the database stands for a sound vault, or has no table, index or view
 abbrev pub IsFit : Database → Type 0
 IsFit db = StandsSound db ⊎ (db.schema ≡ no_schema)
 
--- what is answered to a database that isn't fit: neither a wrong schema nor damage
+-- what may be answered to a database in another schema: no damage
+abbrev pub IsNoDamage : OpenFault → Type 0
+IsNoDamage e = (rule : ℕ) → e ≢ Damaged rule
+
+-- what may be answered to a database that is fit: neither a wrong schema nor damage
 abbrev pub IsNoRefusal : OpenFault → Type 0
-IsNoRefusal e = ((n : ℤ) → e ≢ WrongSchema n) × ((rule : ℕ) → e ≢ Damaged rule)
+IsNoRefusal e = ((n : ℤ) → e ≢ WrongSchema n) × IsNoDamage e
 
 -- A vault's tables hold a sound vault and are as they were, so a vault that they stand for is held; without a
 -- table they hold the empty vault.

@@ -27,10 +27,14 @@ pub record IsOurs (db : Database) : Type 0 where
   pub schema : db.schema ≡ vault_schema
   pub full : IsFull db
 
--- Whether or not it failed, a call made no doubt of the disk go away, no transaction and no limit, and a crash
--- leaves nothing that it did not leave before.
-pub record IsQuiet (old new : State) : Type 0 where
+-- Whether or not it failed, a call made no doubt of the disk go away, no transaction and no limit; and where
+-- this is so, a crash leaves nothing that it did not leave before.
+pub record IsQuietWhere (P : Type 0) (old new : State) : Type 0 where
   pub clean : doubt old.is_clean ≤ doubt new.is_clean
   pub mode : old.in_transaction ≡ false → new.in_transaction ≡ false
   pub limit : new.step_limit ≡ old.step_limit
-  pub left : HasCleanDisk new → old.now.schema ≡ vault_schema → LeavesNoMore old new
+  pub left : HasCleanDisk new → P → LeavesNoMore old new
+
+-- so of a database in the schema of a vault
+abbrev pub IsQuiet : State → State → Type 0
+IsQuiet old new = IsQuietWhere (old.now.schema ≡ vault_schema) old new

@@ -14,3 +14,4 @@ pub mod reopen;
 mod rows;
 pub mod sizes;
 mod verdict;
+mod version;

@@ -1,18 +1,19 @@
 //! A vault is opened from a file.
-ghost use Rattle.std.specs.Prelude.{◌≡◌, ℤ, ℕ, pos, false, None, Err, IfOk, IfErr, OnOk};
+ghost use Rattle.std.specs.Prelude.{◌≡◌, ℤ, ℕ, pos, false, None, Err, IfOk, IfErr, IsErrAnd, OnOk};
 ghost use Rattle.sqlite.specs.Held.{state};
 ghost use Rattle.sqlite.specs.State.{HasCleanDisk, IsUnchanged};
 ghost use Rattle.vault_recover.specs.Faults.{IsJudged};
 ghost use Rattle.vault_recover.specs.Names.{IsForeign, IsMixed, vault_names};
-ghost use Rattle.vault_recover.specs.Opened.{IsFit, IsLeastBroken, IsNoRefusal, IsWrong, LeavesFound, Opens};
-ghost use Rattle.vault_recover.specs.Reading.{IsFull, IsQuiet};
+ghost use Rattle.vault_recover.specs.Opened.{IsFit, IsLeastBroken, IsNoDamage, IsNoRefusal, IsWrong, LeavesFound, Opens};
+ghost use Rattle.vault_recover.specs.Reading.{IsFull, IsQuietWhere};
 ghost use Rattle.sql_maps.specs.Schema.{no_schema};
-ghost use Rattle.vault_sql.specs.Schema.{vault_schema};
+ghost use Rattle.vault_schema.specs.Versioned.{HasVersion};
 ghost use Rattle.vault_store.specs.Applied.{is_broken, tables_of};
 
 use crate::fault::OpenFault;
 use crate::names::{Holder, holder_in};
 use crate::verdict::verdict;
+use crate::version::version_or;
 use sqlite::{Alter, Connection};
 use std::alloc::Global;
 use vault_sql::schema::make_schema;
@@ -28,13 +29,17 @@ fn ready<S: Alter>(alloc: Global, conn: &mut Connection<S>) -> Result<(), OpenFa
     ensures wrong { HasCleanDisk (state S.Store conn.new) → IfErr result (λ e. (n : ℤ) → e ≡ OpenFault.WrongSchema n → IsWrong (state S.Store conn.old).now n) }
     ensures never { HasCleanDisk (state S.Store conn.new) → IfErr result (λ e. IsFit (state S.Store conn.old).now → IsNoRefusal e) }
     ensures left { HasCleanDisk (state S.Store conn.new) → LeavesFound (state S.Store conn.old) (state S.Store conn.new) }
-    ensures mixed { IsForeign (state S.Store conn.old).now.schema → IsMixed (state S.Store conn.old).now.schema vault_names
+    ensures mixed { IsForeign (state S.Store conn.old).now.schema → ¬ HasVersion (state S.Store conn.old).now.schema
+        → IsMixed (state S.Store conn.old).now.schema vault_names
         → (result ≡ Err (OpenFault.WrongSchema (pos 0))) × (conn.new ≡ conn.old) }
-    ensures strange { IsForeign (state S.Store conn.old).now.schema → ¬ IsMixed (state S.Store conn.old).now.schema vault_names
+    ensures strange { IsForeign (state S.Store conn.old).now.schema → ¬ HasVersion (state S.Store conn.old).now.schema
+        → ¬ IsMixed (state S.Store conn.old).now.schema vault_names
         → (result ≡ Err OpenFault.Store) × (conn.new ≡ conn.old) }
+    ensures foreign { IsForeign (state S.Store conn.old).now.schema → IsErrAnd result IsNoDamage }
     ensures sees { HasCleanDisk (state S.Store conn.new) → IfErr result (λ e. IsJudged e
-        → (state S.Store conn.old).now.schema ≡ vault_schema → IsUnchanged (state S.Store conn.old) (state S.Store conn.new)) }
-    ensures quiet { ¬ ((state S.Store conn.old).now.schema ≡ no_schema) → IsQuiet (state S.Store conn.old) (state S.Store conn.new) }
+        → HasVersion (state S.Store conn.old).now.schema → IsUnchanged (state S.Store conn.old) (state S.Store conn.new)) }
+    ensures quiet { ¬ ((state S.Store conn.old).now.schema ≡ no_schema)
+        → IsQuietWhere (HasVersion (state S.Store conn.old).now.schema) (state S.Store conn.old) (state S.Store conn.new) }
     ensures idle { conn.new.in_transaction ≡ false }
 {
     let _settled = conn.is_autocommit();
@@ -47,16 +52,16 @@ fn ready<S: Alter>(alloc: Global, conn: &mut Connection<S>) -> Result<(), OpenFa
             Ok(_) => Ok(()),
             Err(fault) => Err(fault),
         },
-        Holder::Mixed => Err(OpenFault::WrongSchema(0)),
-        Holder::Other => Err(OpenFault::Store),
+        Holder::Mixed => Err(version_or(alloc, conn, OpenFault::WrongSchema(0))),
+        Holder::Other => Err(version_or(alloc, conn, OpenFault::Store)),
     }
 }
 
 /// Opens the vault in a file; a refusal hands the connection back. A file without any table gets the tables of
 /// the empty vault in one transaction. A file with a vault's tables is checked whole and not written.
 ///
-/// Refused by 30 with the version that the file says, where it isn't 1, or with 0 where some of a vault's names
-/// are there and one is missing, or others stand beside them; by 31 with the least rule that the rows break; by
+/// Refused by 30 with the version that the file says, where it isn't 1 and its table stands first, whatever else
+/// there is; or with 0 where some of a vault's names are there and one is missing, or others stand beside them; by 31 with the least rule that the rows break; by
 /// 32 where memory ran out; by 33 where the database failed, the tables are another program's alone, or a vault's
 /// tables stand in another order or form than this program makes them. A refused file is as it was; but after 33
 /// one without any table may have those of the empty vault. After 30 and 31 the connection sees what it saw.
@@ -73,13 +78,17 @@ pub fn open<S: Alter>(
     ensures never { IfErr result (λ e. HasCleanDisk (state S.Store e.1) → IsFit (state S.Store conn).now → IsNoRefusal e.0) }
     ensures left { IfOk result (λ vault. HasCleanDisk (state S.Store (tables_of vault).conn) → LeavesFound (state S.Store conn) (state S.Store (tables_of vault).conn)) }
     ensures left_refused { IfErr result (λ e. HasCleanDisk (state S.Store e.1) → LeavesFound (state S.Store conn) (state S.Store e.1)) }
-    ensures mixed { IsForeign (state S.Store conn).now.schema → IsMixed (state S.Store conn).now.schema vault_names
+    ensures mixed { IsForeign (state S.Store conn).now.schema → ¬ HasVersion (state S.Store conn).now.schema
+        → IsMixed (state S.Store conn).now.schema vault_names
         → result ≡ Err (OpenFault.WrongSchema (pos 0), conn) }
-    ensures strange { IsForeign (state S.Store conn).now.schema → ¬ IsMixed (state S.Store conn).now.schema vault_names
+    ensures strange { IsForeign (state S.Store conn).now.schema → ¬ HasVersion (state S.Store conn).now.schema
+        → ¬ IsMixed (state S.Store conn).now.schema vault_names
         → result ≡ Err (OpenFault.Store, conn) }
+    ensures foreign { IsForeign (state S.Store conn).now.schema → IsErrAnd result (λ e. IsNoDamage e.0) }
     ensures sees { IfErr result (λ e. HasCleanDisk (state S.Store e.1) → IsJudged e.0
-        → (state S.Store conn).now.schema ≡ vault_schema → IsUnchanged (state S.Store conn) (state S.Store e.1)) }
-    ensures quiet { IfErr result (λ e. ¬ ((state S.Store conn).now.schema ≡ no_schema) → IsQuiet (state S.Store conn) (state S.Store e.1)) }
+        → HasVersion (state S.Store conn).now.schema → IsUnchanged (state S.Store conn) (state S.Store e.1)) }
+    ensures quiet { IfErr result (λ e. ¬ ((state S.Store conn).now.schema ≡ no_schema)
+        → IsQuietWhere (HasVersion (state S.Store conn).now.schema) (state S.Store conn) (state S.Store e.1)) }
     ensures idle { IfErr result (λ e. e.1.in_transaction ≡ false) }
 {
     let mut conn = conn;

@@ -4,8 +4,10 @@ ghost use Rattle.std.specs.Prelude.{◌≡◌, map, IfOk, OnOk};
 ghost use Rattle.sqlite.specs.Effect.{IsDatabase};
 ghost use Rattle.sqlite.specs.Held.{state};
 ghost use Rattle.sqlite.specs.State.{HasCleanDisk, IsUnchanged};
+ghost use Rattle.vault_recover.specs.Opened.{AreVersions};
 ghost use Rattle.vault_recover.specs.Raw.{version_values, merchant_values, count_values, entry_values, record_values, right_values};
-ghost use Rattle.vault_recover.specs.Reading.{IsOurs, IsQuiet, shown_by, version_columns};
+ghost use Rattle.vault_recover.specs.Reading.{IsOurs, IsQuiet, IsQuietWhere, shown_by, version_columns};
+ghost use Rattle.vault_schema.specs.Versioned.{HasVersion};
 ghost use Rattle.vault_sql.specs.Schema.{vault_schema};
 
 use crate::fault::ReadFault;
@@ -18,6 +20,23 @@ use vault_schema::v1::{
     READ_COUNTS, READ_ENTRIES, READ_MERCHANTS, READ_RECORDS, READ_RIGHTS, READ_VERSIONS,
 };
 
+/// The rows of `vault`, in whatever schema that has it.
+pub(crate) fn version_rows<S: Alter>(
+    alloc: Global,
+    conn: &mut Connection<S>,
+) -> Result<Vec<RawVersion>, ReadFault>
+    ensures told { HasCleanDisk (state S.Store conn.new) → IfOk result (λ raws. HasVersion (state S.Store conn.old).now.schema
+        → AreVersions (state S.Store conn.old).now.trees raws.items) }
+    ensures live { HasCleanDisk (state S.Store conn.new) → OnOk result (HasVersion (state S.Store conn.old).now.schema
+        → IsDatabase (state S.Store conn.old).now) }
+    ensures kept { HasCleanDisk (state S.Store conn.new) → OnOk result (HasVersion (state S.Store conn.old).now.schema
+        → IsUnchanged (state S.Store conn.old) (state S.Store conn.new)) }
+    ensures quiet { IsQuietWhere (HasVersion (state S.Store conn.old).now.schema) (state S.Store conn.old) (state S.Store conn.new) }
+{
+    let rows = rows_of(conn, READ_VERSIONS, &[])?;
+    raws::versions(alloc, &rows)
+}
+
 /// The rows of `vault`.
 pub(crate) fn versions<S: Alter>(
     alloc: Global,
@@ -28,8 +47,7 @@ pub(crate) fn versions<S: Alter>(
     ensures kept { HasCleanDisk (state S.Store conn.new) → OnOk result ((state S.Store conn.old).now.schema ≡ vault_schema → IsUnchanged (state S.Store conn.old) (state S.Store conn.new)) }
     ensures quiet { IsQuiet (state S.Store conn.old) (state S.Store conn.new) }
 {
-    let rows = rows_of(conn, READ_VERSIONS, &[])?;
-    raws::versions(alloc, &rows)
+    version_rows(alloc, conn)
 }
 
 /// The rows of `merchants`.

@@ -1,1 +1,2 @@
 pub mod Version1
+pub mod Versioned

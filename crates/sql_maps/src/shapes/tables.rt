@@ -51,7 +51,7 @@ fn has_parts(table: &Table, shape: &TableShape<'_>) -> bool
 }
 
 /// Whether a table has this shape.
-fn is_table(table: &Table, shape: &TableShape<'_>) -> bool
+pub fn is_table(table: &Table, shape: &TableShape<'_>) -> bool
     ensures { Decides result (table.now ≡ table_in shape.now) }
 {
     has_parts(table, shape)

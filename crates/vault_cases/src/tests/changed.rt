@@ -8,7 +8,7 @@ const VAULT: &str = "open till-1 shop1 60 0 1000 = done
 tokenize till-1 shop1 7 single 4111111111111111 0 1000 = 0000000000001111 1060";
 
 /// Statements, and how the changed file is refused.
-const CASES: [(&str, &str); 18] = [
+const CASES: [(&str, &str); 22] = [
     ("UPDATE counts SET total = 2 WHERE kind = 1", "31 10"),
     ("UPDATE records SET usage = 2", "31 11"),
     (
@@ -23,6 +23,16 @@ const CASES: [(&str, &str); 18] = [
     ("DELETE FROM merchants", "31 4"),
     ("UPDATE rights SET what = 7 WHERE what = 6", "31 12"),
     ("UPDATE vault SET version = 9", "30 9"),
+    ("UPDATE vault SET version = 9; DROP TABLE rights", "30 9"),
+    (
+        "UPDATE vault SET version = 2; CREATE TABLE notes (line TEXT)",
+        "30 2",
+    ),
+    (
+        "UPDATE vault SET version = 2; DROP INDEX entries_number; DROP TABLE merchants",
+        "30 2",
+    ),
+    ("DELETE FROM vault; DROP TABLE rights", "30 0"),
     ("DROP TABLE rights", "30 0"),
     ("CREATE TABLE notes (line TEXT)", "30 0"),
     ("CREATE INDEX by_token ON records (token)", "30 0"),

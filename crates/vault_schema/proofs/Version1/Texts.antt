@@ -16,6 +16,7 @@ use Rattle.sql_maps.specs.Schema.{grown}
 use Rattle.sql_maps.specs.Texts.{IsQuery, IsWrite, query_of, sorted_of, ordered_by, counting_of, by_key, eq}
 use Rattle.sql_maps.specs.Texts.{upsert, insert_or_nothing, delete}
 use Rattle.sql_maps.proofs.Full.{all_columns}
+use Rattle.vault_schema.specs.Versioned.{versioned}
 use Rattle.vault_schema.specs.Version1.Tables.{v1}
 use Rattle.vault_schema.specs.declared.v1.TheConstants.{READ_VERSIONS, READ_MERCHANTS, READ_COUNTS}
 use Rattle.vault_schema.specs.declared.v1.TheConstants.{READ_ENTRIES, READ_RECORDS, READ_RIGHTS, PUT_VERSION}
@@ -148,3 +149,10 @@ module _ (ts : List Table) (is : List Index) where
   pub take_is : IsWrite (grown v1 ts is) TAKE_RIGHT.now (delete 5 10 (by_key 3))
   unfolding understood everything
   take_is = record { is = refl; plain = (refl, refl) }
+
+-- the version is read so in each schema that has it
+module _ (ts : List Table) (is : List Index) where
+  pub read_version_is : IsQuery (versioned ts is) READ_VERSIONS.now
+      (sorted_of 0 [] (col 1 0 ∷ col 1 2 ∷ []) [] (ordered_by (0 ∷ [])))
+  unfolding understood everything
+  read_version_is = record { names = _; is = refl; plain = (refl, refl); unlisted = refl }

@@ -1,9 +1,10 @@
 //! Schema 1 as a database shows it.
 ghost use Rattle.std.specs.Prelude.{◌≡◌, Decides};
 ghost use Rattle.vault_schema.specs.Version1.Tables.{v1};
+ghost use Rattle.vault_schema.specs.Versioned.{HasVersion};
 
 use sql_maps::shapes::ColumnShape::{Optional, Present};
-use sql_maps::shapes::{IndexShape, SchemaShape, TableShape, is_schema};
+use sql_maps::shapes::{IndexShape, SchemaShape, TableShape, is_schema, is_table};
 use sqlite_schema::schema::Kind::{Integer, Text};
 use sqlite_schema::schema::Schema;
 
@@ -148,4 +149,14 @@ pub fn is_v1(schema: &Schema) -> bool
     ensures { Decides result (schema.now ≡ v1) }
 {
     is_schema(schema, &SCHEMA)
+}
+
+/// Whether the table of the version stands first, as it does in each schema of a vault, and there is no view.
+pub fn has_version(schema: &Schema) -> bool
+    ensures { Decides result (HasVersion schema.now) }
+{
+    match schema.tables.as_slice() {
+        [table, ..] => is_table(table, &VAULT) && schema.views.is_empty(),
+        [] => false,
+    }
 }

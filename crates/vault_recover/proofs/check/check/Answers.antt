@@ -3,6 +3,7 @@ use Rattle.sqlite.specs.Held.{state}
 use Rattle.vault_recover.proofs.Holders.{held_by, no_sizes}
 use Rattle.vault_recover.proofs.Judged.{no_refusal}
 use Rattle.vault_recover.proofs.Results.{if_err, if_ok}
+use Rattle.vault_recover.proofs.Versioned.{wrong_mixed, wrong_other}
 use Rattle.vault_recover.proofs.check.check.Goals as goal
 
 pub returns-in-Nobody-clause-sound : goal.returns-in-Nobody-clause-sound
@@ -20,3 +21,13 @@ returns-in-Vault-clause-never g c clean =
     no_refusal (state g.S.Store c.args.conn.now).now
     (held_by _ _ _ _ c.in-Vault.is c.schema.ensures.value c.holder_in.ensures)
     c.verdict.result (c.verdict.ensures.damaged clean) (c.verdict.ensures.versioned clean)
+
+pub returns-in-Mixed-clause-wrong : goal.returns-in-Mixed-clause-wrong
+returns-in-Mixed-clause-wrong g c clean =
+    wrong_mixed (state g.S.Store c.args.conn.now).now c.version_or.result
+    (held_by _ _ _ _ c.in-Mixed.is c.schema.ensures.value c.holder_in.ensures).1 (c.version_or.ensures.told clean)
+
+pub returns-in-Other-clause-wrong : goal.returns-in-Other-clause-wrong
+returns-in-Other-clause-wrong g c clean =
+    wrong_other (state g.S.Store c.args.conn.now).now c.version_or-in-Other.result
+    (c.version_or-in-Other.ensures.told clean)

@@ -3,6 +3,7 @@ use Rattle.sqlite.specs.Held.{state}
 use Rattle.vault_recover.proofs.Holders.{held_by}
 use Rattle.vault_recover.proofs.Judged.{no_refusal}
 use Rattle.vault_recover.proofs.Opening.{opens_vault}
+use Rattle.vault_recover.proofs.Versioned.{wrong_mixed, wrong_other}
 use Rattle.vault_recover.proofs.open.ready.Goals as goal
 
 pub returns-in-Ok-verdict-clause-opens : goal.returns-in-Ok-verdict-clause-opens
@@ -25,3 +26,13 @@ returns-in-Err-verdict-clause-never g c clean =
     no_refusal {A = Unit {0}} (state g.S.Store c.args.conn.now).now
     (held_by _ _ _ _ c.in-Vault.is c.schema.ensures.value c.holder_in.ensures)
     (Err c.in-Err-verdict.fault) (c.in-Err-verdict.ensures.damaged clean) (c.in-Err-verdict.ensures.versioned clean)
+
+pub returns-in-Mixed-clause-wrong : goal.returns-in-Mixed-clause-wrong
+returns-in-Mixed-clause-wrong g c clean =
+    wrong_mixed (state g.S.Store c.args.conn.now).now c.version_or.result
+    (held_by _ _ _ _ c.in-Mixed.is c.schema.ensures.value c.holder_in.ensures).1 (c.version_or.ensures.told clean)
+
+pub returns-in-Other-clause-wrong : goal.returns-in-Other-clause-wrong
+returns-in-Other-clause-wrong g c clean =
+    wrong_other (state g.S.Store c.args.conn.now).now c.version_or-in-Other.result
+    (c.version_or-in-Other.ensures.told clean)

@@ -1,33 +1,25 @@
-use Rattle.std.proofs.Common.{[], sym, subst, ◌∙◌}
-use Rattle.std.specs.List.Sorted.{IsPermutation}
 use Rattle.sqlite.specs.Held.{state}
-use Rattle.sql_maps.proofs.Reading.{reads_all}
-use Rattle.vault_schema.proofs.Version1.Texts.{read_versions_is}
-use Rattle.vault_recover.proofs.Results.{if_ok, on_ok, quiet}
-use Rattle.vault_sql.specs.Schema.{vault_schema}
+use Rattle.vault_recover.proofs.Results.{if_ok, if_so}
+use Rattle.vault_recover.proofs.Versioned.{has_version}
 use Rattle.vault_recover.proofs.read.versions.Goals as goal
-
-pub returns-in_err-rows-clause-quiet : goal.returns-in_err-rows-clause-quiet
-returns-in_err-rows-clause-quiet g c = quiet _ (state g.S.Store c.args.conn.now)
-    (state g.S.Store c.rows_of.new.conn) (c.rows_of.ensures.reads vault_schema (read_versions_is [] []).plain)
 
 pub returns-clause-told : goal.returns-clause-told
 returns-clause-told g c clean =
-    if_ok c.versions.result (λ raws same ours.
-    subst (IsPermutation _) (sym (same ∙ c.deref.ensures.value))
-    (reads_all vault_schema (state g.S.Store c.args.conn.now) (state g.S.Store c.rows_of.new.conn) ours
-    _ _ 0 _ _ (read_versions_is [] []) (c.in_ok-rows.ensures.told clean))) c.versions.ensures
+    let s = (state g.S.Store c.args.conn.now).now.schema in
+    if_ok c.version_rows.result (λ raws are ours. are (has_version s ours)) (c.version_rows.ensures.told clean)
 
 pub returns-clause-live : goal.returns-clause-live
 returns-clause-live g c clean =
-    on_ok c.versions.result
-    (λ ours. c.in_ok-rows.ensures.sound clean vault_schema (read_versions_is [] []).plain ours)
+    let s = (state g.S.Store c.args.conn.now).now.schema in
+    if_so c.version_rows.result (λ live ours. live (has_version s ours)) (c.version_rows.ensures.live clean)
 
 pub returns-clause-kept : goal.returns-clause-kept
 returns-clause-kept g c clean =
-    on_ok c.versions.result
-    (λ ours. (c.in_ok-rows.ensures.reads vault_schema (read_versions_is [] []).plain).kept clean ours)
+    let s = (state g.S.Store c.args.conn.now).now.schema in
+    if_so c.version_rows.result (λ kept ours. kept (has_version s ours)) (c.version_rows.ensures.kept clean)
 
 pub returns-clause-quiet : goal.returns-clause-quiet
-returns-clause-quiet g c = quiet _ (state g.S.Store c.args.conn.now) (state g.S.Store c.rows_of.new.conn)
-    (c.rows_of.ensures.reads vault_schema (read_versions_is [] []).plain)
+returns-clause-quiet g c =
+    let s = (state g.S.Store c.args.conn.now).now.schema in
+    let it = c.version_rows.ensures.quiet in
+    record { clean = it.clean; mode = it.mode; limit = it.limit; left = λ clean ours. it.left clean (has_version s ours) }
