@@ -10,6 +10,9 @@ returns-in-Ok-clause-found g c =
     opens_from (image_at g.S.Start) c.in-Some.conn c.in-Some.ensures.opened c.in-Some.ensures.again
     (tables_of c.in-Ok.vault).conn c.in-Some.ensures.either c.in-Ok.ensures.opens
 
+pub returns-in-Ok-clause-no_path : goal.returns-in-Ok-clause-no_path
+returns-in-Ok-clause-no_path g c none = there c.in-Some.conn (c.in-Some.ensures.no_path none)
+
 pub returns-in-Err-clause-no_path : goal.returns-in-Err-clause-no_path
 returns-in-Err-clause-no_path g c none = absurd (there c.in-Some.conn (c.in-Some.ensures.no_path none))
 
