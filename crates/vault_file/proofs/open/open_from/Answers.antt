@@ -8,7 +8,7 @@ use Rattle.vault_store.specs.Applied.{tables_of}
 pub returns-in-Ok-clause-found : goal.returns-in-Ok-clause-found
 returns-in-Ok-clause-found g c =
     opens_from (image_at g.S.Start) c.in-Some.conn c.in-Some.ensures.opened c.in-Some.ensures.again
-    (tables_of c.in-Ok.vault).conn c.in-Some.ensures.either c.in-Ok.ensures.opens
+    (tables_of c.in-Ok.vault).conn c.in-Some.ensures.either c.in-Some.ensures.first c.in-Ok.ensures.opens
 
 pub returns-in-Err-clause-no_path : goal.returns-in-Err-clause-no_path
 returns-in-Err-clause-no_path g c none = absurd (there c.in-Some.conn (c.in-Some.ensures.no_path none))
@@ -39,3 +39,10 @@ returns-in-Err-clause-never g c clean V sound keeps =
     c.in-Some.ensures.opened c.in-Some.ensures.again
     c.in-Err.refusal.1 c.in-Err.refusal.0
     c.in-Err.ensures.never (λ some. (c.in-Err.ensures.quiet some).clean) clean V sound keeps
+
+pub returns-in-Err-clause-left : goal.returns-in-Err-clause-left
+returns-in-Err-clause-left g c = record {
+  first = c.in-Some.conn;
+  found = c.in-Some.ensures.opened;
+  leaves = c.in-Err.ensures.left_refused;
+}
