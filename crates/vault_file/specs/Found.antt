@@ -14,10 +14,10 @@ use Rattle.vault_file.specs.Faults.{number_of}
 use Rattle.vault_file.specs.declared.fault.NotOpened.{NotOpened}
 use Rattle.vault_recover.specs.Crashed.{AreBlank, HoldsEither, IsOpenOf}
 use Rattle.vault_recover.specs.Crashed.{Keeps, KeepsEither, KeepsFirst, MayFind}
-use Rattle.vault_recover.specs.Opened.{IsSoundOf, LeavesFound, Opens}
+use Rattle.vault_recover.specs.Opened.{IsSoundOf, Opens}
 use Rattle.vault_recover.specs.Sizes.{sizes_of}
 use Rattle.vault_recover.specs.declared.sizes.Sizes.{Sizes}
-use Rattle.vault_sql.specs.Holds.{Holds}
+use Rattle.vault_sql.specs.Holds.{Holds, LeavesEither, LeavesFirst}
 use Rattle.sql_maps.specs.Schema.{no_schema}
 
 -- no file's name: nothing at all, `:memory:`, and what begins with `file:`
@@ -62,9 +62,18 @@ module _ {D : Type 0} {g : Ghosts D} where
         → (before : Trees) → AreBlank before → KeepsFirst image before
         → ∥ Holds (file_state conn) empty_vault ∥₁
 
-  -- A connection was opened over files with these bytes, and opening the vault there came to this one: a crash
-  -- leaves of it the vault that was held, or where there was no table what was there or the empty vault.
+  -- A connection was opened over files with these bytes, and this one comes from opening the vault there. A
+  -- crash leaves what was found: a vault, or one of two; where there was no table, that or the empty vault.
   pub record LeavesFrom (image : Image) (conn : Held (FileStore D g)) : Type 0 where
     pub first : Held (FileStore D g)
     pub found : HasCleanDisk (file_state first) → IsOpenOf image first
-    pub leaves : HasCleanDisk (file_state conn) → LeavesFound (file_state first) (file_state conn)
+    pub held : HasCleanDisk (file_state first) → HasCleanDisk (file_state conn)
+        → (V : Vault) → Keeps image V → LeavesEither (file_state conn) V V
+    pub either : HasCleanDisk (file_state first) → HasCleanDisk (file_state conn)
+        → (V W : Vault) → KeepsEither image V W → ∥ LeavesEither (file_state conn) V W ∥₁
+    pub blank : HasCleanDisk (file_state first) → HasCleanDisk (file_state conn)
+        → (file_state first).now.schema ≡ no_schema → AreBlank (file_state first).committed.trees
+        × LeavesFirst (file_state conn) (file_state first).committed.trees
+    pub empty : HasCleanDisk (file_state first) → HasCleanDisk (file_state conn)
+        → (before : Trees) → AreBlank before → KeepsFirst image before
+        → ∥ LeavesFirst (file_state conn) before ∥₁

@@ -90,7 +90,8 @@ pub fn close_files<D: Disk + Drop>(vault: Vault<SqlTables<FileStore<D>>>) -> Fil
         → (V : Content) → Contains AreHeld vault V → Reopens (tables_of vault).conn.store V }
     ensures after { IsClean (view result) → (V : Content) → Contains AreHeld vault V → Reopens result V }
     ensures either { IsClean (view result) → (V W : Content)
-        → LeavesEither (file_state (tables_of vault).conn) V W → ReopensEither (tables_of vault).conn.store V W }
+        → LeavesEither (file_state (tables_of vault).conn) V W
+        → ReopensEither (tables_of vault).conn.store V W }
     ensures either_after { IsClean (view result) → (V W : Content)
         → LeavesEither (file_state (tables_of vault).conn) V W → ReopensEither result V W }
 {
