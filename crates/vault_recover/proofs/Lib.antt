@@ -2,6 +2,7 @@ pub mod Backs
 pub mod Chains
 pub mod Columns
 pub mod Decoded
+pub mod Foreign
 pub mod FromStands
 pub mod Holders
 pub mod Judged

@@ -1,7 +1,10 @@
 -- Numbers that rise are the rowids of rows that are apart.
-use Rattle.std.proofs.Common.{◌≡◌, inl, inr, ℕ, ◌+◌, ◌<◌, ℤ, List, [], ◌∷◌, map, length, get_or, sym, ap, subst₂, ◌∙◌, arith, Equal, suc, Bool, Result, Ok, Err, IfOk, IsTrue}
+use Rattle.std.proofs.Common.{◌≡◌, inl, inr, ℕ, ◌+◌, ◌<◌, ℤ, List, [], ◌∷◌, map, length, get_or, sym, ap, ap₂, ◌↔◌, subst, zero, subst₂, ◌∙◌, arith, Less, Equal, Greater, false, refl, suc, Bool, Result, Ok, Err, IfOk, IsTrue}
 use Rattle.std.specs.Prelude.{◌<ℤ◌, ◌≢◌}
 use Rattle.std.specs.List.{AllByRecursion}
+use Rattle.std.specs.List.Sorted.{IsSorted}
+use Rattle.std.specs.Ordering.{int_cmp, is_lt}
+use Rattle.std.proofs.lemmas.Cmp.{int_cmp_total, int_ranked, tied_itself}
 use Rattle.std.specs.FinMap.{int_cmp-IsAntisymmetric}
 use Rattle.std.proofs.lemmas.Int.{ints}
 use Rattle.sqlite.specs.Order.{Row, value_cmp}
@@ -9,7 +12,7 @@ use Rattle.sqlite.specs.Tree.{rowid}
 use Rattle.sqlite.specs.declared.types.Value.TheVariants.{Int}
 use Rattle.sqlite_rules.specs.Lists.{Has}
 use Rattle.sqlite_rules.proofs.ListLemmas.{all_has, all_from}
-use Rattle.sqlite_rules.proofs.ProbeLemmas.{has_mapped}
+use Rattle.sqlite_rules.proofs.ProbeLemmas.{has_mapped, mapped_has}
 use Rattle.sqlite_value.proofs.OrderLemmas.{value_cmp-Int}
 use Rattle.sql_maps.specs.Rows.{IsApart}
 use Rattle.vault_recover.specs.Apart.{id_row, Rises}
@@ -37,19 +40,54 @@ rising_apart [] up = tt
 rising_apart (x ∷ xs) up = (all_from _ (map id_row xs) (λ r h e. let it = has_mapped id_row xs r h in never_tied x it.0 (all_has _ xs it.0 up.0 it.1) (ap (λ z. value_cmp (Int x) (rowid z)) (sym it.2) ∙ e)), rising_apart xs up.1)
 
 -- only the rowids count
-pub apart_by_ids : {R : Type 0} (id : R → ℤ) (values : R → Row) → ((m : R) → rowid (values m) ≡ Int (id m)) → (raws : List R) → IsApart (map id_row (map id raws)) → IsApart (map values raws)
-apart_by_ids id values is [] up = tt
-apart_by_ids id values is (m ∷ raws) up = (
-  all_from _ (map values raws) (λ r h e. let it = has_mapped values raws r h in
-      all_has _ (map id_row (map id raws)) (id_row (id it.0)) up.0 (twice id_row id raws it.0 it.1) (sym (λ i. value_cmp (is m i) (is it.0 i)) ∙ ap (λ z. value_cmp (rowid (values m)) (rowid z)) (sym it.2) ∙ e)),
-  apart_by_ids id values is raws up.1,
-)
+pub apart_by_ids : {R : Type 0} (id : R → ℤ) (values : R → Row) → ((m : R) → rowid (values m) ≡ Int (id m)) → (raws : List R)
+    → IsApart (map id_row (map id raws)) ↔ IsApart (map values raws)
+apart_by_ids id values is raws =
+    subst (λ rows. IsApart rows ↔ IsApart (map values raws)) (sym (fused id raws))
+    (on (λ m. id_row (id m)) values (λ m. sym (is m)) raws, on values (λ m. id_row (id m)) is raws)
   where
-    twice : {A B C : Type 0} (f : B → C) (g : A → B) (xs : List A) (x : A) → Has xs x → Has (map f (map g xs)) (f (g x))
-    twice f g [] x h = absurd h
-    twice f g (y ∷ xs) x (inl same) = inl (ap (λ z. f (g z)) same)
-    twice f g (y ∷ xs) x (inr later) = inr (twice f g xs x later)
+    fused : {R : Type 0} (id : R → ℤ) (raws : List R) → map id_row (map id raws) ≡ map (λ m. id_row (id m)) raws
+    fused id [] = refl
+    fused id (m ∷ raws) = ap (λ rows. id_row (id m) ∷ rows) (fused id raws)
 
-pub apart_then : {E : Type 0} (r : Result Bool E) (ids : List ℤ) (rows : List Row) → (IsApart (map id_row ids) → IsApart rows) → IfOk r (λ b. IsTrue b → IsApart (map id_row ids)) → IfOk r (λ b. IsTrue b → IsApart rows)
-apart_then (Ok b) ids rows on h = λ so. on (h so)
+    on : {R : Type 0} (f g : R → Row) → ((m : R) → rowid (f m) ≡ rowid (g m)) → (raws : List R) → IsApart (map f raws) → IsApart (map g raws)
+    on f g alike [] up = tt
+    on f g alike (m ∷ raws) up = (
+      all_from _ (map g raws) (λ r h e. let it = has_mapped g raws r h in
+          all_has _ (map f raws) (f it.0) up.0 (mapped_has f raws it.0 it.1)
+          (ap₂ value_cmp (alike m) (alike it.0 ∙ ap rowid (sym it.2)) ∙ e)),
+      on f g alike raws up.1,
+    )
+
+pub apart_then : {E : Type 0} (r : Result Bool E) (ids : List ℤ) (rows : List Row) → IsApart (map id_row ids) ↔ IsApart rows
+    → IfOk r (λ b. IsTrue b ↔ IsApart (map id_row ids)) → IfOk r (λ b. IsTrue b ↔ IsApart rows)
+apart_then (Ok b) ids rows on h = (λ so. on.0 (h.0 so), λ up. h.1 (on.1 up))
 apart_then (Err e) ids rows on h = tt
+
+pub adjacent_from : (xs : List ℤ) → Rises xs → IsAdjacent xs (length xs)
+adjacent_from [] up k d low = absurd (omega (arith, low))
+adjacent_from (x ∷ []) up k d low = absurd (omega (arith, low))
+adjacent_from (x ∷ y ∷ xs) up zero d low = up.0.0
+adjacent_from (x ∷ y ∷ xs) up (suc k) d low =
+    let next : suc (k + 1) ≡ suc k + 1 = omega arith in
+    subst (λ j. get_or (y ∷ xs) k d <ℤ get_or (x ∷ y ∷ xs) j d) next (adjacent_from (y ∷ xs) up.1 k d (omega (arith, low)))
+
+below_next : (a b : ℤ) → is_lt (int_cmp b a) ≡ false → value_cmp (Int a) (Int b) ≢ Equal → a <ℤ b
+below_next a b not_lower apart = elim (int_cmp b a) as (λ o. o ≡ int_cmp b a → a <ℤ b) [
+  | Less ↦ λ e. let off = ap is_lt e ∙ not_lower in cc
+  | Equal ↦ λ e. absurd (apart (value_cmp-Int a b ∙ ap (λ z. int_cmp z b) (sym (int_ranked b a Equal e)) ∙ tied_itself int_cmp_total b))
+  | Greater ↦ λ e. int_ranked b a Greater e
+] refl
+
+-- what is sorted and apart rises
+pub sorted_rises : (xs : List ℤ) → IsSorted int_cmp xs → IsApart (map id_row xs) → Rises xs
+sorted_rises xs sorted apart = rises_from xs (λ k d low. below_next _ _ (sorted k d (omega arith) low) (next_apart xs apart k d low))
+  where
+    next_apart : (xs : List ℤ) → IsApart (map id_row xs) → (k : ℕ) (d : ℤ) → k + 1 < length xs
+        → value_cmp (Int (get_or xs k d)) (Int (get_or xs (k + 1) d)) ≢ Equal
+    next_apart [] up k d low = absurd (omega (arith, low))
+    next_apart (x ∷ []) up k d low = absurd (omega (arith, low))
+    next_apart (x ∷ y ∷ xs) up zero d low = up.0.0
+    next_apart (x ∷ y ∷ xs) up (suc k) d low =
+        let next : suc (k + 1) ≡ suc k + 1 = omega arith in
+        subst (λ j. value_cmp (Int (get_or (y ∷ xs) k d)) (Int (get_or (x ∷ y ∷ xs) j d)) ≢ Equal) next (next_apart (y ∷ xs) up.1 k d (omega (arith, low)))

@@ -1,5 +1,7 @@
 -- The rows of the tables as lists of values.
-use Rattle.std.specs.Prelude.{ℤ, [], ◌∷◌, Option, Some, None, option_map, string_bytes}
+use Rattle.std.specs.Prelude.{◌≢◌, ℤ, [], ◌∷◌, Option, Some, None, option_map, string_bytes}
+use Rattle.std.specs.declared.alloc.Global.{Global}
+use Rattle.std.specs.declared.string.String.{String}
 use Rattle.sqlite.specs.declared.types.Value.{Value}
 use Rattle.sqlite.specs.declared.types.Value.TheVariants.{Null, Int, Text}
 use Rattle.sqlite.specs.Order.{Row}
@@ -15,6 +17,18 @@ use Rattle.vault_rules.specs.declared.rows.RawRight.{RawRight}
 abbrev pub int_value : Option ℤ → Value
 int_value None = Null
 int_value (Some n) = Int n
+
+-- a text
+abbrev pub text_value : String Global → Value
+text_value text = Text (string_bytes text)
+
+-- a text, or NULL
+abbrev pub maybe_text_value : Option (String Global) → Value
+maybe_text_value text = text_or_null (option_map (λ it. string_bytes it) text)
+
+-- what is shown of nothing: no raw value, row or list of rows looks so
+abbrev pub IsForeign : {R T : Type 0} → (R → T) → T → Type 0
+IsForeign {R} values shown = (raw : R) → shown ≢ values raw
 
 -- its id, which the database keeps as the rowid, and the version
 abbrev pub version_values : RawVersion → Row

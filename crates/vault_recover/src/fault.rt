@@ -2,7 +2,7 @@
 ghost use Rattle.std.specs.Prelude.{◌≡◌};
 ghost use Rattle.vault_recover.specs.Faults.{number_of};
 
-use sqlite::Error;
+use sqlite::{Error, ErrorCode};
 use std::alloc::{AllocError, AllocFailed};
 
 /// Why no vault is opened.
@@ -54,12 +54,27 @@ pub(crate) enum ReadFault {
 }
 
 impl From<Error> for ReadFault {
-    fn from(_error: Error) -> ReadFault {
-        ReadFault::Store
+    ghost use Rattle.std.specs.Prelude.{◌≡◌, ◌↔◌};
+    ghost use Rattle.sqlite.specs.declared.error.Error.TheVariants.{SqliteFailure};
+    ghost use Rattle.sqlite.specs.declared.error.ErrorCode.TheVariants.{OutOfMemory};
+    ghost use Rattle.vault_recover.specs.declared.fault.ReadFault.TheVariants.{Memory};
+
+    ghost from_gives = { λ error fault. (fault ≡ Memory) ↔ (error ≡ SqliteFailure OutOfMemory) };
+
+    fn from(error: Error) -> ReadFault {
+        match error {
+            Error::SqliteFailure(ErrorCode::OutOfMemory) => ReadFault::Memory,
+            _ => ReadFault::Store,
+        }
     }
 }
 
 impl<T: Drop> From<AllocFailed<T>> for ReadFault {
+    ghost use Rattle.std.specs.Prelude.{◌≡◌};
+    ghost use Rattle.vault_recover.specs.declared.fault.ReadFault.TheVariants.{Memory};
+
+    ghost from_gives = { λ refused fault. fault ≡ Memory };
+
     fn from(_refused: AllocFailed<T>) -> ReadFault {
         ReadFault::Memory
     }

@@ -38,6 +38,8 @@ pub(crate) fn judge(alloc: Global, rows: &Rows) -> Result<Sizes, OpenFault>
     ensures kept { OnOk result ((r : ℕ) → keeps rows.now r ≡ true) }
     ensures apart { OnOk result (AreApart rows.now) }
     ensures damaged { IfErr result (λ e. (rule : ℕ) → e ≡ OpenFault.Damaged rule → IsLeastBroken rows.now rule) }
+    ensures shared { IfErr result (λ e. e ≡ OpenFault.Store → ¬ AreApart rows.now) }
+    ensures unbroken { IfErr result (λ e. e ≡ OpenFault.Store → (r : ℕ) → keeps rows.now r ≡ true) }
     ensures versioned { IfErr result (λ e. (n : ℤ) → e ≢ OpenFault.WrongSchema n) }
 {
     if let Some(rule) = least_broken(alloc, rows)? {

@@ -1,10 +1,9 @@
 //! The values of rows.
 ghost use Rattle.std.specs.Int.{w64};
-ghost use Rattle.std.specs.Prelude.{◌≡◌, FitsSigned, map, IfOk, option_map, string_bytes};
+ghost use Rattle.std.specs.Prelude.{◌≡◌, FitsSigned, map, Some, IfErr, IfOk, slice_get};
 ghost use Rattle.sqlite.specs.Order.{column};
 ghost use Rattle.sqlite.specs.declared.types.Value.TheVariants.{Int};
-ghost use Rattle.vault_schema.specs.Version1.Rows.{text_or_null};
-ghost use Rattle.vault_recover.specs.Raw.{int_value, version_values, merchant_values, count_values, entry_values, record_values, right_values};
+ghost use Rattle.vault_recover.specs.Raw.{IsForeign, int_value, maybe_text_value, text_value, version_values, merchant_values, count_values, entry_values, record_values, right_values};
 
 use crate::fault::ReadFault;
 use sqlite::Row;
@@ -13,7 +12,8 @@ use vault_rules::rows::{RawCount, RawEntry, RawMerchant, RawRecord, RawRight, Ra
 
 /// A row of `vault`.
 fn version(row: &Row) -> Result<RawVersion, ReadFault>
-    ensures { IfOk result (λ raw. row.now ≡ version_values raw) }
+    ensures values { IfOk result (λ raw. row.now ≡ version_values raw) }
+    ensures refused { IfErr result (λ e. e ≡ ReadFault.Store → IsForeign version_values row.now) }
 {
     if row.column_count() != 2 {
         return Err(ReadFault::Store);
@@ -25,13 +25,14 @@ fn version(row: &Row) -> Result<RawVersion, ReadFault>
 
 /// A row of `merchants`.
 fn merchant(row: &Row) -> Result<RawMerchant, ReadFault>
-    ensures { IfOk result (λ raw. row.now ≡ merchant_values raw) }
+    ensures values { IfOk result (λ raw. row.now ≡ merchant_values raw) }
+    ensures refused { IfErr result (λ e. e ≡ ReadFault.Store → IsForeign merchant_values row.now) }
 {
     if row.column_count() != 5 {
         return Err(ReadFault::Store);
     }
     let rowid = int_in(row, 0)?;
-    let name: String = row.get(1)?;
+    let name = text_in(row, 1)?;
     let single_life = int_in(row, 2)?;
     let multi_life = int_in(row, 3)?;
     let moment = int_in(row, 4)?;
@@ -46,13 +47,14 @@ fn merchant(row: &Row) -> Result<RawMerchant, ReadFault>
 
 /// A row of `counts`.
 fn count(row: &Row) -> Result<RawCount, ReadFault>
-    ensures { IfOk result (λ raw. row.now ≡ count_values raw) }
+    ensures values { IfOk result (λ raw. row.now ≡ count_values raw) }
+    ensures refused { IfErr result (λ e. e ≡ ReadFault.Store → IsForeign count_values row.now) }
 {
     if row.column_count() != 4 {
         return Err(ReadFault::Store);
     }
     let rowid = int_in(row, 0)?;
-    let merchant: String = row.get(1)?;
+    let merchant = text_in(row, 1)?;
     let kind = int_in(row, 2)?;
     let total = int_in(row, 3)?;
     Ok(RawCount {
@@ -67,13 +69,23 @@ fn count(row: &Row) -> Result<RawCount, ReadFault>
 fn int_in(row: &Row, at: usize) -> Result<i64, ReadFault>
     ensures value { IfOk result (λ n. column row.now at ≡ Int n) }
     ensures fits { IfOk result (λ n. FitsSigned w64 n) }
+    ensures refused { IfErr result (λ e. e ≡ ReadFault.Store → IsForeign (λ n. Some (Int n)) (slice_get row.now at)) }
+{
+    Ok(row.get(at)?)
+}
+
+/// A text.
+fn text_in(row: &Row, at: usize) -> Result<String, ReadFault>
+    ensures value { IfOk result (λ text. column row.now at ≡ text_value text) }
+    ensures refused { IfErr result (λ e. e ≡ ReadFault.Store → IsForeign (λ text. Some (text_value text)) (slice_get row.now at)) }
 {
     Ok(row.get(at)?)
 }
 
 /// A text, or NULL.
 fn text_or_null_in(row: &Row, at: usize) -> Result<Option<String>, ReadFault>
-    ensures { IfOk result (λ text. column row.now at ≡ text_or_null (option_map (λ it. string_bytes it) text)) }
+    ensures value { IfOk result (λ text. column row.now at ≡ maybe_text_value text) }
+    ensures refused { IfErr result (λ e. e ≡ ReadFault.Store → IsForeign (λ text. Some (maybe_text_value text)) (slice_get row.now at)) }
 {
     let text: Option<String> = row.get(at)?;
     match text {
@@ -84,7 +96,8 @@ fn text_or_null_in(row: &Row, at: usize) -> Result<Option<String>, ReadFault>
 
 /// A whole number, or NULL.
 fn int_or_null_in(row: &Row, at: usize) -> Result<Option<i64>, ReadFault>
-    ensures { IfOk result (λ number. column row.now at ≡ int_value number) }
+    ensures value { IfOk result (λ number. column row.now at ≡ int_value number) }
+    ensures refused { IfErr result (λ e. e ≡ ReadFault.Store → IsForeign (λ number. Some (int_value number)) (slice_get row.now at)) }
 {
     let number: Option<i64> = row.get(at)?;
     match number {
@@ -95,14 +108,15 @@ fn int_or_null_in(row: &Row, at: usize) -> Result<Option<i64>, ReadFault>
 
 /// A row of `entries`.
 fn entry(row: &Row) -> Result<RawEntry, ReadFault>
-    ensures { IfOk result (λ raw. row.now ≡ entry_values raw) }
+    ensures values { IfOk result (λ raw. row.now ≡ entry_values raw) }
+    ensures refused { IfErr result (λ e. e ≡ ReadFault.Store → IsForeign entry_values row.now) }
 {
     if row.column_count() != 8 {
         return Err(ReadFault::Store);
     }
     let rowid = int_in(row, 0)?;
-    let merchant: String = row.get(1)?;
-    let token: String = row.get(2)?;
+    let merchant = text_in(row, 1)?;
+    let token = text_in(row, 2)?;
     let number = text_or_null_in(row, 3)?;
     let usage = int_in(row, 4)?;
     let birth = int_in(row, 5)?;
@@ -122,16 +136,17 @@ fn entry(row: &Row) -> Result<RawEntry, ReadFault>
 
 /// A row of `records`.
 fn record(row: &Row) -> Result<RawRecord, ReadFault>
-    ensures { IfOk result (λ raw. row.now ≡ record_values raw) }
+    ensures values { IfOk result (λ raw. row.now ≡ record_values raw) }
+    ensures refused { IfErr result (λ e. e ≡ ReadFault.Store → IsForeign record_values row.now) }
 {
     if row.column_count() != 6 {
         return Err(ReadFault::Store);
     }
     let rowid = int_in(row, 0)?;
-    let caller: String = row.get(1)?;
+    let caller = text_in(row, 1)?;
     let request = int_in(row, 2)?;
-    let merchant: String = row.get(3)?;
-    let token: String = row.get(4)?;
+    let merchant = text_in(row, 3)?;
+    let token = text_in(row, 4)?;
     let usage = int_in(row, 5)?;
     Ok(RawRecord {
         rowid,
@@ -145,14 +160,15 @@ fn record(row: &Row) -> Result<RawRecord, ReadFault>
 
 /// A row of `rights`.
 fn right(row: &Row) -> Result<RawRight, ReadFault>
-    ensures { IfOk result (λ raw. row.now ≡ right_values raw) }
+    ensures values { IfOk result (λ raw. row.now ≡ right_values raw) }
+    ensures refused { IfErr result (λ e. e ≡ ReadFault.Store → IsForeign right_values row.now) }
 {
     if row.column_count() != 4 {
         return Err(ReadFault::Store);
     }
     let rowid = int_in(row, 0)?;
-    let caller: String = row.get(1)?;
-    let merchant: String = row.get(2)?;
+    let caller = text_in(row, 1)?;
+    let merchant = text_in(row, 2)?;
     let what = int_in(row, 3)?;
     Ok(RawRight {
         rowid,
@@ -164,7 +180,8 @@ fn right(row: &Row) -> Result<RawRight, ReadFault>
 
 /// The rows of `vault`.
 pub(crate) fn versions(alloc: Global, rows: &[Row]) -> Result<Vec<RawVersion>, ReadFault>
-    ensures { IfOk result (λ raws. map version_values raws.items ≡ rows.now) }
+    ensures values { IfOk result (λ raws. map version_values raws.items ≡ rows.now) }
+    ensures refused { IfErr result (λ e. e ≡ ReadFault.Store → IsForeign (map version_values) rows.now) }
 {
     let mut raws = Vec::new(alloc);
     for row in rows {
@@ -175,7 +192,8 @@ pub(crate) fn versions(alloc: Global, rows: &[Row]) -> Result<Vec<RawVersion>, R
 
 /// The rows of `merchants`.
 pub(crate) fn merchants(alloc: Global, rows: &[Row]) -> Result<Vec<RawMerchant>, ReadFault>
-    ensures { IfOk result (λ raws. map merchant_values raws.items ≡ rows.now) }
+    ensures values { IfOk result (λ raws. map merchant_values raws.items ≡ rows.now) }
+    ensures refused { IfErr result (λ e. e ≡ ReadFault.Store → IsForeign (map merchant_values) rows.now) }
 {
     let mut raws = Vec::new(alloc);
     for row in rows {
@@ -186,7 +204,8 @@ pub(crate) fn merchants(alloc: Global, rows: &[Row]) -> Result<Vec<RawMerchant>,
 
 /// The rows of `counts`.
 pub(crate) fn counts(alloc: Global, rows: &[Row]) -> Result<Vec<RawCount>, ReadFault>
-    ensures { IfOk result (λ raws. map count_values raws.items ≡ rows.now) }
+    ensures values { IfOk result (λ raws. map count_values raws.items ≡ rows.now) }
+    ensures refused { IfErr result (λ e. e ≡ ReadFault.Store → IsForeign (map count_values) rows.now) }
 {
     let mut raws = Vec::new(alloc);
     for row in rows {
@@ -197,7 +216,8 @@ pub(crate) fn counts(alloc: Global, rows: &[Row]) -> Result<Vec<RawCount>, ReadF
 
 /// The rows of `entries`.
 pub(crate) fn entries(alloc: Global, rows: &[Row]) -> Result<Vec<RawEntry>, ReadFault>
-    ensures { IfOk result (λ raws. map entry_values raws.items ≡ rows.now) }
+    ensures values { IfOk result (λ raws. map entry_values raws.items ≡ rows.now) }
+    ensures refused { IfErr result (λ e. e ≡ ReadFault.Store → IsForeign (map entry_values) rows.now) }
 {
     let mut raws = Vec::new(alloc);
     for row in rows {
@@ -208,7 +228,8 @@ pub(crate) fn entries(alloc: Global, rows: &[Row]) -> Result<Vec<RawEntry>, Read
 
 /// The rows of `records`.
 pub(crate) fn records(alloc: Global, rows: &[Row]) -> Result<Vec<RawRecord>, ReadFault>
-    ensures { IfOk result (λ raws. map record_values raws.items ≡ rows.now) }
+    ensures values { IfOk result (λ raws. map record_values raws.items ≡ rows.now) }
+    ensures refused { IfErr result (λ e. e ≡ ReadFault.Store → IsForeign (map record_values) rows.now) }
 {
     let mut raws = Vec::new(alloc);
     for row in rows {
@@ -219,7 +240,8 @@ pub(crate) fn records(alloc: Global, rows: &[Row]) -> Result<Vec<RawRecord>, Rea
 
 /// The rows of `rights`.
 pub(crate) fn rights(alloc: Global, rows: &[Row]) -> Result<Vec<RawRight>, ReadFault>
-    ensures { IfOk result (λ raws. map right_values raws.items ≡ rows.now) }
+    ensures values { IfOk result (λ raws. map right_values raws.items ≡ rows.now) }
+    ensures refused { IfErr result (λ e. e ≡ ReadFault.Store → IsForeign (map right_values) rows.now) }
 {
     let mut raws = Vec::new(alloc);
     for row in rows {

@@ -1,4 +1,4 @@
-use Rattle.std.proofs.Common.{refl, map, ap, subst, ◌∙◌}
+use Rattle.std.proofs.Common.{refl, map, sym, ap, subst, ◌∙◌, ◌↔◌}
 use Rattle.std.proofs.lemmas.List.{take_all}
 use Rattle.vault_recover.proofs.Rising.{apart_then, apart_by_ids}
 use Rattle.vault_recover.proofs.apart.merchants.Goals as goal
@@ -12,4 +12,4 @@ returns c =
     let all = c.args.rows.now in
     let ids = c.loop-row.invariant ∙ ap (map (λ (x : RawMerchant). x.rowid)) (take_all _ all c.loop-row-test.false) in
     apart_then c.are_distinct.result c.loop-row.ids.items (map merchant_values all)
-    (λ up. apart_by_ids (λ (x : RawMerchant). x.rowid) merchant_values (λ m. refl) all (subst (λ l. IsApart (map id_row l)) ids up)) c.are_distinct.ensures
+    (subst (λ l. IsApart (map id_row l) ↔ IsApart (map merchant_values all)) (sym ids) (apart_by_ids (λ (x : RawMerchant). x.rowid) merchant_values (λ m. refl) all)) c.are_distinct.ensures

@@ -19,7 +19,7 @@ returns-clause-told g c clean =
     (reads_whole vault_schema (state g.S.Store c.args.conn.now) (state g.S.Store c.rows_of.new.conn)
     ours.schema
     (c.in_ok-rows.ensures.sound clean vault_schema (read_counts_is [] []).plain ours.schema) _ _ counts 2 refl
-    _ (read_counts_is [] []) (c.in_ok-rows.ensures.told clean) refl (omega arith) refl)) c.counts.ensures
+    _ (read_counts_is [] []) (c.in_ok-rows.ensures.told clean) refl (omega arith) refl)) c.counts.ensures.values
 
 pub returns-clause-live : goal.returns-clause-live
 returns-clause-live g c clean =

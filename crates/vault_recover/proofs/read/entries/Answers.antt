@@ -19,7 +19,7 @@ returns-clause-told g c clean =
     (reads_long vault_schema (state g.S.Store c.args.conn.now) (state g.S.Store c.rows_of.new.conn)
     ours.schema
     (c.in_ok-rows.ensures.sound clean vault_schema (read_entries_is [] []).plain ours.schema) _ _ entries 3
-    refl _ (read_entries_is [] []) (c.in_ok-rows.ensures.told clean) refl ours.full)) c.entries.ensures
+    refl _ (read_entries_is [] []) (c.in_ok-rows.ensures.told clean) refl ours.full)) c.entries.ensures.values
 
 pub returns-clause-live : goal.returns-clause-live
 returns-clause-live g c clean =

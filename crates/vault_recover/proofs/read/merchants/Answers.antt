@@ -21,7 +21,7 @@ returns-clause-told g c clean =
     ours.schema
     (c.in_ok-rows.ensures.sound clean vault_schema (read_merchants_is [] []).plain ours.schema) _ _ merchants
     1 refl _ (read_merchants_is [] []) (c.in_ok-rows.ensures.told clean) refl (omega arith) refl))
-    c.merchants.ensures
+    c.merchants.ensures.values
 
 pub returns-clause-live : goal.returns-clause-live
 returns-clause-live g c clean =

@@ -20,7 +20,7 @@ returns-clause-told g c clean =
     ours.schema
     (c.in_ok-rows.ensures.sound clean vault_schema (read_records_is [] []).plain ours.schema) _ _ records 4
     refl _ (read_records_is [] []) (c.in_ok-rows.ensures.told clean) refl (omega arith) refl))
-    c.records.ensures
+    c.records.ensures.values
 
 pub returns-clause-live : goal.returns-clause-live
 returns-clause-live g c clean =

@@ -19,7 +19,7 @@ returns-clause-told g c clean =
     if_ok c.versions.result (λ raws same has.
     subst (IsPermutation _) (sym (same ∙ c.deref.ensures.value))
     (reads_all (version_of old.now.schema) old (state g.S.Store c.rows_of.new.conn) (is_versioned old.now.schema has)
-    _ _ 0 _ _ (read_version_is _ _) (c.in_ok-rows.ensures.told clean))) c.versions.ensures
+    _ _ 0 _ _ (read_version_is _ _) (c.in_ok-rows.ensures.told clean))) c.versions.ensures.values
 
 pub returns-clause-live : goal.returns-clause-live
 returns-clause-live g c clean =
