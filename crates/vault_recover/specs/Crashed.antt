@@ -51,7 +51,7 @@ pub record IsBlank (s : State) (trees : Trees) : Type 0 where
   pub schema : s.now.schema ≡ no_schema
   pub same : s.committed.trees ≡ trees
 
--- it sees these trees so, or holds the empty vault
+-- the connection sees these trees, without a table, or holds the empty vault
 abbrev pub HoldsFirst : State → Trees → Type 0
 HoldsFirst s before = ∥ (IsBlank s before ⊎ Holds s empty_vault) ∥₁
 
