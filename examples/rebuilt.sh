@@ -54,5 +54,13 @@ for version in 2 9 -1; do
     step "version $version" "vault: file not opened 30 $version (3)" \
         "$(changed "UPDATE vault SET version = $version")"
 done
+step "version 9, and a table is missing" 'vault: file not opened 30 9 (3)' \
+    "$(changed 'UPDATE vault SET version = 9; DROP TABLE rights')"
+step "version 2, and a table more" 'vault: file not opened 30 2 (3)' \
+    "$(changed 'UPDATE vault SET version = 2; CREATE TABLE notes (line TEXT)')"
+step "version 2, vacuumed" 'vault: file not opened 30 2 (3)' \
+    "$(changed 'UPDATE vault SET version = 2; VACUUM')"
+step "no version, and a table is missing" 'vault: file not opened 30 0 (3)' \
+    "$(changed 'DELETE FROM vault; DROP TABLE rights')"
 step "no version" 'vault: file not opened 31 1 (3)' "$(changed 'DELETE FROM vault')"
 end

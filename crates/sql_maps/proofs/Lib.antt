@@ -7,6 +7,7 @@ pub mod KeyTests
 pub mod Keys
 pub mod Making
 pub mod Parts
+pub mod Ordered
 pub mod Plain
 pub mod Reading
 pub mod Statements

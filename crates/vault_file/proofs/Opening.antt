@@ -1,20 +1,23 @@
 -- What an open and a check come to.
-use Rattle.std.proofs.Common.{◌≡◌, ◌⊎◌, inl, inr, ◌≤◌, ℕ, ℤ, Some, None, arith, refl, sym, ap, subst, ◌∙◌}
+use Rattle.std.proofs.Common.{◌≡◌, inl, inr, ◌≤◌, ℕ, ℤ, Some, None, arith, refl, sym, ap, subst, ◌∙◌}
 use Rattle.std.proofs.Math.Logic.{∥∥₁_map}
 use Rattle.sqlite.specs.Effect.{Database, IsDatabase}
 use Rattle.sqlite.specs.Files.{AreFoundIn, file_state}
 use Rattle.sqlite.specs.Held.{Held}
 use Rattle.sqlite.specs.State.{State, HasCleanDisk, IsUnchanged}
 use Rattle.sqlite.specs.View.{doubt}
+use Rattle.sqlite.specs.Tree.{Trees}
 use Rattle.sqlite_disk.specs.declared.Disk.{Ghosts}
 use Rattle.sqlite_store.specs.declared.store.FileStore.{FileStore}
 use Rattle.sqlite_wal.specs.Recovery.{Image}
+use Rattle.vault_core.proofs.Empty.{sound-empty}
 use Rattle.vault_core.specs.Sound.{Sound}
-use Rattle.vault_core.specs.Vault.{Vault}
+use Rattle.vault_core.specs.Vault.{Vault, empty_vault}
 use Rattle.vault_file.specs.Found.{IsFoundIn, IsNoVerdict, OpensFrom}
 use Rattle.vault_file.specs.declared.fault.NotOpened.{NotOpened}
 use Rattle.vault_file.specs.declared.fault.NotOpened.TheVariants.{Refused, Fault}
-use Rattle.vault_recover.specs.Crashed.{IsOpenOf, Keeps, KeepsEither}
+use Rattle.vault_recover.specs.Crashed.{AreBlank, HoldsEither, HoldsFirst, IsOpenOf}
+use Rattle.vault_recover.specs.Crashed.{Keeps, KeepsEither, KeepsFirst}
 use Rattle.vault_recover.specs.Opened.{IsFit, IsNoRefusal, Opens, StandsSound}
 use Rattle.vault_recover.specs.declared.fault.OpenFault.{OpenFault}
 use Rattle.vault_recover.specs.declared.fault.OpenFault.TheVariants.{WrongSchema, Damaged, Memory, Store}
@@ -77,10 +80,12 @@ module _ {D : Type 0} {g : Ghosts D} (image : Image) (first : Held (FileStore D 
     -- an open that succeeds
     pub opens_from : (conn : Held (FileStore D g))
         → (HasCleanDisk (file_state first) → (V W : Vault) → KeepsEither image V W
-        → ∥ (Holds (file_state first) V ⊎ Holds (file_state first) W) ∥₁)
+        → HoldsEither (file_state first) V W)
+        → (HasCleanDisk (file_state first) → (before : Trees) → AreBlank before → KeepsFirst image before
+        → HoldsFirst (file_state first) before)
         → (HasCleanDisk (file_state conn) → Opens (file_state first) (file_state conn))
         → OpensFrom image conn
-    opens_from conn either opens =
+    opens_from conn either one opens =
         let on : HasCleanDisk (file_state conn) → (V : Vault) → Sound V → Holds (file_state first) V
         → Holds (file_state conn) V = λ clean V sound held.
         let ours = ours_of (file_state first).now (stands_sound (file_state first) V sound held) in
@@ -93,6 +98,10 @@ module _ {D : Type 0} {g : Ghosts D} (image : Image) (first : Held (FileStore D 
           either = λ was clean V W sound other keeps. ∥∥₁_map (either was V W keeps) (λ held. elim held [
             | inl one ↦ inl (on clean V sound one)
             | inr one ↦ inr (on clean W other one)
+          ]);
+          empty = λ was clean before blank keeps. ∥∥₁_map (one was before blank keeps) (λ held. elim held [
+            | inl none ↦ (opens clean).blank none.ready.is_open none.schema
+            | inr one ↦ on clean empty_vault sound-empty one
           ]);
         }
 

@@ -4,6 +4,7 @@ use Rattle.sqlite.specs.Effect.{Database, IsDatabase}
 use Rattle.sqlite.specs.Files.{AreFoundIn, file_state}
 use Rattle.sqlite.specs.Held.{Held}
 use Rattle.sqlite.specs.State.{HasCleanDisk}
+use Rattle.sqlite.specs.Tree.{Trees}
 use Rattle.sqlite_disk.specs.declared.Disk.{Ghosts}
 use Rattle.sqlite_store.specs.declared.store.FileStore.{FileStore}
 use Rattle.sqlite_wal.specs.Recovery.{Image}
@@ -11,11 +12,12 @@ use Rattle.vault_core.specs.Sound.{Sound}
 use Rattle.vault_core.specs.Vault.{Vault, empty_vault}
 use Rattle.vault_file.specs.Faults.{number_of}
 use Rattle.vault_file.specs.declared.fault.NotOpened.{NotOpened}
-use Rattle.vault_recover.specs.Crashed.{IsOpenOf, Keeps, KeepsEither, MayFind}
+use Rattle.vault_recover.specs.Crashed.{AreBlank, HoldsEither, IsOpenOf}
+use Rattle.vault_recover.specs.Crashed.{Keeps, KeepsEither, KeepsFirst, MayFind}
 use Rattle.vault_recover.specs.Opened.{IsSoundOf, Opens}
 use Rattle.vault_recover.specs.Sizes.{sizes_of}
 use Rattle.vault_recover.specs.declared.sizes.Sizes.{Sizes}
-use Rattle.vault_sql.specs.Holds.{Holds}
+use Rattle.vault_sql.specs.Holds.{Holds, LeavesEither, LeavesFirst}
 use Rattle.sql_maps.specs.Schema.{no_schema}
 
 -- no file's name: nothing at all, `:memory:`, and what begins with `file:`
@@ -46,7 +48,8 @@ HasSizes db sizes = (db.schema ≡ no_schema) × (sizes ≡ sizes_of empty_vault
 
 module _ {D : Type 0} {g : Ghosts D} where
   -- A connection was opened over files with these bytes, and this one comes from opening the vault there.
-  -- What a stop left is found: a vault that the bytes keep is held, and of two that they may keep one.
+  -- What a stop left is found: a vault that the bytes keep is held, and of two that they may keep one; where
+  -- a stop came while the tables were made, the empty vault.
   pub record OpensFrom (image : Image) (conn : Held (FileStore D g)) : Type 0 where
     pub first : Held (FileStore D g)
     pub found : HasCleanDisk (file_state first) → IsOpenOf image first
@@ -54,5 +57,23 @@ module _ {D : Type 0} {g : Ghosts D} where
     pub again : HasCleanDisk (file_state first) → HasCleanDisk (file_state conn)
         → (V : Vault) → Sound V → Keeps image V → Holds (file_state conn) V
     pub either : HasCleanDisk (file_state first) → HasCleanDisk (file_state conn)
-        → (V W : Vault) → Sound V → Sound W → KeepsEither image V W
-        → ∥ (Holds (file_state conn) V ⊎ Holds (file_state conn) W) ∥₁
+        → (V W : Vault) → Sound V → Sound W → KeepsEither image V W → HoldsEither (file_state conn) V W
+    pub empty : HasCleanDisk (file_state first) → HasCleanDisk (file_state conn)
+        → (before : Trees) → AreBlank before → KeepsFirst image before
+        → ∥ Holds (file_state conn) empty_vault ∥₁
+
+  -- A connection was opened over files with these bytes, and this one comes from opening the vault there. A
+  -- crash leaves what was found: a vault, or one of two; where there was no table, that or the empty vault.
+  pub record LeavesFrom (image : Image) (conn : Held (FileStore D g)) : Type 0 where
+    pub first : Held (FileStore D g)
+    pub found : HasCleanDisk (file_state first) → IsOpenOf image first
+    pub held : HasCleanDisk (file_state first) → HasCleanDisk (file_state conn)
+        → (V : Vault) → Keeps image V → LeavesEither (file_state conn) V V
+    pub either : HasCleanDisk (file_state first) → HasCleanDisk (file_state conn)
+        → (V W : Vault) → KeepsEither image V W → ∥ LeavesEither (file_state conn) V W ∥₁
+    pub blank : HasCleanDisk (file_state first) → HasCleanDisk (file_state conn)
+        → (file_state first).now.schema ≡ no_schema → AreBlank (file_state first).committed.trees
+        × LeavesFirst (file_state conn) (file_state first).committed.trees
+    pub empty : HasCleanDisk (file_state first) → HasCleanDisk (file_state conn)
+        → (before : Trees) → AreBlank before → KeepsFirst image before
+        → ∥ LeavesFirst (file_state conn) before ∥₁

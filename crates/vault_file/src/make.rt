@@ -1,11 +1,13 @@
 //! The file at a path, made where there is none.
-ghost use Rattle.std.specs.Prelude.{◌≡◌, ◌⊎◌, ◌↔◌, false, None, IfSome, IsTrue};
+ghost use Rattle.std.specs.Prelude.{◌≡◌, ◌↔◌, false, None, IfSome, IsTrue};
 ghost use Rattle.sqlite.specs.Files.{file_state};
 ghost use Rattle.sqlite.specs.State.{HasCleanDisk};
+ghost use Rattle.sqlite.specs.Tree.{Trees};
 ghost use Rattle.sqlite_wal.specs.Files.{image_at};
 ghost use Rattle.vault_core.specs.Vault.{Vault};
 ghost use Rattle.vault_file.specs.Found.{IsNoPath};
-ghost use Rattle.vault_recover.specs.Crashed.{IsOpenOf, Keeps, KeepsEither};
+ghost use Rattle.vault_recover.specs.Crashed.{AreBlank, HoldsEither, HoldsFirst, IsOpenOf};
+ghost use Rattle.vault_recover.specs.Crashed.{Keeps, KeepsEither, KeepsFirst};
 ghost use Rattle.vault_sql.specs.Holds.{Holds};
 
 use sqlite::{Connection, FileFrom, FileStore, Start};
@@ -53,8 +55,10 @@ pub(crate) fn open_private<S: Start>(
     ensures again { IfSome result (λ c. HasCleanDisk (file_state c)
         → (V : Vault) → Keeps (image_at S.Start) V → Holds (file_state c) V) }
     ensures either { IfSome result (λ c. HasCleanDisk (file_state c)
-        → (V W : Vault) → KeepsEither (image_at S.Start) V W
-        → ∥ (Holds (file_state c) V ⊎ Holds (file_state c) W) ∥₁) }
+        → (V W : Vault) → KeepsEither (image_at S.Start) V W → HoldsEither (file_state c) V W) }
+    ensures first { IfSome result (λ c. HasCleanDisk (file_state c)
+        → (before : Trees) → AreBlank before → KeepsFirst (image_at S.Start) before
+        → HoldsFirst (file_state c) before) }
 {
     if is_no_path(path) {
         return None;

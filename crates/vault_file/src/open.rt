@@ -7,10 +7,12 @@ ghost use Rattle.sqlite_store.specs.FileStore.{view};
 ghost use Rattle.sqlite_wal.specs.Files.{image_at};
 ghost use Rattle.vault_core.specs.Sound.{Sound};
 ghost use Rattle.vault_core.specs.Vault.{Vault as Content};
-ghost use Rattle.vault_file.specs.Found.{HoldsSuch, IsNoPath, IsNoVerdict, OpensFrom, no_bytes};
+ghost use Rattle.vault_file.specs.Found.{HoldsSuch, IsNoPath, IsNoVerdict};
+ghost use Rattle.vault_file.specs.Found.{LeavesFrom, OpensFrom, no_bytes};
 ghost use Rattle.vault_recover.specs.Crashed.{AreHeld, Keeps, Reopens, ReopensEither};
 ghost use Rattle.vault_recover.specs.Opened.{IsLeastBroken, IsWrong};
 ghost use Rattle.vault_recover.specs.Reading.{IsFull};
+ghost use Rattle.vault_sql.specs.Holds.{LeavesEither};
 ghost use Rattle.vault_store.specs.Applied.{Contains, is_broken, tables_of};
 
 use crate::fault::NotOpened;
@@ -55,6 +57,7 @@ pub fn open_from<S: Start>(
         → HoldsSuch (image_at S.Start) (λ db. IsWrong db n))) }
     ensures never { IfErr result (λ e. IfSome e.1 (λ conn. HasCleanDisk (file_state conn)
         → (V : Content) → Sound V → Keeps (image_at S.Start) V → IsNoVerdict e.0)) }
+    ensures left { IfErr result (λ e. IfSome e.1 (LeavesFrom (image_at S.Start))) }
 {
     let Some(conn) = open_private(rt, path, start) else {
         return Err((NotOpened::Refused, None));
@@ -79,12 +82,18 @@ pub fn open_vault(rt: &HostRuntime, path: &str) -> Result<Vault<FileTables>, Not
     }
 }
 
-/// Ends a vault, and gives its files back. Whoever opens them after a stop finds the vault that was held.
+/// Ends a vault, and gives its files back. Whoever opens them after a stop finds the vault that was held, and
+/// after a write that failed the vault before it or the vault after it.
 pub fn close_files<D: Disk + Drop>(vault: Vault<SqlTables<FileStore<D>>>) -> FileStore<D>
     ensures clean { doubt (file_state (tables_of vault).conn).is_clean ≤ doubt (view result).is_clean }
     ensures before { IsClean (view result)
         → (V : Content) → Contains AreHeld vault V → Reopens (tables_of vault).conn.store V }
     ensures after { IsClean (view result) → (V : Content) → Contains AreHeld vault V → Reopens result V }
+    ensures either { IsClean (view result) → (V W : Content)
+        → LeavesEither (file_state (tables_of vault).conn) V W
+        → ReopensEither (tables_of vault).conn.store V W }
+    ensures either_after { IsClean (view result) → (V W : Content)
+        → LeavesEither (file_state (tables_of vault).conn) V W → ReopensEither result V W }
 {
     close(vault.into_tables().into_connection())
 }

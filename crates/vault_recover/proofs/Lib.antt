@@ -7,6 +7,7 @@ pub mod FromStands
 pub mod Holders
 pub mod Judged
 pub mod LeftBy
+pub mod OneVault
 pub mod Once
 pub mod Opening
 pub mod Reopened

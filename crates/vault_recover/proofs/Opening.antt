@@ -1,5 +1,5 @@
 -- What an open comes to.
-use Rattle.std.proofs.Common.{◌≡◌, ◌⊎◌, inl, inr, not, false, Bool, None, IsTrue, sym, ap, subst, ◌∙◌}
+use Rattle.std.proofs.Common.{◌≡◌, inl, inr, not, false, Bool, None, IsTrue, sym, ap, subst, ◌∙◌}
 use Rattle.sqlite.specs.Effect.{Database, IsDatabase}
 use Rattle.sqlite.specs.Schema.{Schema}
 use Rattle.sqlite.specs.State.{State, HasCleanDisk, IsUnchanged}
@@ -8,7 +8,8 @@ use Rattle.vault_core.specs.Vault.{Vault, empty_vault}
 use Rattle.vault_recover.specs.Opened.{IsSoundOf, LeavesFound, Opens}
 use Rattle.vault_recover.specs.Reading.{IsOurs, IsQuiet}
 use Rattle.vault_recover.specs.declared.sizes.Sizes.{Sizes}
-use Rattle.vault_sql.specs.Holds.{Holds}
+use Rattle.vault_sql.specs.Holds.{Holds, LeavesFirst}
+use Rattle.vault_sql.specs.Left.{left_after, left_alone}
 use Rattle.vault_sql.specs.Making.{IsReady}
 use Rattle.sql_maps.specs.Schema.{no_schema}
 use Rattle.vault_sql.specs.Schema.{vault_schema}
@@ -18,32 +19,27 @@ use Rattle.vault_sql.specs.Stands.{Stands}
 abbrev pub IsSettled : State → Type 0
 IsSettled s = (db : Trees) → IsTrue s.is_open → s.may_leave db → db ≡ s.committed.trees
 
--- where a vault is held, and a crash leaves no more than its last commit
-left_held : (old : State) (V : Vault) → IsSettled old → Holds old V → (db : Trees) → old.may_leave db → Stands db V
-left_held old V settled h db left =
-    subst (λ (t : Trees). Stands t V) (ap (λ (d : Database). d.trees) h.settled ∙ sym (settled db h.is_open left)) h.stands
-
 -- a schema that holds a vault, and one that holds nothing
 pub apart : no_schema ≡ vault_schema → ⊥
 apart e = let clash = ap (λ (s : Schema). s.tables) e in cc
 
 pub left_vault : (old new : State) → old.now.schema ≡ vault_schema → IsSettled old → IsQuiet old new → HasCleanDisk new → LeavesFound old new
 left_vault old new ours settled quiet clean = record {
-  held = λ V h db left. left_held old V settled h db (quiet.left clean h.schema db left);
-  blank = λ ready blank db left. absurd (apart (sym blank ∙ ours));
+  held = λ V h. left_after old new V h (λ db left. settled db h.is_open left) (quiet.left clean h.schema);
+  blank = λ ready blank. absurd (apart (sym blank ∙ ours));
 }
 
 pub left_as_it_was : (old : State) → (old.now.schema ≡ no_schema → ⊥) → IsSettled old → LeavesFound old old
 left_as_it_was old some settled = record {
-  held = λ V h db left. left_held old V settled h db left;
-  blank = λ ready blank db left. absurd (some blank);
+  held = λ V h. left_alone old V h (λ db left. settled db h.is_open left);
+  blank = λ ready blank. absurd (some blank);
 }
 
 pub left_blank : (old new : State) → old.now.schema ≡ no_schema
-    → (IsReady old → (db : Trees) → new.may_leave db → (db ≡ old.committed.trees) ⊎ Stands db empty_vault) → LeavesFound old new
+    → (IsReady old → LeavesFirst new old.committed.trees) → LeavesFound old new
 left_blank old new blank crash = record {
-  held = λ V h db left. absurd (apart (sym blank ∙ h.schema));
-  blank = λ ready none db left. crash ready db left;
+  held = λ V h. absurd (apart (sym blank ∙ h.schema));
+  blank = λ ready none. crash ready;
 }
 
 pub opens_vault : (old new : State) (autocommit : Bool) (sizes : Sizes) → autocommit ≡ not old.in_transaction → old.in_transaction ≡ false → old.step_limit ≡ None

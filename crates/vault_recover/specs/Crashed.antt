@@ -3,15 +3,18 @@ use Rattle.std.specs.Prelude.{◌≡◌, ◌⊎◌, false}
 use Rattle.sqlite.specs.Files.{HoldsDatabase, IsOpened, file_state}
 use Rattle.sqlite.specs.Held.{Held, state}
 use Rattle.sqlite.specs.Start.{FindsIn}
-use Rattle.sqlite.specs.State.{HasCleanDisk}
+use Rattle.sqlite.specs.State.{State, HasCleanDisk}
+use Rattle.sqlite_catalog.specs.Listing.{IsSound}
 use Rattle.sqlite_disk.specs.declared.Disk.{Ghosts}
 use Rattle.sqlite_store.specs.FileStore as files
 use Rattle.sqlite_store.specs.declared.store.FileStore.{FileStore}
 use Rattle.sqlite_trees.specs.Tree.{Trees}
 use Rattle.sqlite_trees.specs.declared.store.Store as store
 use Rattle.sqlite_wal.specs.Recovery.{Image}
-use Rattle.vault_core.specs.Vault.{Vault}
-use Rattle.vault_sql.specs.Holds.{AreOurs, Holds}
+use Rattle.sql_maps.specs.Schema.{no_schema}
+use Rattle.vault_core.specs.Vault.{Vault, empty_vault}
+use Rattle.vault_sql.specs.Holds.{AreEither, AreFirst, AreOurs, Holds}
+use Rattle.vault_sql.specs.Making.{IsReady}
 use Rattle.vault_sql.specs.declared.tables.SqlTables.{SqlTables}
 
 -- an open of files with these bytes may find these trees: they are those of each database that the bytes hold
@@ -22,9 +25,35 @@ MayFind image found = (db : Trees) → HoldsDatabase image db → found ≡ db
 abbrev pub Keeps : Image → Vault → Type 0
 Keeps image V = (found : Trees) → MayFind image found → AreOurs found V
 
+-- whoever opens them finds trees of which this is true
+abbrev pub KeepsSuch : Image → (Trees → Type 0) → Type 0
+KeepsSuch image Are = (found : Trees) → MayFind image found → ∥ Are found ∥₁
+
 -- whoever opens them finds the one vault or the other
 abbrev pub KeepsEither : Image → Vault → Vault → Type 0
-KeepsEither image V W = (found : Trees) → MayFind image found → ∥ (AreOurs found V ⊎ AreOurs found W) ∥₁
+KeepsEither image V W = KeepsSuch image (AreEither V W)
+
+-- whoever opens them finds these trees or the empty vault
+abbrev pub KeepsFirst : Image → Trees → Type 0
+KeepsFirst image before = KeepsSuch image (AreFirst before)
+
+-- the trees of a database without a table, an index or a view
+abbrev pub AreBlank : Trees → Type 0
+AreBlank = IsSound no_schema
+
+-- the connection holds the one vault or the other
+abbrev pub HoldsEither : State → Vault → Vault → Type 0
+HoldsEither s V W = ∥ (Holds s V ⊎ Holds s W) ∥₁
+
+-- the connection is outside a transaction, and sees these trees, without a table, an index or a view
+pub record IsBlank (s : State) (trees : Trees) : Type 0 where
+  pub ready : IsReady s
+  pub schema : s.now.schema ≡ no_schema
+  pub same : s.committed.trees ≡ trees
+
+-- it sees these trees so, or holds the empty vault
+abbrev pub HoldsFirst : State → Trees → Type 0
+HoldsFirst s before = ∥ (IsBlank s before ⊎ Holds s empty_vault) ∥₁
 
 -- the connection was just opened over files with these bytes, and found what they hold
 pub record IsOpenOf {D : Type 0} {g : Ghosts D} (image : Image) (c : Held (FileStore D g)) : Type 0 where
@@ -36,9 +65,17 @@ module _ {D : Type 0} {g : Ghosts D} where
   abbrev pub Reopens : FileStore D g → Vault → Type 0
   Reopens it V = (left : Image) → (files.state it).may_leave left → Keeps left V
 
+  -- they keep trees of which this is true
+  abbrev pub ReopensSuch : FileStore D g → (Trees → Type 0) → Type 0
+  ReopensSuch it Are = (left : Image) → (files.state it).may_leave left → KeepsSuch left Are
+
   -- they keep the one vault or the other
   abbrev pub ReopensEither : FileStore D g → Vault → Vault → Type 0
-  ReopensEither it V W = (left : Image) → (files.state it).may_leave left → KeepsEither left V W
+  ReopensEither it V W = ReopensSuch it (AreEither V W)
+
+  -- they keep these trees or the empty vault
+  abbrev pub ReopensFirst : FileStore D g → Trees → Type 0
+  ReopensFirst it before = ReopensSuch it (AreFirst before)
 
 -- no call of the tables failed, and on an honest disk their connection holds the vault
 abbrev pub AreHeld : {S : Type 0} {g : store.Ghosts S} → SqlTables S g → Vault → Type 0

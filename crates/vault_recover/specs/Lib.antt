@@ -1,6 +1,7 @@
 pub mod Apart
 pub mod Crashed
 pub mod Faults
+pub mod Laws
 pub mod Names
 pub mod Opened
 pub mod Raw

@@ -23,7 +23,7 @@ use Rattle.vault_rules.specs.declared.rows.RawRecord.{RawRecord}
 use Rattle.vault_rules.specs.declared.rows.RawRight.{RawRight}
 use Rattle.vault_rules.specs.declared.rows.Rows.{Rows}
 use Rattle.vault_schema.specs.Versioned.{HasVersion}
-use Rattle.vault_sql.specs.Holds.{Holds}
+use Rattle.vault_sql.specs.Holds.{Holds, LeavesEither, LeavesFirst}
 use Rattle.vault_sql.specs.Making.{IsReady}
 use Rattle.sql_maps.specs.Schema.{no_schema}
 use Rattle.vault_sql.specs.Schema.{vault_schema}
@@ -125,6 +125,5 @@ pub record Opens (old new : State) : Type 0 where
 -- What a crash may leave now: where a vault was held, that vault; where there was no table, what was
 -- committed or the empty vault.
 pub record LeavesFound (old new : State) : Type 0 where
-  pub held : (V : Vault) → Holds old V → (db : Trees) → new.may_leave db → Stands db V
-  pub blank : IsReady old → old.now.schema ≡ no_schema → (db : Trees) → new.may_leave db
-      → (db ≡ old.committed.trees) ⊎ Stands db empty_vault
+  pub held : (V : Vault) → Holds old V → LeavesEither new V V
+  pub blank : IsReady old → old.now.schema ≡ no_schema → LeavesFirst new old.committed.trees

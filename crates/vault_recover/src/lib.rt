@@ -6,6 +6,7 @@ pub mod check;
 pub mod fault;
 mod judge;
 pub mod last;
+pub mod laws;
 mod names;
 pub mod open;
 mod raws;

@@ -1,34 +1,46 @@
 //! What a crash leaves of a vault's files opens again.
 //!
-//! All of it stands on this premise: the disk keeps what the database promises of a crash, it returns what was
-//! written, and nobody else wrote. No clause can say what the files at a path hold: the bytes of the caller's
-//! `Start` stand for them.
-ghost use Rattle.std.specs.Prelude.{◌≡◌, ◌⊎◌, ◌≤◌, false, None, IfSome};
+//! All of it stands on this premise: the disk keeps what the database promises of a crash, it returns what
+//! was written, and nobody else wrote. No clause can say what the files at a path hold: the bytes of the
+//! caller's `Start` stand for them.
+ghost use Rattle.std.specs.Prelude.{◌≡◌, ◌≤◌, false, None, IfSome};
 ghost use Rattle.sqlite.specs.Files.{file_state, image_of};
 ghost use Rattle.sqlite.specs.State.{HasCleanDisk};
 ghost use Rattle.sqlite.specs.View.{IsClean, doubt};
 ghost use Rattle.sqlite_store.specs.FileStore.{view};
+ghost use Rattle.sqlite_trees.specs.Tree.{Trees};
 ghost use Rattle.sqlite_wal.specs.Files.{image_at};
 ghost use Rattle.vault_core.specs.Vault.{Vault};
-ghost use Rattle.vault_recover.specs.Crashed.{IsOpenOf, Keeps, KeepsEither, Reopens, ReopensEither};
-ghost use Rattle.vault_sql.specs.Holds.{AreOurs, Holds, LeavesEither};
+ghost use Rattle.vault_recover.specs.Crashed.{AreBlank, HoldsEither, HoldsFirst, IsOpenOf};
+ghost use Rattle.vault_recover.specs.Crashed.{Keeps, KeepsEither, KeepsFirst};
+ghost use Rattle.vault_recover.specs.Crashed.{Reopens, ReopensEither, ReopensFirst};
+ghost use Rattle.vault_sql.specs.Holds.{AreOurs, Holds, LeavesEither, LeavesFirst};
 
 use sqlite::{Connection, FileFrom, FileStore, Files, Options, Start};
 use sqlite_disk::Disk;
 use std::alloc::Global;
 use std::rt::HostRuntime;
 
-/// Ends a connection. A crash at the moment of the call, or after it, leaves files in which whoever opens them
-/// finds the vault that was held.
+/// Ends a connection. A crash at the moment of the call, or after it, leaves files in which whoever opens
+/// them finds the vault that was held.
 ///
-/// After a write that failed it is the vault before or the vault after: what the tables say of the states that a
-/// crash may leave is here said of the bytes of the files.
+/// After a write that failed it is the vault before or the vault after. After an open that failed while it
+/// made the tables it is what was there, without a table, or the empty vault. What the tables say of the
+/// states that a crash may leave is here said of the bytes of the files.
 pub fn close<D: Disk + Drop>(conn: Connection<FileStore<D>>) -> FileStore<D>
     ensures clean { doubt (file_state conn).is_clean ≤ doubt (view result).is_clean }
     ensures reopens { IsClean (view result) → (V : Vault) → Holds (file_state conn) V → Reopens conn.store V }
     ensures after { IsClean (view result) → (V : Vault) → Holds (file_state conn) V → Reopens result V }
-    ensures either { IsClean (view result) → (V W : Vault) → LeavesEither (file_state conn) V W → ReopensEither conn.store V W }
-    ensures either_after { IsClean (view result) → (V W : Vault) → LeavesEither (file_state conn) V W → ReopensEither result V W }
+    ensures either { IsClean (view result)
+        → (V W : Vault) → LeavesEither (file_state conn) V W → ReopensEither conn.store V W }
+    ensures either_after { IsClean (view result)
+        → (V W : Vault) → LeavesEither (file_state conn) V W → ReopensEither result V W }
+    ensures first { IsClean (view result)
+        → (before : Trees) → AreBlank before → LeavesFirst (file_state conn) before
+        → ReopensFirst conn.store before }
+    ensures first_after { IsClean (view result)
+        → (before : Trees) → AreBlank before → LeavesFirst (file_state conn) before
+        → ReopensFirst result before }
 {
     conn.into_store()
 }
@@ -41,9 +53,15 @@ pub fn open_files<D: Disk + Drop>(
     ensures idle { IfSome result (λ c. c.in_transaction ≡ false) }
     ensures unlimited { IfSome result (λ c. c.step_limit ≡ None) }
     ensures opened { IfSome result (λ c. HasCleanDisk (file_state c) → IsOpenOf (image_of D.Disk files) c) }
-    ensures holds { IfSome result (λ c. HasCleanDisk (file_state c) → (V : Vault) → AreOurs (file_state c).committed.trees V → Holds (file_state c) V) }
-    ensures again { IfSome result (λ c. HasCleanDisk (file_state c) → (V : Vault) → Keeps (image_of D.Disk files) V → Holds (file_state c) V) }
-    ensures either { IfSome result (λ c. HasCleanDisk (file_state c) → (V W : Vault) → KeepsEither (image_of D.Disk files) V W → ∥ (Holds (file_state c) V ⊎ Holds (file_state c) W) ∥₁) }
+    ensures holds { IfSome result (λ c. HasCleanDisk (file_state c)
+        → (V : Vault) → AreOurs (file_state c).committed.trees V → Holds (file_state c) V) }
+    ensures again { IfSome result (λ c. HasCleanDisk (file_state c)
+        → (V : Vault) → Keeps (image_of D.Disk files) V → Holds (file_state c) V) }
+    ensures either { IfSome result (λ c. HasCleanDisk (file_state c)
+        → (V W : Vault) → KeepsEither (image_of D.Disk files) V W → HoldsEither (file_state c) V W) }
+    ensures first { IfSome result (λ c. HasCleanDisk (file_state c)
+        → (before : Trees) → AreBlank before → KeepsFirst (image_of D.Disk files) before
+        → HoldsFirst (file_state c) before) }
 {
     if !files.may_be_used() {
         return None;
@@ -63,9 +81,15 @@ pub fn open_path<S: Start>(
     ensures idle { IfSome result (λ c. c.in_transaction ≡ false) }
     ensures unlimited { IfSome result (λ c. c.step_limit ≡ None) }
     ensures opened { IfSome result (λ c. HasCleanDisk (file_state c) → IsOpenOf (image_at S.Start) c) }
-    ensures holds { IfSome result (λ c. HasCleanDisk (file_state c) → (V : Vault) → AreOurs (file_state c).committed.trees V → Holds (file_state c) V) }
-    ensures again { IfSome result (λ c. HasCleanDisk (file_state c) → (V : Vault) → Keeps (image_at S.Start) V → Holds (file_state c) V) }
-    ensures either { IfSome result (λ c. HasCleanDisk (file_state c) → (V W : Vault) → KeepsEither (image_at S.Start) V W → ∥ (Holds (file_state c) V ⊎ Holds (file_state c) W) ∥₁) }
+    ensures holds { IfSome result (λ c. HasCleanDisk (file_state c)
+        → (V : Vault) → AreOurs (file_state c).committed.trees V → Holds (file_state c) V) }
+    ensures again { IfSome result (λ c. HasCleanDisk (file_state c)
+        → (V : Vault) → Keeps (image_at S.Start) V → Holds (file_state c) V) }
+    ensures either { IfSome result (λ c. HasCleanDisk (file_state c)
+        → (V W : Vault) → KeepsEither (image_at S.Start) V W → HoldsEither (file_state c) V W) }
+    ensures first { IfSome result (λ c. HasCleanDisk (file_state c)
+        → (before : Trees) → AreBlank before → KeepsFirst (image_at S.Start) before
+        → HoldsFirst (file_state c) before) }
 {
     match Connection::open_from(rt, path, false, start) {
         Ok(opened) => Some(opened),

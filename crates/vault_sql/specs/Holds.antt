@@ -4,7 +4,7 @@ use Rattle.sqlite.specs.Effect.{IsDatabase}
 use Rattle.sqlite.specs.State.{State}
 use Rattle.sqlite.specs.Tree.{Trees}
 use Rattle.sqlite_catalog.specs.Listing.{IsSound}
-use Rattle.vault_core.specs.Vault.{Vault}
+use Rattle.vault_core.specs.Vault.{Vault, empty_vault}
 use Rattle.vault_sql.specs.Schema.{vault_schema}
 use Rattle.vault_sql.specs.Stands.{Stands}
 
@@ -23,6 +23,18 @@ pub record AreOurs (db : Trees) (V : Vault) : Type 0 where
   pub sound : IsSound vault_schema db
   pub stands : Stands db V
 
+-- the rows are those of the one vault or of the other
+abbrev pub AreEither : Vault → Vault → Trees → Type 0
+AreEither before after db = AreOurs db before ⊎ AreOurs db after
+
+-- the trees are these, or their rows are those of the empty vault
+abbrev pub AreFirst : Trees → Trees → Type 0
+AreFirst before db = (db ≡ before) ⊎ AreOurs db empty_vault
+
 -- each state that a crash may leave now is that of one of these
 abbrev pub LeavesEither : State → Vault → Vault → Type 0
-LeavesEither s before after = (db : Trees) → s.may_leave db → AreOurs db before ⊎ AreOurs db after
+LeavesEither s before after = (db : Trees) → s.may_leave db → AreEither before after db
+
+-- each state that a crash may leave now has these trees, or is that of the empty vault
+abbrev pub LeavesFirst : State → Trees → Type 0
+LeavesFirst s before = (db : Trees) → s.may_leave db → AreFirst before db

@@ -1,5 +1,5 @@
 //! The schema of a vault's tables.
-ghost use Rattle.std.specs.Prelude.{◌≡◌, ◌≤◌, ◌↔◌, ◌⊎◌, IsTrue, Err, false, OnOk};
+ghost use Rattle.std.specs.Prelude.{◌≡◌, ◌≤◌, ◌↔◌, IsTrue, Err, false, OnOk};
 ghost use Rattle.sqlite.specs.Held.{state};
 ghost use Rattle.sqlite.specs.State.{HasCleanDisk};
 ghost use Rattle.sqlite.specs.View.{doubt};
@@ -7,9 +7,9 @@ ghost use Rattle.sql_maps.specs.Schema.{no_schema};
 ghost use Rattle.sql_maps.specs.States.{Steps};
 ghost use Rattle.vault_core.specs.Vault.{empty_vault};
 ghost use Rattle.vault_sql.specs.Calls.{IsWithin};
-ghost use Rattle.vault_sql.specs.Holds.{Holds};
+ghost use Rattle.vault_sql.specs.Holds.{Holds, LeavesFirst};
 ghost use Rattle.vault_sql.specs.Making.{IsBegun, IsReady};
-ghost use Rattle.vault_sql.specs.Stands.{Stands, lookups_of};
+ghost use Rattle.vault_sql.specs.Stands.{lookups_of};
 
 use sql_maps::run::step;
 use sqlite::{Alter, Connection, Error, Transaction};
@@ -57,7 +57,9 @@ fn create_all<S: Alter>(conn: &mut Connection<S>) -> Result<(), Error>
     ensures idle { conn.new.in_transaction ≡ false }
     ensures clean { doubt (state S.Store conn.old).is_clean ≤ doubt (state S.Store conn.new).is_clean }
     ensures done { HasCleanDisk (state S.Store conn.new) → OnOk result (IsReady (state S.Store conn.old) → (state S.Store conn.old).now.schema ≡ no_schema → Holds (state S.Store conn.new) empty_vault) }
-    ensures crash { HasCleanDisk (state S.Store conn.new) → IsReady (state S.Store conn.old) → (state S.Store conn.old).now.schema ≡ no_schema → (db : _) → (state S.Store conn.new).may_leave db → (db ≡ (state S.Store conn.old).committed.trees) ⊎ Stands db empty_vault }
+    ensures crash { HasCleanDisk (state S.Store conn.new)
+        → IsReady (state S.Store conn.old) → (state S.Store conn.old).now.schema ≡ no_schema
+        → LeavesFirst (state S.Store conn.new) (state S.Store conn.old).committed.trees }
 {
     let mut tx = conn.transaction();
     create_tables(&mut tx)?;
@@ -74,7 +76,8 @@ pub fn make_schema<S: Alter>(conn: &mut Connection<S>) -> Result<(), SchemaFault
     ensures done { HasCleanDisk (state S.Store conn.new) → OnOk result (IsReady (state S.Store conn.old) → Holds (state S.Store conn.new) empty_vault) }
     ensures taken { (result ≡ Err SchemaFault.Taken) ↔ (¬ ((state S.Store conn.old).now.schema ≡ no_schema)) }
     ensures unchanged { result ≡ Err SchemaFault.Taken → conn.new ≡ conn.old }
-    ensures crash { HasCleanDisk (state S.Store conn.new) → IsReady (state S.Store conn.old) → (db : _) → (state S.Store conn.new).may_leave db → (db ≡ (state S.Store conn.old).committed.trees) ⊎ Stands db empty_vault }
+    ensures crash { HasCleanDisk (state S.Store conn.new) → IsReady (state S.Store conn.old)
+        → LeavesFirst (state S.Store conn.new) (state S.Store conn.old).committed.trees }
 {
     if !is_blank(conn.schema()) {
         return Err(SchemaFault::Taken);

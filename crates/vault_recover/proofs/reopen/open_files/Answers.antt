@@ -1,5 +1,5 @@
 use Rattle.sqlite.specs.Files.{image_of}
-use Rattle.vault_recover.proofs.Reopened.{held_again, one_again}
+use Rattle.vault_recover.proofs.Reopened.{first_again, held_again, one_again}
 use Rattle.vault_recover.proofs.reopen.open_files.Goals as goal
 
 pub returns-in-Ok-clause-opened : goal.returns-in-Ok-clause-opened
@@ -9,10 +9,20 @@ returns-in-Ok-clause-opened g c clean = record {
 }
 
 pub returns-in-Ok-clause-holds : goal.returns-in-Ok-clause-holds
-returns-in-Ok-clause-holds g c clean = held_again (image_of g.D.Disk c.args.files) c.in-Ok.conn (returns-in-Ok-clause-opened g c clean) c.in-Ok.ensures.fresh.unlimited
+returns-in-Ok-clause-holds g c clean =
+    held_again (image_of g.D.Disk c.args.files) c.in-Ok.conn (returns-in-Ok-clause-opened g c clean)
+    c.in-Ok.ensures.fresh.unlimited
 
 pub returns-in-Ok-clause-again : goal.returns-in-Ok-clause-again
-returns-in-Ok-clause-again g c clean V keeps = returns-in-Ok-clause-holds g c clean V (keeps _ (c.in-Ok.ensures.found clean).holds)
+returns-in-Ok-clause-again g c clean V keeps =
+    returns-in-Ok-clause-holds g c clean V (keeps _ (c.in-Ok.ensures.found clean).holds)
 
 pub returns-in-Ok-clause-either : goal.returns-in-Ok-clause-either
-returns-in-Ok-clause-either g c clean = one_again (image_of g.D.Disk c.args.files) c.in-Ok.conn (returns-in-Ok-clause-opened g c clean) c.in-Ok.ensures.fresh.unlimited
+returns-in-Ok-clause-either g c clean =
+    one_again (image_of g.D.Disk c.args.files) c.in-Ok.conn (returns-in-Ok-clause-opened g c clean)
+    c.in-Ok.ensures.fresh.unlimited
+
+pub returns-in-Ok-clause-first : goal.returns-in-Ok-clause-first
+returns-in-Ok-clause-first g c clean =
+    first_again (image_of g.D.Disk c.args.files) c.in-Ok.conn (returns-in-Ok-clause-opened g c clean)
+    c.in-Ok.ensures.fresh.unlimited

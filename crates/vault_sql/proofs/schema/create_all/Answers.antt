@@ -51,5 +51,5 @@ returns-clause-crash g c clean is blank db left =
           let at_first : (state g.S.Store c.args.conn.now).may_leave db = rw c.transaction-tx.ensures.begun at
           (c.in_ok-create_tables.ensures.steps.left middle db before) in
           inl (g.met.S.Store.settled c.args.conn.now.store db is.is_open at_first)
-      | inr wrote ↦ inr (ours empty_vault (made g c late is blank) db wrote).stands
+      | inr wrote ↦ inr (ours empty_vault (made g c late is blank) db wrote)
     ]
