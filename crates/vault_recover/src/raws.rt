@@ -183,7 +183,7 @@ pub(crate) fn versions(alloc: Global, rows: &[Row]) -> Result<Vec<RawVersion>, R
     ensures values { IfOk result (λ raws. map version_values raws.items ≡ rows.now) }
     ensures refused { IfErr result (λ e. e ≡ ReadFault.Store → IsForeign (map version_values) rows.now) }
 {
-    let mut raws = Vec::new(alloc);
+    let mut raws = Vec::with_capacity(alloc, rows.len())?;
     for row in rows {
         raws.push(version(row)?)?;
     }
@@ -195,7 +195,7 @@ pub(crate) fn merchants(alloc: Global, rows: &[Row]) -> Result<Vec<RawMerchant>,
     ensures values { IfOk result (λ raws. map merchant_values raws.items ≡ rows.now) }
     ensures refused { IfErr result (λ e. e ≡ ReadFault.Store → IsForeign (map merchant_values) rows.now) }
 {
-    let mut raws = Vec::new(alloc);
+    let mut raws = Vec::with_capacity(alloc, rows.len())?;
     for row in rows {
         raws.push(merchant(row)?)?;
     }
@@ -207,7 +207,7 @@ pub(crate) fn counts(alloc: Global, rows: &[Row]) -> Result<Vec<RawCount>, ReadF
     ensures values { IfOk result (λ raws. map count_values raws.items ≡ rows.now) }
     ensures refused { IfErr result (λ e. e ≡ ReadFault.Store → IsForeign (map count_values) rows.now) }
 {
-    let mut raws = Vec::new(alloc);
+    let mut raws = Vec::with_capacity(alloc, rows.len())?;
     for row in rows {
         raws.push(count(row)?)?;
     }
@@ -219,7 +219,7 @@ pub(crate) fn entries(alloc: Global, rows: &[Row]) -> Result<Vec<RawEntry>, Read
     ensures values { IfOk result (λ raws. map entry_values raws.items ≡ rows.now) }
     ensures refused { IfErr result (λ e. e ≡ ReadFault.Store → IsForeign (map entry_values) rows.now) }
 {
-    let mut raws = Vec::new(alloc);
+    let mut raws = Vec::with_capacity(alloc, rows.len())?;
     for row in rows {
         raws.push(entry(row)?)?;
     }
@@ -231,7 +231,7 @@ pub(crate) fn records(alloc: Global, rows: &[Row]) -> Result<Vec<RawRecord>, Rea
     ensures values { IfOk result (λ raws. map record_values raws.items ≡ rows.now) }
     ensures refused { IfErr result (λ e. e ≡ ReadFault.Store → IsForeign (map record_values) rows.now) }
 {
-    let mut raws = Vec::new(alloc);
+    let mut raws = Vec::with_capacity(alloc, rows.len())?;
     for row in rows {
         raws.push(record(row)?)?;
     }
@@ -243,7 +243,7 @@ pub(crate) fn rights(alloc: Global, rows: &[Row]) -> Result<Vec<RawRight>, ReadF
     ensures values { IfOk result (λ raws. map right_values raws.items ≡ rows.now) }
     ensures refused { IfErr result (λ e. e ≡ ReadFault.Store → IsForeign (map right_values) rows.now) }
 {
-    let mut raws = Vec::new(alloc);
+    let mut raws = Vec::with_capacity(alloc, rows.len())?;
     for row in rows {
         raws.push(right(row)?)?;
     }
