@@ -1,5 +1,5 @@
 -- Numbers that rise are the rowids of rows that are apart.
-use Rattle.std.proofs.Common.{◌≡◌, inl, inr, ℕ, ◌+◌, ◌<◌, ℤ, List, [], ◌∷◌, map, length, get_or, sym, ap, ap₂, ◌↔◌, subst, zero, subst₂, ◌∙◌, arith, Less, Equal, Greater, false, refl, suc, Bool, Result, Ok, Err, IfOk, IsTrue}
+use Rattle.std.proofs.Common.{◌≡◌, ℕ, ◌+◌, ◌<◌, ℤ, List, [], ◌∷◌, map, length, get_or, sym, ap, ap₂, ◌↔◌, subst, zero, subst₂, ◌∙◌, arith, Less, Equal, Greater, false, refl, suc, Bool, Result, Ok, Err, IfOk, IsTrue}
 use Rattle.std.specs.Prelude.{◌<ℤ◌, ◌≢◌}
 use Rattle.std.specs.List.{AllByRecursion}
 use Rattle.std.specs.List.Sorted.{IsSorted}
@@ -10,7 +10,6 @@ use Rattle.std.proofs.lemmas.Int.{ints}
 use Rattle.sqlite.specs.Order.{Row, value_cmp}
 use Rattle.sqlite.specs.Tree.{rowid}
 use Rattle.sqlite.specs.declared.types.Value.TheVariants.{Int}
-use Rattle.sqlite_rules.specs.Lists.{Has}
 use Rattle.sqlite_rules.proofs.ListLemmas.{all_has, all_from}
 use Rattle.sqlite_rules.proofs.ProbeLemmas.{has_mapped, mapped_has}
 use Rattle.sqlite_value.proofs.OrderLemmas.{value_cmp-Int}
@@ -20,7 +19,8 @@ use Rattle.vault_recover.specs.Apart.{id_row, Rises}
 abbrev pub IsAdjacent : List ℤ → ℕ → Type 0
 IsAdjacent xs n = (k : ℕ) (d : ℤ) → k + 1 < n → get_or xs k d <ℤ get_or xs (k + 1) d
 
-later_below : (x y : ℤ) (xs : List ℤ) → x <ℤ y → AllByRecursion (λ z. y <ℤ z) xs → AllByRecursion (λ z. x <ℤ z) xs
+later_below : (x y : ℤ) (xs : List ℤ) → x <ℤ y → AllByRecursion (λ z. y <ℤ z) xs
+    → AllByRecursion (λ z. x <ℤ z) xs
 later_below x y [] low all = tt
 later_below x y (z ∷ xs) low all = (omega (arith, ints, low, all.0), later_below x y xs low all.1)
 
@@ -29,28 +29,39 @@ rises_from [] h = tt
 rises_from (x ∷ []) h = (tt, tt)
 rises_from (x ∷ y ∷ xs) h =
     let first : x <ℤ y = h 0 x (omega arith) in
-    let rest = rises_from (y ∷ xs) (λ k d low. let on : k + 1 ≡ suc k = omega arith in let next : k + 1 + 1 ≡ suc (k + 1) = omega arith in subst₂ (λ i j. get_or (x ∷ y ∷ xs) i d <ℤ get_or (x ∷ y ∷ xs) j d) on next (h (k + 1) d (omega arith))) in
+    let rest = rises_from (y ∷ xs) (λ k d low.
+    let on : k + 1 ≡ suc k = omega arith in
+    let next : k + 1 + 1 ≡ suc (k + 1) = omega arith in
+    subst₂ (λ i j. get_or (x ∷ y ∷ xs) i d <ℤ get_or (x ∷ y ∷ xs) j d) on next (h (k + 1) d (omega arith))) in
     ((first, later_below x y xs first rest.0), rest)
 
 never_tied : (a b : ℤ) → a <ℤ b → value_cmp (Int a) (Int b) ≢ Equal
-never_tied a b low e = let same : a ≡ b = int_cmp-IsAntisymmetric a b (sym (value_cmp-Int a b) ∙ e) in omega (arith, ints, low, same)
+never_tied a b low e =
+    let same : a ≡ b = int_cmp-IsAntisymmetric a b (sym (value_cmp-Int a b) ∙ e) in
+    omega (arith, ints, low, same)
 
 pub rising_apart : (xs : List ℤ) → Rises xs → IsApart (map id_row xs)
 rising_apart [] up = tt
-rising_apart (x ∷ xs) up = (all_from _ (map id_row xs) (λ r h e. let it = has_mapped id_row xs r h in never_tied x it.0 (all_has _ xs it.0 up.0 it.1) (ap (λ z. value_cmp (Int x) (rowid z)) (sym it.2) ∙ e)), rising_apart xs up.1)
+rising_apart (x ∷ xs) up = (
+  all_from _ (map id_row xs) (λ r h e. let it = has_mapped id_row xs r h in
+      never_tied x it.0 (all_has _ xs it.0 up.0 it.1) (ap (λ z. value_cmp (Int x) (rowid z)) (sym it.2) ∙ e)),
+  rising_apart xs up.1,
+)
 
 -- only the rowids count
-pub apart_by_ids : {R : Type 0} (id : R → ℤ) (values : R → Row) → ((m : R) → rowid (values m) ≡ Int (id m)) → (raws : List R)
-    → IsApart (map id_row (map id raws)) ↔ IsApart (map values raws)
+pub apart_by_ids : {R : Type 0} (id : R → ℤ) (values : R → Row) → ((m : R) → rowid (values m) ≡ Int (id m))
+    → (raws : List R) → IsApart (map id_row (map id raws)) ↔ IsApart (map values raws)
 apart_by_ids id values is raws =
     subst (λ rows. IsApart rows ↔ IsApart (map values raws)) (sym (fused id raws))
     (on (λ m. id_row (id m)) values (λ m. sym (is m)) raws, on values (λ m. id_row (id m)) is raws)
   where
-    fused : {R : Type 0} (id : R → ℤ) (raws : List R) → map id_row (map id raws) ≡ map (λ m. id_row (id m)) raws
+    fused : {R : Type 0} (id : R → ℤ) (raws : List R)
+        → map id_row (map id raws) ≡ map (λ m. id_row (id m)) raws
     fused id [] = refl
     fused id (m ∷ raws) = ap (λ rows. id_row (id m) ∷ rows) (fused id raws)
 
-    on : {R : Type 0} (f g : R → Row) → ((m : R) → rowid (f m) ≡ rowid (g m)) → (raws : List R) → IsApart (map f raws) → IsApart (map g raws)
+    on : {R : Type 0} (f g : R → Row) → ((m : R) → rowid (f m) ≡ rowid (g m)) → (raws : List R)
+        → IsApart (map f raws) → IsApart (map g raws)
     on f g alike [] up = tt
     on f g alike (m ∷ raws) up = (
       all_from _ (map g raws) (λ r h e. let it = has_mapped g raws r h in
@@ -59,7 +70,8 @@ apart_by_ids id values is raws =
       on f g alike raws up.1,
     )
 
-pub apart_then : {E : Type 0} (r : Result Bool E) (ids : List ℤ) (rows : List Row) → IsApart (map id_row ids) ↔ IsApart rows
+pub apart_then : {E : Type 0} (r : Result Bool E) (ids : List ℤ) (rows : List Row)
+    → IsApart (map id_row ids) ↔ IsApart rows
     → IfOk r (λ b. IsTrue b ↔ IsApart (map id_row ids)) → IfOk r (λ b. IsTrue b ↔ IsApart rows)
 apart_then (Ok b) ids rows on h = (λ so. on.0 (h.0 so), λ up. h.1 (on.1 up))
 apart_then (Err e) ids rows on h = tt
@@ -70,18 +82,21 @@ adjacent_from (x ∷ []) up k d low = absurd (omega (arith, low))
 adjacent_from (x ∷ y ∷ xs) up zero d low = up.0.0
 adjacent_from (x ∷ y ∷ xs) up (suc k) d low =
     let next : suc (k + 1) ≡ suc k + 1 = omega arith in
-    subst (λ j. get_or (y ∷ xs) k d <ℤ get_or (x ∷ y ∷ xs) j d) next (adjacent_from (y ∷ xs) up.1 k d (omega (arith, low)))
+    subst (λ j. get_or (y ∷ xs) k d <ℤ get_or (x ∷ y ∷ xs) j d) next
+    (adjacent_from (y ∷ xs) up.1 k d (omega (arith, low)))
 
 below_next : (a b : ℤ) → is_lt (int_cmp b a) ≡ false → value_cmp (Int a) (Int b) ≢ Equal → a <ℤ b
 below_next a b not_lower apart = elim (int_cmp b a) as (λ o. o ≡ int_cmp b a → a <ℤ b) [
   | Less ↦ λ e. let off = ap is_lt e ∙ not_lower in cc
-  | Equal ↦ λ e. absurd (apart (value_cmp-Int a b ∙ ap (λ z. int_cmp z b) (sym (int_ranked b a Equal e)) ∙ tied_itself int_cmp_total b))
+  | Equal ↦ λ e. let same : a ≡ b = sym (int_ranked b a Equal e) in
+      absurd (apart (value_cmp-Int a b ∙ ap (λ z. int_cmp z b) same ∙ tied_itself int_cmp_total b))
   | Greater ↦ λ e. int_ranked b a Greater e
 ] refl
 
 -- what is sorted and apart rises
 pub sorted_rises : (xs : List ℤ) → IsSorted int_cmp xs → IsApart (map id_row xs) → Rises xs
-sorted_rises xs sorted apart = rises_from xs (λ k d low. below_next _ _ (sorted k d (omega arith) low) (next_apart xs apart k d low))
+sorted_rises xs sorted apart = rises_from xs (λ k d low.
+    below_next _ _ (sorted k d (omega arith) low) (next_apart xs apart k d low))
   where
     next_apart : (xs : List ℤ) → IsApart (map id_row xs) → (k : ℕ) (d : ℤ) → k + 1 < length xs
         → value_cmp (Int (get_or xs k d)) (Int (get_or xs (k + 1) d)) ≢ Equal
@@ -90,4 +105,5 @@ sorted_rises xs sorted apart = rises_from xs (λ k d low. below_next _ _ (sorted
     next_apart (x ∷ y ∷ xs) up zero d low = up.0.0
     next_apart (x ∷ y ∷ xs) up (suc k) d low =
         let next : suc (k + 1) ≡ suc k + 1 = omega arith in
-        subst (λ j. value_cmp (Int (get_or (y ∷ xs) k d)) (Int (get_or (x ∷ y ∷ xs) j d)) ≢ Equal) next (next_apart (y ∷ xs) up.1 k d (omega (arith, low)))
+        subst (λ j. value_cmp (Int (get_or (y ∷ xs) k d)) (Int (get_or (x ∷ y ∷ xs) j d)) ≢ Equal) next
+        (next_apart (y ∷ xs) up.1 k d (omega (arith, low)))

@@ -69,6 +69,17 @@ impl From<Error> for ReadFault {
     }
 }
 
+impl From<AllocError> for ReadFault {
+    ghost use Rattle.std.specs.Prelude.{◌≡◌};
+    ghost use Rattle.vault_recover.specs.declared.fault.ReadFault.TheVariants.{Memory};
+
+    ghost from_gives = { λ refused fault. fault ≡ Memory };
+
+    fn from(_refused: AllocError) -> ReadFault {
+        ReadFault::Memory
+    }
+}
+
 impl<T: Drop> From<AllocFailed<T>> for ReadFault {
     ghost use Rattle.std.specs.Prelude.{◌≡◌};
     ghost use Rattle.vault_recover.specs.declared.fault.ReadFault.TheVariants.{Memory};

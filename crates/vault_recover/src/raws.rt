@@ -1,9 +1,9 @@
 //! The values of rows.
 ghost use Rattle.std.specs.Int.{w64};
-ghost use Rattle.std.specs.Prelude.{◌≡◌, FitsSigned, map, Some, IfErr, IfOk, slice_get};
+ghost use Rattle.std.specs.Prelude.{◌≡◌, FitsSigned, map, IfErr, IfOk};
 ghost use Rattle.sqlite.specs.Order.{column};
 ghost use Rattle.sqlite.specs.declared.types.Value.TheVariants.{Int};
-ghost use Rattle.vault_recover.specs.Raw.{IsForeign, int_value, maybe_text_value, text_value, version_values, merchant_values, count_values, entry_values, record_values, right_values};
+ghost use Rattle.vault_recover.specs.Raw.{IsForeign, IsForeignAt, int_value, maybe_text_value, text_value, version_values, merchant_values, count_values, entry_values, record_values, right_values};
 
 use crate::fault::ReadFault;
 use sqlite::Row;
@@ -69,7 +69,7 @@ fn count(row: &Row) -> Result<RawCount, ReadFault>
 fn int_in(row: &Row, at: usize) -> Result<i64, ReadFault>
     ensures value { IfOk result (λ n. column row.now at ≡ Int n) }
     ensures fits { IfOk result (λ n. FitsSigned w64 n) }
-    ensures refused { IfErr result (λ e. e ≡ ReadFault.Store → IsForeign (λ n. Some (Int n)) (slice_get row.now at)) }
+    ensures refused { IfErr result (λ e. e ≡ ReadFault.Store → IsForeignAt Int row.now at) }
 {
     Ok(row.get(at)?)
 }
@@ -77,7 +77,7 @@ fn int_in(row: &Row, at: usize) -> Result<i64, ReadFault>
 /// A text.
 fn text_in(row: &Row, at: usize) -> Result<String, ReadFault>
     ensures value { IfOk result (λ text. column row.now at ≡ text_value text) }
-    ensures refused { IfErr result (λ e. e ≡ ReadFault.Store → IsForeign (λ text. Some (text_value text)) (slice_get row.now at)) }
+    ensures refused { IfErr result (λ e. e ≡ ReadFault.Store → IsForeignAt text_value row.now at) }
 {
     Ok(row.get(at)?)
 }
@@ -85,7 +85,7 @@ fn text_in(row: &Row, at: usize) -> Result<String, ReadFault>
 /// A text, or NULL.
 fn text_or_null_in(row: &Row, at: usize) -> Result<Option<String>, ReadFault>
     ensures value { IfOk result (λ text. column row.now at ≡ maybe_text_value text) }
-    ensures refused { IfErr result (λ e. e ≡ ReadFault.Store → IsForeign (λ text. Some (maybe_text_value text)) (slice_get row.now at)) }
+    ensures refused { IfErr result (λ e. e ≡ ReadFault.Store → IsForeignAt maybe_text_value row.now at) }
 {
     let text: Option<String> = row.get(at)?;
     match text {
@@ -97,7 +97,7 @@ fn text_or_null_in(row: &Row, at: usize) -> Result<Option<String>, ReadFault>
 /// A whole number, or NULL.
 fn int_or_null_in(row: &Row, at: usize) -> Result<Option<i64>, ReadFault>
     ensures value { IfOk result (λ number. column row.now at ≡ int_value number) }
-    ensures refused { IfErr result (λ e. e ≡ ReadFault.Store → IsForeign (λ number. Some (int_value number)) (slice_get row.now at)) }
+    ensures refused { IfErr result (λ e. e ≡ ReadFault.Store → IsForeignAt int_value row.now at) }
 {
     let number: Option<i64> = row.get(at)?;
     match number {
@@ -183,7 +183,7 @@ pub(crate) fn versions(alloc: Global, rows: &[Row]) -> Result<Vec<RawVersion>, R
     ensures values { IfOk result (λ raws. map version_values raws.items ≡ rows.now) }
     ensures refused { IfErr result (λ e. e ≡ ReadFault.Store → IsForeign (map version_values) rows.now) }
 {
-    let mut raws = Vec::new(alloc);
+    let mut raws = Vec::with_capacity(alloc, rows.len())?;
     for row in rows {
         raws.push(version(row)?)?;
     }
@@ -195,7 +195,7 @@ pub(crate) fn merchants(alloc: Global, rows: &[Row]) -> Result<Vec<RawMerchant>,
     ensures values { IfOk result (λ raws. map merchant_values raws.items ≡ rows.now) }
     ensures refused { IfErr result (λ e. e ≡ ReadFault.Store → IsForeign (map merchant_values) rows.now) }
 {
-    let mut raws = Vec::new(alloc);
+    let mut raws = Vec::with_capacity(alloc, rows.len())?;
     for row in rows {
         raws.push(merchant(row)?)?;
     }
@@ -207,7 +207,7 @@ pub(crate) fn counts(alloc: Global, rows: &[Row]) -> Result<Vec<RawCount>, ReadF
     ensures values { IfOk result (λ raws. map count_values raws.items ≡ rows.now) }
     ensures refused { IfErr result (λ e. e ≡ ReadFault.Store → IsForeign (map count_values) rows.now) }
 {
-    let mut raws = Vec::new(alloc);
+    let mut raws = Vec::with_capacity(alloc, rows.len())?;
     for row in rows {
         raws.push(count(row)?)?;
     }
@@ -219,7 +219,7 @@ pub(crate) fn entries(alloc: Global, rows: &[Row]) -> Result<Vec<RawEntry>, Read
     ensures values { IfOk result (λ raws. map entry_values raws.items ≡ rows.now) }
     ensures refused { IfErr result (λ e. e ≡ ReadFault.Store → IsForeign (map entry_values) rows.now) }
 {
-    let mut raws = Vec::new(alloc);
+    let mut raws = Vec::with_capacity(alloc, rows.len())?;
     for row in rows {
         raws.push(entry(row)?)?;
     }
@@ -231,7 +231,7 @@ pub(crate) fn records(alloc: Global, rows: &[Row]) -> Result<Vec<RawRecord>, Rea
     ensures values { IfOk result (λ raws. map record_values raws.items ≡ rows.now) }
     ensures refused { IfErr result (λ e. e ≡ ReadFault.Store → IsForeign (map record_values) rows.now) }
 {
-    let mut raws = Vec::new(alloc);
+    let mut raws = Vec::with_capacity(alloc, rows.len())?;
     for row in rows {
         raws.push(record(row)?)?;
     }
@@ -243,7 +243,7 @@ pub(crate) fn rights(alloc: Global, rows: &[Row]) -> Result<Vec<RawRight>, ReadF
     ensures values { IfOk result (λ raws. map right_values raws.items ≡ rows.now) }
     ensures refused { IfErr result (λ e. e ≡ ReadFault.Store → IsForeign (map right_values) rows.now) }
 {
-    let mut raws = Vec::new(alloc);
+    let mut raws = Vec::with_capacity(alloc, rows.len())?;
     for row in rows {
         raws.push(right(row)?)?;
     }

@@ -10,6 +10,9 @@ use Rattle.sql_maps.specs.Rows.{IsApart}
 pub returns : goal.returns
 returns c =
     let all = c.args.rows.now in
-    let ids = c.loop-row.invariant ∙ ap (map (λ (x : RawCount). x.rowid)) (take_all _ all c.loop-row-test.false) in
+    let id = λ (x : RawCount). x.rowid in
+    let ids = c.loop-row.invariant ∙ ap (map id) (take_all _ all c.loop-row-test.false) in
+    let same = apart_by_ids id count_values (λ m. refl) all in
     apart_then c.are_distinct.result c.loop-row.ids.items (map count_values all)
-    (subst (λ l. IsApart (map id_row l) ↔ IsApart (map count_values all)) (sym ids) (apart_by_ids (λ (x : RawCount). x.rowid) count_values (λ m. refl) all)) c.are_distinct.ensures
+    (subst (λ l. IsApart (map id_row l) ↔ IsApart (map count_values all)) (sym ids) same)
+    c.are_distinct.ensures

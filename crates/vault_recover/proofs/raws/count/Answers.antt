@@ -4,24 +4,29 @@ use Rattle.vault_recover.specs.Raw.{count_values}
 use Rattle.vault_recover.proofs.raws.count.Goals as goal
 
 pub returns-then-column_count-ne4-clause-refused : goal.returns-then-column_count-ne4-clause-refused
-returns-then-column_count-ne4-clause-refused c store raw same = c.if-column_count-ne4.true (c.column_count.ensures ∙ ap length same)
+returns-then-column_count-ne4-clause-refused c store raw same =
+    c.if-column_count-ne4.true (c.column_count.ensures ∙ ap length same)
 
 pub returns-in_err-rowid-clause-refused : goal.returns-in_err-rowid-clause-refused
 returns-in_err-rowid-clause-refused c =
-    by_column count_values _ 0 _ c.from_residual.result _ c.from_residual.ensures.1
+    by_column count_values _ 0 _ c.from_residual.result _
+    c.from_residual.ensures.1
     (λ raw. raw.rowid) (λ raw. refl) c.in_err-rowid.ensures.refused
 
 pub returns-in_err-merchant-clause-refused : goal.returns-in_err-merchant-clause-refused
 returns-in_err-merchant-clause-refused c =
-    by_column count_values _ 1 _ c.from_residual-in_err-merchant.result _ c.from_residual-in_err-merchant.ensures.1
+    by_column count_values _ 1 _ c.from_residual-in_err-merchant.result _
+    c.from_residual-in_err-merchant.ensures.1
     (λ raw. raw.merchant) (λ raw. refl) c.in_err-merchant.ensures.refused
 
 pub returns-in_err-kind-clause-refused : goal.returns-in_err-kind-clause-refused
 returns-in_err-kind-clause-refused c =
-    by_column count_values _ 2 _ c.from_residual-in_err-kind.result _ c.from_residual-in_err-kind.ensures.1
+    by_column count_values _ 2 _ c.from_residual-in_err-kind.result _
+    c.from_residual-in_err-kind.ensures.1
     (λ raw. raw.kind) (λ raw. refl) c.in_err-kind.ensures.refused
 
 pub returns-in_err-total-clause-refused : goal.returns-in_err-total-clause-refused
 returns-in_err-total-clause-refused c =
-    by_column count_values _ 3 _ c.from_residual-in_err-total.result _ c.from_residual-in_err-total.ensures.1
+    by_column count_values _ 3 _ c.from_residual-in_err-total.result _
+    c.from_residual-in_err-total.ensures.1
     (λ raw. raw.total) (λ raw. refl) c.in_err-total.ensures.refused
