@@ -1,4 +1,5 @@
 pub mod Backs
+pub mod ByRowid
 pub mod Chains
 pub mod Columns
 pub mod Decoded

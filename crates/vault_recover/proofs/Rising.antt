@@ -1,12 +1,13 @@
 -- Numbers that rise are the rowids of rows that are apart.
-use Rattle.std.proofs.Common.{◌≡◌, ℕ, ◌+◌, ◌<◌, ℤ, List, [], ◌∷◌, map, length, get_or, sym, ap, ap₂, ◌↔◌, subst, zero, subst₂, ◌∙◌, arith, Less, Equal, Greater, false, refl, suc, Bool, Result, Ok, Err, IfOk, IsTrue}
-use Rattle.std.specs.Prelude.{◌<ℤ◌, ◌≢◌}
-use Rattle.std.specs.List.{AllByRecursion}
-use Rattle.std.specs.List.Sorted.{IsSorted}
+use Rattle.std.proofs.Common.{◌≡◌, ℕ, ◌+◌, ◌<◌, ℤ, List, [], ◌∷◌, map, length, get_or, sym, ap, ap₂, ◌↔◌, subst, zero, subst₂, ◌∙◌, arith, Less, Equal, Greater, false, refl, suc, Bool, true, IsTrue}
+use Rattle.std.specs.Prelude.{◌<ℤ◌, ◌≢◌, int_lt}
+use Rattle.std.specs.List.{AllByRecursion, IsAllAdjacentAnswer}
+use Rattle.std.specs.List.Sorted.{IsSorted, IsSortedByKey}
 use Rattle.std.specs.Ordering.{int_cmp, is_lt}
 use Rattle.std.proofs.lemmas.Cmp.{int_cmp_total, int_ranked, tied_itself}
 use Rattle.std.specs.FinMap.{int_cmp-IsAntisymmetric}
 use Rattle.std.proofs.lemmas.Int.{ints}
+use Rattle.std.proofs.lemmas.List.{get_or-map, length-map}
 use Rattle.sqlite.specs.Order.{Row, value_cmp}
 use Rattle.sqlite.specs.Tree.{rowid}
 use Rattle.sqlite.specs.declared.types.Value.TheVariants.{Int}
@@ -70,12 +71,6 @@ apart_by_ids id values is raws =
       on f g alike raws up.1,
     )
 
-pub apart_then : {E : Type 0} (r : Result Bool E) (ids : List ℤ) (rows : List Row)
-    → IsApart (map id_row ids) ↔ IsApart rows
-    → IfOk r (λ b. IsTrue b ↔ IsApart (map id_row ids)) → IfOk r (λ b. IsTrue b ↔ IsApart rows)
-apart_then (Ok b) ids rows on h = (λ so. on.0 (h.0 so), λ up. h.1 (on.1 up))
-apart_then (Err e) ids rows on h = tt
-
 pub adjacent_from : (xs : List ℤ) → Rises xs → IsAdjacent xs (length xs)
 adjacent_from [] up k d low = absurd (omega (arith, low))
 adjacent_from (x ∷ []) up k d low = absurd (omega (arith, low))
@@ -107,3 +102,55 @@ sorted_rises xs sorted apart = rises_from xs (λ k d low.
         let next : suc (k + 1) ≡ suc k + 1 = omega arith in
         subst (λ j. value_cmp (Int (get_or (y ∷ xs) k d)) (Int (get_or (x ∷ y ∷ xs) j d)) ≢ Equal) next
         (next_apart (y ∷ xs) up.1 k d (omega (arith, low)))
+
+-- the ids of rows in the order of their ids
+sorted_ids : {R : Type 0} (id : R → ℤ) (raws : List R) → IsSortedByKey id int_cmp raws → IsSorted int_cmp (map id raws)
+sorted_ids id [] sorted k d from low = absurd (omega (arith, low))
+sorted_ids id (m ∷ raws) sorted k d from low =
+    let next : k + 1 < length (m ∷ raws) = subst (λ n. k + 1 < n) (length-map (m ∷ raws) id) low in
+    let this : k < length (m ∷ raws) = omega (arith, next) in
+    (λ i. is_lt (int_cmp (get_or-map id (m ∷ raws) (k + 1) m d next i) (get_or-map id (m ∷ raws) k m d this i)))
+    ∙ sorted k m from next
+
+-- what is answered of each row and the next
+abbrev pub IsRisingAnswer : {R : Type 0} → (R → ℤ) → List R → Bool → Type 0
+IsRisingAnswer id raws b = IsAllAdjacentAnswer (λ x y r. r ≡ int_lt (id x) (id y)) raws b
+
+-- each row and the next, as their ids say
+neighbours : {R : Type 0} (id : R → ℤ) (raws : List R) (m : R) (k : ℕ) (d : ℤ) → k + 1 < length raws
+    → (get_or (map id raws) k d ≡ id (get_or raws k m)) × (get_or (map id raws) (k + 1) d ≡ id (get_or raws (k + 1) m))
+neighbours id raws m k d low =
+    let this : k < length raws = omega (arith, low) in
+    (get_or-map id raws k m d this, get_or-map id raws (k + 1) m d low)
+
+rising_ids : {R : Type 0} (id : R → ℤ) (raws : List R) → IsRisingAnswer id raws true → Rises (map id raws)
+rising_ids id [] told = tt
+rising_ids id (m ∷ raws) told = rises_from (map id (m ∷ raws)) (λ k d low.
+    let next : k + 1 < length (m ∷ raws) = subst (λ n. k + 1 < n) (length-map (m ∷ raws) id) low in
+    let both = neighbours id (m ∷ raws) m k d next in
+    subst₂ (λ a b. a <ℤ b) (sym both.0) (sym both.1) (below _ _ (sym (told k m next))))
+  where
+    below : (a b : ℤ) → int_lt a b ≡ true → a <ℤ b
+    below a b low = omega (arith, ints, low)
+
+some_fall : {R : Type 0} (id : R → ℤ) (raws : List R) → IsRisingAnswer id raws false → Rises (map id raws) → ⊥
+some_fall id [] told up = omega (arith, told.1)
+some_fall id (m ∷ raws) told up =
+    let both = neighbours id (m ∷ raws) m told.0 (id m) told.1 in
+    let low : told.0 + 1 < length (map id (m ∷ raws)) = subst (λ n. told.0 + 1 < n) (sym (length-map (m ∷ raws) id)) told.1 in
+    never (subst₂ (λ a b. a <ℤ b) both.0 both.1 (adjacent_from (map id (m ∷ raws)) up told.0 (id m) low))
+    (sym (told.2 m))
+  where
+    never : {a b : ℤ} → a <ℤ b → int_lt a b ≡ false → ⊥
+    never low not = omega (arith, ints, low, not)
+
+-- rows each of which is answered to be below the next are apart, and rows in their order that are apart are so
+module _ {R : Type 0} (id : R → ℤ) (values : R → Row) (is : (m : R) → rowid (values m) ≡ Int (id m)) (raws : List R) where
+  pub told_apart : (b : Bool) → IsRisingAnswer id raws b → IsTrue b → IsApart (map values raws)
+  told_apart true told so = (apart_by_ids id values is raws).0 (rising_apart (map id raws) (rising_ids id raws told))
+  told_apart false told so = absurd (let clash = so in cc)
+
+  pub told_all : (b : Bool) → IsRisingAnswer id raws b → IsSortedByKey id int_cmp raws → IsApart (map values raws) → IsTrue b
+  told_all true told sorted apart = refl
+  told_all false told sorted apart = absurd (some_fall id raws told (sorted_rises (map id raws)
+      (sorted_ids id raws sorted) ((apart_by_ids id values is raws).1 apart)))

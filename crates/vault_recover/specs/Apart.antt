@@ -1,5 +1,7 @@
 -- Rows of which no rowid comes twice.
 use Rattle.std.specs.Prelude.{◌<ℤ◌, ℤ, List, [], ◌∷◌, map}
+use Rattle.std.specs.List.Sorted.{IsSortedByKey}
+use Rattle.std.specs.Ordering.{int_cmp}
 use Rattle.sqlite.specs.Order.{Row}
 use Rattle.sqlite.specs.Tree.{IsAscending}
 use Rattle.sqlite.specs.declared.types.Value.TheVariants.{Int}
@@ -22,3 +24,11 @@ pub record AreApart (rows : Rows) : Type 0 where
   pub entries : IsApart (map entry_values rows.entries.items)
   pub records : IsApart (map record_values rows.records.items)
   pub rights : IsApart (map right_values rows.rights.items)
+
+-- the rows of each table ascend by their rowids
+pub record AreByRowid (rows : Rows) : Type 0 where
+  pub merchants : IsSortedByKey (λ m. m.rowid) int_cmp rows.merchants.items
+  pub counts : IsSortedByKey (λ c. c.rowid) int_cmp rows.counts.items
+  pub entries : IsSortedByKey (λ e. e.rowid) int_cmp rows.entries.items
+  pub records : IsSortedByKey (λ r. r.rowid) int_cmp rows.records.items
+  pub rights : IsSortedByKey (λ r. r.rowid) int_cmp rows.rights.items

@@ -1,96 +1,62 @@
-//! No rowid comes twice.
-ghost use Rattle.std.specs.Prelude.{◌≡◌, ◌↔◌, map, IfOk, IsTrue};
-ghost use Rattle.vault_recover.specs.Apart.{AreApart, id_row, Rises};
+//! No rowid comes twice: rows that were read in the order of their rowids show it themselves.
+ghost use Rattle.std.specs.List.Sorted.{IsSortedByKey};
+ghost use Rattle.std.specs.Ordering.{int_cmp};
+ghost use Rattle.std.specs.Prelude.{map, IsTrue};
+ghost use Rattle.vault_recover.specs.Apart.{AreApart, AreByRowid};
 ghost use Rattle.vault_recover.specs.Raw.{merchant_values, count_values, entry_values, record_values, right_values};
 ghost use Rattle.sql_maps.specs.Rows.{IsApart};
 
-use std::alloc::{AllocError, Global};
 use vault_rules::rows::{RawCount, RawEntry, RawMerchant, RawRecord, RawRight, Rows};
 
-/// Whether each number is below the next.
-fn rises(ids: &[i64]) -> bool
-    ensures { IsTrue result ↔ Rises ids.now }
+/// Whether each rowid of `merchants` is below the next.
+fn merchants(rows: &[RawMerchant]) -> bool
+    ensures apart { IsTrue result → IsApart (map merchant_values rows.now) }
+    ensures only { IsSortedByKey (λ m. m.rowid) int_cmp rows.now → IsApart (map merchant_values rows.now) → IsTrue result }
 {
-    for i in 1..ids.len() {
-        if ids[i - 1] >= ids[i] {
-            return false;
-        }
-    }
-    true
+    rows.is_sorted_by(|earlier, later| earlier.rowid < later.rowid)
 }
 
-/// Whether no number comes twice.
-fn are_distinct(mut ids: Vec<i64>) -> Result<bool, AllocError>
-    ensures { IfOk result (λ b. IsTrue b ↔ IsApart (map id_row ids.items)) }
+/// Whether each rowid of `counts` is below the next.
+fn counts(rows: &[RawCount]) -> bool
+    ensures apart { IsTrue result → IsApart (map count_values rows.now) }
+    ensures only { IsSortedByKey (λ c. c.rowid) int_cmp rows.now → IsApart (map count_values rows.now) → IsTrue result }
 {
-    ids.sort()?;
-    Ok(rises(&ids))
+    rows.is_sorted_by(|earlier, later| earlier.rowid < later.rowid)
 }
 
-/// Whether no rowid of `merchants` comes twice.
-fn merchants(alloc: Global, rows: &[RawMerchant]) -> Result<bool, AllocError>
-    ensures { IfOk result (λ b. IsTrue b ↔ IsApart (map merchant_values rows.now)) }
+/// Whether each rowid of `entries` is below the next.
+fn entries(rows: &[RawEntry]) -> bool
+    ensures apart { IsTrue result → IsApart (map entry_values rows.now) }
+    ensures only { IsSortedByKey (λ e. e.rowid) int_cmp rows.now → IsApart (map entry_values rows.now) → IsTrue result }
 {
-    let mut ids = Vec::new(alloc);
-    for row in rows {
-        ids.push(row.rowid)?;
-    }
-    are_distinct(ids)
+    rows.is_sorted_by(|earlier, later| earlier.rowid < later.rowid)
 }
 
-/// Whether no rowid of `counts` comes twice.
-fn counts(alloc: Global, rows: &[RawCount]) -> Result<bool, AllocError>
-    ensures { IfOk result (λ b. IsTrue b ↔ IsApart (map count_values rows.now)) }
+/// Whether each rowid of `records` is below the next.
+fn records(rows: &[RawRecord]) -> bool
+    ensures apart { IsTrue result → IsApart (map record_values rows.now) }
+    ensures only { IsSortedByKey (λ r. r.rowid) int_cmp rows.now → IsApart (map record_values rows.now) → IsTrue result }
 {
-    let mut ids = Vec::new(alloc);
-    for row in rows {
-        ids.push(row.rowid)?;
-    }
-    are_distinct(ids)
+    rows.is_sorted_by(|earlier, later| earlier.rowid < later.rowid)
 }
 
-/// Whether no rowid of `entries` comes twice.
-fn entries(alloc: Global, rows: &[RawEntry]) -> Result<bool, AllocError>
-    ensures { IfOk result (λ b. IsTrue b ↔ IsApart (map entry_values rows.now)) }
+/// Whether each rowid of `rights` is below the next.
+fn rights(rows: &[RawRight]) -> bool
+    ensures apart { IsTrue result → IsApart (map right_values rows.now) }
+    ensures only { IsSortedByKey (λ r. r.rowid) int_cmp rows.now → IsApart (map right_values rows.now) → IsTrue result }
 {
-    let mut ids = Vec::new(alloc);
-    for row in rows {
-        ids.push(row.rowid)?;
-    }
-    are_distinct(ids)
+    rows.is_sorted_by(|earlier, later| earlier.rowid < later.rowid)
 }
 
-/// Whether no rowid of `records` comes twice.
-fn records(alloc: Global, rows: &[RawRecord]) -> Result<bool, AllocError>
-    ensures { IfOk result (λ b. IsTrue b ↔ IsApart (map record_values rows.now)) }
+/// Whether no rowid of a table comes twice, where the rows are in the order of their rowids; rows in another
+/// order may be told apart or not.
+pub(crate) fn are_apart(rows: &Rows) -> bool
+    ensures apart { IsTrue result → AreApart rows.now }
+    ensures only { AreByRowid rows.now → AreApart rows.now → IsTrue result }
 {
-    let mut ids = Vec::new(alloc);
-    for row in rows {
-        ids.push(row.rowid)?;
-    }
-    are_distinct(ids)
-}
-
-/// Whether no rowid of `rights` comes twice.
-fn rights(alloc: Global, rows: &[RawRight]) -> Result<bool, AllocError>
-    ensures { IfOk result (λ b. IsTrue b ↔ IsApart (map right_values rows.now)) }
-{
-    let mut ids = Vec::new(alloc);
-    for row in rows {
-        ids.push(row.rowid)?;
-    }
-    are_distinct(ids)
-}
-
-/// Whether no rowid of a table comes twice.
-pub(crate) fn are_apart(alloc: Global, rows: &Rows) -> Result<bool, AllocError>
-    ensures { IfOk result (λ b. IsTrue b ↔ AreApart rows.now) }
-{
-    Ok(
-        merchants(alloc, &rows.merchants)?
-            && counts(alloc, &rows.counts)?
-            && entries(alloc, &rows.entries)?
-            && records(alloc, &rows.records)?
-            && rights(alloc, &rows.rights)?,
-    )
+    merchants(&rows.merchants)
+        && counts(&rows.counts)
+        && entries(&rows.entries)
+        && records(&rows.records)
+        && rights(&rows.rights)
 }

@@ -1,6 +1,6 @@
 //! Whether rows are those of a sound vault.
 ghost use Rattle.std.specs.Prelude.{◌≡◌, ◌≢◌, ℤ, ℕ, true, IfErr, IfOk, OnOk};
-ghost use Rattle.vault_recover.specs.Apart.{AreApart};
+ghost use Rattle.vault_recover.specs.Apart.{AreApart, AreByRowid};
 ghost use Rattle.vault_recover.specs.Sizes.{counts_of};
 ghost use Rattle.vault_recover.specs.Versions.{is_other, other_version};
 ghost use Rattle.vault_rules.specs.Rules.{IsLeastBroken, keeps};
@@ -38,14 +38,14 @@ pub(crate) fn judge(alloc: Global, rows: &Rows) -> Result<Sizes, OpenFault>
     ensures kept { OnOk result ((r : ℕ) → keeps rows.now r ≡ true) }
     ensures apart { OnOk result (AreApart rows.now) }
     ensures damaged { IfErr result (λ e. (rule : ℕ) → e ≡ OpenFault.Damaged rule → IsLeastBroken rows.now rule) }
-    ensures shared { IfErr result (λ e. e ≡ OpenFault.Store → ¬ AreApart rows.now) }
+    ensures shared { IfErr result (λ e. e ≡ OpenFault.Store → AreByRowid rows.now → ¬ AreApart rows.now) }
     ensures unbroken { IfErr result (λ e. e ≡ OpenFault.Store → (r : ℕ) → keeps rows.now r ≡ true) }
     ensures versioned { IfErr result (λ e. (n : ℤ) → e ≢ OpenFault.WrongSchema n) }
 {
     if let Some(rule) = least_broken(alloc, rows)? {
         return Err(OpenFault::Damaged(rule));
     }
-    if !are_apart(alloc, rows)? {
+    if !are_apart(rows) {
         return Err(OpenFault::Store);
     }
     Ok(Sizes::of(rows))

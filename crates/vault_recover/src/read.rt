@@ -1,5 +1,6 @@
 //! Each table is read by one query, ordered by its key.
-ghost use Rattle.std.specs.List.Sorted.{IsPermutation};
+ghost use Rattle.std.specs.List.Sorted.{IsPermutation, IsSortedByKey};
+ghost use Rattle.std.specs.Ordering.{int_cmp};
 ghost use Rattle.std.specs.Prelude.{◌≡◌, map, IfOk, OnOk};
 ghost use Rattle.sqlite.specs.Effect.{IsDatabase};
 ghost use Rattle.sqlite.specs.Held.{state};
@@ -56,6 +57,7 @@ pub(crate) fn merchants<S: Alter>(
     conn: &mut Connection<S>,
 ) -> Result<Vec<RawMerchant>, ReadFault>
     ensures told { HasCleanDisk (state S.Store conn.new) → IfOk result (λ raws. IsOurs (state S.Store conn.old).now → IsPermutation ((state S.Store conn.old).now.trees 1) (map merchant_values raws.items)) }
+    ensures ordered { HasCleanDisk (state S.Store conn.new) → IfOk result (λ raws. (state S.Store conn.old).now.schema ≡ vault_schema → IsSortedByKey (λ raw. raw.rowid) int_cmp raws.items) }
     ensures live { HasCleanDisk (state S.Store conn.new) → OnOk result ((state S.Store conn.old).now.schema ≡ vault_schema → IsDatabase (state S.Store conn.old).now) }
     ensures kept { HasCleanDisk (state S.Store conn.new) → OnOk result ((state S.Store conn.old).now.schema ≡ vault_schema → IsUnchanged (state S.Store conn.old) (state S.Store conn.new)) }
     ensures quiet { IsQuiet (state S.Store conn.old) (state S.Store conn.new) }
@@ -70,6 +72,7 @@ pub(crate) fn counts<S: Alter>(
     conn: &mut Connection<S>,
 ) -> Result<Vec<RawCount>, ReadFault>
     ensures told { HasCleanDisk (state S.Store conn.new) → IfOk result (λ raws. IsOurs (state S.Store conn.old).now → IsPermutation ((state S.Store conn.old).now.trees 3) (map count_values raws.items)) }
+    ensures ordered { HasCleanDisk (state S.Store conn.new) → IfOk result (λ raws. (state S.Store conn.old).now.schema ≡ vault_schema → IsSortedByKey (λ raw. raw.rowid) int_cmp raws.items) }
     ensures live { HasCleanDisk (state S.Store conn.new) → OnOk result ((state S.Store conn.old).now.schema ≡ vault_schema → IsDatabase (state S.Store conn.old).now) }
     ensures kept { HasCleanDisk (state S.Store conn.new) → OnOk result ((state S.Store conn.old).now.schema ≡ vault_schema → IsUnchanged (state S.Store conn.old) (state S.Store conn.new)) }
     ensures quiet { IsQuiet (state S.Store conn.old) (state S.Store conn.new) }
@@ -84,6 +87,7 @@ pub(crate) fn entries<S: Alter>(
     conn: &mut Connection<S>,
 ) -> Result<Vec<RawEntry>, ReadFault>
     ensures told { HasCleanDisk (state S.Store conn.new) → IfOk result (λ raws. IsOurs (state S.Store conn.old).now → IsPermutation ((state S.Store conn.old).now.trees 5) (map entry_values raws.items)) }
+    ensures ordered { HasCleanDisk (state S.Store conn.new) → IfOk result (λ raws. (state S.Store conn.old).now.schema ≡ vault_schema → IsSortedByKey (λ raw. raw.rowid) int_cmp raws.items) }
     ensures live { HasCleanDisk (state S.Store conn.new) → OnOk result ((state S.Store conn.old).now.schema ≡ vault_schema → IsDatabase (state S.Store conn.old).now) }
     ensures kept { HasCleanDisk (state S.Store conn.new) → OnOk result ((state S.Store conn.old).now.schema ≡ vault_schema → IsUnchanged (state S.Store conn.old) (state S.Store conn.new)) }
     ensures quiet { IsQuiet (state S.Store conn.old) (state S.Store conn.new) }
@@ -98,6 +102,7 @@ pub(crate) fn records<S: Alter>(
     conn: &mut Connection<S>,
 ) -> Result<Vec<RawRecord>, ReadFault>
     ensures told { HasCleanDisk (state S.Store conn.new) → IfOk result (λ raws. IsOurs (state S.Store conn.old).now → IsPermutation ((state S.Store conn.old).now.trees 8) (map record_values raws.items)) }
+    ensures ordered { HasCleanDisk (state S.Store conn.new) → IfOk result (λ raws. (state S.Store conn.old).now.schema ≡ vault_schema → IsSortedByKey (λ raw. raw.rowid) int_cmp raws.items) }
     ensures live { HasCleanDisk (state S.Store conn.new) → OnOk result ((state S.Store conn.old).now.schema ≡ vault_schema → IsDatabase (state S.Store conn.old).now) }
     ensures kept { HasCleanDisk (state S.Store conn.new) → OnOk result ((state S.Store conn.old).now.schema ≡ vault_schema → IsUnchanged (state S.Store conn.old) (state S.Store conn.new)) }
     ensures quiet { IsQuiet (state S.Store conn.old) (state S.Store conn.new) }
@@ -112,6 +117,7 @@ pub(crate) fn rights<S: Alter>(
     conn: &mut Connection<S>,
 ) -> Result<Vec<RawRight>, ReadFault>
     ensures told { HasCleanDisk (state S.Store conn.new) → IfOk result (λ raws. IsOurs (state S.Store conn.old).now → IsPermutation ((state S.Store conn.old).now.trees 10) (map right_values raws.items)) }
+    ensures ordered { HasCleanDisk (state S.Store conn.new) → IfOk result (λ raws. (state S.Store conn.old).now.schema ≡ vault_schema → IsSortedByKey (λ raw. raw.rowid) int_cmp raws.items) }
     ensures live { HasCleanDisk (state S.Store conn.new) → OnOk result ((state S.Store conn.old).now.schema ≡ vault_schema → IsDatabase (state S.Store conn.old).now) }
     ensures kept { HasCleanDisk (state S.Store conn.new) → OnOk result ((state S.Store conn.old).now.schema ≡ vault_schema → IsUnchanged (state S.Store conn.old) (state S.Store conn.new)) }
     ensures quiet { IsQuiet (state S.Store conn.old) (state S.Store conn.new) }

@@ -1,7 +1,10 @@
 //! The rows of all tables.
 ghost use Rattle.std.specs.Prelude.{◌≡◌, IfOk, OnOk};
+ghost use Rattle.std.specs.List.Sorted.{IsSortedByKey};
+ghost use Rattle.std.specs.Ordering.{int_cmp};
 ghost use Rattle.sqlite.specs.Held.{state};
 ghost use Rattle.sqlite.specs.State.{HasCleanDisk, IsUnchanged};
+ghost use Rattle.vault_recover.specs.Apart.{AreByRowid};
 ghost use Rattle.vault_recover.specs.Opened.{AreMerchants, AreOthers, AreRaws, AreVersions};
 ghost use Rattle.vault_recover.specs.Reading.{IsOurs, IsQuiet};
 ghost use Rattle.vault_sql.specs.Schema.{vault_schema};
@@ -18,6 +21,7 @@ fn merchants_and_counts<S: Alter>(
     conn: &mut Connection<S>,
 ) -> Result<(Vec<RawMerchant>, Vec<RawCount>), ReadFault>
     ensures told { HasCleanDisk (state S.Store conn.new) → IfOk result (λ found. IsOurs (state S.Store conn.old).now → AreMerchants (state S.Store conn.old).now.trees found.0.items found.1.items) }
+    ensures ordered { HasCleanDisk (state S.Store conn.new) → IfOk result (λ found. (state S.Store conn.old).now.schema ≡ vault_schema → IsSortedByKey (λ raw. raw.rowid) int_cmp found.0.items × IsSortedByKey (λ raw. raw.rowid) int_cmp found.1.items) }
     ensures kept { HasCleanDisk (state S.Store conn.new) → OnOk result ((state S.Store conn.old).now.schema ≡ vault_schema → IsUnchanged (state S.Store conn.old) (state S.Store conn.new)) }
     ensures quiet { IsQuiet (state S.Store conn.old) (state S.Store conn.new) }
 {
@@ -32,6 +36,7 @@ fn others<S: Alter>(
     conn: &mut Connection<S>,
 ) -> Result<(Vec<RawEntry>, Vec<RawRecord>, Vec<RawRight>), ReadFault>
     ensures told { HasCleanDisk (state S.Store conn.new) → IfOk result (λ found. IsOurs (state S.Store conn.old).now → AreOthers (state S.Store conn.old).now.trees found.0.items found.1.items found.2.items) }
+    ensures ordered { HasCleanDisk (state S.Store conn.new) → IfOk result (λ found. (state S.Store conn.old).now.schema ≡ vault_schema → IsSortedByKey (λ raw. raw.rowid) int_cmp found.0.items × IsSortedByKey (λ raw. raw.rowid) int_cmp found.1.items × IsSortedByKey (λ raw. raw.rowid) int_cmp found.2.items) }
     ensures kept { HasCleanDisk (state S.Store conn.new) → OnOk result ((state S.Store conn.old).now.schema ≡ vault_schema → IsUnchanged (state S.Store conn.old) (state S.Store conn.new)) }
     ensures quiet { IsQuiet (state S.Store conn.old) (state S.Store conn.new) }
 {
@@ -49,6 +54,7 @@ pub(crate) fn rows<S: Alter>(
 ) -> Result<Rows, ReadFault>
     ensures told { HasCleanDisk (state S.Store conn.new) → IfOk result (λ rows. IsOurs (state S.Store conn.old).now → AreVersions (state S.Store conn.old).now.trees versions.items → AreRaws (state S.Store conn.old).now.trees rows) }
     ensures versions { IfOk result (λ rows. rows.versions ≡ versions) }
+    ensures ordered { HasCleanDisk (state S.Store conn.new) → IfOk result (λ rows. (state S.Store conn.old).now.schema ≡ vault_schema → AreByRowid rows) }
     ensures kept { HasCleanDisk (state S.Store conn.new) → OnOk result ((state S.Store conn.old).now.schema ≡ vault_schema → IsUnchanged (state S.Store conn.old) (state S.Store conn.new)) }
     ensures quiet { IsQuiet (state S.Store conn.old) (state S.Store conn.new) }
 {

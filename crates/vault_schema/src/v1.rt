@@ -104,22 +104,20 @@ pub const TAKE_RIGHT: &str = "DELETE FROM rights WHERE caller = ?1 AND merchant 
 /// The whole of `vault`, by its id.
 pub const READ_VERSIONS: &str = "SELECT id, version FROM vault ORDER BY id";
 
-/// The whole of `merchants`, by its key.
+/// The whole of `merchants`, by its rowid.
 pub const READ_MERCHANTS: &str =
-    "SELECT rowid, name, single_life, multi_life, moment FROM merchants ORDER BY name";
+    "SELECT rowid, name, single_life, multi_life, moment FROM merchants ORDER BY rowid";
 
-/// The whole of `counts`, by its key.
-pub const READ_COUNTS: &str =
-    "SELECT rowid, merchant, kind, total FROM counts ORDER BY merchant, kind";
+/// The whole of `counts`, by its rowid.
+pub const READ_COUNTS: &str = "SELECT rowid, merchant, kind, total FROM counts ORDER BY rowid";
 
-/// The whole of `entries`, by its key.
+/// The whole of `entries`, by its rowid.
 pub const READ_ENTRIES: &str =
-    "SELECT rowid, merchant, token, number, usage, birth, expires, revoked FROM entries ORDER BY merchant, token";
+    "SELECT rowid, merchant, token, number, usage, birth, expires, revoked FROM entries ORDER BY rowid";
 
-/// The whole of `records`, by its key.
+/// The whole of `records`, by its rowid.
 pub const READ_RECORDS: &str =
-    "SELECT rowid, caller, request, merchant, token, usage FROM records ORDER BY caller, request";
+    "SELECT rowid, caller, request, merchant, token, usage FROM records ORDER BY rowid";
 
-/// The whole of `rights`, by its key.
-pub const READ_RIGHTS: &str =
-    "SELECT rowid, caller, merchant, what FROM rights ORDER BY caller, merchant, what";
+/// The whole of `rights`, by its rowid.
+pub const READ_RIGHTS: &str = "SELECT rowid, caller, merchant, what FROM rights ORDER BY rowid";

@@ -89,27 +89,27 @@ module _ (ts : List Table) (is : List Index) where
   read_versions_is = record { names = _; is = refl; plain = (refl, refl); unlisted = refl }
 
   pub read_merchants_is : IsQuery (grown v1 ts is) READ_MERCHANTS.now
-      (sorted_of 1 [] (all_columns 4) [] (ordered_by (1 ∷ [])))
+      (sorted_of 1 [] (all_columns 4) [] (ordered_by (0 ∷ [])))
   unfolding understood everything
   read_merchants_is = record { names = _; is = refl; plain = (refl, refl); unlisted = refl }
 
   pub read_counts_is : IsQuery (grown v1 ts is) READ_COUNTS.now
-      (sorted_of 3 [] (all_columns 3) [] (ordered_by (1 ∷ 2 ∷ [])))
+      (sorted_of 3 [] (all_columns 3) [] (ordered_by (0 ∷ [])))
   unfolding understood everything
   read_counts_is = record { names = _; is = refl; plain = (refl, refl); unlisted = refl }
 
   pub read_entries_is : IsQuery (grown v1 ts is) READ_ENTRIES.now
-      (sorted_of 5 [] (all_columns 7) [] (ordered_by (1 ∷ 2 ∷ [])))
+      (sorted_of 5 [] (all_columns 7) [] (ordered_by (0 ∷ [])))
   unfolding understood everything
   read_entries_is = record { names = _; is = refl; plain = (refl, refl); unlisted = refl }
 
   pub read_records_is : IsQuery (grown v1 ts is) READ_RECORDS.now
-      (sorted_of 8 [] (all_columns 5) [] (ordered_by (1 ∷ 2 ∷ [])))
+      (sorted_of 8 [] (all_columns 5) [] (ordered_by (0 ∷ [])))
   unfolding understood everything
   read_records_is = record { names = _; is = refl; plain = (refl, refl); unlisted = refl }
 
   pub read_rights_is : IsQuery (grown v1 ts is) READ_RIGHTS.now
-      (sorted_of 10 [] (all_columns 3) [] (ordered_by (1 ∷ 2 ∷ 3 ∷ [])))
+      (sorted_of 10 [] (all_columns 3) [] (ordered_by (0 ∷ [])))
   unfolding understood everything
   read_rights_is = record { names = _; is = refl; plain = (refl, refl); unlisted = refl }
 

@@ -1,18 +1,16 @@
-use Rattle.std.proofs.Common.{refl, map, sym, ap, subst, ◌∙◌, ◌↔◌}
-use Rattle.std.proofs.lemmas.List.{take_all}
-use Rattle.vault_recover.proofs.Rising.{apart_then, apart_by_ids}
+use Rattle.std.proofs.Common.{refl, rules}
+use Rattle.std.proofs.lemmas.Fn.{always_returns_same}
+use Rattle.std.specs.Prelude.{int_lt}
+use Rattle.vault_recover.proofs.Rising.{IsRisingAnswer, told_all, told_apart}
 use Rattle.vault_recover.proofs.apart.rights.Goals as goal
-use Rattle.vault_recover.specs.Apart.{id_row}
 use Rattle.vault_recover.specs.Raw.{right_values}
 use Rattle.vault_rules.specs.declared.rows.RawRight.{RawRight}
-use Rattle.sql_maps.specs.Rows.{IsApart}
 
-pub returns : goal.returns
-returns c =
-    let all = c.args.rows.now in
-    let id = λ (x : RawRight). x.rowid in
-    let ids = c.loop-row.invariant ∙ ap (map id) (take_all _ all c.loop-row-test.false) in
-    let same = apart_by_ids id right_values (λ m. refl) all in
-    apart_then c.are_distinct.result c.loop-row.ids.items (map right_values all)
-    (subst (λ l. IsApart (map id_row l) ↔ IsApart (map right_values all)) (sym ids) same)
-    c.are_distinct.ensures
+told : (c : goal.After-is_sorted_by) → IsRisingAnswer (λ (x : RawRight). x.rowid) c.args.rows.now c.is_sorted_by.result
+told c = c.is_sorted_by.ensures.cases (λ x y. int_lt x.rowid y.rowid) (always_returns_same _ _ _ (λ a r f' k. search rules))
+
+pub returns-clause-apart : goal.returns-clause-apart
+returns-clause-apart c = told_apart (λ (x : RawRight). x.rowid) right_values (λ m. refl) c.args.rows.now _ (told c)
+
+pub returns-clause-only : goal.returns-clause-only
+returns-clause-only c = told_all (λ (x : RawRight). x.rowid) right_values (λ m. refl) c.args.rows.now _ (told c)

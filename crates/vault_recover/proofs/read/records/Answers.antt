@@ -1,5 +1,10 @@
 use Rattle.std.proofs.Common.{arith, [], refl, sym, subst, ◌∙◌}
-use Rattle.std.specs.List.Sorted.{IsPermutation}
+use Rattle.std.specs.List.Sorted.{IsPermutation, IsSortedByKey}
+use Rattle.sqlite.specs.Order.{value_cmp}
+use Rattle.sqlite.specs.Tree.{rowid}
+use Rattle.vault_recover.proofs.ByRowid.{shown_by_rowid, ids_ascend}
+use Rattle.vault_recover.specs.Raw.{record_values}
+use Rattle.vault_rules.specs.declared.rows.RawRecord.{RawRecord}
 use Rattle.sqlite.specs.Held.{state}
 use Rattle.sql_maps.proofs.Reading.{reads_whole}
 use Rattle.vault_schema.specs.Version1.Tables.{records}
@@ -35,3 +40,11 @@ returns-clause-kept g c clean =
 pub returns-clause-quiet : goal.returns-clause-quiet
 returns-clause-quiet g c = quiet _ (state g.S.Store c.args.conn.now) (state g.S.Store c.rows_of.new.conn)
     (c.rows_of.ensures.reads vault_schema (read_records_is [] []).plain)
+
+pub returns-clause-ordered : goal.returns-clause-ordered
+returns-clause-ordered g c clean =
+    if_ok c.records.result (λ raws same ours.
+    ids_ascend (λ (raw : RawRecord). raw.rowid) record_values (λ raw. refl) raws.items
+    (subst (IsSortedByKey rowid value_cmp) (sym (same ∙ c.deref.ensures.value))
+    (shown_by_rowid 8 _ (read_records_is [] []) (state g.S.Store c.args.conn.now) (state g.S.Store c.rows_of.new.conn)
+    ours _ (c.in_ok-rows.ensures.told clean)))) c.records.ensures.values
