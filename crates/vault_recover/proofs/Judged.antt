@@ -4,7 +4,6 @@ use Rattle.std.specs.Ordering.{int_eq}
 use Rattle.sqlite.specs.Effect.{Database, IsDatabase}
 use Rattle.sqlite.specs.Order.{Row}
 use Rattle.sqlite.specs.State.{State, IsUnchanged}
-use Rattle.vault_recover.proofs.Chains.{ours_then}
 use Rattle.vault_recover.proofs.FromStands.{stands_shows, version_of}
 use Rattle.vault_recover.proofs.Opening.{apart}
 use Rattle.vault_recover.proofs.Once.{apart_keys}
@@ -12,7 +11,7 @@ use Rattle.vault_recover.proofs.Stood.{they_stand}
 use Rattle.vault_recover.proofs.Tallies.{apart_permuted}
 use Rattle.vault_recover.specs.Apart.{AreApart}
 use Rattle.vault_recover.specs.Opened.{AreRaws, AreVersions, IsFit, IsLeastBroken, IsNoRefusal, IsOtherVersion, IsSoundOf, StandsSound}
-use Rattle.vault_recover.specs.Reading.{IsOurs}
+use Rattle.vault_recover.specs.Reading.{AreAll, IsOurs}
 use Rattle.vault_recover.specs.Sizes.{counts_of}
 use Rattle.vault_recover.specs.Versions.{is_other, other_version}
 use Rattle.vault_recover.specs.declared.fault.OpenFault.{OpenFault}
@@ -62,11 +61,24 @@ sound_of db ours sound rows raws keep apart says =
     }
 
 -- what was read of a database that stayed as it was
-pub raws_of : (old mid : State) → IsUnchanged old mid → IsOurs old.now → (versions : List RawVersion) → AreVersions old.now.trees versions → (rows : Rows)
-    → (IsOurs mid.now → AreVersions mid.now.trees versions → AreRaws mid.now.trees rows) → AreRaws old.now.trees rows
-raws_of old mid same ours versions are rows told =
-    subst (λ (d : Database). AreRaws d.trees rows) same.0.now_is
-    (told (ours_then old mid same ours) (subst (λ (d : Database). AreVersions d.trees versions) (sym same.0.now_is) are))
+pub raws_of : (old mid : State) → IsUnchanged old mid → IsOurs old.now → (versions : List RawVersion)
+    → AreVersions old.now.trees versions → (rows : Rows) → rows.versions.items ≡ versions
+    → (mid.now.schema ≡ vault_schema → AreAll mid.now rows) → AreRaws old.now.trees rows
+raws_of old mid same ours versions are rows is told =
+    let now : mid.now ≡ old.now = same.0.now_is in
+    let all = subst (λ d. AreAll d rows) now (told (ap (λ (d : Database). d.schema) now ∙ ours.schema)) in
+    record {
+      versions = subst (AreVersions old.now.trees) (sym is) are;
+      merchants = record {
+        merchants_are = all.merchants.all ours.full;
+        counts_are = all.counts.all ours.full;
+      };
+      others = record {
+        entries_are = all.entries.all ours.full;
+        records_are = all.records.all ours.full;
+        rights_are = all.rights.all ours.full;
+      };
+    }
 
 pub judged : (P : Type 0) (Q : Sizes → Type 0) (r : Result Sizes OpenFault) (rows : Rows) → IfOk r (λ sizes. sizes ≡ counts_of rows)
     → OnOk r ((n : ℕ) → keeps rows n ≡ true) → OnOk r (AreApart rows)

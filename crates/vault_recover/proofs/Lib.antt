@@ -1,6 +1,5 @@
 pub mod Backs
 pub mod ByRowid
-pub mod Chains
 pub mod Columns
 pub mod Decoded
 pub mod Foreign
@@ -16,6 +15,7 @@ pub mod Results
 pub mod Rising
 pub mod Standing
 pub mod Stood
+pub mod Tables
 pub mod Tallies
 pub mod VersionRows
 pub mod Versioned

@@ -15,7 +15,7 @@ use Rattle.sqlite_rules.proofs.ListLemmas.{all_has, all_from}
 use Rattle.sqlite_rules.proofs.ProbeLemmas.{has_mapped, mapped_has}
 use Rattle.sqlite_value.proofs.OrderLemmas.{value_cmp-Int}
 use Rattle.sql_maps.specs.Rows.{IsApart}
-use Rattle.vault_recover.specs.Apart.{id_row, Rises}
+use Rattle.vault_recover.specs.Apart.{id_row, Rises, TellsApart}
 
 abbrev pub IsAdjacent : List ℤ → ℕ → Type 0
 IsAdjacent xs n = (k : ℕ) (d : ℤ) → k + 1 < n → get_or xs k d <ℤ get_or xs (k + 1) d
@@ -144,13 +144,15 @@ some_fall id (m ∷ raws) told up =
     never : {a b : ℤ} → a <ℤ b → int_lt a b ≡ false → ⊥
     never low not = omega (arith, ints, low, not)
 
--- rows each of which is answered to be below the next are apart, and rows in their order that are apart are so
-module _ {R : Type 0} (id : R → ℤ) (values : R → Row) (is : (m : R) → rowid (values m) ≡ Int (id m)) (raws : List R) where
-  pub told_apart : (b : Bool) → IsRisingAnswer id raws b → IsTrue b → IsApart (map values raws)
-  told_apart true told so = (apart_by_ids id values is raws).0 (rising_apart (map id raws) (rising_ids id raws told))
-  told_apart false told so = absurd (let clash = so in cc)
-
-  pub told_all : (b : Bool) → IsRisingAnswer id raws b → IsSortedByKey id int_cmp raws → IsApart (map values raws) → IsTrue b
-  told_all true told sorted apart = refl
-  told_all false told sorted apart = absurd (some_fall id raws told (sorted_rises (map id raws)
-      (sorted_ids id raws sorted) ((apart_by_ids id values is raws).1 apart)))
+-- what is answered of each row and the next tells that they are apart
+pub tells_apart : {R : Type 0} (id : R → ℤ) (values : R → Row) → ((m : R) → rowid (values m) ≡ Int (id m))
+    → (raws : List R) (b : Bool) → IsRisingAnswer id raws b → TellsApart values id raws b
+tells_apart id values is raws true told = record {
+  apart = λ so. (apart_by_ids id values is raws).0 (rising_apart (map id raws) (rising_ids id raws told));
+  only = λ sorted apart. refl;
+}
+tells_apart id values is raws false told = record {
+  apart = λ so. absurd (let clash = so in cc);
+  only = λ sorted apart. absurd (some_fall id raws told (sorted_rises (map id raws)
+      (sorted_ids id raws sorted) ((apart_by_ids id values is raws).1 apart)));
+}

@@ -1,5 +1,5 @@
 -- Rows of which no rowid comes twice.
-use Rattle.std.specs.Prelude.{◌<ℤ◌, ℤ, List, [], ◌∷◌, map}
+use Rattle.std.specs.Prelude.{◌<ℤ◌, ℤ, Bool, IsTrue, List, [], ◌∷◌, map}
 use Rattle.std.specs.List.Sorted.{IsSortedByKey}
 use Rattle.std.specs.Ordering.{int_cmp}
 use Rattle.sqlite.specs.Order.{Row}
@@ -16,6 +16,11 @@ id_row z = Int z ∷ []
 -- each number is below the later ones
 abbrev pub Rises : List ℤ → Type 0
 Rises = IsAscending (λ a b. a <ℤ b)
+
+-- That no rowid comes twice is told: with true it is so, and of rows in the order of their rowids only with true.
+pub record TellsApart {R : Type 0} (values : R → Row) (id : R → ℤ) (rows : List R) (told : Bool) : Type 0 where
+  pub apart : IsTrue told → IsApart (map values rows)
+  pub only : IsSortedByKey id int_cmp rows → IsApart (map values rows) → IsTrue told
 
 -- in no table a rowid comes twice
 pub record AreApart (rows : Rows) : Type 0 where

@@ -1,12 +1,18 @@
 -- Reading the whole of a table.
-use Rattle.std.specs.Prelude.{◌≡◌, ◌≤◌, ◌<◌, false, List, [], ◌∷◌, length}
-use Rattle.sqlite.specs.Effect.{Database}
+use Rattle.std.specs.Global.{Vec}
+use Rattle.std.specs.List.Sorted.{IsPermutation, IsSortedByKey}
+use Rattle.std.specs.Ordering.{int_cmp}
+use Rattle.std.specs.Prelude.{◌≡◌, ◌≤◌, ◌<◌, ℕ, ℤ, false, List, [], ◌∷◌, length, map, Result, IfOk}
+use Rattle.sqlite.specs.Effect.{Database, IsDatabase}
 use Rattle.sqlite.specs.Order.{Row}
 use Rattle.sqlite.specs.State.{State, HasCleanDisk}
 use Rattle.sqlite.specs.Term.{Term, eval_all, col}
 use Rattle.sqlite.specs.View.{doubt}
 use Rattle.sqlite_rules.specs.Lists.{Has}
-use Rattle.sql_maps.specs.States.{LeavesNoMore}
+use Rattle.sql_maps.specs.States.{LeavesNoMore, Reads}
+use Rattle.vault_recover.specs.Raw.{merchant_values, count_values, entry_values, record_values, right_values}
+use Rattle.vault_recover.specs.declared.fault.ReadFault.{ReadFault}
+use Rattle.vault_rules.specs.declared.rows.Rows.{Rows}
 use Rattle.vault_sql.specs.Schema.{vault_schema}
 
 -- what the terms show of a row
@@ -26,6 +32,28 @@ IsFull db = (row : Row) → Has (db.trees 5) row → 7 < length row
 pub record IsOurs (db : Database) : Type 0 where
   pub schema : db.schema ≡ vault_schema
   pub full : IsFull db
+
+-- these are all rows of a table, in the order of their rowids
+pub record AreTable {R : Type 0} (tree : ℕ) (values : R → Row) (id : R → ℤ) (db : Database) (raws : List R)
+  : Type 0 where
+  pub sound : IsDatabase db
+  pub all : IsFull db → IsPermutation (db.trees tree) (map values raws)
+  pub ordered : IsSortedByKey id int_cmp raws
+
+-- a table of a vault's schema is read, and nothing else is done
+pub record ReadsTable {R : Type 0} (tree : ℕ) (values : R → Row) (id : R → ℤ) (result : Result (Vec R) ReadFault)
+    (old new : State) : Type 0 where
+  pub reads : Reads vault_schema result old new
+  pub told : HasCleanDisk new → old.now.schema ≡ vault_schema
+      → IfOk result (λ raws. AreTable tree values id old.now raws.items)
+
+-- these are the rows of all tables beside `vault`
+pub record AreAll (db : Database) (rows : Rows) : Type 0 where
+  pub merchants : AreTable 1 merchant_values (λ m. m.rowid) db rows.merchants.items
+  pub counts : AreTable 3 count_values (λ c. c.rowid) db rows.counts.items
+  pub entries : AreTable 5 entry_values (λ e. e.rowid) db rows.entries.items
+  pub records : AreTable 8 record_values (λ r. r.rowid) db rows.records.items
+  pub rights : AreTable 10 right_values (λ r. r.rowid) db rows.rights.items
 
 -- Whether or not it failed, a call made no doubt of the disk go away, no transaction and no limit; and where
 -- this is so, a crash leaves nothing that it did not leave before.

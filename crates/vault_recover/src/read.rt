@@ -1,13 +1,11 @@
-//! Each table is read by one query, ordered by its key.
-ghost use Rattle.std.specs.List.Sorted.{IsPermutation, IsSortedByKey};
-ghost use Rattle.std.specs.Ordering.{int_cmp};
-ghost use Rattle.std.specs.Prelude.{◌≡◌, map, IfOk, OnOk};
+//! Each table is read by one query, in the order of its rowids.
+ghost use Rattle.std.specs.Prelude.{◌≡◌, IfOk, OnOk};
 ghost use Rattle.sqlite.specs.Effect.{IsDatabase};
 ghost use Rattle.sqlite.specs.Held.{state};
 ghost use Rattle.sqlite.specs.State.{HasCleanDisk, IsUnchanged};
 ghost use Rattle.vault_recover.specs.Opened.{AreVersions};
-ghost use Rattle.vault_recover.specs.Raw.{version_values, merchant_values, count_values, entry_values, record_values, right_values};
-ghost use Rattle.vault_recover.specs.Reading.{IsOurs, IsQuiet, IsQuietWhere, shown_by, version_columns};
+ghost use Rattle.vault_recover.specs.Raw.{merchant_values, count_values, entry_values, record_values, right_values};
+ghost use Rattle.vault_recover.specs.Reading.{IsQuiet, IsQuietWhere, ReadsTable};
 ghost use Rattle.vault_schema.specs.Versioned.{HasVersion};
 ghost use Rattle.vault_sql.specs.Schema.{vault_schema};
 
@@ -43,7 +41,7 @@ pub(crate) fn versions<S: Alter>(
     alloc: Global,
     conn: &mut Connection<S>,
 ) -> Result<Vec<RawVersion>, ReadFault>
-    ensures told { HasCleanDisk (state S.Store conn.new) → IfOk result (λ raws. (state S.Store conn.old).now.schema ≡ vault_schema → IsPermutation (map (shown_by version_columns) ((state S.Store conn.old).now.trees 0)) (map version_values raws.items)) }
+    ensures told { HasCleanDisk (state S.Store conn.new) → IfOk result (λ raws. (state S.Store conn.old).now.schema ≡ vault_schema → AreVersions (state S.Store conn.old).now.trees raws.items) }
     ensures live { HasCleanDisk (state S.Store conn.new) → OnOk result ((state S.Store conn.old).now.schema ≡ vault_schema → IsDatabase (state S.Store conn.old).now) }
     ensures kept { HasCleanDisk (state S.Store conn.new) → OnOk result ((state S.Store conn.old).now.schema ≡ vault_schema → IsUnchanged (state S.Store conn.old) (state S.Store conn.new)) }
     ensures quiet { IsQuiet (state S.Store conn.old) (state S.Store conn.new) }
@@ -56,11 +54,7 @@ pub(crate) fn merchants<S: Alter>(
     alloc: Global,
     conn: &mut Connection<S>,
 ) -> Result<Vec<RawMerchant>, ReadFault>
-    ensures told { HasCleanDisk (state S.Store conn.new) → IfOk result (λ raws. IsOurs (state S.Store conn.old).now → IsPermutation ((state S.Store conn.old).now.trees 1) (map merchant_values raws.items)) }
-    ensures ordered { HasCleanDisk (state S.Store conn.new) → IfOk result (λ raws. (state S.Store conn.old).now.schema ≡ vault_schema → IsSortedByKey (λ raw. raw.rowid) int_cmp raws.items) }
-    ensures live { HasCleanDisk (state S.Store conn.new) → OnOk result ((state S.Store conn.old).now.schema ≡ vault_schema → IsDatabase (state S.Store conn.old).now) }
-    ensures kept { HasCleanDisk (state S.Store conn.new) → OnOk result ((state S.Store conn.old).now.schema ≡ vault_schema → IsUnchanged (state S.Store conn.old) (state S.Store conn.new)) }
-    ensures quiet { IsQuiet (state S.Store conn.old) (state S.Store conn.new) }
+    ensures { ReadsTable 1 merchant_values (λ raw. raw.rowid) result (state S.Store conn.old) (state S.Store conn.new) }
 {
     let rows = rows_of(conn, READ_MERCHANTS, &[])?;
     raws::merchants(alloc, &rows)
@@ -71,11 +65,7 @@ pub(crate) fn counts<S: Alter>(
     alloc: Global,
     conn: &mut Connection<S>,
 ) -> Result<Vec<RawCount>, ReadFault>
-    ensures told { HasCleanDisk (state S.Store conn.new) → IfOk result (λ raws. IsOurs (state S.Store conn.old).now → IsPermutation ((state S.Store conn.old).now.trees 3) (map count_values raws.items)) }
-    ensures ordered { HasCleanDisk (state S.Store conn.new) → IfOk result (λ raws. (state S.Store conn.old).now.schema ≡ vault_schema → IsSortedByKey (λ raw. raw.rowid) int_cmp raws.items) }
-    ensures live { HasCleanDisk (state S.Store conn.new) → OnOk result ((state S.Store conn.old).now.schema ≡ vault_schema → IsDatabase (state S.Store conn.old).now) }
-    ensures kept { HasCleanDisk (state S.Store conn.new) → OnOk result ((state S.Store conn.old).now.schema ≡ vault_schema → IsUnchanged (state S.Store conn.old) (state S.Store conn.new)) }
-    ensures quiet { IsQuiet (state S.Store conn.old) (state S.Store conn.new) }
+    ensures { ReadsTable 3 count_values (λ raw. raw.rowid) result (state S.Store conn.old) (state S.Store conn.new) }
 {
     let rows = rows_of(conn, READ_COUNTS, &[])?;
     raws::counts(alloc, &rows)
@@ -86,11 +76,7 @@ pub(crate) fn entries<S: Alter>(
     alloc: Global,
     conn: &mut Connection<S>,
 ) -> Result<Vec<RawEntry>, ReadFault>
-    ensures told { HasCleanDisk (state S.Store conn.new) → IfOk result (λ raws. IsOurs (state S.Store conn.old).now → IsPermutation ((state S.Store conn.old).now.trees 5) (map entry_values raws.items)) }
-    ensures ordered { HasCleanDisk (state S.Store conn.new) → IfOk result (λ raws. (state S.Store conn.old).now.schema ≡ vault_schema → IsSortedByKey (λ raw. raw.rowid) int_cmp raws.items) }
-    ensures live { HasCleanDisk (state S.Store conn.new) → OnOk result ((state S.Store conn.old).now.schema ≡ vault_schema → IsDatabase (state S.Store conn.old).now) }
-    ensures kept { HasCleanDisk (state S.Store conn.new) → OnOk result ((state S.Store conn.old).now.schema ≡ vault_schema → IsUnchanged (state S.Store conn.old) (state S.Store conn.new)) }
-    ensures quiet { IsQuiet (state S.Store conn.old) (state S.Store conn.new) }
+    ensures { ReadsTable 5 entry_values (λ raw. raw.rowid) result (state S.Store conn.old) (state S.Store conn.new) }
 {
     let rows = rows_of(conn, READ_ENTRIES, &[])?;
     raws::entries(alloc, &rows)
@@ -101,11 +87,7 @@ pub(crate) fn records<S: Alter>(
     alloc: Global,
     conn: &mut Connection<S>,
 ) -> Result<Vec<RawRecord>, ReadFault>
-    ensures told { HasCleanDisk (state S.Store conn.new) → IfOk result (λ raws. IsOurs (state S.Store conn.old).now → IsPermutation ((state S.Store conn.old).now.trees 8) (map record_values raws.items)) }
-    ensures ordered { HasCleanDisk (state S.Store conn.new) → IfOk result (λ raws. (state S.Store conn.old).now.schema ≡ vault_schema → IsSortedByKey (λ raw. raw.rowid) int_cmp raws.items) }
-    ensures live { HasCleanDisk (state S.Store conn.new) → OnOk result ((state S.Store conn.old).now.schema ≡ vault_schema → IsDatabase (state S.Store conn.old).now) }
-    ensures kept { HasCleanDisk (state S.Store conn.new) → OnOk result ((state S.Store conn.old).now.schema ≡ vault_schema → IsUnchanged (state S.Store conn.old) (state S.Store conn.new)) }
-    ensures quiet { IsQuiet (state S.Store conn.old) (state S.Store conn.new) }
+    ensures { ReadsTable 8 record_values (λ raw. raw.rowid) result (state S.Store conn.old) (state S.Store conn.new) }
 {
     let rows = rows_of(conn, READ_RECORDS, &[])?;
     raws::records(alloc, &rows)
@@ -116,11 +98,7 @@ pub(crate) fn rights<S: Alter>(
     alloc: Global,
     conn: &mut Connection<S>,
 ) -> Result<Vec<RawRight>, ReadFault>
-    ensures told { HasCleanDisk (state S.Store conn.new) → IfOk result (λ raws. IsOurs (state S.Store conn.old).now → IsPermutation ((state S.Store conn.old).now.trees 10) (map right_values raws.items)) }
-    ensures ordered { HasCleanDisk (state S.Store conn.new) → IfOk result (λ raws. (state S.Store conn.old).now.schema ≡ vault_schema → IsSortedByKey (λ raw. raw.rowid) int_cmp raws.items) }
-    ensures live { HasCleanDisk (state S.Store conn.new) → OnOk result ((state S.Store conn.old).now.schema ≡ vault_schema → IsDatabase (state S.Store conn.old).now) }
-    ensures kept { HasCleanDisk (state S.Store conn.new) → OnOk result ((state S.Store conn.old).now.schema ≡ vault_schema → IsUnchanged (state S.Store conn.old) (state S.Store conn.new)) }
-    ensures quiet { IsQuiet (state S.Store conn.old) (state S.Store conn.new) }
+    ensures { ReadsTable 10 right_values (λ raw. raw.rowid) result (state S.Store conn.old) (state S.Store conn.new) }
 {
     let rows = rows_of(conn, READ_RIGHTS, &[])?;
     raws::rights(alloc, &rows)

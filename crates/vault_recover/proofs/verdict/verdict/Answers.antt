@@ -12,13 +12,13 @@ pub returns-clause-damaged : goal.returns-clause-damaged
 returns-clause-damaged g c clean =
     let old = state g.S.Store c.args.conn.now in
     let mid = state g.S.Store c.versions.new.conn in
-    let clean_mid : HasCleanDisk mid = omega (arith, c.rows.ensures.quiet.clean, clean) in
+    let clean_mid : HasCleanDisk mid = omega (arith, c.rows.ensures.reads.clean, clean) in
     if_err c.judge.result (λ fault broken rule same ours.
     let one = c.in_ok-versions.ensures.kept clean_mid ours.schema in
     record {
       rows = c.in_ok-rows.rows;
       is = c.in_ok-versions.ensures.live clean_mid ours.schema;
-      are = raws_of old mid one ours c.in_ok-versions.versions.items (c.in_ok-versions.ensures.told clean_mid ours.schema) c.in_ok-rows.rows (c.in_ok-rows.ensures.told clean);
+      are = raws_of old mid one ours c.in_ok-versions.versions.items (c.in_ok-versions.ensures.told clean_mid ours.schema) c.in_ok-rows.rows (ap (λ v. v.items) c.in_ok-rows.ensures.versions) (c.in_ok-rows.ensures.told clean);
       version = ap (λ v. other_version v.items) c.in_ok-rows.ensures.versions ∙ ap other_version (sym c.deref.ensures.value)
           ∙ sym c.other_version.ensures ∙ c.in_default.is;
       least = broken rule same;
@@ -28,9 +28,9 @@ pub returns-clause-sound : goal.returns-clause-sound
 returns-clause-sound g c clean =
     let old = state g.S.Store c.args.conn.now in
     let mid = state g.S.Store c.versions.new.conn in
-    let clean_mid : HasCleanDisk mid = omega (arith, c.rows.ensures.quiet.clean, clean) in
+    let clean_mid : HasCleanDisk mid = omega (arith, c.rows.ensures.reads.clean, clean) in
     judged (IsOurs old.now) (IsSoundOf old.now) c.judge.result c.in_ok-rows.rows c.judge.ensures.sizes c.judge.ensures.kept c.judge.ensures.apart (λ keep apart ours.
     let one = c.in_ok-versions.ensures.kept clean_mid ours.schema in
-    let raws = raws_of old mid one ours c.in_ok-versions.versions.items (c.in_ok-versions.ensures.told clean_mid ours.schema) c.in_ok-rows.rows (c.in_ok-rows.ensures.told clean) in
+    let raws = raws_of old mid one ours c.in_ok-versions.versions.items (c.in_ok-versions.ensures.told clean_mid ours.schema) c.in_ok-rows.rows (ap (λ v. v.items) c.in_ok-rows.ensures.versions) (c.in_ok-rows.ensures.told clean) in
     sound_of old.now ours (c.in_ok-versions.ensures.live clean_mid ours.schema) c.in_ok-rows.rows raws keep apart
     (ap (λ v. other_version v.items) c.in_ok-rows.ensures.versions ∙ ap other_version (sym c.deref.ensures.value) ∙ sym c.other_version.ensures ∙ c.in_default.is))
