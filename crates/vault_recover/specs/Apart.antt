@@ -1,21 +1,11 @@
 -- Rows of which no rowid comes twice.
-use Rattle.std.specs.Prelude.{◌<ℤ◌, ℤ, Bool, IsTrue, List, [], ◌∷◌, map}
+use Rattle.std.specs.Prelude.{ℤ, Bool, IsTrue, List, map}
 use Rattle.std.specs.List.Sorted.{IsSortedByKey}
 use Rattle.std.specs.Ordering.{int_cmp}
 use Rattle.sqlite.specs.Order.{Row}
-use Rattle.sqlite.specs.Tree.{IsAscending}
-use Rattle.sqlite.specs.declared.types.Value.TheVariants.{Int}
 use Rattle.vault_recover.specs.Raw.{merchant_values, count_values, entry_values, record_values, right_values}
 use Rattle.vault_rules.specs.declared.rows.Rows.{Rows}
 use Rattle.sql_maps.specs.Rows.{IsApart}
-
--- a row of its rowid alone
-abbrev pub id_row : ℤ → Row
-id_row z = Int z ∷ []
-
--- each number is below the later ones
-abbrev pub Rises : List ℤ → Type 0
-Rises = IsAscending (λ a b. a <ℤ b)
 
 -- That no rowid comes twice is told: with true it is so, and of rows in the order of their rowids only with true.
 pub record TellsApart {R : Type 0} (values : R → Row) (id : R → ℤ) (rows : List R) (told : Bool) : Type 0 where
