@@ -1,5 +1,4 @@
 pub mod Backs
-pub mod ByRowid
 pub mod Columns
 pub mod Decoded
 pub mod Foreign

@@ -4,8 +4,7 @@ use Rattle.sqlite.specs.Schema.{Schema}
 use Rattle.sqlite.specs.State.{State}
 use Rattle.sql_maps.specs.States.{Reads}
 use Rattle.vault_recover.specs.Faults.{IsJudged, failure}
-use Rattle.vault_recover.specs.Reading.{IsQuiet, IsQuietWhere}
-use Rattle.vault_sql.specs.Schema.{vault_schema}
+use Rattle.vault_recover.specs.Reading.{IsQuietWhere}
 use Rattle.vault_recover.specs.declared.fault.OpenFault.{OpenFault}
 use Rattle.vault_recover.specs.declared.fault.OpenFault.TheVariants.{WrongSchema, Damaged}
 use Rattle.vault_recover.specs.declared.fault.ReadFault.{ReadFault}
@@ -60,8 +59,3 @@ quiet_where result old new is reads = record {
   limit = reads.limit;
   left = λ clean p. reads.left clean (is p);
 }
-
-pub quiet : {R E : Type 0} (result : Result R E) (old new : State) → Reads vault_schema result old new
-    → IsQuiet old new
-quiet result old new reads =
-    record { clean = reads.clean; mode = reads.mode; limit = reads.limit; left = reads.left }

@@ -1,13 +1,12 @@
 //! Each table is read by one query, in the order of its rowids.
-ghost use Rattle.std.specs.Prelude.{◌≡◌, IfOk, OnOk};
+ghost use Rattle.std.specs.Prelude.{IfOk, OnOk};
 ghost use Rattle.sqlite.specs.Effect.{IsDatabase};
 ghost use Rattle.sqlite.specs.Held.{state};
 ghost use Rattle.sqlite.specs.State.{HasCleanDisk, IsUnchanged};
 ghost use Rattle.vault_recover.specs.Opened.{AreVersions};
 ghost use Rattle.vault_recover.specs.Raw.{merchant_values, count_values, entry_values, record_values, right_values};
-ghost use Rattle.vault_recover.specs.Reading.{IsQuiet, IsQuietWhere, ReadsTable};
+ghost use Rattle.vault_recover.specs.Reading.{IsQuietWhere, ReadsTable};
 ghost use Rattle.vault_schema.specs.Versioned.{HasVersion};
-ghost use Rattle.vault_sql.specs.Schema.{vault_schema};
 
 use crate::fault::ReadFault;
 use crate::raws;
@@ -34,19 +33,6 @@ pub(crate) fn version_rows<S: Alter>(
 {
     let rows = rows_of(conn, READ_VERSIONS, &[])?;
     raws::versions(alloc, &rows)
-}
-
-/// The rows of `vault`.
-pub(crate) fn versions<S: Alter>(
-    alloc: Global,
-    conn: &mut Connection<S>,
-) -> Result<Vec<RawVersion>, ReadFault>
-    ensures told { HasCleanDisk (state S.Store conn.new) → IfOk result (λ raws. (state S.Store conn.old).now.schema ≡ vault_schema → AreVersions (state S.Store conn.old).now.trees raws.items) }
-    ensures live { HasCleanDisk (state S.Store conn.new) → OnOk result ((state S.Store conn.old).now.schema ≡ vault_schema → IsDatabase (state S.Store conn.old).now) }
-    ensures kept { HasCleanDisk (state S.Store conn.new) → OnOk result ((state S.Store conn.old).now.schema ≡ vault_schema → IsUnchanged (state S.Store conn.old) (state S.Store conn.new)) }
-    ensures quiet { IsQuiet (state S.Store conn.old) (state S.Store conn.new) }
-{
-    version_rows(alloc, conn)
 }
 
 /// The rows of `merchants`.

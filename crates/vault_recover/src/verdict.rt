@@ -9,7 +9,7 @@ ghost use Rattle.vault_sql.specs.Schema.{vault_schema};
 
 use crate::fault::OpenFault;
 use crate::judge::{judge, other_version};
-use crate::read;
+use crate::read::version_rows;
 use crate::rows::rows;
 use crate::sizes::Sizes;
 use sqlite::{Alter, Connection};
@@ -26,7 +26,7 @@ pub(crate) fn verdict<S: Alter>(alloc: Global, conn: &mut Connection<S>) -> Resu
         → (state S.Store conn.old).now.schema ≡ vault_schema → IsUnchanged (state S.Store conn.old) (state S.Store conn.new)) }
     ensures quiet { IsQuiet (state S.Store conn.old) (state S.Store conn.new) }
 {
-    let versions = read::versions(alloc, conn)?;
+    let versions = version_rows(alloc, conn)?;
     if let Some(version) = other_version(&versions) {
         return Err(OpenFault::WrongSchema(version));
     }

@@ -3,6 +3,7 @@ use Rattle.sqlite.specs.Held.{state}
 use Rattle.sqlite.specs.State.{HasCleanDisk}
 use Rattle.vault_recover.proofs.Judged.{raws_of, sound_of, judged}
 use Rattle.vault_recover.proofs.Results.{if_err}
+use Rattle.vault_recover.proofs.Versioned.{has_version}
 use Rattle.vault_recover.proofs.verdict.verdict.Goals as goal
 use Rattle.vault_recover.specs.Opened.{IsSoundOf}
 use Rattle.vault_recover.specs.Reading.{IsOurs}
@@ -11,14 +12,14 @@ use Rattle.vault_recover.specs.Versions.{other_version}
 pub returns-clause-damaged : goal.returns-clause-damaged
 returns-clause-damaged g c clean =
     let old = state g.S.Store c.args.conn.now in
-    let mid = state g.S.Store c.versions.new.conn in
+    let mid = state g.S.Store c.version_rows.new.conn in
     let clean_mid : HasCleanDisk mid = omega (arith, c.rows.ensures.reads.clean, clean) in
     if_err c.judge.result (λ fault broken rule same ours.
-    let one = c.in_ok-versions.ensures.kept clean_mid ours.schema in
+    let one = c.in_ok-versions.ensures.kept clean_mid (has_version _ ours.schema) in
     record {
       rows = c.in_ok-rows.rows;
-      is = c.in_ok-versions.ensures.live clean_mid ours.schema;
-      are = raws_of old mid one ours c.in_ok-versions.versions.items (c.in_ok-versions.ensures.told clean_mid ours.schema) c.in_ok-rows.rows (ap (λ v. v.items) c.in_ok-rows.ensures.versions) (c.in_ok-rows.ensures.told clean);
+      is = c.in_ok-versions.ensures.live clean_mid (has_version _ ours.schema);
+      are = raws_of old mid one ours c.in_ok-versions.versions.items (c.in_ok-versions.ensures.told clean_mid (has_version _ ours.schema)) c.in_ok-rows.rows (ap (λ v. v.items) c.in_ok-rows.ensures.versions) (c.in_ok-rows.ensures.told clean);
       version = ap (λ v. other_version v.items) c.in_ok-rows.ensures.versions ∙ ap other_version (sym c.deref.ensures.value)
           ∙ sym c.other_version.ensures ∙ c.in_default.is;
       least = broken rule same;
@@ -27,10 +28,10 @@ returns-clause-damaged g c clean =
 pub returns-clause-sound : goal.returns-clause-sound
 returns-clause-sound g c clean =
     let old = state g.S.Store c.args.conn.now in
-    let mid = state g.S.Store c.versions.new.conn in
+    let mid = state g.S.Store c.version_rows.new.conn in
     let clean_mid : HasCleanDisk mid = omega (arith, c.rows.ensures.reads.clean, clean) in
     judged (IsOurs old.now) (IsSoundOf old.now) c.judge.result c.in_ok-rows.rows c.judge.ensures.sizes c.judge.ensures.kept c.judge.ensures.apart (λ keep apart ours.
-    let one = c.in_ok-versions.ensures.kept clean_mid ours.schema in
-    let raws = raws_of old mid one ours c.in_ok-versions.versions.items (c.in_ok-versions.ensures.told clean_mid ours.schema) c.in_ok-rows.rows (ap (λ v. v.items) c.in_ok-rows.ensures.versions) (c.in_ok-rows.ensures.told clean) in
-    sound_of old.now ours (c.in_ok-versions.ensures.live clean_mid ours.schema) c.in_ok-rows.rows raws keep apart
+    let one = c.in_ok-versions.ensures.kept clean_mid (has_version _ ours.schema) in
+    let raws = raws_of old mid one ours c.in_ok-versions.versions.items (c.in_ok-versions.ensures.told clean_mid (has_version _ ours.schema)) c.in_ok-rows.rows (ap (λ v. v.items) c.in_ok-rows.ensures.versions) (c.in_ok-rows.ensures.told clean) in
+    sound_of old.now ours (c.in_ok-versions.ensures.live clean_mid (has_version _ ours.schema)) c.in_ok-rows.rows raws keep apart
     (ap (λ v. other_version v.items) c.in_ok-rows.ensures.versions ∙ ap other_version (sym c.deref.ensures.value) ∙ sym c.other_version.ensures ∙ c.in_default.is))
