@@ -14,7 +14,7 @@ pub mod Results
 pub mod Rising
 pub mod Standing
 pub mod Stood
-pub mod Tables
+pub mod Readings
 pub mod Tallies
 pub mod VersionRows
 pub mod Versioned

@@ -35,7 +35,7 @@ pub record IsOurs (db : Database) : Type 0 where
 
 -- these are all rows of a table, in the order of their rowids
 pub record AreTable {R : Type 0} (tree : ℕ) (values : R → Row) (id : R → ℤ) (db : Database) (raws : List R)
-  : Type 0 where
+    : Type 0 where
   pub sound : IsDatabase db
   pub all : IsFull db → IsPermutation (db.trees tree) (map values raws)
   pub ordered : IsSortedByKey id int_cmp raws

@@ -3,7 +3,7 @@ use Rattle.sqlite.specs.Held.{state}
 use Rattle.sql_maps.proofs.Reading.{reads_whole}
 use Rattle.vault_schema.specs.Version1.Tables.{records}
 use Rattle.vault_schema.proofs.Version1.Texts.{read_records_is}
-use Rattle.vault_recover.proofs.Tables.{reads_table, unread}
+use Rattle.vault_recover.proofs.Readings.{reads_table, unread}
 use Rattle.vault_recover.proofs.read.records.Goals as goal
 use Rattle.vault_sql.specs.Schema.{vault_schema}
 
