@@ -1,9 +1,7 @@
 pub mod Backs
 pub mod ByRowid
 pub mod Chains
-pub mod Columns
 pub mod Decoded
-pub mod Foreign
 pub mod FromStands
 pub mod Holders
 pub mod Judged
