@@ -3,6 +3,7 @@
 
 mod apart;
 pub mod check;
+mod columns;
 pub mod fault;
 mod judge;
 pub mod last;

@@ -1,181 +1,145 @@
 //! The values of rows.
-ghost use Rattle.std.specs.Int.{w64};
-ghost use Rattle.std.specs.Prelude.{◌≡◌, FitsSigned, map, IfErr, IfOk};
-ghost use Rattle.sqlite.specs.Order.{column};
-ghost use Rattle.sqlite.specs.declared.types.Value.TheVariants.{Int};
-ghost use Rattle.vault_recover.specs.Raw.{IsForeign, IsForeignAt, int_value, maybe_text_value, text_value, version_values, merchant_values, count_values, entry_values, record_values, right_values};
+ghost use Rattle.std.specs.Prelude.{◌≡◌, map, IfErr, IfOk};
+ghost use Rattle.sqlite.specs.Order.{Row as SqlRow};
+ghost use Rattle.vault_recover.specs.Raw.{IsForeign, version_values, merchant_values, count_values, entry_values, record_values, right_values};
 
+use crate::columns::Columns;
 use crate::fault::ReadFault;
 use sqlite::Row;
 use std::alloc::Global;
 use vault_rules::rows::{RawCount, RawEntry, RawMerchant, RawRecord, RawRight, RawVersion};
 
-/// A row of `vault`.
-fn version(row: &Row) -> Result<RawVersion, ReadFault>
-    ensures values { IfOk result (λ raw. row.now ≡ version_values raw) }
-    ensures refused { IfErr result (λ e. e ≡ ReadFault.Store → IsForeign version_values row.now) }
-{
-    if row.column_count() != 2 {
-        return Err(ReadFault::Store);
-    }
-    let id = int_in(row, 0)?;
-    let version = int_in(row, 1)?;
-    Ok(RawVersion { id, version })
+/// A raw row of one of the tables, made of its columns.
+trait Raw: Sized + Drop {
+    type Columns: Columns;
+
+    ghost columns: { Self → Self.Columns };
+
+    fn of(read: Self::Columns) -> Self
+        ensures { columns result ≡ read };
 }
 
-/// A row of `merchants`.
-fn merchant(row: &Row) -> Result<RawMerchant, ReadFault>
-    ensures values { IfOk result (λ raw. row.now ≡ merchant_values raw) }
-    ensures refused { IfErr result (λ e. e ≡ ReadFault.Store → IsForeign merchant_values row.now) }
-{
-    if row.column_count() != 5 {
-        return Err(ReadFault::Store);
-    }
-    let rowid = int_in(row, 0)?;
-    let name = text_in(row, 1)?;
-    let single_life = int_in(row, 2)?;
-    let multi_life = int_in(row, 3)?;
-    let moment = int_in(row, 4)?;
-    Ok(RawMerchant {
-        rowid,
-        name,
-        single_life,
-        multi_life,
-        moment,
-    })
-}
+impl Raw for RawVersion {
+    type Columns = (i64, (i64, ()));
 
-/// A row of `counts`.
-fn count(row: &Row) -> Result<RawCount, ReadFault>
-    ensures values { IfOk result (λ raw. row.now ≡ count_values raw) }
-    ensures refused { IfErr result (λ e. e ≡ ReadFault.Store → IsForeign count_values row.now) }
-{
-    if row.column_count() != 4 {
-        return Err(ReadFault::Store);
-    }
-    let rowid = int_in(row, 0)?;
-    let merchant = text_in(row, 1)?;
-    let kind = int_in(row, 2)?;
-    let total = int_in(row, 3)?;
-    Ok(RawCount {
-        rowid,
-        merchant,
-        kind,
-        total,
-    })
-}
+    ghost columns = { λ raw. (raw.id, (raw.version, tt)) };
 
-/// A whole number.
-fn int_in(row: &Row, at: usize) -> Result<i64, ReadFault>
-    ensures value { IfOk result (λ n. column row.now at ≡ Int n) }
-    ensures fits { IfOk result (λ n. FitsSigned w64 n) }
-    ensures refused { IfErr result (λ e. e ≡ ReadFault.Store → IsForeignAt Int row.now at) }
-{
-    Ok(row.get(at)?)
-}
-
-/// A text.
-fn text_in(row: &Row, at: usize) -> Result<String, ReadFault>
-    ensures value { IfOk result (λ text. column row.now at ≡ text_value text) }
-    ensures refused { IfErr result (λ e. e ≡ ReadFault.Store → IsForeignAt text_value row.now at) }
-{
-    Ok(row.get(at)?)
-}
-
-/// A text, or NULL.
-fn text_or_null_in(row: &Row, at: usize) -> Result<Option<String>, ReadFault>
-    ensures value { IfOk result (λ text. column row.now at ≡ maybe_text_value text) }
-    ensures refused { IfErr result (λ e. e ≡ ReadFault.Store → IsForeignAt maybe_text_value row.now at) }
-{
-    let text: Option<String> = row.get(at)?;
-    match text {
-        Some(text) => Ok(Some(text)),
-        None => Ok(None),
+    fn of((id, (version, ())): Self::Columns) -> RawVersion {
+        RawVersion { id, version }
     }
 }
 
-/// A whole number, or NULL.
-fn int_or_null_in(row: &Row, at: usize) -> Result<Option<i64>, ReadFault>
-    ensures value { IfOk result (λ number. column row.now at ≡ int_value number) }
-    ensures refused { IfErr result (λ e. e ≡ ReadFault.Store → IsForeignAt int_value row.now at) }
-{
-    let number: Option<i64> = row.get(at)?;
-    match number {
-        Some(number) => Ok(Some(number)),
-        None => Ok(None),
+impl Raw for RawMerchant {
+    type Columns = (i64, (String, (i64, (i64, (i64, ())))));
+
+    ghost columns = { λ raw. (raw.rowid, (raw.name, (raw.single_life, (raw.multi_life, (raw.moment, tt))))) };
+
+    fn of(
+        (rowid, (name, (single_life, (multi_life, (moment, ()))))): Self::Columns,
+    ) -> RawMerchant {
+        RawMerchant {
+            rowid,
+            name,
+            single_life,
+            multi_life,
+            moment,
+        }
     }
 }
 
-/// A row of `entries`.
-fn entry(row: &Row) -> Result<RawEntry, ReadFault>
-    ensures values { IfOk result (λ raw. row.now ≡ entry_values raw) }
-    ensures refused { IfErr result (λ e. e ≡ ReadFault.Store → IsForeign entry_values row.now) }
-{
-    if row.column_count() != 8 {
-        return Err(ReadFault::Store);
+impl Raw for RawCount {
+    type Columns = (i64, (String, (i64, (i64, ()))));
+
+    ghost columns = { λ raw. (raw.rowid, (raw.merchant, (raw.kind, (raw.total, tt)))) };
+
+    fn of((rowid, (merchant, (kind, (total, ())))): Self::Columns) -> RawCount {
+        RawCount {
+            rowid,
+            merchant,
+            kind,
+            total,
+        }
     }
-    let rowid = int_in(row, 0)?;
-    let merchant = text_in(row, 1)?;
-    let token = text_in(row, 2)?;
-    let number = text_or_null_in(row, 3)?;
-    let usage = int_in(row, 4)?;
-    let birth = int_in(row, 5)?;
-    let expires = int_in(row, 6)?;
-    let revoked = int_or_null_in(row, 7)?;
-    Ok(RawEntry {
-        rowid,
-        merchant,
-        token,
-        number,
-        usage,
-        birth,
-        expires,
-        revoked,
-    })
 }
 
-/// A row of `records`.
-fn record(row: &Row) -> Result<RawRecord, ReadFault>
-    ensures values { IfOk result (λ raw. row.now ≡ record_values raw) }
-    ensures refused { IfErr result (λ e. e ≡ ReadFault.Store → IsForeign record_values row.now) }
-{
-    if row.column_count() != 6 {
-        return Err(ReadFault::Store);
+impl Raw for RawEntry {
+    type Columns = (
+        i64,
+        (
+            String,
+            (
+                String,
+                (Option<String>, (i64, (i64, (i64, (Option<i64>, ()))))),
+            ),
+        ),
+    );
+
+    ghost columns = { λ raw. (raw.rowid, (raw.merchant, (raw.token, (raw.number, (raw.usage, (raw.birth, (raw.expires, (raw.revoked, tt)))))))) };
+
+    fn of(
+        (
+            rowid,
+            (merchant, (token, (number, (usage, (birth, (expires, (revoked, ()))))))),
+        ): Self::Columns,
+    ) -> RawEntry {
+        RawEntry {
+            rowid,
+            merchant,
+            token,
+            number,
+            usage,
+            birth,
+            expires,
+            revoked,
+        }
     }
-    let rowid = int_in(row, 0)?;
-    let caller = text_in(row, 1)?;
-    let request = int_in(row, 2)?;
-    let merchant = text_in(row, 3)?;
-    let token = text_in(row, 4)?;
-    let usage = int_in(row, 5)?;
-    Ok(RawRecord {
-        rowid,
-        caller,
-        request,
-        merchant,
-        token,
-        usage,
-    })
 }
 
-/// A row of `rights`.
-fn right(row: &Row) -> Result<RawRight, ReadFault>
-    ensures values { IfOk result (λ raw. row.now ≡ right_values raw) }
-    ensures refused { IfErr result (λ e. e ≡ ReadFault.Store → IsForeign right_values row.now) }
-{
-    if row.column_count() != 4 {
-        return Err(ReadFault::Store);
+impl Raw for RawRecord {
+    type Columns = (i64, (String, (i64, (String, (String, (i64, ()))))));
+
+    ghost columns = { λ raw. (raw.rowid, (raw.caller, (raw.request, (raw.merchant, (raw.token, (raw.usage, tt)))))) };
+
+    fn of(
+        (rowid, (caller, (request, (merchant, (token, (usage, ())))))): Self::Columns,
+    ) -> RawRecord {
+        RawRecord {
+            rowid,
+            caller,
+            request,
+            merchant,
+            token,
+            usage,
+        }
     }
-    let rowid = int_in(row, 0)?;
-    let caller = text_in(row, 1)?;
-    let merchant = text_in(row, 2)?;
-    let what = int_in(row, 3)?;
-    Ok(RawRight {
-        rowid,
-        caller,
-        merchant,
-        what,
-    })
+}
+
+impl Raw for RawRight {
+    type Columns = (i64, (String, (String, (i64, ()))));
+
+    ghost columns = { λ raw. (raw.rowid, (raw.caller, (raw.merchant, (raw.what, tt)))) };
+
+    fn of((rowid, (caller, (merchant, (what, ())))): Self::Columns) -> RawRight {
+        RawRight {
+            rowid,
+            caller,
+            merchant,
+            what,
+        }
+    }
+}
+
+/// The rows of a table.
+fn all<R: Raw>(alloc: Global, rows: &[Row]) -> Result<Vec<R>, ReadFault>
+    ensures values { IfOk result (λ raws. map (λ raw. R.Columns.values (R.columns raw)) raws.items ≡ rows.now) }
+    ensures refused { IfErr result (λ e. e ≡ ReadFault.Store → IsForeign (map (λ raw. R.Columns.values (R.columns raw))) rows.now) }
+{
+    let mut raws = Vec::with_capacity(alloc, rows.len())?;
+    for row in rows {
+        let columns = R::Columns::read(row, 0)?;
+        raws.push(R::of(columns))?;
+    }
+    Ok(raws)
 }
 
 /// The rows of `vault`.
@@ -183,11 +147,7 @@ pub(crate) fn versions(alloc: Global, rows: &[Row]) -> Result<Vec<RawVersion>, R
     ensures values { IfOk result (λ raws. map version_values raws.items ≡ rows.now) }
     ensures refused { IfErr result (λ e. e ≡ ReadFault.Store → IsForeign (map version_values) rows.now) }
 {
-    let mut raws = Vec::with_capacity(alloc, rows.len())?;
-    for row in rows {
-        raws.push(version(row)?)?;
-    }
-    Ok(raws)
+    all(alloc, rows)
 }
 
 /// The rows of `merchants`.
@@ -195,11 +155,7 @@ pub(crate) fn merchants(alloc: Global, rows: &[Row]) -> Result<Vec<RawMerchant>,
     ensures values { IfOk result (λ raws. map merchant_values raws.items ≡ rows.now) }
     ensures refused { IfErr result (λ e. e ≡ ReadFault.Store → IsForeign (map merchant_values) rows.now) }
 {
-    let mut raws = Vec::with_capacity(alloc, rows.len())?;
-    for row in rows {
-        raws.push(merchant(row)?)?;
-    }
-    Ok(raws)
+    all(alloc, rows)
 }
 
 /// The rows of `counts`.
@@ -207,11 +163,7 @@ pub(crate) fn counts(alloc: Global, rows: &[Row]) -> Result<Vec<RawCount>, ReadF
     ensures values { IfOk result (λ raws. map count_values raws.items ≡ rows.now) }
     ensures refused { IfErr result (λ e. e ≡ ReadFault.Store → IsForeign (map count_values) rows.now) }
 {
-    let mut raws = Vec::with_capacity(alloc, rows.len())?;
-    for row in rows {
-        raws.push(count(row)?)?;
-    }
-    Ok(raws)
+    all(alloc, rows)
 }
 
 /// The rows of `entries`.
@@ -219,11 +171,7 @@ pub(crate) fn entries(alloc: Global, rows: &[Row]) -> Result<Vec<RawEntry>, Read
     ensures values { IfOk result (λ raws. map entry_values raws.items ≡ rows.now) }
     ensures refused { IfErr result (λ e. e ≡ ReadFault.Store → IsForeign (map entry_values) rows.now) }
 {
-    let mut raws = Vec::with_capacity(alloc, rows.len())?;
-    for row in rows {
-        raws.push(entry(row)?)?;
-    }
-    Ok(raws)
+    all(alloc, rows)
 }
 
 /// The rows of `records`.
@@ -231,11 +179,7 @@ pub(crate) fn records(alloc: Global, rows: &[Row]) -> Result<Vec<RawRecord>, Rea
     ensures values { IfOk result (λ raws. map record_values raws.items ≡ rows.now) }
     ensures refused { IfErr result (λ e. e ≡ ReadFault.Store → IsForeign (map record_values) rows.now) }
 {
-    let mut raws = Vec::with_capacity(alloc, rows.len())?;
-    for row in rows {
-        raws.push(record(row)?)?;
-    }
-    Ok(raws)
+    all(alloc, rows)
 }
 
 /// The rows of `rights`.
@@ -243,9 +187,5 @@ pub(crate) fn rights(alloc: Global, rows: &[Row]) -> Result<Vec<RawRight>, ReadF
     ensures values { IfOk result (λ raws. map right_values raws.items ≡ rows.now) }
     ensures refused { IfErr result (λ e. e ≡ ReadFault.Store → IsForeign (map right_values) rows.now) }
 {
-    let mut raws = Vec::with_capacity(alloc, rows.len())?;
-    for row in rows {
-        raws.push(right(row)?)?;
-    }
-    Ok(raws)
+    all(alloc, rows)
 }
