@@ -1,5 +1,5 @@
 -- What holds of a result, from what holds of it.
-use Rattle.std.proofs.Common.{◌≡◌, ◌≢◌, ◌∙◌, sym, ℕ, ℤ, Ok, Err, Result, IfOk, IfErr, OnOk}
+use Rattle.std.proofs.Common.{◌≡◌, ◌≢◌, ◌∙◌, sym, ℕ, ℤ, Ok, Err, Result, IfOk, IfErr, IsErrAnd, OnOk}
 use Rattle.sqlite.specs.Schema.{Schema}
 use Rattle.sqlite.specs.State.{State}
 use Rattle.sql_maps.specs.States.{Reads}
@@ -59,3 +59,9 @@ quiet_where result old new is reads = record {
   limit = reads.limit;
   left = λ clean p. reads.left clean (is p);
 }
+
+-- a fault that `?` passes on says the same of it
+pub passed : {A P : Type 0} (r : Result A ReadFault) (fault : ReadFault) → IsErrAnd r (λ e. e ≡ fault)
+    → (fault ≡ read.Store → P) → IfErr r (λ e. e ≡ read.Store → P)
+passed (Ok a) fault same none = tt
+passed (Err e) fault same none = λ store. none (sym same ∙ store)

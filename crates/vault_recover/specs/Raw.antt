@@ -1,5 +1,5 @@
 -- The rows of the tables as lists of values.
-use Rattle.std.specs.Prelude.{◌≢◌, ℕ, ℤ, [], ◌∷◌, Option, Some, None, option_map, slice_get, string_bytes}
+use Rattle.std.specs.Prelude.{◌≢◌, ℤ, [], ◌∷◌, Option, Some, None, option_map, string_bytes}
 use Rattle.std.specs.declared.alloc.Global.{Global}
 use Rattle.std.specs.declared.string.String.{String}
 use Rattle.sqlite.specs.declared.types.Value.{Value}
@@ -29,10 +29,6 @@ maybe_text_value text = text_or_null (option_map (λ it. string_bytes it) text)
 -- what is shown of nothing: no raw value, row or list of rows looks so
 abbrev pub IsForeign : {R T : Type 0} → (R → T) → T → Type 0
 IsForeign {R} values shown = (raw : R) → shown ≢ values raw
-
--- no column stands at this place, or its value shows nothing
-abbrev pub IsForeignAt : {V : Type 0} → (V → Value) → Row → ℕ → Type 0
-IsForeignAt shows row at = IsForeign (λ v. Some (shows v)) (slice_get row at)
 
 -- its id, which the database keeps as the rowid, and the version
 abbrev pub version_values : RawVersion → Row

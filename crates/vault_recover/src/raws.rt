@@ -9,135 +9,124 @@ use sqlite::Row;
 use std::alloc::Global;
 use vault_rules::rows::{RawCount, RawEntry, RawMerchant, RawRecord, RawRight, RawVersion};
 
-/// A raw row of one of the tables, made of its columns.
+/// A raw row of one of the tables.
 trait Raw: Sized + Drop {
-    type Columns: Columns;
+    ghost values: { Self → SqlRow };
 
-    ghost columns: { Self → Self.Columns };
-
-    fn of(read: Self::Columns) -> Self
-        ensures { columns result ≡ read };
+    fn read(row: &Row) -> Result<Self, ReadFault>
+        ensures values { IfOk result (λ raw. row.now ≡ values raw) }
+        ensures refused { IfErr result (λ e. e ≡ ReadFault.Store → IsForeign values row.now) };
 }
 
 impl Raw for RawVersion {
-    type Columns = (i64, (i64, ()));
+    ghost values = { version_values };
 
-    ghost columns = { λ raw. (raw.id, (raw.version, tt)) };
-
-    fn of((id, (version, ())): Self::Columns) -> RawVersion {
-        RawVersion { id, version }
+    fn read(row: &Row) -> Result<RawVersion, ReadFault> {
+        let mut columns = Columns::of(row);
+        let raw = RawVersion {
+            id: columns.next()?,
+            version: columns.next()?,
+        };
+        columns.end()?;
+        Ok(raw)
     }
 }
 
 impl Raw for RawMerchant {
-    type Columns = (i64, (String, (i64, (i64, (i64, ())))));
+    ghost values = { merchant_values };
 
-    ghost columns = { λ raw. (raw.rowid, (raw.name, (raw.single_life, (raw.multi_life, (raw.moment, tt))))) };
-
-    fn of(
-        (rowid, (name, (single_life, (multi_life, (moment, ()))))): Self::Columns,
-    ) -> RawMerchant {
-        RawMerchant {
-            rowid,
-            name,
-            single_life,
-            multi_life,
-            moment,
-        }
+    fn read(row: &Row) -> Result<RawMerchant, ReadFault> {
+        let mut columns = Columns::of(row);
+        let raw = RawMerchant {
+            rowid: columns.next()?,
+            name: columns.next()?,
+            single_life: columns.next()?,
+            multi_life: columns.next()?,
+            moment: columns.next()?,
+        };
+        columns.end()?;
+        Ok(raw)
     }
 }
 
 impl Raw for RawCount {
-    type Columns = (i64, (String, (i64, (i64, ()))));
+    ghost values = { count_values };
 
-    ghost columns = { λ raw. (raw.rowid, (raw.merchant, (raw.kind, (raw.total, tt)))) };
-
-    fn of((rowid, (merchant, (kind, (total, ())))): Self::Columns) -> RawCount {
-        RawCount {
-            rowid,
-            merchant,
-            kind,
-            total,
-        }
+    fn read(row: &Row) -> Result<RawCount, ReadFault> {
+        let mut columns = Columns::of(row);
+        let raw = RawCount {
+            rowid: columns.next()?,
+            merchant: columns.next()?,
+            kind: columns.next()?,
+            total: columns.next()?,
+        };
+        columns.end()?;
+        Ok(raw)
     }
 }
 
 impl Raw for RawEntry {
-    type Columns = (
-        i64,
-        (
-            String,
-            (
-                String,
-                (Option<String>, (i64, (i64, (i64, (Option<i64>, ()))))),
-            ),
-        ),
-    );
+    ghost values = { entry_values };
 
-    ghost columns = { λ raw. (raw.rowid, (raw.merchant, (raw.token, (raw.number, (raw.usage, (raw.birth, (raw.expires, (raw.revoked, tt)))))))) };
-
-    fn of(
-        (
-            rowid,
-            (merchant, (token, (number, (usage, (birth, (expires, (revoked, ()))))))),
-        ): Self::Columns,
-    ) -> RawEntry {
-        RawEntry {
-            rowid,
-            merchant,
-            token,
-            number,
-            usage,
-            birth,
-            expires,
-            revoked,
-        }
+    fn read(row: &Row) -> Result<RawEntry, ReadFault> {
+        let mut columns = Columns::of(row);
+        let raw = RawEntry {
+            rowid: columns.next()?,
+            merchant: columns.next()?,
+            token: columns.next()?,
+            number: columns.next()?,
+            usage: columns.next()?,
+            birth: columns.next()?,
+            expires: columns.next()?,
+            revoked: columns.next()?,
+        };
+        columns.end()?;
+        Ok(raw)
     }
 }
 
 impl Raw for RawRecord {
-    type Columns = (i64, (String, (i64, (String, (String, (i64, ()))))));
+    ghost values = { record_values };
 
-    ghost columns = { λ raw. (raw.rowid, (raw.caller, (raw.request, (raw.merchant, (raw.token, (raw.usage, tt)))))) };
-
-    fn of(
-        (rowid, (caller, (request, (merchant, (token, (usage, ())))))): Self::Columns,
-    ) -> RawRecord {
-        RawRecord {
-            rowid,
-            caller,
-            request,
-            merchant,
-            token,
-            usage,
-        }
+    fn read(row: &Row) -> Result<RawRecord, ReadFault> {
+        let mut columns = Columns::of(row);
+        let raw = RawRecord {
+            rowid: columns.next()?,
+            caller: columns.next()?,
+            request: columns.next()?,
+            merchant: columns.next()?,
+            token: columns.next()?,
+            usage: columns.next()?,
+        };
+        columns.end()?;
+        Ok(raw)
     }
 }
 
 impl Raw for RawRight {
-    type Columns = (i64, (String, (String, (i64, ()))));
+    ghost values = { right_values };
 
-    ghost columns = { λ raw. (raw.rowid, (raw.caller, (raw.merchant, (raw.what, tt)))) };
-
-    fn of((rowid, (caller, (merchant, (what, ())))): Self::Columns) -> RawRight {
-        RawRight {
-            rowid,
-            caller,
-            merchant,
-            what,
-        }
+    fn read(row: &Row) -> Result<RawRight, ReadFault> {
+        let mut columns = Columns::of(row);
+        let raw = RawRight {
+            rowid: columns.next()?,
+            caller: columns.next()?,
+            merchant: columns.next()?,
+            what: columns.next()?,
+        };
+        columns.end()?;
+        Ok(raw)
     }
 }
 
 /// The rows of a table.
 fn all<R: Raw>(alloc: Global, rows: &[Row]) -> Result<Vec<R>, ReadFault>
-    ensures values { IfOk result (λ raws. map (λ raw. R.Columns.values (R.columns raw)) raws.items ≡ rows.now) }
-    ensures refused { IfErr result (λ e. e ≡ ReadFault.Store → IsForeign (map (λ raw. R.Columns.values (R.columns raw))) rows.now) }
+    ensures values { IfOk result (λ raws. map R.values raws.items ≡ rows.now) }
+    ensures refused { IfErr result (λ e. e ≡ ReadFault.Store → IsForeign (map R.values) rows.now) }
 {
     let mut raws = Vec::with_capacity(alloc, rows.len())?;
     for row in rows {
-        let columns = R::Columns::read(row, 0)?;
-        raws.push(R::of(columns))?;
+        raws.push(R::read(row)?)?;
     }
     Ok(raws)
 }

@@ -1,14 +1,8 @@
-use Rattle.std.proofs.Common.{arith, ◌≡◌, ◌∙◌, ap, sym, ℕ, zero, suc, ◌<◌, List, [], ◌∷◌, length, map, get_or, Result, Ok, Err, IfErr, IsErrAnd}
+use Rattle.std.proofs.Common.{arith, ◌≡◌, ap, ℕ, zero, suc, ◌<◌, List, [], ◌∷◌, length, map, get_or}
 use Rattle.sqlite.specs.Order.{Row}
 use Rattle.vault_recover.specs.Raw.{IsForeign}
-use Rattle.vault_recover.specs.declared.fault.ReadFault.{ReadFault}
-use Rattle.vault_recover.specs.declared.fault.ReadFault.TheVariants.{Store}
+use Rattle.vault_recover.proofs.Results.{passed}
 use Rattle.vault_recover.proofs.raws.all.Goals as goal
-
-passed : {A P : Type 0} (r : Result A ReadFault) (fault : ReadFault) → IsErrAnd r (λ e. e ≡ fault)
-    → (fault ≡ Store → P) → IfErr r (λ e. e ≡ Store → P)
-passed (Ok a) fault same none = tt
-passed (Err e) fault same none = λ store. none (sym same ∙ store)
 
 -- no raw rows show a list with a foreign row in it
 foreign_in : {R : Type 0} (values : R → Row) (row : Row) → IsForeign values row → (rows : List Row) (at : ℕ)
@@ -19,8 +13,8 @@ foreign_in values row none (first ∷ rows) zero within is (raw ∷ raws) here =
 foreign_in values row none (first ∷ rows) (suc at) within is (raw ∷ raws) here =
     foreign_in values row none rows at (omega (arith, within)) is raws (cc)
 
-pub returns-in_err-columns-clause-refused : goal.returns-in_err-columns-clause-refused
-returns-in_err-columns-clause-refused g c =
-    passed c.from_residual-in_err-columns.result _ c.from_residual-in_err-columns.ensures.1 (λ store.
-    foreign_in _ _ (λ raw. c.in_err-columns.ensures.refused store (g.R.Raw.columns raw)) _ c.loop-row.row-index
+pub returns-in_err-read-clause-refused : goal.returns-in_err-read-clause-refused
+returns-in_err-read-clause-refused g c =
+    passed c.from_residual-in_err-read.result _ c.from_residual-in_err-read.ensures.1 (λ store.
+    foreign_in _ _ (c.in_err-read.ensures.refused store) _ c.loop-row.row-index
     c.loop-row-test.true c.row-item.is)
