@@ -1,7 +1,6 @@
 -- The rows of a database tell each part of the vault that they stand for.
-use Rattle.std.proofs.Common.{◌≡◌, ◌==◌, ℕ, List, Bool, true, false, cond, Option, Some, None, Ordering}
+use Rattle.std.proofs.Common.{◌≡◌, ℕ, List, Bool, true, false, cond, Option, Some, None, Ordering}
 use Rattle.std.proofs.Common.{option_map, unwrap_or, is_some, refl, sym, ap, ◌∙◌}
-use Rattle.std.proofs.lemmas.Bool.Decides.{Decides-eqb}
 use Rattle.std.specs.FinMap as map
 use Rattle.std.specs.FinSet as set
 use Rattle.std.specs.Option.{option_map_or}
@@ -13,6 +12,7 @@ use Rattle.vault_core.proofs.Maps.{bytes_total, bytes_exact, entry_total, entry_
 use Rattle.vault_core.proofs.Maps.{record_total, record_exact, right_total, right_exact}
 use Rattle.vault_core.specs.Keys.{Bytes}
 use Rattle.vault_core.specs.Vault.{Vault, Merchant, merchant_at}
+use Rattle.vault_recover.proofs.Backs.{both_ways, count_back}
 use Rattle.vault_schema.proofs.Version1.Codes.{merchant_coding, count_coding, entry_coding}
 use Rattle.vault_schema.proofs.Version1.Codes.{record_coding, right_coding}
 use Rattle.vault_sql.specs.Stands.{Stands, count_at, lives_in, unless_zero}
@@ -32,22 +32,7 @@ module _ {K X : Type 0} {cmp : K → K → Ordering} {encode : K → X → Row} 
 
   same_lookups : {f g : K → Option X} → AreRowsOf encode rows f → AreRowsOf encode rows g
       → (k : K) → f k ≡ g k
-  same_lookups {f = f} {g = g} one other k =
-      elim (f k) as (λ o. f k ≡ o → f k ≡ g k) [
-        | Some x ↦ λ here. here ∙ sym (shared one other k x here)
-        | None ↦ λ none. elim (g k) as (λ o. g k ≡ o → f k ≡ g k) [
-          | Some y ↦ λ there. shared other one k y there ∙ sym there
-          | None ↦ λ no. none ∙ sym no
-        ] refl
-      ] refl
-
--- a count is told by its row, or by there being none
-count_back : (n : ℕ) → unwrap_or (unless_zero n) 0 ≡ n
-count_back n =
-    elim (n == 0) as (λ b. (n == 0) ≡ b → unwrap_or (cond b None (Some n)) 0 ≡ n) [
-      | true ↦ λ none. sym ((Decides-eqb n 0).0 none)
-      | false ↦ λ some. refl
-    ] refl
+  same_lookups one other k = both_ways _ _ (shared one other k) (shared other one k)
 
 same_count : (n m : ℕ) → unless_zero n ≡ unless_zero m → n ≡ m
 same_count n m same = sym (count_back n) ∙ ap (λ o. unwrap_or o 0) same ∙ count_back m
