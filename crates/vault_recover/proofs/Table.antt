@@ -66,13 +66,14 @@ module _ {K X R Q : Type 0} {cmp : K → K → Ordering} {key : K → Row} {valu
           let k = t.back (t.shown m) it.0 (key_is m it.0 it.1 it.2) in
           (it.1, it.2 ∙ ap (λ k. row_of key value k it.1) (sym k), ap held k ∙ it.3)
 
-      pub row_at : (k : K) (x : X) → held k ≡ Some x → (m : R) × Has items m × (t.key_of (t.shown m) ≡ k)
-          × (drop 1 (t.values m) ≡ row_of key value k x)
+      pub row_at : (k : K) (x : X) → held k ≡ Some x
+          → (it : (m : R) × Has items m × (t.key_of (t.shown m) ≡ k))
+          × (drop 1 (t.values it.0) ≡ row_of key value k x)
       row_at k x h =
           let row = are.complete k x h in
           let it = in_items row.0 row.1 in
           let is = ap (drop 1) (sym it.2) ∙ row.2 in
-          (it.0, it.1, t.back (t.shown it.0) k (key_is it.0 k x is), is)
+          ((it.0, it.1, t.back (t.shown it.0) k (key_is it.0 k x is)), is)
 
   module _ (db : Database) (ours : db.schema ≡ vault_schema) (sound : IsDatabase db) (items : List R)
       (same : IsPermutation (db.trees keyed.table.tree) (map t.values items))
@@ -95,19 +96,14 @@ module _ {K X R Q : Type 0} {cmp : K → K → Ordering} {key : K → Row} {valu
         ap (λ v. value_cmp v (rowid (t.values b))) alike ∙ tied_itself value_cmp_total _
 
     pub keys_apart : AreKeysApart t.shown items
-    keys_apart = among items up tie_of
+    keys_apart = among items up (λ a b h g e. tie a b h g (ap t.shows e))
       where
-        tie_of : (a b : R) → Has items a → Has items b → t.shown a ≡ t.shown b
-            → value_cmp (rowid (t.values a)) (rowid (t.values b)) ≡ Equal
-        tie_of a b h g e = tie a b h g (ap t.shows e)
-
         among : (raws : List R) → IsApart (map t.values raws)
             → ((a b : R) → Has raws a → Has raws b → t.shown a ≡ t.shown b
             → value_cmp (rowid (t.values a)) (rowid (t.values b)) ≡ Equal) → AreKeysApart t.shown raws
         among [] up ties = tt
         among (m ∷ raws) up ties = (
-          λ other there e. all_has _ (map t.values raws) (t.values other) up.0
-              (mapped_has t.values raws other there) (ties m other (inl refl) (inr there) e),
+          λ s h e. all_has _ _ _ up.0 (mapped_has t.values raws s h) (ties m s (inl refl) (inr h) e),
           among raws up.1 (λ a b h g. ties a b (inr h) (inr g)),
         )
 
