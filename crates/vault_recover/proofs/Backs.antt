@@ -1,41 +1,51 @@
 -- What a value tells of what it was made from.
-use Rattle.std.proofs.Common.{◌≡◌, ◌<◌, ◌==◌, ℕ, true, false, Bool, cond, Option, Some, None, option_map, refl, arith}
+use Rattle.std.proofs.Common.{◌≡◌, ◌<◌, ℕ, ℤ, pos, true, Bool, cond, Option, Some, None, option_map}
+use Rattle.std.proofs.Common.{refl, sym, arith}
 use Rattle.std.proofs.lemmas.Bool.Decides.{nat_tests}
 use Rattle.std.proofs.lemmas.Grind.{common_steps}
-use Rattle.vault_core.proofs.Finds.{some_same}
-use Rattle.vault_core.specs.Vault.{Merchant}
+use Rattle.vault_core.specs.Keys.{Bytes}
 use Rattle.vault_core.specs.declared.usage.Use.{Use}
 use Rattle.vault_core.specs.declared.usage.Use.TheVariants.{Single, Multi}
+use Rattle.vault_recover.specs.Raw.{int_value}
 use Rattle.vault_rules.specs.Showing.{usage_number}
-use Rattle.vault_schema.specs.Version1.Rows.{use_number}
-use Rattle.vault_sql.specs.Stands.{lives_in, unless_zero}
-use Rattle.vault_schema.specs.declared.v1.Lives.{Lives}
+use Rattle.vault_schema.specs.Version1.Rows.{use_number, text_or_null, number_or_null}
+use Rattle.vault_sql.specs.Stands.{unless_zero}
+
+pub text_back : (a b : Option Bytes) → text_or_null a ≡ text_or_null b → a ≡ b
+text_back a b e = grind arith
+
+pub moment_back : (a : Option ℤ) (b : Option ℕ) → int_value a ≡ number_or_null b → a ≡ option_map pos b
+moment_back a b e = grind arith
+
+pub same_moment : (o : Option ℕ) → int_value (option_map pos o) ≡ number_or_null o
+same_moment o = grind arith
 
 -- the number of a use is one, by either name
 pub same_number : (u : Use) → use_number u ≡ usage_number u
 same_number Single = refl
 same_number Multi = refl
 
-pub lives_back : (o : Option Merchant) (x : Lives) → option_map lives_in o ≡ Some x → (merchant : Merchant) × (o ≡ Some merchant) × (lives_in merchant ≡ x)
-lives_back None x e = absurd cc
-lives_back (Some merchant) x e = (merchant, refl, some_same e)
+-- two that have the same are one
+pub both_ways : {X : Type 0} (a b : Option X) → ((x : X) → a ≡ Some x → b ≡ Some x)
+    → ((x : X) → b ≡ Some x → a ≡ Some x) → a ≡ b
+both_ways (Some x) b to from = sym (to x refl)
+both_ways None (Some y) to from = from y refl
+both_ways None None to from = refl
 
 pub given_back : (b : Bool) (x : Unit {0}) → cond b (Some tt) None ≡ Some x → b ≡ true
-given_back true x e = refl
-given_back false x e = absurd cc
+given_back b x e = grind arith
+
+-- a count that has no row is 0
+pub none_unless : (n : ℕ) → unless_zero n ≡ None → n ≡ 0
+none_unless n e = grind (arith, nat_tests, common_steps)
 
 -- a count that has a row isn't 0, and is its total
 pub some_unless : (n x : ℕ) → unless_zero n ≡ Some x → (n ≡ x) × (0 < n)
-some_unless n x =
-    elim (n == 0) as (λ b. (n == 0) ≡ b → cond b None (Some n) ≡ Some x → (n ≡ x) × (0 < n)) [
-      | true ↦ λ e is. absurd cc
-      | false ↦ λ e is. (some_same is, let apart : 0 < n = grind (arith, nat_tests, common_steps) in apart)
-    ] refl
+some_unless n x e = (grind (arith, nat_tests, common_steps), grind (arith, nat_tests, common_steps))
 
 -- a count that isn't 0 has one
 pub unless_some : (n : ℕ) → 0 < n → unless_zero n ≡ Some n
-unless_some n low =
-    elim (n == 0) as (λ b. (n == 0) ≡ b → cond b None (Some n) ≡ Some n) [
-      | true ↦ λ e. let zero : n ≡ 0 = grind (arith, nat_tests, common_steps) in absurd (omega (arith, low, zero))
-      | false ↦ λ e. refl
-    ] refl
+unless_some n low = grind (arith, nat_tests, common_steps)
+
+pub same_count : (n m : ℕ) → unless_zero n ≡ unless_zero m → n ≡ m
+same_count n m same = grind (arith, nat_tests, common_steps)

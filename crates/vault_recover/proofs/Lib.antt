@@ -1,5 +1,4 @@
 pub mod Backs
-pub mod Decoded
 pub mod FromStands
 pub mod Holders
 pub mod Judged
@@ -7,12 +6,13 @@ pub mod LeftBy
 pub mod Once
 pub mod OneVault
 pub mod Opening
+pub mod Permuted
 pub mod Readings
 pub mod Reopened
 pub mod Results
 pub mod Rising
-pub mod Standing
 pub mod Stood
-pub mod Tallies
+pub mod Table
+pub mod Tables
 pub mod VersionRows
 pub mod Versioned

@@ -1,63 +1,54 @@
 -- The one row of `vault`.
-use Rattle.std.proofs.Common.{◌≡◌, inl, inr, pos, List, [], ◌∷◌, length, map, drop, true, false, Some, refl, sym, ap, subst, ◌∙◌, true≢false}
+use Rattle.std.proofs.Common.{◌≡◌, inl, pos, List, [], ◌∷◌, length, map, drop, true, Some, refl, sym, ap, subst, ◌∙◌}
+use Rattle.std.proofs.Common.{arith, IsPermutation}
 use Rattle.std.proofs.lemmas.Bool.{and_parts}
-use Rattle.std.proofs.lemmas.List.Sorted.{length_permutation}
-use Rattle.std.specs.List.Sorted.{IsPermutation}
+use Rattle.std.proofs.lemmas.List.Sorted.{IsPermutation-sym}
+use Rattle.sqlite.proofs.Callers.{one_permutation}
 use Rattle.sqlite.specs.Effect.{Database, IsDatabase}
 use Rattle.sqlite.specs.Order.{Row, column}
 use Rattle.sqlite.specs.Schema.{Schema}
 use Rattle.sqlite.specs.declared.types.Value.{Value}
-use Rattle.sqlite.specs.declared.types.Value.TheVariants.{Null, Int, Real, Text, Blob}
+use Rattle.sqlite.specs.declared.types.Value.TheVariants.{Null, Int}
 use Rattle.sqlite_rules.specs.Lists.{Has}
 use Rattle.sqlite_rules.proofs.RuleLemmas.{keeps_at}
 use Rattle.sqlite_schema.specs.Rules.{are_typed}
 use Rattle.sqlite_schema.specs.declared.schema.Constraint.TheVariants.{Datatype}
 use Rattle.sqlite_sql.specs.Ops.{is_null}
-use Rattle.sql_maps.proofs.Answers.{has_permuted}
+use Rattle.sql_maps.specs.Schema.{table_of}
 use Rattle.vault_recover.specs.Opened.{AreVersions}
 use Rattle.vault_recover.specs.Raw.{version_values}
 use Rattle.vault_recover.specs.Reading.{shown_by, version_columns}
 use Rattle.vault_rules.specs.declared.rows.RawVersion.{RawVersion}
-use Rattle.vault_sql.specs.Schema.{vault_schema}
-use Rattle.sql_maps.specs.Schema.{table_of}
+use Rattle.vault_schema.specs.Version1.Claims.{IsVersion}
 use Rattle.vault_schema.specs.Version1.Tables.{vault}
+use Rattle.vault_sql.specs.Schema.{vault_schema}
 
 null_is : (v : Value) → is_null v ≡ true → v ≡ Null
-null_is Null e = refl
-null_is (Int n) e = absurd (true≢false (sym e))
-null_is (Real x) e = absurd (true≢false (sym e))
-null_is (Text t) e = absurd (true≢false (sym e))
-null_is (Blob b) e = absurd (true≢false (sym e))
+null_is v e = grind arith
 
 -- the column that the rowid stands for is NULL
-version_row : (r : Row) → are_typed (Some 0) 0 vault.columns (drop 1 r) ≡ true → column r 0 ≡ Int (pos 1) → column r 2 ≡ Int (pos 1)
-    → r ≡ Int (pos 1) ∷ Null ∷ Int (pos 1) ∷ []
-version_row [] typed id version = absurd cc
-version_row (a ∷ []) typed id version = absurd cc
-version_row (a ∷ b ∷ []) typed id version = absurd cc
+version_row : (r : Row) → are_typed (Some 0) 0 vault.columns (drop 1 r) ≡ true → column r 0 ≡ Int (pos 1)
+    → column r 2 ≡ Int (pos 1) → r ≡ Int (pos 1) ∷ Null ∷ Int (pos 1) ∷ []
 version_row (a ∷ b ∷ c ∷ []) typed id version = λ i. id i ∷ null_is b (and_parts _ _ typed).0 i ∷ version i ∷ []
-version_row (a ∷ b ∷ c ∷ d ∷ more) typed id version = absurd (true≢false (sym (and_parts _ false (and_parts _ _ typed).1).1))
-
--- a list that is one item in some order is that item
-pub alone : {X : Type 0} (xs : List X) (y : X) → IsPermutation xs (y ∷ []) → xs ≡ y ∷ []
-alone [] y same = absurd (let e = length_permutation [] (y ∷ []) same in cc)
-alone (x ∷ []) y same =
-    elim (has_permuted (x ∷ []) (y ∷ []) x same (inl refl)) [ inl is ↦ ap (λ z. z ∷ []) is | inr none ↦ absurd none ]
-alone (x ∷ z ∷ xs) y same = absurd (let e = length_permutation (x ∷ z ∷ xs) (y ∷ []) same in cc)
+version_row (a ∷ b ∷ c ∷ d ∷ more) typed id version = absurd (grind (arith, typed))
+version_row r typed id version = absurd cc
 
 -- the one item of which the list is shown
-pub one_shown : {X Y : Type 0} (f : X → Y) (xs : List X) (y : Y) → map f xs ≡ y ∷ [] → (x : X) × (xs ≡ x ∷ []) × (f x ≡ y)
+pub one_shown : {X Y : Type 0} (f : X → Y) (xs : List X) (y : Y) → map f xs ≡ y ∷ []
+    → (x : X) × (xs ≡ x ∷ []) × (f x ≡ y)
 one_shown f [] y e = absurd cc
 one_shown f (x ∷ []) y e = (x, refl, let same : f x ≡ y = cc in same)
 one_shown f (x ∷ z ∷ xs) y e = absurd (let many = ap length e in cc)
 
-pub version_stands : (db : Database) → db.schema ≡ vault_schema → IsDatabase db → (versions : List RawVersion) → AreVersions db.trees versions
-    → (v : RawVersion) → versions ≡ v ∷ [] → v.id ≡ pos 1 → v.version ≡ pos 1 → db.trees 0 ≡ (Int (pos 1) ∷ Null ∷ Int (pos 1) ∷ []) ∷ []
+pub version_stands : (db : Database) → db.schema ≡ vault_schema → IsDatabase db → (versions : List RawVersion)
+    → AreVersions db.trees versions → (v : RawVersion) → versions ≡ v ∷ [] → v.id ≡ pos 1 → v.version ≡ pos 1
+    → IsVersion 1 (db.trees 0)
 version_stands db ours sound versions are v one id version =
-    let shown = alone (map (shown_by version_columns) (db.trees 0)) (version_values v)
-    (subst (λ vs. IsPermutation (map (shown_by version_columns) (db.trees 0)) (map version_values vs)) one are) in
-    let row = one_shown (shown_by version_columns) (db.trees 0) (version_values v) shown in
+    let all = map (shown_by version_columns) (db.trees 0) in
+    let same = subst (λ vs. IsPermutation (map version_values vs) all) one (IsPermutation-sym all _ are) in
+    let row = one_shown (shown_by version_columns) (db.trees 0) _ (one_permutation _ all same) in
     let there : Has (db.trees 0) row.0 = subst (λ rs. Has rs row.0) (sym row.1) (inl refl) in
     let listed = subst (λ (s : Schema). Has s.tables (table_of vault)) (sym ours) (inl refl) in
-    let typed = (and_parts _ _ (keeps_at Datatype db.schema db.trees (table_of vault) row.0 (sound.obeys.rules Datatype) listed there)).0 in
-    row.1 ∙ ap (λ r. r ∷ []) (version_row row.0 typed (ap (λ rs. column rs 0) row.2 ∙ ap Int id) (ap (λ rs. column rs 1) row.2 ∙ ap Int version))
+    let kept = keeps_at Datatype db.schema db.trees (table_of vault) row.0 (sound.obeys.rules Datatype) listed there in
+    row.1 ∙ ap (λ r. r ∷ []) (version_row row.0 (and_parts _ _ kept).0
+    (ap (λ rs. column rs 0) row.2 ∙ ap Int id) (ap (λ rs. column rs 1) row.2 ∙ ap Int version))

@@ -1,5 +1,5 @@
 -- Schemas that have a version.
-use Rattle.std.proofs.Common.{◌≡◌, ◌⊎◌, inl, inr, ℤ, pos, refl, sym, subst, drop, ◌∙◌}
+use Rattle.std.proofs.Common.{◌≡◌, inl, inr, ℤ, pos, refl, sym, subst, drop, ◌∙◌}
 use Rattle.sqlite.specs.Effect.{Database}
 use Rattle.sqlite.specs.Schema.{Schema}
 use Rattle.vault_recover.proofs.Results.{same_version}

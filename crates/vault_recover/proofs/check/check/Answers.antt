@@ -2,7 +2,7 @@ use Rattle.std.proofs.Common.{inl}
 use Rattle.sqlite.specs.Held.{state}
 use Rattle.vault_recover.proofs.Holders.{held_by, no_sizes}
 use Rattle.vault_recover.proofs.Judged.{no_refusal}
-use Rattle.vault_recover.proofs.Results.{if_err, if_ok}
+use Rattle.vault_recover.proofs.Results.{if_err}
 use Rattle.vault_recover.proofs.Versioned.{wrong_mixed, wrong_other}
 use Rattle.vault_recover.proofs.check.check.Goals as goal
 

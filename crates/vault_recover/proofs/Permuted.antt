@@ -1,0 +1,41 @@
+-- That no rowid comes twice does not hang on the order of the rows.
+use Rattle.std.proofs.Common.{◌≡◌, List, [], ◌∷◌, false, refl, sym, ap, ◌∙◌, Bool, true, true≢false}
+use Rattle.std.proofs.lemmas.Map.Keys.{IsDistinct-IsPermutation}
+use Rattle.std.specs.Cmp.{eq_by_cmp_equiv}
+use Rattle.std.specs.List.{IsDistinct}
+use Rattle.std.specs.List.Sorted.{IsPermutation}
+use Rattle.std.specs.Ordering.{eq_by_cmp, is_eq}
+use Rattle.sqlite.specs.Order.{Row, value_cmp}
+use Rattle.sqlite.specs.Tree.{rowid}
+use Rattle.sqlite_rules.proofs.ListLemmas.{all_from, all_has}
+use Rattle.sqlite_value.proofs.OrderLemmas.{value_cmp_total}
+use Rattle.sql_maps.proofs.KeyTests.{equal_is}
+use Rattle.sql_maps.specs.Rows.{IsApart}
+
+abbrev tied : Row → Row → Bool
+tied r s = eq_by_cmp value_cmp (rowid r) (rowid s)
+
+distinct_from : (rows : List Row) → IsApart rows → IsDistinct tied rows
+unfolding IsDistinct
+distinct_from [] up = tt
+distinct_from (r ∷ rows) up = (
+  all_from _ rows (λ s h. untied (tied r s) (λ e. all_has _ rows s up.0 h (equal_is _ e))),
+  distinct_from rows up.1,
+)
+  where
+    untied : (b : Bool) → (b ≡ true → ⊥) → b ≡ false
+    untied true not = absurd (not refl)
+    untied false not = refl
+
+apart_from : (rows : List Row) → IsDistinct tied rows → IsApart rows
+unfolding IsDistinct
+apart_from [] up = tt
+apart_from (r ∷ rows) up = (
+  all_from _ rows (λ s h e. true≢false (sym (ap is_eq e) ∙ all_has _ rows s up.0 h)),
+  apart_from rows up.1,
+)
+
+pub apart_permuted : (xs ys : List Row) → IsPermutation xs ys → IsApart xs → IsApart ys
+apart_permuted xs ys same up =
+    let flips = λ (r s : Row). (eq_by_cmp_equiv value_cmp_total).symm (rowid r) (rowid s) in
+    apart_from ys (IsDistinct-IsPermutation tied flips xs ys same (distinct_from xs up))
