@@ -72,8 +72,7 @@ version_of db is versions same =
     let all = map (shown_by version_columns) in
     let one = subst (λ l. IsPermutation (all l) (map version_values versions)) is same in
     let it = one_shown version_values versions _ (one_permutation _ _ one) in
-    let is = it.2 in
-    (it.0, it.1, grind (arith, is), grind (arith, is))
+    (it.0, it.1, grind (arith, it.2), grind (arith, it.2))
 
 module _ (db : Trees) (V : Vault) (stands : Stands db V) (rows : Rows) (raws : AreRaws db rows)
     (apart : HasKeysApart rows) where
@@ -85,9 +84,7 @@ module _ (db : Trees) (V : Vault) (stands : Stands db V) (rows : Rows) (raws : A
   count_is c h =
       let it = pair_of tables.counts _ raws.merchants.counts_are stands.counts c h in
       let some = some_unless (count_of c) it.0 it.2 in
-      let is = it.1 in
-      let same = some.0 in
-      (grind (arith, is), grind (arith, is, same), some.1)
+      (grind (arith, it.1), grind (arith, it.1, some.0), some.1)
 
   count_shown : (c : RawCount) → Has rows.counts.items c → ShowsCount c V
   count_shown c h =
@@ -121,8 +118,7 @@ module _ (db : Trees) (V : Vault) (stands : Stands db V) (rows : Rows) (raws : A
       × ShowsEntry e entry
   entry_pair e h =
       let it = pair_of tables.entries _ raws.others.entries_are stands.entries e h in
-      let is = it.1 in
-      let shown : ShowsEntry e it.0 = grind (arith, is) in
+      let shown : ShowsEntry e it.0 = grind (arith, it.1) in
       (it.0, it.2, shown)
 
   -- the entries of the vault are those of the vault of rows
@@ -131,12 +127,11 @@ module _ (db : Trees) (V : Vault) (stands : Stands db V) (rows : Rows) (raws : A
       (λ x e.
       let it = row_at tables.entries _ raws.others.entries_are stands.entries q x e in
       ap (finite.get (vault_of rows).entries) (sym it.0.2) ∙ entry_held rows apart it.0.0 it.0.1
-      ∙ (let is = it.1 in grind (arith, is)))
+      ∙ grind (arith, it.1))
       (λ y e.
       let row = entry_row rows q.0 q.1 y e in
       let it = entry_pair row.0.e row.0.there in
-      let is = it.2 in
-      let value : entry_value row.0.e ≡ it.0 = grind (arith, is) in
+      let value : entry_value row.0.e ≡ it.0 = grind (arith, it.2) in
       sym (λ i. entry_at V (row.0.merchant_is i) (row.0.token_is i)) ∙ it.1
       ∙ ap (λ v. Some v) (sym value ∙ row.1)))
 
@@ -172,11 +167,9 @@ module _ (db : Trees) (V : Vault) (stands : Stands db V) (rows : Rows) (raws : A
             (it.0, it.1, ap (λ k. k.0) it.2, ap (λ k. k.1) it.2);
         records = λ r h.
             let it = pair_of tables.records _ raws.others.records_are stands.records r h in
-            let is = it.1 in
-            let shown : ShowsRecord r it.0 = grind (arith, is) in
-            (natural r.request, it.0, grind (arith, is), it.2, shown);
+            let shown : ShowsRecord r it.0 = grind (arith, it.1) in
+            (natural r.request, it.0, grind (arith, it.1), it.2, shown);
         rights = λ r h.
             let it = pair_of tables.rights _ raws.others.rights_are stands.rights r h in
-            let is = it.1 in
-            (right_of r.what, grind (arith, is), given_back _ it.0 it.2);
+            (right_of r.what, grind (arith, it.1), given_back _ it.0 it.2);
       }

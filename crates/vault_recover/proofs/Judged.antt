@@ -7,8 +7,7 @@ use Rattle.sqlite.specs.State.{State, IsUnchanged}
 use Rattle.vault_recover.proofs.Chains.{ours_then}
 use Rattle.vault_recover.proofs.FromStands.{stands_shows, version_of}
 use Rattle.vault_recover.proofs.Opening.{apart}
-use Rattle.vault_recover.proofs.Once.{apart_keys}
-use Rattle.vault_recover.proofs.Stood.{they_stand}
+use Rattle.vault_recover.proofs.Stood.{apart_keys, they_stand}
 use Rattle.vault_recover.proofs.Permuted.{apart_permuted}
 use Rattle.vault_recover.specs.Apart.{AreApart}
 use Rattle.vault_recover.specs.Opened.{AreRaws, AreVersions, IsFit, IsLeastBroken, IsNoRefusal, IsOtherVersion, IsSoundOf, StandsSound}

@@ -6,7 +6,7 @@ use Rattle.sqlite.specs.declared.types.Value.TheVariants.{Int, Text}
 use Rattle.sqlite_rules.specs.Lists.{Has}
 use Rattle.vault_core.specs.Keys.{Bytes}
 use Rattle.vault_recover.proofs.Backs.{given_back, some_unless, unless_some}
-use Rattle.vault_recover.proofs.Table.{stand_for}
+use Rattle.vault_recover.proofs.Table.{keys_apart, stand_for}
 use Rattle.vault_recover.proofs.Tables as tables
 use Rattle.vault_recover.proofs.VersionRows.{version_stands}
 use Rattle.vault_recover.specs.Apart.{AreApart}
@@ -26,6 +26,17 @@ use Rattle.vault_rules.specs.declared.rows.Rows.{Rows}
 use Rattle.vault_schema.specs.Version1.Rows as row
 use Rattle.vault_sql.specs.Schema.{vault_schema}
 use Rattle.vault_sql.specs.Stands.{Stands, count_at, lives_in, unless_zero}
+
+-- a key that is UNIQUE comes once
+pub apart_keys : (db : Database) → db.schema ≡ vault_schema → IsDatabase db → (rows : Rows)
+    → AreRaws db.trees rows → AreApart rows → HasKeysApart rows
+apart_keys db ours sound rows raws up = record {
+  merchants = keys_apart tables.merchants db ours sound _ raws.merchants.merchants_are up.merchants;
+  counts = keys_apart tables.counts db ours sound _ raws.merchants.counts_are up.counts;
+  entries = keys_apart tables.entries db ours sound _ raws.others.entries_are up.entries;
+  records = keys_apart tables.records db ours sound _ raws.others.records_are up.records;
+  rights = keys_apart tables.rights db ours sound _ raws.others.rights_are up.rights;
+}
 
 module _ (rows : Rows) (apart : HasKeysApart rows) (keep : (r : ℕ) → keeps rows r ≡ true) where
   abbrev HasRow : Bytes × ℕ → Type 0
@@ -51,37 +62,33 @@ module _ (rows : Rows) (apart : HasKeysApart rows) (keep : (r : ℕ) → keeps r
             (λ m h.
             let it = shows.merchants m h in
             let name = string_bytes m.name in
-            let is = it.2 in
-            let listed : drop 1 (raw.merchant_values m) ≡ row.merchant_row name _ = grind (arith, is) in
+            let listed : drop 1 (raw.merchant_values m) ≡ row.merchant_row name _ = grind (arith, it.2) in
             (name, lives_in it.0, listed, ap (option_map lives_in) it.1))
             (λ name x h. let it = mapped_is lives_in _ x h in shows.merchants_there name it.0 it.1);
         counts = stand_for tables.counts db ours sound _ raws.merchants.counts_are up.counts
             (λ c h.
             let it = counts_well rows keep c h in
-            let held = ap unless_zero (sym (count_held rows apart keep c h)) ∙ unless_some _ it.total.low_is in
+            let held = ap unless_zero (sym (count_held rows apart keep c h)) in
             let name = string_bytes c.merchant in
-            (_, _, (λ i. Text name ∷ Int (it.kind.is i) ∷ Int (it.total.is i) ∷ []), held))
+            (_, _, (λ i. Text name ∷ Int (it.kind.is i) ∷ Int (it.total.is i) ∷ []),
+            held ∙ unless_some _ it.total.low_is))
             counts_there;
         entries = stand_for tables.entries db ours sound _ raws.others.entries_are up.entries
             (λ e h.
             let it = shows.entries e h in
-            let is = it.2 in
-            let listed : drop 1 (raw.entry_values e) ≡ row.entry_row _ it.0 = grind (arith, is) in
+            let listed : drop 1 (raw.entry_values e) ≡ row.entry_row _ it.0 = grind (arith, it.2) in
             (entry_key e, it.0, listed, it.1))
             (λ k x h. let it = shows.entries_there k.0 k.1 x h in (it.0, it.1, λ i. (it.2 i, it.3 i)));
         records = stand_for tables.records db ours sound _ raws.others.records_are up.records
             (λ r h.
             let it = shows.records r h in
-            let number = it.2 in
-            let is = it.4 in
-            let listed : drop 1 (raw.record_values r) ≡ row.record_row _ it.1 = grind (arith, number, is) in
+            let listed : drop 1 (raw.record_values r) ≡ row.record_row _ it.1 = grind (arith, it.2, it.4) in
             ((string_bytes r.caller, it.0), it.1, listed, it.3))
             (λ k x h. let it = record_row rows k.0 k.1 x h in (it.0, it.1, it.2));
         rights = stand_for tables.rights db ours sound _ raws.others.rights_are up.rights
             (λ r h.
             let it = shows.rights r h in
-            let is = it.1 in
-            let listed : drop 1 (raw.right_values r) ≡ row.right_row _ tt = grind (arith, is) in
+            let listed : drop 1 (raw.right_values r) ≡ row.right_row _ tt = grind (arith, it.1) in
             (_, tt, listed, ap (λ b. cond b (Some tt) None) it.2))
             (λ k x h. right_row rows k.0 k.1.0 k.1.1 (given_back _ x h));
       }

@@ -44,7 +44,6 @@ version_stands db ours sound versions are v one id version =
     let listed = subst (λ (s : Schema). Has s.tables (table_of vault)) (sym ours) (inl refl) in
     let rule = sound.obeys.rules Datatype in
     let kept = keeps_at Datatype db.schema db.trees (table_of vault) row.0 rule listed there in
-    let is = row.2 in
-    let first : column row.0 0 ≡ Int (pos 1) = grind (arith, is, id) in
-    let second : column row.0 2 ≡ Int (pos 1) = grind (arith, is, version) in
+    let first : column row.0 0 ≡ Int (pos 1) = grind (arith, row.2, id) in
+    let second : column row.0 2 ≡ Int (pos 1) = grind (arith, row.2, version) in
     row.1 ∙ ap (λ r. r ∷ []) (version_row row.0 (and_parts _ _ kept).0 first second)
