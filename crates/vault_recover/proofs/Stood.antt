@@ -68,10 +68,9 @@ module _ (rows : Rows) (apart : HasKeysApart rows) (keep : (r : ℕ) → keeps r
         counts = stand_for tables.counts db ours sound _ raws.merchants.counts_are up.counts
             (λ c h.
             let it = counts_well rows keep c h in
-            let held = ap unless_zero (sym (count_held rows apart keep c h)) in
+            let at = ap unless_zero (sym (count_held rows apart keep c h)) ∙ unless_some _ it.total.low_is in
             let name = string_bytes c.merchant in
-            (_, _, (λ i. Text name ∷ Int (it.kind.is i) ∷ Int (it.total.is i) ∷ []),
-            held ∙ unless_some _ it.total.low_is))
+            (_, _, (λ i. Text name ∷ Int (it.kind.is i) ∷ Int (it.total.is i) ∷ []), at))
             counts_there;
         entries = stand_for tables.entries db ours sound _ raws.others.entries_are up.entries
             (λ e h.

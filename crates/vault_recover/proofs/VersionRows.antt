@@ -5,7 +5,6 @@ use Rattle.std.proofs.lemmas.Bool.{and_parts}
 use Rattle.std.proofs.lemmas.List.Sorted.{IsPermutation-sym}
 use Rattle.sqlite.proofs.Callers.{one_permutation}
 use Rattle.sqlite.specs.Effect.{Database, IsDatabase}
-use Rattle.sqlite.specs.Order.{Row, column}
 use Rattle.sqlite.specs.Schema.{Schema}
 use Rattle.sqlite.specs.declared.types.Value.TheVariants.{Null, Int}
 use Rattle.sqlite_rules.specs.Lists.{Has}
@@ -21,11 +20,6 @@ use Rattle.vault_schema.specs.Version1.Claims.{IsVersion}
 use Rattle.vault_schema.specs.Version1.Tables.{vault}
 use Rattle.vault_sql.specs.Schema.{vault_schema}
 
--- the column that the rowid stands for is NULL
-version_row : (r : Row) → are_typed (Some 0) 0 vault.columns (drop 1 r) ≡ true → column r 0 ≡ Int (pos 1)
-    → column r 2 ≡ Int (pos 1) → r ≡ Int (pos 1) ∷ Null ∷ Int (pos 1) ∷ []
-version_row r typed id version = grind arith
-
 -- the one item of which the list is shown
 pub one_shown : {X Y : Type 0} (f : X → Y) (xs : List X) (y : Y) → map f xs ≡ y ∷ []
     → (x : X) × (xs ≡ x ∷ []) × (f x ≡ y)
@@ -39,11 +33,11 @@ pub version_stands : (db : Database) → db.schema ≡ vault_schema → IsDataba
 version_stands db ours sound versions are v one id version =
     let all = map (shown_by version_columns) (db.trees 0) in
     let same = subst (λ vs. IsPermutation (map version_values vs) all) one (IsPermutation-sym all _ are) in
-    let row = one_shown (shown_by version_columns) (db.trees 0) _ (one_permutation _ all same) in
+    let row = one_shown _ (db.trees 0) (version_values v) (one_permutation _ all same) in
     let there : Has (db.trees 0) row.0 = subst (λ rs. Has rs row.0) (sym row.1) (inl refl) in
     let listed = subst (λ (s : Schema). Has s.tables (table_of vault)) (sym ours) (inl refl) in
     let rule = sound.obeys.rules Datatype in
     let kept = keeps_at Datatype db.schema db.trees (table_of vault) row.0 rule listed there in
-    let first : column row.0 0 ≡ Int (pos 1) = grind (arith, row.2, id) in
-    let second : column row.0 2 ≡ Int (pos 1) = grind (arith, row.2, version) in
-    row.1 ∙ ap (λ r. r ∷ []) (version_row row.0 (and_parts _ _ kept).0 first second)
+    let typed : are_typed (Some 0) 0 vault.columns (drop 1 row.0) ≡ true = (and_parts _ _ kept).0 in
+    let it : row.0 ≡ Int (pos 1) ∷ Null ∷ Int (pos 1) ∷ [] = grind (arith, typed, row.2, id, version) in
+    row.1 ∙ ap (λ r. r ∷ []) it
