@@ -101,17 +101,17 @@ module _ (db : Trees) (V : Vault) (stands : Stands db V) (rows : Rows) (raws : A
   made_counted : (name : Bytes) → total_of rows.counts.items name (pos 1) ≡ pos (made V name)
   made_counted name = elim (unless_zero (made V name))
       as (λ o. unless_zero (made V name) ≡ o → total_of rows.counts.items name (pos 1) ≡ pos (made V name)) [
-    | None ↦ λ none. count_cases rows.counts.items name (pos 1) (λ z. z ≡ pos (made V name))
-        (ap pos (sym (none_unless (made V name) none)))
-        (λ c at. (count_is c at.there).1
-        ∙ (λ i. pos (count_at V (at.merchant_is i) (natural (at.kind_is i)))))
-    | Some x ↦ λ some.
-        let it = row_at tables.counts _ raws.merchants.counts_are stands.counts (name, 1) x some in
-        let is = count_is it.0.0 it.0.1 in
-        (λ i. total_of rows.counts.items (sym it.0.2 i).0 (pos (sym it.0.2 i).1))
-        ∙ ap (total_of rows.counts.items _) (sym is.0) ∙ count_total rows apart it.0.0 it.0.1
-        ∙ is.1 ∙ (λ i. pos (count_at V (it.0.2 i).0 (it.0.2 i).1))
-  ] refl
+        | None ↦ λ none. count_cases rows.counts.items name (pos 1) (λ z. z ≡ pos (made V name))
+            (ap pos (sym (none_unless (made V name) none)))
+            (λ c at. (count_is c at.there).1
+            ∙ (λ i. pos (count_at V (at.merchant_is i) (natural (at.kind_is i)))))
+        | Some x ↦ λ some.
+            let it = row_at tables.counts _ raws.merchants.counts_are stands.counts (name, 1) x some in
+            let is = count_is it.0.0 it.0.1 in
+            (λ i. total_of rows.counts.items (sym it.0.2 i).0 (pos (sym it.0.2 i).1))
+            ∙ ap (total_of rows.counts.items _) (sym is.0) ∙ count_total rows apart it.0.0 it.0.1
+            ∙ is.1 ∙ (λ i. pos (count_at V (it.0.2 i).0 (it.0.2 i).1))
+      ] refl
 
   entry_pair : (e : RawEntry) → Has rows.entries.items e
       → (entry : Entry) × (entry_at V (string_bytes e.merchant) (string_bytes e.token) ≡ Some entry)

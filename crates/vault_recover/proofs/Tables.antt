@@ -21,6 +21,7 @@ use Rattle.vault_rules.specs.declared.rows.RawRight.{RawRight}
 use Rattle.vault_schema.proofs.Version1.Codes as codes
 use Rattle.vault_schema.specs.Version1.Rows as row
 
+-- a value that isn't NULL is equal to itself
 pub same_text : (t : Bytes) → equal Binary (Text t) (Text t) ≡ true
 same_text t = text_eq t t ∙ ap is_eq (tied_itself bytes_total t)
 
@@ -41,6 +42,7 @@ whose q = Text q.0 ∷ Text q.1.0 ∷ Int q.1.1 ∷ []
 abbrev right_in : Bytes × (Bytes × ℤ) → Bytes × (Bytes × Right)
 right_in q = (q.0, (q.1.0, right_of q.1.1))
 
+-- the columns of a key tell it
 pub name_back : (q k : Bytes) → Text q ∷ [] ≡ row.merchant_key k → q ≡ k
 name_back q k e = grind arith
 
