@@ -1,29 +1,9 @@
 -- What a value tells of what it was made from.
-use Rattle.std.proofs.Common.{◌≡◌, ◌<◌, ℕ, ℤ, pos, true, Bool, cond, Option, Some, None, option_map}
+use Rattle.std.proofs.Common.{◌≡◌, ◌<◌, ℕ, true, Bool, cond, Option, Some, None}
 use Rattle.std.proofs.Common.{refl, sym, arith}
 use Rattle.std.proofs.lemmas.Bool.Decides.{nat_tests}
 use Rattle.std.proofs.lemmas.Grind.{common_steps}
-use Rattle.vault_core.specs.Keys.{Bytes}
-use Rattle.vault_core.specs.declared.usage.Use.{Use}
-use Rattle.vault_core.specs.declared.usage.Use.TheVariants.{Single, Multi}
-use Rattle.vault_recover.specs.Raw.{int_value}
-use Rattle.vault_rules.specs.Showing.{usage_number}
-use Rattle.vault_schema.specs.Version1.Rows.{use_number, text_or_null, number_or_null}
 use Rattle.vault_sql.specs.Stands.{unless_zero}
-
-pub text_back : (a b : Option Bytes) → text_or_null a ≡ text_or_null b → a ≡ b
-text_back a b e = grind arith
-
-pub moment_back : (a : Option ℤ) (b : Option ℕ) → int_value a ≡ number_or_null b → a ≡ option_map pos b
-moment_back a b e = grind arith
-
-pub same_moment : (o : Option ℕ) → int_value (option_map pos o) ≡ number_or_null o
-same_moment o = grind arith
-
--- the number of a use is one, by either name
-pub same_number : (u : Use) → use_number u ≡ usage_number u
-same_number Single = refl
-same_number Multi = refl
 
 -- two that have the same are one
 pub both_ways : {X : Type 0} (a b : Option X) → ((x : X) → a ≡ Some x → b ≡ Some x)

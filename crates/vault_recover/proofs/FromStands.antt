@@ -1,5 +1,5 @@
 -- The rows of a database that stands for a vault show that vault.
-use Rattle.std.proofs.Common.{◌≡◌, ◌⊎◌, inl, inr, ℕ, zero, suc, pos, List, [], ◌∷◌, map, drop, ◌<◌}
+use Rattle.std.proofs.Common.{◌≡◌, ◌⊎◌, inl, inr, ℕ, zero, suc, pos, List, [], ◌∷◌, map, ◌<◌}
 use Rattle.std.proofs.Common.{Option, Some, None, option_map, refl, sym, ap, subst, ◌∙◌, arith}
 use Rattle.std.proofs.lemmas.Bool.Decides.{nat_tests}
 use Rattle.std.proofs.lemmas.List.{length-map}
@@ -10,7 +10,6 @@ use Rattle.std.specs.Option.{option_map_or}
 use Rattle.std.specs.Ordering.{eq_by_cmp}
 use Rattle.std.specs.Prelude.{string_bytes}
 use Rattle.sqlite.proofs.Callers.{one_permutation}
-use Rattle.sqlite.specs.Order.{Row, column}
 use Rattle.sqlite.specs.Tree.{Trees}
 use Rattle.sqlite_rules.specs.Lists.{Has}
 use Rattle.sql_maps.proofs.HowMany.{as_many}
@@ -18,16 +17,12 @@ use Rattle.vault_core.proofs.Maps.{entry_total, entry_exact}
 use Rattle.vault_core.specs.Keys.{Bytes, bytes_cmp}
 use Rattle.vault_core.specs.Vault.{Vault, Merchant, merchant_at, entry_at, made}
 use Rattle.vault_core.specs.declared.row.Entry.{Entry}
-use Rattle.vault_core.specs.declared.usage.Use.{Use}
-use Rattle.vault_core.specs.declared.usage.Use.TheVariants.{Single, Multi}
-use Rattle.vault_recover.proofs.Backs.{both_ways, given_back, same_number, some_unless}
-use Rattle.vault_recover.proofs.Backs.{none_unless, moment_back, text_back}
+use Rattle.vault_recover.proofs.Backs.{both_ways, given_back, none_unless, some_unless}
 use Rattle.vault_recover.proofs.Table.{pair_of, row_at}
 use Rattle.vault_recover.proofs.Tables as tables
-use Rattle.vault_recover.proofs.Tables.{int_in, text_in}
 use Rattle.vault_recover.proofs.VersionRows.{one_shown}
 use Rattle.vault_recover.specs.Opened.{AreRaws, AreVersions}
-use Rattle.vault_recover.specs.Raw.{version_values, entry_values}
+use Rattle.vault_recover.specs.Raw.{version_values}
 use Rattle.vault_recover.specs.Reading.{shown_by, version_columns}
 use Rattle.vault_rules.proofs.Counts.{count_total, count_cases}
 use Rattle.vault_rules.proofs.Found.{made_is}
@@ -35,8 +30,8 @@ use Rattle.vault_rules.proofs.FoundRows.{entry_row}
 use Rattle.vault_rules.proofs.Held.{entry_held}
 use Rattle.vault_rules.proofs.Options.{mapped_is}
 use Rattle.vault_rules.specs.Lookups.{total_of, held_by}
-use Rattle.vault_rules.specs.Showing.{usage_number, Shows, ShowsCount, ShowsEntry, ShowsRecord}
-use Rattle.vault_rules.specs.VaultOf.{HasKeysApart, vault_of, natural, use_of, entry_key, entry_value}
+use Rattle.vault_rules.specs.Showing.{Shows, ShowsCount, ShowsEntry, ShowsMerchant, ShowsRecord}
+use Rattle.vault_rules.specs.VaultOf.{HasKeysApart, vault_of, natural, right_of, entry_value}
 use Rattle.vault_rules.specs.declared.rows.RawVersion.{RawVersion}
 use Rattle.vault_rules.specs.declared.rows.RawCount.{RawCount}
 use Rattle.vault_rules.specs.declared.rows.RawEntry.{RawEntry}
@@ -45,42 +40,6 @@ use Rattle.vault_schema.proofs.Version1.Codes.{merchant_coding}
 use Rattle.vault_schema.specs.Version1.Claims.{IsVersion}
 use Rattle.vault_schema.specs.Version1.Rows as row
 use Rattle.vault_sql.specs.Stands.{Stands, count_at, lives_in, unless_zero}
-
-text_at : (n : ℕ) {r s : Row} → r ≡ s → text_in (column r n) ≡ text_in (column s n)
-text_at n is = ap (λ r. text_in (column r n)) is
-
-int_at : (n : ℕ) {r s : Row} → r ≡ s → int_in (column r n) ≡ int_in (column s n)
-int_at n is = ap (λ r. int_in (column r n)) is
-
--- the columns of an entry are that entry
-entry_shown : (e : RawEntry) (k : Bytes × Bytes) (x : Entry) → drop 1 (entry_values e) ≡ row.entry_row k x
-    → ShowsEntry e x
-entry_shown e k x is = record {
-  number = text_back _ x.number (ap (λ r. column r 2) is);
-  usage = int_at 3 is ∙ ap pos (same_number x.usage);
-  birth = int_at 4 is;
-  expires = int_at 5 is;
-  revoked = moment_back e.revoked x.revoked (ap (λ r. column r 6) is);
-}
-
-value_shown : (e : RawEntry) (x : Entry) → ShowsEntry e x → entry_value e ≡ x
-value_shown e x is =
-    let usage = ap use_of is.usage ∙ use_back x.usage in
-    let revoked = ap (option_map natural) is.revoked ∙ moment_same x.revoked in
-    λ i. record {
-      number = is.number i;
-      usage = usage i;
-      birth = natural (is.birth i);
-      expires = natural (is.expires i);
-      revoked = revoked i;
-    }
-  where
-    use_back : (u : Use) → use_of (pos (usage_number u)) ≡ u
-    use_back Single = refl
-    use_back Multi = refl
-
-    moment_same : (o : Option ℕ) → option_map natural (option_map pos o) ≡ o
-    moment_same o = grind arith
 
 -- which of a merchant's counts this is
 abbrev IsWhich : Vault → Bytes → ℕ → ℕ → Type 0
@@ -110,11 +69,13 @@ which V m (suc (suc (suc (suc n)))) some =
 pub version_of : (db : Trees) → IsVersion 1 (db 0) → (versions : List RawVersion) → AreVersions db versions
     → (v : RawVersion) × (versions ≡ v ∷ []) × (v.id ≡ pos 1) × (v.version ≡ pos 1)
 version_of db is versions same =
-    let one = subst (λ l. IsPermutation (map (shown_by version_columns) l) (map version_values versions)) is same in
+    let all = map (shown_by version_columns) in
+    let one = subst (λ l. IsPermutation (all l) (map version_values versions)) is same in
     let it = one_shown version_values versions _ (one_permutation _ _ one) in
-    (it.0, it.1, ap (λ r. int_in (column r 0)) it.2, ap (λ r. int_in (column r 1)) it.2)
+    (it.0, it.1, grind (arith, it.2), grind (arith, it.2))
 
-module _ (db : Trees) (V : Vault) (stands : Stands db V) (rows : Rows) (raws : AreRaws db rows) (apart : HasKeysApart rows) where
+module _ (db : Trees) (V : Vault) (stands : Stands db V) (rows : Rows) (raws : AreRaws db rows)
+    (apart : HasKeysApart rows) where
   abbrev count_of : RawCount → ℕ
   count_of c = count_at V (string_bytes c.merchant) (natural c.kind)
 
@@ -123,7 +84,7 @@ module _ (db : Trees) (V : Vault) (stands : Stands db V) (rows : Rows) (raws : A
   count_is c h =
       let it = pair_of tables.counts _ raws.merchants.counts_are stands.counts c h in
       let some = some_unless (count_of c) it.0 it.2 in
-      (int_at 1 it.1, int_at 2 it.1 ∙ ap pos (sym some.0), some.1)
+      (grind (arith, it.1), grind (arith, it.1, some.0), some.1)
 
   count_shown : (c : RawCount) → Has rows.counts.items c → ShowsCount c V
   count_shown c h =
@@ -142,53 +103,61 @@ module _ (db : Trees) (V : Vault) (stands : Stands db V) (rows : Rows) (raws : A
       as (λ o. unless_zero (made V name) ≡ o → total_of rows.counts.items name (pos 1) ≡ pos (made V name)) [
         | None ↦ λ none. count_cases rows.counts.items name (pos 1) (λ z. z ≡ pos (made V name))
             (ap pos (sym (none_unless (made V name) none)))
-            (λ c at. (count_is c at.there).1 ∙ (λ i. pos (count_at V (at.merchant_is i) (natural (at.kind_is i)))))
+            (λ c at. (count_is c at.there).1
+            ∙ (λ i. pos (count_at V (at.merchant_is i) (natural (at.kind_is i)))))
         | Some x ↦ λ some.
             let it = row_at tables.counts _ raws.merchants.counts_are stands.counts (name, 1) x some in
-            let c = it.0.0 in
-            (λ i. total_of rows.counts.items (text_at 0 (sym it.1) i) (int_at 1 (sym it.1) i))
-            ∙ count_total rows apart c it.0.1 ∙ (count_is c it.0.1).1 ∙ (λ i. pos (count_at V (it.0.2 i).0 (it.0.2 i).1))
+            let is = count_is it.0.0 it.0.1 in
+            (λ i. total_of rows.counts.items (sym it.0.2 i).0 (pos (sym it.0.2 i).1))
+            ∙ ap (total_of rows.counts.items _) (sym is.0) ∙ count_total rows apart it.0.0 it.0.1
+            ∙ is.1 ∙ (λ i. pos (count_at V (it.0.2 i).0 (it.0.2 i).1))
       ] refl
 
   entry_pair : (e : RawEntry) → Has rows.entries.items e
-      → (entry : Entry) × (entry_at V (string_bytes e.merchant) (string_bytes e.token) ≡ Some entry) × ShowsEntry e entry
+      → (entry : Entry) × (entry_at V (string_bytes e.merchant) (string_bytes e.token) ≡ Some entry)
+      × ShowsEntry e entry
   entry_pair e h =
       let it = pair_of tables.entries _ raws.others.entries_are stands.entries e h in
-      (it.0, it.2, entry_shown e (entry_key e) it.0 it.1)
+      let shown : ShowsEntry e it.0 = grind (arith, it.1) in
+      (it.0, it.2, shown)
 
   -- the entries of the vault are those of the vault of rows
   same_entries : V.entries ≡ (vault_of rows).entries
-  same_entries = finite.same_map entry_total entry_exact V.entries (vault_of rows).entries (λ q. both_ways _ _
+  same_entries = finite.same_map entry_total entry_exact _ _ (λ q. both_ways _ _
       (λ x e.
       let it = row_at tables.entries _ raws.others.entries_are stands.entries q x e in
       ap (finite.get (vault_of rows).entries) (sym it.0.2) ∙ entry_held rows apart it.0.0 it.0.1
-      ∙ ap (λ v. Some v) (value_shown it.0.0 x (entry_shown it.0.0 q x it.1)))
+      ∙ grind (arith, it.1))
       (λ y e.
       let row = entry_row rows q.0 q.1 y e in
       let it = entry_pair row.0.e row.0.there in
+      let value : entry_value row.0.e ≡ it.0 = grind (arith, it.2) in
       sym (λ i. entry_at V (row.0.merchant_is i) (row.0.token_is i)) ∙ it.1
-      ∙ ap (λ v. Some v) (sym (value_shown row.0.e it.0 it.2) ∙ row.1)))
+      ∙ ap (λ v. Some v) (sym value ∙ row.1)))
 
   held_made : (name : Bytes) → held_by rows.entries.items name ≡ made V name
   held_made name = sym (made_is rows apart name)
-      ∙ ap (λ es. finite.len (finite.retain_keys es (λ key. eq_by_cmp bytes_cmp name key.0))) (sym same_entries)
+      ∙ (λ i. finite.len (finite.retain_keys (sym same_entries i) (λ key. eq_by_cmp bytes_cmp name key.0)))
 
   pub stands_shows : Shows rows V
   stands_shows =
       let version = version_of db stands.version rows.versions.items raws.versions in
+      let size = length_permutation _ _ raws.merchants.merchants_are in
       let many = as_many merchant_coding lives_in (db 1) V.merchants stands.merchants in
       record {
         version = version.0;
         versions = version.1;
         id = version.2;
-        many = sym (length-map rows.merchants.items _) ∙ length_permutation _ _ raws.merchants.merchants_are ∙ many;
+        many = sym (length-map rows.merchants.items _) ∙ size ∙ many;
         merchants = λ m h.
             let it = pair_of tables.merchants _ raws.merchants.merchants_are stands.merchants m h in
             let back = mapped_is lives_in (merchant_at V (string_bytes m.name)) it.0 it.2 in
             let is = it.1 ∙ ap (row.merchant_row (string_bytes m.name)) (sym back.2) in
-            (back.0, back.1, record { single_life = int_at 1 is; multi_life = int_at 2 is; moment = int_at 3 is });
+            let shown : ShowsMerchant m back.0 = grind (arith, is) in
+            (back.0, back.1, shown);
         merchants_there = λ name merchant h.
-            (row_at tables.merchants _ raws.merchants.merchants_are stands.merchants name _ (ap (option_map lives_in) h)).0;
+            let at = ap (option_map lives_in) h in
+            (row_at tables.merchants _ raws.merchants.merchants_are stands.merchants name _ at).0;
         counts = count_shown;
         counted = made_counted;
         held = held_made;
@@ -198,11 +167,9 @@ module _ (db : Trees) (V : Vault) (stands : Stands db V) (rows : Rows) (raws : A
             (it.0, it.1, ap (λ k. k.0) it.2, ap (λ k. k.1) it.2);
         records = λ r h.
             let it = pair_of tables.records _ raws.others.records_are stands.records r h in
-            let usage = int_at 4 it.1 ∙ ap pos (same_number it.0.usage) in
-            let shows : ShowsRecord r it.0 =
-            record { merchant = text_at 2 it.1; token = text_at 3 it.1; usage = usage } in
-            (natural r.request, it.0, int_at 1 it.1, it.2, shows);
+            let shown : ShowsRecord r it.0 = grind (arith, it.1) in
+            (natural r.request, it.0, grind (arith, it.1), it.2, shown);
         rights = λ r h.
             let it = pair_of tables.rights _ raws.others.rights_are stands.rights r h in
-            (_, int_at 2 it.1, given_back _ it.0 it.2);
+            (right_of r.what, grind (arith, it.1), given_back _ it.0 it.2);
       }

@@ -1,13 +1,12 @@
 -- What the verdict over rows comes to.
-use Rattle.std.proofs.Common.{arith, drop, length, ◌<◌, ◌≡◌, ℕ, ℤ, pos, List, [], ◌∷◌, ◌&&◌, not, true, false, Bool, cond, Some, None, option_map, refl, Ok, Err, Result, IfOk, IfErr, OnOk, inl, inr, sym, ap, subst, ◌∙◌, true≢false}
+use Rattle.std.proofs.Common.{arith, drop, length, ◌<◌, ◌≡◌, ℕ, ℤ, pos, List, [], ◌∷◌, ◌&&◌, not, true, false, cond, Some, None, option_map, Ok, Err, Result, IfOk, IfErr, OnOk, inl, inr, sym, ap, subst, ◌∙◌, true≢false}
 use Rattle.std.specs.Ordering.{int_eq}
 use Rattle.sqlite.specs.Effect.{Database, IsDatabase}
 use Rattle.sqlite.specs.Order.{Row}
 use Rattle.sqlite.specs.State.{State, IsUnchanged}
 use Rattle.vault_recover.proofs.FromStands.{stands_shows, version_of}
 use Rattle.vault_recover.proofs.Opening.{apart}
-use Rattle.vault_recover.proofs.Once.{apart_keys}
-use Rattle.vault_recover.proofs.Stood.{they_stand}
+use Rattle.vault_recover.proofs.Stood.{apart_keys, they_stand}
 use Rattle.vault_recover.proofs.Permuted.{apart_permuted}
 use Rattle.vault_recover.specs.Apart.{AreApart}
 use Rattle.vault_recover.specs.Opened.{AreRaws, AreVersions, IsFit, IsLeastBroken, IsNoRefusal, IsOtherVersion, IsSoundOf, StandsSound}
@@ -31,13 +30,7 @@ use Rattle.vault_rules.specs.declared.rows.Rows.{Rows}
 
 -- the one row of `vault` says the version 1
 version_is : (v : RawVersion) → v.id ≡ pos 1 → other_version (v ∷ []) ≡ None → v.version ≡ pos 1
-version_is v id none = by_test (int_eq v.version (pos 1)) refl
-  where
-    by_test : (b : Bool) → int_eq v.version (pos 1) ≡ b → v.version ≡ pos 1
-    by_test true e = int_is v.version (pos 1) e
-    by_test false e =
-        let other : is_other v ≡ true = (λ i. int_same v.id (pos 1) id i && not (e i)) in
-        let clash = sym none ∙ ap (λ b. option_map (λ (v : RawVersion). v.version) (cond b (Some v) None)) other in absurd cc
+version_is v id none = grind (arith, int_is v.version (pos 1), int_same v.id (pos 1))
 
 pub sound_of : (db : Database) → IsOurs db → IsDatabase db → (rows : Rows) → AreRaws db.trees rows → ((r : ℕ) → keeps rows r ≡ true) → AreApart rows
     → other_version rows.versions.items ≡ None → IsSoundOf db (counts_of rows)

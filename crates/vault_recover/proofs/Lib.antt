@@ -3,7 +3,6 @@ pub mod FromStands
 pub mod Holders
 pub mod Judged
 pub mod LeftBy
-pub mod Once
 pub mod OneVault
 pub mod Opening
 pub mod Permuted

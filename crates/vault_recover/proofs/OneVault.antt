@@ -1,6 +1,6 @@
 -- The rows of a database tell each part of the vault that they stand for.
-use Rattle.std.proofs.Common.{◌≡◌, ℕ, List, Bool, cond, Option, Some, None, Ordering, option_map, sym, ap, ◌∙◌}
-use Rattle.std.proofs.Common.{arith}
+use Rattle.std.proofs.Common.{◌≡◌, ℕ, List, Bool, cond, Option, Some, None, Ordering, option_map}
+use Rattle.std.proofs.Common.{sym, ap, ◌∙◌, arith}
 use Rattle.std.specs.FinMap as map
 use Rattle.std.specs.FinSet as set
 use Rattle.std.specs.Option.{option_map_or}
@@ -25,11 +25,15 @@ module _ {K X : Type 0} {cmp : K → K → Ordering} {encode : K → X → Row} 
       let same = sym it.2 ∙ row.2 in
       ap g (sym (coding.key it.0 k it.1 x same)) ∙ it.3 ∙ ap (λ y. Some y) (coding.value it.0 k it.1 x same)
 
-  same_lookups : {f g : K → Option X} → AreRowsOf encode rows f → AreRowsOf encode rows g → (k : K) → f k ≡ g k
+  same_lookups : {f g : K → Option X} → AreRowsOf encode rows f → AreRowsOf encode rows g
+      → (k : K) → f k ≡ g k
   same_lookups one other k = both_ways _ _ (shared one other k) (shared other one k)
 
 -- a right is there where its row is
-same_right : (a b : Bool) → ◌≡◌ {A = Option (Unit {0})} (cond a (Some tt) None) (cond b (Some tt) None) → a ≡ b
+abbrev given : Bool → Option (Unit {0})
+given b = cond b (Some tt) None
+
+same_right : (a b : Bool) → given a ≡ given b → a ≡ b
 same_right a b same = grind arith
 
 -- a merchant is its lives, its moment and its counts
@@ -49,12 +53,12 @@ module _ (db : Trees) (V W : Vault) (one : Stands db V) (other : Stands db W) wh
 
   pub one_vault : V ≡ W
   one_vault =
-      let m = codes.merchant_codes in
-      let merchants = map.same_map m.total m.exact V.merchants W.merchants merchants_same in
+      let m = codes.merchant_coding in
+      let merchants = map.same_map m.total m.exact _ _ merchants_same in
       let e = codes.entry_coding in
-      let entries = map.same_map e.total e.exact V.entries W.entries (same_lookups e one.entries other.entries) in
+      let entries = map.same_map e.total e.exact _ _ (same_lookups e one.entries other.entries) in
       let r = codes.record_coding in
-      let records = map.same_map r.total r.exact V.records W.records (same_lookups r one.records other.records) in
+      let records = map.same_map r.total r.exact _ _ (same_lookups r one.records other.records) in
       let g = codes.right_coding in
       let rights = set.same_set g.total g.exact V.rights W.rights (λ key.
       same_right _ _ (same_lookups g one.rights other.rights key)) in

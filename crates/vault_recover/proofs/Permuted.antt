@@ -1,5 +1,6 @@
 -- That no rowid comes twice does not hang on the order of the rows.
-use Rattle.std.proofs.Common.{◌≡◌, List, [], ◌∷◌, false, refl, sym, ap, ◌∙◌, Bool, true, true≢false}
+use Rattle.std.proofs.Common.{◌≡◌, List, [], ◌∷◌, false, sym, ap, ◌∙◌, Bool, true≢false}
+use Rattle.std.proofs.Common.{Equal, Ordering, arith}
 use Rattle.std.proofs.lemmas.Map.Keys.{IsDistinct-IsPermutation}
 use Rattle.std.specs.Cmp.{eq_by_cmp_equiv}
 use Rattle.std.specs.List.{IsDistinct}
@@ -9,7 +10,6 @@ use Rattle.sqlite.specs.Order.{Row, value_cmp}
 use Rattle.sqlite.specs.Tree.{rowid}
 use Rattle.sqlite_rules.proofs.ListLemmas.{all_from, all_has}
 use Rattle.sqlite_value.proofs.OrderLemmas.{value_cmp_total}
-use Rattle.sql_maps.proofs.KeyTests.{equal_is}
 use Rattle.sql_maps.specs.Rows.{IsApart}
 
 abbrev tied : Row → Row → Bool
@@ -19,13 +19,12 @@ distinct_from : (rows : List Row) → IsApart rows → IsDistinct tied rows
 unfolding IsDistinct
 distinct_from [] up = tt
 distinct_from (r ∷ rows) up = (
-  all_from _ rows (λ s h. untied (tied r s) (λ e. all_has _ rows s up.0 h (equal_is _ e))),
+  all_from _ rows (λ s h. untied _ (all_has _ rows s up.0 h)),
   distinct_from rows up.1,
 )
   where
-    untied : (b : Bool) → (b ≡ true → ⊥) → b ≡ false
-    untied true not = absurd (not refl)
-    untied false not = refl
+    untied : (o : Ordering) → (o ≡ Equal → ⊥) → is_eq o ≡ false
+    untied o not = grind arith
 
 apart_from : (rows : List Row) → IsDistinct tied rows → IsApart rows
 unfolding IsDistinct

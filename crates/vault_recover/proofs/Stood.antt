@@ -1,13 +1,12 @@
 -- A database whose rows keep the rules stands for the vault of its rows.
-use Rattle.std.proofs.Common.{◌≡◌, ℕ, zero, pos, [], ◌∷◌, drop, true, cond, Option, Some, None, option_map, sym, ap, ◌∙◌}
-use Rattle.std.proofs.Common.{arith, string_bytes}
+use Rattle.std.proofs.Common.{◌≡◌, ℕ, zero, pos, [], ◌∷◌, drop, true, cond, Some, None}
+use Rattle.std.proofs.Common.{option_map, sym, ap, ◌∙◌, arith, string_bytes}
 use Rattle.sqlite.specs.Effect.{Database, IsDatabase}
 use Rattle.sqlite.specs.declared.types.Value.TheVariants.{Int, Text}
 use Rattle.sqlite_rules.specs.Lists.{Has}
 use Rattle.vault_core.specs.Keys.{Bytes}
-use Rattle.vault_core.specs.declared.row.Entry.{Entry}
-use Rattle.vault_recover.proofs.Backs.{given_back, same_moment, same_number, some_unless, unless_some}
-use Rattle.vault_recover.proofs.Table.{stand_for}
+use Rattle.vault_recover.proofs.Backs.{given_back, some_unless, unless_some}
+use Rattle.vault_recover.proofs.Table.{keys_apart, stand_for}
 use Rattle.vault_recover.proofs.Tables as tables
 use Rattle.vault_recover.proofs.VersionRows.{version_stands}
 use Rattle.vault_recover.specs.Apart.{AreApart}
@@ -20,22 +19,24 @@ use Rattle.vault_rules.proofs.Numbers.{pos_same}
 use Rattle.vault_rules.proofs.Options.{mapped_is}
 use Rattle.vault_rules.proofs.RowsShow.{rows_show, count_held}
 use Rattle.vault_rules.specs.Rules.{keeps}
-use Rattle.vault_rules.specs.Showing.{ShowsEntry}
 use Rattle.vault_rules.specs.VaultOf.{HasKeysApart, vault_of, natural, entry_key}
 use Rattle.vault_rules.specs.declared.rows.RawVersion.{RawVersion}
 use Rattle.vault_rules.specs.declared.rows.RawCount.{RawCount}
-use Rattle.vault_rules.specs.declared.rows.RawEntry.{RawEntry}
 use Rattle.vault_rules.specs.declared.rows.Rows.{Rows}
 use Rattle.vault_schema.specs.Version1.Rows as row
 use Rattle.vault_sql.specs.Schema.{vault_schema}
 use Rattle.vault_sql.specs.Stands.{Stands, count_at, lives_in, unless_zero}
 
-entry_listed : (e : RawEntry) (x : Entry) → ShowsEntry e x → drop 1 (raw.entry_values e) ≡ row.entry_row (entry_key e) x
-entry_listed e x is =
-    let usage = is.usage ∙ ap pos (sym (same_number x.usage)) in
-    let revoked = ap raw.int_value is.revoked ∙ same_moment x.revoked in
-    λ i. Text (string_bytes e.merchant) ∷ Text (string_bytes e.token) ∷ row.text_or_null (is.number i)
-    ∷ Int (usage i) ∷ Int (is.birth i) ∷ Int (is.expires i) ∷ revoked i ∷ []
+-- a key that is UNIQUE comes once
+pub apart_keys : (db : Database) → db.schema ≡ vault_schema → IsDatabase db → (rows : Rows)
+    → AreRaws db.trees rows → AreApart rows → HasKeysApart rows
+apart_keys db ours sound rows raws up = record {
+  merchants = keys_apart tables.merchants db ours sound _ raws.merchants.merchants_are up.merchants;
+  counts = keys_apart tables.counts db ours sound _ raws.merchants.counts_are up.counts;
+  entries = keys_apart tables.entries db ours sound _ raws.others.entries_are up.entries;
+  records = keys_apart tables.records db ours sound _ raws.others.records_are up.records;
+  rights = keys_apart tables.rights db ours sound _ raws.others.rights_are up.rights;
+}
 
 module _ (rows : Rows) (apart : HasKeysApart rows) (keep : (r : ℕ) → keeps rows r ≡ true) where
   abbrev HasRow : Bytes × ℕ → Type 0
@@ -61,32 +62,32 @@ module _ (rows : Rows) (apart : HasKeysApart rows) (keep : (r : ℕ) → keeps r
             (λ m h.
             let it = shows.merchants m h in
             let name = string_bytes m.name in
-            let listed : drop 1 (raw.merchant_values m) ≡ row.merchant_row name (lives_in it.0) =
-            λ i. Text name ∷ Int (it.2.single_life i) ∷ Int (it.2.multi_life i) ∷ Int (it.2.moment i) ∷ [] in
+            let listed : drop 1 (raw.merchant_values m) ≡ row.merchant_row name _ = grind (arith, it.2) in
             (name, lives_in it.0, listed, ap (option_map lives_in) it.1))
             (λ name x h. let it = mapped_is lives_in _ x h in shows.merchants_there name it.0 it.1);
         counts = stand_for tables.counts db ours sound _ raws.merchants.counts_are up.counts
             (λ c h.
             let it = counts_well rows keep c h in
-            let held = ap unless_zero (sym (count_held rows apart keep c h)) ∙ unless_some _ it.total.low_is in
-            (_, _, (λ i. Text (string_bytes c.merchant) ∷ Int (it.kind.is i) ∷ Int (it.total.is i) ∷ []), held))
+            let at = ap unless_zero (sym (count_held rows apart keep c h)) ∙ unless_some _ it.total.low_is in
+            let name = string_bytes c.merchant in
+            (_, _, (λ i. Text name ∷ Int (it.kind.is i) ∷ Int (it.total.is i) ∷ []), at))
             counts_there;
         entries = stand_for tables.entries db ours sound _ raws.others.entries_are up.entries
-            (λ e h. let it = shows.entries e h in (entry_key e, it.0, entry_listed e it.0 it.2, it.1))
+            (λ e h.
+            let it = shows.entries e h in
+            let listed : drop 1 (raw.entry_values e) ≡ row.entry_row _ it.0 = grind (arith, it.2) in
+            (entry_key e, it.0, listed, it.1))
             (λ k x h. let it = shows.entries_there k.0 k.1 x h in (it.0, it.1, λ i. (it.2 i, it.3 i)));
         records = stand_for tables.records db ours sound _ raws.others.records_are up.records
             (λ r h.
             let it = shows.records r h in
-            let usage = it.4.usage ∙ ap pos (sym (same_number it.1.usage)) in
-            let caller = string_bytes r.caller in
-            let listed : drop 1 (raw.record_values r) ≡ row.record_row (caller, it.0) it.1 =
-            λ i. Text caller ∷ Int (it.2 i) ∷ Text (it.4.merchant i) ∷ Text (it.4.token i) ∷ Int (usage i) ∷ [] in
-            ((caller, it.0), it.1, listed, it.3))
+            let listed : drop 1 (raw.record_values r) ≡ row.record_row _ it.1 = grind (arith, it.2, it.4) in
+            ((string_bytes r.caller, it.0), it.1, listed, it.3))
             (λ k x h. let it = record_row rows k.0 k.1 x h in (it.0, it.1, it.2));
         rights = stand_for tables.rights db ours sound _ raws.others.rights_are up.rights
             (λ r h.
             let it = shows.rights r h in
-            let held = ap (λ b. cond {A = Option (Unit {0})} b (Some tt) None) it.2 in
-            (_, tt, (λ i. Text (string_bytes r.caller) ∷ Text (string_bytes r.merchant) ∷ Int (it.1 i) ∷ []), held))
+            let listed : drop 1 (raw.right_values r) ≡ row.right_row _ tt = grind (arith, it.1) in
+            (_, tt, listed, ap (λ b. cond b (Some tt) None) it.2))
             (λ k x h. right_row rows k.0 k.1.0 k.1.1 (given_back _ x h));
       }

@@ -36,8 +36,7 @@ pub record Table {K X : Type 0} {cmp : K → K → Ordering} {key : K → Row} {
   pub key_of : Q → K
   pub whole : (m : R) → values m ≡ Int (id_in (rowid (values m))) ∷ shows (shown m)
       ++ drop (suc (suc keyed.more)) (values m)
-  pub long : (q : Q) → length (shows q) ≡ suc keyed.more
-  pub solid : (q : Q) → same_values (shows q) (shows q) ≡ true
+  pub fits : (q : Q) → (length (shows q) ≡ suc keyed.more) × (same_values (shows q) (shows q) ≡ true)
   pub back : (q : Q) (k : K) → shows q ≡ key k → key_of q ≡ k
 
 module _ {K X R Q : Type 0} {cmp : K → K → Ordering} {key : K → Row} {value : X → Row}
@@ -45,7 +44,7 @@ module _ {K X R Q : Type 0} {cmp : K → K → Ordering} {key : K → Row} {valu
   -- the columns of the key are in front
   key_is : (m : R) (k : K) (x : X) → drop 1 (t.values m) ≡ row_of key value k x → t.shows (t.shown m) ≡ key k
   key_is m k x e =
-      let long = t.long (t.shown m) ∙ sym (keyed.codes.long k) in
+      let long = (t.fits (t.shown m)).0 ∙ sym (keyed.codes.long k) in
       let same = sym (ap (drop 1) (t.whole m)) ∙ e in
       sym (take-append_seam _ _) ∙ (λ i. take (long i) (same i)) ∙ take-append_seam (key k) (value x)
 
@@ -86,8 +85,8 @@ module _ {K X R Q : Type 0} {cmp : K → K → Ordering} {key : K → Row} {valu
         let rest = λ (m : R). drop (suc (suc keyed.more)) (t.values m) in
         let row = λ (m : R). t.shows (t.shown m) ++ rest m in
         let equal = same_behind (below (suc keyed.more)) (id a) (id b) (row a) (row b)
-        ∙ same_first (suc keyed.more) _ _ (rest a) (rest b) (t.long (t.shown a)) (t.long (t.shown b))
-        ∙ ap (same_values (t.shows (t.shown a))) (sym e) ∙ t.solid (t.shown a) in
+        ∙ same_first (suc keyed.more) _ _ (rest a) (rest b) (t.fits (t.shown a)).0 (t.fits (t.shown b)).0
+        ∙ ap (same_values (t.shows (t.shown a))) (sym e) ∙ (t.fits (t.shown a)).1 in
         let one = one_at_key vault_schema db ours sound keyed.table keyed.place keyed.here
         (columns_to (suc keyed.more)) keyed.guarded _ _ _ _
         (subst (Has (db.trees keyed.table.tree)) (t.whole a) (in_tree items same a h))

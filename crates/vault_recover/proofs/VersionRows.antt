@@ -1,19 +1,16 @@
 -- The one row of `vault`.
-use Rattle.std.proofs.Common.{◌≡◌, inl, pos, List, [], ◌∷◌, length, map, drop, true, Some, refl, sym, ap, subst, ◌∙◌}
-use Rattle.std.proofs.Common.{arith, IsPermutation}
+use Rattle.std.proofs.Common.{◌≡◌, inl, pos, List, [], ◌∷◌, length, map, drop, true, Some, refl}
+use Rattle.std.proofs.Common.{sym, ap, subst, ◌∙◌, arith, IsPermutation}
 use Rattle.std.proofs.lemmas.Bool.{and_parts}
 use Rattle.std.proofs.lemmas.List.Sorted.{IsPermutation-sym}
 use Rattle.sqlite.proofs.Callers.{one_permutation}
 use Rattle.sqlite.specs.Effect.{Database, IsDatabase}
-use Rattle.sqlite.specs.Order.{Row, column}
 use Rattle.sqlite.specs.Schema.{Schema}
-use Rattle.sqlite.specs.declared.types.Value.{Value}
 use Rattle.sqlite.specs.declared.types.Value.TheVariants.{Null, Int}
 use Rattle.sqlite_rules.specs.Lists.{Has}
 use Rattle.sqlite_rules.proofs.RuleLemmas.{keeps_at}
 use Rattle.sqlite_schema.specs.Rules.{are_typed}
 use Rattle.sqlite_schema.specs.declared.schema.Constraint.TheVariants.{Datatype}
-use Rattle.sqlite_sql.specs.Ops.{is_null}
 use Rattle.sql_maps.specs.Schema.{table_of}
 use Rattle.vault_recover.specs.Opened.{AreVersions}
 use Rattle.vault_recover.specs.Raw.{version_values}
@@ -23,16 +20,6 @@ use Rattle.vault_schema.specs.Version1.Claims.{IsVersion}
 use Rattle.vault_schema.specs.Version1.Tables.{vault}
 use Rattle.vault_sql.specs.Schema.{vault_schema}
 
-null_is : (v : Value) → is_null v ≡ true → v ≡ Null
-null_is v e = grind arith
-
--- the column that the rowid stands for is NULL
-version_row : (r : Row) → are_typed (Some 0) 0 vault.columns (drop 1 r) ≡ true → column r 0 ≡ Int (pos 1)
-    → column r 2 ≡ Int (pos 1) → r ≡ Int (pos 1) ∷ Null ∷ Int (pos 1) ∷ []
-version_row (a ∷ b ∷ c ∷ []) typed id version = λ i. id i ∷ null_is b (and_parts _ _ typed).0 i ∷ version i ∷ []
-version_row (a ∷ b ∷ c ∷ d ∷ more) typed id version = absurd (grind (arith, typed))
-version_row r typed id version = absurd cc
-
 -- the one item of which the list is shown
 pub one_shown : {X Y : Type 0} (f : X → Y) (xs : List X) (y : Y) → map f xs ≡ y ∷ []
     → (x : X) × (xs ≡ x ∷ []) × (f x ≡ y)
@@ -40,15 +27,17 @@ one_shown f [] y e = absurd cc
 one_shown f (x ∷ []) y e = (x, refl, let same : f x ≡ y = cc in same)
 one_shown f (x ∷ z ∷ xs) y e = absurd (let many = ap length e in cc)
 
-pub version_stands : (db : Database) → db.schema ≡ vault_schema → IsDatabase db → (versions : List RawVersion)
-    → AreVersions db.trees versions → (v : RawVersion) → versions ≡ v ∷ [] → v.id ≡ pos 1 → v.version ≡ pos 1
-    → IsVersion 1 (db.trees 0)
+pub version_stands : (db : Database) → db.schema ≡ vault_schema → IsDatabase db
+    → (versions : List RawVersion) → AreVersions db.trees versions → (v : RawVersion) → versions ≡ v ∷ []
+    → v.id ≡ pos 1 → v.version ≡ pos 1 → IsVersion 1 (db.trees 0)
 version_stands db ours sound versions are v one id version =
     let all = map (shown_by version_columns) (db.trees 0) in
     let same = subst (λ vs. IsPermutation (map version_values vs) all) one (IsPermutation-sym all _ are) in
-    let row = one_shown (shown_by version_columns) (db.trees 0) _ (one_permutation _ all same) in
+    let row = one_shown _ (db.trees 0) (version_values v) (one_permutation _ all same) in
     let there : Has (db.trees 0) row.0 = subst (λ rs. Has rs row.0) (sym row.1) (inl refl) in
     let listed = subst (λ (s : Schema). Has s.tables (table_of vault)) (sym ours) (inl refl) in
-    let kept = keeps_at Datatype db.schema db.trees (table_of vault) row.0 (sound.obeys.rules Datatype) listed there in
-    row.1 ∙ ap (λ r. r ∷ []) (version_row row.0 (and_parts _ _ kept).0
-    (ap (λ rs. column rs 0) row.2 ∙ ap Int id) (ap (λ rs. column rs 1) row.2 ∙ ap Int version))
+    let rule = sound.obeys.rules Datatype in
+    let kept = keeps_at Datatype db.schema db.trees (table_of vault) row.0 rule listed there in
+    let typed : are_typed (Some 0) 0 vault.columns (drop 1 row.0) ≡ true = (and_parts _ _ kept).0 in
+    let it : row.0 ≡ Int (pos 1) ∷ Null ∷ Int (pos 1) ∷ [] = grind (arith, typed, row.2, id, version) in
+    row.1 ∙ ap (λ r. r ∷ []) it
