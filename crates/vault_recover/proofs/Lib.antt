@@ -10,6 +10,7 @@ pub mod Readings
 pub mod Reopened
 pub mod Results
 pub mod Rising
+pub mod Streamed
 pub mod Stood
 pub mod Table
 pub mod Tables

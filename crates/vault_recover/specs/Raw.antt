@@ -26,9 +26,9 @@ text_value text = Text (string_bytes text)
 abbrev pub maybe_text_value : Option (String Global) → Value
 maybe_text_value text = text_or_null (option_map (λ it. string_bytes it) text)
 
--- what is shown of nothing: no raw value, row or list of rows looks so
-abbrev pub IsForeign : {R T : Type 0} → (R → T) → T → Type 0
-IsForeign {R} values shown = (raw : R) → shown ≢ values raw
+-- what no raw row shows, or no list of them
+abbrev pub IsStrange : {R T : Type 0} → (R → T) → T → Type 0
+IsStrange {R} values shown = (raw : R) → shown ≢ values raw
 
 -- its id, which the database keeps as the rowid, and the version
 abbrev pub version_values : RawVersion → Row
@@ -46,7 +46,8 @@ count_values c = Int c.rowid ∷ Text (string_bytes c.merchant) ∷ Int c.kind �
 -- of `entries`
 abbrev pub entry_values : RawEntry → Row
 entry_values e =
-    Int e.rowid ∷ Text (string_bytes e.merchant) ∷ Text (string_bytes e.token) ∷ text_or_null (option_map (λ number. string_bytes number) e.number) ∷ Int e.usage
+    Int e.rowid ∷ Text (string_bytes e.merchant) ∷ Text (string_bytes e.token)
+    ∷ text_or_null (option_map (λ number. string_bytes number) e.number) ∷ Int e.usage
     ∷ Int e.birth ∷ Int e.expires ∷ int_value e.revoked ∷ []
 
 -- of `records`

@@ -2,16 +2,25 @@
 use Rattle.std.specs.Global.{Vec}
 use Rattle.std.specs.List.Sorted.{IsPermutation, IsSortedByKey}
 use Rattle.std.specs.Ordering.{int_cmp}
-use Rattle.std.specs.Prelude.{◌≡◌, ◌≤◌, ◌<◌, ℕ, ℤ, false, List, [], ◌∷◌, length, map, Result, IfOk}
+use Rattle.std.specs.Prelude.{◌≡◌, ◌≢◌, ◌≤◌, ◌<◌, ◌⊎◌, ℕ, ℤ, false, List, [], ◌∷◌, length, map}
+use Rattle.std.specs.Prelude.{Result, IfErr, IfOk, OnOk}
 use Rattle.sqlite.specs.Effect.{Database, IsDatabase}
+use Rattle.sqlite.specs.Held.{Held, state}
 use Rattle.sqlite.specs.Order.{Row}
-use Rattle.sqlite.specs.State.{State, HasCleanDisk}
+use Rattle.sqlite.specs.Schema.{Schema}
+use Rattle.sqlite.specs.State.{State, HasCleanDisk, IsUnchanged, Begins, FailsToQuery, Shown}
 use Rattle.sqlite.specs.Term.{Term, eval_all, col}
 use Rattle.sqlite.specs.View.{doubt}
+use Rattle.sqlite.specs.declared.error.Error.{Error}
+use Rattle.sqlite.specs.declared.error.Error.TheVariants.{SqliteFailure}
+use Rattle.sqlite.specs.declared.error.ErrorCode.TheVariants.{OutOfMemory}
 use Rattle.sqlite_rules.specs.Lists.{Has}
+use Rattle.sqlite_trees.specs.declared.store.Store.{Ghosts}
 use Rattle.sql_maps.specs.States.{LeavesNoMore, Reads}
-use Rattle.vault_recover.specs.Raw.{merchant_values, count_values, entry_values, record_values, right_values}
+use Rattle.vault_recover.specs.Raw.{IsStrange, merchant_values, count_values, entry_values, record_values}
+use Rattle.vault_recover.specs.Raw.{right_values}
 use Rattle.vault_recover.specs.declared.fault.ReadFault.{ReadFault}
+use Rattle.vault_recover.specs.declared.fault.ReadFault.TheVariants.{Store}
 use Rattle.vault_rules.specs.declared.rows.Rows.{Rows}
 use Rattle.vault_sql.specs.Schema.{vault_schema}
 
@@ -40,12 +49,40 @@ pub record AreTable {R : Type 0} (tree : ℕ) (values : R → Row) (id : R → �
   pub all : IsFull db → IsPermutation (db.trees tree) (map values raws)
   pub ordered : IsSortedByKey id int_cmp raws
 
--- a table of a vault's schema is read, and nothing else is done
-pub record ReadsTable {R : Type 0} (tree : ℕ) (values : R → Row) (id : R → ℤ) (result : Result (Vec R) ReadFault)
-    (old new : State) : Type 0 where
-  pub reads : Reads vault_schema result old new
-  pub told : HasCleanDisk new → old.now.schema ≡ vault_schema
-      → IfOk result (λ raws. AreTable tree values id old.now raws.items)
+-- a query that failed, but not for want of memory
+abbrev pub Failed : List ℕ → State → State → Type 0
+Failed text old new = (error : Error) × (error ≢ SqliteFailure OutOfMemory) × FailsToQuery text [] old new error
+
+-- an answer that begins with a list of rows which no raw ones show
+abbrev pub ShowsStrange : {R : Type 0} → List ℕ → (R → Row) → State → Type 0
+ShowsStrange text values st = (rows : List Row) × Begins text [] st rows × IsStrange (map values) rows
+
+module _ {S : Type 0} (g : Ghosts S) {R : Type 0} (text : List ℕ) (values : R → Row) where
+  -- Why the rows of a query aren't read, though memory is there: at some row, with nothing changed up to it,
+  -- the query failed, or what it shows is strange.
+  pub record IsUnread (old new : Held S) : Type 0 where
+    pub at : Held S
+    pub same : (at ≡ old) ⊎ IsUnchanged (state g old) (state g at)
+    pub why : Failed text (state g at) (state g new) ⊎ ShowsStrange text values (state g at)
+
+  -- the rows that a query shows in this schema are read, each as it comes, and nothing else is done
+  pub record ReadsRows (s : Schema) (result : Result (Vec R) ReadFault) (old new : Held S) : Type 0 where
+    pub reads : Reads s result (state g old) (state g new)
+    pub told : HasCleanDisk (state g new) → (state g old).now.schema ≡ s
+        → IfOk result (λ raws. Shown text [] (state g old) (state g new) (map values raws.items))
+    pub sound : HasCleanDisk (state g new) → (state g old).now.schema ≡ s
+        → OnOk result (IsDatabase (state g old).now)
+    pub refused : HasCleanDisk (state g new) → (state g old).now.schema ≡ s
+        → IfErr result (λ e. e ≡ Store → IsUnread old new)
+
+  -- a table of a vault's schema is read by this text, and nothing else is done
+  pub record ReadsTable (tree : ℕ) (id : R → ℤ) (result : Result (Vec R) ReadFault) (old new : Held S) : Type 0
+    where
+    pub reads : Reads vault_schema result (state g old) (state g new)
+    pub told : HasCleanDisk (state g new) → (state g old).now.schema ≡ vault_schema
+        → IfOk result (λ raws. AreTable tree values id (state g old).now raws.items)
+    pub refused : HasCleanDisk (state g new) → (state g old).now.schema ≡ vault_schema
+        → IfErr result (λ e. e ≡ Store → IsUnread old new)
 
 -- these are the rows of all tables beside `vault`
 pub record AreAll (db : Database) (rows : Rows) : Type 0 where

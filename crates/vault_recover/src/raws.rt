@@ -1,21 +1,25 @@
-//! The values of rows.
-ghost use Rattle.std.specs.Prelude.{◌≡◌, map, IfErr, IfOk};
+//! The rows that a query shows as values of Rust.
+ghost use Rattle.std.specs.Prelude.{◌≡◌, IfErr, IfOk};
+ghost use Rattle.sqlite.proofs.Callers.{IsPlain};
+ghost use Rattle.sqlite.specs.Listing.{understood};
 ghost use Rattle.sqlite.specs.Order.{Row as SqlRow};
-ghost use Rattle.vault_recover.specs.Raw.{IsForeign, version_values, merchant_values, count_values, entry_values, record_values, right_values};
+ghost use Rattle.sqlite.specs.Schema.{Schema};
+ghost use Rattle.vault_recover.specs.Reading.{ReadsRows};
+ghost use Rattle.vault_recover.specs.Raw.{IsStrange, version_values, merchant_values, count_values, entry_values, record_values, right_values};
 
 use crate::columns::Columns;
 use crate::fault::ReadFault;
-use sqlite::Row;
+use sqlite::{Alter, Connection, Row};
 use std::alloc::Global;
 use vault_rules::rows::{RawCount, RawEntry, RawMerchant, RawRecord, RawRight, RawVersion};
 
 /// A raw row of one of the tables.
-trait Raw: Sized + Drop {
+pub(crate) trait Raw: Sized + Drop {
     ghost values: { Self → SqlRow };
 
     fn read(row: &Row) -> Result<Self, ReadFault>
         ensures values { IfOk result (λ raw. row.now ≡ values raw) }
-        ensures refused { IfErr result (λ e. e ≡ ReadFault.Store → IsForeign values row.now) };
+        ensures refused { IfErr result (λ e. e ≡ ReadFault.Store → IsStrange values row.now) };
 }
 
 impl Raw for RawVersion {
@@ -119,62 +123,20 @@ impl Raw for RawRight {
     }
 }
 
-/// The rows of a table.
-fn all<R: Raw>(alloc: Global, rows: &[Row]) -> Result<Vec<R>, ReadFault>
-    ensures values { IfOk result (λ raws. map R.values raws.items ≡ rows.now) }
-    ensures refused { IfErr result (λ e. e ≡ ReadFault.Store → IsForeign (map R.values) rows.now) }
+/// The rows that a query shows: each is read as it comes.
+pub(crate) fn shown<S: Alter, R: Raw>(
+    alloc: Global,
+    conn: &mut Connection<S>,
+    sql: &str,
+) -> Result<Vec<R>, ReadFault>
+    ensures { (s : Schema) → IsPlain (understood s sql.now) → ReadsRows S.Store sql.now R.values s result conn.old conn.new }
 {
-    let mut raws = Vec::with_capacity(alloc, rows.len())?;
-    for row in rows {
+    // a database whose schema can be asked for is sound
+    let _live = conn.schema();
+    let mut raws = Vec::new(alloc);
+    let mut rows = conn.query(sql, &[])?;
+    'rows: while let Some(row) = rows.next()? {
         raws.push(R::read(row)?)?;
     }
     Ok(raws)
-}
-
-/// The rows of `vault`.
-pub(crate) fn versions(alloc: Global, rows: &[Row]) -> Result<Vec<RawVersion>, ReadFault>
-    ensures values { IfOk result (λ raws. map version_values raws.items ≡ rows.now) }
-    ensures refused { IfErr result (λ e. e ≡ ReadFault.Store → IsForeign (map version_values) rows.now) }
-{
-    all(alloc, rows)
-}
-
-/// The rows of `merchants`.
-pub(crate) fn merchants(alloc: Global, rows: &[Row]) -> Result<Vec<RawMerchant>, ReadFault>
-    ensures values { IfOk result (λ raws. map merchant_values raws.items ≡ rows.now) }
-    ensures refused { IfErr result (λ e. e ≡ ReadFault.Store → IsForeign (map merchant_values) rows.now) }
-{
-    all(alloc, rows)
-}
-
-/// The rows of `counts`.
-pub(crate) fn counts(alloc: Global, rows: &[Row]) -> Result<Vec<RawCount>, ReadFault>
-    ensures values { IfOk result (λ raws. map count_values raws.items ≡ rows.now) }
-    ensures refused { IfErr result (λ e. e ≡ ReadFault.Store → IsForeign (map count_values) rows.now) }
-{
-    all(alloc, rows)
-}
-
-/// The rows of `entries`.
-pub(crate) fn entries(alloc: Global, rows: &[Row]) -> Result<Vec<RawEntry>, ReadFault>
-    ensures values { IfOk result (λ raws. map entry_values raws.items ≡ rows.now) }
-    ensures refused { IfErr result (λ e. e ≡ ReadFault.Store → IsForeign (map entry_values) rows.now) }
-{
-    all(alloc, rows)
-}
-
-/// The rows of `records`.
-pub(crate) fn records(alloc: Global, rows: &[Row]) -> Result<Vec<RawRecord>, ReadFault>
-    ensures values { IfOk result (λ raws. map record_values raws.items ≡ rows.now) }
-    ensures refused { IfErr result (λ e. e ≡ ReadFault.Store → IsForeign (map record_values) rows.now) }
-{
-    all(alloc, rows)
-}
-
-/// The rows of `rights`.
-pub(crate) fn rights(alloc: Global, rows: &[Row]) -> Result<Vec<RawRight>, ReadFault>
-    ensures values { IfOk result (λ raws. map right_values raws.items ≡ rows.now) }
-    ensures refused { IfErr result (λ e. e ≡ ReadFault.Store → IsForeign (map right_values) rows.now) }
-{
-    all(alloc, rows)
 }

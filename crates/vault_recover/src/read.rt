@@ -1,16 +1,16 @@
 //! Each table is read by one query, in the order of its rowids.
-ghost use Rattle.std.specs.Prelude.{IfOk, OnOk};
+ghost use Rattle.std.specs.Prelude.{◌≡◌, IfErr, IfOk, OnOk};
 ghost use Rattle.sqlite.specs.Effect.{IsDatabase};
 ghost use Rattle.sqlite.specs.Held.{state};
 ghost use Rattle.sqlite.specs.State.{HasCleanDisk, IsUnchanged};
 ghost use Rattle.vault_recover.specs.Opened.{AreVersions};
-ghost use Rattle.vault_recover.specs.Raw.{merchant_values, count_values, entry_values, record_values, right_values};
-ghost use Rattle.vault_recover.specs.Reading.{IsQuietWhere, ReadsTable};
+ghost use Rattle.vault_recover.specs.Raw.{merchant_values, count_values, entry_values, record_values, right_values, version_values};
+ghost use Rattle.vault_recover.specs.Reading.{IsQuietWhere, IsUnread, ReadsTable};
+ghost use Rattle.vault_schema.specs.declared.v1.TheConstants.{READ_COUNTS, READ_ENTRIES, READ_MERCHANTS, READ_RECORDS, READ_RIGHTS, READ_VERSIONS};
 ghost use Rattle.vault_schema.specs.Versioned.{HasVersion};
 
 use crate::fault::ReadFault;
 use crate::raws;
-use sql_maps::run::rows_of;
 use sqlite::{Alter, Connection};
 use std::alloc::Global;
 use vault_rules::rows::{RawCount, RawEntry, RawMerchant, RawRecord, RawRight, RawVersion};
@@ -29,10 +29,11 @@ pub(crate) fn version_rows<S: Alter>(
         → IsDatabase (state S.Store conn.old).now) }
     ensures kept { HasCleanDisk (state S.Store conn.new) → OnOk result (HasVersion (state S.Store conn.old).now.schema
         → IsUnchanged (state S.Store conn.old) (state S.Store conn.new)) }
+    ensures refused { HasCleanDisk (state S.Store conn.new) → IfErr result (λ e. e ≡ ReadFault.Store → HasVersion (state S.Store conn.old).now.schema
+        → IsUnread S.Store READ_VERSIONS.now version_values conn.old conn.new) }
     ensures quiet { IsQuietWhere (HasVersion (state S.Store conn.old).now.schema) (state S.Store conn.old) (state S.Store conn.new) }
 {
-    let rows = rows_of(conn, READ_VERSIONS, &[])?;
-    raws::versions(alloc, &rows)
+    raws::shown(alloc, conn, READ_VERSIONS)
 }
 
 /// The rows of `merchants`.
@@ -40,10 +41,9 @@ pub(crate) fn merchants<S: Alter>(
     alloc: Global,
     conn: &mut Connection<S>,
 ) -> Result<Vec<RawMerchant>, ReadFault>
-    ensures { ReadsTable 1 merchant_values (λ raw. raw.rowid) result (state S.Store conn.old) (state S.Store conn.new) }
+    ensures { ReadsTable S.Store READ_MERCHANTS.now merchant_values 1 (λ raw. raw.rowid) result conn.old conn.new }
 {
-    let rows = rows_of(conn, READ_MERCHANTS, &[])?;
-    raws::merchants(alloc, &rows)
+    raws::shown(alloc, conn, READ_MERCHANTS)
 }
 
 /// The rows of `counts`.
@@ -51,10 +51,9 @@ pub(crate) fn counts<S: Alter>(
     alloc: Global,
     conn: &mut Connection<S>,
 ) -> Result<Vec<RawCount>, ReadFault>
-    ensures { ReadsTable 3 count_values (λ raw. raw.rowid) result (state S.Store conn.old) (state S.Store conn.new) }
+    ensures { ReadsTable S.Store READ_COUNTS.now count_values 3 (λ raw. raw.rowid) result conn.old conn.new }
 {
-    let rows = rows_of(conn, READ_COUNTS, &[])?;
-    raws::counts(alloc, &rows)
+    raws::shown(alloc, conn, READ_COUNTS)
 }
 
 /// The rows of `entries`.
@@ -62,10 +61,9 @@ pub(crate) fn entries<S: Alter>(
     alloc: Global,
     conn: &mut Connection<S>,
 ) -> Result<Vec<RawEntry>, ReadFault>
-    ensures { ReadsTable 5 entry_values (λ raw. raw.rowid) result (state S.Store conn.old) (state S.Store conn.new) }
+    ensures { ReadsTable S.Store READ_ENTRIES.now entry_values 5 (λ raw. raw.rowid) result conn.old conn.new }
 {
-    let rows = rows_of(conn, READ_ENTRIES, &[])?;
-    raws::entries(alloc, &rows)
+    raws::shown(alloc, conn, READ_ENTRIES)
 }
 
 /// The rows of `records`.
@@ -73,10 +71,9 @@ pub(crate) fn records<S: Alter>(
     alloc: Global,
     conn: &mut Connection<S>,
 ) -> Result<Vec<RawRecord>, ReadFault>
-    ensures { ReadsTable 8 record_values (λ raw. raw.rowid) result (state S.Store conn.old) (state S.Store conn.new) }
+    ensures { ReadsTable S.Store READ_RECORDS.now record_values 8 (λ raw. raw.rowid) result conn.old conn.new }
 {
-    let rows = rows_of(conn, READ_RECORDS, &[])?;
-    raws::records(alloc, &rows)
+    raws::shown(alloc, conn, READ_RECORDS)
 }
 
 /// The rows of `rights`.
@@ -84,8 +81,7 @@ pub(crate) fn rights<S: Alter>(
     alloc: Global,
     conn: &mut Connection<S>,
 ) -> Result<Vec<RawRight>, ReadFault>
-    ensures { ReadsTable 10 right_values (λ raw. raw.rowid) result (state S.Store conn.old) (state S.Store conn.new) }
+    ensures { ReadsTable S.Store READ_RIGHTS.now right_values 10 (λ raw. raw.rowid) result conn.old conn.new }
 {
-    let rows = rows_of(conn, READ_RIGHTS, &[])?;
-    raws::rights(alloc, &rows)
+    raws::shown(alloc, conn, READ_RIGHTS)
 }
