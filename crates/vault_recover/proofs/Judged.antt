@@ -4,11 +4,13 @@ use Rattle.std.specs.Ordering.{int_eq}
 use Rattle.sqlite.specs.Effect.{Database, IsDatabase}
 use Rattle.sqlite.specs.Order.{Row}
 use Rattle.sqlite.specs.State.{State, IsUnchanged}
+use Rattle.sqlite.specs.Tree.{Trees}
+use Rattle.sql_maps.specs.Rows.{IsApart}
 use Rattle.vault_recover.proofs.FromStands.{stands_shows, version_of}
 use Rattle.vault_recover.proofs.Opening.{apart}
 use Rattle.vault_recover.proofs.Stood.{apart_keys, they_stand}
 use Rattle.vault_recover.proofs.Permuted.{apart_permuted}
-use Rattle.vault_recover.specs.Apart.{AreApart}
+use Rattle.vault_recover.specs.Apart.{AreApart, AreByRowid}
 use Rattle.vault_recover.specs.Opened.{AreRaws, AreVersions, IsFit, IsLeastBroken, IsNoRefusal, IsOtherVersion, IsSoundOf, StandsSound}
 use Rattle.vault_recover.specs.Reading.{AreAll, IsOurs}
 use Rattle.vault_recover.specs.Sizes.{counts_of}
@@ -79,20 +81,34 @@ pub judged : (P : Type 0) (Q : Sizes → Type 0) (r : Result Sizes OpenFault) (r
 judged P Q (Ok sizes) rows is keep apart f = λ p. subst Q (sym is) (f keep apart p)
 judged P Q (Err fault) rows is keep apart f = tt
 
-module _ (db : Database) (it : StandsSound db) where
-  apart_of : (rows : Rows) → AreRaws db.trees rows → AreApart rows
-  apart_of rows raws = record {
-    merchants = apart_permuted _ _ raws.merchants.merchants_are it.stands.merchants.apart;
-    counts = apart_permuted _ _ raws.merchants.counts_are it.stands.counts.apart;
-    entries = apart_permuted _ _ raws.others.entries_are it.stands.entries.apart;
-    records = apart_permuted _ _ raws.others.records_are it.stands.records.apart;
-    rights = apart_permuted _ _ raws.others.rights_are it.stands.rights.apart;
-  }
+-- where no rowid comes twice in the tables, none does in the rows
+pub apart_of : (db : Trees) (rows : Rows) → AreRaws db rows
+    → IsApart (db 1) × IsApart (db 3) × IsApart (db 5) × IsApart (db 8) × IsApart (db 10) → AreApart rows
+apart_of db rows raws apart = record {
+  merchants = apart_permuted _ _ raws.merchants.merchants_are apart.0;
+  counts = apart_permuted _ _ raws.merchants.counts_are apart.1;
+  entries = apart_permuted _ _ raws.others.entries_are apart.2;
+  records = apart_permuted _ _ raws.others.records_are apart.3;
+  rights = apart_permuted _ _ raws.others.rights_are apart.4;
+}
 
+-- what was read ascends by the rowids
+pub by_rowid : {db : Database} {rows : Rows} → AreAll db rows → AreByRowid rows
+by_rowid all = record {
+  merchants = all.merchants.ordered;
+  counts = all.counts.ordered;
+  entries = all.entries.ordered;
+  records = all.records.ordered;
+  rights = all.rights.ordered;
+}
+
+module _ (db : Database) (it : StandsSound db) where
   -- the rows of a database that stands for a sound vault break no rule
   pub never_broken : (rule : ℕ) → IsLeastBroken db rule → ⊥
   never_broken rule least =
-      let keys = apart_keys db it.schema least.is least.rows least.are (apart_of least.rows least.are) in
+      let keys = apart_keys db it.schema least.is least.rows least.are (apart_of db.trees least.rows least.are
+      (it.stands.merchants.apart, it.stands.counts.apart, it.stands.entries.apart, it.stands.records.apart,
+      it.stands.rights.apart)) in
       true≢false (sym (all_kept least.rows it.vault (stands_shows db.trees it.vault it.stands least.rows least.are keys) it.sound keys rule) ∙ least.least.broken)
 
   -- nor do they say another version

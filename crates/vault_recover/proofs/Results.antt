@@ -1,12 +1,12 @@
 -- What holds of a result, from what holds of it.
-use Rattle.std.proofs.Common.{◌≡◌, ◌≢◌, ◌∙◌, sym, ℕ, ℤ, Ok, Err, Result, IfOk, IfErr, IsErrAnd, OnOk}
+use Rattle.std.proofs.Common.{◌≡◌, ◌≢◌, ◌∙◌, refl, sym, ℕ, ℤ, Ok, Err, Result, IfOk, IfErr, IsErrAnd, OnOk}
 use Rattle.sqlite.specs.Schema.{Schema}
 use Rattle.sqlite.specs.State.{State}
 use Rattle.sql_maps.specs.States.{Reads}
 use Rattle.vault_recover.specs.Faults.{IsJudged, failure}
 use Rattle.vault_recover.specs.Reading.{IsQuietWhere}
 use Rattle.vault_recover.specs.declared.fault.OpenFault.{OpenFault}
-use Rattle.vault_recover.specs.declared.fault.OpenFault.TheVariants.{WrongSchema, Damaged}
+use Rattle.vault_recover.specs.declared.fault.OpenFault.TheVariants.{WrongSchema, Damaged, Store}
 use Rattle.vault_recover.specs.declared.fault.ReadFault.{ReadFault}
 use Rattle.vault_recover.specs.declared.fault.ReadFault.TheVariants as read
 
@@ -46,6 +46,10 @@ pub unjudged : (fault : ReadFault) → IsJudged (failure fault) → ⊥
 unjudged read.Memory e = e
 unjudged read.Store e = e
 
+pub unread : (fault : ReadFault) → failure fault ≡ Store → fault ≡ read.Store
+unread read.Memory e = absurd cc
+unread read.Store e = refl
+
 pub if_so : {A E P Q : Type 0} (r : Result A E) → (P → Q) → OnOk r P → OnOk r Q
 if_so (Ok a) f h = f h
 if_so (Err e) f h = h
@@ -74,6 +78,12 @@ quiet_where result old new is reads = record {
   limit = reads.limit;
   left = λ clean p. reads.left clean (is p);
 }
+
+-- a reading's fault that `?` passes on says the same of it
+pub passed_on : {A P : Type 0} (r : Result A OpenFault) (fault : ReadFault) → IsErrAnd r (λ e. e ≡ failure fault)
+    → (fault ≡ read.Store → P) → IfErr r (λ e. e ≡ Store → P)
+passed_on (Ok a) fault same none = tt
+passed_on (Err e) fault same none = λ store. none (unread fault (sym same ∙ store))
 
 -- a fault that `?` passes on says the same of it
 pub passed : {A P : Type 0} (r : Result A ReadFault) (fault : ReadFault) → IsErrAnd r (λ e. e ≡ fault)

@@ -1,5 +1,5 @@
 -- What a reading row by row comes to.
-use Rattle.std.proofs.Common.{◌≡◌, ◌≢◌, ◌↔◌, ◌∙◌, ◌++◌, ◌∷◌, ℕ, List, [], map, sym, subst, false}
+use Rattle.std.proofs.Common.{◌≡◌, ◌≢◌, ◌↔◌, ◌∙◌, ◌++◌, ◌∷◌, ℕ, List, [], map, sym, ap, subst, false}
 use Rattle.std.proofs.Common.{Result, Ok, Err, IsErrAnd, inl, inr}
 use Rattle.std.specs.Global.{Vec}
 use Rattle.sqlite.proofs.Callers.{IsPlain, never_commits, unchanged_then}
@@ -17,11 +17,12 @@ use Rattle.sqlite.specs.declared.error.Error.{Error}
 use Rattle.sqlite.specs.declared.error.Error.TheVariants.{SqliteFailure}
 use Rattle.sqlite.specs.declared.error.ErrorCode.TheVariants.{OutOfMemory}
 use Rattle.sqlite_trees.specs.declared.store.Store.{Ghosts}
-use Rattle.sql_maps.specs.States.{LeavesNoMore}
+use Rattle.sql_maps.specs.States.{LeavesNoMore, Reads}
 use Rattle.vault_recover.specs.Raw.{IsStrange}
-use Rattle.vault_recover.specs.Reading.{IsUnread, ReadsRows}
+use Rattle.vault_recover.specs.Reading.{IsUnread, IsUnreadOne, ReadsRows}
 use Rattle.vault_recover.specs.declared.fault.ReadFault.{ReadFault}
 use Rattle.vault_recover.specs.declared.fault.ReadFault.TheVariants.{Memory, Store}
+use Rattle.vault_sql.specs.Schema.{vault_schema}
 
 -- a fault that isn't for want of memory comes from an error that isn't
 pub other_cause : (error : Error) (fault : ReadFault)
@@ -59,6 +60,31 @@ shown_from text old at new rows plain same h =
         unchanged_then old at new same it.3,
       ),
     )
+
+-- what isn't read after a reading isn't read
+pub later : {S : Type 0} {g : Ghosts S} {R X E : Type 0} {text : List ℕ} {values : R → Row}
+    {old mid new : Held S} {r : Result X E} {x : X} → r ≡ Ok x → Reads vault_schema r (state g old) (state g mid)
+    → HasCleanDisk (state g mid) → (state g old).now.schema ≡ vault_schema
+    → ((state g mid).now.schema ≡ vault_schema → IsUnread g text values mid new) → IsUnread g text values old new
+later {g = g} {old = old} {mid = mid} {r = r} is reads clean has unread =
+    let same = (rw is at (reads.kept clean has)).0.now_is in
+    let it = unread (ap (λ (d : Database). d.schema) same ∙ has) in
+    record { at = it.at; same = it.same ∙ same; why = it.why }
+
+-- nor is a table that isn't read of what stayed as it was
+pub later_one : {S : Type 0} {g : Ghosts S} {old mid new : Held S} → (state g mid).now ≡ (state g old).now
+    → IsUnreadOne g mid new → IsUnreadOne g old new
+later_one {S} {g} {old} {mid} {new} same = elim [
+    | inl it ↦ inl (from it)
+    | inr (inl it) ↦ inr (inl (from it))
+    | inr (inr (inl it)) ↦ inr (inr (inl (from it)))
+    | inr (inr (inr (inl it))) ↦ inr (inr (inr (inl (from it))))
+    | inr (inr (inr (inr it))) ↦ inr (inr (inr (inr (from it))))
+  ]
+  where
+    from : {R : Type 0} {text : List ℕ} {values : R → Row} → IsUnread g text values mid new
+        → IsUnread g text values old new
+    from it = record { at = it.at; same = it.same ∙ same; why = it.why }
 
 -- the connection is what the rows lent
 pub settled : {S : Type 0} {g : Ghosts S} {R : Type 0} {s : Schema} {text : List ℕ} {values : R → Row}

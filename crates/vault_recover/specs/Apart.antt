@@ -3,6 +3,7 @@ use Rattle.std.specs.Prelude.{ℤ, Bool, IsTrue, List, map}
 use Rattle.std.specs.List.Sorted.{IsSortedByKey}
 use Rattle.std.specs.Ordering.{int_cmp}
 use Rattle.sqlite.specs.Order.{Row}
+use Rattle.sqlite.specs.Tree.{Trees}
 use Rattle.vault_recover.specs.Raw.{merchant_values, count_values, entry_values, record_values, right_values}
 use Rattle.vault_rules.specs.declared.rows.Rows.{Rows}
 use Rattle.sql_maps.specs.Rows.{IsApart}
@@ -19,6 +20,10 @@ pub record AreApart (rows : Rows) : Type 0 where
   pub entries : IsApart (map entry_values rows.entries.items)
   pub records : IsApart (map record_values rows.records.items)
   pub rights : IsApart (map right_values rows.rights.items)
+
+-- in some table a rowid comes twice
+abbrev pub SharesRowid : Trees → Type 0
+SharesRowid db = ¬ (IsApart (db 1) × IsApart (db 3) × IsApart (db 5) × IsApart (db 8) × IsApart (db 10))
 
 -- the rows of each table ascend by their rowids
 pub record AreByRowid (rows : Rows) : Type 0 where

@@ -18,10 +18,12 @@ use Rattle.sqlite_rules.specs.Lists.{Has}
 use Rattle.sqlite_trees.specs.declared.store.Store.{Ghosts}
 use Rattle.sql_maps.specs.States.{LeavesNoMore, Reads}
 use Rattle.vault_recover.specs.Raw.{IsStrange, merchant_values, count_values, entry_values, record_values}
-use Rattle.vault_recover.specs.Raw.{right_values}
+use Rattle.vault_recover.specs.Raw.{right_values, version_values}
 use Rattle.vault_recover.specs.declared.fault.ReadFault.{ReadFault}
 use Rattle.vault_recover.specs.declared.fault.ReadFault.TheVariants.{Store}
 use Rattle.vault_rules.specs.declared.rows.Rows.{Rows}
+use Rattle.vault_schema.specs.declared.v1.TheConstants.{READ_VERSIONS, READ_MERCHANTS, READ_COUNTS}
+use Rattle.vault_schema.specs.declared.v1.TheConstants.{READ_ENTRIES, READ_RECORDS, READ_RIGHTS}
 use Rattle.vault_sql.specs.Schema.{vault_schema}
 
 -- what the terms show of a row
@@ -58,11 +60,11 @@ abbrev pub ShowsStrange : {R : Type 0} → List ℕ → (R → Row) → State �
 ShowsStrange text values st = (rows : List Row) × Begins text [] st rows × IsStrange (map values) rows
 
 module _ {S : Type 0} (g : Ghosts S) {R : Type 0} (text : List ℕ) (values : R → Row) where
-  -- Why the rows of a query aren't read, though memory is there: at some row, with nothing changed up to it,
-  -- the query failed, or what it shows is strange.
+  -- Why the rows of a query aren't read, though memory is there: at some row, the database being as it was, the
+  -- query failed, or what it shows is strange.
   pub record IsUnread (old new : Held S) : Type 0 where
     pub at : Held S
-    pub same : (at ≡ old) ⊎ IsUnchanged (state g old) (state g at)
+    pub same : (state g at).now ≡ (state g old).now
     pub why : Failed text (state g at) (state g new) ⊎ ShowsStrange text values (state g at)
 
   -- the rows that a query shows in this schema are read, each as it comes, and nothing else is done
@@ -83,6 +85,17 @@ module _ {S : Type 0} (g : Ghosts S) {R : Type 0} (text : List ℕ) (values : R 
         → IfOk result (λ raws. AreTable tree values id (state g old).now raws.items)
     pub refused : HasCleanDisk (state g new) → (state g old).now.schema ≡ vault_schema
         → IfErr result (λ e. e ≡ Store → IsUnread old new)
+
+-- why one of the tables beside `vault` isn't read, though memory is there
+abbrev pub IsUnreadOne : {S : Type 0} → Ghosts S → Held S → Held S → Type 0
+IsUnreadOne g old new =
+    IsUnread g READ_MERCHANTS.now merchant_values old new ⊎ (IsUnread g READ_COUNTS.now count_values old new
+    ⊎ (IsUnread g READ_ENTRIES.now entry_values old new ⊎ (IsUnread g READ_RECORDS.now record_values old new
+    ⊎ IsUnread g READ_RIGHTS.now right_values old new)))
+
+-- why some table isn't read, though memory is there
+abbrev pub IsUnreadSome : {S : Type 0} → Ghosts S → Held S → Held S → Type 0
+IsUnreadSome g old new = IsUnread g READ_VERSIONS.now version_values old new ⊎ IsUnreadOne g old new
 
 -- these are the rows of all tables beside `vault`
 pub record AreAll (db : Database) (rows : Rows) : Type 0 where

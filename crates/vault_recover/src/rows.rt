@@ -1,9 +1,9 @@
 //! The rows of all tables.
-ghost use Rattle.std.specs.Prelude.{◌≡◌, IfOk};
+ghost use Rattle.std.specs.Prelude.{◌≡◌, IfErr, IfOk};
 ghost use Rattle.sqlite.specs.Held.{state};
 ghost use Rattle.sqlite.specs.State.{HasCleanDisk};
 ghost use Rattle.sql_maps.specs.States.{Reads};
-ghost use Rattle.vault_recover.specs.Reading.{AreAll};
+ghost use Rattle.vault_recover.specs.Reading.{AreAll, IsUnreadOne};
 ghost use Rattle.vault_sql.specs.Schema.{vault_schema};
 
 use crate::fault::ReadFault;
@@ -21,6 +21,8 @@ pub(crate) fn rows<S: Alter>(
     ensures versions { IfOk result (λ rows. rows.versions ≡ versions) }
     ensures told { HasCleanDisk (state S.Store conn.new) → (state S.Store conn.old).now.schema ≡ vault_schema
         → IfOk result (AreAll (state S.Store conn.old).now) }
+    ensures refused { HasCleanDisk (state S.Store conn.new) → (state S.Store conn.old).now.schema ≡ vault_schema
+        → IfErr result (λ e. e ≡ ReadFault.Store → IsUnreadOne S.Store conn.old conn.new) }
     ensures reads { Reads vault_schema result (state S.Store conn.old) (state S.Store conn.new) }
 {
     let merchants = read::merchants(alloc, conn)?;

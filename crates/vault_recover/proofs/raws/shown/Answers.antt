@@ -13,7 +13,7 @@ returns-in_err-rows g c s plain =
     refused.mode refused.survives c.from_residual.result c.from_residual.ensures.1
     (λ fault same clean fine store. record {
       at = c.args.conn.now;
-      same = inl refl;
+      same = refl;
       why = inl (_, other_cause _ fault same store, refused.err clean);
     })
 
@@ -28,7 +28,7 @@ returns-in_err-row g c s plain =
     (λ fault cause clean fine store.
     let before = c.rows.invariant.3 (omega (arith, moved.survives.clean, clean)) fine in record {
       at = c.rows.rows.conn.now;
-      same = inr before.1;
+      same = before.1.0.now_is;
       why = inl (_, other_cause _ fault cause store,
           (rw c.in_err-row.was at (moved.err clean)) c.args.sql.now [] _ before.0);
     })) (search rules)
@@ -45,7 +45,7 @@ returns-in_err-read g c s plain =
     let before = c.rows.invariant.3 (omega (arith, moved.survives.clean, clean)) fine in
     let given = (rw (c.in_ok-row.was, c.in-Some.is) at (moved.ok clean)) c.args.sql.now [] _ before.0 in record {
       at = now;
-      same = inr (unchanged_then _ _ _ before.1 (rw c.in_ok-row.was at (moved.same clean)));
+      same = (unchanged_then _ _ _ before.1 (rw c.in_ok-row.was at (moved.same clean))).0.now_is;
       why = inr (_, given_begin g.S.Store _ _ now _ given,
           strange_end g.R.Raw.values _ (c.in_err-read.ensures.refused (sym cause ∙ store)) _);
     })) (search rules)

@@ -1,8 +1,10 @@
-use Rattle.std.proofs.Common.{◌∙◌, sym, ap, arith}
+use Rattle.std.proofs.Common.{◌∙◌, inl, inr, sym, ap, arith}
+use Rattle.sqlite.specs.Effect.{Database}
 use Rattle.sqlite.specs.Held.{state}
 use Rattle.sqlite.specs.State.{HasCleanDisk}
-use Rattle.vault_recover.proofs.Judged.{raws_of, sound_of, judged}
-use Rattle.vault_recover.proofs.Results.{if_err}
+use Rattle.vault_recover.proofs.Judged.{apart_of, by_rowid, judged, raws_of, sound_of}
+use Rattle.vault_recover.proofs.Results.{if_err, passed_on}
+use Rattle.vault_recover.proofs.Streamed.{later_one}
 use Rattle.vault_recover.proofs.Versioned.{has_version}
 use Rattle.vault_recover.proofs.verdict.verdict.Goals as goal
 use Rattle.vault_recover.specs.Opened.{IsSoundOf}
@@ -35,3 +37,29 @@ returns-clause-sound g c clean =
     let raws = raws_of old mid one ours c.in_ok-versions.versions.items (c.in_ok-versions.ensures.told clean_mid (has_version _ ours.schema)) c.in_ok-rows.rows (ap (λ v. v.items) c.in_ok-rows.ensures.versions) (c.in_ok-rows.ensures.told clean) in
     sound_of old.now ours (c.in_ok-versions.ensures.live clean_mid (has_version _ ours.schema)) c.in_ok-rows.rows raws keep apart
     (ap (λ v. other_version v.items) c.in_ok-rows.ensures.versions ∙ ap other_version (sym c.deref.ensures.value) ∙ sym c.other_version.ensures ∙ c.in_default.is))
+
+pub returns-in_err-versions-clause-unread : goal.returns-in_err-versions-clause-unread
+returns-in_err-versions-clause-unread g c clean =
+    passed_on c.from_residual.result _ c.from_residual.ensures.1 (λ store ours.
+    inl (inl (c.in_err-versions.ensures.refused clean store (has_version _ ours.schema))))
+
+pub returns-in_err-rows-clause-unread : goal.returns-in_err-rows-clause-unread
+returns-in_err-rows-clause-unread g c clean =
+    let clean_mid : HasCleanDisk (state g.S.Store c.version_rows.new.conn) =
+    omega (arith, c.rows.ensures.reads.clean, clean) in
+    passed_on c.from_residual-in_err-rows.result _ c.from_residual-in_err-rows.ensures.1 (λ store ours.
+    let same = (c.in_ok-versions.ensures.kept clean_mid (has_version _ ours.schema)).0.now_is in
+    inl (inr (later_one same
+    (c.in_err-rows.ensures.refused clean (ap (λ (d : Database). d.schema) same ∙ ours.schema) store))))
+
+pub returns-clause-unread : goal.returns-clause-unread
+returns-clause-unread g c clean =
+    let old = state g.S.Store c.args.conn.now in
+    let mid = state g.S.Store c.version_rows.new.conn in
+    let clean_mid : HasCleanDisk mid = omega (arith, c.rows.ensures.reads.clean, clean) in
+    if_err c.judge.result (λ fault shared store ours.
+    let one = c.in_ok-versions.ensures.kept clean_mid (has_version _ ours.schema) in
+    let all = c.in_ok-rows.ensures.told clean (ap (λ (d : Database). d.schema) one.0.now_is ∙ ours.schema) in
+    let raws = raws_of old mid one ours c.in_ok-versions.versions.items (c.in_ok-versions.ensures.told clean_mid (has_version _ ours.schema)) c.in_ok-rows.rows (ap (λ v. v.items) c.in_ok-rows.ensures.versions) (c.in_ok-rows.ensures.told clean) in
+    inr (λ apart. shared store (by_rowid all) (apart_of old.now.trees c.in_ok-rows.rows raws apart)))
+    c.judge.ensures.shared
