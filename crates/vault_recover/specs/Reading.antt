@@ -17,6 +17,7 @@ use Rattle.sqlite.specs.declared.error.ErrorCode.TheVariants.{OutOfMemory}
 use Rattle.sqlite_rules.specs.Lists.{Has}
 use Rattle.sqlite_trees.specs.declared.store.Store.{Ghosts}
 use Rattle.sql_maps.specs.States.{LeavesNoMore, Reads}
+use Rattle.vault_recover.specs.Apart.{SharesRowid}
 use Rattle.vault_recover.specs.Raw.{IsStrange, merchant_values, count_values, entry_values, record_values}
 use Rattle.vault_recover.specs.Raw.{right_values, version_values}
 use Rattle.vault_recover.specs.declared.fault.ReadFault.{ReadFault}
@@ -93,9 +94,11 @@ IsUnreadOne g old new =
     ⊎ (IsUnread g READ_ENTRIES.now entry_values old new ⊎ (IsUnread g READ_RECORDS.now record_values old new
     ⊎ IsUnread g READ_RIGHTS.now right_values old new)))
 
--- why some table isn't read, though memory is there
-abbrev pub IsUnreadSome : {S : Type 0} → Ghosts S → Held S → Held S → Type 0
-IsUnreadSome g old new = IsUnread g READ_VERSIONS.now version_values old new ⊎ IsUnreadOne g old new
+-- why 33 is told of a file in a vault's schema: a table isn't read, or in one a rowid comes twice
+abbrev pub IsUnreadFile : {S : Type 0} → Ghosts S → Held S → Held S → Type 0
+IsUnreadFile g old new =
+    IsUnread g READ_VERSIONS.now version_values old new ⊎ (IsUnreadOne g old new
+    ⊎ SharesRowid (state g old).now.trees)
 
 -- these are the rows of all tables beside `vault`
 pub record AreAll (db : Database) (rows : Rows) : Type 0 where

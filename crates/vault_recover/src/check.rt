@@ -6,7 +6,7 @@ ghost use Rattle.vault_core.specs.Vault.{empty_vault};
 ghost use Rattle.vault_recover.specs.Faults.{IsJudged};
 ghost use Rattle.vault_recover.specs.Names.{IsForeign, IsMixed, vault_names};
 ghost use Rattle.vault_recover.specs.Opened.{IsFit, IsLeastBroken, IsNoDamage, IsNoRefusal, IsSoundOf, IsWrong};
-ghost use Rattle.vault_recover.specs.Reading.{IsFull, IsQuietWhere};
+ghost use Rattle.vault_recover.specs.Reading.{IsFull, IsOurs, IsQuietWhere, IsUnreadFile};
 ghost use Rattle.vault_recover.specs.Sizes.{sizes_of};
 ghost use Rattle.sql_maps.specs.Schema.{no_schema};
 ghost use Rattle.vault_schema.specs.Versioned.{HasVersion};
@@ -24,10 +24,10 @@ use std::alloc::Global;
 /// the empty vault, and stays as it is.
 ///
 /// Refused by 30 with the version that the file says, where it isn't 1 and its table stands first, whatever else
-/// there is; or with 0 where some of a vault's names are there and one is missing, or others stand beside them; by 31 with the least rule that the rows break; by
-/// 32 where memory ran out; by 33 where the database failed, the tables are another program's alone, or a vault's
-/// tables stand in another order or form than this program makes them. After 30 and 31 the connection sees what
-/// it saw.
+/// there is; or with 0 where some of a vault's names are there and one is missing, or others stand beside them;
+/// by 31 with the least rule that the rows break; by 32 where memory ran out; by 33 where the database failed,
+/// the tables are another program's alone, or a vault's tables stand in another order or form than this program
+/// makes them. After 30 and 31 the connection sees what it saw.
 pub fn check<S: Alter>(alloc: Global, conn: &mut Connection<S>) -> Result<Sizes, OpenFault>
     ensures sound { HasCleanDisk (state S.Store conn.new) → IfOk result (λ sizes. IsFull (state S.Store conn.old).now
         → ((state S.Store conn.old).now.schema ≡ no_schema) × (sizes ≡ sizes_of empty_vault) ⊎ IsSoundOf (state S.Store conn.old).now sizes) }
@@ -35,6 +35,8 @@ pub fn check<S: Alter>(alloc: Global, conn: &mut Connection<S>) -> Result<Sizes,
         → IsFull (state S.Store conn.old).now → IsLeastBroken (state S.Store conn.old).now rule) }
     ensures wrong { HasCleanDisk (state S.Store conn.new) → IfErr result (λ e. (n : ℤ) → e ≡ OpenFault.WrongSchema n
         → IsWrong (state S.Store conn.old).now n) }
+    ensures unread { HasCleanDisk (state S.Store conn.new) → IfErr result (λ e. e ≡ OpenFault.Store → IsOurs (state S.Store conn.old).now
+        → IsUnreadFile S.Store conn.old conn.new) }
     ensures never { HasCleanDisk (state S.Store conn.new) → IfErr result (λ e. IsFit (state S.Store conn.old).now → IsNoRefusal e) }
     ensures mixed { IsForeign (state S.Store conn.old).now.schema → ¬ HasVersion (state S.Store conn.old).now.schema
         → IsMixed (state S.Store conn.old).now.schema vault_names

@@ -5,7 +5,7 @@ ghost use Rattle.sqlite.specs.State.{HasCleanDisk, IsUnchanged};
 ghost use Rattle.vault_recover.specs.Faults.{IsJudged};
 ghost use Rattle.vault_recover.specs.Names.{IsForeign, IsMixed, vault_names};
 ghost use Rattle.vault_recover.specs.Opened.{IsFit, IsLeastBroken, IsNoDamage, IsNoRefusal, IsWrong, LeavesFound, Opens};
-ghost use Rattle.vault_recover.specs.Reading.{IsFull, IsQuietWhere};
+ghost use Rattle.vault_recover.specs.Reading.{IsFull, IsOurs, IsQuietWhere, IsUnreadFile};
 ghost use Rattle.sql_maps.specs.Schema.{no_schema};
 ghost use Rattle.vault_schema.specs.Versioned.{HasVersion};
 ghost use Rattle.vault_store.specs.Applied.{is_broken, tables_of};
@@ -27,6 +27,7 @@ fn ready<S: Alter>(alloc: Global, conn: &mut Connection<S>) -> Result<(), OpenFa
     ensures opens { HasCleanDisk (state S.Store conn.new) → OnOk result (Opens (state S.Store conn.old) (state S.Store conn.new)) }
     ensures damaged { HasCleanDisk (state S.Store conn.new) → IfErr result (λ e. (rule : ℕ) → e ≡ OpenFault.Damaged rule → IsFull (state S.Store conn.old).now → IsLeastBroken (state S.Store conn.old).now rule) }
     ensures wrong { HasCleanDisk (state S.Store conn.new) → IfErr result (λ e. (n : ℤ) → e ≡ OpenFault.WrongSchema n → IsWrong (state S.Store conn.old).now n) }
+    ensures unread { HasCleanDisk (state S.Store conn.new) → IfErr result (λ e. e ≡ OpenFault.Store → IsOurs (state S.Store conn.old).now → IsUnreadFile S.Store conn.old conn.new) }
     ensures never { HasCleanDisk (state S.Store conn.new) → IfErr result (λ e. IsFit (state S.Store conn.old).now → IsNoRefusal e) }
     ensures left { HasCleanDisk (state S.Store conn.new) → LeavesFound (state S.Store conn.old) (state S.Store conn.new) }
     ensures mixed { IsForeign (state S.Store conn.old).now.schema → ¬ HasVersion (state S.Store conn.old).now.schema
@@ -61,10 +62,11 @@ fn ready<S: Alter>(alloc: Global, conn: &mut Connection<S>) -> Result<(), OpenFa
 /// the empty vault in one transaction. A file with a vault's tables is checked whole and not written.
 ///
 /// Refused by 30 with the version that the file says, where it isn't 1 and its table stands first, whatever else
-/// there is; or with 0 where some of a vault's names are there and one is missing, or others stand beside them; by 31 with the least rule that the rows break; by
-/// 32 where memory ran out; by 33 where the database failed, the tables are another program's alone, or a vault's
-/// tables stand in another order or form than this program makes them. A refused file is as it was; but after 33
-/// one without any table may have those of the empty vault. After 30 and 31 the connection sees what it saw.
+/// there is; or with 0 where some of a vault's names are there and one is missing, or others stand beside them;
+/// by 31 with the least rule that the rows break; by 32 where memory ran out; by 33 where the database failed,
+/// the tables are another program's alone, or a vault's tables stand in another order or form than this program
+/// makes them. A refused file is as it was; but after 33 one without any table may have those of the empty vault.
+/// After 30 and 31 the connection sees what it saw.
 pub fn open<S: Alter>(
     alloc: Global,
     conn: Connection<S>,
@@ -75,6 +77,7 @@ pub fn open<S: Alter>(
     ensures opens { IfOk result (λ vault. HasCleanDisk (state S.Store (tables_of vault).conn) → Opens (state S.Store conn) (state S.Store (tables_of vault).conn)) }
     ensures damaged { IfErr result (λ e. HasCleanDisk (state S.Store e.1) → (rule : ℕ) → e.0 ≡ OpenFault.Damaged rule → IsFull (state S.Store conn).now → IsLeastBroken (state S.Store conn).now rule) }
     ensures wrong { IfErr result (λ e. HasCleanDisk (state S.Store e.1) → (n : ℤ) → e.0 ≡ OpenFault.WrongSchema n → IsWrong (state S.Store conn).now n) }
+    ensures unread { IfErr result (λ e. HasCleanDisk (state S.Store e.1) → e.0 ≡ OpenFault.Store → IsOurs (state S.Store conn).now → IsUnreadFile S.Store conn e.1) }
     ensures never { IfErr result (λ e. HasCleanDisk (state S.Store e.1) → IsFit (state S.Store conn).now → IsNoRefusal e.0) }
     ensures left { IfOk result (λ vault. HasCleanDisk (state S.Store (tables_of vault).conn) → LeavesFound (state S.Store conn) (state S.Store (tables_of vault).conn)) }
     ensures left_refused { IfErr result (λ e. HasCleanDisk (state S.Store e.1) → LeavesFound (state S.Store conn) (state S.Store e.1)) }

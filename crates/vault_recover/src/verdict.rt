@@ -1,11 +1,10 @@
 //! Whether a file's rows are those of a sound vault.
-ghost use Rattle.std.specs.Prelude.{◌≡◌, ◌⊎◌, ℤ, ℕ, IfOk, IfErr, OnOk};
+ghost use Rattle.std.specs.Prelude.{◌≡◌, ℤ, ℕ, IfOk, IfErr, OnOk};
 ghost use Rattle.sqlite.specs.Held.{state};
 ghost use Rattle.sqlite.specs.State.{HasCleanDisk, IsUnchanged};
-ghost use Rattle.vault_recover.specs.Apart.{SharesRowid};
 ghost use Rattle.vault_recover.specs.Faults.{IsJudged};
 ghost use Rattle.vault_recover.specs.Opened.{IsLeastBroken, IsOtherVersion, IsSoundOf};
-ghost use Rattle.vault_recover.specs.Reading.{IsOurs, IsQuiet, IsUnreadSome};
+ghost use Rattle.vault_recover.specs.Reading.{IsOurs, IsQuiet, IsUnreadFile};
 ghost use Rattle.vault_sql.specs.Schema.{vault_schema};
 
 use crate::fault::OpenFault;
@@ -24,7 +23,7 @@ pub(crate) fn verdict<S: Alter>(alloc: Global, conn: &mut Connection<S>) -> Resu
     ensures versioned { HasCleanDisk (state S.Store conn.new) → IfErr result (λ e. (n : ℤ) → e ≡ OpenFault.WrongSchema n
         → (state S.Store conn.old).now.schema ≡ vault_schema → IsOtherVersion (state S.Store conn.old).now n) }
     ensures unread { HasCleanDisk (state S.Store conn.new) → IfErr result (λ e. e ≡ OpenFault.Store → IsOurs (state S.Store conn.old).now
-        → IsUnreadSome S.Store conn.old conn.new ⊎ SharesRowid (state S.Store conn.old).now.trees) }
+        → IsUnreadFile S.Store conn.old conn.new) }
     ensures sees { HasCleanDisk (state S.Store conn.new) → IfErr result (λ e. IsJudged e
         → (state S.Store conn.old).now.schema ≡ vault_schema → IsUnchanged (state S.Store conn.old) (state S.Store conn.new)) }
     ensures quiet { IsQuiet (state S.Store conn.old) (state S.Store conn.new) }

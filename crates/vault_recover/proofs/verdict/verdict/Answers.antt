@@ -41,7 +41,7 @@ returns-clause-sound g c clean =
 pub returns-in_err-versions-clause-unread : goal.returns-in_err-versions-clause-unread
 returns-in_err-versions-clause-unread g c clean =
     passed_on c.from_residual.result _ c.from_residual.ensures.1 (λ store ours.
-    inl (inl (c.in_err-versions.ensures.refused clean store (has_version _ ours.schema))))
+    inl (c.in_err-versions.ensures.refused clean store (has_version _ ours.schema)))
 
 pub returns-in_err-rows-clause-unread : goal.returns-in_err-rows-clause-unread
 returns-in_err-rows-clause-unread g c clean =
@@ -49,7 +49,7 @@ returns-in_err-rows-clause-unread g c clean =
     omega (arith, c.rows.ensures.reads.clean, clean) in
     passed_on c.from_residual-in_err-rows.result _ c.from_residual-in_err-rows.ensures.1 (λ store ours.
     let same = (c.in_ok-versions.ensures.kept clean_mid (has_version _ ours.schema)).0.now_is in
-    inl (inr (later_one same
+    inr (inl (later_one same
     (c.in_err-rows.ensures.refused clean (ap (λ (d : Database). d.schema) same ∙ ours.schema) store))))
 
 pub returns-clause-unread : goal.returns-clause-unread
@@ -61,5 +61,5 @@ returns-clause-unread g c clean =
     let one = c.in_ok-versions.ensures.kept clean_mid (has_version _ ours.schema) in
     let all = c.in_ok-rows.ensures.told clean (ap (λ (d : Database). d.schema) one.0.now_is ∙ ours.schema) in
     let raws = raws_of old mid one ours c.in_ok-versions.versions.items (c.in_ok-versions.ensures.told clean_mid (has_version _ ours.schema)) c.in_ok-rows.rows (ap (λ v. v.items) c.in_ok-rows.ensures.versions) (c.in_ok-rows.ensures.told clean) in
-    inr (λ apart. shared store (by_rowid all) (apart_of old.now.trees c.in_ok-rows.rows raws apart)))
+    inr (inr (λ apart. shared store (by_rowid all) (apart_of old.now.trees c.in_ok-rows.rows raws apart))))
     c.judge.ensures.shared
