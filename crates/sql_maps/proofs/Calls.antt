@@ -9,7 +9,6 @@ use Rattle.sqlite.specs.Order.{Row}
 use Rattle.sqlite.specs.Schema.{Schema}
 use Rattle.sqlite.specs.State.{State, HasCleanDisk, IsLive, Survives, Shown, Shows, ShowsRows, IsUnchanged}
 use Rattle.sqlite.specs.State.{CommitsShowing}
-use Rattle.sqlite.specs.declared.error.Error.{Error}
 use Rattle.sqlite.proofs.Callers.{IsPlain, never_commits, unchanged_then}
 use Rattle.sql_maps.specs.States.{Claim, Stands, Holds, Within, Reads, Steps}
 
@@ -21,25 +20,25 @@ shown_unchanged sql params old new rows plain h =
     let it = subst (ShowsRows old new sql h.0 (timed params h.0.formats h.1.now) rows) bare h.2 in it.3
 
 -- a query whose text is plain in each schema that is known only reads
-pub reads : {R : Type 0} (items : R → List Row) (s : Schema) (sql : List _) (params : Row) (old new : State)
-    (result : Result R Error)
+pub reads : {R E : Type 0} (items : R → List Row) (s : Schema) (sql : List _) (params : Row)
+    (old new : State) (result : Result R E)
     → IsPlain (understood s sql) → (old.in_transaction ≡ false → new.in_transaction ≡ false)
     → Survives old new (CommitsShowing sql params old)
-    → (HasCleanDisk new → IfOk result (λ rows. Shown sql params old new (items rows)))
+    → (HasCleanDisk new → old.now.schema ≡ s → IfOk result (λ rows. Shown sql params old new (items rows)))
     → Reads s result old new
-reads {R} items s sql params old new result plain mode survives ok = record {
+reads {R} {E} items s sql params old new result plain mode survives ok = record {
   clean = survives.clean;
   mode = mode;
   limit = survives.limit;
   left = λ clean known db left. elim (survives.crash clean db left)
       [ inl was ↦ was | inr wrote ↦ absurd (never_commits sql params old db (plain_in known) wrote) ];
-  kept = λ clean known. kept_of result (plain_in known) (ok clean);
+  kept = λ clean known. kept_of result (plain_in known) (ok clean known);
 }
   where
     plain_in : old.now.schema ≡ s → IsPlain (understood old.now.schema sql)
     plain_in known = subst (λ (x : Schema). IsPlain (understood x sql)) (sym known) plain
 
-    kept_of : (r : Result R Error) → IsPlain (understood old.now.schema sql)
+    kept_of : (r : Result R E) → IsPlain (understood old.now.schema sql)
         → IfOk r (λ rows. Shown sql params old new (items rows)) → OnOk r (IsUnchanged old new)
     kept_of (Err e) plain h = tt
     kept_of (Ok rows) plain h = shown_unchanged sql params old new (items rows) plain h
@@ -122,8 +121,8 @@ pub small : (n : ℕ) → n < 2 ^ 63 → to_z w64 n ≡ pos n
 small n low = to_z_pos w64 n low
 
 -- what a query was answered from was sound
-pub was_sound : {R : Type 0} (items : R → List Row) (s : Schema) (sql : List _) (params : Row)
-    (old new : State) (result : Result R Error) → IsPlain (understood s sql) → old.now.schema ≡ s → IsLive old
+pub was_sound : {R E : Type 0} (items : R → List Row) (s : Schema) (sql : List _) (params : Row)
+    (old new : State) (result : Result R E) → IsPlain (understood s sql) → old.now.schema ≡ s → IsLive old
     → IfOk result (λ rows. Shown sql params old new (items rows)) → OnOk result (IsDatabase old.now)
 was_sound items s sql params old new (Err e) plain has live h = tt
 was_sound items s sql params old new (Ok rows) plain has live h =

@@ -54,21 +54,6 @@ pub if_so : {A E P Q : Type 0} (r : Result A E) → (P → Q) → OnOk r P → O
 if_so (Ok a) f h = f h
 if_so (Err e) f h = h
 
--- what is so of a result wherever a premise holds
-pub if_ok_where : {A E P : Type 0} (Q : A → Type 0) (r : Result A E) → (P → IfOk r Q)
-    → IfOk r (λ a. P → Q a)
-if_ok_where Q (Ok a) h = h
-if_ok_where Q (Err e) h = tt
-
-pub on_ok_where : {A E P : Type 0} (Q : Type 0) (r : Result A E) → (P → OnOk r Q) → OnOk r (P → Q)
-on_ok_where Q (Ok a) h = h
-on_ok_where Q (Err e) h = tt
-
-pub if_err_where : {A E P : Type 0} (Q R : E → Type 0) (r : Result A E) → (P → IfErr r (λ e. Q e → R e))
-    → IfErr r (λ e. Q e → P → R e)
-if_err_where Q R (Ok a) h = tt
-if_err_where Q R (Err e) h = λ q p. h p q
-
 -- a query is quiet where its schema is the one that it reads
 pub quiet_where : {R E P : Type 0} {s : Schema} (result : Result R E) (old new : State)
     → (P → old.now.schema ≡ s) → Reads s result old new → IsQuietWhere P old new

@@ -1,8 +1,8 @@
 -- What a reading row by row comes to.
 use Rattle.std.proofs.Common.{◌≡◌, ◌≢◌, ◌↔◌, ◌∙◌, ◌++◌, ◌∷◌, ℕ, List, [], map, sym, ap, subst, false}
-use Rattle.std.proofs.Common.{Result, Ok, Err, IsErrAnd, inl, inr}
+use Rattle.std.proofs.Common.{Result, Ok, Err, IfErr, IfOk, IsErrAnd, inl, inr}
 use Rattle.std.specs.Global.{Vec}
-use Rattle.sqlite.proofs.Callers.{IsPlain, never_commits, unchanged_then}
+use Rattle.sqlite.proofs.Callers.{IsPlain, unchanged_then}
 use Rattle.sqlite.proofs.StateLemmas.{survives_then}
 use Rattle.sqlite.specs.Clock.{timed}
 use Rattle.sqlite.specs.Effect.{Database}
@@ -17,7 +17,8 @@ use Rattle.sqlite.specs.declared.error.Error.{Error}
 use Rattle.sqlite.specs.declared.error.Error.TheVariants.{SqliteFailure}
 use Rattle.sqlite.specs.declared.error.ErrorCode.TheVariants.{OutOfMemory}
 use Rattle.sqlite_trees.specs.declared.store.Store.{Ghosts}
-use Rattle.sql_maps.specs.States.{LeavesNoMore, Reads}
+use Rattle.sql_maps.proofs.Calls.{reads, was_sound}
+use Rattle.sql_maps.specs.States.{Reads}
 use Rattle.vault_recover.specs.Raw.{IsStrange}
 use Rattle.vault_recover.specs.Reading.{IsUnread, IsUnreadOne, ReadsRows}
 use Rattle.vault_recover.specs.declared.fault.ReadFault.{ReadFault}
@@ -61,30 +62,29 @@ shown_from text old at new rows plain same h =
       ),
     )
 
--- what isn't read after a reading isn't read
-pub later : {S : Type 0} {g : Ghosts S} {R X E : Type 0} {text : List ℕ} {values : R → Row}
+-- what isn't read of a database that stayed as it was
+later : {S : Type 0} {g : Ghosts S} {R : Type 0} {text : List ℕ} {values : R → Row} {old mid new : Held S}
+    → (state g mid).now ≡ (state g old).now → IsUnread g text values mid new → IsUnread g text values old new
+later same it = record { at = it.at; same = it.same ∙ same; why = it.why }
+
+pub later_one : {S : Type 0} {g : Ghosts S} {old mid new : Held S} → (state g mid).now ≡ (state g old).now
+    → IsUnreadOne g mid new → IsUnreadOne g old new
+later_one same = elim [
+  | inl it ↦ inl (later same it)
+  | inr (inl it) ↦ inr (inl (later same it))
+  | inr (inr (inl it)) ↦ inr (inr (inl (later same it)))
+  | inr (inr (inr (inl it))) ↦ inr (inr (inr (inl (later same it))))
+  | inr (inr (inr (inr it))) ↦ inr (inr (inr (inr (later same it))))
+]
+
+-- after a table that was read
+pub after : {S : Type 0} {g : Ghosts S} {R X E : Type 0} {text : List ℕ} {values : R → Row}
     {old mid new : Held S} {r : Result X E} {x : X} → r ≡ Ok x → Reads vault_schema r (state g old) (state g mid)
     → HasCleanDisk (state g mid) → (state g old).now.schema ≡ vault_schema
     → ((state g mid).now.schema ≡ vault_schema → IsUnread g text values mid new) → IsUnread g text values old new
-later {g = g} {old = old} {mid = mid} {r = r} is reads clean has unread =
+after is reads clean has unread =
     let same = (rw is at (reads.kept clean has)).0.now_is in
-    let it = unread (ap (λ (d : Database). d.schema) same ∙ has) in
-    record { at = it.at; same = it.same ∙ same; why = it.why }
-
--- nor is a table that isn't read of what stayed as it was
-pub later_one : {S : Type 0} {g : Ghosts S} {old mid new : Held S} → (state g mid).now ≡ (state g old).now
-    → IsUnreadOne g mid new → IsUnreadOne g old new
-later_one {S} {g} {old} {mid} {new} same = elim [
-    | inl it ↦ inl (from it)
-    | inr (inl it) ↦ inr (inl (from it))
-    | inr (inr (inl it)) ↦ inr (inr (inl (from it)))
-    | inr (inr (inr (inl it))) ↦ inr (inr (inr (inl (from it))))
-    | inr (inr (inr (inr it))) ↦ inr (inr (inr (inr (from it))))
-  ]
-  where
-    from : {R : Type 0} {text : List ℕ} {values : R → Row} → IsUnread g text values mid new
-        → IsUnread g text values old new
-    from it = record { at = it.at; same = it.same ∙ same; why = it.why }
+    later same (unread (ap (λ (d : Database). d.schema) same ∙ has))
 
 -- the connection is what the rows lent
 pub settled : {S : Type 0} {g : Ghosts S} {R : Type 0} {s : Schema} {text : List ℕ} {values : R → Row}
@@ -96,7 +96,8 @@ settled {g = g} {s = s} {text = text} {values = values} {result = result} {old =
 module _ {S : Type 0} (g : Ghosts S) {R : Type 0} (s : Schema) (text : List ℕ) (values : R → Row)
     (old new : Held S) (plain : IsPlain (understood s text))
     (mode : (state g old).in_transaction ≡ false → (state g new).in_transaction ≡ false)
-    (survives : Survives (state g old) (state g new) (CommitsShowing text [] (state g old))) where
+    (survives : Survives (state g old) (state g new) (CommitsShowing text [] (state g old)))
+    (live : IsLive (state g old)) where
   abbrev was : State
   was = state g old
 
@@ -106,9 +107,16 @@ module _ {S : Type 0} (g : Ghosts S) {R : Type 0} (s : Schema) (text : List ℕ)
   plain_in : was.now.schema ≡ s → IsPlain (understood was.now.schema text)
   plain_in known = subst (λ (x : Schema). IsPlain (understood x text)) (sym known) plain
 
-  left_as : HasCleanDisk is → was.now.schema ≡ s → LeavesNoMore was is
-  left_as clean known db left = elim (survives.crash clean db left)
-      [ inl before ↦ before | inr wrote ↦ absurd (never_commits text [] was db (plain_in known) wrote) ]
+  streamed : (result : Result (Vec R) ReadFault)
+      → (HasCleanDisk is → was.now.schema ≡ s → IfOk result (λ raws. Shown text [] was is (map values raws.items)))
+      → (HasCleanDisk is → was.now.schema ≡ s → IfErr result (λ e. e ≡ Store → IsUnread g text values old new))
+      → ReadsRows g text values s result old new
+  streamed result told refused = record {
+    reads = reads (λ raws. map values raws.items) s text [] was is result plain mode survives told;
+    told = told;
+    sound = λ clean has. was_sound (λ raws. map values raws.items) s text [] was is result plain has live (told clean has);
+    refused = refused;
+  }
 
   -- it stopped before the end
   pub stopped : {P : ReadFault → Type 0} (result : Result (Vec R) ReadFault) → IsErrAnd result P
@@ -116,35 +124,13 @@ module _ {S : Type 0} (g : Ghosts S) {R : Type 0} (s : Schema) (text : List ℕ)
       → fault ≡ Store → IsUnread g text values old new)
       → ReadsRows g text values s result old new
   stopped (Ok raws) failed why = absurd failed
-  stopped (Err fault) failed why = record {
-    reads = record {
-      clean = survives.clean;
-      mode = mode;
-      limit = survives.limit;
-      left = left_as;
-      kept = λ clean known. tt;
-    };
-    told = λ clean known. tt;
-    sound = λ clean known. tt;
-    refused = λ clean known store. why fault failed clean (plain_in known) store;
-  }
+  stopped (Err fault) failed why =
+      streamed (Err fault) (λ clean has. tt) (λ clean has. why fault failed clean (plain_in has))
 
   -- it came to the end
-  pub ended : (raws : Vec R) (at : State) → IsLive was
+  pub ended : (raws : Vec R) (at : State)
       → (HasCleanDisk is → IsPlain (understood was.now.schema text) → IsUnchanged was at)
-      → (HasCleanDisk is → IsPlain (understood was.now.schema text) → IsUnchanged at is)
       → (HasCleanDisk is → IsPlain (understood was.now.schema text) → Shown text [] at is (map values raws.items))
       → ReadsRows g text values s (Ok raws) old new
-  ended raws at live same on shown = record {
-    reads = record {
-      clean = survives.clean;
-      mode = mode;
-      limit = survives.limit;
-      left = left_as;
-      kept = λ clean known. unchanged_then was at is (same clean (plain_in known)) (on clean (plain_in known));
-    };
-    told = λ clean known. let fine = plain_in known in
-        shown_from text was at is _ fine (same clean fine) (shown clean fine);
-    sound = λ clean known. (live (same clean (plain_in known)).0.was_open).0;
-    refused = λ clean known. tt;
-  }
+  ended raws at same shown = streamed (Ok raws) (λ clean has. let fine = plain_in has in
+      shown_from text was at is _ fine (same clean fine) (shown clean fine)) (λ clean has. tt)

@@ -23,14 +23,14 @@ pub(crate) fn version_rows<S: Alter>(
     alloc: Global,
     conn: &mut Connection<S>,
 ) -> Result<Vec<RawVersion>, ReadFault>
-    ensures told { HasCleanDisk (state S.Store conn.new) → IfOk result (λ raws. HasVersion (state S.Store conn.old).now.schema
-        → AreVersions (state S.Store conn.old).now.trees raws.items) }
-    ensures live { HasCleanDisk (state S.Store conn.new) → OnOk result (HasVersion (state S.Store conn.old).now.schema
-        → IsDatabase (state S.Store conn.old).now) }
-    ensures kept { HasCleanDisk (state S.Store conn.new) → OnOk result (HasVersion (state S.Store conn.old).now.schema
-        → IsUnchanged (state S.Store conn.old) (state S.Store conn.new)) }
-    ensures refused { HasCleanDisk (state S.Store conn.new) → IfErr result (λ e. e ≡ ReadFault.Store → HasVersion (state S.Store conn.old).now.schema
-        → IsUnread S.Store READ_VERSIONS.now version_values conn.old conn.new) }
+    ensures told { HasCleanDisk (state S.Store conn.new) → HasVersion (state S.Store conn.old).now.schema
+        → IfOk result (λ raws. AreVersions (state S.Store conn.old).now.trees raws.items) }
+    ensures live { HasCleanDisk (state S.Store conn.new) → HasVersion (state S.Store conn.old).now.schema
+        → OnOk result (IsDatabase (state S.Store conn.old).now) }
+    ensures kept { HasCleanDisk (state S.Store conn.new) → HasVersion (state S.Store conn.old).now.schema
+        → OnOk result (IsUnchanged (state S.Store conn.old) (state S.Store conn.new)) }
+    ensures refused { HasCleanDisk (state S.Store conn.new) → HasVersion (state S.Store conn.old).now.schema
+        → IfErr result (λ e. e ≡ ReadFault.Store → IsUnread S.Store READ_VERSIONS.now version_values conn.old conn.new) }
     ensures quiet { IsQuietWhere (HasVersion (state S.Store conn.old).now.schema) (state S.Store conn.old) (state S.Store conn.new) }
 {
     raws::shown(alloc, conn, READ_VERSIONS)

@@ -10,7 +10,7 @@ pub returns-in_err-rows : goal.returns-in_err-rows
 returns-in_err-rows g c s plain =
     let refused = rw c.in_err-rows.was at c.query.follows.holds-at-none in
     stopped g.S.Store s c.args.sql.now g.R.Raw.values c.args.conn.now c.query.follows.lender-at-none plain
-    refused.mode refused.survives c.from_residual.result c.from_residual.ensures.1
+    refused.mode refused.survives c.schema-live.ensures.live c.from_residual.result c.from_residual.ensures.1
     (λ fault same clean fine store. record {
       at = c.args.conn.now;
       same = refl;
@@ -23,7 +23,7 @@ returns-in_err-row g c s plain =
     let now = c.next.follows.lender-at-none.conn.now in
     settled (stopped g.S.Store s c.args.sql.now g.R.Raw.values c.args.conn.now now plain
     (λ idle. moved.mode (c.rows.invariant.1 idle))
-    (further c.rows.invariant.2 moved.survives) c.from_residual-in_err-row.result
+    (further c.rows.invariant.2 moved.survives) c.schema-live.ensures.live c.from_residual-in_err-row.result
     c.from_residual-in_err-row.ensures.1
     (λ fault cause clean fine store.
     let before = c.rows.invariant.3 (omega (arith, moved.survives.clean, clean)) fine in record {
@@ -39,7 +39,7 @@ returns-in_err-read g c s plain =
     let now = c.next.follows.lender-at-none.conn.now in
     settled (stopped g.S.Store s c.args.sql.now g.R.Raw.values c.args.conn.now now plain
     (λ idle. moved.mode (c.rows.invariant.1 idle))
-    (further c.rows.invariant.2 moved.survives) c.from_residual-in_err-read.result
+    (further c.rows.invariant.2 moved.survives) c.schema-live.ensures.live c.from_residual-in_err-read.result
     c.from_residual-in_err-read.ensures.1
     (λ fault cause clean fine store.
     let before = c.rows.invariant.3 (omega (arith, moved.survives.clean, clean)) fine in
@@ -75,9 +75,8 @@ returns g c s plain =
     let now = c.next.follows.lender-at-none.conn.now in
     settled (ended g.S.Store s c.args.sql.now g.R.Raw.values c.args.conn.now now plain
     (λ idle. moved.mode (c.rows.invariant.1 idle))
-    (further c.rows.invariant.2 moved.survives) c.rows.raws (state g.S.Store c.rows.rows.conn.now)
-    c.schema-live.ensures.live
+    (further c.rows.invariant.2 moved.survives) c.schema-live.ensures.live c.rows.raws
+    (state g.S.Store c.rows.rows.conn.now)
     (λ clean fine. (c.rows.invariant.3 (omega (arith, moved.survives.clean, clean)) fine).1)
-    (λ clean fine. rw c.in_ok-row.was at (moved.same clean))
     (λ clean fine. (rw (c.in_ok-row.was, c.in_default.is) at (moved.ok clean)) c.args.sql.now [] _
     (c.rows.invariant.3 (omega (arith, moved.survives.clean, clean)) fine).0)) (search rules)

@@ -41,7 +41,7 @@ returns-clause-sound g c clean =
 pub returns-in_err-versions-clause-unread : goal.returns-in_err-versions-clause-unread
 returns-in_err-versions-clause-unread g c clean =
     passed_on c.from_residual.result _ c.from_residual.ensures.1 (λ store ours.
-    inl (c.in_err-versions.ensures.refused clean store (has_version _ ours.schema)))
+    inl (c.in_err-versions.ensures.refused clean (has_version _ ours.schema) store))
 
 pub returns-in_err-rows-clause-unread : goal.returns-in_err-rows-clause-unread
 returns-in_err-rows-clause-unread g c clean =
