@@ -1,6 +1,6 @@
 -- Rows whose rowids rise are apart, and rows in the order of their rowids that are apart rise.
 use Rattle.std.proofs.Common.{◌≡◌, ℕ, ◌+◌, ◌<◌, ℤ, List, [], ◌∷◌, map, length, get_or, sym, ap, ap₂, subst, zero, suc, ◌∙◌}
-use Rattle.std.proofs.Common.{arith, Bool, true, false, Less, Equal, Greater, IsTrue, refl}
+use Rattle.std.proofs.Common.{arith, Bool, true, false, Less, Equal, Greater, refl}
 use Rattle.std.specs.FinMap.{int_cmp-IsAntisymmetric}
 use Rattle.std.specs.List.{IsAllAdjacentAnswer}
 use Rattle.std.specs.Ordering.{int_cmp, is_lt}

@@ -8,7 +8,7 @@ use Rattle.sqlite.specs.Effect.{Database, IsDatabase}
 use Rattle.sqlite.specs.Held.{Held, state}
 use Rattle.sqlite.specs.Order.{Row}
 use Rattle.sqlite.specs.Schema.{Schema}
-use Rattle.sqlite.specs.State.{State, HasCleanDisk, IsUnchanged, Begins, FailsToQuery, Shown}
+use Rattle.sqlite.specs.State.{State, HasCleanDisk, Begins, FailsToQuery, Shown}
 use Rattle.sqlite.specs.Term.{Term, eval_all, col}
 use Rattle.sqlite.specs.View.{doubt}
 use Rattle.sqlite.specs.declared.error.Error.{Error}

@@ -1,4 +1,4 @@
-use Rattle.std.proofs.Common.{◌≡◌, ◌∙◌, ◌++◌, ◌∷◌, [], map, refl, inl, inr, sym, ap, subst, rules, arith}
+use Rattle.std.proofs.Common.{◌∙◌, ◌++◌, ◌∷◌, [], map, refl, inl, inr, sym, ap, subst, rules, arith}
 use Rattle.std.proofs.lemmas.List.{map-append}
 use Rattle.sqlite.proofs.Callers.{given_begin, unchanged_then}
 use Rattle.sqlite.specs.Given.{HasGiven}

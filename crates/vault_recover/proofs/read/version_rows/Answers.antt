@@ -1,4 +1,3 @@
-use Rattle.std.proofs.Common.{[]}
 use Rattle.sqlite.specs.Held.{state}
 use Rattle.sql_maps.proofs.Reading.{reads_all}
 use Rattle.vault_schema.proofs.Version1.Texts.{read_version_is}
