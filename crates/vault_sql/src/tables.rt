@@ -87,6 +87,7 @@ impl<S: Alter> Tables for SqlTables<S> {
         self.failed
     }
 
+    #[tactic(auto, using(crate::proofs::Calls::left_by, crate::proofs::Calls::still_held))]
     fn merchant(&mut self, m: MerchantId) -> Result<Option<MerchantRow>, TablesFault> {
         if self.failed {
             return Err(TablesFault::Store);
@@ -97,6 +98,7 @@ impl<S: Alter> Tables for SqlTables<S> {
         }
     }
 
+    #[tactic(auto, using(crate::proofs::Calls::left_by, crate::proofs::Calls::still_held))]
     fn merchants(&mut self) -> Result<u64, TablesFault> {
         if self.failed {
             return Err(TablesFault::Store);
@@ -107,6 +109,7 @@ impl<S: Alter> Tables for SqlTables<S> {
         }
     }
 
+    #[tactic(auto, using(crate::proofs::Calls::left_by, crate::proofs::Calls::still_held))]
     fn right(&mut self, c: Caller, m: MerchantId, r: Right) -> Result<bool, TablesFault> {
         if self.failed {
             return Err(TablesFault::Store);
@@ -117,6 +120,7 @@ impl<S: Alter> Tables for SqlTables<S> {
         }
     }
 
+    #[tactic(auto, using(crate::proofs::Calls::left_by, crate::proofs::Calls::still_held))]
     fn recorded(&mut self, c: Caller, n: RequestNo) -> Result<Option<Record>, TablesFault> {
         if self.failed {
             return Err(TablesFault::Store);
@@ -127,6 +131,7 @@ impl<S: Alter> Tables for SqlTables<S> {
         }
     }
 
+    #[tactic(auto, using(crate::proofs::Calls::left_by, crate::proofs::Calls::still_held))]
     fn entry(&mut self, m: MerchantId, t: Token) -> Result<Option<Entry>, TablesFault> {
         if self.failed {
             return Err(TablesFault::Store);
@@ -137,6 +142,7 @@ impl<S: Alter> Tables for SqlTables<S> {
         }
     }
 
+    #[tactic(auto, using(crate::proofs::Calls::left_by, crate::proofs::Calls::still_held))]
     fn current(&mut self, m: MerchantId, p: Pan, at: Moment) -> Result<Option<Token>, TablesFault> {
         if self.failed {
             return Err(TablesFault::Store);
