@@ -17,9 +17,13 @@ pub fn rows_of<S: Alter>(
     sql: &str,
     params: &[ValueRef<'_>],
 ) -> Result<Vec<Row>, Error>
-    ensures told { HasCleanDisk (state S.Store conn.new) → IfOk result (λ rows. Shown sql.now (bound params.now) (state S.Store conn.old) (state S.Store conn.new) rows.items) }
-    ensures reads { (s : _) → IsPlain (understood s sql.now) → Reads s result (state S.Store conn.old) (state S.Store conn.new) }
-    ensures sound { HasCleanDisk (state S.Store conn.new) → (s : _) → IsPlain (understood s sql.now) → (state S.Store conn.old).now.schema ≡ s → OnOk result (IsDatabase (state S.Store conn.old).now) }
+    ensures told { HasCleanDisk (state S.Store conn.new)
+        → IfOk result (λ rows. Shown sql.now (bound params.now) (state S.Store conn.old)
+        (state S.Store conn.new) rows.items) }
+    ensures reads { (s : _) → IsPlain (understood s sql.now)
+        → Reads s result (state S.Store conn.old) (state S.Store conn.new) }
+    ensures sound { HasCleanDisk (state S.Store conn.new) → (s : _) → IsPlain (understood s sql.now)
+        → (state S.Store conn.old).now.schema ≡ s → OnOk result (IsDatabase (state S.Store conn.old).now) }
 {
     // a database whose schema can be asked for is sound
     let _live = conn.schema();
@@ -34,7 +38,11 @@ pub fn step<S: Alter>(
 ) -> Result<(), Error>
     ensures same_reference { tx.new.conn.ghost_name ≡ tx.old.conn.ghost_name }
     ensures steps { Steps (state S.Store tx.old.conn.now) (state S.Store tx.new.conn.now) }
-    ensures ran { HasCleanDisk (state S.Store tx.new.conn.now) → OnOk result (IsTrue (state S.Store tx.old.conn.now).in_transaction → (count : ℕ) × ExecutesInside 0 sql.now (bound params.now) (state S.Store tx.old.conn.now) (state S.Store tx.new.conn.now) (Ok count)) }
+    ensures ran { HasCleanDisk (state S.Store tx.new.conn.now)
+        → OnOk result (IsTrue (state S.Store tx.old.conn.now).in_transaction
+        → (count : ℕ)
+        × ExecutesInside 0 sql.now (bound params.now) (state S.Store tx.old.conn.now)
+        (state S.Store tx.new.conn.now) (Ok count)) }
 {
     tx.execute(sql, params)?;
     Ok(())

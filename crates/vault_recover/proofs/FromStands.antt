@@ -82,7 +82,7 @@ module _ (db : Trees) (V : Vault) (stands : Stands db V) (rows : Rows) (raws : A
   count_is : (c : RawCount) → Has rows.counts.items c
       → (c.kind ≡ pos (natural c.kind)) × (c.total ≡ pos (count_of c)) × (0 < count_of c)
   count_is c h =
-      let it = pair_of tables.counts _ raws.merchants.counts_are stands.counts c h in
+      let it = pair_of tables.counts _ raws.counts stands.counts c h in
       let some = some_unless (count_of c) it.0 it.2 in
       (grind (arith, it.1), grind (arith, it.1, some.0), some.1)
 
@@ -106,7 +106,7 @@ module _ (db : Trees) (V : Vault) (stands : Stands db V) (rows : Rows) (raws : A
             (λ c at. (count_is c at.there).1
             ∙ (λ i. pos (count_at V (at.merchant_is i) (natural (at.kind_is i)))))
         | Some x ↦ λ some.
-            let it = row_at tables.counts _ raws.merchants.counts_are stands.counts (name, 1) x some in
+            let it = row_at tables.counts _ raws.counts stands.counts (name, 1) x some in
             let is = count_is it.0.0 it.0.1 in
             (λ i. total_of rows.counts.items (sym it.0.2 i).0 (pos (sym it.0.2 i).1))
             ∙ ap (total_of rows.counts.items _) (sym is.0) ∙ count_total rows apart it.0.0 it.0.1
@@ -117,7 +117,7 @@ module _ (db : Trees) (V : Vault) (stands : Stands db V) (rows : Rows) (raws : A
       → (entry : Entry) × (entry_at V (string_bytes e.merchant) (string_bytes e.token) ≡ Some entry)
       × ShowsEntry e entry
   entry_pair e h =
-      let it = pair_of tables.entries _ raws.others.entries_are stands.entries e h in
+      let it = pair_of tables.entries _ raws.entries stands.entries e h in
       let shown : ShowsEntry e it.0 = grind (arith, it.1) in
       (it.0, it.2, shown)
 
@@ -125,7 +125,7 @@ module _ (db : Trees) (V : Vault) (stands : Stands db V) (rows : Rows) (raws : A
   same_entries : V.entries ≡ (vault_of rows).entries
   same_entries = finite.same_map entry_total entry_exact _ _ (λ q. both_ways _ _
       (λ x e.
-      let it = row_at tables.entries _ raws.others.entries_are stands.entries q x e in
+      let it = row_at tables.entries _ raws.entries stands.entries q x e in
       ap (finite.get (vault_of rows).entries) (sym it.0.2) ∙ entry_held rows apart it.0.0 it.0.1
       ∙ grind (arith, it.1))
       (λ y e.
@@ -142,7 +142,7 @@ module _ (db : Trees) (V : Vault) (stands : Stands db V) (rows : Rows) (raws : A
   pub stands_shows : Shows rows V
   stands_shows =
       let version = version_of db stands.version rows.versions.items raws.versions in
-      let size = length_permutation _ _ raws.merchants.merchants_are in
+      let size = length_permutation _ _ raws.merchants in
       let many = as_many merchant_coding lives_in (db 1) V.merchants stands.merchants in
       record {
         version = version.0;
@@ -150,26 +150,26 @@ module _ (db : Trees) (V : Vault) (stands : Stands db V) (rows : Rows) (raws : A
         id = version.2;
         many = sym (length-map rows.merchants.items _) ∙ size ∙ many;
         merchants = λ m h.
-            let it = pair_of tables.merchants _ raws.merchants.merchants_are stands.merchants m h in
+            let it = pair_of tables.merchants _ raws.merchants stands.merchants m h in
             let back = mapped_is lives_in (merchant_at V (string_bytes m.name)) it.0 it.2 in
             let is = it.1 ∙ ap (row.merchant_row (string_bytes m.name)) (sym back.2) in
             let shown : ShowsMerchant m back.0 = grind (arith, is) in
             (back.0, back.1, shown);
         merchants_there = λ name merchant h.
             let at = ap (option_map lives_in) h in
-            (row_at tables.merchants _ raws.merchants.merchants_are stands.merchants name _ at).0;
+            (row_at tables.merchants _ raws.merchants stands.merchants name _ at).0;
         counts = count_shown;
         counted = made_counted;
         held = held_made;
         entries = entry_pair;
         entries_there = λ m token entry h.
-            let it = (row_at tables.entries _ raws.others.entries_are stands.entries (m, token) entry h).0 in
+            let it = (row_at tables.entries _ raws.entries stands.entries (m, token) entry h).0 in
             (it.0, it.1, ap (λ k. k.0) it.2, ap (λ k. k.1) it.2);
         records = λ r h.
-            let it = pair_of tables.records _ raws.others.records_are stands.records r h in
+            let it = pair_of tables.records _ raws.records stands.records r h in
             let shown : ShowsRecord r it.0 = grind (arith, it.1) in
             (natural r.request, it.0, grind (arith, it.1), it.2, shown);
         rights = λ r h.
-            let it = pair_of tables.rights _ raws.others.rights_are stands.rights r h in
+            let it = pair_of tables.rights _ raws.rights stands.rights r h in
             (right_of r.what, grind (arith, it.1), given_back _ it.0 it.2);
       }

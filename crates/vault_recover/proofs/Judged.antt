@@ -1,5 +1,7 @@
 -- What the verdict over rows comes to.
-use Rattle.std.proofs.Common.{arith, drop, length, ◌<◌, ◌≡◌, ℕ, ℤ, pos, List, [], ◌∷◌, ◌&&◌, not, true, false, cond, Some, None, option_map, Ok, Err, Result, IfOk, IfErr, OnOk, inl, inr, sym, ap, subst, ◌∙◌, true≢false}
+use Rattle.std.proofs.Common.{arith, drop, length, ◌<◌, ◌≡◌, ℕ, ℤ, pos, List, [], ◌∷◌, ◌&&◌, not, true}
+use Rattle.std.proofs.Common.{false, cond, Some, None, option_map, Ok, Err, Result, IfOk, IfErr, OnOk, inl}
+use Rattle.std.proofs.Common.{inr, sym, ap, subst, ◌∙◌, true≢false}
 use Rattle.std.specs.Ordering.{int_eq}
 use Rattle.sqlite.specs.Effect.{Database, IsDatabase}
 use Rattle.sqlite.specs.Order.{Row}
@@ -8,15 +10,18 @@ use Rattle.sqlite.specs.Tree.{Trees}
 use Rattle.sql_maps.specs.Rows.{IsApart}
 use Rattle.vault_recover.proofs.FromStands.{stands_shows, version_of}
 use Rattle.vault_recover.proofs.Opening.{apart}
+use Rattle.vault_recover.proofs.Versioned.{has_version}
 use Rattle.vault_recover.proofs.Stood.{apart_keys, they_stand}
 use Rattle.vault_recover.proofs.Permuted.{apart_permuted}
 use Rattle.vault_recover.specs.Apart.{AreApart, AreByRowid}
-use Rattle.vault_recover.specs.Opened.{AreRaws, AreVersions, IsFit, IsLeastBroken, IsNoRefusal, IsOtherVersion, IsSoundOf, StandsSound}
+use Rattle.vault_recover.specs.Opened.{AreRaws, AreVersions, IsFit, IsLeastBroken, IsNoRefusal}
+use Rattle.vault_recover.specs.Opened.{IsOtherVersion, IsSoundOf, StandsSound}
 use Rattle.vault_recover.specs.Reading.{AreAll, IsOurs}
 use Rattle.vault_recover.specs.Sizes.{counts_of}
 use Rattle.vault_recover.specs.Versions.{is_other, other_version}
 use Rattle.vault_recover.specs.declared.fault.OpenFault.{OpenFault}
 use Rattle.vault_recover.specs.declared.fault.OpenFault.TheVariants.{WrongSchema, Damaged}
+use Rattle.vault_schema.specs.Versioned.{HasVersion}
 use Rattle.vault_sql.specs.Schema.{vault_schema}
 use Rattle.vault_recover.specs.declared.sizes.Sizes.{Sizes}
 use Rattle.vault_rules.proofs.AllKept.{all_kept}
@@ -34,19 +39,23 @@ use Rattle.vault_rules.specs.declared.rows.Rows.{Rows}
 version_is : (v : RawVersion) → v.id ≡ pos 1 → other_version (v ∷ []) ≡ None → v.version ≡ pos 1
 version_is v id none = grind (arith, int_is v.version (pos 1), int_same v.id (pos 1))
 
-pub sound_of : (db : Database) → IsOurs db → IsDatabase db → (rows : Rows) → AreRaws db.trees rows → ((r : ℕ) → keeps rows r ≡ true) → AreApart rows
+pub sound_of : (db : Database) → IsOurs db → IsDatabase db → (rows : Rows) → AreRaws db.trees rows
+    → ((r : ℕ) → keeps rows r ≡ true) → AreApart rows
     → other_version rows.versions.items ≡ None → IsSoundOf db (counts_of rows)
 sound_of db ours sound rows raws keep apart says =
     let keys = apart_keys db ours.schema sound rows raws apart in
     let shows = rows_show rows keys keep in
-    let version = version_is shows.version shows.id (subst (λ vs. other_version vs ≡ None) shows.versions says) in
+    let version =
+    version_is shows.version shows.id (subst (λ vs. other_version vs ≡ None) shows.versions says) in
     record {
       is = sound;
       it = record {
         schema = ours.schema;
         vault = vault_of rows;
         sound = vault_is_sound rows keys keep;
-        stands = they_stand rows keys keep db raws apart ours.schema sound shows.version shows.versions shows.id version;
+        stands =
+            they_stand rows keys keep db raws apart ours.schema sound shows.version shows.versions shows.id
+            version;
       };
       sizes_are = λ i. record {
         merchants = sym (many_is rows keys) i;
@@ -55,29 +64,44 @@ sound_of db ours sound rows raws keep apart says =
       };
     }
 
--- what was read of a database that stayed as it was
-pub raws_of : (old mid : State) → IsUnchanged old mid → IsOurs old.now → (versions : List RawVersion)
-    → AreVersions old.now.trees versions → (rows : Rows) → rows.versions.items ≡ versions
-    → (mid.now.schema ≡ vault_schema → AreAll mid.now rows) → AreRaws old.now.trees rows
-raws_of old mid same ours versions are rows is told =
-    let now : mid.now ≡ old.now = same.0.now_is in
+-- rows that were read of a database: all that it has, in the order of the rowids
+pub record AreRead (db : Database) (rows : Rows) : Type 0 where
+  pub sound : IsDatabase db
+  pub raws : AreRaws db.trees rows
+  pub ordered : AreByRowid rows
+
+pub are_read : (old mid : State) (versions : List RawVersion) (rows : Rows) → rows.versions.items ≡ versions
+    → (HasVersion old.now.schema → IsUnchanged old mid) → (HasVersion old.now.schema → IsDatabase old.now)
+    → (HasVersion old.now.schema → AreVersions old.now.trees versions)
+    → (mid.now.schema ≡ vault_schema → AreAll mid.now rows) → IsOurs old.now → AreRead old.now rows
+are_read old mid versions rows is same sound are told ours =
+    let has = has_version _ ours.schema in
+    let now : mid.now ≡ old.now = (same has).0.now_is in
     let all = subst (λ d. AreAll d rows) now (told (ap (λ (d : Database). d.schema) now ∙ ours.schema)) in
     record {
-      versions = subst (AreVersions old.now.trees) (sym is) are;
-      merchants = record {
-        merchants_are = all.merchants.all ours.full;
-        counts_are = all.counts.all ours.full;
+      sound = sound has;
+      raws = record {
+        versions = subst (AreVersions old.now.trees) (sym is) (are has);
+        merchants = all.merchants.all ours.full;
+        counts = all.counts.all ours.full;
+        entries = all.entries.all ours.full;
+        records = all.records.all ours.full;
+        rights = all.rights.all ours.full;
       };
-      others = record {
-        entries_are = all.entries.all ours.full;
-        records_are = all.records.all ours.full;
-        rights_are = all.rights.all ours.full;
+      ordered = record {
+        merchants = all.merchants.ordered;
+        counts = all.counts.ordered;
+        entries = all.entries.ordered;
+        records = all.records.ordered;
+        rights = all.rights.ordered;
       };
     }
 
-pub judged : (P : Type 0) (Q : Sizes → Type 0) (r : Result Sizes OpenFault) (rows : Rows) → IfOk r (λ sizes. sizes ≡ counts_of rows)
+pub judged : (P : Type 0) (Q : Sizes → Type 0) (r : Result Sizes OpenFault) (rows : Rows)
+    → IfOk r (λ sizes. sizes ≡ counts_of rows)
     → OnOk r ((n : ℕ) → keeps rows n ≡ true) → OnOk r (AreApart rows)
-    → (((n : ℕ) → keeps rows n ≡ true) → AreApart rows → P → Q (counts_of rows)) → IfOk r (λ sizes. P → Q sizes)
+    → (((n : ℕ) → keeps rows n ≡ true) → AreApart rows → P → Q (counts_of rows))
+    → IfOk r (λ sizes. P → Q sizes)
 judged P Q (Ok sizes) rows is keep apart f = λ p. subst Q (sym is) (f keep apart p)
 judged P Q (Err fault) rows is keep apart f = tt
 
@@ -85,38 +109,36 @@ judged P Q (Err fault) rows is keep apart f = tt
 pub apart_of : (db : Trees) (rows : Rows) → AreRaws db rows
     → IsApart (db 1) × IsApart (db 3) × IsApart (db 5) × IsApart (db 8) × IsApart (db 10) → AreApart rows
 apart_of db rows raws apart = record {
-  merchants = apart_permuted _ _ raws.merchants.merchants_are apart.0;
-  counts = apart_permuted _ _ raws.merchants.counts_are apart.1;
-  entries = apart_permuted _ _ raws.others.entries_are apart.2;
-  records = apart_permuted _ _ raws.others.records_are apart.3;
-  rights = apart_permuted _ _ raws.others.rights_are apart.4;
-}
-
--- what was read ascends by the rowids
-pub by_rowid : {db : Database} {rows : Rows} → AreAll db rows → AreByRowid rows
-by_rowid all = record {
-  merchants = all.merchants.ordered;
-  counts = all.counts.ordered;
-  entries = all.entries.ordered;
-  records = all.records.ordered;
-  rights = all.rights.ordered;
+  merchants = apart_permuted _ _ raws.merchants apart.0;
+  counts = apart_permuted _ _ raws.counts apart.1;
+  entries = apart_permuted _ _ raws.entries apart.2;
+  records = apart_permuted _ _ raws.records apart.3;
+  rights = apart_permuted _ _ raws.rights apart.4;
 }
 
 module _ (db : Database) (it : StandsSound db) where
   -- the rows of a database that stands for a sound vault break no rule
   pub never_broken : (rule : ℕ) → IsLeastBroken db rule → ⊥
   never_broken rule least =
-      let keys = apart_keys db it.schema least.is least.rows least.are (apart_of db.trees least.rows least.are
-      (it.stands.merchants.apart, it.stands.counts.apart, it.stands.entries.apart, it.stands.records.apart,
-      it.stands.rights.apart)) in
-      true≢false (sym (all_kept least.rows it.vault (stands_shows db.trees it.vault it.stands least.rows least.are keys) it.sound keys rule) ∙ least.least.broken)
+      let keys = apart_keys db it.schema least.is least.rows least.are (apart_of db.trees least.rows least.are (
+        it.stands.merchants.apart,
+        it.stands.counts.apart,
+        it.stands.entries.apart,
+        it.stands.records.apart,
+        it.stands.rights.apart,
+      )) in
+      true≢false (sym (all_kept least.rows it.vault
+      (stands_shows db.trees it.vault it.stands least.rows least.are keys) it.sound keys rule)
+      ∙ least.least.broken)
 
   -- nor do they say another version
   pub never_other : (n : ℤ) → IsOtherVersion db n → ⊥
   never_other n other =
       let v = version_of db.trees it.stands.version other.versions other.are in
       let same : is_other v.0 ≡ false = (λ i. int_eq (v.2 i) (pos 1) && not (int_eq (v.3 i) (pos 1))) in
-      let none : other_version other.versions ≡ None = ap other_version v.1 ∙ ap (λ b. option_map (λ (v : RawVersion). v.version) (cond b (Some v.0) None)) same in
+      let none : other_version other.versions ≡ None =
+      ap other_version v.1
+      ∙ ap (λ b. option_map (λ (v : RawVersion). v.version) (cond b (Some v.0) None)) same in
       let clash = sym none ∙ other.says in cc
 
   -- and each row of `entries` has all its columns
@@ -137,6 +159,9 @@ pub no_refusal : {A : Type 0} (db : Database) → db.schema ≡ vault_schema →
     → IfErr r (λ e. IsFit db → IsNoRefusal e)
 no_refusal db vault (Ok a) damaged versioned = tt
 no_refusal db vault (Err e) damaged versioned = λ fit. elim fit as (λ _. IsNoRefusal e) [
-  | inl it ↦ (λ n same. never_other db it n (versioned n same vault), λ rule same. never_broken db it rule (damaged rule same (ours_of db it)))
+  | inl it ↦ (
+    λ n same. never_other db it n (versioned n same vault),
+    λ rule same. never_broken db it rule (damaged rule same (ours_of db it)),
+  )
   | inr blank ↦ absurd (apart (sym blank ∙ vault))
 ]

@@ -23,7 +23,9 @@ IsSettled s = (db : Trees) → IsTrue s.is_open → s.may_leave db → db ≡ s.
 pub apart : no_schema ≡ vault_schema → ⊥
 apart e = let clash = ap (λ (s : Schema). s.tables) e in cc
 
-pub left_vault : (old new : State) → old.now.schema ≡ vault_schema → IsSettled old → IsQuiet old new → HasCleanDisk new → LeavesFound old new
+pub left_vault : (old new : State)
+    → old.now.schema ≡ vault_schema → IsSettled old → IsQuiet old new → HasCleanDisk new
+    → LeavesFound old new
 left_vault old new ours settled quiet clean = record {
   held = λ V h. left_after old new V h (λ db left. settled db h.is_open left) (quiet.left clean h.schema);
   blank = λ ready blank. absurd (apart (sym blank ∙ ours));
@@ -42,12 +44,20 @@ left_blank old new blank crash = record {
   blank = λ ready none. crash ready;
 }
 
-pub opens_vault : (old new : State) (autocommit : Bool) (sizes : Sizes) → autocommit ≡ not old.in_transaction → old.in_transaction ≡ false → old.step_limit ≡ None
-    → (IsTrue autocommit → IsTrue old.is_open → old.now ≡ old.committed) → old.now.schema ≡ vault_schema → new.step_limit ≡ old.step_limit
-    → (IsOurs old.now → IsSoundOf old.now sizes) → (old.now.schema ≡ vault_schema → IsUnchanged old new) → Opens old new
+pub opens_vault : (old new : State) (autocommit : Bool) (sizes : Sizes)
+    → autocommit ≡ not old.in_transaction → old.in_transaction ≡ false → old.step_limit ≡ None
+    → (IsTrue autocommit → IsTrue old.is_open → old.now ≡ old.committed) → old.now.schema ≡ vault_schema
+    → new.step_limit ≡ old.step_limit
+    → (IsOurs old.now → IsSoundOf old.now sizes) → (old.now.schema ≡ vault_schema → IsUnchanged old new)
+    → Opens old new
 opens_vault old new autocommit sizes is idle unlimited settled ours limit sound kept = record {
   whose = inr ours;
-  ours = λ it. let found = (sound it).it in (record { vault = found.vault; sound = found.sound; holds = holds it found.vault found.stands }, (kept it.schema).0.now_is);
+  ours =
+      λ it.
+      let found = (sound it).it in (
+        record { vault = found.vault; sound = found.sound; holds = holds it found.vault found.stands },
+        (kept it.schema).0.now_is,
+      );
   same = holds;
   blank = λ is_open blank. absurd (apart (sym blank ∙ ours));
 }
@@ -65,12 +75,19 @@ opens_vault old new autocommit sizes is idle unlimited settled ours limit sound 
           stands = subst (λ (d : Database). Stands d.trees V) (sym same.0.now_is) stands;
         }
 
-pub ready_is : (old : State) (autocommit : Bool) → autocommit ≡ not old.in_transaction → old.in_transaction ≡ false → old.step_limit ≡ None
+pub ready_is : (old : State) (autocommit : Bool)
+    → autocommit ≡ not old.in_transaction → old.in_transaction ≡ false → old.step_limit ≡ None
     → (IsTrue autocommit → IsTrue old.is_open → old.now ≡ old.committed) → IsTrue old.is_open → IsReady old
 ready_is old autocommit is idle unlimited settled is_open =
-    record { is_open = is_open; autocommit = idle; unlimited = unlimited; settled = settled (is ∙ ap not idle) is_open }
+    record {
+      is_open = is_open;
+      autocommit = idle;
+      unlimited = unlimited;
+      settled = settled (is ∙ ap not idle) is_open;
+    }
 
-pub opens_blank : (old new : State) → old.now.schema ≡ no_schema → (IsTrue old.is_open → IsReady old) → (IsReady old → Holds new empty_vault) → Opens old new
+pub opens_blank : (old new : State) → old.now.schema ≡ no_schema → (IsTrue old.is_open → IsReady old)
+    → (IsReady old → Holds new empty_vault) → Opens old new
 opens_blank old new blank ready made = record {
   whose = inl blank;
   ours = λ it. absurd (apart (sym blank ∙ it.schema));

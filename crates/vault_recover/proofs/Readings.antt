@@ -1,5 +1,6 @@
 -- What a reading of a table comes to, from its query.
-use Rattle.std.proofs.Common.{◌≡◌, ℤ, ℕ, ◌+◌, ◌<◌, List, [], ◌∷◌, map, length, sym, ap, ap₂, subst, ◌∙◌, arith}
+use Rattle.std.proofs.Common.{◌≡◌, ℤ, ℕ, ◌+◌, ◌<◌, List, [], ◌∷◌, map, length, sym, ap, ap₂, subst, ◌∙◌}
+use Rattle.std.proofs.Common.{arith}
 use Rattle.std.proofs.Common.{Result, Ok, Err}
 use Rattle.std.proofs.lemmas.List.{get_or-map, length-map}
 use Rattle.std.specs.Global.{Vec}
@@ -27,7 +28,8 @@ shown_by_rowid : {text : List ℕ} (tree : ℕ) (more : List Term)
     → (old new : State) → old.now.schema ≡ vault_schema → (rows : List Row) → Shown text [] old new rows
     → IsSortedByKey rowid value_cmp rows
 shown_by_rowid {text} tree more it old new has rows shown =
-    by_rowid old.now.trees ((reads_as text [] old new vault_schema has _ it.is it.plain it.unlisted rows shown).answer Null)
+    by_rowid old.now.trees
+    ((reads_as text [] old new vault_schema has _ it.is it.plain it.unlisted rows shown).answer Null)
 
 ids_ascend : {R : Type 0} (id : R → ℤ) (values : R → Row) → ((m : R) → rowid (values m) ≡ Int (id m))
     → (raws : List R) → IsSortedByKey rowid value_cmp (map values raws) → IsSortedByKey id int_cmp raws

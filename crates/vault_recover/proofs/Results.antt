@@ -65,7 +65,8 @@ quiet_where result old new is reads = record {
 }
 
 -- a reading's fault that `?` passes on says the same of it
-pub passed_on : {A P : Type 0} (r : Result A OpenFault) (fault : ReadFault) → IsErrAnd r (λ e. e ≡ failure fault)
+pub passed_on : {A P : Type 0} (r : Result A OpenFault) (fault : ReadFault)
+    → IsErrAnd r (λ e. e ≡ failure fault)
     → (fault ≡ read.Store → P) → IfErr r (λ e. e ≡ Store → P)
 passed_on (Ok a) fault same none = tt
 passed_on (Err e) fault same none = λ store. none (unread fault (sym same ∙ store))

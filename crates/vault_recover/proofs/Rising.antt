@@ -1,5 +1,6 @@
 -- Rows whose rowids rise are apart, and rows in the order of their rowids that are apart rise.
-use Rattle.std.proofs.Common.{◌≡◌, ℕ, ◌+◌, ◌<◌, ℤ, List, [], ◌∷◌, map, length, get_or, sym, ap, ap₂, subst, zero, suc, ◌∙◌}
+use Rattle.std.proofs.Common.{◌≡◌, ℕ, ◌+◌, ◌<◌, ℤ, List, [], ◌∷◌, map, length, get_or, sym, ap, ap₂, subst}
+use Rattle.std.proofs.Common.{zero, suc, ◌∙◌}
 use Rattle.std.proofs.Common.{arith, Bool, true, false, Less, Equal, Greater, refl}
 use Rattle.std.specs.FinMap.{int_cmp-IsAntisymmetric}
 use Rattle.std.specs.List.{IsAllAdjacentAnswer}
@@ -56,8 +57,14 @@ module _ {R : Type 0} (id : R → ℤ) where
       let rest = climbs (n ∷ raws) (λ k d low.
       let next : suc (k + 1) ≡ suc k + 1 = omega arith in
       subst (λ j. true ≡ int_lt (id (get_or (n ∷ raws) k d)) (id (get_or (m ∷ n ∷ raws) j d))) (sym next)
-      (told (suc k) d (omega (arith, low)))) in
-      ((first, all_from _ raws (λ r h. let later = all_has _ raws r rest.0 h in omega (arith, ints, first, later))), rest)
+      (told (suc k) d (omega (arith, low)))) in (
+        (
+          first,
+          all_from _ raws
+              (λ r h. let later = all_has _ raws r rest.0 h in omega (arith, ints, first, later)),
+        ),
+        rest,
+      )
 
   module _ (values : R → Row) (is : (m : R) → rowid (values m) ≡ Int (id m)) where
     climbs_apart : (raws : List R) → IsAscending (λ a b. id a <ℤ id b) raws → IsApart (map values raws)
@@ -80,9 +87,12 @@ module _ {R : Type 0} (id : R → ℤ) where
       apart = λ so. absurd (let clash = so in cc);
       only = λ sorted apart.
           let all = m ∷ raws in let k = told.0 in
-          let low : k + 1 < length (map values all) = subst (λ n. k + 1 < n) (sym (length-map all values)) told.1 in
+          let low : k + 1 < length (map values all) =
+          subst (λ n. k + 1 < n) (sym (length-map all values)) told.1 in
           let this = get_or-map values all k m (values m) (omega (arith, told.1)) in
           let next = get_or-map values all (k + 1) m (values m) told.1 in
-          absurd (ascends_at (λ a b. value_cmp (rowid a) (rowid b) ≢ Equal) (map values all) apart k (values m) low
-          (ap₂ value_cmp (ap rowid this ∙ is _) (ap rowid next ∙ is _) ∙ tied _ _ (sym (told.2 m)) (sorted k m (omega arith) told.1)));
+          absurd
+          (ascends_at (λ a b. value_cmp (rowid a) (rowid b) ≢ Equal) (map values all) apart k (values m) low
+          (ap₂ value_cmp (ap rowid this ∙ is _) (ap rowid next ∙ is _)
+          ∙ tied _ _ (sym (told.2 m)) (sorted k m (omega arith) told.1)));
     }

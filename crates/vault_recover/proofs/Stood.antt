@@ -31,11 +31,11 @@ use Rattle.vault_sql.specs.Stands.{Stands, count_at, lives_in, unless_zero}
 pub apart_keys : (db : Database) → db.schema ≡ vault_schema → IsDatabase db → (rows : Rows)
     → AreRaws db.trees rows → AreApart rows → HasKeysApart rows
 apart_keys db ours sound rows raws up = record {
-  merchants = keys_apart tables.merchants db ours sound _ raws.merchants.merchants_are up.merchants;
-  counts = keys_apart tables.counts db ours sound _ raws.merchants.counts_are up.counts;
-  entries = keys_apart tables.entries db ours sound _ raws.others.entries_are up.entries;
-  records = keys_apart tables.records db ours sound _ raws.others.records_are up.records;
-  rights = keys_apart tables.rights db ours sound _ raws.others.rights_are up.rights;
+  merchants = keys_apart tables.merchants db ours sound _ raws.merchants up.merchants;
+  counts = keys_apart tables.counts db ours sound _ raws.counts up.counts;
+  entries = keys_apart tables.entries db ours sound _ raws.entries up.entries;
+  records = keys_apart tables.records db ours sound _ raws.records up.records;
+  rights = keys_apart tables.rights db ours sound _ raws.rights up.rights;
 }
 
 module _ (rows : Rows) (apart : HasKeysApart rows) (keep : (r : ℕ) → keeps rows r ≡ true) where
@@ -58,33 +58,33 @@ module _ (rows : Rows) (apart : HasKeysApart rows) (keep : (r : ℕ) → keeps r
       let shows = rows_show rows apart keep in
       record {
         version = version_stands db ours sound rows.versions.items raws.versions v one id version;
-        merchants = stand_for tables.merchants db ours sound _ raws.merchants.merchants_are up.merchants
+        merchants = stand_for tables.merchants db ours sound _ raws.merchants up.merchants
             (λ m h.
             let it = shows.merchants m h in
             let name = string_bytes m.name in
             let listed : drop 1 (raw.merchant_values m) ≡ row.merchant_row name _ = grind (arith, it.2) in
             (name, lives_in it.0, listed, ap (option_map lives_in) it.1))
             (λ name x h. let it = mapped_is lives_in _ x h in shows.merchants_there name it.0 it.1);
-        counts = stand_for tables.counts db ours sound _ raws.merchants.counts_are up.counts
+        counts = stand_for tables.counts db ours sound _ raws.counts up.counts
             (λ c h.
             let it = counts_well rows keep c h in
             let at = ap unless_zero (sym (count_held rows apart keep c h)) ∙ unless_some _ it.total.low_is in
             let name = string_bytes c.merchant in
             (_, _, (λ i. Text name ∷ Int (it.kind.is i) ∷ Int (it.total.is i) ∷ []), at))
             counts_there;
-        entries = stand_for tables.entries db ours sound _ raws.others.entries_are up.entries
+        entries = stand_for tables.entries db ours sound _ raws.entries up.entries
             (λ e h.
             let it = shows.entries e h in
             let listed : drop 1 (raw.entry_values e) ≡ row.entry_row _ it.0 = grind (arith, it.2) in
             (entry_key e, it.0, listed, it.1))
             (λ k x h. let it = shows.entries_there k.0 k.1 x h in (it.0, it.1, λ i. (it.2 i, it.3 i)));
-        records = stand_for tables.records db ours sound _ raws.others.records_are up.records
+        records = stand_for tables.records db ours sound _ raws.records up.records
             (λ r h.
             let it = shows.records r h in
             let listed : drop 1 (raw.record_values r) ≡ row.record_row _ it.1 = grind (arith, it.2, it.4) in
             ((string_bytes r.caller, it.0), it.1, listed, it.3))
             (λ k x h. let it = record_row rows k.0 k.1 x h in (it.0, it.1, it.2));
-        rights = stand_for tables.rights db ours sound _ raws.others.rights_are up.rights
+        rights = stand_for tables.rights db ours sound _ raws.rights up.rights
             (λ r h.
             let it = shows.rights r h in
             let listed : drop 1 (raw.right_values r) ≡ row.right_row _ tt = grind (arith, it.1) in

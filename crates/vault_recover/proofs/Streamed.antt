@@ -20,14 +20,15 @@ use Rattle.sqlite_trees.specs.declared.store.Store.{Ghosts}
 use Rattle.sql_maps.proofs.Calls.{reads, was_sound}
 use Rattle.sql_maps.specs.States.{Reads}
 use Rattle.vault_recover.specs.Raw.{IsStrange}
-use Rattle.vault_recover.specs.Reading.{IsUnread, IsUnreadOne, ReadsRows}
+use Rattle.vault_recover.specs.Reading.{IsUnread, ReadsRows}
 use Rattle.vault_recover.specs.declared.fault.ReadFault.{ReadFault}
 use Rattle.vault_recover.specs.declared.fault.ReadFault.TheVariants.{Memory, Store}
 use Rattle.vault_sql.specs.Schema.{vault_schema}
 
 -- a fault that isn't for want of memory comes from an error that isn't
 pub other_cause : (error : Error) (fault : ReadFault)
-    → (fault ≡ Memory) ↔ (error ≡ SqliteFailure OutOfMemory) → fault ≡ Store → error ≢ SqliteFailure OutOfMemory
+    → (fault ≡ Memory) ↔ (error ≡ SqliteFailure OutOfMemory) → fault ≡ Store
+    → error ≢ SqliteFailure OutOfMemory
 other_cause error fault same store memory = absurd (let both = same.1 memory in cc)
 
 -- no raw rows show a list that ends with a strange row
@@ -62,29 +63,17 @@ shown_from text old at new rows plain same h =
       ),
     )
 
--- what isn't read of a database that stayed as it was
-later : {S : Type 0} {g : Ghosts S} {R : Type 0} {text : List ℕ} {values : R → Row} {old mid new : Held S}
-    → (state g mid).now ≡ (state g old).now → IsUnread g text values mid new → IsUnread g text values old new
-later same it = record { at = it.at; same = it.same ∙ same; why = it.why }
-
-pub later_one : {S : Type 0} {g : Ghosts S} {old mid new : Held S} → (state g mid).now ≡ (state g old).now
-    → IsUnreadOne g mid new → IsUnreadOne g old new
-later_one same = elim [
-  | inl it ↦ inl (later same it)
-  | inr (inl it) ↦ inr (inl (later same it))
-  | inr (inr (inl it)) ↦ inr (inr (inl (later same it)))
-  | inr (inr (inr (inl it))) ↦ inr (inr (inr (inl (later same it))))
-  | inr (inr (inr (inr it))) ↦ inr (inr (inr (inr (later same it))))
-]
-
--- after a table that was read
+-- what isn't read after a table that was read
 pub after : {S : Type 0} {g : Ghosts S} {R X E : Type 0} {text : List ℕ} {values : R → Row}
-    {old mid new : Held S} {r : Result X E} {x : X} → r ≡ Ok x → Reads vault_schema r (state g old) (state g mid)
+    (old mid : Held S) {new : Held S} {r : Result X E} {x : X} → r ≡ Ok x
+    → Reads vault_schema r (state g old) (state g mid)
     → HasCleanDisk (state g mid) → (state g old).now.schema ≡ vault_schema
-    → ((state g mid).now.schema ≡ vault_schema → IsUnread g text values mid new) → IsUnread g text values old new
-after is reads clean has unread =
-    let same = (rw is at (reads.kept clean has)).0.now_is in
-    later same (unread (ap (λ (d : Database). d.schema) same ∙ has))
+    → ((state g mid).now.schema ≡ vault_schema → IsUnread g text values (state g mid).now new)
+    → IsUnread g text values (state g old).now new
+after {g = g} {text = text} {values = values} old mid {new} is read clean has unread =
+    let same = (rw is at (read.kept clean has)).0.now_is in
+    subst (λ db. IsUnread g text values db new) same
+    (unread (ap (λ (d : Database). d.schema) same ∙ has))
 
 -- the connection is what the rows lent
 pub settled : {S : Type 0} {g : Ghosts S} {R : Type 0} {s : Schema} {text : List ℕ} {values : R → Row}
@@ -108,20 +97,24 @@ module _ {S : Type 0} (g : Ghosts S) {R : Type 0} (s : Schema) (text : List ℕ)
   plain_in known = subst (λ (x : Schema). IsPlain (understood x text)) (sym known) plain
 
   streamed : (result : Result (Vec R) ReadFault)
-      → (HasCleanDisk is → was.now.schema ≡ s → IfOk result (λ raws. Shown text [] was is (map values raws.items)))
-      → (HasCleanDisk is → was.now.schema ≡ s → IfErr result (λ e. e ≡ Store → IsUnread g text values old new))
+      → (HasCleanDisk is → was.now.schema ≡ s
+      → IfOk result (λ raws. Shown text [] was is (map values raws.items)))
+      → (HasCleanDisk is → was.now.schema ≡ s
+      → IfErr result (λ e. e ≡ Store → IsUnread g text values was.now new))
       → ReadsRows g text values s result old new
   streamed result told refused = record {
     reads = reads (λ raws. map values raws.items) s text [] was is result plain mode survives told;
     told = told;
-    sound = λ clean has. was_sound (λ raws. map values raws.items) s text [] was is result plain has live (told clean has);
+    sound =
+        λ clean has. was_sound (λ raws. map values raws.items) s text [] was is result plain has live
+        (told clean has);
     refused = refused;
   }
 
   -- it stopped before the end
   pub stopped : {P : ReadFault → Type 0} (result : Result (Vec R) ReadFault) → IsErrAnd result P
       → ((fault : ReadFault) → P fault → HasCleanDisk is → IsPlain (understood was.now.schema text)
-      → fault ≡ Store → IsUnread g text values old new)
+      → fault ≡ Store → IsUnread g text values was.now new)
       → ReadsRows g text values s result old new
   stopped (Ok raws) failed why = absurd failed
   stopped (Err fault) failed why =
@@ -130,7 +123,8 @@ module _ {S : Type 0} (g : Ghosts S) {R : Type 0} (s : Schema) (text : List ℕ)
   -- it came to the end
   pub ended : (raws : Vec R) (at : State)
       → (HasCleanDisk is → IsPlain (understood was.now.schema text) → IsUnchanged was at)
-      → (HasCleanDisk is → IsPlain (understood was.now.schema text) → Shown text [] at is (map values raws.items))
+      → (HasCleanDisk is → IsPlain (understood was.now.schema text)
+      → Shown text [] at is (map values raws.items))
       → ReadsRows g text values s (Ok raws) old new
   ended raws at same shown = streamed (Ok raws) (λ clean has. let fine = plain_in has in
       shown_from text was at is _ fine (same clean fine) (shown clean fine)) (λ clean has. tt)

@@ -27,7 +27,8 @@ judged_as : (e : OpenFault) (n : ℤ) → e ≡ WrongSchema n → IsJudged e
 judged_as e n same = subst IsJudged (sym same) tt
 
 -- a version that was told is that of the refusal
-other_as : (db : Database) (e : OpenFault) (n m : ℤ) → e ≡ WrongSchema n → e ≡ WrongSchema m → IsOtherVersion db m → IsOtherVersion db n
+other_as : (db : Database) (e : OpenFault) (n m : ℤ)
+    → e ≡ WrongSchema n → e ≡ WrongSchema m → IsOtherVersion db m → IsOtherVersion db n
 other_as db e n m same told other = subst (IsOtherVersion db) (same_version m n (sym told ∙ same)) other
 
 -- what is told where names are mixed
@@ -39,7 +40,8 @@ wrong_mixed db e mixed told n same = elim (told (judged_as e n same)) as (λ _. 
 ]
 
 -- and where the schema is another program's
-pub wrong_other : (db : Database) (e : OpenFault) → (IsJudged e → TellsVersion db Store e) → (n : ℤ) → e ≡ WrongSchema n → IsWrong db n
+pub wrong_other : (db : Database) (e : OpenFault)
+    → (IsJudged e → TellsVersion db Store e) → (n : ℤ) → e ≡ WrongSchema n → IsWrong db n
 wrong_other db e told n same = elim (told (judged_as e n same)) as (λ _. IsWrong db n) [
   | inl other ↦ inl (other_as db e n other.0 same other.1 other.2)
   | inr store ↦ absurd (let clash = sym same ∙ store.0 in cc)

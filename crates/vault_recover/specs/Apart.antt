@@ -8,8 +8,10 @@ use Rattle.vault_recover.specs.Raw.{merchant_values, count_values, entry_values,
 use Rattle.vault_rules.specs.declared.rows.Rows.{Rows}
 use Rattle.sql_maps.specs.Rows.{IsApart}
 
--- That no rowid comes twice is told: with true it is so, and of rows in the order of their rowids only with true.
-pub record TellsApart {R : Type 0} (values : R → Row) (id : R → ℤ) (rows : List R) (told : Bool) : Type 0 where
+-- That no rowid comes twice is told: with true it is so, and of rows in the order of their rowids only with
+-- true.
+pub record TellsApart {R : Type 0} (values : R → Row) (id : R → ℤ) (rows : List R) (told : Bool) : Type
+    0 where
   pub apart : IsTrue told → IsApart (map values rows)
   pub only : IsSortedByKey id int_cmp rows → IsApart (map values rows) → IsTrue told
 

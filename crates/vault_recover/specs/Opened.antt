@@ -7,7 +7,8 @@ use Rattle.sqlite.specs.Tree.{Trees}
 use Rattle.vault_core.specs.Sound.{Sound}
 use Rattle.vault_core.specs.Vault.{Vault, empty_vault}
 use Rattle.vault_recover.specs.Names.{IsMixed, vault_names}
-use Rattle.vault_recover.specs.Raw.{version_values, merchant_values, count_values, entry_values, record_values, right_values}
+use Rattle.vault_recover.specs.Raw.{version_values, merchant_values, count_values, entry_values}
+use Rattle.vault_recover.specs.Raw.{record_values, right_values}
 use Rattle.vault_recover.specs.Reading.{IsOurs, shown_by, version_columns}
 use Rattle.vault_recover.specs.Sizes.{sizes_of}
 use Rattle.vault_recover.specs.Versions.{other_version}
@@ -16,11 +17,6 @@ use Rattle.vault_recover.specs.declared.fault.OpenFault.TheVariants.{WrongSchema
 use Rattle.vault_recover.specs.declared.sizes.Sizes.{Sizes}
 use Rattle.vault_rules.specs.Rules as rules
 use Rattle.vault_rules.specs.declared.rows.RawVersion.{RawVersion}
-use Rattle.vault_rules.specs.declared.rows.RawMerchant.{RawMerchant}
-use Rattle.vault_rules.specs.declared.rows.RawCount.{RawCount}
-use Rattle.vault_rules.specs.declared.rows.RawEntry.{RawEntry}
-use Rattle.vault_rules.specs.declared.rows.RawRecord.{RawRecord}
-use Rattle.vault_rules.specs.declared.rows.RawRight.{RawRight}
 use Rattle.vault_rules.specs.declared.rows.Rows.{Rows}
 use Rattle.vault_schema.specs.Versioned.{HasVersion}
 use Rattle.vault_sql.specs.Holds.{Holds, LeavesEither, LeavesFirst}
@@ -33,22 +29,14 @@ use Rattle.vault_sql.specs.Stands.{Stands}
 abbrev pub AreVersions : Trees → List RawVersion → Type 0
 AreVersions db versions = IsPermutation (map (shown_by version_columns) (db 0)) (map version_values versions)
 
--- those of merchants and their counts
-pub record AreMerchants (db : Trees) (merchants : List RawMerchant) (counts : List RawCount) : Type 0 where
-  pub merchants_are : IsPermutation (db 1) (map merchant_values merchants)
-  pub counts_are : IsPermutation (db 3) (map count_values counts)
-
--- those of entries, records and rights
-pub record AreOthers (db : Trees) (entries : List RawEntry) (records : List RawRecord) (rights : List RawRight) : Type 0 where
-  pub entries_are : IsPermutation (db 5) (map entry_values entries)
-  pub records_are : IsPermutation (db 8) (map record_values records)
-  pub rights_are : IsPermutation (db 10) (map right_values rights)
-
--- those of all tables
+-- the rows of all tables, each in some order
 pub record AreRaws (db : Trees) (rows : Rows) : Type 0 where
   pub versions : AreVersions db rows.versions.items
-  pub merchants : AreMerchants db rows.merchants.items rows.counts.items
-  pub others : AreOthers db rows.entries.items rows.records.items rows.rights.items
+  pub merchants : IsPermutation (db 1) (map merchant_values rows.merchants.items)
+  pub counts : IsPermutation (db 3) (map count_values rows.counts.items)
+  pub entries : IsPermutation (db 5) (map entry_values rows.entries.items)
+  pub records : IsPermutation (db 8) (map record_values rows.records.items)
+  pub rights : IsPermutation (db 10) (map right_values rows.rights.items)
 
 -- the version is 1, and the rows break this rule and none below it
 pub record IsLeastBroken (db : Database) (rule : ℕ) : Type 0 where
@@ -94,13 +82,15 @@ pub record HoldsSound (s : State) : Type 0 where
   pub sound : Sound vault
   pub holds : Holds s vault
 
--- another version, wherever one is told; else 0, where some of a vault's names are taken and not all, or not alone
+-- another version, wherever one is told; else 0, where some of a vault's names are taken and not all, or
+-- not alone
 abbrev pub IsWrong : Database → ℤ → Type 0
 IsWrong db n = IsOtherVersion db n ⊎ ((n ≡ pos 0) × IsMixed db.schema vault_names × SaysNoOther db)
 
 -- a refusal by another version, or this one where no other is told
 abbrev pub TellsVersion : Database → OpenFault → OpenFault → Type 0
-TellsVersion db refusal e = ((n : ℤ) × (e ≡ WrongSchema n) × IsOtherVersion db n) ⊎ ((e ≡ refusal) × SaysNoOther db)
+TellsVersion db refusal e =
+    ((n : ℤ) × (e ≡ WrongSchema n) × IsOtherVersion db n) ⊎ ((e ≡ refusal) × SaysNoOther db)
 
 -- the database stands for a sound vault, or has no table, index or view
 abbrev pub IsFit : Database → Type 0

@@ -54,18 +54,19 @@ pub record AreTable {R : Type 0} (tree : ℕ) (values : R → Row) (id : R → �
 
 -- a query that failed, but not for want of memory
 abbrev pub Failed : List ℕ → State → State → Type 0
-Failed text old new = (error : Error) × (error ≢ SqliteFailure OutOfMemory) × FailsToQuery text [] old new error
+Failed text old new =
+    (error : Error) × (error ≢ SqliteFailure OutOfMemory) × FailsToQuery text [] old new error
 
 -- an answer that begins with a list of rows which no raw ones show
 abbrev pub ShowsStrange : {R : Type 0} → List ℕ → (R → Row) → State → Type 0
 ShowsStrange text values st = (rows : List Row) × Begins text [] st rows × IsStrange (map values) rows
 
 module _ {S : Type 0} (g : Ghosts S) {R : Type 0} (text : List ℕ) (values : R → Row) where
-  -- Why the rows of a query aren't read, though memory is there: at some row, the database being as it was, the
-  -- query failed, or what it shows is strange.
-  pub record IsUnread (old new : Held S) : Type 0 where
+  -- Why the rows of a query of this database aren't read, though memory is there: at some row the query failed,
+  -- or what it shows is strange.
+  pub record IsUnread (db : Database) (new : Held S) : Type 0 where
     pub at : Held S
-    pub same : (state g at).now ≡ (state g old).now
+    pub same : (state g at).now ≡ db
     pub why : Failed text (state g at) (state g new) ⊎ ShowsStrange text values (state g at)
 
   -- the rows that a query shows in this schema are read, each as it comes, and nothing else is done
@@ -76,29 +77,29 @@ module _ {S : Type 0} (g : Ghosts S) {R : Type 0} (text : List ℕ) (values : R 
     pub sound : HasCleanDisk (state g new) → (state g old).now.schema ≡ s
         → OnOk result (IsDatabase (state g old).now)
     pub refused : HasCleanDisk (state g new) → (state g old).now.schema ≡ s
-        → IfErr result (λ e. e ≡ Store → IsUnread old new)
+        → IfErr result (λ e. e ≡ Store → IsUnread (state g old).now new)
 
   -- a table of a vault's schema is read by this text, and nothing else is done
-  pub record ReadsTable (tree : ℕ) (id : R → ℤ) (result : Result (Vec R) ReadFault) (old new : Held S) : Type 0
+  pub record ReadsTable (tree : ℕ) (id : R → ℤ) (result : Result (Vec R) ReadFault) (old new : Held S) :
+      Type 0
     where
-    pub reads : Reads vault_schema result (state g old) (state g new)
-    pub told : HasCleanDisk (state g new) → (state g old).now.schema ≡ vault_schema
-        → IfOk result (λ raws. AreTable tree values id (state g old).now raws.items)
-    pub refused : HasCleanDisk (state g new) → (state g old).now.schema ≡ vault_schema
-        → IfErr result (λ e. e ≡ Store → IsUnread old new)
+      pub reads : Reads vault_schema result (state g old) (state g new)
+      pub told : HasCleanDisk (state g new) → (state g old).now.schema ≡ vault_schema
+          → IfOk result (λ raws. AreTable tree values id (state g old).now raws.items)
+      pub refused : HasCleanDisk (state g new) → (state g old).now.schema ≡ vault_schema
+          → IfErr result (λ e. e ≡ Store → IsUnread (state g old).now new)
 
 -- why one of the tables beside `vault` isn't read, though memory is there
-abbrev pub IsUnreadOne : {S : Type 0} → Ghosts S → Held S → Held S → Type 0
-IsUnreadOne g old new =
-    IsUnread g READ_MERCHANTS.now merchant_values old new ⊎ (IsUnread g READ_COUNTS.now count_values old new
-    ⊎ (IsUnread g READ_ENTRIES.now entry_values old new ⊎ (IsUnread g READ_RECORDS.now record_values old new
-    ⊎ IsUnread g READ_RIGHTS.now right_values old new)))
+abbrev pub IsUnreadOne : {S : Type 0} → Ghosts S → Database → Held S → Type 0
+IsUnreadOne g db new =
+    IsUnread g READ_MERCHANTS.now merchant_values db new ⊎ (IsUnread g READ_COUNTS.now count_values db new
+    ⊎ (IsUnread g READ_ENTRIES.now entry_values db new ⊎ (IsUnread g READ_RECORDS.now record_values db new
+    ⊎ IsUnread g READ_RIGHTS.now right_values db new)))
 
--- why 33 is told of a file in a vault's schema: a table isn't read, or in one a rowid comes twice
-abbrev pub IsUnreadFile : {S : Type 0} → Ghosts S → Held S → Held S → Type 0
-IsUnreadFile g old new =
-    IsUnread g READ_VERSIONS.now version_values old new ⊎ (IsUnreadOne g old new
-    ⊎ SharesRowid (state g old).now.trees)
+-- why 33 is told of a database in a vault's schema: a table isn't read, or in one a rowid comes twice
+abbrev pub IsUnreadFile : {S : Type 0} → Ghosts S → Database → Held S → Type 0
+IsUnreadFile g db new =
+    IsUnread g READ_VERSIONS.now version_values db new ⊎ (IsUnreadOne g db new ⊎ SharesRowid db.trees)
 
 -- these are the rows of all tables beside `vault`
 pub record AreAll (db : Database) (rows : Rows) : Type 0 where

@@ -15,4 +15,5 @@ counts_of rows = record {
 
 -- how many merchants, entries and records a vault has
 abbrev pub sizes_of : Vault → Sizes
-sizes_of V = record { merchants = map.len V.merchants; entries = map.len V.entries; records = map.len V.records }
+sizes_of V =
+    record { merchants = map.len V.merchants; entries = map.len V.entries; records = map.len V.records }

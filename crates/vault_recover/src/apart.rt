@@ -1,7 +1,8 @@
 //! No rowid comes twice: rows that were read in the order of their rowids show it themselves.
 ghost use Rattle.std.specs.Prelude.{IsTrue};
 ghost use Rattle.vault_recover.specs.Apart.{AreApart, AreByRowid, TellsApart};
-ghost use Rattle.vault_recover.specs.Raw.{merchant_values, count_values, entry_values, record_values, right_values};
+ghost use Rattle.vault_recover.specs.Raw.{merchant_values, count_values, entry_values, record_values};
+ghost use Rattle.vault_recover.specs.Raw.{right_values};
 
 use vault_rules::rows::{RawCount, RawEntry, RawMerchant, RawRecord, RawRight, Rows};
 

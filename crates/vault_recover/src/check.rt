@@ -5,7 +5,8 @@ ghost use Rattle.sqlite.specs.State.{HasCleanDisk, IsUnchanged};
 ghost use Rattle.vault_core.specs.Vault.{empty_vault};
 ghost use Rattle.vault_recover.specs.Faults.{IsJudged};
 ghost use Rattle.vault_recover.specs.Names.{IsForeign, IsMixed, vault_names};
-ghost use Rattle.vault_recover.specs.Opened.{IsFit, IsLeastBroken, IsNoDamage, IsNoRefusal, IsSoundOf, IsWrong};
+ghost use Rattle.vault_recover.specs.Opened.{IsFit, IsLeastBroken, IsNoDamage, IsNoRefusal, IsSoundOf};
+ghost use Rattle.vault_recover.specs.Opened.{IsWrong};
 ghost use Rattle.vault_recover.specs.Reading.{IsFull, IsOurs, IsQuietWhere, IsUnreadFile};
 ghost use Rattle.vault_recover.specs.Sizes.{sizes_of};
 ghost use Rattle.sql_maps.specs.Schema.{no_schema};
@@ -36,8 +37,9 @@ pub fn check<S: Alter>(alloc: Global, conn: &mut Connection<S>) -> Result<Sizes,
     ensures wrong { HasCleanDisk (state S.Store conn.new) → IfErr result (λ e. (n : ℤ) → e ≡ OpenFault.WrongSchema n
         → IsWrong (state S.Store conn.old).now n) }
     ensures unread { HasCleanDisk (state S.Store conn.new) → IfErr result (λ e. e ≡ OpenFault.Store → IsOurs (state S.Store conn.old).now
-        → IsUnreadFile S.Store conn.old conn.new) }
-    ensures never { HasCleanDisk (state S.Store conn.new) → IfErr result (λ e. IsFit (state S.Store conn.old).now → IsNoRefusal e) }
+        → IsUnreadFile S.Store (state S.Store conn.old).now conn.new) }
+    ensures never { HasCleanDisk (state S.Store conn.new)
+        → IfErr result (λ e. IsFit (state S.Store conn.old).now → IsNoRefusal e) }
     ensures mixed { IsForeign (state S.Store conn.old).now.schema → ¬ HasVersion (state S.Store conn.old).now.schema
         → IsMixed (state S.Store conn.old).now.schema vault_names
         → result ≡ Err (OpenFault.WrongSchema (pos 0)) }
@@ -50,7 +52,8 @@ pub fn check<S: Alter>(alloc: Global, conn: &mut Connection<S>) -> Result<Sizes,
     ensures sees { HasCleanDisk (state S.Store conn.new) → IfErr result (λ e. IsJudged e
         → HasVersion (state S.Store conn.old).now.schema → IsUnchanged (state S.Store conn.old) (state S.Store conn.new)) }
     ensures untouched { ¬ HasVersion (state S.Store conn.old).now.schema → conn.new ≡ conn.old }
-    ensures quiet { IsQuietWhere (HasVersion (state S.Store conn.old).now.schema) (state S.Store conn.old) (state S.Store conn.new) }
+    ensures quiet { IsQuietWhere (HasVersion (state S.Store conn.old).now.schema) (state S.Store conn.old)
+        (state S.Store conn.new) }
 {
     match holder_in(conn.schema()) {
         Holder::Nobody => Ok(Sizes::NONE),

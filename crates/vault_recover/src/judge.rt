@@ -37,7 +37,8 @@ pub(crate) fn judge(alloc: Global, rows: &Rows) -> Result<Sizes, OpenFault>
     ensures sizes { IfOk result (λ sizes. sizes ≡ counts_of rows.now) }
     ensures kept { OnOk result ((r : ℕ) → keeps rows.now r ≡ true) }
     ensures apart { OnOk result (AreApart rows.now) }
-    ensures damaged { IfErr result (λ e. (rule : ℕ) → e ≡ OpenFault.Damaged rule → IsLeastBroken rows.now rule) }
+    ensures damaged { IfErr result
+        (λ e. (rule : ℕ) → e ≡ OpenFault.Damaged rule → IsLeastBroken rows.now rule) }
     ensures shared { IfErr result (λ e. e ≡ OpenFault.Store → AreByRowid rows.now → ¬ AreApart rows.now) }
     ensures unbroken { IfErr result (λ e. e ≡ OpenFault.Store → (r : ℕ) → keeps rows.now r ≡ true) }
     ensures versioned { IfErr result (λ e. (n : ℤ) → e ≢ OpenFault.WrongSchema n) }

@@ -26,8 +26,10 @@ fn answered<S: Alter>(
     c: &Command,
 ) -> (Result<Reply, Fault>, Connection<S>)
     requires { HasLivesInRange c.now }
-    ensures answered { HasCleanDisk (state S.Store result.1) → IfOk result.0 (λ reply. (V : Content) → Contains AreHeld vault V → reply ≡ reply_lem V c.now) }
-    ensures crash { HasCleanDisk (state S.Store result.1) → (V : Content) → Contains AreHeld vault V → LeavesBy result.0 (LeavesEither (state S.Store result.1)) V (after_lem V c.now) }
+    ensures answered { HasCleanDisk (state S.Store result.1)
+        → IfOk result.0 (λ reply. (V : Content) → Contains AreHeld vault V → reply ≡ reply_lem V c.now) }
+    ensures crash { HasCleanDisk (state S.Store result.1) → (V : Content) → Contains AreHeld vault V
+        → LeavesBy result.0 (LeavesEither (state S.Store result.1)) V (after_lem V c.now) }
 {
     let mut vault = vault;
     let answer = vault.apply(c);
@@ -41,8 +43,10 @@ pub fn apply_last<D: Disk + Drop>(
     c: &Command,
 ) -> (Result<Reply, Fault>, FileStore<D>)
     requires { HasLivesInRange c.now }
-    ensures answered { IsClean (view result.1) → IfOk result.0 (λ reply. (V : Content) → Contains AreHeld vault V → reply ≡ reply_lem V c.now) }
-    ensures crash { IsClean (view result.1) → (V : Content) → Contains AreHeld vault V → LeavesBy result.0 (ReopensEither result.1) V (after_lem V c.now) }
+    ensures answered { IsClean (view result.1)
+        → IfOk result.0 (λ reply. (V : Content) → Contains AreHeld vault V → reply ≡ reply_lem V c.now) }
+    ensures crash { IsClean (view result.1) → (V : Content) → Contains AreHeld vault V
+        → LeavesBy result.0 (ReopensEither result.1) V (after_lem V c.now) }
 {
     let (answer, conn) = answered(vault, c);
     (answer, close(conn))

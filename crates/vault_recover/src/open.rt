@@ -4,7 +4,8 @@ ghost use Rattle.sqlite.specs.Held.{state};
 ghost use Rattle.sqlite.specs.State.{HasCleanDisk, IsUnchanged};
 ghost use Rattle.vault_recover.specs.Faults.{IsJudged};
 ghost use Rattle.vault_recover.specs.Names.{IsForeign, IsMixed, vault_names};
-ghost use Rattle.vault_recover.specs.Opened.{IsFit, IsLeastBroken, IsNoDamage, IsNoRefusal, IsWrong, LeavesFound, Opens};
+ghost use Rattle.vault_recover.specs.Opened.{IsFit, IsLeastBroken, IsNoDamage, IsNoRefusal, IsWrong};
+ghost use Rattle.vault_recover.specs.Opened.{LeavesFound, Opens};
 ghost use Rattle.vault_recover.specs.Reading.{IsFull, IsOurs, IsQuietWhere, IsUnreadFile};
 ghost use Rattle.sql_maps.specs.Schema.{no_schema};
 ghost use Rattle.vault_schema.specs.Versioned.{HasVersion};
@@ -24,12 +25,21 @@ use vault_store::vault::Vault;
 fn ready<S: Alter>(alloc: Global, conn: &mut Connection<S>) -> Result<(), OpenFault>
     requires idle { conn.old.in_transaction ≡ false }
     requires unlimited { conn.old.step_limit ≡ None }
-    ensures opens { HasCleanDisk (state S.Store conn.new) → OnOk result (Opens (state S.Store conn.old) (state S.Store conn.new)) }
-    ensures damaged { HasCleanDisk (state S.Store conn.new) → IfErr result (λ e. (rule : ℕ) → e ≡ OpenFault.Damaged rule → IsFull (state S.Store conn.old).now → IsLeastBroken (state S.Store conn.old).now rule) }
-    ensures wrong { HasCleanDisk (state S.Store conn.new) → IfErr result (λ e. (n : ℤ) → e ≡ OpenFault.WrongSchema n → IsWrong (state S.Store conn.old).now n) }
-    ensures unread { HasCleanDisk (state S.Store conn.new) → IfErr result (λ e. e ≡ OpenFault.Store → IsOurs (state S.Store conn.old).now → IsUnreadFile S.Store conn.old conn.new) }
-    ensures never { HasCleanDisk (state S.Store conn.new) → IfErr result (λ e. IsFit (state S.Store conn.old).now → IsNoRefusal e) }
-    ensures left { HasCleanDisk (state S.Store conn.new) → LeavesFound (state S.Store conn.old) (state S.Store conn.new) }
+    ensures opens { HasCleanDisk (state S.Store conn.new)
+        → OnOk result (Opens (state S.Store conn.old) (state S.Store conn.new)) }
+    ensures damaged { HasCleanDisk (state S.Store conn.new)
+        → IfErr result (λ e. (rule : ℕ) → e ≡ OpenFault.Damaged rule → IsFull (state S.Store conn.old).now
+        → IsLeastBroken (state S.Store conn.old).now rule) }
+    ensures wrong { HasCleanDisk (state S.Store conn.new)
+        → IfErr result
+        (λ e. (n : ℤ) → e ≡ OpenFault.WrongSchema n → IsWrong (state S.Store conn.old).now n) }
+    ensures unread { HasCleanDisk (state S.Store conn.new)
+        → IfErr result (λ e. e ≡ OpenFault.Store → IsOurs (state S.Store conn.old).now
+        → IsUnreadFile S.Store (state S.Store conn.old).now conn.new) }
+    ensures never { HasCleanDisk (state S.Store conn.new)
+        → IfErr result (λ e. IsFit (state S.Store conn.old).now → IsNoRefusal e) }
+    ensures left { HasCleanDisk (state S.Store conn.new)
+        → LeavesFound (state S.Store conn.old) (state S.Store conn.new) }
     ensures mixed { IsForeign (state S.Store conn.old).now.schema → ¬ HasVersion (state S.Store conn.old).now.schema
         → IsMixed (state S.Store conn.old).now.schema vault_names
         → (result ≡ Err (OpenFault.WrongSchema (pos 0))) × (conn.new ≡ conn.old) }
@@ -74,13 +84,21 @@ pub fn open<S: Alter>(
     requires idle { conn.in_transaction ≡ false }
     requires unlimited { conn.step_limit ≡ None }
     ensures fresh { IfOk result (λ vault. (is_broken vault ≡ false) × ((tables_of vault).failed ≡ false)) }
-    ensures opens { IfOk result (λ vault. HasCleanDisk (state S.Store (tables_of vault).conn) → Opens (state S.Store conn) (state S.Store (tables_of vault).conn)) }
-    ensures damaged { IfErr result (λ e. HasCleanDisk (state S.Store e.1) → (rule : ℕ) → e.0 ≡ OpenFault.Damaged rule → IsFull (state S.Store conn).now → IsLeastBroken (state S.Store conn).now rule) }
-    ensures wrong { IfErr result (λ e. HasCleanDisk (state S.Store e.1) → (n : ℤ) → e.0 ≡ OpenFault.WrongSchema n → IsWrong (state S.Store conn).now n) }
-    ensures unread { IfErr result (λ e. HasCleanDisk (state S.Store e.1) → e.0 ≡ OpenFault.Store → IsOurs (state S.Store conn).now → IsUnreadFile S.Store conn e.1) }
-    ensures never { IfErr result (λ e. HasCleanDisk (state S.Store e.1) → IsFit (state S.Store conn).now → IsNoRefusal e.0) }
-    ensures left { IfOk result (λ vault. HasCleanDisk (state S.Store (tables_of vault).conn) → LeavesFound (state S.Store conn) (state S.Store (tables_of vault).conn)) }
-    ensures left_refused { IfErr result (λ e. HasCleanDisk (state S.Store e.1) → LeavesFound (state S.Store conn) (state S.Store e.1)) }
+    ensures opens { IfOk result (λ vault. HasCleanDisk (state S.Store (tables_of vault).conn)
+        → Opens (state S.Store conn) (state S.Store (tables_of vault).conn)) }
+    ensures damaged { IfErr result
+        (λ e. HasCleanDisk (state S.Store e.1) → (rule : ℕ) → e.0 ≡ OpenFault.Damaged rule
+        → IsFull (state S.Store conn).now → IsLeastBroken (state S.Store conn).now rule) }
+    ensures wrong { IfErr result (λ e. HasCleanDisk (state S.Store e.1) → (n : ℤ)
+        → e.0 ≡ OpenFault.WrongSchema n → IsWrong (state S.Store conn).now n) }
+    ensures unread { IfErr result (λ e. HasCleanDisk (state S.Store e.1) → e.0 ≡ OpenFault.Store
+        → IsOurs (state S.Store conn).now → IsUnreadFile S.Store (state S.Store conn).now e.1) }
+    ensures never { IfErr result
+        (λ e. HasCleanDisk (state S.Store e.1) → IsFit (state S.Store conn).now → IsNoRefusal e.0) }
+    ensures left { IfOk result (λ vault. HasCleanDisk (state S.Store (tables_of vault).conn)
+        → LeavesFound (state S.Store conn) (state S.Store (tables_of vault).conn)) }
+    ensures left_refused { IfErr result
+        (λ e. HasCleanDisk (state S.Store e.1) → LeavesFound (state S.Store conn) (state S.Store e.1)) }
     ensures mixed { IsForeign (state S.Store conn).now.schema → ¬ HasVersion (state S.Store conn).now.schema
         → IsMixed (state S.Store conn).now.schema vault_names
         → result ≡ Err (OpenFault.WrongSchema (pos 0), conn) }

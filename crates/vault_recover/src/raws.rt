@@ -5,7 +5,8 @@ ghost use Rattle.sqlite.specs.Listing.{understood};
 ghost use Rattle.sqlite.specs.Order.{Row as SqlRow};
 ghost use Rattle.sqlite.specs.Schema.{Schema};
 ghost use Rattle.vault_recover.specs.Reading.{ReadsRows};
-ghost use Rattle.vault_recover.specs.Raw.{IsStrange, version_values, merchant_values, count_values, entry_values, record_values, right_values};
+ghost use Rattle.vault_recover.specs.Raw.{IsStrange, version_values, merchant_values, count_values};
+ghost use Rattle.vault_recover.specs.Raw.{entry_values, record_values, right_values};
 
 use crate::columns::Columns;
 use crate::fault::ReadFault;
@@ -129,7 +130,8 @@ pub(crate) fn shown<S: Alter, R: Raw>(
     conn: &mut Connection<S>,
     sql: &str,
 ) -> Result<Vec<R>, ReadFault>
-    ensures { (s : Schema) → IsPlain (understood s sql.now) → ReadsRows S.Store sql.now R.values s result conn.old conn.new }
+    ensures { (s : Schema) → IsPlain (understood s sql.now)
+        → ReadsRows S.Store sql.now R.values s result conn.old conn.new }
 {
     // a database whose schema can be asked for is sound
     let _live = conn.schema();

@@ -4,9 +4,11 @@ ghost use Rattle.sqlite.specs.Effect.{IsDatabase};
 ghost use Rattle.sqlite.specs.Held.{state};
 ghost use Rattle.sqlite.specs.State.{HasCleanDisk, IsUnchanged};
 ghost use Rattle.vault_recover.specs.Opened.{AreVersions};
-ghost use Rattle.vault_recover.specs.Raw.{merchant_values, count_values, entry_values, record_values, right_values, version_values};
+ghost use Rattle.vault_recover.specs.Raw.{merchant_values, count_values, entry_values, record_values};
+ghost use Rattle.vault_recover.specs.Raw.{right_values, version_values};
 ghost use Rattle.vault_recover.specs.Reading.{IsQuietWhere, IsUnread, ReadsTable};
-ghost use Rattle.vault_schema.specs.declared.v1.TheConstants.{READ_COUNTS, READ_ENTRIES, READ_MERCHANTS, READ_RECORDS, READ_RIGHTS, READ_VERSIONS};
+ghost use Rattle.vault_schema.specs.declared.v1.TheConstants.{READ_COUNTS, READ_ENTRIES, READ_MERCHANTS};
+ghost use Rattle.vault_schema.specs.declared.v1.TheConstants.{READ_RECORDS, READ_RIGHTS, READ_VERSIONS};
 ghost use Rattle.vault_schema.specs.Versioned.{HasVersion};
 
 use crate::fault::ReadFault;
@@ -30,8 +32,9 @@ pub(crate) fn version_rows<S: Alter>(
     ensures kept { HasCleanDisk (state S.Store conn.new) → HasVersion (state S.Store conn.old).now.schema
         → OnOk result (IsUnchanged (state S.Store conn.old) (state S.Store conn.new)) }
     ensures refused { HasCleanDisk (state S.Store conn.new) → HasVersion (state S.Store conn.old).now.schema
-        → IfErr result (λ e. e ≡ ReadFault.Store → IsUnread S.Store READ_VERSIONS.now version_values conn.old conn.new) }
-    ensures quiet { IsQuietWhere (HasVersion (state S.Store conn.old).now.schema) (state S.Store conn.old) (state S.Store conn.new) }
+        → IfErr result (λ e. e ≡ ReadFault.Store → IsUnread S.Store READ_VERSIONS.now version_values (state S.Store conn.old).now conn.new) }
+    ensures quiet { IsQuietWhere (HasVersion (state S.Store conn.old).now.schema) (state S.Store conn.old)
+        (state S.Store conn.new) }
 {
     raws::shown(alloc, conn, READ_VERSIONS)
 }
@@ -41,7 +44,8 @@ pub(crate) fn merchants<S: Alter>(
     alloc: Global,
     conn: &mut Connection<S>,
 ) -> Result<Vec<RawMerchant>, ReadFault>
-    ensures { ReadsTable S.Store READ_MERCHANTS.now merchant_values 1 (λ raw. raw.rowid) result conn.old conn.new }
+    ensures { ReadsTable S.Store READ_MERCHANTS.now merchant_values 1 (λ raw. raw.rowid) result conn.old
+        conn.new }
 {
     raws::shown(alloc, conn, READ_MERCHANTS)
 }
@@ -71,7 +75,8 @@ pub(crate) fn records<S: Alter>(
     alloc: Global,
     conn: &mut Connection<S>,
 ) -> Result<Vec<RawRecord>, ReadFault>
-    ensures { ReadsTable S.Store READ_RECORDS.now record_values 8 (λ raw. raw.rowid) result conn.old conn.new }
+    ensures { ReadsTable S.Store READ_RECORDS.now record_values 8 (λ raw. raw.rowid) result conn.old
+        conn.new }
 {
     raws::shown(alloc, conn, READ_RECORDS)
 }

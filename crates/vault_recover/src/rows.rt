@@ -22,7 +22,7 @@ pub(crate) fn rows<S: Alter>(
     ensures told { HasCleanDisk (state S.Store conn.new) → (state S.Store conn.old).now.schema ≡ vault_schema
         → IfOk result (AreAll (state S.Store conn.old).now) }
     ensures refused { HasCleanDisk (state S.Store conn.new) → (state S.Store conn.old).now.schema ≡ vault_schema
-        → IfErr result (λ e. e ≡ ReadFault.Store → IsUnreadOne S.Store conn.old conn.new) }
+        → IfErr result (λ e. e ≡ ReadFault.Store → IsUnreadOne S.Store (state S.Store conn.old).now conn.new) }
     ensures reads { Reads vault_schema result (state S.Store conn.old) (state S.Store conn.new) }
 {
     let merchants = read::merchants(alloc, conn)?;

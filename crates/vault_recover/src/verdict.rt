@@ -17,13 +17,19 @@ use std::alloc::Global;
 
 /// Reads all tables, and says what they hold where they stand for a sound vault.
 pub(crate) fn verdict<S: Alter>(alloc: Global, conn: &mut Connection<S>) -> Result<Sizes, OpenFault>
-    ensures sound { HasCleanDisk (state S.Store conn.new) → IfOk result (λ sizes. IsOurs (state S.Store conn.old).now → IsSoundOf (state S.Store conn.old).now sizes) }
-    ensures kept { HasCleanDisk (state S.Store conn.new) → OnOk result ((state S.Store conn.old).now.schema ≡ vault_schema → IsUnchanged (state S.Store conn.old) (state S.Store conn.new)) }
-    ensures damaged { HasCleanDisk (state S.Store conn.new) → IfErr result (λ e. (rule : ℕ) → e ≡ OpenFault.Damaged rule → IsOurs (state S.Store conn.old).now → IsLeastBroken (state S.Store conn.old).now rule) }
+    ensures sound { HasCleanDisk (state S.Store conn.new)
+        → IfOk result
+        (λ sizes. IsOurs (state S.Store conn.old).now → IsSoundOf (state S.Store conn.old).now sizes) }
+    ensures kept { HasCleanDisk (state S.Store conn.new)
+        → OnOk result ((state S.Store conn.old).now.schema ≡ vault_schema
+        → IsUnchanged (state S.Store conn.old) (state S.Store conn.new)) }
+    ensures damaged { HasCleanDisk (state S.Store conn.new)
+        → IfErr result (λ e. (rule : ℕ) → e ≡ OpenFault.Damaged rule → IsOurs (state S.Store conn.old).now
+        → IsLeastBroken (state S.Store conn.old).now rule) }
     ensures versioned { HasCleanDisk (state S.Store conn.new) → IfErr result (λ e. (n : ℤ) → e ≡ OpenFault.WrongSchema n
         → (state S.Store conn.old).now.schema ≡ vault_schema → IsOtherVersion (state S.Store conn.old).now n) }
     ensures unread { HasCleanDisk (state S.Store conn.new) → IfErr result (λ e. e ≡ OpenFault.Store → IsOurs (state S.Store conn.old).now
-        → IsUnreadFile S.Store conn.old conn.new) }
+        → IsUnreadFile S.Store (state S.Store conn.old).now conn.new) }
     ensures sees { HasCleanDisk (state S.Store conn.new) → IfErr result (λ e. IsJudged e
         → (state S.Store conn.old).now.schema ≡ vault_schema → IsUnchanged (state S.Store conn.old) (state S.Store conn.new)) }
     ensures quiet { IsQuiet (state S.Store conn.old) (state S.Store conn.new) }

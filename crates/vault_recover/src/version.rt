@@ -33,13 +33,15 @@ pub(crate) fn version_or<S: Alter>(
     conn: &mut Connection<S>,
     refusal: OpenFault,
 ) -> OpenFault
-    ensures none { ¬ HasVersion (state S.Store conn.old).now.schema → (result ≡ refusal) × (conn.new ≡ conn.old) }
+    ensures none { ¬ HasVersion (state S.Store conn.old).now.schema
+        → (result ≡ refusal) × (conn.new ≡ conn.old) }
     ensures told { HasCleanDisk (state S.Store conn.new) → IsJudged result
         → TellsVersion (state S.Store conn.old).now refusal result }
     ensures undamaged { IsNoDamage refusal → IsNoDamage result }
     ensures sees { HasCleanDisk (state S.Store conn.new) → HasVersion (state S.Store conn.old).now.schema
         → IsJudged result → IsUnchanged (state S.Store conn.old) (state S.Store conn.new) }
-    ensures quiet { IsQuietWhere (HasVersion (state S.Store conn.old).now.schema) (state S.Store conn.old) (state S.Store conn.new) }
+    ensures quiet { IsQuietWhere (HasVersion (state S.Store conn.old).now.schema) (state S.Store conn.old)
+        (state S.Store conn.new) }
 {
     if !has_version(conn.schema()) {
         return refusal;

@@ -27,7 +27,8 @@ use vault_schema::v1::{FIND_CURRENT, FIND_ENTRY, PUT_ENTRY};
 
 /// The row of an entry.
 fn entry_rows<S: Alter>(conn: &mut Connection<S>, m: &str, token: &str) -> Result<Vec<Row>, Error>
-    ensures { Tells result (state S.Store conn.old) (state S.Store conn.new) (λ V rows. rows.items ≡ one_of entry_columns (entry_at V m.now token.now)) }
+    ensures { Tells result (state S.Store conn.old) (state S.Store conn.new)
+        (λ V rows. rows.items ≡ one_of entry_columns (entry_at V m.now token.now)) }
 {
     rows_of(conn, FIND_ENTRY, params![m, token])
 }
@@ -56,7 +57,8 @@ pub(crate) fn entry<S: Alter>(
     m: &MerchantId,
     token: &Token,
 ) -> Result<Option<Entry>, StoreFault>
-    ensures { Tells result (state S.Store conn.old) (state S.Store conn.new) (λ V found. found ≡ entry_at V m.now token.now) }
+    ensures { Tells result (state S.Store conn.old) (state S.Store conn.new)
+        (λ V found. found ≡ entry_at V m.now token.now) }
 {
     let rows = entry_rows(conn, merchant_text(m), token.as_str())?;
     match rows.first() {
@@ -73,7 +75,10 @@ fn current_rows<S: Alter>(
     at: u64,
 ) -> Result<Vec<Row>, Error>
     requires { at < 2 ^ 63 }
-    ensures { Tells result (state S.Store conn.old) (state S.Store conn.new) (λ V rows. Sound V → moment_at V m.now at ≡ at → rows.items ≡ one_of text_column (option_map (λ held. held.0) (current_lem V m.now number.now at))) }
+    ensures { Tells result (state S.Store conn.old) (state S.Store conn.new)
+        (λ V rows. Sound V → moment_at V m.now at ≡ at
+        → rows.items
+        ≡ one_of text_column (option_map (λ held. held.0) (current_lem V m.now number.now at))) }
 {
     rows_of(conn, FIND_CURRENT, params![m, number, at as i64])
 }
@@ -85,7 +90,9 @@ pub(crate) fn current<S: Alter>(
     number: &Pan,
     at: Moment,
 ) -> Result<Option<Token>, StoreFault>
-    ensures { Tells result (state S.Store conn.old) (state S.Store conn.new) (λ V found. Sound V → moment_at V m.now at ≡ at → found ≡ option_map (λ held. held.0) (current_lem V m.now number.now at)) }
+    ensures { Tells result (state S.Store conn.old) (state S.Store conn.new)
+        (λ V found. Sound V → moment_at V m.now at ≡ at
+        → found ≡ option_map (λ held. held.0) (current_lem V m.now number.now at)) }
 {
     let rows = current_rows(conn, merchant_text(m), number.as_str(), at.seconds())?;
     match rows.first() {
@@ -103,7 +110,9 @@ pub(crate) fn put_entry<S: Alter>(
 ) -> Result<(), Error>
     requires { entry.now.expires < 2 ^ 63 }
     ensures same_reference { tx.new.conn.ghost_name ≡ tx.old.conn.ghost_name }
-    ensures done { Makes result (state S.Store tx.old.conn.now) (state S.Store tx.new.conn.now) (λ _. Unit {0}) (λ h. record h { entries = put entry_cmp h.entries (m.now, token.now) (Some entry.now) }) }
+    ensures done { Makes result (state S.Store tx.old.conn.now) (state S.Store tx.new.conn.now)
+        (λ _. Unit {0})
+        (λ h. record h { entries = put entry_cmp h.entries (m.now, token.now) (Some entry.now) }) }
 {
     let usage = usage_number(entry.usage);
     let birth = entry.birth.seconds();

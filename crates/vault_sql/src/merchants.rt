@@ -35,7 +35,8 @@ pub(crate) const DENIED: u8 = 3;
 
 /// The row of a merchant's lives.
 fn lives_rows<S: Alter>(conn: &mut Connection<S>, m: &str) -> Result<Vec<Row>, Error>
-    ensures { Tells result (state S.Store conn.old) (state S.Store conn.new) (λ V rows. rows.items ≡ one_of lives_columns (option_map lives_in (merchant_at V m.now))) }
+    ensures { Tells result (state S.Store conn.old) (state S.Store conn.new)
+        (λ V rows. rows.items ≡ one_of lives_columns (option_map lives_in (merchant_at V m.now))) }
 {
     rows_of(conn, FIND_LIVES, params![m])
 }
@@ -56,7 +57,8 @@ fn lives_of(row: &Row) -> Result<Lives, StoreFault>
 
 /// The lives of a merchant.
 fn lives_at<S: Alter>(conn: &mut Connection<S>, m: &MerchantId) -> Result<Option<Lives>, StoreFault>
-    ensures { Tells result (state S.Store conn.old) (state S.Store conn.new) (λ V found. found ≡ option_map lives_in (merchant_at V m.now)) }
+    ensures { Tells result (state S.Store conn.old) (state S.Store conn.new)
+        (λ V found. found ≡ option_map lives_in (merchant_at V m.now)) }
 {
     let rows = lives_rows(conn, merchant_text(m))?;
     match rows.first() {
@@ -67,7 +69,8 @@ fn lives_at<S: Alter>(conn: &mut Connection<S>, m: &MerchantId) -> Result<Option
 
 /// The rows of a merchant's counts.
 fn count_rows<S: Alter>(conn: &mut Connection<S>, m: &str) -> Result<Vec<Row>, Error>
-    ensures { Tells result (state S.Store conn.old) (state S.Store conn.new) (λ V rows. ShowsCounts rows.items V m.now) }
+    ensures { Tells result (state S.Store conn.old) (state S.Store conn.new)
+        (λ V rows. ShowsCounts rows.items V m.now) }
 {
     rows_of(conn, FIND_COUNTS, params![m])
 }
@@ -90,7 +93,8 @@ pub(crate) fn merchant<S: Alter>(
     conn: &mut Connection<S>,
     m: &MerchantId,
 ) -> Result<Option<MerchantRow>, StoreFault>
-    ensures { Tells result (state S.Store conn.old) (state S.Store conn.new) (λ V found. found ≡ row_at V m.now) }
+    ensures { Tells result (state S.Store conn.old) (state S.Store conn.new)
+        (λ V found. found ≡ row_at V m.now) }
 {
     let Some(lives) = lives_at(conn, m)? else {
         return Ok(None);
@@ -111,14 +115,16 @@ pub(crate) fn merchant<S: Alter>(
 
 /// The row of the number of merchants.
 fn how_many_rows<S: Alter>(conn: &mut Connection<S>) -> Result<Vec<Row>, Error>
-    ensures { Tells result (state S.Store conn.old) (state S.Store conn.new) (λ V rows. Sound V → rows.items ≡ number_column (map.len V.merchants) ∷ []) }
+    ensures { Tells result (state S.Store conn.old) (state S.Store conn.new)
+        (λ V rows. Sound V → rows.items ≡ number_column (map.len V.merchants) ∷ []) }
 {
     rows_of(conn, COUNT_MERCHANTS, &[])
 }
 
 /// How many merchants there are.
 pub(crate) fn how_many<S: Alter>(conn: &mut Connection<S>) -> Result<u64, StoreFault>
-    ensures { Tells result (state S.Store conn.old) (state S.Store conn.new) (λ V found. Sound V → found ≡ map.len V.merchants) }
+    ensures { Tells result (state S.Store conn.old) (state S.Store conn.new)
+        (λ V found. Sound V → found ≡ map.len V.merchants) }
 {
     let rows = how_many_rows(conn)?;
     match rows.first() {
@@ -136,7 +142,8 @@ pub(crate) fn put_merchant<S: Alter>(
     requires single { x.now.single_life < 2 ^ 63 }
     requires multi { x.now.multi_life < 2 ^ 63 }
     ensures same_reference { tx.new.conn.ghost_name ≡ tx.old.conn.ghost_name }
-    ensures done { Makes result (state S.Store tx.old.conn.now) (state S.Store tx.new.conn.now) (λ _. Unit {0}) (λ h. record h { merchants = put bytes_cmp h.merchants m.now (Some x.now) }) }
+    ensures done { Makes result (state S.Store tx.old.conn.now) (state S.Store tx.new.conn.now)
+        (λ _. Unit {0}) (λ h. record h { merchants = put bytes_cmp h.merchants m.now (Some x.now) }) }
 {
     let moment = x.moment.seconds();
     step(
@@ -149,7 +156,9 @@ pub(crate) fn put_merchant<S: Alter>(
 /// Raises a count of a merchant by one.
 pub(crate) fn raise<S: Alter>(tx: &mut Transaction<'_, S>, m: &str, kind: u8) -> Result<(), Error>
     ensures same_reference { tx.new.conn.ghost_name ≡ tx.old.conn.ghost_name }
-    ensures done { Makes result (state S.Store tx.old.conn.now) (state S.Store tx.new.conn.now) (λ h. HasRoomAt h.counts (m.now, kind)) (λ h. record h { counts = raise_at h.counts (m.now, kind) }) }
+    ensures done { Makes result (state S.Store tx.old.conn.now) (state S.Store tx.new.conn.now)
+        (λ h. HasRoomAt h.counts (m.now, kind))
+        (λ h. record h { counts = raise_at h.counts (m.now, kind) }) }
 {
     step(tx, RAISE_COUNT, params![m, kind as i64])
 }

@@ -26,7 +26,8 @@ fn record_rows<S: Alter>(
     request: u64,
 ) -> Result<Vec<Row>, Error>
     requires { request < 2 ^ 63 }
-    ensures { Tells result (state S.Store conn.old) (state S.Store conn.new) (λ V rows. rows.items ≡ one_of record_columns (record_at V caller.now request)) }
+    ensures { Tells result (state S.Store conn.old) (state S.Store conn.new)
+        (λ V rows. rows.items ≡ one_of record_columns (record_at V caller.now request)) }
 {
     rows_of(conn, FIND_RECORD, params![caller, request as i64])
 }
@@ -51,7 +52,8 @@ pub(crate) fn recorded<S: Alter>(
     caller: &Caller,
     request: RequestNo,
 ) -> Result<Option<Record>, StoreFault>
-    ensures { Tells result (state S.Store conn.old) (state S.Store conn.new) (λ V found. found ≡ record_at V caller.now request) }
+    ensures { Tells result (state S.Store conn.old) (state S.Store conn.new)
+        (λ V found. found ≡ record_at V caller.now request) }
 {
     let rows = record_rows(conn, caller_text(caller), request.get())?;
     match rows.first() {
@@ -69,7 +71,9 @@ pub(crate) fn put_record<S: Alter>(
 ) -> Result<(), Error>
     requires { request < 2 ^ 63 }
     ensures same_reference { tx.new.conn.ghost_name ≡ tx.old.conn.ghost_name }
-    ensures done { Makes result (state S.Store tx.old.conn.now) (state S.Store tx.new.conn.now) (λ _. Unit {0}) (λ h. record h { records = put record_cmp h.records (caller.now, request) (Some answered.now) }) }
+    ensures done { Makes result (state S.Store tx.old.conn.now) (state S.Store tx.new.conn.now)
+        (λ _. Unit {0})
+        (λ h. record h { records = put record_cmp h.records (caller.now, request) (Some answered.now) }) }
 {
     let m = merchant_text(&answered.merchant);
     let token = answered.token.as_str();

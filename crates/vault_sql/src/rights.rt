@@ -36,7 +36,9 @@ fn right_rows<S: Alter>(
     m: &str,
     right: Right,
 ) -> Result<Vec<Row>, Error>
-    ensures { Tells result (state S.Store conn.old) (state S.Store conn.new) (λ V rows. rows.items ≡ cond (has_right V caller.now m.now right) (number_column (right_number right) ∷ []) []) }
+    ensures { Tells result (state S.Store conn.old) (state S.Store conn.new)
+        (λ V rows. rows.items
+        ≡ cond (has_right V caller.now m.now right) (number_column (right_number right) ∷ []) []) }
 {
     let what = number_of(right);
     rows_of(conn, FIND_RIGHT, params![caller, m, what as i64])
@@ -49,7 +51,8 @@ pub(crate) fn has<S: Alter>(
     m: &MerchantId,
     right: Right,
 ) -> Result<bool, StoreFault>
-    ensures { Tells result (state S.Store conn.old) (state S.Store conn.new) (λ V found. found ≡ has_right V caller.now m.now right) }
+    ensures { Tells result (state S.Store conn.old) (state S.Store conn.new)
+        (λ V found. found ≡ has_right V caller.now m.now right) }
 {
     let rows = right_rows(conn, caller_text(caller), merchant_text(m), right)?;
     Ok(!rows.is_empty())
@@ -63,7 +66,9 @@ pub(crate) fn give<S: Alter>(
     right: Right,
 ) -> Result<(), Error>
     ensures same_reference { tx.new.conn.ghost_name ≡ tx.old.conn.ghost_name }
-    ensures done { Makes result (state S.Store tx.old.conn.now) (state S.Store tx.new.conn.now) (λ _. Unit {0}) (λ h. record h { rights = put right_cmp h.rights (caller.now, (m.now, right)) (Some tt) }) }
+    ensures done { Makes result (state S.Store tx.old.conn.now) (state S.Store tx.new.conn.now)
+        (λ _. Unit {0})
+        (λ h. record h { rights = put right_cmp h.rights (caller.now, (m.now, right)) (Some tt) }) }
 {
     let what = number_of(right);
     step(tx, GIVE_RIGHT, params![caller, m, what as i64])
@@ -77,7 +82,9 @@ pub(crate) fn take<S: Alter>(
     right: Right,
 ) -> Result<(), Error>
     ensures same_reference { tx.new.conn.ghost_name ≡ tx.old.conn.ghost_name }
-    ensures done { Makes result (state S.Store tx.old.conn.now) (state S.Store tx.new.conn.now) (λ _. Unit {0}) (λ h. record h { rights = put right_cmp h.rights (caller.now, (m.now, right)) None }) }
+    ensures done { Makes result (state S.Store tx.old.conn.now) (state S.Store tx.new.conn.now)
+        (λ _. Unit {0})
+        (λ h. record h { rights = put right_cmp h.rights (caller.now, (m.now, right)) None }) }
 {
     let what = number_of(right);
     step(tx, TAKE_RIGHT, params![caller, m, what as i64])

@@ -39,7 +39,9 @@ fn is_blank(schema: &Schema) -> bool
 fn create_tables<S: Alter>(tx: &mut Transaction<'_, S>) -> Result<(), Error>
     ensures same_reference { tx.new.conn.ghost_name ≡ tx.old.conn.ghost_name }
     ensures steps { Steps (state S.Store tx.old.conn.now) (state S.Store tx.new.conn.now) }
-    ensures done { HasCleanDisk (state S.Store tx.new.conn.now) → OnOk result ((base : _) → IsBegun (state S.Store tx.old.conn.now) base → IsWithin (state S.Store tx.new.conn.now) base (lookups_of empty_vault)) }
+    ensures done { HasCleanDisk (state S.Store tx.new.conn.now)
+        → OnOk result ((base : _) → IsBegun (state S.Store tx.old.conn.now) base
+        → IsWithin (state S.Store tx.new.conn.now) base (lookups_of empty_vault)) }
 {
     step(tx, CREATE_VAULT, &[])?;
     step(tx, CREATE_MERCHANTS, &[])?;
@@ -56,7 +58,9 @@ fn create_all<S: Alter>(conn: &mut Connection<S>) -> Result<(), Error>
     requires idle { conn.old.in_transaction ≡ false }
     ensures idle { conn.new.in_transaction ≡ false }
     ensures clean { doubt (state S.Store conn.old).is_clean ≤ doubt (state S.Store conn.new).is_clean }
-    ensures done { HasCleanDisk (state S.Store conn.new) → OnOk result (IsReady (state S.Store conn.old) → (state S.Store conn.old).now.schema ≡ no_schema → Holds (state S.Store conn.new) empty_vault) }
+    ensures done { HasCleanDisk (state S.Store conn.new)
+        → OnOk result (IsReady (state S.Store conn.old) → (state S.Store conn.old).now.schema ≡ no_schema
+        → Holds (state S.Store conn.new) empty_vault) }
     ensures crash { HasCleanDisk (state S.Store conn.new)
         → IsReady (state S.Store conn.old) → (state S.Store conn.old).now.schema ≡ no_schema
         → LeavesFirst (state S.Store conn.new) (state S.Store conn.old).committed.trees }
@@ -73,7 +77,8 @@ pub fn make_schema<S: Alter>(conn: &mut Connection<S>) -> Result<(), SchemaFault
     ensures idle { conn.new.in_transaction ≡ false }
     ensures clean { doubt (state S.Store conn.old).is_clean ≤ doubt (state S.Store conn.new).is_clean }
     ensures blank { OnOk result ((state S.Store conn.old).now.schema ≡ no_schema) }
-    ensures done { HasCleanDisk (state S.Store conn.new) → OnOk result (IsReady (state S.Store conn.old) → Holds (state S.Store conn.new) empty_vault) }
+    ensures done { HasCleanDisk (state S.Store conn.new)
+        → OnOk result (IsReady (state S.Store conn.old) → Holds (state S.Store conn.new) empty_vault) }
     ensures taken { (result ≡ Err SchemaFault.Taken) ↔ (¬ ((state S.Store conn.old).now.schema ≡ no_schema)) }
     ensures unchanged { result ≡ Err SchemaFault.Taken → conn.new ≡ conn.old }
     ensures crash { HasCleanDisk (state S.Store conn.new) → IsReady (state S.Store conn.old)

@@ -11,7 +11,9 @@ ghost use Rattle.sql_maps.specs.Rows.{put};
 ghost use Rattle.vault_sql.specs.Calls.{Makes};
 ghost use Rattle.vault_sql.specs.Holds.{Holds, LeavesEither};
 ghost use Rattle.vault_sql.specs.Storable.{AreStorable, IsStorableEntry, IsStorableLives};
-ghost use Rattle.vault_sql.specs.Written.{HasRoom, kind_of as kind_of_lem, put_entry as put_entry_lem, put_lives, put_record as put_record_lem, put_right, raise as raise_lem};
+ghost use Rattle.vault_sql.specs.Written.{HasRoom, kind_of as kind_of_lem, put_entry as put_entry_lem};
+ghost use Rattle.vault_sql.specs.Written.{put_lives, put_record as put_record_lem, put_right};
+ghost use Rattle.vault_sql.specs.Written.{raise as raise_lem};
 
 use crate::entries::put_entry;
 use crate::merchants::{DENIED, GIVEN, MADE, put_merchant, raise};
@@ -75,7 +77,8 @@ fn write_lives<S: Alter>(
 ) -> Result<(), Error>
     requires { IsStorableLives lives.now }
     ensures same_reference { tx.new.conn.ghost_name ≡ tx.old.conn.ghost_name }
-    ensures done { Makes result (state S.Store tx.old.conn.now) (state S.Store tx.new.conn.now) (λ _. Unit {0}) (λ h. record h { merchants = put_lives h.merchants lives.now }) }
+    ensures done { Makes result (state S.Store tx.old.conn.now) (state S.Store tx.new.conn.now)
+        (λ _. Unit {0}) (λ h. record h { merchants = put_lives h.merchants lives.now }) }
 {
     match lives {
         Some(x) => {
@@ -97,7 +100,9 @@ fn write_count<S: Alter>(
     count: Option<Count>,
 ) -> Result<(), Error>
     ensures same_reference { tx.new.conn.ghost_name ≡ tx.old.conn.ghost_name }
-    ensures done { Makes result (state S.Store tx.old.conn.now) (state S.Store tx.new.conn.now) (λ h. HasRoom h.counts lives.now count) (λ h. record h { counts = raise_lem h.counts lives.now count }) }
+    ensures done { Makes result (state S.Store tx.old.conn.now) (state S.Store tx.new.conn.now)
+        (λ h. HasRoom h.counts lives.now count)
+        (λ h. record h { counts = raise_lem h.counts lives.now count }) }
 {
     let Some(x) = lives else {
         return Ok(());
@@ -115,7 +120,8 @@ fn write_entry<S: Alter>(
 ) -> Result<(), Error>
     requires { IsStorableEntry change.now }
     ensures same_reference { tx.new.conn.ghost_name ≡ tx.old.conn.ghost_name }
-    ensures done { Makes result (state S.Store tx.old.conn.now) (state S.Store tx.new.conn.now) (λ _. Unit {0}) (λ h. record h { entries = put_entry_lem h.entries change.now }) }
+    ensures done { Makes result (state S.Store tx.old.conn.now) (state S.Store tx.new.conn.now)
+        (λ _. Unit {0}) (λ h. record h { entries = put_entry_lem h.entries change.now }) }
 {
     match change {
         Some((m, token, entry)) => put_entry(tx, merchant_text(m), token.as_str(), entry),
@@ -129,7 +135,8 @@ fn write_record<S: Alter>(
     change: &Option<(Caller, RequestNo, Record)>,
 ) -> Result<(), Error>
     ensures same_reference { tx.new.conn.ghost_name ≡ tx.old.conn.ghost_name }
-    ensures done { Makes result (state S.Store tx.old.conn.now) (state S.Store tx.new.conn.now) (λ _. Unit {0}) (λ h. record h { records = put_record_lem h.records change.now }) }
+    ensures done { Makes result (state S.Store tx.old.conn.now) (state S.Store tx.new.conn.now)
+        (λ _. Unit {0}) (λ h. record h { records = put_record_lem h.records change.now }) }
 {
     match change {
         Some((caller, request, answered)) => {
@@ -148,7 +155,11 @@ fn set_right<S: Alter>(
     is_given: bool,
 ) -> Result<(), Error>
     ensures same_reference { tx.new.conn.ghost_name ≡ tx.old.conn.ghost_name }
-    ensures done { Makes result (state S.Store tx.old.conn.now) (state S.Store tx.new.conn.now) (λ _. Unit {0}) (λ h. record h { rights = put right_cmp h.rights (caller.now, (m.now, right)) (if is_given then Some tt else None) }) }
+    ensures done { Makes result (state S.Store tx.old.conn.now) (state S.Store tx.new.conn.now)
+        (λ _. Unit {0}) (λ h. record h {
+          rights =
+              put right_cmp h.rights (caller.now, (m.now, right)) (if is_given then Some tt else None);
+        }) }
 {
     if is_given {
         give(tx, caller_text(caller), merchant_text(m), right)
@@ -163,7 +174,8 @@ fn write_right<S: Alter>(
     change: &Option<(Caller, MerchantId, Right, bool)>,
 ) -> Result<(), Error>
     ensures same_reference { tx.new.conn.ghost_name ≡ tx.old.conn.ghost_name }
-    ensures done { Makes result (state S.Store tx.old.conn.now) (state S.Store tx.new.conn.now) (λ _. Unit {0}) (λ h. record h { rights = put_right h.rights change.now }) }
+    ensures done { Makes result (state S.Store tx.old.conn.now) (state S.Store tx.new.conn.now)
+        (λ _. Unit {0}) (λ h. record h { rights = put_right h.rights change.now }) }
 {
     match change {
         Some((caller, m, right, is_given)) => set_right(tx, caller, m, *right, *is_given),
@@ -175,7 +187,12 @@ fn write_right<S: Alter>(
 fn write_merchant<S: Alter>(tx: &mut Transaction<'_, S>, ch: &Changes) -> Result<(), Error>
     requires { AreStorable ch.now }
     ensures same_reference { tx.new.conn.ghost_name ≡ tx.old.conn.ghost_name }
-    ensures done { Makes result (state S.Store tx.old.conn.now) (state S.Store tx.new.conn.now) (λ h. HasRoom h.counts ch.now.lives ch.now.count) (λ h. record h { merchants = put_lives h.merchants ch.now.lives; counts = raise_lem h.counts ch.now.lives ch.now.count; entries = put_entry_lem h.entries ch.now.entry }) }
+    ensures done { Makes result (state S.Store tx.old.conn.now) (state S.Store tx.new.conn.now)
+        (λ h. HasRoom h.counts ch.now.lives ch.now.count) (λ h. record h {
+          merchants = put_lives h.merchants ch.now.lives;
+          counts = raise_lem h.counts ch.now.lives ch.now.count;
+          entries = put_entry_lem h.entries ch.now.entry;
+        }) }
 {
     write_lives(tx, &ch.lives)?;
     write_count(tx, &ch.lives, ch.count)?;
@@ -185,7 +202,9 @@ fn write_merchant<S: Alter>(tx: &mut Transaction<'_, S>, ch: &Changes) -> Result
 /// Writes what changes of a caller's records and rights.
 fn write_caller<S: Alter>(tx: &mut Transaction<'_, S>, ch: &Changes) -> Result<(), Error>
     ensures same_reference { tx.new.conn.ghost_name ≡ tx.old.conn.ghost_name }
-    ensures done { Makes result (state S.Store tx.old.conn.now) (state S.Store tx.new.conn.now) (λ _. Unit {0}) (λ h. record h { records = put_record_lem h.records ch.now.recorded; rights = put_right h.rights ch.now.right }) }
+    ensures done { Makes result (state S.Store tx.old.conn.now) (state S.Store tx.new.conn.now)
+        (λ _. Unit {0}) (λ h. record h
+        { records = put_record_lem h.records ch.now.recorded; rights = put_right h.rights ch.now.right }) }
 {
     write_record(tx, &ch.recorded)?;
     write_right(tx, &ch.right)
@@ -197,8 +216,11 @@ pub(crate) fn write<S: Alter>(conn: &mut Connection<S>, ch: &Changes) -> Result<
     requires idle { conn.old.in_transaction ≡ false }
     ensures idle { conn.new.in_transaction ≡ false }
     ensures clean { doubt (state S.Store conn.old).is_clean ≤ doubt (state S.Store conn.new).is_clean }
-    ensures done { HasCleanDisk (state S.Store conn.new) → OnOk result ((V : Vault) → Holds (state S.Store conn.old) V → Sound V → Fit V ch.now → Holds (state S.Store conn.new) (plus V ch.now)) }
-    ensures crash { HasCleanDisk (state S.Store conn.new) → (V : Vault) → Holds (state S.Store conn.old) V → Sound V → Fit V ch.now → LeavesEither (state S.Store conn.new) V (plus V ch.now) }
+    ensures done { HasCleanDisk (state S.Store conn.new)
+        → OnOk result ((V : Vault) → Holds (state S.Store conn.old) V → Sound V → Fit V ch.now
+        → Holds (state S.Store conn.new) (plus V ch.now)) }
+    ensures crash { HasCleanDisk (state S.Store conn.new) → (V : Vault) → Holds (state S.Store conn.old) V
+        → Sound V → Fit V ch.now → LeavesEither (state S.Store conn.new) V (plus V ch.now) }
 {
     let mut tx = conn.transaction();
     write_merchant(&mut tx, ch)?;

@@ -13,7 +13,8 @@ returns-in-Nobody-clause-sound g c clean full =
 pub returns-in-Vault-clause-damaged : goal.returns-in-Vault-clause-damaged
 returns-in-Vault-clause-damaged g c clean =
     let vault = held_by _ _ _ _ c.in-Vault.is c.schema.ensures.value c.holder_in.ensures in
-    if_err c.verdict.result (λ fault broken rule same full. broken rule same (record { schema = vault; full = full }))
+    if_err c.verdict.result
+    (λ fault broken rule same full. broken rule same (record { schema = vault; full = full }))
     (c.verdict.ensures.damaged clean)
 
 pub returns-in-Vault-clause-never : goal.returns-in-Vault-clause-never
@@ -25,7 +26,8 @@ returns-in-Vault-clause-never g c clean =
 pub returns-in-Mixed-clause-wrong : goal.returns-in-Mixed-clause-wrong
 returns-in-Mixed-clause-wrong g c clean =
     wrong_mixed (state g.S.Store c.args.conn.now).now c.version_or.result
-    (held_by _ _ _ _ c.in-Mixed.is c.schema.ensures.value c.holder_in.ensures).1 (c.version_or.ensures.told clean)
+    (held_by _ _ _ _ c.in-Mixed.is c.schema.ensures.value c.holder_in.ensures).1
+    (c.version_or.ensures.told clean)
 
 pub returns-in-Other-clause-wrong : goal.returns-in-Other-clause-wrong
 returns-in-Other-clause-wrong g c clean =

@@ -7,7 +7,8 @@ use Rattle.vault_recover.proofs.last.apply_last.Given.{Over}
 use Rattle.vault_recover.proofs.last.apply_last.Goals as goal
 use Rattle.vault_recover.proofs.LeftBy.{left_by}
 
-honest : (g : Over) (c : goal.After-close g) → IsClean (view c.close.result) → HasCleanDisk (file_state c.answered-answer.result.1)
+honest : (g : Over) (c : goal.After-close g) → IsClean (view c.close.result)
+    → HasCleanDisk (file_state c.answered-answer.result.1)
 honest g c clean = omega (arith, c.close.ensures.clean, clean)
 
 pub returns-clause-answered : goal.returns-clause-answered

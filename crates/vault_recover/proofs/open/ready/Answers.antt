@@ -10,7 +10,8 @@ pub returns-in-Ok-verdict-clause-opens : goal.returns-in-Ok-verdict-clause-opens
 returns-in-Ok-verdict-clause-opens g c clean =
     opens_vault (state g.S.Store c.args.conn.now) (state g.S.Store c.verdict.new.conn)
     c.is_autocommit-settled.result c.in-Ok-verdict.field-0
-    c.is_autocommit-settled.ensures.value c.requires.idle c.requires.unlimited c.is_autocommit-settled.ensures.settled
+    c.is_autocommit-settled.ensures.value c.requires.idle c.requires.unlimited
+    c.is_autocommit-settled.ensures.settled
     (held_by _ _ _ _ c.in-Vault.is c.schema.ensures.value c.holder_in.ensures) c.verdict.ensures.quiet.limit
     (c.in-Ok-verdict.ensures.sound clean) (c.in-Ok-verdict.ensures.kept clean)
 
@@ -25,12 +26,14 @@ pub returns-in-Err-verdict-clause-never : goal.returns-in-Err-verdict-clause-nev
 returns-in-Err-verdict-clause-never g c clean =
     no_refusal {A = Unit {0}} (state g.S.Store c.args.conn.now).now
     (held_by _ _ _ _ c.in-Vault.is c.schema.ensures.value c.holder_in.ensures)
-    (Err c.in-Err-verdict.fault) (c.in-Err-verdict.ensures.damaged clean) (c.in-Err-verdict.ensures.versioned clean)
+    (Err c.in-Err-verdict.fault) (c.in-Err-verdict.ensures.damaged clean)
+    (c.in-Err-verdict.ensures.versioned clean)
 
 pub returns-in-Mixed-clause-wrong : goal.returns-in-Mixed-clause-wrong
 returns-in-Mixed-clause-wrong g c clean =
     wrong_mixed (state g.S.Store c.args.conn.now).now c.version_or.result
-    (held_by _ _ _ _ c.in-Mixed.is c.schema.ensures.value c.holder_in.ensures).1 (c.version_or.ensures.told clean)
+    (held_by _ _ _ _ c.in-Mixed.is c.schema.ensures.value c.holder_in.ensures).1
+    (c.version_or.ensures.told clean)
 
 pub returns-in-Other-clause-wrong : goal.returns-in-Other-clause-wrong
 returns-in-Other-clause-wrong g c clean =

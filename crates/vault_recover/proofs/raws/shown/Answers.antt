@@ -29,8 +29,11 @@ returns-in_err-row g c s plain =
     let before = c.rows.invariant.3 (omega (arith, moved.survives.clean, clean)) fine in record {
       at = c.rows.rows.conn.now;
       same = before.1.0.now_is;
-      why = inl (_, other_cause _ fault cause store,
-          (rw c.in_err-row.was at (moved.err clean)) c.args.sql.now [] _ before.0);
+      why = inl (
+        _,
+        other_cause _ fault cause store,
+        (rw c.in_err-row.was at (moved.err clean)) c.args.sql.now [] _ before.0,
+      );
     })) (search rules)
 
 pub returns-in_err-read : goal.returns-in_err-read
@@ -43,11 +46,15 @@ returns-in_err-read g c s plain =
     c.from_residual-in_err-read.ensures.1
     (λ fault cause clean fine store.
     let before = c.rows.invariant.3 (omega (arith, moved.survives.clean, clean)) fine in
-    let given = (rw (c.in_ok-row.was, c.in-Some.is) at (moved.ok clean)) c.args.sql.now [] _ before.0 in record {
+    let given = (rw (c.in_ok-row.was, c.in-Some.is) at (moved.ok clean)) c.args.sql.now [] _ before.0 in
+    record {
       at = now;
       same = (unchanged_then _ _ _ before.1 (rw c.in_ok-row.was at (moved.same clean))).0.now_is;
-      why = inr (_, given_begin g.S.Store _ _ now _ given,
-          strange_end g.R.Raw.values _ (c.in_err-read.ensures.refused (sym cause ∙ store)) _);
+      why = inr (
+        _,
+        given_begin g.S.Store _ _ now _ given,
+        strange_end g.R.Raw.values _ (c.in_err-read.ensures.refused (sym cause ∙ store)) _,
+      );
     })) (search rules)
 
 pub rows-preserved : goal.rows-preserved
@@ -58,15 +65,15 @@ rows-preserved g c =
       λ idle. moved.mode (inv.1 idle),
       further inv.2 moved.survives,
       λ clean fine.
-      let before = inv.3 (omega (arith, moved.survives.clean, clean)) fine in
-      let given = (rw (c.in_ok-row.was, c.in-Some.is) at (moved.ok clean)) c.args.sql.now [] _ before.0 in (
-        subst (HasGiven g.S.Store c.args.sql.now [] c.next.follows.lender-at-none.conn.now)
-            (ap (λ r. map g.R.Raw.values c.rows.raws.items ++ r ∷ []) {x = c.in-Some.row.now}
-            c.in_ok-read.ensures.values
-            ∙ sym (map-append g.R.Raw.values c.rows.raws.items (c.in_ok-read.field-0 ∷ []))
-            ∙ ap (map g.R.Raw.values) (sym c.in_ok-push.ensures.items)) given,
-        unchanged_then _ _ _ before.1 (rw c.in_ok-row.was at (moved.same clean)),
-      ),
+          let before = inv.3 (omega (arith, moved.survives.clean, clean)) fine in
+          let given = (rw (c.in_ok-row.was, c.in-Some.is) at (moved.ok clean)) c.args.sql.now [] _ before.0 in (
+            subst (HasGiven g.S.Store c.args.sql.now [] c.next.follows.lender-at-none.conn.now)
+                (ap (λ r. map g.R.Raw.values c.rows.raws.items ++ r ∷ []) {x = c.in-Some.row.now}
+                c.in_ok-read.ensures.values
+                ∙ sym (map-append g.R.Raw.values c.rows.raws.items (c.in_ok-read.field-0 ∷ []))
+                ∙ ap (map g.R.Raw.values) (sym c.in_ok-push.ensures.items)) given,
+            unchanged_then _ _ _ before.1 (rw c.in_ok-row.was at (moved.same clean)),
+          ),
     )
 
 pub returns : goal.returns

@@ -14,7 +14,8 @@ returns-clause-told g c clean has =
     ((c.shown.ensures s (read_version_is _ _).plain).told clean (is_versioned _ has))
 
 pub returns-clause-live : goal.returns-clause-live
-returns-clause-live g c clean has = (c.shown.ensures _ (read_version_is _ _).plain).sound clean (is_versioned _ has)
+returns-clause-live g c clean has =
+    (c.shown.ensures _ (read_version_is _ _).plain).sound clean (is_versioned _ has)
 
 pub returns-clause-kept : goal.returns-clause-kept
 returns-clause-kept g c clean has =

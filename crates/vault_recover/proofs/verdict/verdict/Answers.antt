@@ -1,29 +1,31 @@
-use Rattle.std.proofs.Common.{◌∙◌, inl, inr, sym, ap, arith}
+use Rattle.std.proofs.Common.{◌∙◌, inl, inr, sym, ap, subst, arith}
 use Rattle.sqlite.specs.Effect.{Database}
 use Rattle.sqlite.specs.Held.{state}
 use Rattle.sqlite.specs.State.{HasCleanDisk}
-use Rattle.vault_recover.proofs.Judged.{apart_of, by_rowid, judged, raws_of, sound_of}
+use Rattle.vault_recover.proofs.Judged.{apart_of, are_read, judged, sound_of}
 use Rattle.vault_recover.proofs.Results.{if_err, passed_on}
-use Rattle.vault_recover.proofs.Streamed.{later_one}
 use Rattle.vault_recover.proofs.Versioned.{has_version}
 use Rattle.vault_recover.proofs.verdict.verdict.Goals as goal
 use Rattle.vault_recover.specs.Opened.{IsSoundOf}
-use Rattle.vault_recover.specs.Reading.{IsOurs}
+use Rattle.vault_recover.specs.Reading.{IsOurs, IsUnreadOne}
 use Rattle.vault_recover.specs.Versions.{other_version}
 
 pub returns-clause-damaged : goal.returns-clause-damaged
 returns-clause-damaged g c clean =
     let old = state g.S.Store c.args.conn.now in
     let mid = state g.S.Store c.version_rows.new.conn in
-    let clean_mid : HasCleanDisk mid = omega (arith, c.rows.ensures.reads.clean, clean) in
-    if_err c.judge.result (λ fault broken rule same ours.
-    let one = c.in_ok-versions.ensures.kept clean_mid (has_version _ ours.schema) in
-    record {
+    let early : HasCleanDisk mid = omega (arith, c.rows.ensures.reads.clean, clean) in
+    let read = are_read old mid _ c.in_ok-rows.rows (ap (λ v. v.items) c.in_ok-rows.ensures.versions)
+    (c.in_ok-versions.ensures.kept early) (c.in_ok-versions.ensures.live early)
+    (c.in_ok-versions.ensures.told early) (c.in_ok-rows.ensures.told clean) in
+    let this =
+    ap (λ v. other_version v.items) c.in_ok-rows.ensures.versions
+    ∙ ap other_version (sym c.deref.ensures.value) ∙ sym c.other_version.ensures ∙ c.in_default.is in
+    if_err c.judge.result (λ fault broken rule same ours. record {
       rows = c.in_ok-rows.rows;
-      is = c.in_ok-versions.ensures.live clean_mid (has_version _ ours.schema);
-      are = raws_of old mid one ours c.in_ok-versions.versions.items (c.in_ok-versions.ensures.told clean_mid (has_version _ ours.schema)) c.in_ok-rows.rows (ap (λ v. v.items) c.in_ok-rows.ensures.versions) (c.in_ok-rows.ensures.told clean);
-      version = ap (λ v. other_version v.items) c.in_ok-rows.ensures.versions ∙ ap other_version (sym c.deref.ensures.value)
-          ∙ sym c.other_version.ensures ∙ c.in_default.is;
+      is = (read ours).sound;
+      are = (read ours).raws;
+      version = this;
       least = broken rule same;
     }) c.judge.ensures.damaged
 
@@ -31,12 +33,15 @@ pub returns-clause-sound : goal.returns-clause-sound
 returns-clause-sound g c clean =
     let old = state g.S.Store c.args.conn.now in
     let mid = state g.S.Store c.version_rows.new.conn in
-    let clean_mid : HasCleanDisk mid = omega (arith, c.rows.ensures.reads.clean, clean) in
-    judged (IsOurs old.now) (IsSoundOf old.now) c.judge.result c.in_ok-rows.rows c.judge.ensures.sizes c.judge.ensures.kept c.judge.ensures.apart (λ keep apart ours.
-    let one = c.in_ok-versions.ensures.kept clean_mid (has_version _ ours.schema) in
-    let raws = raws_of old mid one ours c.in_ok-versions.versions.items (c.in_ok-versions.ensures.told clean_mid (has_version _ ours.schema)) c.in_ok-rows.rows (ap (λ v. v.items) c.in_ok-rows.ensures.versions) (c.in_ok-rows.ensures.told clean) in
-    sound_of old.now ours (c.in_ok-versions.ensures.live clean_mid (has_version _ ours.schema)) c.in_ok-rows.rows raws keep apart
-    (ap (λ v. other_version v.items) c.in_ok-rows.ensures.versions ∙ ap other_version (sym c.deref.ensures.value) ∙ sym c.other_version.ensures ∙ c.in_default.is))
+    let early : HasCleanDisk mid = omega (arith, c.rows.ensures.reads.clean, clean) in
+    let read = are_read old mid _ c.in_ok-rows.rows (ap (λ v. v.items) c.in_ok-rows.ensures.versions)
+    (c.in_ok-versions.ensures.kept early) (c.in_ok-versions.ensures.live early)
+    (c.in_ok-versions.ensures.told early) (c.in_ok-rows.ensures.told clean) in
+    judged (IsOurs old.now) (IsSoundOf old.now) c.judge.result c.in_ok-rows.rows c.judge.ensures.sizes
+    c.judge.ensures.kept c.judge.ensures.apart (λ keep apart ours.
+    sound_of old.now ours (read ours).sound c.in_ok-rows.rows (read ours).raws keep apart
+    (ap (λ v. other_version v.items) c.in_ok-rows.ensures.versions
+    ∙ ap other_version (sym c.deref.ensures.value) ∙ sym c.other_version.ensures ∙ c.in_default.is))
 
 pub returns-in_err-versions-clause-unread : goal.returns-in_err-versions-clause-unread
 returns-in_err-versions-clause-unread g c clean =
@@ -45,21 +50,21 @@ returns-in_err-versions-clause-unread g c clean =
 
 pub returns-in_err-rows-clause-unread : goal.returns-in_err-rows-clause-unread
 returns-in_err-rows-clause-unread g c clean =
-    let clean_mid : HasCleanDisk (state g.S.Store c.version_rows.new.conn) =
+    let early : HasCleanDisk (state g.S.Store c.version_rows.new.conn) =
     omega (arith, c.rows.ensures.reads.clean, clean) in
     passed_on c.from_residual-in_err-rows.result _ c.from_residual-in_err-rows.ensures.1 (λ store ours.
-    let same = (c.in_ok-versions.ensures.kept clean_mid (has_version _ ours.schema)).0.now_is in
-    inr (inl (later_one same
+    let same = (c.in_ok-versions.ensures.kept early (has_version _ ours.schema)).0.now_is in
+    inr (inl (subst (λ db. IsUnreadOne g.S.Store db c.rows.new.conn) same
     (c.in_err-rows.ensures.refused clean (ap (λ (d : Database). d.schema) same ∙ ours.schema) store))))
 
 pub returns-clause-unread : goal.returns-clause-unread
 returns-clause-unread g c clean =
     let old = state g.S.Store c.args.conn.now in
     let mid = state g.S.Store c.version_rows.new.conn in
-    let clean_mid : HasCleanDisk mid = omega (arith, c.rows.ensures.reads.clean, clean) in
-    if_err c.judge.result (λ fault shared store ours.
-    let one = c.in_ok-versions.ensures.kept clean_mid (has_version _ ours.schema) in
-    let all = c.in_ok-rows.ensures.told clean (ap (λ (d : Database). d.schema) one.0.now_is ∙ ours.schema) in
-    let raws = raws_of old mid one ours c.in_ok-versions.versions.items (c.in_ok-versions.ensures.told clean_mid (has_version _ ours.schema)) c.in_ok-rows.rows (ap (λ v. v.items) c.in_ok-rows.ensures.versions) (c.in_ok-rows.ensures.told clean) in
-    inr (inr (λ apart. shared store (by_rowid all) (apart_of old.now.trees c.in_ok-rows.rows raws apart))))
+    let early : HasCleanDisk mid = omega (arith, c.rows.ensures.reads.clean, clean) in
+    let read = are_read old mid _ c.in_ok-rows.rows (ap (λ v. v.items) c.in_ok-rows.ensures.versions)
+    (c.in_ok-versions.ensures.kept early) (c.in_ok-versions.ensures.live early)
+    (c.in_ok-versions.ensures.told early) (c.in_ok-rows.ensures.told clean) in
+    if_err c.judge.result (λ fault shared store ours. inr (inr (λ apart.
+    shared store (read ours).ordered (apart_of old.now.trees c.in_ok-rows.rows (read ours).raws apart))))
     c.judge.ensures.shared
