@@ -1,6 +1,6 @@
 -- What a reading row by row comes to.
 use Rattle.std.proofs.Common.{◌≡◌, ◌≢◌, ◌↔◌, ◌∙◌, ◌++◌, ◌∷◌, ℕ, List, [], map, sym, ap, subst, false}
-use Rattle.std.proofs.Common.{Result, Ok, Err, IfErr, IfOk, IsErrAnd, inl, inr}
+use Rattle.std.proofs.Common.{Result, Ok, Err, IfErr, IfOk, IsErrAnd}
 use Rattle.std.specs.Global.{Vec}
 use Rattle.sqlite.proofs.Callers.{IsPlain, unchanged_then}
 use Rattle.sqlite.proofs.StateLemmas.{survives_then}
