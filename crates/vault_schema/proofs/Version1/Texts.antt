@@ -83,11 +83,6 @@ module _ (ts : List Table) (is : List Index) where
 
   -- ---- whole tables
 
-  pub read_versions_is : IsQuery (grown v1 ts is) READ_VERSIONS.now
-      (sorted_of 0 [] (col 1 0 ∷ col 1 2 ∷ []) [] (ordered_by (0 ∷ [])))
-  unfolding understood everything
-  read_versions_is = record { names = _; is = refl; plain = (refl, refl); unlisted = refl }
-
   pub read_merchants_is : IsQuery (grown v1 ts is) READ_MERCHANTS.now
       (sorted_of 1 [] (all_columns 4) [] (ordered_by (0 ∷ [])))
   unfolding understood everything
