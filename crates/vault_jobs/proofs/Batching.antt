@@ -22,7 +22,8 @@ use Rattle.vault_jobs.specs.Carried.{IsKept, IsTorn}
 use Rattle.vault_jobs.specs.Streams.{Known}
 
 -- the commands of rows and of one more
-rows_then : (xs : List Asked) (x : Asked) → commands_of (xs ++ x ∷ []) ≡ commands_of xs ++ commands_in x.wanted
+rows_then : (xs : List Asked) (x : Asked)
+    → commands_of (xs ++ x ∷ []) ≡ commands_of xs ++ commands_in x.wanted
 rows_then xs x =
     flat_map-append (λ (y : Asked). commands_in y.wanted) xs (x ∷ [])
     ∙ ap (λ cs. commands_of xs ++ cs) (append-nil (commands_in x.wanted))
@@ -61,7 +62,8 @@ stopped_torn left w who (rows, next, records, s) = (
   commands_of rows,
   commands_in next.wanted,
   one_at_most next.wanted,
-  λ V h. subst (λ cs. w.left_new (run (commands_of rows) V) (run cs V)) (rows_then rows next) (s.answered V h).1,
+  λ V h. subst (λ cs. w.left_new (run (commands_of rows) V) (run cs V)) (rows_then rows next)
+      (s.answered V h).1,
 )
 
 pub batch_kept : (e : BatchFault) (left : Known) (w : Passage) (who : Asker) → e ≢ fault.Store
