@@ -1,9 +1,8 @@
 -- What rows leave of a vault, as commands.
-use Rattle.std.proofs.Common.{◌≡◌, ◌≢◌, ◌⊎◌, List, [], ◌∷◌, ◌++◌, Bool, true, false, Result, Err}
+use Rattle.std.proofs.Common.{◌≡◌, ◌≢◌, ◌⊎◌, List, [], ◌∷◌, ◌++◌, true, false, Err}
 use Rattle.std.proofs.Common.{inl, inr, ◌∙◌, ap, subst, refl, append-nil}
 use Rattle.std.proofs.lemmas.Grind.{flat_map-append}
 use Rattle.vault_core.specs.Runs.{run}
-use Rattle.vault_core.specs.declared.command.Command.{Command}
 use Rattle.vault_http.specs.Exchanges.{commands_in}
 use Rattle.vault_http.specs.Faults.{Failures}
 use Rattle.vault_http.specs.Passing.{Passage}
