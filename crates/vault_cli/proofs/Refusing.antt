@@ -27,15 +27,18 @@ batch_of (Check j) s never = absurd never
 pub unread_of : (words : List Text) (ending : Ending) (unread unsent : Type 0) (s : Streams) (status : ℕ)
     → Ran words ending unread unsent s → status ≡ status_of ending → status ≡ 1
     → unread ⊎ AsksFor words IsBatch
-unread_of words (Refused n) unread unsent s status (inl (job, asked, (calm, silent, refused))) is one = inl calm
-unread_of words (Refused n) unread unsent s status (inr (inl (help, never, calm))) is one = absurd (cc (never))
+unread_of words (Refused n) unread unsent s status (inl (job, asked, (calm, silent, refused))) is one =
+    inl calm
+unread_of words (Refused n) unread unsent s status (inr (inl (help, never, calm))) is one =
+    absurd (cc (never))
 unread_of words (Refused n) unread unsent s status (inr (inr (inl (none, never, calm, silent)))) is one =
     absurd (cc (never))
 unread_of words (Refused n) unread unsent s status (inr (inr (inr (never, calm, silent)))) is one =
     absurd (cc (never))
 unread_of words SomeRefused unread unsent s status (inl (job, asked, (quiet, part))) is one =
     inr (job, asked, batch_of job s part)
-unread_of words SomeRefused unread unsent s status (inr (inl (help, never, calm))) is one = absurd (cc (never))
+unread_of words SomeRefused unread unsent s status (inr (inl (help, never, calm))) is one =
+    absurd (cc (never))
 unread_of words SomeRefused unread unsent s status (inr (inr (inl (none, never, calm, silent)))) is one =
     absurd (cc (never))
 unread_of words SomeRefused unread unsent s status (inr (inr (inr (never, calm, silent)))) is one =

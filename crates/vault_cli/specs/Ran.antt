@@ -16,8 +16,8 @@ use Rattle.vault_words.specs.Jobs.{IsAsked}
 use Rattle.vault_words.specs.declared.commands.batch.BatchJob.{BatchJob}
 use Rattle.vault_words.specs.declared.commands.rights.RightJob.{RightJob}
 use Rattle.vault_words.specs.declared.jobs.Job.{Job}
-use Rattle.vault_words.specs.declared.jobs.Job.TheVariants.{Trial, Merchant, Grant, Withdraw, Rights, Pipe, Batch}
-use Rattle.vault_words.specs.declared.jobs.Job.TheVariants.{Serve, Check}
+use Rattle.vault_words.specs.declared.jobs.Job.TheVariants.{Trial, Merchant, Grant, Withdraw, Rights, Pipe}
+use Rattle.vault_words.specs.declared.jobs.Job.TheVariants.{Batch, Serve, Check}
 use Rattle.vault_batch.specs.declared.counts.Counts.{Counts}
 use Rattle.vault_jobs.specs.Batched.{IsTabled}
 use Rattle.vault_jobs.specs.Causes.{IsCauseOf, number_of}

@@ -53,11 +53,13 @@ fn apply<T: Tables>(vault: &mut Vault<T>, command: &Command) -> Result<Reply, Se
     ensures memory { result ≡ Err ServeFault.Memory
         → (V : Content) → Contains T.holds vault.old V → Contains T.holds vault.new V }
     ensures store { result ≡ Err ServeFault.Store → T.is_honest (tables_of vault.new)
-        → (V : Content) → Contains T.holds vault.old V → T.leaves (tables_of vault.new) V (after V command.now) }
+        → (V : Content) → Contains T.holds vault.old V
+        → T.leaves (tables_of vault.new) V (after V command.now) }
     ensures only { IfErr result (λ e. (e ≡ ServeFault.Memory) ⊎ (e ≡ ServeFault.Store)) }
     ensures broken { (result ≡ Err ServeFault.Store) ↔ (is_broken vault.new ≡ true) }
     ensures told { Tells result
-        (failures false false false (is_broken vault.old)) (failures false false false (is_broken vault.new)) }
+        (failures false false false (is_broken vault.old))
+        (failures false false false (is_broken vault.new)) }
     ensures sturdy { T.may_fail ≡ false → is_broken vault.old ≡ false → ¬ (result ≡ Err ServeFault.Store) }
     ensures honest { T.is_honest (tables_of vault.new) → T.is_honest (tables_of vault.old) }
 {

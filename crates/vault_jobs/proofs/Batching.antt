@@ -1,9 +1,8 @@
 -- What rows leave of a vault, as commands.
-use Rattle.std.proofs.Common.{◌≡◌, ◌≢◌, ◌⊎◌, List, [], ◌∷◌, ◌++◌, Bool, true, false, Result, Err}
+use Rattle.std.proofs.Common.{◌≡◌, ◌≢◌, ◌⊎◌, List, [], ◌∷◌, ◌++◌, true, false, Err}
 use Rattle.std.proofs.Common.{inl, inr, ◌∙◌, ap, subst, refl, append-nil}
 use Rattle.std.proofs.lemmas.Grind.{flat_map-append}
 use Rattle.vault_core.specs.Runs.{run}
-use Rattle.vault_core.specs.declared.command.Command.{Command}
 use Rattle.vault_http.specs.Exchanges.{commands_in}
 use Rattle.vault_http.specs.Faults.{Failures}
 use Rattle.vault_http.specs.Passing.{Passage}
@@ -22,7 +21,8 @@ use Rattle.vault_jobs.specs.Carried.{IsKept, IsTorn}
 use Rattle.vault_jobs.specs.Streams.{Known}
 
 -- the commands of rows and of one more
-rows_then : (xs : List Asked) (x : Asked) → commands_of (xs ++ x ∷ []) ≡ commands_of xs ++ commands_in x.wanted
+rows_then : (xs : List Asked) (x : Asked)
+    → commands_of (xs ++ x ∷ []) ≡ commands_of xs ++ commands_in x.wanted
 rows_then xs x =
     flat_map-append (λ (y : Asked). commands_in y.wanted) xs (x ∷ [])
     ∙ ap (λ cs. commands_of xs ++ cs) (append-nil (commands_in x.wanted))
@@ -61,7 +61,8 @@ stopped_torn left w who (rows, next, records, s) = (
   commands_of rows,
   commands_in next.wanted,
   one_at_most next.wanted,
-  λ V h. subst (λ cs. w.left_new (run (commands_of rows) V) (run cs V)) (rows_then rows next) (s.answered V h).1,
+  λ V h. subst (λ cs. w.left_new (run (commands_of rows) V) (run cs V)) (rows_then rows next)
+      (s.answered V h).1,
 )
 
 pub batch_kept : (e : BatchFault) (left : Known) (w : Passage) (who : Asker) → e ≢ fault.Store

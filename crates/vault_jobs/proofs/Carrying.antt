@@ -1,5 +1,5 @@
 -- What messages and connections leave of a vault, as commands.
-use Rattle.std.proofs.Common.{◌≡◌, ◌≢◌, ℕ, ◌≤◌, List, [], ◌∷◌, ◌++◌, length, Option, Bool}
+use Rattle.std.proofs.Common.{◌≡◌, ◌≢◌, ℕ, ◌≤◌, List, [], ◌∷◌, ◌++◌, length, Bool}
 use Rattle.std.proofs.Common.{true, false, Result, Ok, Err}
 use Rattle.std.proofs.Common.{inl, inr, ◌∙◌, ap, subst, refl, arith, append-nil}
 use Rattle.std.proofs.lemmas.Grind.{flat_map-append}

@@ -55,7 +55,8 @@ batch_flushed left gone w who counts b kept = record {
     taken = b.answered.taken;
     asked = b.answered.asked;
     answered = λ V before. (
-      kept_after w.sent_old w.sent_new gone (first_line ++ lines V b.rows) (b.answered.answered V before).0 kept,
+      kept_after w.sent_old w.sent_new gone (first_line ++ lines V b.rows)
+          (b.answered.answered V before).0 kept,
       (b.answered.answered V before).1,
     );
   };

@@ -1,5 +1,6 @@
 -- A candidate is 10 to 19 digits, as many as its number has, and fits it.
-use Rattle.std.proofs.Common.{◌≡◌, ℕ, ◌+◌, ◌-◌, ◌*◌, ◌<◌, List, ◌++◌, All, length, take, drop, map, arith, ap, ◌∙◌, true, ◌==◌, ◌&&◌}
+use Rattle.std.proofs.Common.{◌≡◌, ℕ, ◌+◌, ◌-◌, ◌*◌, ◌<◌, List, ◌++◌, All, length, take, drop, map, arith}
+use Rattle.std.proofs.Common.{ap, ◌∙◌, true, ◌==◌, ◌&&◌}
 use Rattle.std.proofs.lemmas.List.Elements.{All-append, All-map, All-take, All-drop}
 use Rattle.std.proofs.lemmas.Grind.{common_steps}
 use Rattle.std.specs.Cmp.{tied_itself}
@@ -15,7 +16,8 @@ All-written : (values : List ℕ) → All (λ v. v < 10) values → All (λ v. I
 All-written values small k d inside = let h = small k d inside in (omega arith, omega arith)
 
 -- a candidate is as long as its number
-length-candidate_digits : (values : List ℕ) (k : ℕ) (number : List ℕ) → length values ≡ 300 → k < 20 → IsNumber number
+length-candidate_digits : (values : List ℕ) (k : ℕ) (number : List ℕ)
+    → length values ≡ 300 → k < 20 → IsNumber number
     → length (candidate_digits values k number) ≡ length number
 length-candidate_digits values k number l k<20 h =
     let low = h.0 in
@@ -35,7 +37,8 @@ candidate_digits-IsNumber values k number d k<20 h =
       omega (arith, e),
       All-append IsAsciiDigit (map (λ v. v + 48) group) (last_four number)
           (All-map IsAsciiDigit (λ v. v + 48) group
-          (All-take P (length number - 4) (drop (15 * k) values) (All-drop P (15 * k) values (All-written values d.1))))
+          (All-take P (length number - 4) (drop (15 * k) values)
+          (All-drop P (15 * k) values (All-written values d.1))))
           (All-drop IsAsciiDigit (length number - 4) number h.2),
     )
 
@@ -60,6 +63,7 @@ candidate_digits-fits values k number d k<20 h =
     ap (λ n. drop (n - 4) (candidate_digits values k number)) e
     ∙ drop-front (map (λ v. v + 48) group) (last_four number) (length number - 4) size
     in
-    let equal : (length (candidate_digits values k number) == length number) ≡ true = grind (arith, nat_tests, e) in
+    let equal : (length (candidate_digits values k number) == length number) ≡ true =
+    grind (arith, nat_tests, e) in
     ap (λ b. b && same (last_four (candidate_digits values k number)) (last_four number)) equal
     ∙ ap (λ xs. same xs (last_four number)) last ∙ same-refl (last_four number)

@@ -1,5 +1,6 @@
 -- One pass from the left computes the sum over the places.
-use Rattle.std.proofs.Common.{◌≡◌, ℕ, suc, ◌+◌, ◌-◌, ◌%◌, ◌<◌, ◌==◌, List, length, slice_index, arith, ap, sym, ◌∙◌, not}
+use Rattle.std.proofs.Common.{◌≡◌, ℕ, suc, ◌+◌, ◌-◌, ◌%◌, ◌<◌, ◌==◌, List, length, slice_index, arith, ap}
+use Rattle.std.proofs.Common.{sym, ◌∙◌, not}
 use Rattle.std.proofs.lemmas.Bool.Decides.{nat_tests}
 use Rattle.vault_pan.specs.Luhn.{worths, worth_of}
 
@@ -22,7 +23,8 @@ pub step : (digits : List ℕ) (i sum w total : ℕ) → i < length digits
     → ((sum + w) % 10 + worths digits (length digits - (i + 1))) % 10 ≡ total
 step digits i sum w total inside is rest =
     let e = worths-index digits i inside in
-    let more : worths digits (length digits - i) ≡ worths digits (length digits - (i + 1)) + w = e ∙ ap (λ x. worths digits (length digits - (i + 1)) + x) (sym is) in
+    let more : worths digits (length digits - i) ≡ worths digits (length digits - (i + 1)) + w =
+    e ∙ ap (λ x. worths digits (length digits - (i + 1)) + x) (sym is) in
     omega (arith, more, rest)
 
 -- even and odd places take turns

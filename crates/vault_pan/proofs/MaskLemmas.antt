@@ -1,9 +1,11 @@
 -- The mask of a number in three parts: the front, the hidden digits and the last four.
-use Rattle.std.proofs.Common.{◌≡◌, ℕ, ◌-◌, ◌<◌, ◌≤◌, List, ◌++◌, All, ◌||◌, ◌==◌, length, take, drop, replicate, get_or, min, cond, nat_lt, nat_le, arith, refl, subst, ◌*◌, ◌∙◌}
+use Rattle.std.proofs.Common.{◌≡◌, ℕ, ◌-◌, ◌<◌, ◌≤◌, List, ◌++◌, All, ◌||◌, ◌==◌, length, take, drop}
+use Rattle.std.proofs.Common.{replicate, get_or, min, cond, nat_lt, nat_le, arith, refl, subst, ◌*◌, ◌∙◌}
 use Rattle.std.proofs.lemmas.Grind.{common_steps}
 use Rattle.std.proofs.lemmas.Bool.Decides.{nat_tests}
 use Rattle.std.proofs.lemmas.List.FromFn.{fill_by_all}
-use Rattle.std.proofs.lemmas.List.Elements.{All-append, All-drop, All-replicate, All-take, All-weaker, filter-append}
+use Rattle.std.proofs.lemmas.List.Elements.{All-append, All-drop, All-replicate, All-take, All-weaker}
+use Rattle.std.proofs.lemmas.List.Elements.{filter-append}
 use Rattle.std.proofs.lemmas.List.Sums.{length-filter}
 use Rattle.std.proofs.lemmas.List.Folds.{sum_by-replicate}
 use Rattle.std.proofs.lemmas.Str.Ascii.{IsAscii-from_all}
@@ -35,17 +37,20 @@ get_or-front : (digits : List ℕ) (front last k : ℕ) → front ≤ last → l
 get_or-front digits front last k h l inside = grind (arith, common_steps)
 
 -- what stands between the two indices
-get_or-hidden : (digits : List ℕ) (front last k : ℕ) → front ≤ last → last ≤ length digits → front ≤ k → k < last
+get_or-hidden : (digits : List ℕ) (front last k : ℕ)
+    → front ≤ last → last ≤ length digits → front ≤ k → k < last
     → get_or (hidden_between digits front last) k 0 ≡ 42
 get_or-hidden digits front last k h l above inside = grind (arith, common_steps)
 
 -- what stands at its end
-get_or-last : (digits : List ℕ) (front last k : ℕ) → front ≤ last → last ≤ length digits → last ≤ k → k < length digits
+get_or-last : (digits : List ℕ) (front last k : ℕ)
+    → front ≤ last → last ≤ length digits → last ≤ k → k < length digits
     → get_or (hidden_between digits front last) k 0 ≡ get_or digits k 0
 get_or-last digits front last k h l above inside = grind (arith, common_steps)
 
 -- what stands at each index of it
-get_or-hidden_between : (digits : List ℕ) (front last k : ℕ) → front ≤ last → last ≤ length digits → k < length digits
+get_or-hidden_between : (digits : List ℕ) (front last k : ℕ)
+    → front ≤ last → last ≤ length digits → k < length digits
     → get_or (hidden_between digits front last) k 0
     ≡ cond (nat_lt k front || nat_le last k) (get_or digits k 0) 42
 get_or-hidden_between digits front last k h l inside =
@@ -64,23 +69,32 @@ mask_of-parts digits many =
     (λ k inside. get_or-hidden_between digits (min 6 (n - 10)) (n - 4) k (omega arith) (omega arith) inside)
 
 -- as many are hidden as stand between the two indices, or more
-hidden-hidden_between : (digits : List ℕ) (front last : ℕ) → last - front ≤ hidden (hidden_between digits front last)
+hidden-hidden_between : (digits : List ℕ) (front last : ℕ)
+    → last - front ≤ hidden (hidden_between digits front last)
 hidden-hidden_between digits front last =
     let stars = replicate (last - front) 42 in
     let is_star = λ (b : ℕ). b == 42 in
-    let all : hidden stars ≡ (last - front) * 1 = length-filter is_star stars ∙ sum_by-replicate (λ b. cond (is_star b) 1 0) (last - front) 42 in
-    grind (arith, common_steps, filter-append is_star (take front digits ++ stars) (drop last digits), filter-append is_star (take front digits) stars)
+    let all : hidden stars ≡ (last - front) * 1 =
+    length-filter is_star stars ∙ sum_by-replicate (λ b. cond (is_star b) 1 0) (last - front) 42 in
+    grind (
+      arith,
+      common_steps,
+      filter-append is_star (take front digits ++ stars) (drop last digits),
+      filter-append is_star (take front digits) stars,
+    )
 
 -- a digit is a digit or `*`
 digit-IsMaskByte : (b : ℕ) → IsAsciiDigit b → IsMaskByte b
 digit-IsMaskByte b h = grind (arith, nat_tests)
 
 -- each byte of it is a digit or `*`
-All-hidden_between : (digits : List ℕ) (front last : ℕ) → All IsAsciiDigit digits → All IsMaskByte (hidden_between digits front last)
+All-hidden_between : (digits : List ℕ) (front last : ℕ) → All IsAsciiDigit digits
+    → All IsMaskByte (hidden_between digits front last)
 All-hidden_between digits front last each =
     let shown = All-weaker IsAsciiDigit IsMaskByte digit-IsMaskByte digits each in
     All-append IsMaskByte (take front digits ++ replicate (last - front) 42) (drop last digits)
-    (All-append IsMaskByte (take front digits) (replicate (last - front) 42) (All-take IsMaskByte front digits shown) (All-replicate IsMaskByte (last - front) 42 refl))
+    (All-append IsMaskByte (take front digits) (replicate (last - front) 42)
+    (All-take IsMaskByte front digits shown) (All-replicate IsMaskByte (last - front) 42 refl))
     (All-drop IsMaskByte last digits shown)
 
 -- what `mask_of` makes of a number is a mask
@@ -92,4 +106,9 @@ mask_of-IsMasked digits h =
     let high = h.1 in
     let long = length-hidden_between digits front (n - 4) (omega arith) (omega arith) in
     let stars = hidden-hidden_between digits front (n - 4) in
-    subst IsMasked (mask_of-parts digits h.0) (omega (arith, long), omega (arith, long), All-hidden_between digits front (n - 4) h.2, omega (arith, stars))
+    subst IsMasked (mask_of-parts digits h.0) (
+      omega (arith, long),
+      omega (arith, long),
+      All-hidden_between digits front (n - 4) h.2,
+      omega (arith, stars),
+    )

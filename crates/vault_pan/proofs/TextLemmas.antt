@@ -1,5 +1,7 @@
 -- The digits of the first bytes of a text.
-use Rattle.std.proofs.Common.{◌≡◌, ℕ, ◌+◌, ◌<◌, ◌≤◌, List, [], ◌∷◌, ◌++◌, cond, true, false, All, length, take, drop, slice_index, arith, ap, sym, ◌∙◌, take-append-drop, length-append, IsTrue, ◌||◌, ◌==◌, ◌⊎◌}
+use Rattle.std.proofs.Common.{◌≡◌, ℕ, ◌+◌, ◌<◌, ◌≤◌, List, [], ◌∷◌, ◌++◌, cond, true, false, All, length}
+use Rattle.std.proofs.Common.{take, drop, slice_index, arith, ap, sym, ◌∙◌, take-append-drop, length-append}
+use Rattle.std.proofs.Common.{IsTrue, ◌||◌, ◌==◌, ◌⊎◌}
 use Rattle.std.proofs.lemmas.List.{append-nil}
 use borrow.Author.Count.{below_more}
 use Rattle.std.proofs.lemmas.Str.Ascii.{IsAscii-from_all}
@@ -33,14 +35,17 @@ pub digits_of-more_none : (text : List ℕ) (i : ℕ) → i < length text → Se
     → digits_of (take (i + 1) text) ≡ digits_of (take i text)
 digits_of-more_none text i inside h =
     filter_more is_ascii_digit text i 0 inside
-    ∙ ap (λ b. digits_of (take i text) ++ cond b (slice_index text i ∷ []) []) (other-test (slice_index text i) h.0)
+    ∙ ap (λ b. digits_of (take i text) ++ cond b (slice_index text i ∷ []) [])
+    (other-test (slice_index text i) h.0)
     ∙ append-nil (digits_of (take i text))
 
 -- the first bytes have no more digits than the whole text
 pub length-digits_of-take : (text : List ℕ) (i : ℕ)
     → length (digits_of (take i text)) ≤ length (digits_of text)
 length-digits_of-take text i =
-    let e = ap length (sym (filter-append is_ascii_digit (take i text) (drop i text)) ∙ ap digits_of (take-append-drop i text)) in
+    let e =
+    ap length (sym (filter-append is_ascii_digit (take i text) (drop i text))
+    ∙ ap digits_of (take-append-drop i text)) in
     omega (arith, e, length-append (digits_of (take i text)) (digits_of (drop i text)))
 
 -- the digits of a text are digits

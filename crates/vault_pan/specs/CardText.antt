@@ -6,7 +6,8 @@
 --
 -- Digits stand here as their ASCII codes, 48 to 57, so a number is the same list in a value, in a
 -- text and in a table.
-use Rattle.std.specs.Prelude.{◌≡◌, ℕ, ◌-◌, ◌+◌, ◌<◌, ◌≤◌, ◌||◌, ◌⊎◌, ◌==◌, List, length, filter, All, IsTrue, slice_index, drop, true, false, Bool, nat_eq, ◌&&◌}
+use Rattle.std.specs.Prelude.{◌≡◌, ℕ, ◌-◌, ◌+◌, ◌<◌, ◌≤◌, ◌||◌, ◌⊎◌, ◌==◌, List, length, filter, All}
+use Rattle.std.specs.Prelude.{IsTrue, slice_index, drop, true, false, Bool, nat_eq, ◌&&◌}
 use Rattle.std.specs.Cmp.Lexicographic.{pointwise}
 use Rattle.std.specs.Char.{IsAsciiDigit, is_ascii_digit}
 use Rattle.vault_pan.specs.Luhn.{passes_check}

@@ -3,7 +3,8 @@
 --
 -- Places are counted from the right, from 1, which is the check digit's own place. A sum over
 -- places: no order in which they are gone through, and no running total.
-use Rattle.std.specs.Prelude.{Bool, ℕ, zero, suc, ◌+◌, ◌-◌, ◌*◌, ◌%◌, List, length, slice_index, nat_lt, ◌==◌, if◌then◌else◌}
+use Rattle.std.specs.Prelude.{Bool, ℕ, zero, suc, ◌+◌, ◌-◌, ◌*◌, ◌%◌, List, length, slice_index, nat_lt}
+use Rattle.std.specs.Prelude.{◌==◌, if◌then◌else◌}
 
 -- the digit at a place, by its value
 abbrev pub digit_at : List ℕ → ℕ → ℕ

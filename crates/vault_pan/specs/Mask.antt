@@ -1,6 +1,7 @@
 -- The mask of a card number: what may be shown of it. That this is its last four digits, and from
 -- the front as many as leave six hidden, at most six, is this project's rule.
-use Rattle.std.specs.Prelude.{ℕ, ◌-◌, ◌≤◌, ◌==◌, ◌||◌, Bool, IsTrue, List, length, map, filter, min, nat_lt, nat_le, slice_index, All, if◌then◌else◌}
+use Rattle.std.specs.Prelude.{ℕ, ◌-◌, ◌≤◌, ◌==◌, ◌||◌, Bool, IsTrue, List, length, map, filter, min, nat_lt}
+use Rattle.std.specs.Prelude.{nat_le, slice_index, All, if◌then◌else◌}
 use Rattle.std.specs.List.{range_with_len}
 use Rattle.std.specs.Char.{is_ascii_digit}
 

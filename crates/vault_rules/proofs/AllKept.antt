@@ -1,5 +1,6 @@
 -- The rows of a sound vault keep each rule.
-use Rattle.std.proofs.Common.{◌≡◌, inl, inr, ℕ, zero, suc, ℤ, pos, ◌≤◌, ◌&&◌, true, false, length, Option, refl, sym, ap, ◌∙◌, arith}
+use Rattle.std.proofs.Common.{◌≡◌, inl, inr, ℕ, zero, suc, ℤ, pos, ◌≤◌, ◌&&◌, true, false, length, Option}
+use Rattle.std.proofs.Common.{refl, sym, ap, ◌∙◌, arith}
 use Rattle.std.specs.Prelude.{string_bytes, nat_lt}
 use Rattle.std.specs.List.{list_all}
 use Rattle.std.specs.Option.{option_map_or}
@@ -11,9 +12,12 @@ use Rattle.vault_core.specs.Keys.{right_number}
 use Rattle.vault_core.specs.Sound.{Sound}
 use Rattle.vault_core.specs.Vault.{Vault, entry_at}
 use Rattle.vault_core.specs.declared.right.Right.{Right}
-use Rattle.vault_core.specs.declared.right.Right.TheVariants.{Tokenize, Detokenize, View, Revoke, Purge, Audit}
+use Rattle.vault_core.specs.declared.right.Right.TheVariants.{Tokenize, Detokenize, View, Revoke, Purge}
+use Rattle.vault_core.specs.declared.right.Right.TheVariants.{Audit}
 use Rattle.vault_rules.specs.Lookups.{is_known, total_of, held_by}
-use Rattle.vault_rules.specs.Rules.{is_within, has_one_version, are_named, is_lasting, is_count, has_token, has_number, is_timed, is_kept, at_moments, is_counted, is_record, is_right, keeps}
+use Rattle.vault_rules.specs.Rules.{is_within, has_one_version, are_named, is_lasting, is_count, has_token}
+use Rattle.vault_rules.specs.Rules.{has_number, is_timed, is_kept, at_moments, is_counted, is_record}
+use Rattle.vault_rules.specs.Rules.{is_right, keeps}
 use Rattle.vault_rules.specs.Showing.{Shows, ShowsCount, usage_number}
 use Rattle.vault_rules.specs.Texts.{is_name, is_token}
 use Rattle.vault_rules.specs.VaultOf.{HasKeysApart}
@@ -41,22 +45,27 @@ module _ (rows : Rows) (V : Vault) (shows : Shows rows V) (sound : Sound V) wher
 
   kept_2 : are_named rows.merchants.items ≡ true
   kept_2 =
-      and_from (nat_lt (length rows.merchants.items) 10001) (list_all (λ m. is_name (string_bytes m.name)) rows.merchants.items)
+      and_from (nat_lt (length rows.merchants.items) 10001)
+      (list_all (λ m. is_name (string_bytes m.name)) rows.merchants.items)
       (below_from (length rows.merchants.items) 10001 (omega (arith, shows.many, sound.few)))
       (test_from (λ m. is_name (string_bytes m.name)) rows.merchants.items (λ m h.
-      let it = shows.merchants m h in name_from (string_bytes m.name) (sound.merchants (string_bytes m.name) it.0 it.1).name))
+      let it = shows.merchants m h in
+      name_from (string_bytes m.name) (sound.merchants (string_bytes m.name) it.0 it.1).name))
 
   kept_3 : list_all is_lasting rows.merchants.items ≡ true
   kept_3 = test_from is_lasting rows.merchants.items (λ m h.
       let it = shows.merchants m h in
       let fine = sound.merchants (string_bytes m.name) it.0 it.1 in
-      and_from _ _ (and_from _ _ (within_from 0 3155760000 it.0.single_life m.single_life it.2.single_life (omega arith) fine.single)
+      and_from _ _ (and_from _ _
+      (within_from 0 3155760000 it.0.single_life m.single_life it.2.single_life (omega arith) fine.single)
       (within_from 0 3155760000 it.0.multi_life m.multi_life it.2.multi_life (omega arith) fine.multi))
       (within_from 0 253402300799 it.0.moment m.moment it.2.moment (omega arith) fine.moment))
 
   -- what a count's row says
   abbrev CountFine : RawCount → ℕ → ℕ → Type 0
-  CountFine c kind total = (is_known rows.merchants.items (string_bytes c.merchant) ≡ true) × (1 ≤ kind) × (kind ≤ 3) × (total ≤ 4611686018427387903)
+  CountFine c kind total =
+      (is_known rows.merchants.items (string_bytes c.merchant) ≡ true) × (1 ≤ kind) × (kind ≤ 3)
+      × (total ≤ 4611686018427387903)
 
   count_fine : (c : RawCount) → (it : ShowsCount c V) → CountFine c it.kind it.total
   count_fine c it = elim it.counted as (λ _. CountFine c it.kind it.total) [
@@ -64,14 +73,26 @@ module _ (rows : Rows) (V : Vault) (shows : Shows rows V) (sound : Sound V) wher
         let few = sound.made_few (string_bytes c.merchant) in
         let kind_is = first.0 in
         let total_is = first.1 in
-        let some = it.some in
-        (held_known rows V shows sound (string_bytes c.merchant) (omega arith), omega arith, omega arith, omega arith)
+        let some = it.some in (
+          held_known rows V shows sound (string_bytes c.merchant) (omega arith),
+          omega arith,
+          omega arith,
+          omega arith,
+        )
     | inr later ↦
         let fine = sound.merchants (string_bytes c.merchant) later.0 later.1 in
         let there = known rows V shows (string_bytes c.merchant) later.0 later.1 in
         elim later.2 as (λ _. CountFine c it.kind it.total) [
-          | inl gave ↦ let kind_is = gave.0 in let total_is = gave.1 in let most = fine.given in (there, omega arith, omega arith, omega arith)
-          | inr denied ↦ let kind_is = denied.0 in let total_is = denied.1 in let most = fine.denied in (there, omega arith, omega arith, omega arith)
+          | inl gave ↦
+              let kind_is = gave.0 in
+              let total_is = gave.1 in
+              let most = fine.given in
+              (there, omega arith, omega arith, omega arith)
+          | inr denied ↦
+              let kind_is = denied.0 in
+              let total_is = denied.1 in
+              let most = fine.denied in
+              (there, omega arith, omega arith, omega arith)
         ]
   ]
 
@@ -86,25 +107,32 @@ module _ (rows : Rows) (V : Vault) (shows : Shows rows V) (sound : Sound V) wher
   kept_5 = test_from (has_token rows.merchants.items) rows.entries.items (λ e h.
       let it = entered rows V shows sound e h in
       and_from (is_known rows.merchants.items (string_bytes e.merchant)) (is_token (string_bytes e.token))
-      (known rows V shows (string_bytes e.merchant) it.merchant it.merchant_is) (token_from (string_bytes e.token) it.sound.token_fails))
+      (known rows V shows (string_bytes e.merchant) it.merchant it.merchant_is)
+      (token_from (string_bytes e.token) it.sound.token_fails))
 
   kept_6 : list_all has_number rows.entries.items ≡ true
-  kept_6 = test_from has_number rows.entries.items (λ e h. let it = entered rows V shows sound e h in number_kept e it.entry it.shown it.merchant it.sound)
+  kept_6 =
+      test_from has_number rows.entries.items (λ e h.
+      let it = entered rows V shows sound e h in
+      number_kept e it.entry it.shown it.merchant it.sound)
 
   kept_7 : list_all (at_moments rows.merchants.items is_timed) rows.entries.items ≡ true
   kept_7 = test_from (at_moments rows.merchants.items is_timed) rows.entries.items (λ e h.
-      let it = entered rows V shows sound e h in tested rows V shows sound is_timed e it (times_kept e it.entry it.shown it.merchant it.sound))
+      let it = entered rows V shows sound e h in
+      tested rows V shows sound is_timed e it (times_kept e it.entry it.shown it.merchant it.sound))
 
   kept_8 : list_all (at_moments rows.merchants.items is_kept) rows.entries.items ≡ true
   kept_8 = test_from (at_moments rows.merchants.items is_kept) rows.entries.items (λ e h.
-      let it = entered rows V shows sound e h in tested rows V shows sound is_kept e it (number_or_over e it.entry it.shown it.merchant it.sound))
+      let it = entered rows V shows sound e h in
+      tested rows V shows sound is_kept e it (number_or_over e it.entry it.shown it.merchant it.sound))
 
   kept_10 : list_all (is_counted rows.counts.items rows.entries.items) rows.merchants.items ≡ true
   kept_10 = test_from (is_counted rows.counts.items rows.entries.items) rows.merchants.items (λ m h.
       let name = string_bytes m.name in
       let held = held_by rows.entries.items name in
       and_from (int_eq (total_of rows.counts.items name (pos 1)) (pos held)) (nat_lt held 1000001)
-      (int_same (total_of rows.counts.items name (pos 1)) (pos held) (shows.counted name ∙ ap pos (sym (shows.held name))))
+      (int_same (total_of rows.counts.items name (pos 1)) (pos held)
+      (shows.counted name ∙ ap pos (sym (shows.held name))))
       (below_from held 1000001 (let same = shows.held name in omega (arith, sound.made_few name))))
 
   record_kept : (r : RawRecord) → Has rows.records.items r → is_record rows.entries.items r ≡ true
@@ -113,10 +141,13 @@ module _ (rows : Rows) (V : Vault) (shows : Shows rows V) (sound : Sound V) wher
       let fine = sound.records (string_bytes r.caller) it.0 it.1 it.3 in
       let row = entry_shown rows V shows (string_bytes r.merchant) (string_bytes r.token) fine.2.0
       ((λ i. entry_at V (it.4.merchant i) (it.4.token i)) ∙ fine.2.1) in
-      let usage : row.0.e.usage ≡ r.usage = row.1.usage ∙ ap (λ u. pos (usage_number u)) fine.2.2 ∙ sym it.4.usage in
+      let usage : row.0.e.usage ≡ r.usage =
+      row.1.usage ∙ ap (λ u. pos (usage_number u)) fine.2.2 ∙ sym it.4.usage in
       and_from _ _ (and_from _ _ (name_from (string_bytes r.caller) fine.0)
       (within_from 1 9223372036854775807 it.0 r.request it.2 fine.1.0 fine.1.1))
-      (ap (λ (o : Option RawEntry). option_map_or (λ (e : RawEntry). int_eq e.usage r.usage) o false) row.0.first ∙ int_same row.0.e.usage r.usage usage)
+      (ap (λ (o : Option RawEntry). option_map_or (λ (e : RawEntry). int_eq e.usage r.usage) o false)
+      row.0.first
+      ∙ int_same row.0.e.usage r.usage usage)
 
   kept_11 : list_all (is_record rows.entries.items) rows.records.items ≡ true
   kept_11 = test_from (is_record rows.entries.items) rows.records.items record_kept
@@ -125,10 +156,12 @@ module _ (rows : Rows) (V : Vault) (shows : Shows rows V) (sound : Sound V) wher
   kept_12 = test_from (is_right rows.merchants.items) rows.rights.items (λ r h.
       let it = shows.rights r h in
       let fine = sound.rights (string_bytes r.caller) (string_bytes r.merchant) it.0 it.2 in
-      and_from _ _ (and_from _ _ (name_from (string_bytes r.caller) fine.0) (known rows V shows (string_bytes r.merchant) fine.1 fine.2))
+      and_from _ _ (and_from _ _ (name_from (string_bytes r.caller) fine.0)
+      (known rows V shows (string_bytes r.merchant) fine.1 fine.2))
       (right_within it.0 r.what it.1))
 
-  kept_after : HasKeysApart rows → (n : ℕ) → keeps rows (suc (suc (suc (suc (suc (suc (suc (suc n)))))))) ≡ true
+  kept_after : HasKeysApart rows → (n : ℕ)
+      → keeps rows (suc (suc (suc (suc (suc (suc (suc (suc n)))))))) ≡ true
   kept_after apart zero = kept_8
   kept_after apart (suc zero) = keys_distinct rows V shows sound apart.entries
   kept_after apart (suc (suc zero)) = kept_10
@@ -136,7 +169,8 @@ module _ (rows : Rows) (V : Vault) (shows : Shows rows V) (sound : Sound V) wher
   kept_after apart (suc (suc (suc (suc zero)))) = kept_12
   kept_after apart (suc (suc (suc (suc (suc n))))) = refl
 
-pub all_kept : (rows : Rows) (V : Vault) → Shows rows V → Sound V → HasKeysApart rows → (r : ℕ) → keeps rows r ≡ true
+pub all_kept : (rows : Rows) (V : Vault) → Shows rows V → Sound V → HasKeysApart rows → (r : ℕ)
+    → keeps rows r ≡ true
 all_kept rows V shows sound apart zero = refl
 all_kept rows V shows sound apart (suc zero) = kept_1 rows V shows sound
 all_kept rows V shows sound apart (suc (suc zero)) = kept_2 rows V shows sound
@@ -145,4 +179,5 @@ all_kept rows V shows sound apart (suc (suc (suc (suc zero)))) = kept_4 rows V s
 all_kept rows V shows sound apart (suc (suc (suc (suc (suc zero))))) = kept_5 rows V shows sound
 all_kept rows V shows sound apart (suc (suc (suc (suc (suc (suc zero)))))) = kept_6 rows V shows sound
 all_kept rows V shows sound apart (suc (suc (suc (suc (suc (suc (suc zero))))))) = kept_7 rows V shows sound
-all_kept rows V shows sound apart (suc (suc (suc (suc (suc (suc (suc (suc n)))))))) = kept_after rows V shows sound apart n
+all_kept rows V shows sound apart (suc (suc (suc (suc (suc (suc (suc (suc n)))))))) =
+    kept_after rows V shows sound apart n

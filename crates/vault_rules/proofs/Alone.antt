@@ -1,5 +1,6 @@
 -- Of one merchant and number at most one multi-use entry of rows is live.
-use Rattle.std.proofs.Common.{◌≡◌, ℕ, ℤ, pos, ◌≤◌, true, Option, Some, None, option_map, refl, sym, ap, subst, ◌∙◌, zero, suc, arith}
+use Rattle.std.proofs.Common.{◌≡◌, ℕ, ℤ, pos, ◌≤◌, true, Option, Some, None, option_map, refl, sym, ap}
+use Rattle.std.proofs.Common.{subst, ◌∙◌, zero, suc, arith}
 use Rattle.std.specs.Prelude.{string_bytes}
 use Rattle.std.specs.Option.{option_map_or}
 use Rattle.sqlite_rules.specs.Lists.{Has}
@@ -21,7 +22,8 @@ use Rattle.vault_rules.proofs.RowsSound.{merchant_of_entry, lasting_moment}
 use Rattle.vault_rules.proofs.Timed.{timely}
 
 used : (z : ℤ) → IsBetween 1 2 z → z ≡ pos (usage_number (use_of z))
-used z h = h.is ∙ ap pos (own (natural z) h.low_is h.high_is) ∙ ap (λ x. pos (usage_number (use_of x))) (sym h.is)
+used z h =
+    h.is ∙ ap pos (own (natural z) h.low_is h.high_is) ∙ ap (λ x. pos (usage_number (use_of x))) (sym h.is)
   where
     own : (n : ℕ) → 1 ≤ n → n ≤ 2 → n ≡ usage_number (use_of (pos n))
     own zero low high = absurd (omega arith)
@@ -29,7 +31,8 @@ used z h = h.is ∙ ap pos (own (natural z) h.low_is h.high_is) ∙ ap (λ x. po
     own (suc (suc zero)) low high = refl
     own (suc (suc (suc n))) low high = absurd (omega arith)
 
-back : (moment birth : ℕ) (o : Option ℤ) → option_map_or (is_within (pos birth) (pos moment)) o true ≡ true → o ≡ option_map pos (option_map natural o)
+back : (moment birth : ℕ) (o : Option ℤ) → option_map_or (is_within (pos birth) (pos moment)) o true ≡ true
+    → o ≡ option_map pos (option_map natural o)
 back moment birth None h = refl
 back moment birth (Some at) h = ap (λ x. Some x) (within_is birth moment at h).is
 
@@ -40,7 +43,8 @@ module _ (rows : Rows) (keep : (r : ℕ) → keeps rows r ≡ true) where
       let row = merchant_of_entry rows keep e h in
       let moment = lasting_moment rows keep (string_bytes e.merchant) row in
       let timed : is_timed (pos (natural row.m.moment)) e ≡ true =
-      subst (λ z. is_timed z e ≡ true) moment (sym (at_moment rows.merchants.items is_timed e row.m row.first) ∙ kept.timed rows keep e h) in
+      subst (λ z. is_timed z e ≡ true) moment
+      (sym (at_moment rows.merchants.items is_timed e row.m row.first) ∙ kept.timed rows keep e h) in
       let times = timely (natural row.m.moment) e timed in
       record {
         number = refl;
@@ -50,14 +54,20 @@ module _ (rows : Rows) (keep : (r : ℕ) → keeps rows r ≡ true) where
         revoked = back (natural row.m.moment) (natural e.birth) e.revoked times.revoked;
       }
 
-  live_at : (m pan token : Bytes) (entry : Entry) (merchant : Merchant) → merchant_at (vault_of rows) m ≡ Some merchant
-      → (row : EntryRow rows.entries.items m token) → entry_value row.e ≡ entry → is_reusable pan merchant.moment entry ≡ true
+  live_at : (m pan token : Bytes) (entry : Entry) (merchant : Merchant)
+      → merchant_at (vault_of rows) m ≡ Some merchant
+      → (row : EntryRow rows.entries.items m token) → entry_value row.e ≡ entry
+      → is_reusable pan merchant.moment entry ≡ true
       → live_key rows.merchants.items row.e ≡ Some (m, pan)
   live_at m pan token entry merchant at row value h =
       let known = merchant_row rows m merchant at in
-      let moment : known.0.m.moment ≡ pos merchant.moment = lasting_moment rows keep m known.0 ∙ ap (λ (x : Merchant). pos x.moment) known.1 in
-      let live = reusable_live row.e entry (subst (ShowsEntry row.e) value (entry_shown row.e row.there)) merchant.moment pan h in
-      key_is rows.merchants.items row.e known.0.m (ap (merchant_of rows.merchants.items) row.merchant_is ∙ known.0.first)
+      let moment : known.0.m.moment ≡ pos merchant.moment =
+      lasting_moment rows keep m known.0 ∙ ap (λ (x : Merchant). pos x.moment) known.1 in
+      let live =
+      reusable_live row.e entry (subst (ShowsEntry row.e) value (entry_shown row.e row.there))
+      merchant.moment pan h in
+      key_is rows.merchants.items row.e known.0.m
+      (ap (merchant_of rows.merchants.items) row.merchant_is ∙ known.0.first)
       ∙ ap (λ z. option_map (λ number. (string_bytes row.e.merchant, number)) (live_number z row.e)) moment
       ∙ ap (option_map (λ number. (string_bytes row.e.merchant, number))) live
       ∙ ap (λ n. Some (n, pan)) row.merchant_is
@@ -70,6 +80,8 @@ module _ (rows : Rows) (keep : (r : ℕ) → keeps rows r ≡ true) where
   alone m pan token other entry entry' merchant at one live two live' =
       let a = entry_row rows m token entry one in
       let b = entry_row rows m other entry' two in
-      let same = distinct_once (live_key rows.merchants.items) rows.entries.items (kept.distinct rows keep) a.0.e b.0.e (m, pan) a.0.there b.0.there
-      (live_at m pan token entry merchant at a.0 a.1 live) (live_at m pan other entry' merchant at b.0 b.1 live') in
+      let same = distinct_once (live_key rows.merchants.items) rows.entries.items (kept.distinct rows keep)
+      a.0.e b.0.e (m, pan) a.0.there b.0.there
+      (live_at m pan token entry merchant at a.0 a.1 live)
+      (live_at m pan other entry' merchant at b.0 b.1 live') in
       sym a.0.token_is ∙ ap (λ e. string_bytes e.token) same ∙ b.0.token_is

@@ -1,5 +1,6 @@
 -- The first row of a key, among one row more.
-use Rattle.std.proofs.Common.{◌≡◌, ◌+◌, ◌<◌, ℕ, Bool, true, false, cond, List, [], ◌∷◌, ◌++◌, length, take, get_or, Option, Some, None, Bor, refl, sym, ap, ◌∙◌, ◌&&◌, bytes_eq}
+use Rattle.std.proofs.Common.{◌≡◌, ◌+◌, ◌<◌, ℕ, Bool, true, false, cond, List, [], ◌∷◌, ◌++◌, length, take}
+use Rattle.std.proofs.Common.{get_or, Option, Some, None, Bor, refl, sym, ap, ◌∙◌, ◌&&◌, bytes_eq}
 use Rattle.std.specs.Cmp.Lexicographic.{texts_ties}
 use Rattle.std.specs.Ordering.{is_eq, ordering_then}
 use Rattle.std.specs.declared.cmp.Ordering.{Ordering}
@@ -21,14 +22,17 @@ find_more : {R : Type 0} (p : R → Bool) (xs : List R) (i : ℕ) (x : R) → i 
 find_more p xs i x inside is = ap (find p) (take_row xs i x inside is) ∙ find-append p (take i xs) (x ∷ [])
 
 copied_or : {R : Type 0} (a : Option (Bor R)) (b : Bool) (x : Bor R)
-    → option_copied (option_or a (cond b (Some x) None)) ≡ option_or (option_copied a) (cond b (Some x.now) None)
+    → option_copied (option_or a (cond b (Some x) None))
+    ≡ option_or (option_copied a) (cond b (Some x.now) None)
 copied_or None true x = refl
 copied_or None false x = refl
 copied_or (Some y) b x = refl
 
 -- a map that has the first rows, after a row was put in where none was
-pub first_more : {R : Type 0} (p : R → Bool) (xs : List R) (i : ℕ) (x : Bor R) (old new : Option (Bor R)) (test : Bool)
-    → i < length xs → x.now ≡ get_or xs i x.now → new ≡ option_or old (cond test (Some x) None) → test ≡ p x.now
+pub first_more : {R : Type 0} (p : R → Bool) (xs : List R) (i : ℕ) (x : Bor R) (old new : Option (Bor R))
+    (test : Bool)
+    → i < length xs → x.now ≡ get_or xs i x.now → new ≡ option_or old (cond test (Some x) None)
+    → test ≡ p x.now
     → option_copied old ≡ find p (take i xs) → option_copied new ≡ find p (take (i + 1) xs)
 first_more p xs i x old new test inside is put same before =
     ap option_copied put ∙ copied_or old test x
@@ -41,7 +45,9 @@ pub first_not : {R : Type 0} (p : R → Bool) (xs : List R) (i : ℕ) (x : R) (f
     → i < length xs → x ≡ get_or xs i x → p x ≡ false
     → found ≡ find p (take i xs) → found ≡ find p (take (i + 1) xs)
 first_not p xs i x found inside is not before =
-    before ∙ sym (find_more p xs i x inside is ∙ ap (λ b. option_or (find p (take i xs)) (cond b (Some x) None)) not ∙ none (find p (take i xs)))
+    before
+    ∙ sym (find_more p xs i x inside is
+    ∙ ap (λ b. option_or (find p (take i xs)) (cond b (Some x) None)) not ∙ none (find p (take i xs)))
   where
     none : {A : Type 0} (o : Option A) → option_or o None ≡ o
     none None = refl
@@ -64,4 +70,7 @@ both Greater b = refl
 -- pairs that compare alike have the same texts
 pub pair_ties : (a b c d : List ℕ)
     → is_eq (ordering_then (bytes_cmp a c) (bytes_cmp b d)) ≡ bytes_eq a c && bytes_eq b d
-pair_ties a b c d = both (bytes_cmp a c) (bytes_cmp b d) ∙ sym (ap (λ x. x && bytes_eq b d) (texts_ties a c) ∙ ap (λ x. is_eq (bytes_cmp a c) && x) (texts_ties b d))
+pair_ties a b c d =
+    both (bytes_cmp a c) (bytes_cmp b d)
+    ∙ sym (ap (λ x. x && bytes_eq b d) (texts_ties a c)
+    ∙ ap (λ x. is_eq (bytes_cmp a c) && x) (texts_ties b d))

@@ -10,9 +10,11 @@ use Rattle.std.proofs.lemmas.Map.Text.{is_eq-slice_cmp}
 use Rattle.std.proofs.lemmas.Slice.Eq.{bytes_eq-Decides}
 use Rattle.vault_core.specs.Keys.{Bytes, bytes_cmp, entry_cmp, record_cmp}
 use Rattle.vault_core.specs.Vault.{merchant_at, entry_at, record_at, made}
-use Rattle.vault_core.proofs.Maps.{bytes_total, bytes_exact, entry_total, entry_exact, record_total, record_exact}
+use Rattle.vault_core.proofs.Maps.{bytes_total, bytes_exact, entry_total, entry_exact, record_total}
+use Rattle.vault_core.proofs.Maps.{record_exact}
 use Rattle.vault_rules.specs.Lookups.{merchant_of, entry_of, held_by}
-use Rattle.vault_rules.specs.VaultOf.{vault_of, merchant_value, entry_key, entry_value, record_key, record_value, HasKeysApart}
+use Rattle.vault_rules.specs.VaultOf.{vault_of, merchant_value, entry_key, entry_value, record_key}
+use Rattle.vault_rules.specs.VaultOf.{record_value, HasKeysApart}
 use Rattle.vault_rules.specs.declared.rows.Rows.{Rows}
 use Rattle.vault_rules.proofs.Keyed.{get_first, len_is, kept_is}
 
@@ -31,29 +33,41 @@ both_equal Equal b = refl
 both_equal Greater b = refl
 
 entries_tie : (q k : Bytes × Bytes) → eq_by_cmp entry_cmp q k ≡ (bytes_eq k.0 q.0 && bytes_eq k.1 q.1)
-entries_tie q k = both_equal (bytes_cmp q.0 k.0) (bytes_cmp q.1 k.1) ∙ (λ i. bytes_tie q.0 k.0 i && bytes_tie q.1 k.1 i)
+entries_tie q k =
+    both_equal (bytes_cmp q.0 k.0) (bytes_cmp q.1 k.1) ∙ (λ i. bytes_tie q.0 k.0 i && bytes_tie q.1 k.1 i)
 
 module _ (rows : Rows) where
-  pub merchant_is : (name : Bytes) → merchant_at (vault_of rows) name ≡ option_map (merchant_value rows.counts.items) (merchant_of rows.merchants.items name)
+  pub merchant_is : (name : Bytes)
+      → merchant_at (vault_of rows) name
+      ≡ option_map (merchant_value rows.counts.items) (merchant_of rows.merchants.items name)
   merchant_is name =
       get_first bytes_total bytes_exact (λ m. string_bytes m.name) (merchant_value rows.counts.items)
-      (λ q m. bytes_eq (string_bytes m.name) q) (λ q m. bytes_tie q (string_bytes m.name)) rows.merchants.items name
+      (λ q m. bytes_eq (string_bytes m.name) q) (λ q m. bytes_tie q (string_bytes m.name))
+      rows.merchants.items name
 
-  pub entry_is : (m token : Bytes) → entry_at (vault_of rows) m token ≡ option_map entry_value (entry_of rows.entries.items m token)
+  pub entry_is : (m token : Bytes)
+      → entry_at (vault_of rows) m token ≡ option_map entry_value (entry_of rows.entries.items m token)
   entry_is m token =
       get_first entry_total entry_exact entry_key entry_value
-      (λ q e. bytes_eq (string_bytes e.merchant) q.0 && bytes_eq (string_bytes e.token) q.1) (λ q e. entries_tie q (entry_key e)) rows.entries.items (m, token)
+      (λ q e. bytes_eq (string_bytes e.merchant) q.0 && bytes_eq (string_bytes e.token) q.1)
+      (λ q e. entries_tie q (entry_key e)) rows.entries.items (m, token)
 
   pub record_is : (caller : Bytes) (request : ℕ)
-      → record_at (vault_of rows) caller request ≡ option_map record_value (find (λ r. eq_by_cmp record_cmp (caller, request) (record_key r)) rows.records.items)
+      → record_at (vault_of rows) caller request
+      ≡ option_map record_value
+      (find (λ r. eq_by_cmp record_cmp (caller, request) (record_key r)) rows.records.items)
   record_is caller request =
       get_first record_total record_exact record_key record_value
       (λ q r. eq_by_cmp record_cmp q (record_key r)) (λ q r. refl) rows.records.items (caller, request)
 
   pub many_is : HasKeysApart rows → finite.len (vault_of rows).merchants ≡ length rows.merchants.items
-  many_is apart = len_is bytes_total bytes_exact (λ m. string_bytes m.name) (merchant_value rows.counts.items) rows.merchants.items apart.merchants
+  many_is apart =
+      len_is bytes_total bytes_exact (λ m. string_bytes m.name) (merchant_value rows.counts.items)
+      rows.merchants.items apart.merchants
 
-  pub made_is : HasKeysApart rows → (name : Bytes) → made (vault_of rows) name ≡ held_by rows.entries.items name
+  pub made_is : HasKeysApart rows → (name : Bytes)
+      → made (vault_of rows) name ≡ held_by rows.entries.items name
   made_is apart name =
       kept_is entry_total entry_exact entry_key entry_value (λ key. eq_by_cmp bytes_cmp name key.0)
-      (λ e. bytes_eq (string_bytes e.merchant) name) (λ e. bytes_tie name (string_bytes e.merchant)) rows.entries.items apart.entries
+      (λ e. bytes_eq (string_bytes e.merchant) name) (λ e. bytes_tie name (string_bytes e.merchant))
+      rows.entries.items apart.entries

@@ -1,5 +1,6 @@
 -- Each row is in the vault of rows.
-use Rattle.std.proofs.Common.{◌≡◌, ℕ, pos, true, List, [], ◌∷◌, map, length, Some, option_map, inl, inr, refl, sym, ap, ◌∙◌}
+use Rattle.std.proofs.Common.{◌≡◌, ℕ, pos, true, List, [], ◌∷◌, map, length, Some, option_map, inl, inr}
+use Rattle.std.proofs.Common.{refl, sym, ap, ◌∙◌}
 use Rattle.std.specs.Prelude.{string_bytes}
 use Rattle.std.specs.Cmp.{tied_itself}
 use Rattle.std.specs.FinMap as finite
@@ -13,9 +14,12 @@ use Rattle.sqlite_rules.proofs.ListLemmas.{has_found, some_from}
 use Rattle.sqlite_rules.proofs.ProbeLemmas.{mapped_has}
 use Rattle.vault_core.specs.Keys.{Bytes, right_cmp}
 use Rattle.vault_core.specs.Vault.{merchant_at, entry_at, record_at, has_right}
-use Rattle.vault_core.proofs.Maps.{bytes_total, bytes_exact, entry_total, entry_exact, record_total, record_exact, right_total}
+use Rattle.vault_core.proofs.Maps.{bytes_total, bytes_exact, entry_total, entry_exact, record_total}
+use Rattle.vault_core.proofs.Maps.{record_exact, right_total}
 use Rattle.vault_rules.specs.Rules.{keeps}
-use Rattle.vault_rules.specs.VaultOf.{AreKeysApart, HasKeysApart, vault_of, natural, merchant_value, entry_key, entry_value, record_key, record_value, request_key, right_key, right_of}
+use Rattle.vault_rules.specs.VaultOf.{AreKeysApart, HasKeysApart, vault_of, natural, merchant_value}
+use Rattle.vault_rules.specs.VaultOf.{entry_key, entry_value, record_key, record_value, request_key}
+use Rattle.vault_rules.specs.VaultOf.{right_key, right_of}
 use Rattle.vault_rules.specs.declared.rows.RawMerchant.{RawMerchant}
 use Rattle.vault_rules.specs.declared.rows.RawEntry.{RawEntry}
 use Rattle.vault_rules.specs.declared.rows.RawRecord.{RawRecord}
@@ -25,38 +29,52 @@ use Rattle.vault_rules.proofs.Keyed.{keys_once, find-some, pairs, get_first, len
 use Rattle.vault_rules.proofs.Kept as kept
 
 -- keys that differ by one part differ by another that tells it
-apart_by : {R K L : Type 0} (key : R → K) (other : R → L) (rows : List R) → ((a b : R) → Has rows a → Has rows b → other a ≡ other b → key a ≡ key b)
+apart_by : {R K L : Type 0} (key : R → K) (other : R → L) (rows : List R)
+    → ((a b : R) → Has rows a → Has rows b → other a ≡ other b → key a ≡ key b)
     → AreKeysApart key rows → AreKeysApart other rows
 apart_by key other [] tells apart = tt
-apart_by key other (r ∷ rows) tells apart =
-    (λ s h same. apart.0 s h (tells r s (inl refl) (inr h) same), apart_by key other rows (λ a b h g. tells a b (inr h) (inr g)) apart.1)
+apart_by key other (r ∷ rows) tells apart = (
+  λ s h same. apart.0 s h (tells r s (inl refl) (inr h) same),
+  apart_by key other rows (λ a b h g. tells a b (inr h) (inr g)) apart.1,
+)
 
 -- what is at the key of a row is its value
-get_held : {K X R : Type 0} {C : K → K → Ordering} (total : IsTotalOrder C) (exact : IsAntisymmetric C) (key : R → K) (value : R → X) (rows : List R)
-    → AreKeysApart key rows → (r : R) → Has rows r → finite.get (finite.from_entries {R = C} (pairs total exact key value rows)) (key r) ≡ Some (value r)
+get_held : {K X R : Type 0} {C : K → K → Ordering} (total : IsTotalOrder C) (exact : IsAntisymmetric C)
+    (key : R → K) (value : R → X) (rows : List R)
+    → AreKeysApart key rows → (r : R) → Has rows r
+    → finite.get (finite.from_entries {R = C} (pairs total exact key value rows)) (key r) ≡ Some (value r)
 get_held {R = R} {C = C} total exact key value rows apart r h =
     let test = λ (s : R). eq_by_cmp C (key r) (key s) in
     let first = find-some test rows r h (ap is_eq (tied_itself total (key r))) in
     let found = has_found test rows first.0 first.1 in
-    let same = keys_once key rows apart first.0 r found.0 h (sym (exact (key r) (key first.0) ((Equal-is (C (key r) (key first.0))).0 found.1))) in
+    let same =
+    keys_once key rows apart first.0 r found.0 h
+    (sym (exact (key r) (key first.0) ((Equal-is (C (key r) (key first.0))).0 found.1))) in
     get_first total exact key value (λ q s. eq_by_cmp C q (key s)) (λ q s. refl) rows (key r)
     ∙ ap (option_map value) first.1 ∙ ap (λ s. Some (value s)) same
 
 module _ (rows : Rows) (apart : HasKeysApart rows) where
-  pub merchant_held : (m : RawMerchant) → Has rows.merchants.items m → merchant_at (vault_of rows) (string_bytes m.name) ≡ Some (merchant_value rows.counts.items m)
-  merchant_held m h = get_held bytes_total bytes_exact (λ n. string_bytes n.name) (merchant_value rows.counts.items) rows.merchants.items apart.merchants m h
+  pub merchant_held : (m : RawMerchant) → Has rows.merchants.items m
+      → merchant_at (vault_of rows) (string_bytes m.name) ≡ Some (merchant_value rows.counts.items m)
+  merchant_held m h =
+      get_held bytes_total bytes_exact (λ n. string_bytes n.name) (merchant_value rows.counts.items)
+      rows.merchants.items apart.merchants m h
 
-  pub entry_held : (e : RawEntry) → Has rows.entries.items e → entry_at (vault_of rows) (string_bytes e.merchant) (string_bytes e.token) ≡ Some (entry_value e)
+  pub entry_held : (e : RawEntry) → Has rows.entries.items e
+      → entry_at (vault_of rows) (string_bytes e.merchant) (string_bytes e.token) ≡ Some (entry_value e)
   entry_held e h = get_held entry_total entry_exact entry_key entry_value rows.entries.items apart.entries e h
 
   -- requests that are apart have keys that are apart, since they aren't negative
   requests_apart : ((r : ℕ) → keeps rows r ≡ true) → AreKeysApart record_key rows.records.items
   requests_apart keep = apart_by request_key record_key rows.records.items numbered apart.records
     where
-      numbered : (a b : RawRecord) → Has rows.records.items a → Has rows.records.items b → record_key a ≡ record_key b → request_key a ≡ request_key b
+      numbered : (a b : RawRecord)
+          → Has rows.records.items a → Has rows.records.items b → record_key a ≡ record_key b
+          → request_key a ≡ request_key b
       numbered a b g k same =
           let request : a.request ≡ b.request =
-          (kept.records_well rows keep a g).request.is ∙ ap (λ (key : Bytes × ℕ). pos key.1) same ∙ sym (kept.records_well rows keep b k).request.is in
+          (kept.records_well rows keep a g).request.is ∙ ap (λ (key : Bytes × ℕ). pos key.1) same
+          ∙ sym (kept.records_well rows keep b k).request.is in
           λ i. ((same i).0, request i)
 
   pub record_held : ((r : ℕ) → keeps rows r ≡ true) → (r : RawRecord) → Has rows.records.items r
@@ -67,12 +85,16 @@ module _ (rows : Rows) (apart : HasKeysApart rows) where
   pub entries_many : finite.len (vault_of rows).entries ≡ length rows.entries.items
   entries_many = len_is entry_total entry_exact entry_key entry_value rows.entries.items apart.entries
 
-  pub records_many : ((r : ℕ) → keeps rows r ≡ true) → finite.len (vault_of rows).records ≡ length rows.records.items
-  records_many keep = len_is record_total record_exact record_key record_value rows.records.items (requests_apart keep)
+  pub records_many : ((r : ℕ) → keeps rows r ≡ true)
+      → finite.len (vault_of rows).records ≡ length rows.records.items
+  records_many keep =
+      len_is record_total record_exact record_key record_value rows.records.items (requests_apart keep)
 
 module _ (rows : Rows) where
-  pub right_held : (r : RawRight) → Has rows.rights.items r → has_right (vault_of rows) (string_bytes r.caller) (string_bytes r.merchant) (right_of r.what) ≡ true
+  pub right_held : (r : RawRight) → Has rows.rights.items r
+      → has_right (vault_of rows) (string_bytes r.caller) (string_bytes r.merchant) (right_of r.what) ≡ true
   right_held r h =
       set.contains-from_list right_total (map right_key rows.rights.items) (right_key r)
-      ∙ some_from (eq_by_cmp right_cmp (right_key r)) (map right_key rows.rights.items) (right_key r) (mapped_has right_key rows.rights.items r h)
+      ∙ some_from (eq_by_cmp right_cmp (right_key r)) (map right_key rows.rights.items) (right_key r)
+      (mapped_has right_key rows.rights.items r h)
       (ap is_eq (tied_itself right_total (right_key r)))

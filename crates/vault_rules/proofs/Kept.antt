@@ -10,7 +10,9 @@ use Rattle.sqlite_rules.proofs.ListLemmas.{test_has}
 use Rattle.vault_core.specs.Name.{IsName}
 use Rattle.vault_pan.specs.CardText.{IsToken}
 use Rattle.vault_rules.specs.Lookups.{is_known, entry_of, held_by, total_of}
-use Rattle.vault_rules.specs.Rules.{are_named, is_lasting, is_count, has_token, has_number, is_timed, is_kept, at_moments, live_key, are_distinct, is_counted, is_record, is_right, keeps}
+use Rattle.vault_rules.specs.Rules.{are_named, is_lasting, is_count, has_token, has_number, is_timed}
+use Rattle.vault_rules.specs.Rules.{is_kept, at_moments, live_key, are_distinct, is_counted, is_record}
+use Rattle.vault_rules.specs.Rules.{is_right, keeps}
 use Rattle.vault_rules.specs.Texts.{is_name}
 use Rattle.vault_rules.specs.declared.rows.RawMerchant.{RawMerchant}
 use Rattle.vault_rules.specs.declared.rows.RawCount.{RawCount}
@@ -34,7 +36,8 @@ pub record CountsWell (merchants : List RawMerchant) (c : RawCount) : Type 0 whe
 pub record RecordsWell (entries : List RawEntry) (r : RawRecord) : Type 0 where
   pub caller : IsName (string_bytes r.caller)
   pub request : IsBetween 1 9223372036854775807 r.request
-  pub usage : option_map_or (λ (e : RawEntry). int_eq e.usage r.usage) (entry_of entries (string_bytes r.merchant) (string_bytes r.token)) false ≡ true
+  pub usage : option_map_or (λ (e : RawEntry). int_eq e.usage r.usage)
+      (entry_of entries (string_bytes r.merchant) (string_bytes r.token)) false ≡ true
 
 module _ (rows : Rows) (kept : (r : ℕ) → keeps rows r ≡ true) where
   pub few : length rows.merchants.items ≤ 10000
@@ -45,21 +48,31 @@ module _ (rows : Rows) (kept : (r : ℕ) → keeps rows r ≡ true) where
   pub named : (m : RawMerchant) → Has rows.merchants.items m → IsName (string_bytes m.name)
   named m h =
       let two : are_named rows.merchants.items ≡ true = kept 2 in
-      name_is (string_bytes m.name) (test_has (λ n. is_name (string_bytes n.name)) rows.merchants.items m (and_parts _ _ two).1 h)
+      name_is (string_bytes m.name)
+      (test_has (λ n. is_name (string_bytes n.name)) rows.merchants.items m (and_parts _ _ two).1 h)
 
   pub lasts : (m : RawMerchant) → Has rows.merchants.items m → LastsWell m
   lasts m h =
       let first = and_parts _ _ (test_has is_lasting rows.merchants.items m (kept 3) h) in
       let second = and_parts _ _ first.0 in
-      record { single = within_is 0 3155760000 m.single_life second.0; multi = within_is 0 3155760000 m.multi_life second.1; moment = within_is 0 253402300799 m.moment first.1 }
+      record {
+        single = within_is 0 3155760000 m.single_life second.0;
+        multi = within_is 0 3155760000 m.multi_life second.1;
+        moment = within_is 0 253402300799 m.moment first.1;
+      }
 
   pub counts_well : (c : RawCount) → Has rows.counts.items c → CountsWell rows.merchants.items c
   counts_well c h =
       let first = and_parts _ _ (test_has (is_count rows.merchants.items) rows.counts.items c (kept 4) h) in
       let second = and_parts _ _ first.0 in
-      record { known = second.0; kind = within_is 1 3 c.kind second.1; total = within_is 1 4611686018427387903 c.total first.1 }
+      record {
+        known = second.0;
+        kind = within_is 1 3 c.kind second.1;
+        total = within_is 1 4611686018427387903 c.total first.1;
+      }
 
-  pub tokens : (e : RawEntry) → Has rows.entries.items e → (is_known rows.merchants.items (string_bytes e.merchant) ≡ true) × IsToken (string_bytes e.token)
+  pub tokens : (e : RawEntry) → Has rows.entries.items e
+      → (is_known rows.merchants.items (string_bytes e.merchant) ≡ true) × IsToken (string_bytes e.token)
   tokens e h =
       let parts = and_parts _ _ (test_has (has_token rows.merchants.items) rows.entries.items e (kept 5) h) in
       (parts.0, token_is (string_bytes e.token) parts.1)
@@ -70,17 +83,21 @@ module _ (rows : Rows) (kept : (r : ℕ) → keeps rows r ≡ true) where
   pub timed : (e : RawEntry) → Has rows.entries.items e → at_moments rows.merchants.items is_timed e ≡ true
   timed e h = test_has (at_moments rows.merchants.items is_timed) rows.entries.items e (kept 7) h
 
-  pub live_or_over : (e : RawEntry) → Has rows.entries.items e → at_moments rows.merchants.items is_kept e ≡ true
+  pub live_or_over : (e : RawEntry) → Has rows.entries.items e
+      → at_moments rows.merchants.items is_kept e ≡ true
   live_or_over e h = test_has (at_moments rows.merchants.items is_kept) rows.entries.items e (kept 8) h
 
   pub distinct : are_distinct (filter_map (live_key rows.merchants.items) rows.entries.items) ≡ true
   distinct = kept 9
 
   pub counted : (m : RawMerchant) → Has rows.merchants.items m
-      → (total_of rows.counts.items (string_bytes m.name) (pos 1) ≡ pos (held_by rows.entries.items (string_bytes m.name)))
+      → (total_of rows.counts.items (string_bytes m.name) (pos 1)
+      ≡ pos (held_by rows.entries.items (string_bytes m.name)))
       × (held_by rows.entries.items (string_bytes m.name) ≤ 1000000)
   counted m h =
-      let parts = and_parts _ _ (test_has (is_counted rows.counts.items rows.entries.items) rows.merchants.items m (kept 10) h) in
+      let parts =
+      and_parts _ _
+      (test_has (is_counted rows.counts.items rows.entries.items) rows.merchants.items m (kept 10) h) in
       let less = below_is (held_by rows.entries.items (string_bytes m.name)) 1000001 parts.1 in
       (int_is _ _ parts.0, omega arith)
 
@@ -88,10 +105,15 @@ module _ (rows : Rows) (kept : (r : ℕ) → keeps rows r ≡ true) where
   records_well r h =
       let first = and_parts _ _ (test_has (is_record rows.entries.items) rows.records.items r (kept 11) h) in
       let second = and_parts _ _ first.0 in
-      record { caller = name_is (string_bytes r.caller) second.0; request = within_is 1 9223372036854775807 r.request second.1; usage = first.1 }
+      record {
+        caller = name_is (string_bytes r.caller) second.0;
+        request = within_is 1 9223372036854775807 r.request second.1;
+        usage = first.1;
+      }
 
   pub rights_well : (r : RawRight) → Has rows.rights.items r
-      → IsName (string_bytes r.caller) × (is_known rows.merchants.items (string_bytes r.merchant) ≡ true) × IsBetween 1 6 r.what
+      → IsName (string_bytes r.caller) × (is_known rows.merchants.items (string_bytes r.merchant) ≡ true)
+      × IsBetween 1 6 r.what
   rights_well r h =
       let first = and_parts _ _ (test_has (is_right rows.merchants.items) rows.rights.items r (kept 12) h) in
       let second = and_parts _ _ first.0 in

@@ -1,5 +1,6 @@
 -- The live multi-use entries of rows.
-use Rattle.std.proofs.Common.{◌≡◌, ℕ, pos, ◌&&◌, Bool, true, false, cond, List, [], ◌∷◌, not, Option, Some, None, option_map, is_some, is_none, inl, inr, refl, sym, ap, ◌∙◌, true≢false}
+use Rattle.std.proofs.Common.{◌≡◌, ℕ, pos, ◌&&◌, Bool, true, false, cond, List, [], ◌∷◌, not, Option, Some}
+use Rattle.std.proofs.Common.{None, option_map, is_some, is_none, inl, inr, refl, sym, ap, ◌∙◌, true≢false}
 use Rattle.std.specs.Prelude.{string_bytes, bytes_eq, nat_lt, option_and_then}
 use Rattle.std.specs.Cmp.{Equal-is}
 use Rattle.std.specs.Cmp.Lexicographic.{texts_ties}
@@ -38,43 +39,63 @@ none_is None = refl
 none_is (Some x) = refl
 
 module _ (e : RawEntry) (entry : Entry) (shows : ShowsEntry e entry) (moment : ℕ) where
-  number_shown : live_number (pos moment) e ≡ cond (same_use entry.usage Multi && is_none entry.revoked && nat_lt moment entry.expires) entry.number None
+  number_shown : live_number (pos moment) e
+      ≡ cond (same_use entry.usage Multi && is_none entry.revoked && nat_lt moment entry.expires)
+      entry.number None
   number_shown =
-      (λ i. cond (int_eq (shows.usage i) (pos 2) && is_none (shows.revoked i) && int_lt (pos moment) (shows.expires i)) (shows.number i) None)
-      ∙ (λ i. cond (multi_is entry.usage i && none_is entry.revoked i && nat_lt moment entry.expires) entry.number None)
+      (λ i. cond
+      (int_eq (shows.usage i) (pos 2) && is_none (shows.revoked i) && int_lt (pos moment) (shows.expires i))
+      (shows.number i) None)
+      ∙ (λ i. cond (multi_is entry.usage i && none_is entry.revoked i && nat_lt moment entry.expires)
+      entry.number None)
 
   -- its number is live
-  pub reusable_live : (pan : Bytes) → is_reusable pan moment entry ≡ true → live_number (pos moment) e ≡ Some pan
+  pub reusable_live : (pan : Bytes) → is_reusable pan moment entry ≡ true
+      → live_number (pos moment) e ≡ Some pan
   reusable_live pan h =
-      let outer = and_parts (same_use entry.usage Multi && option_map_or (λ number. same number pan) entry.number false)
+      let outer = and_parts
+      (same_use entry.usage Multi && option_map_or (λ number. same number pan) entry.number false)
       (is_some entry.number && is_none entry.revoked && nat_lt moment entry.expires) h in
-      let first = and_parts (same_use entry.usage Multi) (option_map_or (λ number. same number pan) entry.number false) outer.0 in
-      let live = and_parts (is_some entry.number && is_none entry.revoked) (nat_lt moment entry.expires) outer.1 in
+      let first =
+      and_parts (same_use entry.usage Multi)
+      (option_map_or (λ number. same number pan) entry.number false) outer.0 in
+      let live =
+      and_parts (is_some entry.number && is_none entry.revoked) (nat_lt moment entry.expires) outer.1 in
       let unrevoked = and_parts (is_some entry.number) (is_none entry.revoked) live.0 in
       let found = tested_is (λ number. same number pan) entry.number first.1 in
       number_shown
-      ∙ ap (λ b. cond b entry.number None) (and_from (same_use entry.usage Multi && is_none entry.revoked) (nat_lt moment entry.expires)
+      ∙ ap (λ b. cond b entry.number None)
+      (and_from (same_use entry.usage Multi && is_none entry.revoked) (nat_lt moment entry.expires)
       (and_from (same_use entry.usage Multi) (is_none entry.revoked) first.0 unrevoked.1) live.1)
       ∙ found.1 ∙ ap (λ x. Some x) (same_is found.0 pan found.2)
 
   -- it is reused where its number is live
-  pub live_reusable : (pan : Bytes) → live_number (pos moment) e ≡ Some pan → is_reusable pan moment entry ≡ true
-  live_reusable pan h = back (same_use entry.usage Multi) (is_none entry.revoked) (nat_lt moment entry.expires) entry.number (sym number_shown ∙ h)
+  pub live_reusable : (pan : Bytes) → live_number (pos moment) e ≡ Some pan
+      → is_reusable pan moment entry ≡ true
+  live_reusable pan h =
+      back (same_use entry.usage Multi) (is_none entry.revoked) (nat_lt moment entry.expires) entry.number
+      (sym number_shown ∙ h)
     where
-      back : (multi unrevoked before : Bool) (o : Option Bytes) → cond (multi && unrevoked && before) o None ≡ Some pan
-          → (multi && option_map_or (λ number. same number pan) o false && (is_some o && unrevoked && before)) ≡ true
+      back : (multi unrevoked before : Bool) (o : Option Bytes)
+          → cond (multi && unrevoked && before) o None ≡ Some pan
+          → (multi && option_map_or (λ number. same number pan) o false
+          && (is_some o && unrevoked && before)) ≡ true
       back true true true None e = cc
-      back true true true (Some x) e = let is : x ≡ pan = cc in and_from (same x pan) true (ap (λ y. same y pan) is ∙ same-refl pan) refl
+      back true true true (Some x) e =
+          let is : x ≡ pan = cc in
+          and_from (same x pan) true (ap (λ y. same y pan) is ∙ same-refl pan) refl
       back true true false o e = cc
       back true false before o e = cc
       back false unrevoked before o e = cc
 
 -- the key of a live entry, by the row of its merchant
-pub key_is : (merchants : List RawMerchant) (e : RawEntry) (m : RawMerchant) → merchant_of merchants (string_bytes e.merchant) ≡ Some m
+pub key_is : (merchants : List RawMerchant) (e : RawEntry) (m : RawMerchant)
+    → merchant_of merchants (string_bytes e.merchant) ≡ Some m
     → live_key merchants e ≡ option_map (λ number. (string_bytes e.merchant, number)) (live_number m.moment e)
 key_is merchants e m first =
     ap (λ (o : Option RawMerchant). option_and_then
-    (λ moment. option_map (λ number. let pair : Bytes × Bytes = (string_bytes e.merchant, number) in pair) (live_number moment e))
+    (λ moment. option_map (λ number. let pair : Bytes × Bytes = (string_bytes e.merchant, number) in pair)
+    (live_number moment e))
     (option_map (λ n. n.moment) o)) first
 
 module _ {R : Type 0} (f : R → Option (Bytes × Bytes)) where
@@ -87,28 +108,40 @@ module _ {R : Type 0} (f : R → Option (Bytes × Bytes)) where
       here (Some x) e = let own : k ≡ x = cc in inl own
   given (s ∷ rows) r k (inr later) is = there (f s) (given rows r k later is)
     where
-      there : (o : Option (Bytes × Bytes)) → Has (filter_map f rows) k → Has (cons_option o (filter_map f rows)) k
+      there : (o : Option (Bytes × Bytes)) → Has (filter_map f rows) k
+          → Has (cons_option o (filter_map f rows)) k
       there None h = h
       there (Some x) h = inr h
 
-  apart : (k : Bytes × Bytes) (o : Option (Bytes × Bytes)) (keys : List (Bytes × Bytes)) → are_distinct (cons_option o keys) ≡ true → o ≡ Some k → Has keys k → ⊥
+  apart : (k : Bytes × Bytes) (o : Option (Bytes × Bytes)) (keys : List (Bytes × Bytes))
+      → are_distinct (cons_option o keys) ≡ true → o ≡ Some k → Has keys k → ⊥
   apart k None keys distinct is h = cc
   apart k (Some x) keys distinct is h =
       let own : x ≡ k = cc in
-      let parts = and_parts (not (list_any (λ other. bytes_eq x.0 other.0 && bytes_eq x.1 other.1) keys)) (are_distinct keys) distinct in
+      let parts =
+      and_parts (not (list_any (λ other. bytes_eq x.0 other.0 && bytes_eq x.1 other.1) keys))
+      (are_distinct keys) distinct in
       let hit = some_from (λ other. bytes_eq x.0 other.0 && bytes_eq x.1 other.1) keys k h
-      (and_from (bytes_eq x.0 k.0) (bytes_eq x.1 k.1) (bytes_same x.0 k.0 (ap (λ p. p.0) own)) (bytes_same x.1 k.1 (ap (λ p. p.1) own))) in
+      (and_from (bytes_eq x.0 k.0) (bytes_eq x.1 k.1) (bytes_same x.0 k.0 (ap (λ p. p.0) own))
+      (bytes_same x.1 k.1 (ap (λ p. p.1) own))) in
       true≢false (sym parts.0 ∙ ap not hit)
 
-  rest : (o : Option (Bytes × Bytes)) (keys : List (Bytes × Bytes)) → are_distinct (cons_option o keys) ≡ true → are_distinct keys ≡ true
+  rest : (o : Option (Bytes × Bytes)) (keys : List (Bytes × Bytes))
+      → are_distinct (cons_option o keys) ≡ true → are_distinct keys ≡ true
   rest None keys h = h
-  rest (Some x) keys h = (and_parts (not (list_any (λ other. bytes_eq x.0 other.0 && bytes_eq x.1 other.1) keys)) (are_distinct keys) h).1
+  rest (Some x) keys h =
+      (and_parts (not (list_any (λ other. bytes_eq x.0 other.0 && bytes_eq x.1 other.1) keys))
+      (are_distinct keys) h).1
 
   -- a key is that of one row alone
-  pub distinct_once : (rows : List R) → are_distinct (filter_map f rows) ≡ true → (a b : R) (k : Bytes × Bytes) → Has rows a → Has rows b
+  pub distinct_once : (rows : List R)
+      → are_distinct (filter_map f rows) ≡ true → (a b : R) (k : Bytes × Bytes) → Has rows a → Has rows b
       → f a ≡ Some k → f b ≡ Some k → a ≡ b
   distinct_once [] distinct a b k h g p q = absurd h
   distinct_once (r ∷ rows) distinct a b k (inl first) (inl second) p q = first ∙ sym second
-  distinct_once (r ∷ rows) distinct a b k (inl first) (inr later) p q = absurd (apart k (f r) (filter_map f rows) distinct (ap f (sym first) ∙ p) (given rows b k later q))
-  distinct_once (r ∷ rows) distinct a b k (inr later) (inl first) p q = absurd (apart k (f r) (filter_map f rows) distinct (ap f (sym first) ∙ q) (given rows a k later p))
-  distinct_once (r ∷ rows) distinct a b k (inr h) (inr g) p q = distinct_once rows (rest (f r) (filter_map f rows) distinct) a b k h g p q
+  distinct_once (r ∷ rows) distinct a b k (inl first) (inr later) p q =
+      absurd (apart k (f r) (filter_map f rows) distinct (ap f (sym first) ∙ p) (given rows b k later q))
+  distinct_once (r ∷ rows) distinct a b k (inr later) (inl first) p q =
+      absurd (apart k (f r) (filter_map f rows) distinct (ap f (sym first) ∙ q) (given rows a k later p))
+  distinct_once (r ∷ rows) distinct a b k (inr h) (inr g) p q =
+      distinct_once rows (rest (f r) (filter_map f rows) distinct) a b k h g p q

@@ -1,5 +1,7 @@
 -- Keys of which no two are alike, with one key more.
-use Rattle.std.proofs.Common.{◌≡◌, ◌+◌, ◌<◌, ℕ, Bool, true, false, not, ◌&&◌, ◌||◌, cond, List, [], ◌∷◌, ◌++◌, length, take, drop, get_or, Option, Some, None, refl, sym, ap, ◌∙◌, bytes_eq}
+use Rattle.std.proofs.Common.{◌≡◌, ◌+◌, ◌<◌, ℕ, Bool, true, false, not, ◌&&◌, ◌||◌, cond, List, [], ◌∷◌}
+use Rattle.std.proofs.Common.{◌++◌, length, take, drop, get_or, Option, Some, None, refl, sym, ap, ◌∙◌}
+use Rattle.std.proofs.Common.{bytes_eq}
 use Rattle.std.proofs.Math.Bool.{or-false, and-false}
 use Rattle.std.proofs.lemmas.List.{append-nil, take-append-drop}
 use Rattle.std.proofs.lemmas.List.Elements.{filter_map-append}
@@ -16,10 +18,13 @@ abbrev pub alike : Bytes × Bytes → Bytes × Bytes → Bool
 alike a b = bytes_eq a.0 b.0 && bytes_eq a.1 b.1
 
 alike_sym : (a b : Bytes × Bytes) → alike a b ≡ alike b a
-alike_sym a b = ap (λ x. x && bytes_eq a.1 b.1) (nat_list_eq_equiv.symm a.0 b.0) ∙ ap (λ x. bytes_eq b.0 a.0 && x) (nat_list_eq_equiv.symm a.1 b.1)
+alike_sym a b =
+    ap (λ x. x && bytes_eq a.1 b.1) (nat_list_eq_equiv.symm a.0 b.0)
+    ∙ ap (λ x. bytes_eq b.0 a.0 && x) (nat_list_eq_equiv.symm a.1 b.1)
 
 -- the keys of the rows up to an index, and of the row that stands there
-pub keys_more : {R : Type 0} (h : R → Option (Bytes × Bytes)) (xs : List R) (i : ℕ) (x : R) (key : Bytes × Bytes)
+pub keys_more : {R : Type 0} (h : R → Option (Bytes × Bytes)) (xs : List R) (i : ℕ) (x : R)
+    (key : Bytes × Bytes)
     → i < length xs → x ≡ get_or xs i x → h x ≡ Some key
     → filter_map h (take (i + 1) xs) ≡ filter_map h (take i xs) ++ key ∷ []
 keys_more h xs i x key inside is some =
@@ -37,7 +42,9 @@ keys_same h xs i x inside is none =
 -- a pair is among the keys and one more
 pub any_more : (keys : List (Bytes × Bytes)) (key q : Bytes × Bytes)
     → list_any (alike q) (keys ++ key ∷ []) ≡ list_any (alike q) keys || alike q key
-any_more keys key q = list_any-append (alike q) keys (key ∷ []) ∙ ap (λ b. list_any (alike q) keys || b) (or-false (alike q key))
+any_more keys key q =
+    list_any-append (alike q) keys (key ∷ [])
+    ∙ ap (λ b. list_any (alike q) keys || b) (or-false (alike q key))
 
 or_cond : (t o : Bool) → cond t true o ≡ o || t
 or_cond true true = refl
@@ -66,7 +73,8 @@ pub distinct_more : (keys : List (Bytes × Bytes)) (key : Bytes × Bytes)
     → are_distinct (keys ++ key ∷ []) ≡ are_distinct keys && not (list_any (alike key) keys)
 distinct_more [] key = refl
 distinct_more (x ∷ keys) key =
-    ap (λ b. not b && are_distinct (keys ++ key ∷ [])) (any_more keys key x ∙ ap (λ b. list_any (alike x) keys || b) (alike_sym x key))
+    ap (λ b. not b && are_distinct (keys ++ key ∷ []))
+    (any_more keys key x ∙ ap (λ b. list_any (alike x) keys || b) (alike_sym x key))
     ∙ ap (λ b. not (list_any (alike x) keys || alike key x) && b) (distinct_more keys key)
     ∙ regroup (list_any (alike x) keys) (alike key x) (are_distinct keys) (list_any (alike key) keys)
 
@@ -75,11 +83,13 @@ front true d q m e next = refl
 front false d q m e next = ap (λ b. not q && b) (next e) ∙ and-false (not q)
 
 -- where two keys are alike, they stay so among more
-distinct_front : (keys more : List (Bytes × Bytes)) → are_distinct keys ≡ false → are_distinct (keys ++ more) ≡ false
+distinct_front : (keys more : List (Bytes × Bytes)) → are_distinct keys ≡ false
+    → are_distinct (keys ++ more) ≡ false
 distinct_front [] more e = absurd (cc)
 distinct_front (x ∷ keys) more e =
     ap (λ b. not b && are_distinct (keys ++ more)) (list_any-append (alike x) keys more)
-    ∙ front (list_any (alike x) keys) (are_distinct keys) (list_any (alike x) more) _ e (distinct_front keys more)
+    ∙ front (list_any (alike x) keys) (are_distinct keys) (list_any (alike x) more) _ e
+    (distinct_front keys more)
 
 -- two of the keys of all rows are alike, where two of the first rows' are
 pub distinct_whole : {R : Type 0} (h : R → Option (Bytes × Bytes)) (xs : List R) (n : ℕ)

@@ -17,12 +17,18 @@ pub record IsBetween (low high : ℕ) (z : ℤ) : Type 0 where
 pub within_is : (low high : ℕ) (z : ℤ) → is_within (pos low) (pos high) z ≡ true → IsBetween low high z
 within_is low high (pos n) e =
     let parts = and_parts (leb low n) (leb n high) e in
-    record { is = refl; low_is = let h = parts.0 in grind (arith, nat_tests); high_is = let h = parts.1 in grind (arith, nat_tests) }
+    record {
+      is = refl;
+      low_is = let h = parts.0 in grind (arith, nat_tests);
+      high_is = let h = parts.1 in grind (arith, nat_tests);
+    }
 within_is low high (negsuc n) e = absurd (true≢false (sym e))
 
-pub within_from : (low high n : ℕ) (z : ℤ) → z ≡ pos n → low ≤ n → n ≤ high → is_within (pos low) (pos high) z ≡ true
+pub within_from : (low high n : ℕ) (z : ℤ) → z ≡ pos n → low ≤ n → n ≤ high
+    → is_within (pos low) (pos high) z ≡ true
 within_from low high n z is l h =
-    ap (is_within (pos low) (pos high)) is ∙ and_from (leb low n) (leb n high) (grind (arith, nat_tests)) (grind (arith, nat_tests))
+    ap (is_within (pos low) (pos high)) is
+    ∙ and_from (leb low n) (leb n high) (grind (arith, nat_tests)) (grind (arith, nat_tests))
 
 pub int_is : (x y : ℤ) → int_eq x y ≡ true → x ≡ y
 int_is x y = (Decides-int_eq x y).0

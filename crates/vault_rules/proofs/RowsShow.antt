@@ -1,5 +1,6 @@
 -- Rows that keep the rules show their vault.
-use Rattle.std.proofs.Common.{◌≡◌, ◌⊎◌, inl, inr, ℕ, zero, suc, pos, ◌≤◌, ◌==◌, true, List, [], ◌∷◌, length, Option, refl, sym, ap, ◌∙◌, arith, true≢false}
+use Rattle.std.proofs.Common.{◌≡◌, ◌⊎◌, inl, inr, ℕ, zero, suc, pos, ◌≤◌, ◌==◌, true, List, [], ◌∷◌, length}
+use Rattle.std.proofs.Common.{Option, refl, sym, ap, ◌∙◌, arith, true≢false}
 use Rattle.std.specs.Prelude.{string_bytes}
 use Rattle.std.specs.List.{list_all}
 use Rattle.std.specs.Option.{option_map_or}
@@ -12,7 +13,8 @@ use Rattle.vault_core.specs.Vault.{Merchant}
 use Rattle.vault_rules.specs.Lookups.{total_of, entry_of}
 use Rattle.vault_rules.specs.Rules.{has_one_version, keeps}
 use Rattle.vault_rules.specs.Showing.{Shows, ShowsCount, ShowsRecord, usage_number}
-use Rattle.vault_rules.specs.VaultOf.{HasKeysApart, vault_of, natural, use_of, right_of, merchant_value, entry_value, record_value}
+use Rattle.vault_rules.specs.VaultOf.{HasKeysApart, vault_of, natural, use_of, right_of, merchant_value}
+use Rattle.vault_rules.specs.VaultOf.{entry_value, record_value}
 use Rattle.vault_rules.specs.declared.rows.RawVersion.{RawVersion}
 use Rattle.vault_rules.specs.declared.rows.RawCount.{RawCount}
 use Rattle.vault_rules.specs.declared.rows.RawEntry.{RawEntry}
@@ -27,11 +29,14 @@ use Rattle.vault_rules.proofs.Kept as kept
 use Rattle.vault_rules.proofs.Numbers.{int_is, pos_same}
 use Rattle.vault_rules.proofs.Options.{tested_is}
 
-one_row : (versions : List RawVersion) → has_one_version versions ≡ true → (v : RawVersion) × (versions ≡ v ∷ []) × (v.id ≡ pos 1)
+one_row : (versions : List RawVersion) → has_one_version versions ≡ true
+    → (v : RawVersion) × (versions ≡ v ∷ []) × (v.id ≡ pos 1)
 one_row [] h = absurd (true≢false (sym h))
 one_row (v ∷ []) h = (v, refl, int_is v.id (pos 1) (and_parts (int_eq v.id (pos 1)) true h).0)
 one_row (v ∷ w ∷ versions) h =
-    let size = (Decides-eqb (length (v ∷ w ∷ versions)) 1).0 (and_parts (length (v ∷ w ∷ versions) == 1) (list_all (λ x. int_eq x.id (pos 1)) (v ∷ w ∷ versions)) h).0 in
+    let size =
+    (Decides-eqb (length (v ∷ w ∷ versions)) 1).0 (and_parts (length (v ∷ w ∷ versions) == 1)
+    (list_all (λ x. int_eq x.id (pos 1)) (v ∷ w ∷ versions)) h).0 in
     absurd (omega arith)
 
 numbered : (n : ℕ) → 1 ≤ n → n ≤ 6 → n ≡ right_number (right_of (pos n))
@@ -53,10 +58,12 @@ one_of_three (suc (suc (suc (suc n)))) low high = absurd (omega arith)
 
 module _ (rows : Rows) (apart : HasKeysApart rows) (keep : (r : ℕ) → keeps rows r ≡ true) where
   -- the total of a count's row is the vault's count
-  pub count_held : (c : RawCount) → Has rows.counts.items c → natural c.total ≡ count_of (vault_of rows) (string_bytes c.merchant) (natural c.kind)
+  pub count_held : (c : RawCount) → Has rows.counts.items c
+      → natural c.total ≡ count_of (vault_of rows) (string_bytes c.merchant) (natural c.kind)
   count_held c h =
       let well = kept.counts_well rows keep c h in
-      pos_same (sym well.total.is ∙ sym (count_total rows apart c h) ∙ ap (total_of rows.counts.items (string_bytes c.merchant)) well.kind.is
+      pos_same (sym well.total.is ∙ sym (count_total rows apart c h)
+      ∙ ap (total_of rows.counts.items (string_bytes c.merchant)) well.kind.is
       ∙ counts_are rows apart keep (string_bytes c.merchant) (natural c.kind))
 
   count_shown : (c : RawCount) → Has rows.counts.items c → ShowsCount c (vault_of rows)
@@ -77,8 +84,12 @@ module _ (rows : Rows) (apart : HasKeysApart rows) (keep : (r : ℕ) → keeps r
         counted = elim (one_of_three (natural c.kind) well.kind.low_is well.kind.high_is) [
           | inl one ↦ inl (one, more 1 one)
           | inr other ↦ elim other [
-            | inl two ↦ inr (merchant, at, inl (two, more 2 two ∙ ap (λ (o : Option Merchant). option_map_or (λ (x : Merchant). x.given) o 0) at))
-            | inr three ↦ inr (merchant, at, inr (three, more 3 three ∙ ap (λ (o : Option Merchant). option_map_or (λ (x : Merchant). x.denied) o 0) at))
+            | inl two ↦
+                let given = ap (λ (o : Option Merchant). option_map_or (λ (x : Merchant). x.given) o 0) at in
+                inr (merchant, at, inl (two, more 2 two ∙ given))
+            | inr three ↦
+                let denied = ap (λ (o : Option Merchant). option_map_or (λ (x : Merchant). x.denied) o 0) at in
+                inr (merchant, at, inr (three, more 3 three ∙ denied))
           ]
         ];
       }
@@ -86,13 +97,17 @@ module _ (rows : Rows) (apart : HasKeysApart rows) (keep : (r : ℕ) → keeps r
   record_shown : (r : RawRecord) → Has rows.records.items r → ShowsRecord r (record_value r)
   record_shown r h =
       let well = kept.records_well rows keep r h in
-      let it = tested_is (λ (e : RawEntry). int_eq e.usage r.usage) (entry_of rows.entries.items (string_bytes r.merchant) (string_bytes r.token)) well.usage in
+      let it =
+      tested_is (λ (e : RawEntry). int_eq e.usage r.usage)
+      (entry_of rows.entries.items (string_bytes r.merchant) (string_bytes r.token)) well.usage in
       let row = entry_found rows.entries.items (string_bytes r.merchant) (string_bytes r.token) it.0 it.1 in
       let same = int_is it.0.usage r.usage it.2 in
       record {
         merchant = refl;
         token = refl;
-        usage = sym same ∙ (entry_shown rows keep it.0 row.there).usage ∙ ap (λ z. pos (usage_number (use_of z))) same;
+        usage =
+            sym same ∙ (entry_shown rows keep it.0 row.there).usage
+            ∙ ap (λ z. pos (usage_number (use_of z))) same;
       }
 
   pub rows_show : Shows rows (vault_of rows)
@@ -107,19 +122,37 @@ module _ (rows : Rows) (apart : HasKeysApart rows) (keep : (r : ℕ) → keeps r
             let lasting = kept.lasts rows keep m h in (
               merchant_value rows.counts.items m,
               merchant_held rows apart m h,
-              record { single_life = lasting.single.is; multi_life = lasting.multi.is; moment = lasting.moment.is },
+              record {
+                single_life = lasting.single.is;
+                multi_life = lasting.multi.is;
+                moment = lasting.moment.is;
+              },
             );
-        merchants_there = λ name merchant at. let row = (merchant_row rows name merchant at).0 in (row.m, row.there, row.name_is);
+        merchants_there =
+            λ name merchant at.
+            let row = (merchant_row rows name merchant at).0 in
+            (row.m, row.there, row.name_is);
         counts = count_shown;
         counted = λ name. counts_are rows apart keep name 1;
         held = λ name. sym (made_is rows apart name);
         entries = λ e h. (entry_value e, entry_held rows apart e h, entry_shown rows keep e h);
-        entries_there = λ m token entry at. let row = (entry_row rows m token entry at).0 in (row.e, row.there, row.merchant_is, row.token_is);
-        records = λ r h. (natural r.request, record_value r, (kept.records_well rows keep r h).request.is, record_held rows apart keep r h, record_shown r h);
+        entries_there =
+            λ m token entry at.
+            let row = (entry_row rows m token entry at).0 in
+            (row.e, row.there, row.merchant_is, row.token_is);
+        records =
+            λ r h. (
+              natural r.request,
+              record_value r,
+              (kept.records_well rows keep r h).request.is,
+              record_held rows apart keep r h,
+              record_shown r h,
+            );
         rights = λ r h.
             let what = (kept.rights_well rows keep r h).2 in (
               right_of r.what,
-              what.is ∙ ap pos (numbered (natural r.what) what.low_is what.high_is) ∙ ap (λ z. pos (right_number (right_of z))) (sym what.is),
+              what.is ∙ ap pos (numbered (natural r.what) what.low_is what.high_is)
+                  ∙ ap (λ z. pos (right_number (right_of z))) (sym what.is),
               right_held rows r h,
             );
       }

@@ -1,5 +1,7 @@
 -- The merchants, entries, records and rights of rows that keep the rules.
-use Rattle.std.proofs.Common.{◌≡◌, ℕ, pos, ◌≤◌, Bool, true, false, cond, List, [], ◌∷◌, length, filter, Option, Some, None, is_some, inl, inr, refl, sym, ap, subst, ◌∙◌, arith, true≢false}
+use Rattle.std.proofs.Common.{◌≡◌, ℕ, pos, ◌≤◌, Bool, true, false, cond, List, [], ◌∷◌, length, filter}
+use Rattle.std.proofs.Common.{Option, Some, None, is_some, inl, inr, refl, sym, ap, subst, ◌∙◌, arith}
+use Rattle.std.proofs.Common.{true≢false}
 use Rattle.std.specs.Prelude.{string_bytes, bytes_eq}
 use Rattle.std.specs.Ordering.{int_eq}
 use Rattle.sqlite_rules.specs.Lists.{Has}
@@ -19,38 +21,53 @@ use Rattle.vault_rules.specs.declared.rows.RawEntry.{RawEntry}
 use Rattle.vault_rules.specs.declared.rows.RawRecord.{RawRecord}
 use Rattle.vault_rules.specs.declared.rows.Rows.{Rows}
 use Rattle.vault_rules.proofs.Found.{bytes_are}
-use Rattle.vault_rules.proofs.FoundRows.{MerchantRow, merchant_known, merchant_found, entry_found, at_moment, merchant_there, entry_there, entry_row, record_row, right_row}
+use Rattle.vault_rules.proofs.FoundRows.{MerchantRow, merchant_known, merchant_found, entry_found}
+use Rattle.vault_rules.proofs.FoundRows.{at_moment, merchant_there, entry_there, entry_row, record_row}
+use Rattle.vault_rules.proofs.FoundRows.{right_row}
 use Rattle.vault_rules.proofs.Kept as kept
 use Rattle.vault_rules.proofs.Numbers.{int_is}
 use Rattle.vault_rules.proofs.Options.{tested_is}
 use Rattle.vault_rules.proofs.Timed.{entry_sound}
 
-pub none_kept : {X : Type 0} (p : X → Bool) (xs : List X) → ((x : X) → Has xs x → p x ≡ false) → length (filter p xs) ≡ 0
+pub none_kept : {X : Type 0} (p : X → Bool) (xs : List X) → ((x : X) → Has xs x → p x ≡ false)
+    → length (filter p xs) ≡ 0
 none_kept p [] fails = refl
-none_kept p (x ∷ xs) fails = ap (λ b. length (cond b (x ∷ filter p xs) (filter p xs))) (fails x (inl refl)) ∙ none_kept p xs (λ y h. fails y (inr h))
+none_kept p (x ∷ xs) fails =
+    ap (λ b. length (cond b (x ∷ filter p xs) (filter p xs))) (fails x (inl refl))
+    ∙ none_kept p xs (λ y h. fails y (inr h))
 
 module _ (rows : Rows) (keep : (r : ℕ) → keeps rows r ≡ true) where
-  pub lasting_moment : (name : Bytes) (row : MerchantRow rows.merchants.items name) → row.m.moment ≡ pos (natural row.m.moment)
+  pub lasting_moment : (name : Bytes) (row : MerchantRow rows.merchants.items name)
+      → row.m.moment ≡ pos (natural row.m.moment)
   lasting_moment name row = (kept.lasts rows keep row.m row.there).moment.is
 
   -- the merchant of an entry's row
-  pub merchant_of_entry : (e : RawEntry) → Has rows.entries.items e → MerchantRow rows.merchants.items (string_bytes e.merchant)
-  merchant_of_entry e h = merchant_known rows.merchants.items (string_bytes e.merchant) (kept.tokens rows keep e h).0
+  pub merchant_of_entry : (e : RawEntry) → Has rows.entries.items e
+      → MerchantRow rows.merchants.items (string_bytes e.merchant)
+  merchant_of_entry e h =
+      merchant_known rows.merchants.items (string_bytes e.merchant) (kept.tokens rows keep e h).0
 
   row_sound : (e : RawEntry) → Has rows.entries.items e
-      → (merchant : Merchant) × (merchant_at (vault_of rows) (string_bytes e.merchant) ≡ Some merchant) × IsSoundEntry (string_bytes e.token) (entry_value e) merchant
+      → (merchant : Merchant) × (merchant_at (vault_of rows) (string_bytes e.merchant) ≡ Some merchant)
+      × IsSoundEntry (string_bytes e.token) (entry_value e) merchant
   row_sound e h =
       let row = merchant_of_entry e h in
       let merchant = merchant_value rows.counts.items row.m in
       let moment = lasting_moment (string_bytes e.merchant) row in
       let timed : is_timed (pos merchant.moment) e ≡ true =
-      subst (λ z. is_timed z e ≡ true) moment (sym (at_moment rows.merchants.items is_timed e row.m row.first) ∙ kept.timed rows keep e h) in
+      subst (λ z. is_timed z e ≡ true) moment
+      (sym (at_moment rows.merchants.items is_timed e row.m row.first) ∙ kept.timed rows keep e h) in
       let over : is_kept (pos merchant.moment) e ≡ true =
-      subst (λ z. is_kept z e ≡ true) moment (sym (at_moment rows.merchants.items is_kept e row.m row.first) ∙ kept.live_or_over rows keep e h) in
-      (merchant, merchant_there rows (string_bytes e.merchant) row, entry_sound e merchant (kept.tokens rows keep e h).1 (kept.numbers rows keep e h) timed over)
+      subst (λ z. is_kept z e ≡ true) moment
+      (sym (at_moment rows.merchants.items is_kept e row.m row.first) ∙ kept.live_or_over rows keep e h) in (
+        merchant,
+        merchant_there rows (string_bytes e.merchant) row,
+        entry_sound e merchant (kept.tokens rows keep e h).1 (kept.numbers rows keep e h) timed over,
+      )
 
   pub entries_sound : (m token : Bytes) (entry : Entry) → entry_at (vault_of rows) m token ≡ Some entry
-      → (merchant : Merchant) × (merchant_at (vault_of rows) m ≡ Some merchant) × IsSoundEntry token entry merchant
+      → (merchant : Merchant) × (merchant_at (vault_of rows) m ≡ Some merchant)
+      × IsSoundEntry token entry merchant
   entries_sound m token entry h =
       let it = entry_row rows m token entry h in
       let sound = row_sound it.0.e it.0.there in
@@ -59,21 +76,36 @@ module _ (rows : Rows) (keep : (r : ℕ) → keeps rows r ≡ true) where
       (sound.0, at, subst (λ x. IsSoundEntry token x sound.0) it.1 own)
 
   record_fine : (r : RawRecord) → Has rows.records.items r
-      → IsName (string_bytes r.caller) × IsRequest (natural r.request) × IsEntryOf (record_value r) (entry_at (vault_of rows) (string_bytes r.merchant) (string_bytes r.token))
+      → IsName (string_bytes r.caller) × IsRequest (natural r.request)
+      × IsEntryOf (record_value r)
+      (entry_at (vault_of rows) (string_bytes r.merchant) (string_bytes r.token))
   record_fine r h =
       let well = kept.records_well rows keep r h in
       let entries = rows.entries.items in
-      let it = tested_is (λ (e : RawEntry). int_eq e.usage r.usage) (entry_of entries (string_bytes r.merchant) (string_bytes r.token)) well.usage in
-      let row = entry_found entries (string_bytes r.merchant) (string_bytes r.token) it.0 it.1 in
-      (well.caller, (well.request.low_is, well.request.high_is), (entry_value it.0, entry_there rows (string_bytes r.merchant) (string_bytes r.token) row, ap use_of (int_is it.0.usage r.usage it.2)))
+      let it =
+      tested_is (λ (e : RawEntry). int_eq e.usage r.usage)
+      (entry_of entries (string_bytes r.merchant) (string_bytes r.token)) well.usage in
+      let row = entry_found entries (string_bytes r.merchant) (string_bytes r.token) it.0 it.1 in (
+        well.caller,
+        (well.request.low_is, well.request.high_is),
+        (
+          entry_value it.0,
+          entry_there rows (string_bytes r.merchant) (string_bytes r.token) row,
+          ap use_of (int_is it.0.usage r.usage it.2),
+        ),
+      )
 
-  pub records_sound : (caller : Bytes) (request : ℕ) (r : Record) → record_at (vault_of rows) caller request ≡ Some r
+  pub records_sound : (caller : Bytes) (request : ℕ) (r : Record)
+      → record_at (vault_of rows) caller request ≡ Some r
       → IsName caller × IsRequest request × IsEntryOf r (entry_at (vault_of rows) r.merchant r.token)
   records_sound caller request r h =
       let it = record_row rows caller request r h in
       let fine = record_fine it.0 it.1 in
-      let own = subst (λ (k : Bytes × ℕ). IsName k.0 × IsRequest k.1) it.2 (fine.0, fine.1) in
-      (own.0, own.1, subst (λ (x : Record). IsEntryOf x (entry_at (vault_of rows) x.merchant x.token)) it.3 fine.2)
+      let own = subst (λ (k : Bytes × ℕ). IsName k.0 × IsRequest k.1) it.2 (fine.0, fine.1) in (
+        own.0,
+        own.1,
+        subst (λ (x : Record). IsEntryOf x (entry_at (vault_of rows) x.merchant x.token)) it.3 fine.2,
+      )
 
   pub rights_sound : (caller m : Bytes) (right : Right) → has_right (vault_of rows) caller m right ≡ true
       → IsName caller × (merchant : Merchant) × (merchant_at (vault_of rows) m ≡ Some merchant)
@@ -89,20 +121,28 @@ module _ (rows : Rows) (keep : (r : ℕ) → keeps rows r ≡ true) where
       )
 
   -- a merchant that isn't there has no entries
-  pub held_none : (name : Bytes) → merchant_of rows.merchants.items name ≡ None → held_by rows.entries.items name ≡ 0
-  held_none name none = none_kept (λ e. bytes_eq (string_bytes e.merchant) name) rows.entries.items (λ e h. fails e h (bytes_eq (string_bytes e.merchant) name) refl)
+  pub held_none : (name : Bytes) → merchant_of rows.merchants.items name ≡ None
+      → held_by rows.entries.items name ≡ 0
+  held_none name none =
+      none_kept (λ e. bytes_eq (string_bytes e.merchant) name) rows.entries.items
+      (λ e h. fails e h (bytes_eq (string_bytes e.merchant) name) refl)
     where
-      fails : (e : RawEntry) → Has rows.entries.items e → (b : Bool) → bytes_eq (string_bytes e.merchant) name ≡ b → b ≡ false
+      fails : (e : RawEntry)
+          → Has rows.entries.items e → (b : Bool) → bytes_eq (string_bytes e.merchant) name ≡ b → b ≡ false
       fails e h false is = refl
       fails e h true is =
-          let known = subst (λ n. is_known rows.merchants.items n ≡ true) (bytes_are (string_bytes e.merchant) name is) (kept.tokens rows keep e h).0 in
+          let known =
+          subst (λ n. is_known rows.merchants.items n ≡ true)
+          (bytes_are (string_bytes e.merchant) name is) (kept.tokens rows keep e h).0 in
           absurd (true≢false (sym known ∙ ap is_some none))
 
   pub held_few : (name : Bytes) → held_by rows.entries.items name ≤ 1000000
   held_few name = by_merchant (merchant_of rows.merchants.items name) refl
     where
-      by_merchant : (o : Option RawMerchant) → merchant_of rows.merchants.items name ≡ o → held_by rows.entries.items name ≤ 1000000
+      by_merchant : (o : Option RawMerchant) → merchant_of rows.merchants.items name ≡ o
+          → held_by rows.entries.items name ≤ 1000000
       by_merchant None is = let zero_is = held_none name is in omega arith
       by_merchant (Some m) is =
           let row = merchant_found rows.merchants.items name m is in
-          subst (λ n. held_by rows.entries.items n ≤ 1000000) row.name_is (kept.counted rows keep row.m row.there).1
+          subst (λ n. held_by rows.entries.items n ≤ 1000000) row.name_is
+          (kept.counted rows keep row.m row.there).1

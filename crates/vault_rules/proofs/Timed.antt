@@ -1,5 +1,6 @@
 -- What the rules of an entry's times and number say.
-use Rattle.std.proofs.Common.{◌≡◌, inl, inr, ℕ, ℤ, pos, ◌+◌, ◌≤◌, ◌&&◌, ◌||◌, true, Option, Some, None, option_map, is_some, refl, sym, ap, subst, ◌∙◌, arith}
+use Rattle.std.proofs.Common.{◌≡◌, inl, inr, ℕ, ℤ, pos, ◌+◌, ◌≤◌, ◌&&◌, ◌||◌, true, Option, Some, None}
+use Rattle.std.proofs.Common.{option_map, is_some, refl, sym, ap, subst, ◌∙◌, arith}
 use Rattle.std.specs.Prelude.{◌+ℤ◌, string_bytes}
 use Rattle.std.specs.Int.RustNames.{int_le}
 use Rattle.std.specs.Option.{option_map_or}
@@ -39,23 +40,31 @@ timely moment e h =
     }
 
 revocation : (moment birth : ℕ) (entry : Entry) → entry.birth ≡ birth → (o : Option ℤ)
-    → option_map_or (is_within (pos birth) (pos moment)) o true ≡ true → IsRevocation entry moment (option_map natural o)
+    → option_map_or (is_within (pos birth) (pos moment)) o true ≡ true
+    → IsRevocation entry moment (option_map natural o)
 revocation moment birth entry is None h = tt
-revocation moment birth entry is (Some at) h = let it = within_is birth moment at h in (omega (arith, it.low_is), it.high_is)
+revocation moment birth entry is (Some at) h =
+    let it = within_is birth moment at h in
+    (omega (arith, it.low_is), it.high_is)
 
 le_pos : (m n : ℕ) → int_le (pos m) (pos n) ≡ true → m ≤ n
 le_pos m n h = grind (arith, nat_tests)
 
-number_sound : {S : Type 0} (bytes : S → Bytes) (token : Bytes) (moment : ℕ) (entry : Entry) (expires : ℤ) → expires ≡ pos entry.expires
+number_sound : {S : Type 0} (bytes : S → Bytes) (token : Bytes) (moment : ℕ) (entry : Entry) (expires : ℤ)
+    → expires ≡ pos entry.expires
     → (revoked : Option ℤ) → option_map natural revoked ≡ entry.revoked
-    → (o : Option S) → option_map_or (λ number. is_pan (bytes number) && fits token (bytes number)) o true ≡ true
-    → (is_some o || is_some revoked || int_le expires (pos moment)) ≡ true → IsNumber token entry moment (option_map bytes o)
+    → (o : Option S)
+    → option_map_or (λ number. is_pan (bytes number) && fits token (bytes number)) o true ≡ true
+    → (is_some o || is_some revoked || int_le expires (pos moment)) ≡ true
+    → IsNumber token entry moment (option_map bytes o)
 number_sound bytes token moment entry expires is revoked same (Some number) fit kept =
-    let parts = and_parts (is_pan (bytes number)) (fits token (bytes number)) fit in (pan_is (bytes number) parts.0, parts.1)
-number_sound bytes token moment entry expires is revoked same None fit kept = elim (or_cases (is_some revoked) (int_le expires (pos moment)) kept) [
-  | inl there ↦ inl (ap is_some (sym same) ∙ mapped revoked there)
-  | inr over ↦ inr (le_pos entry.expires moment (subst (λ x. int_le x (pos moment) ≡ true) is over))
-]
+    let parts = and_parts (is_pan (bytes number)) (fits token (bytes number)) fit in
+    (pan_is (bytes number) parts.0, parts.1)
+number_sound bytes token moment entry expires is revoked same None fit kept =
+    elim (or_cases (is_some revoked) (int_le expires (pos moment)) kept) [
+      | inl there ↦ inl (ap is_some (sym same) ∙ mapped revoked there)
+      | inr over ↦ inr (le_pos entry.expires moment (subst (λ x. int_le x (pos moment) ≡ true) is over))
+    ]
   where
     mapped : (o : Option ℤ) → is_some o ≡ true → is_some (option_map natural o) ≡ true
     mapped None h = h
@@ -68,7 +77,9 @@ entry_sound e merchant fails fit timed kept =
     let times = timely merchant.moment e timed in
     record {
       token_fails = fails;
-      number = number_sound (λ n. string_bytes n) (string_bytes e.token) merchant.moment (entry_value e) e.expires times.expires.is e.revoked refl e.number fit kept;
+      number =
+          number_sound (λ n. string_bytes n) (string_bytes e.token) merchant.moment (entry_value e)
+          e.expires times.expires.is e.revoked refl e.number fit kept;
       birth = times.birth.high_is;
       lives = omega (arith, times.expires.low_is);
       life = omega (arith, times.expires.high_is);

@@ -1,5 +1,6 @@
 -- The rules of an entry's times and number, from an entry that is sound.
-use Rattle.std.proofs.Common.{◌≡◌, inl, inr, ℕ, ℤ, pos, ◌+◌, ◌≤◌, ◌&&◌, ◌||◌, true, Option, Some, None, option_map, is_some, refl, sym, ap, subst, ◌∙◌, arith}
+use Rattle.std.proofs.Common.{◌≡◌, inl, inr, ℕ, ℤ, pos, ◌+◌, ◌≤◌, ◌&&◌, ◌||◌, true, Option, Some, None}
+use Rattle.std.proofs.Common.{option_map, is_some, refl, sym, ap, subst, ◌∙◌, arith}
 use Rattle.std.specs.Prelude.{◌+ℤ◌, string_bytes}
 use Rattle.std.specs.Int.RustNames.{int_le}
 use Rattle.std.specs.Option.{option_map_or}
@@ -19,10 +20,12 @@ use Rattle.vault_rules.specs.declared.rows.RawEntry.{RawEntry}
 use Rattle.vault_rules.proofs.Numbers.{within_from}
 use Rattle.vault_rules.proofs.TextLemmas.{pan_from}
 
-number_fits : {S : Type 0} (bytes : S → Bytes) (token : Bytes) (entry : Entry) (moment : ℕ) (o : Option S) → IsNumber token entry moment (option_map bytes o)
+number_fits : {S : Type 0} (bytes : S → Bytes) (token : Bytes) (entry : Entry) (moment : ℕ) (o : Option S)
+    → IsNumber token entry moment (option_map bytes o)
     → option_map_or (λ number. is_pan (bytes number) && fits token (bytes number)) o true ≡ true
 number_fits bytes token entry moment None h = refl
-number_fits bytes token entry moment (Some number) h = and_from (is_pan (bytes number)) (fits token (bytes number)) (pan_from (bytes number) h.0) h.1
+number_fits bytes token entry moment (Some number) h =
+    and_from (is_pan (bytes number)) (fits token (bytes number)) (pan_from (bytes number) h.0) h.1
 
 use_within : (u : Use) (z : ℤ) → z ≡ pos (usage_number u) → is_within (pos 1) (pos 2) z ≡ true
 use_within Single z is = within_from 1 2 1 z is (omega arith) (omega arith)
@@ -43,10 +46,14 @@ is_some-mapped f (Some x) = refl
 number_or : (token : Bytes) (entry : Entry) (moment : ℕ) (o : Option Bytes) → IsNumber token entry moment o
     → (is_some o || is_some entry.revoked || int_le (pos entry.expires) (pos moment)) ≡ true
 number_or token entry moment (Some number) h = refl
-number_or token entry moment None (inl revoked) = or_left (is_some entry.revoked) (int_le (pos entry.expires) (pos moment)) revoked
-number_or token entry moment None (inr over) = or_right (is_some entry.revoked) (int_le (pos entry.expires) (pos moment)) (le_from entry.expires moment over)
+number_or token entry moment None (inl revoked) =
+    or_left (is_some entry.revoked) (int_le (pos entry.expires) (pos moment)) revoked
+number_or token entry moment None (inr over) =
+    or_right (is_some entry.revoked) (int_le (pos entry.expires) (pos moment))
+    (le_from entry.expires moment over)
 
-module _ (e : RawEntry) (entry : Entry) (shows : ShowsEntry e entry) (merchant : Merchant) (sound : IsSoundEntry (string_bytes e.token) entry merchant) where
+module _ (e : RawEntry) (entry : Entry) (shows : ShowsEntry e entry) (merchant : Merchant)
+    (sound : IsSoundEntry (string_bytes e.token) entry merchant) where
   pub number_kept : has_number e ≡ true
   number_kept =
       number_fits (λ n. string_bytes n) (string_bytes e.token) entry merchant.moment e.number
@@ -57,12 +64,17 @@ module _ (e : RawEntry) (entry : Entry) (shows : ShowsEntry e entry) (merchant :
       and_from _ _ (and_from _ _ (and_from _ _ (use_within entry.usage e.usage shows.usage)
       (within_from 0 merchant.moment entry.birth e.birth shows.birth (omega arith) sound.birth))
       (ap (λ b. is_within (b +ℤ pos 1) (b +ℤ pos 3155760000) e.expires) shows.birth
-      ∙ within_from (entry.birth + 1) (entry.birth + 3155760000) entry.expires e.expires shows.expires (omega (arith, sound.lives)) sound.life))
-      ((λ i. option_map_or (is_within (shows.birth i) (pos merchant.moment)) (shows.revoked i) true) ∙ revoked_within entry merchant.moment entry.revoked sound.revoked)
+      ∙ within_from (entry.birth + 1) (entry.birth + 3155760000) entry.expires e.expires shows.expires
+      (omega (arith, sound.lives)) sound.life))
+      ((λ i. option_map_or (is_within (shows.birth i) (pos merchant.moment)) (shows.revoked i) true)
+      ∙ revoked_within entry merchant.moment entry.revoked sound.revoked)
 
   pub number_or_over : is_kept (pos merchant.moment) e ≡ true
   number_or_over =
-      ap (λ b. b || is_some e.revoked || int_le e.expires (pos merchant.moment)) (is_some-mapped (λ n. string_bytes n) e.number ∙ ap is_some shows.number)
-      ∙ ap (λ b. is_some entry.number || b || int_le e.expires (pos merchant.moment)) (ap is_some shows.revoked ∙ sym (is_some-mapped pos entry.revoked))
-      ∙ ap (λ z. is_some entry.number || is_some entry.revoked || int_le z (pos merchant.moment)) shows.expires
+      ap (λ b. b || is_some e.revoked || int_le e.expires (pos merchant.moment))
+      (is_some-mapped (λ n. string_bytes n) e.number ∙ ap is_some shows.number)
+      ∙ ap (λ b. is_some entry.number || b || int_le e.expires (pos merchant.moment))
+      (ap is_some shows.revoked ∙ sym (is_some-mapped pos entry.revoked))
+      ∙ ap (λ z. is_some entry.number || is_some entry.revoked || int_le z (pos merchant.moment))
+      shows.expires
       ∙ number_or (string_bytes e.token) entry merchant.moment entry.number sound.number

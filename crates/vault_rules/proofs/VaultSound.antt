@@ -10,7 +10,8 @@ use Rattle.vault_rules.proofs.Found.{many_is, made_is}
 use Rattle.vault_rules.proofs.Kept as kept
 use Rattle.vault_rules.proofs.RowsSound.{entries_sound, records_sound, rights_sound, held_few}
 
-pub vault_is_sound : (rows : Rows) → HasKeysApart rows → ((r : ℕ) → keeps rows r ≡ true) → Sound (vault_of rows)
+pub vault_is_sound : (rows : Rows) → HasKeysApart rows → ((r : ℕ) → keeps rows r ≡ true)
+    → Sound (vault_of rows)
 vault_is_sound rows apart keep = record {
   few = let many = many_is rows apart in omega (arith, kept.few rows keep);
   merchants = merchants_sound rows keep;

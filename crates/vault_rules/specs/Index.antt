@@ -32,11 +32,14 @@ made_of counts name = find (λ c. bytes_eq (string_bytes c.merchant) name && int
 
 -- Maps that have what the rows have: the merchant of a name, its count of tokens made, how many
 -- entries it has, and the entry of a token of it.
-pub record IsIndexOf (merchants : BTreeMap Text (Bor RawMerchant)) (made : BTreeMap Text (Bor RawCount)) (held : BTreeMap Text ℕ) (entries : BTreeMap (Text × Text) (Bor RawEntry)) (rows : Rows) : Type 0 where
-  pub merchants_are : (name : Bytes) → option_copied (at_text merchants name) ≡ merchant_of rows.merchants.items name
+pub record IsIndexOf (merchants : BTreeMap Text (Bor RawMerchant)) (made : BTreeMap Text (Bor RawCount))
+    (held : BTreeMap Text ℕ) (entries : BTreeMap (Text × Text) (Bor RawEntry)) (rows : Rows) : Type 0 where
+  pub merchants_are : (name : Bytes)
+      → option_copied (at_text merchants name) ≡ merchant_of rows.merchants.items name
   pub made_are : (name : Bytes) → option_copied (at_text made name) ≡ made_of rows.counts.items name
   pub held_are : (name : Bytes) → unwrap_or (at_text held name) 0 ≡ held_by rows.entries.items name
-  pub entries_are : (name token : Bytes) → option_copied (at_pair entries name token) ≡ entry_of rows.entries.items name token
+  pub entries_are : (name token : Bytes)
+      → option_copied (at_pair entries name token) ≡ entry_of rows.entries.items name token
 
 -- whether a set has a pair of texts
 abbrev pub has_pair : BTreeSet (Text × Text) → Bytes → Bytes → Bool

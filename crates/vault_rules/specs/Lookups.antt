@@ -1,5 +1,6 @@
 -- What the rows have at a name or a key: the first row of it.
-use Rattle.std.specs.Prelude.{ℕ, ℤ, pos, ◌&&◌, Bool, List, length, filter, Option, option_map, is_some, bytes_eq, string_bytes}
+use Rattle.std.specs.Prelude.{ℕ, ℤ, pos, ◌&&◌, Bool, List, length, filter, Option, option_map, is_some}
+use Rattle.std.specs.Prelude.{bytes_eq, string_bytes}
 use Rattle.std.specs.List.{find}
 use Rattle.std.specs.Option.{option_map_or}
 use Rattle.std.specs.Ordering.{int_eq}

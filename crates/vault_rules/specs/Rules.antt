@@ -1,5 +1,8 @@
 -- The rules that the rows of a sound vault keep, over the rows as they stand.
-use Rattle.std.specs.Prelude.{◌≡◌, ◌<◌, ℕ, zero, suc, ℤ, pos, ◌+ℤ◌, ◌&&◌, ◌||◌, ◌==◌, not, Bool, true, false, List, [], ◌∷◌, length, slice_index_or, Option, None, option_map, option_and_then, is_none, is_some, nat_lt, bytes_eq, string_bytes, if◌then◌else◌}
+use Rattle.std.specs.Prelude.{◌≡◌, ◌<◌, ℕ, zero, suc, ℤ, pos, ◌+ℤ◌, ◌&&◌, ◌||◌, ◌==◌, not, Bool, true}
+use Rattle.std.specs.Prelude.{false, List, [], ◌∷◌, length, slice_index_or, Option, None, option_map}
+use Rattle.std.specs.Prelude.{option_and_then, is_none, is_some, nat_lt, bytes_eq, string_bytes}
+use Rattle.std.specs.Prelude.{if◌then◌else◌}
 use Rattle.std.specs.Int.RustNames.{int_lt, int_le}
 use Rattle.std.specs.List.{list_all, list_any, filter_map}
 use Rattle.std.specs.Option.{option_map_or}
@@ -26,7 +29,8 @@ has_one_version versions = length versions == 1 && list_all (λ v. int_eq v.id (
 
 -- 2: each merchant's name is a name; there are at most 10000
 abbrev pub are_named : List RawMerchant → Bool
-are_named merchants = nat_lt (length merchants) 10001 && list_all (λ m. is_name (string_bytes m.name)) merchants
+are_named merchants =
+    nat_lt (length merchants) 10001 && list_all (λ m. is_name (string_bytes m.name)) merchants
 
 -- lives are 0 to 3155760000, moments 0 to 253402300799
 abbrev pub is_lasting : RawMerchant → Bool
@@ -44,10 +48,13 @@ is_count merchants c =
 abbrev pub has_token : List RawMerchant → RawEntry → Bool
 has_token merchants e = is_known merchants (string_bytes e.merchant) && is_token (string_bytes e.token)
 
--- 6: an entry's number, where there is one, is a card number, as long as the token and with its last four digits
+-- 6: an entry's number, where there is one, is a card number, as long as the token and with its
+-- last four digits
 abbrev pub has_number : RawEntry → Bool
 has_number e =
-    option_map_or (λ number. is_pan (string_bytes number) && fits (string_bytes e.token) (string_bytes number)) e.number true
+    option_map_or
+    (λ number. is_pan (string_bytes number) && fits (string_bytes e.token) (string_bytes number))
+    e.number true
 
 -- 7: an entry's usage is 1 or 2; its birth is 0 to its merchant's moment; it expires 1 to 3155760000 seconds
 -- later; it is revoked never, or from its birth to the moment
@@ -83,7 +90,8 @@ live_key merchants e =
 -- no pair comes twice
 abbrev pub are_distinct : List (Bytes × Bytes) → Bool
 are_distinct [] = true
-are_distinct (key ∷ keys) = not (list_any (λ other. bytes_eq key.0 other.0 && bytes_eq key.1 other.1) keys) && are_distinct keys
+are_distinct (key ∷ keys) =
+    not (list_any (λ other. bytes_eq key.0 other.0 && bytes_eq key.1 other.1) keys) && are_distinct keys
 
 -- 10: a merchant's made count is the number of its entries, at most 1000000
 abbrev pub is_counted : List RawCount → List RawEntry → RawMerchant → Bool
@@ -91,16 +99,19 @@ is_counted counts entries m =
     let held = held_by entries (string_bytes m.name) in
     int_eq (total_of counts (string_bytes m.name) (pos 1)) (pos held) && nat_lt held 1000001
 
--- 11: a record's caller is a name, its request is 1 to 9223372036854775807, its entry exists and has its usage
+-- 11: a record's caller is a name, its request is 1 to 9223372036854775807, its entry exists and has
+-- its usage
 abbrev pub is_record : List RawEntry → RawRecord → Bool
 is_record entries r =
     is_name (string_bytes r.caller) && is_within (pos 1) (pos 9223372036854775807) r.request
-    && option_map_or (λ (e : RawEntry). int_eq e.usage r.usage) (entry_of entries (string_bytes r.merchant) (string_bytes r.token)) false
+    && option_map_or (λ (e : RawEntry). int_eq e.usage r.usage)
+    (entry_of entries (string_bytes r.merchant) (string_bytes r.token)) false
 
 -- 12: a right's caller is a name, its merchant exists, and it is 1 to 6
 abbrev pub is_right : List RawMerchant → RawRight → Bool
 is_right merchants r =
-    is_name (string_bytes r.caller) && is_known merchants (string_bytes r.merchant) && is_within (pos 1) (pos 6) r.what
+    is_name (string_bytes r.caller) && is_known merchants (string_bytes r.merchant)
+    && is_within (pos 1) (pos 6) r.what
 
 -- each rule, from 1 to 12
 abbrev pub verdicts : Rows → List Bool

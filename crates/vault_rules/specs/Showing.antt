@@ -61,16 +61,19 @@ pub record Shows (rows : Rows) (V : Vault) : Type 0 where
   pub id : version.id ≡ pos 1
   pub many : length rows.merchants.items ≡ finite.len V.merchants
   pub merchants : (m : RawMerchant) → Has rows.merchants.items m
-      → (merchant : Merchant) × (merchant_at V (string_bytes m.name) ≡ Some merchant) × ShowsMerchant m merchant
+      → (merchant : Merchant) × (merchant_at V (string_bytes m.name) ≡ Some merchant)
+      × ShowsMerchant m merchant
   pub merchants_there : (name : Bytes) (merchant : Merchant) → merchant_at V name ≡ Some merchant
       → (m : RawMerchant) × Has rows.merchants.items m × (string_bytes m.name ≡ name)
   pub counts : (c : RawCount) → Has rows.counts.items c → ShowsCount c V
   pub counted : (name : Bytes) → total_of rows.counts.items name (pos 1) ≡ pos (made V name)
   pub held : (name : Bytes) → held_by rows.entries.items name ≡ made V name
   pub entries : (e : RawEntry) → Has rows.entries.items e
-      → (entry : Entry) × (entry_at V (string_bytes e.merchant) (string_bytes e.token) ≡ Some entry) × ShowsEntry e entry
+      → (entry : Entry) × (entry_at V (string_bytes e.merchant) (string_bytes e.token) ≡ Some entry)
+      × ShowsEntry e entry
   pub entries_there : (m token : Bytes) (entry : Entry) → entry_at V m token ≡ Some entry
-      → (e : RawEntry) × Has rows.entries.items e × (string_bytes e.merchant ≡ m) × (string_bytes e.token ≡ token)
+      → (e : RawEntry) × Has rows.entries.items e × (string_bytes e.merchant ≡ m)
+      × (string_bytes e.token ≡ token)
   pub records : (r : RawRecord) → Has rows.records.items r
       → (request : ℕ) × (shown : Record) × (r.request ≡ pos request)
       × (record_at V (string_bytes r.caller) request ≡ Some shown) × ShowsRecord r shown

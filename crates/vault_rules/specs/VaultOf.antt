@@ -1,5 +1,6 @@
 -- The vault that rows stand for.
-use Rattle.std.specs.Prelude.{◌≢◌, ℕ, ℤ, pos, negsuc, List, [], ◌∷◌, map, option_map, string_bytes, if◌then◌else◌}
+use Rattle.std.specs.Prelude.{◌≢◌, ℕ, ℤ, pos, negsuc, List, [], ◌∷◌, map, option_map, string_bytes}
+use Rattle.std.specs.Prelude.{if◌then◌else◌}
 use Rattle.std.specs.FinMap as finite
 use Rattle.std.specs.FinSet as set
 use Rattle.std.specs.Ordering.{int_eq}
@@ -7,7 +8,8 @@ use Rattle.sqlite_rules.specs.Lists.{Has}
 use Rattle.vault_core.specs.Keys.{Bytes}
 use Rattle.vault_core.specs.Vault.{Vault, Merchant}
 use Rattle.vault_core.specs.declared.right.Right.{Right}
-use Rattle.vault_core.specs.declared.right.Right.TheVariants.{Tokenize, Detokenize, View, Revoke, Purge, Audit}
+use Rattle.vault_core.specs.declared.right.Right.TheVariants.{Tokenize, Detokenize, View, Revoke, Purge}
+use Rattle.vault_core.specs.declared.right.Right.TheVariants.{Audit}
 use Rattle.vault_core.specs.declared.row.Entry.{Entry}
 use Rattle.vault_core.specs.declared.row.Record.{Record}
 use Rattle.vault_core.specs.declared.usage.Use.{Use}
@@ -69,7 +71,8 @@ record_key r = (string_bytes r.caller, natural r.request)
 
 -- what a row says of a record
 abbrev pub record_value : RawRecord → Record
-record_value r = record { merchant = string_bytes r.merchant; token = string_bytes r.token; usage = use_of r.usage }
+record_value r =
+    record { merchant = string_bytes r.merchant; token = string_bytes r.token; usage = use_of r.usage }
 
 -- a right, by its caller and merchant
 abbrev pub right_key : RawRight → Bytes × (Bytes × Right)
@@ -78,7 +81,9 @@ right_key r = (string_bytes r.caller, (string_bytes r.merchant, right_of r.what)
 -- the vault of rows in which no key comes twice
 abbrev pub vault_of : Rows → Vault
 vault_of rows = record {
-  merchants = finite.from_entries (map (λ m. (string_bytes m.name, merchant_value rows.counts.items m)) rows.merchants.items);
+  merchants =
+      finite.from_entries
+      (map (λ m. (string_bytes m.name, merchant_value rows.counts.items m)) rows.merchants.items);
   entries = finite.from_entries (map (λ e. (entry_key e, entry_value e)) rows.entries.items);
   records = finite.from_entries (map (λ r. (record_key r, record_value r)) rows.records.items);
   rights = set.from_list (map right_key rows.rights.items);

@@ -79,7 +79,8 @@ impl<'a> Index<'a> {
 
     /// The entry of a merchant's token.
     pub(crate) fn entry(&self, merchant: &'a str, token: &'a str) -> Option<&'a RawEntry>
-        ensures { option_copied result ≡ lookups.entry_of self.now.rows.now.entries.items merchant.now token.now }
+        ensures { option_copied result
+            ≡ lookups.entry_of self.now.rows.now.entries.items merchant.now token.now }
     {
         self.entries.get(&(merchant, token)).copied()
     }

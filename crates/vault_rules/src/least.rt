@@ -1,5 +1,6 @@
 //! The least rule that rows break.
-ghost use Rattle.std.specs.Prelude.{◌≡◌, ◌≤◌, ℕ, IfOk, IfNone, IfSome, None, Some, true, length, slice_index_or};
+ghost use Rattle.std.specs.Prelude.{◌≡◌, ◌≤◌, ℕ, IfOk, IfNone, IfSome, None, Some, true, length};
+ghost use Rattle.std.specs.Prelude.{slice_index_or};
 ghost use Rattle.vault_rules.specs.Rules.{IsLeastBroken, keeps, verdicts as verdicts_spec};
 ghost use Rattle.vault_rules.specs.Verdicts.{IsFirstBroken};
 

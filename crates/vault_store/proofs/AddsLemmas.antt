@@ -13,41 +13,52 @@ use Rattle.vault_core.specs.declared.changes.Lives.{Lives}
 use Rattle.vault_core.specs.declared.right.Right.{Right}
 use Rattle.vault_core.specs.declared.row.Entry.{Entry}
 use Rattle.vault_core.specs.declared.row.Record.{Record}
-use Rattle.vault_core.proofs.Maps.{bytes_total, bytes_exact, entry_total, entry_exact, record_total, record_exact, right_total, get-insert_same}
+use Rattle.vault_core.proofs.Maps.{bytes_total, bytes_exact, entry_total, entry_exact, record_total}
+use Rattle.vault_core.proofs.Maps.{record_exact, right_total, get-insert_same}
 use Rattle.vault_store.specs.Added.{AddsNothing}
 
 missing : {X : Type 0} (o : Option X) → o ≡ None → is_some o ≡ true → ⊥
 missing None none there = cc
 missing (Some x) none there = cc
 
-pub adds_merchant : (V : Vault) (ch : Changes) (x : Lives) → ch.lives ≡ Some x → merchant_at V x.merchant ≡ None
+pub adds_merchant : (V : Vault) (ch : Changes) (x : Lives)
+    → ch.lives ≡ Some x → merchant_at V x.merchant ≡ None
     → AddsNothing V (plus V ch) → ⊥
 adds_merchant V ch x is none adds =
     missing (merchant_at V x.merchant) none
     (adds.merchants x.merchant
-    (ap is_some (ap (λ lives. map.get (with_merchant V.merchants ch.count lives) x.merchant) is ∙ get-insert_same bytes_total bytes_exact V.merchants x.merchant _)))
+    (ap is_some (ap (λ lives. map.get (with_merchant V.merchants ch.count lives) x.merchant) is
+    ∙ get-insert_same bytes_total bytes_exact V.merchants x.merchant _)))
 
-pub adds_entry : (V : Vault) (ch : Changes) (x : Bytes × Bytes × Entry) → ch.entry ≡ Some x → entry_at V x.0 x.1 ≡ None
+pub adds_entry : (V : Vault) (ch : Changes) (x : Bytes × Bytes × Entry)
+    → ch.entry ≡ Some x → entry_at V x.0 x.1 ≡ None
     → AddsNothing V (plus V ch) → ⊥
 adds_entry V ch x is none adds =
     missing (entry_at V x.0 x.1) none
     (adds.entries x.0 x.1
-    (ap is_some (ap (λ entry. map.get (with_entry V.entries entry) (x.0, x.1)) is ∙ get-insert_same entry_total entry_exact V.entries (x.0, x.1) x.2)))
+    (ap is_some (ap (λ entry. map.get (with_entry V.entries entry) (x.0, x.1)) is
+    ∙ get-insert_same entry_total entry_exact V.entries (x.0, x.1) x.2)))
 
-pub adds_record : (V : Vault) (ch : Changes) (x : Bytes × ℕ × Record) → ch.recorded ≡ Some x → record_at V x.0 x.1 ≡ None
+pub adds_record : (V : Vault) (ch : Changes) (x : Bytes × ℕ × Record)
+    → ch.recorded ≡ Some x → record_at V x.0 x.1 ≡ None
     → AddsNothing V (plus V ch) → ⊥
 adds_record V ch x is none adds =
     missing (record_at V x.0 x.1) none
     (adds.records x.0 x.1
-    (ap is_some (ap (λ entry. map.get (with_record V.records entry) (x.0, x.1)) is ∙ get-insert_same record_total record_exact V.records (x.0, x.1) x.2)))
+    (ap is_some (ap (λ entry. map.get (with_record V.records entry) (x.0, x.1)) is
+    ∙ get-insert_same record_total record_exact V.records (x.0, x.1) x.2)))
 
-pub adds_right : (V : Vault) (ch : Changes) (x : Bytes × Bytes × Right × Bool) → ch.right ≡ Some x → x.3 ≡ true
+pub adds_right : (V : Vault) (ch : Changes) (x : Bytes × Bytes × Right × Bool)
+    → ch.right ≡ Some x → x.3 ≡ true
     → has_right V x.0 x.1 x.2 ≡ false → AddsNothing V (plus V ch) → ⊥
 adds_right V ch x is given none adds =
     let there =
     adds.rights x.0 x.1 x.2
     (ap (λ right. set.contains (with_right V.rights right) (x.0, (x.1, x.2))) is
-    ∙ ap (λ b. set.contains (cond b (set.insert V.rights (x.0, (x.1, x.2))) (set.remove V.rights (x.0, (x.1, x.2)))) (x.0, (x.1, x.2))) given
+    ∙ ap (λ b. set.contains
+    (cond b (set.insert V.rights (x.0, (x.1, x.2))) (set.remove V.rights (x.0, (x.1, x.2))))
+    (x.0, (x.1, x.2)))
+    given
     ∙ set.contains-insert right_total V.rights (x.0, (x.1, x.2)) (x.0, (x.1, x.2))
     ∙ ap (λ r. is_eq r || has_right V x.0 x.1 x.2) (tied_itself right_total (x.0, (x.1, x.2))))
     in

@@ -27,8 +27,11 @@ module _ {K : Type 0} (R : K → K → Ordering) where
   pub shows_keys-empty : (shown : keys.BTreeSet K) → shown.keys ≡ [] → ShowsKeys R shown set.empty
   shows_keys-empty shown none = λ key. ap (list_any (is_at (R key))) none ∙ sym (set.contains-empty R key)
 
-pub shows_merchants-empty : (shown : rows.BTreeMap Bytes MerchantRow) → shown.entries ≡ [] → ShowsMerchants shown empty_vault
+pub shows_merchants-empty : (shown : rows.BTreeMap Bytes MerchantRow) → shown.entries ≡ []
+    → ShowsMerchants shown empty_vault
 shows_merchants-empty shown none = record {
-  at = λ m. ap (lookup (is_at (bytes_cmp m))) none ∙ sym (ap (option_map (row_of empty_vault m)) (map.get-empty bytes_cmp m));
+  at =
+      λ m. ap (lookup (is_at (bytes_cmp m))) none
+      ∙ sym (ap (option_map (row_of empty_vault m)) (map.get-empty bytes_cmp m));
   many = ap length none ∙ sym (map.len-empty bytes_cmp Merchant);
 }

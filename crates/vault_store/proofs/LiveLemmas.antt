@@ -27,10 +27,12 @@ abbrev pub IsNotLive : Bytes → Bytes → ℕ → (Bytes × Bytes) × Entry →
 IsNotLive m pan at e = e.0.0 ≡ m → ¬ (is_reusable pan at e.1 ≡ true)
 
 same_itself : (a b : Bytes) → a ≡ b → same a b ≡ true
-same_itself a b is = texts_ties a b ∙ ap (λ x. is_eq (bytes_cmp x b)) is ∙ ap is_eq (tied_itself bytes_total b)
+same_itself a b is =
+    texts_ties a b ∙ ap (λ x. is_eq (bytes_cmp x b)) is ∙ ap is_eq (tied_itself bytes_total b)
 
 -- an entry of another merchant isn't
-pub other_merchant : (m pan : Bytes) (at : ℕ) (e : (Bytes × Bytes) × Entry) → same e.0.0 m ≡ false → IsNotLive m pan at e
+pub other_merchant : (m pan : Bytes) (at : ℕ) (e : (Bytes × Bytes) × Entry) → same e.0.0 m ≡ false
+    → IsNotLive m pan at e
 other_merchant m pan at e apart is live = let clash = sym (same_itself e.0.0 m is) ∙ apart in cc
 
 -- no token is live where no entry is
@@ -47,17 +49,22 @@ earlier pan a b entry le h = grind (arith, nat_tests)
 
 module _ (V : Vault) (sound : Sound V) (m pan : Bytes) (at : ℕ) (now : moment_at V m at ≡ at) where
   -- of one number at most one token is live
-  pub one_live : (token other : Bytes) (entry entry' : Entry) → entry_at V m token ≡ Some entry → is_reusable pan at entry ≡ true
+  pub one_live : (token other : Bytes) (entry entry' : Entry)
+      → entry_at V m token ≡ Some entry → is_reusable pan at entry ≡ true
       → entry_at V m other ≡ Some entry' → is_reusable pan at entry' ≡ true → token ≡ other
   one_live token other entry entry' found live found' live' =
       let known = sound.entries m token entry found in
-      let later : max known.0.moment at ≡ at = sym (ap (λ (o : Option Merchant). option_map_or (λ merchant. time_at merchant at) o at) known.1) ∙ now in
+      let later : max known.0.moment at ≡ at =
+      sym (ap (λ (o : Option Merchant). option_map_or (λ merchant. time_at merchant at) o at) known.1)
+      ∙ now in
       let le : known.0.moment ≤ at = omega (arith, later) in
       sound.alone m pan token other entry entry' known.0 known.1
-      found (earlier pan known.0.moment at entry le live) found' (earlier pan known.0.moment at entry' le live')
+      found (earlier pan known.0.moment at entry le live) found'
+      (earlier pan known.0.moment at entry' le live')
 
   module _ (entries : rows.BTreeMap (Bytes × Bytes) Entry) (shown : Shows entry_cmp entries V.entries) where
-    held : (token : Bytes) (o : Option (Bytes × Entry)) → current V m pan at ≡ o → IsLiveToken entries m pan at token
+    held : (token : Bytes) (o : Option (Bytes × Entry))
+        → current V m pan at ≡ o → IsLiveToken entries m pan at token
         → Some token ≡ option_map (λ x. x.0) o
     held token None is live =
         let fails = current-none V m pan token at live.0 is (sym (shown.at (m, token)) ∙ live.1) in
@@ -66,7 +73,8 @@ module _ (V : Vault) (sound : Sound V) (m pan : Bytes) (at : ℕ) (now : moment_
         let there = current-some V m pan at x is in
         ap Some (one_live token x.0 live.0 x.1 (sym (shown.at (m, token)) ∙ live.1) live.2 there.0 there.1)
 
-    none : (o : Option (Bytes × Entry)) → current V m pan at ≡ o → ((token : Bytes) → ¬ (IsLiveToken entries m pan at token))
+    none : (o : Option (Bytes × Entry))
+        → current V m pan at ≡ o → ((token : Bytes) → ¬ (IsLiveToken entries m pan at token))
         → None ≡ option_map (λ x. x.0) o
     none None is never = refl
     none (Some x) is never =

@@ -1,5 +1,6 @@
 -- The rows of merchants after changes.
-use Rattle.std.proofs.Common.{◌≡◌, ◌+◌, ℕ, false, cond, Option, Some, None, is_some, refl, sym, ap, ◌∙◌, inl, inr, add-zero, arith}
+use Rattle.std.proofs.Common.{◌≡◌, ◌+◌, ℕ, false, cond, Option, Some, None, is_some, refl, sym, ap, ◌∙◌}
+use Rattle.std.proofs.Common.{inl, inr, add-zero, arith}
 use Rattle.std.specs.Prelude.{option_map}
 use Rattle.std.specs.BTreeMap as rows
 use Rattle.std.specs.FinMap as map
@@ -34,17 +35,36 @@ counted n merchant = record {
 counted-raised : (count : Option Count) (x : Lives) (o : Option Merchant) (n k : ℕ) → (o ≡ None → n ≡ 0)
     → k ≡ n + cond (is_made count) 1 0
     → counted k (raised count (merchant_with x o)) ≡ row_raised count (row_with x (option_map (counted n) o))
-counted-raised None x None n k none more = let zero = none refl in let is : k ≡ 0 = omega arith in ap (λ j. counted j (merchant_with x None)) is
-counted-raised None x (Some old) n k none more = let is : k ≡ n = omega arith in ap (λ j. counted j (merchant_with x (Some old))) is
-counted-raised (Some Made) x None n k none more = let zero = none refl in let is : k ≡ 1 = omega arith in ap (λ j. counted j (merchant_with x None)) is
+counted-raised None x None n k none more =
+    let zero = none refl in
+    let is : k ≡ 0 = omega arith in
+    ap (λ j. counted j (merchant_with x None)) is
+counted-raised None x (Some old) n k none more =
+    let is : k ≡ n = omega arith in
+    ap (λ j. counted j (merchant_with x (Some old))) is
+counted-raised (Some Made) x None n k none more =
+    let zero = none refl in
+    let is : k ≡ 1 = omega arith in
+    ap (λ j. counted j (merchant_with x None)) is
 counted-raised (Some Made) x (Some old) n k none more = ap (λ j. counted j (merchant_with x (Some old))) more
-counted-raised (Some Given) x None n k none more = let zero = none refl in let is : k ≡ 0 = omega arith in ap (λ j. counted j (raised (Some Given) (merchant_with x None))) is
-counted-raised (Some Given) x (Some old) n k none more = let is : k ≡ n = omega arith in ap (λ j. counted j (raised (Some Given) (merchant_with x (Some old)))) is
-counted-raised (Some Denied) x None n k none more = let zero = none refl in let is : k ≡ 0 = omega arith in ap (λ j. counted j (raised (Some Denied) (merchant_with x None))) is
-counted-raised (Some Denied) x (Some old) n k none more = let is : k ≡ n = omega arith in ap (λ j. counted j (raised (Some Denied) (merchant_with x (Some old)))) is
+counted-raised (Some Given) x None n k none more =
+    let zero = none refl in
+    let is : k ≡ 0 = omega arith in
+    ap (λ j. counted j (raised (Some Given) (merchant_with x None))) is
+counted-raised (Some Given) x (Some old) n k none more =
+    let is : k ≡ n = omega arith in
+    ap (λ j. counted j (raised (Some Given) (merchant_with x (Some old)))) is
+counted-raised (Some Denied) x None n k none more =
+    let zero = none refl in
+    let is : k ≡ 0 = omega arith in
+    ap (λ j. counted j (raised (Some Denied) (merchant_with x None))) is
+counted-raised (Some Denied) x (Some old) n k none more =
+    let is : k ≡ n = omega arith in
+    ap (λ j. counted j (raised (Some Denied) (merchant_with x (Some old)))) is
 
 -- a row is the same where its merchant and its count are
-row-same : (V W : Vault) (q : Bytes) → merchant_at W q ≡ merchant_at V q → made W q ≡ made V q → row_at W q ≡ row_at V q
+row-same : (V W : Vault) (q : Bytes) → merchant_at W q ≡ merchant_at V q → made W q ≡ made V q
+    → row_at W q ≡ row_at V q
 row-same V W q merchant count = λ i. option_map (counted (count i)) (merchant i)
 
 is_some-map : {A B : Type 0} (f : A → B) (o : Option A) → is_some (option_map f o) ≡ is_some o
@@ -52,13 +72,15 @@ is_some-map f None = refl
 is_some-map f (Some x) = refl
 
 -- no lives change
-pub shows-unchanged : (shown : rows.BTreeMap Bytes MerchantRow) (V : Vault) (ch : Changes) → ch.lives ≡ None → Fit V ch
+pub shows-unchanged : (shown : rows.BTreeMap Bytes MerchantRow) (V : Vault) (ch : Changes)
+    → ch.lives ≡ None → Fit V ch
     → ShowsMerchants shown V → ShowsMerchants shown (plus V ch)
 shows-unchanged shown V ch none fit h = record {
   at = λ q.
       h.at q ∙ sym (row-same V (plus V ch) q
       (ap (λ lives. map.get (with_merchant V.merchants ch.count lives) q) none)
-      (made-plus V ch fit q ∙ ap (λ lives. made V q + one_at (made_raised ch.count lives) q) none ∙ add-zero (made V q)));
+      (made-plus V ch fit q ∙ ap (λ lives. made V q + one_at (made_raised ch.count lives) q) none
+      ∙ add-zero (made V q)));
   many = h.many ∙ sym (ap (λ lives. map.len (with_merchant V.merchants ch.count lives)) none);
 }
 
@@ -66,7 +88,8 @@ shows-unchanged shown V ch none fit h = record {
 pub has_room : (V : Vault) → Sound V → (x : Lives) (m : Bytes) → HasRoom (row_with x (row_at V m))
 has_room V sound x m = go (merchant_at V m) refl
   where
-    go : (o : Option Merchant) → merchant_at V m ≡ o → HasRoom (row_with x (option_map (counted (made V m)) o))
+    go : (o : Option Merchant) → merchant_at V m ≡ o
+        → HasRoom (row_with x (option_map (counted (made V m)) o))
     go None is = record { made = omega arith; given = omega arith; denied = omega arith }
     go (Some old) is =
         let few = sound.made_few m in
@@ -74,17 +97,24 @@ has_room V sound x m = go (merchant_at V m) refl
         let denied = (sound.merchants m old is).denied in
         record { made = omega (arith, few); given = omega (arith, given); denied = omega (arith, denied) }
 
-module _ (V : Vault) (sound : Sound V) (ch : Changes) (fit : Fit V ch) (x : Lives) (is : ch.lives ≡ Some x) where
-  looked_up : (q : Bytes) → merchant_at (plus V ch) q ≡ map.get (map.insert V.merchants x.merchant (raised ch.count (merchant_with x (merchant_at V x.merchant)))) q
+module _ (V : Vault) (sound : Sound V) (ch : Changes) (fit : Fit V ch) (x : Lives)
+    (is : ch.lives ≡ Some x) where
+  looked_up : (q : Bytes)
+      → merchant_at (plus V ch) q
+      ≡ map.get
+      (map.insert V.merchants x.merchant (raised ch.count (merchant_with x (merchant_at V x.merchant)))) q
   looked_up q = ap (λ lives. map.get (with_merchant V.merchants ch.count lives) q) is
 
-  made_is : (q : Bytes) → made (plus V ch) q ≡ made V q + one_at (cond (is_made ch.count) (Some x.merchant) None) q
+  made_is : (q : Bytes)
+      → made (plus V ch) q ≡ made V q + one_at (cond (is_made ch.count) (Some x.merchant) None) q
   made_is q = made-plus V ch fit q ∙ ap (λ lives. made V q + one_at (made_raised ch.count lives) q) is
 
   row-own : row_at (plus V ch) x.merchant ≡ Some (row_raised ch.count (row_with x (row_at V x.merchant)))
   row-own =
-      ap (option_map (counted (made (plus V ch) x.merchant))) (looked_up x.merchant ∙ get-insert_same bytes_total bytes_exact V.merchants x.merchant _)
-      ∙ ap Some (counted-raised ch.count x (merchant_at V x.merchant) (made V x.merchant) (made (plus V ch) x.merchant)
+      ap (option_map (counted (made (plus V ch) x.merchant)))
+      (looked_up x.merchant ∙ get-insert_same bytes_total bytes_exact V.merchants x.merchant _)
+      ∙ ap Some (counted-raised ch.count x (merchant_at V x.merchant) (made V x.merchant)
+      (made (plus V ch) x.merchant)
       (made-unknown V sound x.merchant)
       (made_is x.merchant ∙ ap (λ n. made V x.merchant + n) (one_at-own (is_made ch.count) x.merchant)))
 
@@ -92,36 +122,47 @@ module _ (V : Vault) (sound : Sound V) (ch : Changes) (fit : Fit V ch) (x : Live
   row-other q apart =
       row-same V (plus V ch) q
       (looked_up q ∙ get-insert_other bytes_total bytes_exact V.merchants x.merchant _ q apart)
-      (made_is q ∙ ap (λ n. made V q + n) (one_at-other (is_made ch.count) q x.merchant apart) ∙ add-zero (made V q))
+      (made_is q ∙ ap (λ n. made V q + n) (one_at-other (is_made ch.count) q x.merchant apart)
+      ∙ add-zero (made V q))
 
   -- the row of the merchant was put
   pub shows-put_merchant : (old new : rows.BTreeMap Bytes MerchantRow)
       → ((q : Bytes) → rows.get bytes_cmp new q
-      ≡ cond (eq_by_cmp bytes_cmp x.merchant q) (Some (row_raised ch.count (row_with x (row_at V x.merchant)))) (rows.get bytes_cmp old q))
-      → rows.btree_map_len new ≡ rows.btree_map_len old + cond (is_some (rows.get bytes_cmp old x.merchant)) 0 1
+      ≡ cond (eq_by_cmp bytes_cmp x.merchant q)
+      (Some (row_raised ch.count (row_with x (row_at V x.merchant)))) (rows.get bytes_cmp old q))
+      → rows.btree_map_len new
+      ≡ rows.btree_map_len old + cond (is_some (rows.get bytes_cmp old x.merchant)) 0 1
       → ShowsMerchants old V → ShowsMerchants new (plus V ch)
   shows-put_merchant old new updates len h = record {
     at = λ q. elim (tied bytes_exact q x.merchant) [
       | inl same ↦ ap (rows.get bytes_cmp new) same ∙ own ∙ sym (ap (row_at (plus V ch)) same)
       | inr apart ↦
           updates q
-          ∙ ap (λ b. cond b (Some (row_raised ch.count (row_with x (row_at V x.merchant)))) (rows.get bytes_cmp old q))
+          ∙ ap (λ b. cond b (Some (row_raised ch.count (row_with x (row_at V x.merchant))))
+          (rows.get bytes_cmp old q))
           ((eq_by_cmp_equiv bytes_total).symm x.merchant q ∙ apart)
           ∙ h.at q ∙ sym (row-other q apart)
     ];
     many =
-        len ∙ ap (λ b. rows.btree_map_len old + cond b 0 1) (ap is_some (h.at x.merchant) ∙ is_some-map (counted (made V x.merchant)) (merchant_at V x.merchant))
+        len
+        ∙ ap (λ b. rows.btree_map_len old + cond b 0 1)
+        (ap is_some (h.at x.merchant) ∙ is_some-map (counted (made V x.merchant)) (merchant_at V x.merchant))
         ∙ more (merchant_at V x.merchant)
-        ∙ sym (ap (λ lives. map.len (with_merchant V.merchants ch.count lives)) is ∙ map.len-insert bytes_total V.merchants x.merchant _);
+        ∙ sym (ap (λ lives. map.len (with_merchant V.merchants ch.count lives)) is
+        ∙ map.len-insert bytes_total V.merchants x.merchant _);
   }
     where
       own : rows.get bytes_cmp new x.merchant ≡ row_at (plus V ch) x.merchant
       own =
           updates x.merchant
-          ∙ ap (λ r. cond (is_eq r) (Some (row_raised ch.count (row_with x (row_at V x.merchant)))) (rows.get bytes_cmp old x.merchant)) (tied_itself bytes_total x.merchant)
+          ∙ ap (λ r. cond (is_eq r) (Some (row_raised ch.count (row_with x (row_at V x.merchant))))
+          (rows.get bytes_cmp old x.merchant))
+          (tied_itself bytes_total x.merchant)
           ∙ sym row-own
 
-      more : (o : Option Merchant) → rows.btree_map_len old + cond (is_some o) 0 1 ≡ cond (is_some o) (map.len V.merchants) (map.len V.merchants + 1)
+      more : (o : Option Merchant)
+          → rows.btree_map_len old + cond (is_some o) 0 1
+          ≡ cond (is_some o) (map.len V.merchants) (map.len V.merchants + 1)
       more None = let e = h.many in omega arith
       more (Some merchant) = let e = h.many in omega arith
 

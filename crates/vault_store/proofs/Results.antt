@@ -12,7 +12,8 @@ on_err (Ok x) p = tt
 on_err (Err e) p = p
 
 -- what keeps the vaults that the tables hold keeps them on want of memory
-pub keeps : {X : Type 0} (r : Result X TablesFault) (before now : Vault → Type 0) → StillHolds before now → KeepsOnMemory r before now
+pub keeps : {X : Type 0} (r : Result X TablesFault) (before now : Vault → Type 0) → StillHolds before now
+    → KeepsOnMemory r before now
 keeps (Ok x) before now h = tt
 keeps (Err Memory) before now h = h
 keeps (Err Store) before now h = tt

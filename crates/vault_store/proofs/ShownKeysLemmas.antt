@@ -54,20 +54,24 @@ module _ {K : Type 0} {R : K → K → Ordering} (o : IsTotalOrder R) where
         ]
 
     -- to take out the key that was put in leaves what was there, where the key is new
-    pub contains-taken_again : set.contains F k ≡ false → (q : K) → set.contains (set.remove (set.insert F k) k) q ≡ set.contains F q
+    pub contains-taken_again : set.contains F k ≡ false → (q : K)
+        → set.contains (set.remove (set.insert F k) k) q ≡ set.contains F q
     contains-taken_again new =
         at_each (set.remove (set.insert F k) k)
         (twice k ∙ ap (λ r. cond (is_eq r) false (set.contains F k)) (tied_itself o k) ∙ sym new)
         (λ q apart. twice q ∙ ap (λ b. cond b false (set.contains F q)) apart)
       where
-        twice : (q : K) → set.contains (set.remove (set.insert F k) k) q ≡ cond (eq_by_cmp R q k) false (set.contains F q)
+        twice : (q : K)
+            → set.contains (set.remove (set.insert F k) k) q
+            ≡ cond (eq_by_cmp R q k) false (set.contains F q)
         twice q =
             set.contains-remove o (set.insert F k) k q
             ∙ ap (λ b. not (eq_by_cmp R q k) && b) (set.contains-insert o F k q)
             ∙ both (eq_by_cmp R q k) (set.contains F q)
 
     -- to put in a key that is there changes nothing
-    pub contains-given_again : set.contains F k ≡ true → (q : K) → set.contains (set.insert F k) q ≡ set.contains F q
+    pub contains-given_again : set.contains F k ≡ true → (q : K)
+        → set.contains (set.insert F k) q ≡ set.contains F q
     contains-given_again there =
         at_each (set.insert F k)
         (set.contains-insert o F k k ∙ ap (λ r. is_eq r || set.contains F k) (tied_itself o k) ∙ sym there)

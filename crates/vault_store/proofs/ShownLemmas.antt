@@ -1,5 +1,6 @@
 -- What an ordered map shows after a row was put in, or taken back.
-use Rattle.std.proofs.Common.{◌≡◌, ◌+◌, inl, inr, ℕ, cond, Option, Some, None, Result, Ok, Err, is_some, sym, ap, ◌∙◌, arith}
+use Rattle.std.proofs.Common.{◌≡◌, ◌+◌, inl, inr, ℕ, cond, Option, Some, None, Result, Ok, Err, is_some}
+use Rattle.std.proofs.Common.{sym, ap, ◌∙◌, arith}
 use Rattle.std.specs.Prelude.{IsSome, OnOk, OnErr, IfOk}
 use Rattle.std.specs.FinMap as map
 use Rattle.std.specs.BTreeMap as rows
@@ -39,7 +40,8 @@ module _ {K X : Type 0} {R : K → K → Ordering} (o : IsTotalOrder R) where
         ∙ more (map.get F k) ∙ sym (map.len-insert o F k v);
   }
     where
-      more : (x : Option X) → rows.btree_map_len old + cond (is_some x) 0 1 ≡ cond (is_some x) (map.len F) (map.len F + 1)
+      more : (x : Option X)
+          → rows.btree_map_len old + cond (is_some x) 0 1 ≡ cond (is_some x) (map.len F) (map.len F + 1)
       more None = let e = h.many in omega arith
       more (Some x) = let e = h.many in omega arith
 
@@ -52,7 +54,9 @@ module _ {K X : Type 0} {R : K → K → Ordering} (o : IsTotalOrder R) where
     shows-removed old new F k v updates len none h = record {
       at = λ q. updates q ∙ back q;
       many =
-          let one = ap (λ x. rows.btree_map_len new + cond (is_some x) 1 0) (h.at k ∙ get-insert_same o exact F k v) in
+          let one =
+          ap (λ x. rows.btree_map_len new + cond (is_some x) 1 0)
+          (h.at k ∙ get-insert_same o exact F k v) in
           let grown = map.len-insert o F k v ∙ ap (λ x. cond (is_some x) (map.len F) (map.len F + 1)) none in
           let before = h.many in
           omega (arith, one, len, grown, before);
@@ -63,7 +67,8 @@ module _ {K X : Type 0} {R : K → K → Ordering} (o : IsTotalOrder R) where
             elim (tied exact q k) [
               | inl is ↦
                   ap (λ (x : K). cond (eq_by_cmp R k x) None (rows.get R old x)) is
-                  ∙ ap (λ r. cond (is_eq r) None (rows.get R old k)) (tied_itself o k) ∙ sym none ∙ sym (ap (map.get F) is)
+                  ∙ ap (λ r. cond (is_eq r) None (rows.get R old k)) (tied_itself o k) ∙ sym none
+                  ∙ sym (ap (map.get F) is)
               | inr apart ↦
                   ap (λ b. cond b None (rows.get R old q)) ((eq_by_cmp_equiv o).symm k q ∙ apart)
                   ∙ h.at q ∙ get-insert_other o exact F k v q apart
@@ -77,7 +82,10 @@ module _ {K X : Type 0} {R : K → K → Ordering} (o : IsTotalOrder R) where
     shows-restored old new F k v was updates len there h = record {
       at = λ q. updates q ∙ back q;
       many =
-          let same = len ∙ ap (λ x. rows.btree_map_len old + cond (is_some x) 0 1) (h.at k ∙ get-insert_same o exact F k v) in
+          let same =
+          len
+          ∙ ap (λ x. rows.btree_map_len old + cond (is_some x) 0 1)
+          (h.at k ∙ get-insert_same o exact F k v) in
           let grown = map.len-insert o F k v ∙ ap (λ x. cond (is_some x) (map.len F) (map.len F + 1)) there in
           let before = h.many in
           omega (arith, same, grown, before);
@@ -88,7 +96,8 @@ module _ {K X : Type 0} {R : K → K → Ordering} (o : IsTotalOrder R) where
             elim (tied exact q k) [
               | inl is ↦
                   ap (λ (x : K). cond (eq_by_cmp R k x) (Some was) (rows.get R old x)) is
-                  ∙ ap (λ r. cond (is_eq r) (Some was) (rows.get R old k)) (tied_itself o k) ∙ sym there ∙ sym (ap (map.get F) is)
+                  ∙ ap (λ r. cond (is_eq r) (Some was) (rows.get R old k)) (tied_itself o k) ∙ sym there
+                  ∙ sym (ap (map.get F) is)
               | inr apart ↦
                   ap (λ b. cond b (Some was) (rows.get R old q)) ((eq_by_cmp_equiv o).symm k q ∙ apart)
                   ∙ h.at q ∙ get-insert_other o exact F k v q apart

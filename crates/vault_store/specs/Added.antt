@@ -7,7 +7,9 @@ use Rattle.vault_core.specs.declared.right.Right.{Right}
 -- no merchant, entry, record or right is there that wasn't there before
 pub record AddsNothing (old new : Vault) : Type 0 where
   pub merchants : (m : Bytes) → is_some (merchant_at new m) ≡ true → is_some (merchant_at old m) ≡ true
-  pub entries : (m token : Bytes) → is_some (entry_at new m token) ≡ true → is_some (entry_at old m token) ≡ true
+  pub entries : (m token : Bytes) → is_some (entry_at new m token) ≡ true
+      → is_some (entry_at old m token) ≡ true
   pub records : (caller : Bytes) (request : ℕ)
       → is_some (record_at new caller request) ≡ true → is_some (record_at old caller request) ≡ true
-  pub rights : (caller m : Bytes) (right : Right) → has_right new caller m right ≡ true → has_right old caller m right ≡ true
+  pub rights : (caller m : Bytes) (right : Right) → has_right new caller m right ≡ true
+      → has_right old caller m right ≡ true

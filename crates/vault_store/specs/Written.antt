@@ -12,11 +12,14 @@ use Rattle.vault_store.specs.ShownKeys.{ShowsKeys}
 use Rattle.vault_store.specs.ShownMerchants.{ShowsMerchants}
 
 -- the rights and the merchants of a vault
-pub record HoldsRights (rights : keys.BTreeSet (Bytes × (Bytes × Right))) (merchants : rows.BTreeMap Bytes MerchantRow) (V : Vault) : Type 0 where
+pub record HoldsRights (rights : keys.BTreeSet (Bytes × (Bytes × Right)))
+    (merchants : rows.BTreeMap Bytes MerchantRow) (V : Vault) : Type 0 where
   pub rights_are : ShowsKeys right_cmp rights V.rights
   pub merchants_are : ShowsMerchants merchants V
 
 -- the records of a vault, with its rights and merchants
-pub record HoldsRecords (records : rows.BTreeMap (Bytes × ℕ) Record) (rights : keys.BTreeSet (Bytes × (Bytes × Right))) (merchants : rows.BTreeMap Bytes MerchantRow) (V : Vault) : Type 0 where
+pub record HoldsRecords (records : rows.BTreeMap (Bytes × ℕ) Record)
+    (rights : keys.BTreeSet (Bytes × (Bytes × Right))) (merchants : rows.BTreeMap Bytes MerchantRow)
+    (V : Vault) : Type 0 where
   pub records_are : Shows record_cmp records V.records
   pub others : HoldsRights rights merchants V

@@ -1,5 +1,6 @@
 //! Tables that hold a vault, whichever way.
-ghost use Rattle.std.specs.Prelude.{◌≡◌, ◌≤◌, Bool, true, false, Option, Some, None, IfOk, OnOk, IsOk, Err, option_map};
+ghost use Rattle.std.specs.Prelude.{◌≡◌, ◌≤◌, Bool, true, false, Option, Some, None, IfOk, OnOk, IsOk, Err};
+ghost use Rattle.std.specs.Prelude.{option_map};
 ghost use Rattle.std.specs.FinMap as map;
 ghost use Rattle.vault_core.specs.Changes.{Fit, plus};
 ghost use Rattle.vault_core.specs.Repeats.{current};
@@ -68,7 +69,8 @@ pub trait Tables {
     /// The row of a merchant.
     fn merchant(&mut self, m: MerchantId) -> Result<Option<MerchantRow>, TablesFault>
         ensures honest { is_honest self.new → is_honest self.old }
-        ensures told { is_honest self.new → IfOk result (λ found. (V : Vault) → holds self.old V → Sound V → found ≡ row_at V m) }
+        ensures told { is_honest self.new
+            → IfOk result (λ found. (V : Vault) → holds self.old V → Sound V → found ≡ row_at V m) }
         ensures kept { Keeps result (holds self.old) (holds self.new) }
         ensures crash { is_honest self.new → (V : Vault) → holds self.old V → leaves self.new V V }
         ensures failing { FailsWith result (has_failed self.old) (has_failed self.new) }
@@ -77,7 +79,9 @@ pub trait Tables {
     /// How many merchants there are.
     fn merchants(&mut self) -> Result<u64, TablesFault>
         ensures honest { is_honest self.new → is_honest self.old }
-        ensures told { is_honest self.new → IfOk result (λ found. (V : Vault) → holds self.old V → Sound V → found ≡ map.len V.merchants) }
+        ensures told { is_honest self.new
+            → IfOk result
+            (λ found. (V : Vault) → holds self.old V → Sound V → found ≡ map.len V.merchants) }
         ensures kept { Keeps result (holds self.old) (holds self.new) }
         ensures crash { is_honest self.new → (V : Vault) → holds self.old V → leaves self.new V V }
         ensures failing { FailsWith result (has_failed self.old) (has_failed self.new) }
@@ -86,7 +90,8 @@ pub trait Tables {
     /// Whether a caller has a right at a merchant.
     fn right(&mut self, c: Caller, m: MerchantId, r: Right) -> Result<bool, TablesFault>
         ensures honest { is_honest self.new → is_honest self.old }
-        ensures told { is_honest self.new → IfOk result (λ found. (V : Vault) → holds self.old V → Sound V → found ≡ has_right V c m r) }
+        ensures told { is_honest self.new
+            → IfOk result (λ found. (V : Vault) → holds self.old V → Sound V → found ≡ has_right V c m r) }
         ensures kept { Keeps result (holds self.old) (holds self.new) }
         ensures crash { is_honest self.new → (V : Vault) → holds self.old V → leaves self.new V V }
         ensures failing { FailsWith result (has_failed self.old) (has_failed self.new) }
@@ -95,7 +100,8 @@ pub trait Tables {
     /// The record of a caller's request.
     fn recorded(&mut self, c: Caller, n: RequestNo) -> Result<Option<Record>, TablesFault>
         ensures honest { is_honest self.new → is_honest self.old }
-        ensures told { is_honest self.new → IfOk result (λ found. (V : Vault) → holds self.old V → Sound V → found ≡ record_at V c n) }
+        ensures told { is_honest self.new
+            → IfOk result (λ found. (V : Vault) → holds self.old V → Sound V → found ≡ record_at V c n) }
         ensures kept { Keeps result (holds self.old) (holds self.new) }
         ensures crash { is_honest self.new → (V : Vault) → holds self.old V → leaves self.new V V }
         ensures failing { FailsWith result (has_failed self.old) (has_failed self.new) }
@@ -104,7 +110,8 @@ pub trait Tables {
     /// What a merchant's token stands for.
     fn entry(&mut self, m: MerchantId, t: Token) -> Result<Option<Entry>, TablesFault>
         ensures honest { is_honest self.new → is_honest self.old }
-        ensures told { is_honest self.new → IfOk result (λ found. (V : Vault) → holds self.old V → Sound V → found ≡ entry_at V m t) }
+        ensures told { is_honest self.new
+            → IfOk result (λ found. (V : Vault) → holds self.old V → Sound V → found ≡ entry_at V m t) }
         ensures kept { Keeps result (holds self.old) (holds self.new) }
         ensures crash { is_honest self.new → (V : Vault) → holds self.old V → leaves self.new V V }
         ensures failing { FailsWith result (has_failed self.old) (has_failed self.new) }
@@ -113,7 +120,9 @@ pub trait Tables {
     /// The multi-use token of a card number that is live at a moment, which isn't before the merchant's.
     fn current(&mut self, m: MerchantId, p: Pan, at: Moment) -> Result<Option<Token>, TablesFault>
         ensures honest { is_honest self.new → is_honest self.old }
-        ensures told { is_honest self.new → IfOk result (λ found. (V : Vault) → holds self.old V → Sound V → moment_at V m at ≡ at → found ≡ option_map (λ held. held.0) (current V m p at)) }
+        ensures told { is_honest self.new
+            → IfOk result (λ found. (V : Vault) → holds self.old V → Sound V → moment_at V m at ≡ at
+            → found ≡ option_map (λ held. held.0) (current V m p at)) }
         ensures kept { Keeps result (holds self.old) (holds self.new) }
         ensures crash { is_honest self.new → (V : Vault) → holds self.old V → leaves self.new V V }
         ensures failing { FailsWith result (has_failed self.old) (has_failed self.new) }
@@ -122,10 +131,14 @@ pub trait Tables {
     /// Makes the changes, all of them or none. Contracts ask that they fit the vault.
     fn write(&mut self, ch: &Changes) -> Result<(), TablesFault>
         ensures honest { is_honest self.new → is_honest self.old }
-        ensures done { is_honest self.new → OnOk result ((V : Vault) → holds self.old V → Sound V → Fit V ch.now → holds self.new (plus V ch.now)) }
+        ensures done { is_honest self.new
+            → OnOk result
+            ((V : Vault) → holds self.old V → Sound V → Fit V ch.now → holds self.new (plus V ch.now)) }
         ensures kept { KeepsOnMemory result (holds self.old) (holds self.new) }
-        ensures allowed { (V : Vault) → holds self.old V → Fit V ch.now → AddsNothing V (plus V ch.now) → IsAllowed may_refuse may_fail result }
-        ensures crash { is_honest self.new → (V : Vault) → holds self.old V → Sound V → Fit V ch.now → leaves self.new V (plus V ch.now) }
+        ensures allowed { (V : Vault) → holds self.old V → Fit V ch.now → AddsNothing V (plus V ch.now)
+            → IsAllowed may_refuse may_fail result }
+        ensures crash { is_honest self.new → (V : Vault) → holds self.old V → Sound V → Fit V ch.now
+            → leaves self.new V (plus V ch.now) }
         ensures failing { FailsWith result (has_failed self.old) (has_failed self.new) }
         ensures sturdy { may_fail ≡ false → ¬ (result ≡ Err TablesFault.Store) };
 

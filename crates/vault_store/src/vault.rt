@@ -48,7 +48,8 @@ pub struct Vault<T> {
 }
 
 impl<T: Tables> Vault<T> {
-    ghost use Rattle.vault_store.specs.Applied.{Contains, FailsBy, IsAllowedFault, breaks, is_broken, tables_of};
+    ghost use Rattle.vault_store.specs.Applied.{Contains, FailsBy, IsAllowedFault, breaks, is_broken};
+    ghost use Rattle.vault_store.specs.Applied.{tables_of};
 
     /// The vault that tables hold. Nothing is promised of tables that hold no sound vault.
     pub fn new(tables: T) -> Vault<T>
@@ -66,14 +67,18 @@ impl<T: Tables> Vault<T> {
     pub fn apply(&mut self, c: &Command) -> Result<Reply, Fault>
         requires { HasLivesInRange c.now }
         ensures honest { T.is_honest (tables_of self.new) → T.is_honest (tables_of self.old) }
-        ensures answered { T.is_honest (tables_of self.new) → IfOk result (λ reply. (V : Content) → Contains T.holds self.old V
+        ensures answered { T.is_honest (tables_of self.new)
+            → IfOk result (λ reply. (V : Content) → Contains T.holds self.old V
             → (reply ≡ reply_lem V c.now) × Contains T.holds self.new (after_lem V c.now)) }
-        ensures memory { result ≡ Err Fault.Memory → (V : Content) → Contains T.holds self.old V → Contains T.holds self.new V }
+        ensures memory { result ≡ Err Fault.Memory → (V : Content) → Contains T.holds self.old V
+            → Contains T.holds self.new V }
         ensures reopen { (result ≡ Err Fault.Reopen) ↔ (is_broken self.old ≡ true) }
         ensures unchanged { result ≡ Err Fault.Reopen → tables_of self.new ≡ tables_of self.old }
         ensures broken { is_broken self.new ≡ breaks result }
-        ensures crash { T.is_honest (tables_of self.new) → (V : Content) → Contains T.holds self.old V → LeavesBy result (T.leaves (tables_of self.new)) V (after_lem V c.now) }
-        ensures failing { FailsBy result (T.has_failed (tables_of self.old)) (T.has_failed (tables_of self.new)) }
+        ensures crash { T.is_honest (tables_of self.new) → (V : Content) → Contains T.holds self.old V
+            → LeavesBy result (T.leaves (tables_of self.new)) V (after_lem V c.now) }
+        ensures failing { FailsBy result (T.has_failed (tables_of self.old))
+            (T.has_failed (tables_of self.new)) }
         ensures allowed { is_broken self.old ≡ false → T.is_honest (tables_of self.new)
             → (V : Content) → Contains T.holds self.old V → AddsNothing V (after_lem V c.now)
             → IsAllowedFault T.may_refuse T.may_fail result }
@@ -112,12 +117,15 @@ impl<T: Tables> Vault<T> {
 fn answer<T: Tables>(tables: &mut T, c: &Command) -> Result<Reply, TablesFault>
     requires { HasLivesInRange c.now }
     ensures honest { T.is_honest tables.new → T.is_honest tables.old }
-    ensures told { T.is_honest tables.new → IfOk result (λ reply. (V : Content) → T.holds tables.old V → Sound V
+    ensures told { T.is_honest tables.new → IfOk result (λ reply. (V : Content)
+        → T.holds tables.old V → Sound V
         → (reply ≡ reply_lem V c.now) × T.holds tables.new (after_lem V c.now) × Sound (after_lem V c.now)) }
     ensures kept { KeepsOnMemory result (T.holds tables.old) (T.holds tables.new) }
-    ensures crash { T.is_honest tables.new → (V : Content) → T.holds tables.old V → Sound V → T.leaves tables.new V (after_lem V c.now) }
+    ensures crash { T.is_honest tables.new → (V : Content) → T.holds tables.old V → Sound V
+        → T.leaves tables.new V (after_lem V c.now) }
     ensures failing { FailsWith result (T.has_failed tables.old) (T.has_failed tables.new) }
-    ensures allowed { T.is_honest tables.new → (V : Content) → T.holds tables.old V → Sound V → AddsNothing V (after_lem V c.now)
+    ensures allowed { T.is_honest tables.new → (V : Content) → T.holds tables.old V → Sound V
+        → AddsNothing V (after_lem V c.now)
         → IsAllowed T.may_refuse T.may_fail result }
     ensures sturdy { T.may_fail ≡ false → ¬ (result ≡ Err TablesFault.Store) }
 {

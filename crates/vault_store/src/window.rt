@@ -23,7 +23,8 @@ use vault_pan::token::Token;
 /// The window of a command: what the tables hold at the places that it needs.
 pub fn window<T: Tables>(tables: &mut T, c: &Command) -> Result<Window, TablesFault>
     ensures honest { T.is_honest tables.new → T.is_honest tables.old }
-    ensures told { T.is_honest tables.new → IfOk result (λ found. (V : Vault) → T.holds tables.old V → Sound V → IsWindow V c.now found) }
+    ensures told { T.is_honest tables.new
+        → IfOk result (λ found. (V : Vault) → T.holds tables.old V → Sound V → IsWindow V c.now found) }
     ensures kept { Keeps result (T.holds tables.old) (T.holds tables.new) }
     ensures crash { T.is_honest tables.new → (V : Vault) → T.holds tables.old V → T.leaves tables.new V V }
     ensures failing { FailsWith result (T.has_failed tables.old) (T.has_failed tables.new) }
@@ -95,7 +96,9 @@ fn token_window<T: Tables>(
     needed: Right,
 ) -> Result<Window, TablesFault>
     ensures honest { T.is_honest tables.new → T.is_honest tables.old }
-    ensures told { T.is_honest tables.new → IfOk result (λ found. (V : Vault) → T.holds tables.old V → Sound V → ShowsToken V caller merchant token needed found) }
+    ensures told { T.is_honest tables.new
+        → IfOk result (λ found. (V : Vault) → T.holds tables.old V → Sound V
+        → ShowsToken V caller merchant token needed found) }
     ensures kept { Keeps result (T.holds tables.old) (T.holds tables.new) }
     ensures crash { T.is_honest tables.new → (V : Vault) → T.holds tables.old V → T.leaves tables.new V V }
     ensures failing { FailsWith result (T.has_failed tables.old) (T.has_failed tables.new) }
@@ -115,7 +118,9 @@ fn token_window<T: Tables>(
 /// The window of a Tokenize.
 fn request_window<T: Tables>(tables: &mut T, asked: &TokenRequest) -> Result<Window, TablesFault>
     ensures honest { T.is_honest tables.new → T.is_honest tables.old }
-    ensures told { T.is_honest tables.new → IfOk result (λ found. (V : Vault) → T.holds tables.old V → Sound V → ShowsRequest V asked.now found) }
+    ensures told { T.is_honest tables.new
+        → IfOk result
+        (λ found. (V : Vault) → T.holds tables.old V → Sound V → ShowsRequest V asked.now found) }
     ensures kept { Keeps result (T.holds tables.old) (T.holds tables.new) }
     ensures crash { T.is_honest tables.new → (V : Vault) → T.holds tables.old V → T.leaves tables.new V V }
     ensures failing { FailsWith result (T.has_failed tables.old) (T.has_failed tables.new) }
@@ -152,7 +157,9 @@ fn recorded_entry<T: Tables>(
     asked: &TokenRequest,
 ) -> Result<Option<(Record, Entry)>, TablesFault>
     ensures honest { T.is_honest tables.new → T.is_honest tables.old }
-    ensures told { T.is_honest tables.new → IfOk result (λ found. (V : Vault) → T.holds tables.old V → Sound V → found ≡ recorded V asked.now.caller asked.now.request) }
+    ensures told { T.is_honest tables.new
+        → IfOk result (λ found. (V : Vault) → T.holds tables.old V → Sound V
+        → found ≡ recorded V asked.now.caller asked.now.request) }
     ensures kept { Keeps result (T.holds tables.old) (T.holds tables.new) }
     ensures crash { T.is_honest tables.new → (V : Vault) → T.holds tables.old V → T.leaves tables.new V V }
     ensures failing { FailsWith result (T.has_failed tables.old) (T.has_failed tables.new) }
@@ -174,7 +181,10 @@ fn reusable<T: Tables>(
     at: Moment,
 ) -> Result<Option<(Token, Entry)>, TablesFault>
     ensures honest { T.is_honest tables.new → T.is_honest tables.old }
-    ensures told { T.is_honest tables.new → IfOk result (λ found. (V : Vault) → T.holds tables.old V → Sound V → moment_at V asked.now.merchant at ≡ at → found ≡ reusable_lem asked.now.usage (current V asked.now.merchant asked.now.pan at)) }
+    ensures told { T.is_honest tables.new
+        → IfOk result
+        (λ found. (V : Vault) → T.holds tables.old V → Sound V → moment_at V asked.now.merchant at ≡ at
+        → found ≡ reusable_lem asked.now.usage (current V asked.now.merchant asked.now.pan at)) }
     ensures kept { Keeps result (T.holds tables.old) (T.holds tables.new) }
     ensures crash { T.is_honest tables.new → (V : Vault) → T.holds tables.old V → T.leaves tables.new V V }
     ensures failing { FailsWith result (T.has_failed tables.old) (T.has_failed tables.new) }
@@ -197,7 +207,9 @@ fn reusable<T: Tables>(
 /// The first candidate of the draw that fails the check and that the merchant never had.
 fn first_good<T: Tables>(tables: &mut T, asked: &TokenRequest) -> Result<Option<Token>, TablesFault>
     ensures honest { T.is_honest tables.new → T.is_honest tables.old }
-    ensures told { T.is_honest tables.new → IfOk result (λ found. (V : Vault) → T.holds tables.old V → Sound V → found ≡ chosen V asked.now.merchant asked.now.pan asked.now.digits) }
+    ensures told { T.is_honest tables.new
+        → IfOk result (λ found. (V : Vault) → T.holds tables.old V → Sound V
+        → found ≡ chosen V asked.now.merchant asked.now.pan asked.now.digits) }
     ensures kept { Keeps result (T.holds tables.old) (T.holds tables.new) }
     ensures crash { T.is_honest tables.new → (V : Vault) → T.holds tables.old V → T.leaves tables.new V V }
     ensures failing { FailsWith result (T.has_failed tables.old) (T.has_failed tables.new) }

@@ -13,7 +13,9 @@ pub(crate) fn put_first<K: Ord + Drop, V: Drop>(
     key: K,
     value: V,
 ) -> Result<(), AllocError>
-    ensures { OnOk result ((q : K) → tree.get K.cmp map.new q ≡ option_or (tree.get K.cmp map.old q) (cond (eq_by_cmp K.cmp key q) (Some value) None)) }
+    ensures { OnOk result ((q : K)
+        → tree.get K.cmp map.new q
+        ≡ option_or (tree.get K.cmp map.old q) (cond (eq_by_cmp K.cmp key q) (Some value) None)) }
 {
     if !map.contains_key(&key) {
         map.insert(key, value)?;

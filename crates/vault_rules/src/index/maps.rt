@@ -19,7 +19,8 @@ pub(crate) fn merchants_by_name<'a>(
     alloc: Global,
     merchants: &'a [RawMerchant],
 ) -> Result<BTreeMap<&'a str, &'a RawMerchant>, AllocError>
-    ensures { IfOk result (λ map. (name : Bytes) → option_copied (at_text map name) ≡ merchant_of merchants.now name) }
+    ensures { IfOk result
+        (λ map. (name : Bytes) → option_copied (at_text map name) ≡ merchant_of merchants.now name) }
 {
     let mut map = BTreeMap::new(alloc);
     for row in merchants {
@@ -33,7 +34,8 @@ pub(crate) fn made_by_merchant<'a>(
     alloc: Global,
     counts: &'a [RawCount],
 ) -> Result<BTreeMap<&'a str, &'a RawCount>, AllocError>
-    ensures { IfOk result (λ map. (name : Bytes) → option_copied (at_text map name) ≡ made_of counts.now name) }
+    ensures { IfOk result
+        (λ map. (name : Bytes) → option_copied (at_text map name) ≡ made_of counts.now name) }
 {
     let mut map = BTreeMap::new(alloc);
     for row in counts {
@@ -56,7 +58,8 @@ pub(crate) fn held_by_merchant<'a>(
     alloc: Global,
     entries: &'a [RawEntry],
 ) -> Result<BTreeMap<&'a str, usize>, AllocError>
-    ensures { IfOk result (λ map. (name : Bytes) → unwrap_or (at_text map name) 0 ≡ held_by entries.now name) }
+    ensures { IfOk result
+        (λ map. (name : Bytes) → unwrap_or (at_text map name) 0 ≡ held_by entries.now name) }
 {
     let mut map = BTreeMap::new(alloc);
     for row in entries {
@@ -72,7 +75,8 @@ pub(crate) fn entries_by_token<'a>(
     alloc: Global,
     entries: &'a [RawEntry],
 ) -> Result<BTreeMap<(&'a str, &'a str), &'a RawEntry>, AllocError>
-    ensures { IfOk result (λ map. (name token : Bytes) → option_copied (at_pair map name token) ≡ entry_of entries.now name token) }
+    ensures { IfOk result (λ map. (name token : Bytes)
+        → option_copied (at_pair map name token) ≡ entry_of entries.now name token) }
 {
     let mut map = BTreeMap::new(alloc);
     for row in entries {

@@ -15,7 +15,8 @@ use crate::texts::is_name;
 /// Rule 11: each record is of a caller with a name, of a request from 1 on, and of an entry that
 /// exists and has the record's usage.
 pub fn are_records(index: &Index) -> bool
-    ensures { result ≡ list_all (rules.is_record index.now.rows.now.entries.items) index.now.rows.now.records.items }
+    ensures { result
+        ≡ list_all (rules.is_record index.now.rows.now.entries.items) index.now.rows.now.records.items }
 {
     let rows = index.rows;
     for record in &rows.records {
@@ -35,7 +36,11 @@ fn is_record<'a>(index: &Index<'a>, r: &'a RawRecord) -> bool
 
 /// Whether the entry of a record exists and has its usage.
 fn has_entry<'a>(index: &Index<'a>, r: &'a RawRecord) -> bool
-    ensures { result ≡ option_map_or (λ (e : EntryRow). int_eq e.usage r.now.usage) (entry_of index.now.rows.now.entries.items (string_bytes r.now.merchant) (string_bytes r.now.token)) false }
+    ensures { result
+        ≡ option_map_or (λ (e : EntryRow). int_eq e.usage r.now.usage)
+        (entry_of index.now.rows.now.entries.items (string_bytes r.now.merchant)
+        (string_bytes r.now.token))
+        false }
 {
     match index.entry(r.merchant.as_str(), r.token.as_str()) {
         Some(entry) => entry.usage == r.usage,
@@ -45,7 +50,8 @@ fn has_entry<'a>(index: &Index<'a>, r: &'a RawRecord) -> bool
 
 /// Rule 12: each right is of a caller with a name, at a merchant that exists, and 1 to 6.
 pub fn are_rights(index: &Index) -> bool
-    ensures { result ≡ list_all (rules.is_right index.now.rows.now.merchants.items) index.now.rows.now.rights.items }
+    ensures { result
+        ≡ list_all (rules.is_right index.now.rows.now.merchants.items) index.now.rows.now.rights.items }
 {
     index.rows.rights.iter().all(|r| is_right(index, r))
 }

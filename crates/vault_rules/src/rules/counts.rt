@@ -11,7 +11,8 @@ use crate::rules::bounds::{MOST_COUNTED, MOST_ENTRIES, is_within};
 
 /// Rule 4: each count is of a merchant that exists, of kind 1 to 3, and within its bounds.
 pub fn are_counts(index: &Index) -> bool
-    ensures { result ≡ list_all (rules.is_count index.now.rows.now.merchants.items) index.now.rows.now.counts.items }
+    ensures { result
+        ≡ list_all (rules.is_count index.now.rows.now.merchants.items) index.now.rows.now.counts.items }
 {
     index.rows.counts.iter().all(|c| is_count(index, c))
 }
@@ -27,14 +28,17 @@ fn is_count(index: &Index, c: &RawCount) -> bool
 
 /// Rule 10: each merchant's count of tokens made is the number of its entries, at most 1000000.
 pub fn are_counted(index: &Index) -> bool
-    ensures { result ≡ list_all (rules.is_counted index.now.rows.now.counts.items index.now.rows.now.entries.items) index.now.rows.now.merchants.items }
+    ensures { result
+        ≡ list_all (rules.is_counted index.now.rows.now.counts.items index.now.rows.now.entries.items)
+        index.now.rows.now.merchants.items }
 {
     index.rows.merchants.iter().all(|m| is_counted(index, m))
 }
 
 /// Whether a merchant keeps the rule of its count.
 fn is_counted(index: &Index, m: &RawMerchant) -> bool
-    ensures { result ≡ rules.is_counted index.now.rows.now.counts.items index.now.rows.now.entries.items m.now }
+    ensures { result
+        ≡ rules.is_counted index.now.rows.now.counts.items index.now.rows.now.entries.items m.now }
 {
     let held = index.held(m.name.as_str());
     held <= MOST_ENTRIES && total(index.made(m.name.as_str())) == held as i64

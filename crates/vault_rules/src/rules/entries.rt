@@ -11,7 +11,8 @@ use crate::texts::{fits, is_pan, is_token};
 
 /// Rule 5: each entry's merchant exists, and its token is 10 to 19 digits that fail the check.
 pub fn have_tokens(index: &Index) -> bool
-    ensures { result ≡ list_all (rules.has_token index.now.rows.now.merchants.items) index.now.rows.now.entries.items }
+    ensures { result
+        ≡ list_all (rules.has_token index.now.rows.now.merchants.items) index.now.rows.now.entries.items }
 {
     index.rows.entries.iter().all(|e| has_token(index, e))
 }
@@ -44,7 +45,9 @@ fn has_number(e: &RawEntry) -> bool
 /// Rule 7: of each entry whose merchant exists, the usage, the birth, the time of expiry and that
 /// of its revocation are within their bounds.
 pub fn are_timed(index: &Index) -> bool
-    ensures { result ≡ list_all (rules.at_moments index.now.rows.now.merchants.items rules.is_timed) index.now.rows.now.entries.items }
+    ensures { result
+        ≡ list_all (rules.at_moments index.now.rows.now.merchants.items rules.is_timed)
+        index.now.rows.now.entries.items }
 {
     index.rows.entries.iter().all(|e| is_timed_there(index, e))
 }
@@ -68,7 +71,9 @@ fn is_timed(moment: i64, e: &RawEntry) -> bool
 
 /// Whether an entry expires, and is revoked, within the bounds at a moment.
 fn ends_in_time(moment: i64, e: &RawEntry) -> bool
-    ensures { result ≡ rules.is_within (e.now.birth +ℤ pos 1) (e.now.birth +ℤ pos 3155760000) e.now.expires && option_map_or (rules.is_within e.now.birth moment) e.now.revoked true }
+    ensures { result
+        ≡ rules.is_within (e.now.birth +ℤ pos 1) (e.now.birth +ℤ pos 3155760000) e.now.expires
+        && option_map_or (rules.is_within e.now.birth moment) e.now.revoked true }
 {
     expires_in_time(e.birth, e.expires) && is_revoked_in_time(moment, e)
 }
@@ -95,7 +100,9 @@ fn is_revoked_in_time(moment: i64, e: &RawEntry) -> bool
 
 /// Rule 8: each entry that is erased, and whose merchant exists, is revoked or has expired.
 pub fn are_kept(index: &Index) -> bool
-    ensures { result ≡ list_all (rules.at_moments index.now.rows.now.merchants.items rules.is_kept) index.now.rows.now.entries.items }
+    ensures { result
+        ≡ list_all (rules.at_moments index.now.rows.now.merchants.items rules.is_kept)
+        index.now.rows.now.entries.items }
 {
     index.rows.entries.iter().all(|e| is_kept_there(index, e))
 }

@@ -14,7 +14,9 @@ const MULTI: i64 = 2;
 
 /// Rule 9: no number has two live multi-use entries at one merchant. Only memory can fail.
 pub fn are_alone(alloc: Global, index: &Index) -> Result<bool, AllocError>
-    ensures { IfOk result (λ alone. alone ≡ rules.are_distinct (filter_map (rules.live_key index.now.rows.now.merchants.items) index.now.rows.now.entries.items)) }
+    ensures { IfOk result (λ alone. alone
+        ≡ rules.are_distinct
+        (filter_map (rules.live_key index.now.rows.now.merchants.items) index.now.rows.now.entries.items)) }
 {
     let mut keys = BTreeSet::new(alloc);
     let rows = index.rows;
@@ -30,7 +32,8 @@ pub fn are_alone(alloc: Global, index: &Index) -> Result<bool, AllocError>
 
 /// The merchant and the number of a multi-use entry that is live at its merchant's moment.
 fn live_key<'a>(index: &Index<'a>, e: &'a RawEntry) -> Option<(&'a str, &'a str)>
-    ensures { option_map (λ key. (key.0.now, key.1.now)) result ≡ rules.live_key index.now.rows.now.merchants.items e.now }
+    ensures { option_map (λ key. (key.0.now, key.1.now)) result
+        ≡ rules.live_key index.now.rows.now.merchants.items e.now }
 {
     let moment = index.moment(e.merchant.as_str())?;
     let number = live_number(moment, e)?;

@@ -4,7 +4,8 @@ ghost use Rattle.vault_core.specs.Changes.{Fit, plus};
 ghost use Rattle.vault_core.specs.Sound.{Sound};
 ghost use Rattle.vault_core.specs.Vault.{Vault};
 ghost use Rattle.vault_store.specs.Added.{AddsNothing};
-ghost use Rattle.vault_store.specs.ShownMerchants.{HasRoom, ShowsMerchants, row_raised, row_with as row_with_lem};
+ghost use Rattle.vault_store.specs.ShownMerchants.{HasRoom, ShowsMerchants, row_raised};
+ghost use Rattle.vault_store.specs.ShownMerchants.{row_with as row_with_lem};
 
 use std::alloc::AllocError;
 use std::collections::BTreeMap;
@@ -17,9 +18,12 @@ pub fn put_merchant(
     merchants: &mut BTreeMap<MerchantId, MerchantRow>,
     ch: &Changes,
 ) -> Result<(), AllocError>
-    ensures done { OnOk result ((V : Vault) → ShowsMerchants merchants.old V → Sound V → Fit V ch.now → ShowsMerchants merchants.new (plus V ch.now)) }
-    ensures kept { OnErr result ((V : Vault) → ShowsMerchants merchants.old V → ShowsMerchants merchants.new V) }
-    ensures allowed { (V : Vault) → ShowsMerchants merchants.old V → AddsNothing V (plus V ch.now) → IsOk result }
+    ensures done { OnOk result ((V : Vault) → ShowsMerchants merchants.old V → Sound V → Fit V ch.now
+        → ShowsMerchants merchants.new (plus V ch.now)) }
+    ensures kept { OnErr result
+        ((V : Vault) → ShowsMerchants merchants.old V → ShowsMerchants merchants.new V) }
+    ensures allowed { (V : Vault) → ShowsMerchants merchants.old V → AddsNothing V (plus V ch.now)
+        → IsOk result }
 {
     let Some(lives) = ch.lives else {
         return Ok(());

@@ -16,9 +16,11 @@ pub fn give(
     key: (Caller, (MerchantId, Right)),
 ) -> Result<bool, AllocError>
     ensures added { IfOk result (λ is_new. is_new ≡ not (keys.contains right_cmp rights.old key)) }
-    ensures ok { OnOk result ((F : set.FinSet right_cmp) → ShowsKeys right_cmp rights.old F → ShowsKeys right_cmp rights.new (set.insert F key)) }
+    ensures ok { OnOk result ((F : set.FinSet right_cmp) → ShowsKeys right_cmp rights.old F
+        → ShowsKeys right_cmp rights.new (set.insert F key)) }
     ensures new { OnErr result (keys.contains right_cmp rights.old key ≡ false) }
-    ensures err { OnErr result ((F : set.FinSet right_cmp) → ShowsKeys right_cmp rights.old F → ShowsKeys right_cmp rights.new F) }
+    ensures err { OnErr result
+        ((F : set.FinSet right_cmp) → ShowsKeys right_cmp rights.old F → ShowsKeys right_cmp rights.new F) }
 {
     Ok(rights.insert(key)?)
 }
@@ -28,7 +30,8 @@ pub fn take_away(
     rights: &mut BTreeSet<(Caller, (MerchantId, Right))>,
     key: &(Caller, (MerchantId, Right)),
 )
-    ensures { (F : set.FinSet right_cmp) → ShowsKeys right_cmp rights.old F → ShowsKeys right_cmp rights.new (set.remove F key.now) }
+    ensures { (F : set.FinSet right_cmp) → ShowsKeys right_cmp rights.old F
+        → ShowsKeys right_cmp rights.new (set.remove F key.now) }
 {
     let _ = rights.remove(key);
 }

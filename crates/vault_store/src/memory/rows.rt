@@ -14,7 +14,8 @@ pub fn put<K: Ord + Drop, V: Drop>(
     row: V,
 ) -> Result<Option<V>, AllocError>
     ensures was { IfOk result (λ was. was ≡ tree.get K.cmp rows.old key) }
-    ensures ok { OnOk result ((F : map.FinMap K.cmp V) → Shows K.cmp rows.old F → Shows K.cmp rows.new (map.insert F key row)) }
+    ensures ok { OnOk result
+        ((F : map.FinMap K.cmp V) → Shows K.cmp rows.old F → Shows K.cmp rows.new (map.insert F key row)) }
     ensures new { OnErr result (tree.get K.cmp rows.old key ≡ None) }
     ensures err { OnErr result ((F : map.FinMap K.cmp V) → Shows K.cmp rows.old F → Shows K.cmp rows.new F) }
 {

@@ -24,9 +24,12 @@ pub fn write_record(
     merchants: &mut BTreeMap<MerchantId, MerchantRow>,
     ch: &Changes,
 ) -> Result<(), AllocError>
-    ensures done { OnOk result ((V : Vault) → HoldsRecords records.old rights.old merchants.old V → Sound V → Fit V ch.now → HoldsRecords records.new rights.new merchants.new (plus V ch.now)) }
-    ensures kept { OnErr result ((V : Vault) → HoldsRecords records.old rights.old merchants.old V → HoldsRecords records.new rights.new merchants.new V) }
-    ensures allowed { (V : Vault) → HoldsRecords records.old rights.old merchants.old V → AddsNothing V (plus V ch.now) → IsOk result }
+    ensures done { OnOk result ((V : Vault) → HoldsRecords records.old rights.old merchants.old V
+        → Sound V → Fit V ch.now → HoldsRecords records.new rights.new merchants.new (plus V ch.now)) }
+    ensures kept { OnErr result ((V : Vault) → HoldsRecords records.old rights.old merchants.old V
+        → HoldsRecords records.new rights.new merchants.new V) }
+    ensures allowed { (V : Vault) → HoldsRecords records.old rights.old merchants.old V
+        → AddsNothing V (plus V ch.now) → IsOk result }
 {
     let Some((caller, request, recorded)) = ch.recorded else {
         return write_right(rights, merchants, ch);
@@ -46,9 +49,12 @@ fn write_right(
     merchants: &mut BTreeMap<MerchantId, MerchantRow>,
     ch: &Changes,
 ) -> Result<(), AllocError>
-    ensures done { OnOk result ((V : Vault) → HoldsRights rights.old merchants.old V → Sound V → Fit V ch.now → HoldsRights rights.new merchants.new (plus V ch.now)) }
-    ensures kept { OnErr result ((V : Vault) → HoldsRights rights.old merchants.old V → HoldsRights rights.new merchants.new V) }
-    ensures allowed { (V : Vault) → HoldsRights rights.old merchants.old V → AddsNothing V (plus V ch.now) → IsOk result }
+    ensures done { OnOk result ((V : Vault) → HoldsRights rights.old merchants.old V → Sound V
+        → Fit V ch.now → HoldsRights rights.new merchants.new (plus V ch.now)) }
+    ensures kept { OnErr result
+        ((V : Vault) → HoldsRights rights.old merchants.old V → HoldsRights rights.new merchants.new V) }
+    ensures allowed { (V : Vault) → HoldsRights rights.old merchants.old V → AddsNothing V (plus V ch.now)
+        → IsOk result }
 {
     let Some((caller, merchant, right, is_given)) = ch.right else {
         return put_merchant(merchants, ch);

@@ -7,5 +7,6 @@ abbrev pub invariant-loop-byte : goal.invariant-loop-byte
 invariant-loop-byte l = record {
   small : l.sum < 10;
   parity : l.even ≡ ((length l.digits - l.byte-index) % 2 == 0);
-  rest : (l.sum + worths l.digits (length l.digits - l.byte-index)) % 10 ≡ worths l.digits (length l.digits) % 10;
+  rest : (l.sum + worths l.digits (length l.digits - l.byte-index)) % 10
+      ≡ worths l.digits (length l.digits) % 10;
 }

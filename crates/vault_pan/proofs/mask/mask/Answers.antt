@@ -7,12 +7,14 @@ use Rattle.vault_pan.proofs.mask.mask.Goals as goal
 pub returns-clause-masked : goal.returns-clause-masked
 returns-clause-masked c =
     let number = c.args.p.now in
-    let parts : c.extend-2.new.self ≡ hidden_between number (min 6 (length number - 10)) (length number - 4) = grind (arith, common_steps) in
+    let parts : c.extend-2.new.self ≡ hidden_between number (min 6 (length number - 10)) (length number - 4) =
+    grind (arith, common_steps) in
     parts ∙ mask_of-parts number (omega arith)
 
 pub invariant_of-result : goal.invariant_of-result
 invariant_of-result c =
-    subst IsMasked (sym (returns-clause-masked c)) (mask_of-IsMasked c.args.p.now c.digits-digits.ensures.pan.0)
+    subst IsMasked (sym (returns-clause-masked c))
+    (mask_of-IsMasked c.args.p.now c.digits-digits.ensures.pan.0)
 
 pub returns-clause-hides : goal.returns-clause-hides
 returns-clause-hides c = (invariant_of-result c).3

@@ -1,13 +1,16 @@
-use Rattle.std.proofs.Common.{◌≡◌, Option, Some, None, is_some, true, false, not, sym, ap, ◌∙◌, refl, arith, subst}
+use Rattle.std.proofs.Common.{◌≡◌, Option, Some, None, is_some, true, false, not, sym, ap, ◌∙◌, refl, arith}
+use Rattle.std.proofs.Common.{subst}
 use Rattle.vault_pan.specs.Luhn.{passes_check}
 use Rattle.vault_core.specs.Vault.{entry_at}
 use Rattle.vault_core.specs.declared.row.Entry.{Entry}
-use Rattle.vault_store.proofs.Drawn.{chosen-all, chosen_from, chosen_from-none, chosen_from-good, chosen_from-passes, chosen_from-taken}
+use Rattle.vault_store.proofs.Drawn.{chosen-all, chosen_from, chosen_from-none, chosen_from-good}
+use Rattle.vault_store.proofs.Drawn.{chosen_from-passes, chosen_from-taken}
 use Rattle.vault_store.proofs.window.first_good.Goals.{in-Some+in_ok-entry+else-is_none, in_default}
 use Rattle.vault_store.proofs.window.first_good.Goals as goal
 
 pub loop-k-init : goal.loop-k-init
-loop-k-init g c = record { honest = λ h. h; kept = λ V h. h; failing = refl; passed = λ _ V _ _. chosen-all V _ _ _ }
+loop-k-init g c =
+    record { honest = λ h. h; kept = λ V h. h; failing = refl; passed = λ _ V _ _. chosen-all V _ _ _ }
 
 none_is : (o : Option Entry) → is_some o ≡ false → o ≡ None
 none_is None h = refl
@@ -59,7 +62,8 @@ loop-k-preserved g c =
             failing = ap failed w.tables-is ∙ inv.failing;
             passed = λ h V held sound.
                 inv.passed (subst now w.tables-is h) V held sound
-                ∙ chosen_from-passes V a.merchant a.pan a.digits c.loop-k.k c.loop-k-test.true w.in_default.ensures;
+                ∙ chosen_from-passes V a.merchant a.pan a.digits c.loop-k.k c.loop-k-test.true
+                w.in_default.ensures;
           }
     ]
 
@@ -67,4 +71,6 @@ pub returns-clause-told : goal.returns-clause-told
 returns-clause-told g c honest V held sound =
     let inv = c.loop-k.invariant in
     let last : c.loop-k.k ≡ 20 = omega (arith, c.loop-k.auto.k-end, c.loop-k-test.false) in
-    sym (inv.passed honest V held sound ∙ ap (chosen_from V c.args.asked.now.merchant c.args.asked.now.pan c.args.asked.now.digits) last ∙ chosen_from-none V _ _ _)
+    sym (inv.passed honest V held sound
+    ∙ ap (chosen_from V c.args.asked.now.merchant c.args.asked.now.pan c.args.asked.now.digits) last
+    ∙ chosen_from-none V _ _ _)

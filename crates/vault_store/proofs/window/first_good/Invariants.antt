@@ -13,5 +13,6 @@ invariant-loop-k g l = record {
   kept : StillHolds (g.T.Tables.holds l.initial.tables) (g.T.Tables.holds l.tables);
   failing : g.T.Tables.has_failed l.tables ≡ g.T.Tables.has_failed l.initial.tables;
   passed : g.T.Tables.is_honest l.tables → (V : Vault) → g.T.Tables.holds l.initial.tables V → Sound V
-      → chosen V l.asked.merchant l.asked.pan l.asked.digits ≡ chosen_from V l.asked.merchant l.asked.pan l.asked.digits l.k;
+      → chosen V l.asked.merchant l.asked.pan l.asked.digits
+      ≡ chosen_from V l.asked.merchant l.asked.pan l.asked.digits l.k;
 }

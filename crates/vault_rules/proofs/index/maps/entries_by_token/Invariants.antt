@@ -6,4 +6,6 @@ use Rattle.vault_rules.specs.Lookups.{entry_of}
 use Rattle.vault_rules.proofs.index.maps.entries_by_token.Given as goal
 
 abbrev pub invariant-loop-row : goal.invariant-loop-row
-invariant-loop-row l = (name token : Bytes) → option_copied (at_pair l.map name token) ≡ entry_of (take l.row-index l.entries) name token
+invariant-loop-row l =
+    (name token : Bytes)
+    → option_copied (at_pair l.map name token) ≡ entry_of (take l.row-index l.entries) name token

@@ -6,7 +6,8 @@ use Rattle.vault_rules.specs.Index.{at_text}
 use Rattle.vault_rules.specs.declared.rows.RawCount.{RawCount}
 use Rattle.vault_rules.proofs.FirstLemmas.{first_more, first_not, and_true, and_false}
 use Rattle.vault_rules.proofs.index.maps.made_by_merchant.Goals as goal
-use Rattle.vault_rules.proofs.index.maps.made_by_merchant.Goals.{then-counts_made+in_ok-put_first, else-counts_made}
+use Rattle.vault_rules.proofs.index.maps.made_by_merchant.Goals.{then-counts_made+in_ok-put_first}
+use Rattle.vault_rules.proofs.index.maps.made_by_merchant.Goals.{else-counts_made}
 
 pub loop-row-preserved : goal.loop-row-preserved
 loop-row-preserved c = λ name.
@@ -16,7 +17,8 @@ loop-row-preserved c = λ name.
       | then-counts_made+in_ok-put_first w ↦
           ap (λ m. option_copied (at_text m name)) w.map-is
           ∙ first_more test c.args.counts.now c.loop-row.row-index _ _ _ _
-          c.loop-row-test.true c.row-item.is (w.in_ok-put_first.ensures (record { ref_ptr = (0, 0); now = name }))
+          c.loop-row-test.true c.row-item.is
+          (w.in_ok-put_first.ensures (record { ref_ptr = (0, 0); now = name }))
           (sym (texts_ties w.as_str.result.now name) ∙ ap (λ bs. bytes_eq bs name) w.as_str.ensures.value
           ∙ and_true _ _ (sym c.counts_made.ensures ∙ w.if-counts_made.true))
           (c.loop-row.invariant name)

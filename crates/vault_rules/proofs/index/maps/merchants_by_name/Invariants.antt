@@ -6,4 +6,5 @@ use Rattle.vault_rules.specs.Lookups.{merchant_of}
 use Rattle.vault_rules.proofs.index.maps.merchants_by_name.Given as goal
 
 abbrev pub invariant-loop-row : goal.invariant-loop-row
-invariant-loop-row l = (name : Bytes) → option_copied (at_text l.map name) ≡ merchant_of (take l.row-index l.merchants) name
+invariant-loop-row l =
+    (name : Bytes) → option_copied (at_text l.map name) ≡ merchant_of (take l.row-index l.merchants) name

@@ -4,7 +4,8 @@ use Rattle.std.specs.List.{filter_map, list_any}
 use Rattle.vault_core.specs.Keys.{Bytes}
 use Rattle.vault_rules.specs.Index.{has_pair}
 use Rattle.vault_rules.specs.Rules.{are_distinct, live_key}
-use Rattle.vault_rules.proofs.LiveLemmas.{alike, keys_more, keys_same, set_more, distinct_more, distinct_whole}
+use Rattle.vault_rules.proofs.LiveLemmas.{alike, keys_more, keys_same, set_more, distinct_more}
+use Rattle.vault_rules.proofs.LiveLemmas.{distinct_whole}
 use Rattle.vault_rules.proofs.rules.live.are_alone.Goals as goal
 use Rattle.vault_rules.proofs.rules.live.are_alone.Goals.{in-Some+in_ok-insert+else-not-branch, in_default}
 
@@ -21,7 +22,8 @@ returns-then-not-branch c =
     let is : x ≡ get_or xs i x = rw c.deref-entry-items.ensures.value at c.entry-item.is in
     sym (distinct_whole h xs (i + 1)
     (ap are_distinct (keys_more h xs i x key inside is (sym c.in-Some.ensures)) ∙ distinct_more so_far key
-    ∙ ap (λ b. are_distinct so_far && b) (sym (ap not (c.loop-entry.invariant.held key.0 key.1)) ∙ sym c.in_ok-insert.ensures.added ∙ c.if-not-branch.true)
+    ∙ ap (λ b. are_distinct so_far && b) (sym (ap not (c.loop-entry.invariant.held key.0 key.1))
+    ∙ sym c.in_ok-insert.ensures.added ∙ c.if-not-branch.true)
     ∙ and-false (are_distinct so_far)))
 
 pub loop-entry-preserved : goal.loop-entry-preserved
@@ -42,19 +44,22 @@ loop-entry-preserved c =
             held = λ merchant number.
                 ap (λ keys. has_pair keys merchant number) w.keys-is
                 ∙ set_more so_far key (merchant, number) _ _
-                (w.in_ok-insert.ensures.updates.0 (record { ref_ptr = (0, 0); now = merchant }, record { ref_ptr = (0, 0); now = number }))
+                (w.in_ok-insert.ensures.updates.0
+                (record { ref_ptr = (0, 0); now = merchant }, record { ref_ptr = (0, 0); now = number }))
                 (c.loop-entry.invariant.held merchant number)
                 ∙ sym (ap (list_any (alike (merchant, number))) more);
             apart =
                 ap are_distinct more ∙ distinct_more so_far key
                 ∙ ap (λ b. b && not (list_any (alike key) so_far)) c.loop-entry.invariant.apart
-                ∙ sym (ap not (c.loop-entry.invariant.held key.0 key.1)) ∙ sym w.in_ok-insert.ensures.added ∙ w.if-not-branch.false;
+                ∙ sym (ap not (c.loop-entry.invariant.held key.0 key.1)) ∙ sym w.in_ok-insert.ensures.added
+                ∙ w.if-not-branch.false;
           }
       | in_default w ↦
           let same = keys_same h xs i x inside is (sym w.in_default.ensures) in
           record {
             held = λ merchant number.
-                ap (λ keys. has_pair keys merchant number) w.keys-is ∙ c.loop-entry.invariant.held merchant number
+                ap (λ keys. has_pair keys merchant number) w.keys-is
+                ∙ c.loop-entry.invariant.held merchant number
                 ∙ sym (ap (list_any (alike (merchant, number))) same);
             apart = ap are_distinct same ∙ c.loop-entry.invariant.apart;
           }

@@ -11,6 +11,7 @@ invariant-loop-entry l =
     let rows = l.index.rows.now in
     let so_far = filter_map (live_key rows.merchants.items) (take l.entry-index rows.entries.items) in
     record {
-      held : (merchant number : Bytes) → has_pair l.keys merchant number ≡ list_any (alike (merchant, number)) so_far;
+      held : (merchant number : Bytes)
+          → has_pair l.keys merchant number ≡ list_any (alike (merchant, number)) so_far;
       apart : are_distinct so_far ≡ true;
     }

@@ -30,7 +30,11 @@ returns-in-Err-clause-kept c =
     (λ V held.
     let x = c.in-Some in
     let put = c.in_ok-was.ensures in
-    let kept = c.in-Err.ensures.kept V (record { records_are = held.records; others = record { rights_are = held.rights; merchants_are = held.merchants } }) in
+    let kept =
+    c.in-Err.ensures.kept V (record {
+      records_are = held.records;
+      others = record { rights_are = held.rights; merchants_are = held.merchants };
+    }) in
     record {
       merchants = kept.others.merchants_are;
       entries =
@@ -42,7 +46,13 @@ returns-in-Err-clause-kept c =
 
 pub returns-clause-done : goal.returns-clause-done
 returns-clause-done c _ V held sound fit =
-    let rest = c.in_default-write_record.ensures.done V (record { records_are = held.records; others = record { rights_are = held.rights; merchants_are = held.merchants } }) sound fit in
+    let rest =
+    c.in_default-write_record.ensures.done V
+    (record {
+      records_are = held.records;
+      others = record { rights_are = held.rights; merchants_are = held.merchants };
+    })
+    sound fit in
     record {
       merchants = rest.others.merchants_are;
       entries =
@@ -65,7 +75,11 @@ pub returns-in-Err-clause-crash : goal.returns-in-Err-clause-crash
 returns-in-Err-clause-crash c _ V held sound fit =
     let x = c.in-Some in
     let put = c.in_ok-was.ensures in
-    let kept = c.in-Err.ensures.kept V (record { records_are = held.records; others = record { rights_are = held.rights; merchants_are = held.merchants } }) in
+    let kept =
+    c.in-Err.ensures.kept V (record {
+      records_are = held.records;
+      others = record { rights_are = held.rights; merchants_are = held.merchants };
+    }) in
     inl (record {
       merchants = kept.others.merchants_are;
       entries =
@@ -77,7 +91,13 @@ returns-in-Err-clause-crash c _ V held sound fit =
 
 pub returns-clause-crash : goal.returns-clause-crash
 returns-clause-crash c _ V held sound fit =
-    let rest = c.in_default-write_record.ensures.done V (record { records_are = held.records; others = record { rights_are = held.rights; merchants_are = held.merchants } }) sound fit in
+    let rest =
+    c.in_default-write_record.ensures.done V
+    (record {
+      records_are = held.records;
+      others = record { rights_are = held.rights; merchants_are = held.merchants };
+    })
+    sound fit in
     inr (record {
       merchants = rest.others.merchants_are;
       entries =

@@ -8,7 +8,8 @@ use Rattle.vault_store.proofs.MerchantLemmas.{shows-unchanged, shows-put_merchan
 use Rattle.vault_store.proofs.memory.merchant.put_merchant.Goals as goal
 
 pub returns-in_default-clause-done : goal.returns-in_default-clause-done
-returns-in_default-clause-done c V h sound fit = shows-unchanged c.args.merchants.now V c.args.ch.now c.in_default.is fit h
+returns-in_default-clause-done c V h sound fit =
+    shows-unchanged c.args.merchants.now V c.args.ch.now c.in_default.is fit h
 
 pub returns-in_err-insert-clause-allowed : goal.returns-in_err-insert-clause-allowed
 returns-in_err-insert-clause-allowed c V h adds =
@@ -23,7 +24,10 @@ returns-clause-done c V h sound fit =
     let done = c.in_ok-insert.ensures in
     let was = c.copied-was.ensures ∙ c.get.ensures.value ∙ h.at x.merchant in
     let with = c.row_with.ensures ∙ ap (row_with x) was in
-    let row = c.raised-row.ensures (subst HasRoom (sym with) (has_room V sound x x.merchant)) ∙ ap (row_raised count) with in
+    let row =
+    c.raised-row.ensures (subst HasRoom (sym with) (has_room V sound x x.merchant))
+    ∙ ap (row_raised count) with in
     shows-put_merchant V sound c.args.ch.now fit x c.in-Some.is c.args.merchants.now c.insert.new.self
-    (λ q. done.updates.0 q ∙ ap (λ r. cond (eq_by_cmp bytes_cmp x.merchant q) (Some r) (get bytes_cmp c.args.merchants.now q)) row)
+    (λ q. done.updates.0 q
+    ∙ ap (λ r. cond (eq_by_cmp bytes_cmp x.merchant q) (Some r) (get bytes_cmp c.args.merchants.now q)) row)
     (done.len ∙ ap (λ o. btree_map_len c.args.merchants.now + cond (is_some o) 0 1) done.old) h

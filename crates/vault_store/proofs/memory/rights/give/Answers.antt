@@ -15,4 +15,5 @@ returns-clause-ok c F =
 
 pub returns-in_err-insert-clause-new : goal.returns-in_err-insert-clause-new
 returns-in_err-insert-clause-new c =
-    on_err c.from_residual.result (sym (contains-derived c.args.rights.now c.args.key) ∙ c.in_err-insert.ensures.absent)
+    on_err c.from_residual.result
+    (sym (contains-derived c.args.rights.now c.args.key) ∙ c.in_err-insert.ensures.absent)

@@ -5,8 +5,10 @@ use Rattle.vault_store.proofs.memory.rows.put_back.Goals as goal
 
 pub returns-in-None : goal.returns-in-None
 returns-in-None g c exact F row was h =
-    shows-removed g.met.K.Ord.total exact c.args.rows.now c.remove.new.self F c.args.key row c.remove.ensures.updates.0
-    (ap (λ x. btree_map_len c.remove.new.self + cond (is_some x) 1 0) (sym c.remove.ensures.value) ∙ c.remove.ensures.len)
+    shows-removed g.met.K.Ord.total exact c.args.rows.now c.remove.new.self F c.args.key row
+    c.remove.ensures.updates.0
+    (ap (λ x. btree_map_len c.remove.new.self + cond (is_some x) 1 0) (sym c.remove.ensures.value)
+    ∙ c.remove.ensures.len)
     (sym was ∙ c.in-None.is) h
 
 pub returns-in-Some : goal.returns-in-Some

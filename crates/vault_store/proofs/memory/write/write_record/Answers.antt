@@ -10,11 +10,14 @@ use Rattle.vault_store.proofs.memory.write.write_record.Goals as goal
 
 pub returns-in_default-clause-kept : goal.returns-in_default-clause-kept
 returns-in_default-clause-kept c =
-    on_err_weaker c.write_right.result (λ kept V h. record { records_are = h.records_are; others = kept V h.others }) c.write_right.ensures.kept
+    on_err_weaker c.write_right.result
+    (λ kept V h. record { records_are = h.records_are; others = kept V h.others })
+    c.write_right.ensures.kept
 
 pub returns-in_err-was-clause-kept : goal.returns-in_err-was-clause-kept
 returns-in_err-was-clause-kept c =
-    on_err c.from_residual.result (λ V h. record { records_are = c.in_err-was.ensures.err V.records h.records_are; others = h.others })
+    on_err c.from_residual.result
+    (λ V h. record { records_are = c.in_err-was.ensures.err V.records h.records_are; others = h.others })
 
 pub returns-in_err-was-clause-allowed : goal.returns-in_err-was-clause-allowed
 returns-in_err-was-clause-allowed c V h adds =
@@ -28,7 +31,8 @@ returns-in-Err-clause-kept c V h =
     let put = c.in_ok-was.ensures in
     record {
       records_are =
-          c.put_back.ensures record_exact V.records x.recorded (put.was ∙ h.records_are.at (x.caller, x.request))
+          c.put_back.ensures record_exact V.records x.recorded
+          (put.was ∙ h.records_are.at (x.caller, x.request))
           (put.ok V.records h.records_are);
       others = c.in-Err.ensures.kept V h.others;
     }
