@@ -16,12 +16,12 @@ grant() {
 # A merchant whose single-use tokens live a day and its multi-use ones a year, and who may do what there.
 step "a merchant is set" 'done (0)' "$(told "$program" merchant vault.db shop1 86400 31536000)"
 grant till-1 tokenize
-for right in detokenize view revoke audit; do
+for right in detokenize view revoke purge audit; do
     grant back "$right"
 done
 
-# Eight connections, one for each answer.
-start_service 8 vault.db
+# Eleven connections, one for each answer.
+start_service 11 vault.db
 first=$(ask_token 7)
 step "a token is given" "{\"expires\":[0-9]*,\"token\":\"${digits12}1111\"} 200" "$first"
 token=$(token_of "$first")
@@ -34,9 +34,12 @@ step "the token is shown, masked" \
 step "its number is brought back" '{"number":"4111111111111111"} 200' \
     "$(ask back POST "$tokens/$token/number")"
 step "another caller is refused" '{"refused":8} 403' "$(ask till-1 POST "$tokens/$token/number")"
+step "a live token isn't purged" '{"refused":17} 409' "$(ask back DELETE "$tokens/$token")"
 step "the token is revoked" '{"done":true} 200' "$(ask back POST "$tokens/$token/revoke")"
 step "a revoked token gives no number" '{"refused":15} 410' "$(ask back POST "$tokens/$token/number")"
-step "the counts are told" '{"denied":2,"given":1,"made":1} 200' "$(ask back GET /v1/merchants/shop1/audit)"
+step "its number is purged" '{"done":true} 200' "$(ask back DELETE "$tokens/$token")"
+step "a purged token gives no number" '{"refused":14} 410' "$(ask back POST "$tokens/$token/number")"
+step "the counts are told" '{"denied":3,"given":1,"made":1} 200' "$(ask back GET /v1/merchants/shop1/audit)"
 code=0
 wait "$service" || code=$?
 service=
@@ -44,6 +47,7 @@ step "the service ends with its last connection" '0' "$code"
 birth=$(echo "$shown" | sed -n 's/.*"birth":\([0-9]*\).*/\1/p')
 expires=$(echo "$shown" | sed -n 's/.*"expires":\([0-9]*\).*/\1/p')
 step "the token was to live for a day" '86400' "$((${expires:-0} - ${birth:-0}))"
+step "no other token is dead" 'purged 0 (0)' "$(told "$program" sweep vault.db back shop1)"
 step "the file is sound" 'sound 1 1 1 (0)' "$(told "$program" check vault.db)"
 
 # The same by a pipe, at moments and with digits that are fixed, byte for byte.

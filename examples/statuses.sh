@@ -25,6 +25,7 @@ step "0: a right" 'done (0)' "$(told "$program" grant shop.db till-1 shop1 token
 step "0: a right is taken away" 'done (0)' "$(told "$program" withdraw shop.db till-1 shop1 view)"
 printf '[till-1]\nshop1 = ["view", "tokenize", "view"]\n[back]\nshop1 = ["purge"]\n' > rights.toml
 step "0: the rights of a file" 'granted 3 (0)' "$(told "$program" rights shop.db rights.toml)"
+step "0: a sweep where nothing is dead" 'purged 0 (0)' "$(told "$program" sweep shop.db back shop1)"
 step "0: nothing is asked in a pipe" ' (0)' "$(told "$program" pipe shop.db < /dev/null)"
 
 # 1
@@ -33,6 +34,7 @@ step "1: a word that is no right" 'refused 71 (1)' "$(told "$program" grant none
 echo '[till-1' > text.toml
 step "1: a rights file that is none" 'refused 70 (1)' "$(told "$program" rights none.db text.toml)"
 step "1: and no file is made" 'none' "$([ -e none.db ] && echo made || echo none)"
+step "1: a bad name of a sweep" 'refused 4 (1)' "$(told "$program" sweep none.db Back shop1)"
 step "1: a merchant that isn't known" 'refused 7 (1)' "$(told "$program" grant shop.db till-1 shop2 view)"
 
 # 2

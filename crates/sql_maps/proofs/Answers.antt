@@ -25,7 +25,7 @@ passing params tests rows = filter (λ r. list_all (holds (params ∷ r ∷ []))
 abbrev pub shown_as : Row → List Term → Row → Row
 shown_as params project r = eval_all project (params ∷ r ∷ [])
 
-staged_are : {X Y : Type 0} (f : X → Y) (p : X → Bool) (xs : List X)
+pub staged_are : {X Y : Type 0} (f : X → Y) (p : X → Bool) (xs : List X)
     → flat_map (λ x. cond (p x) (f x ∷ []) []) xs ≡ map f (filter p xs)
 staged_are f p [] = refl
 staged_are f p (x ∷ xs) = let rest = staged_are f p xs in grind (arith, rest)

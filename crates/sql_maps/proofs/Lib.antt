@@ -5,11 +5,13 @@ pub mod Full
 pub mod HowMany
 pub mod KeyTests
 pub mod Keys
+pub mod Limited
 pub mod Making
 pub mod Parts
 pub mod Ordered
 pub mod Plain
 pub mod Reading
+pub mod Rising
 pub mod Statements
 pub mod Steps
 pub mod Unique

@@ -1,18 +1,20 @@
 -- What each kind of query shows of what the tables stand for: once for every schema and table.
 use Rattle.std.proofs.Common.{◌≡◌, ◌∙◌, ◌<◌, ◌≤◌, inl, inr, ℕ, ℤ, pos, List, [], ◌∷◌, ◌++◌, Bool, true}
 use Rattle.std.proofs.Common.{Option, Some, None, suc, refl, sym, ap, subst, slice_get, option_map, map}
-use Rattle.std.proofs.Common.{length, IsPermutation, Ordering}
+use Rattle.std.proofs.Common.{length, IsPermutation, Ordering, Equal, ap₂, drop, take}
 use Rattle.std.proofs.lemmas.List.Sorted.{IsPermutation-sym}
 use Rattle.std.specs.FinMap as finite
 use Rattle.std.specs.List.{list_all}
 use Rattle.sqlite.specs.Effect.{IsDatabase}
-use Rattle.sqlite.specs.Order.{Row}
+use Rattle.sqlite.specs.Edit.{id_in}
+use Rattle.sqlite.specs.Order.{Row, column, value_cmp}
 use Rattle.sqlite.specs.Program.{overlay}
 use Rattle.sqlite.specs.Query.{Query, IsAnswer}
 use Rattle.sqlite.specs.Schema.{Schema}
 use Rattle.sqlite.specs.State.{State, Shown}
 use Rattle.sqlite.specs.Term.{Term, holds}
-use Rattle.sqlite.specs.Tree.{Trees}
+use Rattle.sqlite.specs.Tree.{Trees, rowid}
+use Rattle.sqlite.specs.declared.types.Value.{Value}
 use Rattle.sqlite.specs.declared.types.Value.TheVariants.{Null, Int}
 use Rattle.sqlite_catalog.proofs.ListFacts.{filter_all}
 use Rattle.sqlite_rules.proofs.ListLemmas.{has_filtered, has_kept}
@@ -24,11 +26,14 @@ use Rattle.sql_maps.specs.Codes.{row_of}
 use Rattle.sql_maps.specs.Rows.{AreRowsOf, one_of}
 use Rattle.sql_maps.specs.Schema.{Descriptor, table_of}
 use Rattle.sql_maps.specs.States.{Claim, Stands}
-use Rattle.sql_maps.specs.Texts.{IsQuery, counting_of, query_of, sorted_of, by_key}
+use Rattle.sql_maps.specs.Texts.{IsQuery, by_key, counting_of, first_of, query_of, sorted_of}
 use Rattle.sql_maps.proofs.Answers.{answers, has_permuted, passing, shown_as, shows_none, shows_row}
 use Rattle.sql_maps.proofs.ByKey.{Coding, at_key, found_none, found_one, passes_good, row_at}
 use Rattle.sql_maps.proofs.Full.{all_columns, shown_full, shown_long}
 use Rattle.sql_maps.proofs.HowMany.{as_many, counted}
+use Rattle.sqlite_value.proofs.OrderLemmas.{value_cmp_total}
+use Rattle.sql_maps.proofs.Limited.{alone, first_rows}
+use Rattle.sql_maps.proofs.Rising.{Rises}
 use Rattle.sql_maps.proofs.Keys.{Keyed, coding, hits}
 use Rattle.sql_maps.proofs.Plain.{claim_at, claimed}
 
@@ -112,6 +117,48 @@ module _ {s : Schema} {claims : List Claim} (old new : State) (it : Stands s cla
               (mapped_has (shown_as params project) (passing params tests (db t.table.tree)) r
               (has_kept (tested tests) (db t.table.tree) r row.1 (passes row.0 q y ∙ fits)))),
         )
+
+  -- SELECT a column .. WHERE tests ORDER BY it LIMIT n: the first of what rises and has what passes
+  module _ (tests : List Term) (place many : ℕ)
+      (means : IsQuery s text (first_of t.table.tree tests place many)) (good : K → X → Bool)
+      (passes : (m : ℤ) (q : K) (y : X) → tested tests (Int m ∷ row_of key value q y) ≡ good q y)
+      (cell : K → X → Value)
+      (shows : (m : ℤ) (q : K) (y : X) → column (Int m ∷ row_of key value q y) place ≡ cell q y) where
+    passing_pair : (r : Row) → Has (passing params tests (db t.table.tree)) r
+        → Has (db t.table.tree) r × (q : K) × (y : X) × (held q ≡ Some y) × (good q y ≡ true)
+        × (r ≡ Int (id_in (rowid r)) ∷ row_of key value q y)
+    passing_pair r h =
+        let kept = has_filtered (tested tests) (db t.table.tree) r h in
+        let it = passes_good (coding t.codes) are_rows (tested tests) good passes r kept.0 kept.1 in
+        (kept.0, it.0, it.1, it.2, it.3, it.4)
+
+    pub shown_first : (n : ℕ) → column params many ≡ Int (pos n)
+        → ((q p : K) (y x : X) → held q ≡ Some y → good q y ≡ true → held p ≡ Some x → good p x ≡ true
+        → value_cmp (cell q y) (cell p x) ≡ Equal → q ≡ p)
+        → (list : List Value) → Rises value_cmp_total list
+        → ((v : Value) → Has list v → (q : K) × (y : X) × (held q ≡ Some y) × (good q y ≡ true) × (v ≡ cell q y))
+        → ((q : K) (y : X) → held q ≡ Some y → good q y ≡ true → Has list (cell q y))
+        → rows ≡ take n (map alone list)
+    shown_first n is one list rises from there =
+        first_rows db (answer_of means old new it.schema shown) n is are_rows.apart
+        (λ r z h k tie.
+        let a = passing_pair r h in
+        let b = passing_pair z k in
+        let same = one a.1 b.1 a.2 b.2 a.3 a.4 b.3 b.4
+        (ap₂ value_cmp (sym (shows _ a.1 a.2) ∙ ap (λ x. column x place) (sym a.5))
+        (sym (shows _ b.1 b.2) ∙ ap (λ x. column x place) (sym b.5)) ∙ tie) in
+        are_rows.once r z a.1 a.2 b.2 a.0 b.0 (ap (drop 1) a.5)
+        (ap (drop 1) b.5 ∙ ap (λ q. row_of key value q b.2) (sym same)))
+        list rises
+        (λ v h.
+        let p = from v h in
+        let row = row_at (coding t.codes) are_rows p.0 p.1 p.2 in (
+          Int row.0 ∷ row_of key value p.0 p.1,
+          has_kept (tested tests) (db t.table.tree) _ row.1 (passes row.0 p.0 p.1 ∙ p.3),
+          p.4 ∙ sym (shows row.0 p.0 p.1),
+        ))
+        (λ r h. let a = passing_pair r h in
+        subst (Has list) (sym (shows _ a.1 a.2) ∙ ap (λ x. column x place) (sym a.5)) (there a.1 a.2 a.3 a.4))
 
 -- SELECT count(*): how many keys the map has
 pub how_many : {s : Schema} (old new : State) → old.now.schema ≡ s → {text : List ℕ} {rows : List Row}

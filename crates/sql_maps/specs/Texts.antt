@@ -45,6 +45,11 @@ query_of tree tests project = sorted_of tree tests project [] []
 abbrev pub ordered_by : List ℕ → List (Term × Key)
 ordered_by columns = map (λ c. (col 1 c, record { collation = Binary; descending = false })) columns
 
+-- one column of the rows, in its order, of the first of them: as many as a parameter says
+abbrev pub first_of : ℕ → List Term → ℕ → ℕ → Query
+first_of tree tests column many =
+    record (sorted_of tree tests (col 1 column ∷ []) [] (ordered_by (column ∷ []))) { limit = col 0 many }
+
 -- how many rows a table has
 abbrev pub counting_of : ℕ → Query
 counting_of tree = record (query_of tree [] (col 1 0 ∷ [])) {

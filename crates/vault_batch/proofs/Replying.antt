@@ -4,17 +4,18 @@ use Rattle.std.specs.Prelude.{◌⊎◌, Option, Some, None, Bool, true, false, 
 use Rattle.std.specs.Option.{option_map_or}
 use Rattle.std.specs.Str.Parse.{digits_value}
 use Rattle.vault_pan.specs.CardText.{digits_of}
-use Rattle.vault_core.specs.Draw.{chosen}
-use Rattle.vault_core.specs.Outcome.{Outcome, of_merchant, refused, unchanged}
+use Rattle.vault_core.specs.Draw.{chosen_token}
+use Rattle.vault_core.specs.Outcome.{Outcome, of_merchant, plain_refusal, plain_reply}
 use Rattle.vault_core.specs.Refusals.{full, no_candidate, no_merchant, no_right, number_reused, wrong_use}
 use Rattle.vault_core.specs.Repeats.{current, is_repeat, reusable}
-use Rattle.vault_core.specs.Tokens.{came_before, drawn, given_again, life_asked, made_new, most_tokens}
-use Rattle.vault_core.specs.Tokens.{new_request, repeated, tokenize}
-use Rattle.vault_core.specs.Vault.{Merchant, Vault as Content, entry_at, has_right, made, merchant_at}
+use Rattle.vault_core.specs.Tokens.{earlier_request, drawing, token_again, life_asked, new_token}
+use Rattle.vault_core.specs.Tokens.{new_request, repetition, tokenize}
+use Rattle.vault_core.specs.Vault.{Merchant, Vault as Content, entitled, entry_at, made_count, merchant_at}
 use Rattle.vault_core.specs.Vault.{record_at, time_at}
 use Rattle.vault_core.specs.Table.{command_of, token_request}
 use Rattle.vault_core.specs.declared.command.Command.{Command}
 use Rattle.vault_core.specs.declared.command.TokenRequest.{TokenRequest}
+use Rattle.vault_core.specs.declared.limit.TheConstants.{MOST_TOKENS}
 use Rattle.vault_core.specs.declared.reply.Reply.TheVariants.{Token}
 use Rattle.vault_core.specs.declared.right.Right.TheVariants as right
 use Rattle.vault_core.specs.declared.row.Record.{Record}
@@ -38,33 +39,36 @@ found_or : {A : Type 0} (f : A → Outcome) (d : Outcome) (o : Option A) → ((a
 found_or f d None p q = q
 found_or f d (Some a) p q = p a
 
-came_shows : (V : Content) (a : TokenRequest) (r : Record) → Shows (came_before V a r)
+came_shows : (V : Content) (a : TokenRequest) (r : Record) → Shows (earlier_request V a r)
 came_shows V a r =
-    found_or (repeated V a r) (refused V number_reused) (entry_at V r.merchant r.token)
-    (λ e. either (is_repeat a.merchant a.usage a.pan r e) (unchanged V (Token r.token e.expires))
-    (refused V number_reused) (tt {0}) (tt {0})) (tt {0})
+    found_or (repetition V a r) (plain_refusal V number_reused) (entry_at V r.merchant r.token)
+    (λ e. either (is_repeat a.merchant a.usage a.pan r e) (plain_reply V (Token r.token e.expires))
+    (plain_refusal V number_reused) (tt {0}) (tt {0})) (tt {0})
 
-drawn_shows : (V : Content) (a : TokenRequest) (m : Merchant) → Shows (drawn V a m)
+drawn_shows : (V : Content) (a : TokenRequest) (m : Merchant) → Shows (drawing V a m)
 drawn_shows V a m =
-    either (made V a.merchant == most_tokens) (refused V full)
-    (option_map_or (made_new V a m) (chosen V a.merchant a.pan a.digits) (refused V no_candidate)) (tt {0})
-    (found_or (made_new V a m) (refused V no_candidate) (chosen V a.merchant a.pan a.digits) (λ t. tt {0})
-    (tt {0}))
+    let candidate = chosen_token V a.merchant a.pan a.digits in
+    let none : Outcome = plain_refusal V no_candidate in
+    either (made_count V a.merchant == MOST_TOKENS) (plain_refusal V full)
+    (option_map_or (new_token V a m) candidate none) (tt {0})
+    (found_or (new_token V a m) none candidate (λ t. tt {0}) (tt {0}))
 
 new_shows : (V : Content) (a : TokenRequest) (m : Merchant) → Shows (new_request V a m)
 new_shows V a m =
     let held = reusable a.usage (current V a.merchant a.pan (time_at m a.moment)) in
-    let found : Outcome = option_map_or (given_again V a m) held (drawn V a m) in
-    let offered : Outcome = if life_asked a m == 0 then refused V wrong_use else found in
-    either (not (has_right V a.caller a.merchant right.Tokenize)) (refused V no_right) offered (tt {0})
-    (either (life_asked a m == 0) (refused V wrong_use) found (tt {0})
-    (found_or (given_again V a m) (drawn V a m) held (λ h. tt {0}) (drawn_shows V a m)))
+    let found : Outcome = option_map_or (token_again V a m) held (drawing V a m) in
+    let offered : Outcome = if life_asked a m == 0 then plain_refusal V wrong_use else found in
+    let right = entitled V a.caller a.merchant right.Tokenize (time_at m a.moment) in
+    either (not right) (plain_refusal V no_right) offered (tt {0})
+    (either (life_asked a m == 0) (plain_refusal V wrong_use) found (tt {0})
+    (found_or (token_again V a m) (drawing V a m) held (λ h. tt {0}) (drawn_shows V a m)))
 
 token_shows : (V : Content) (a : TokenRequest) → Shows (tokenize V a)
 token_shows V a =
-    found_or (came_before V a) (of_merchant V a.merchant (new_request V a)) (record_at V a.caller a.request)
-    (came_shows V a)
-    (found_or (new_request V a) (refused V no_merchant) (merchant_at V a.merchant) (new_shows V a) (tt {0}))
+    let asked : Outcome = of_merchant V a.merchant (new_request V a) in
+    found_or (earlier_request V a) asked (record_at V a.caller a.request) (came_shows V a)
+    (found_or (new_request V a) (plain_refusal V no_merchant) (merchant_at V a.merchant) (new_shows V a)
+    (tt {0}))
 
 refusal_shows : (V : Content) (n : ℕ) (r : Wanted Command) → r ≡ Err n → HasCells (reply_to V r)
 refusal_shows V n r e = subst (λ w. HasCells (reply_to V w)) (sym e) (tt {0})

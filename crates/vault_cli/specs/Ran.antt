@@ -17,13 +17,13 @@ use Rattle.vault_words.specs.declared.commands.batch.BatchJob.{BatchJob}
 use Rattle.vault_words.specs.declared.commands.rights.RightJob.{RightJob}
 use Rattle.vault_words.specs.declared.jobs.Job.{Job}
 use Rattle.vault_words.specs.declared.jobs.Job.TheVariants.{Trial, Merchant, Grant, Withdraw, Rights, Pipe}
-use Rattle.vault_words.specs.declared.jobs.Job.TheVariants.{Batch, Serve, Check}
+use Rattle.vault_words.specs.declared.jobs.Job.TheVariants.{Batch, Serve, Sweep, Check}
 use Rattle.vault_batch.specs.declared.counts.Counts.{Counts}
 use Rattle.vault_jobs.specs.Batched.{IsTabled}
 use Rattle.vault_jobs.specs.Causes.{IsCauseOf, number_of}
 use Rattle.vault_jobs.specs.Moments.{IsMomentOf}
 use Rattle.vault_jobs.specs.Streams.{IsHeard, Streams, Writes}
-use Rattle.vault_jobs.specs.Tasks.{granted_line, listening_line}
+use Rattle.vault_jobs.specs.Tasks.{granted_line, listening_line, purged_line}
 use Rattle.vault_jobs.specs.Trial.{IsCut, IsTrial, trial_vault}
 use Rattle.vault_jobs.specs.declared.stop.Stop.{Stop}
 use Rattle.vault_jobs.specs.declared.stop.Stop.TheVariants.{Vault, Service}
@@ -43,6 +43,7 @@ HasLives (Rights j) = Unit {0}
 HasLives (Pipe j) = Unit {0}
 HasLives (Batch j) = Unit {0}
 HasLives (Serve j) = Unit {0}
+HasLives (Sweep j) = Unit {0}
 HasLives (Check j) = Unit {0}
 
 -- the line of a file that is sound
@@ -63,6 +64,7 @@ IsDone (Rights j) unread s =
 IsDone (Pipe j) unread s = IsHeard s
 IsDone (Batch j) unread s = (counts : Counts) × IsTabled s counts × (counts.refused ≡ 0)
 IsDone (Serve j) unread s = unread × ((port : ℕ) × Writes s (listening_line port))
+IsDone (Sweep j) unread s = unread × ((count : ℕ) × Writes s (purged_line count))
 IsDone (Check j) unread s = unread × ((sizes : Sizes) × Writes s (sound_line sizes))
 
 -- what a job that is stopped read and wrote
@@ -78,6 +80,7 @@ IsBegun (Rights j) stop unread s = unread
 IsBegun (Pipe j) stop unread s = Unit {0}
 IsBegun (Batch j) stop unread s = Unit {0}
 IsBegun (Serve j) stop unread s = unread
+IsBegun (Sweep j) stop unread s = unread
 IsBegun (Check j) stop unread s = unread
 
 -- both names of a right are names
@@ -102,6 +105,8 @@ IsRefused (Rights j) n = IsRefusedText n ⊎ ((rows : List Row) × IsListed rows
 IsRefused (Pipe j) n = ⊥
 IsRefused (Batch j) n = (n ≡ 4) × ¬ (IsName j.caller.now × IsName j.merchant.now)
 IsRefused (Serve j) n = ⊥
+IsRefused (Sweep j) n =
+    (n ≡ 4) × ¬ (IsName j.caller.now × IsName j.merchant.now) ⊎ IsName j.caller.now × IsName j.merchant.now
 IsRefused (Check j) n = ⊥
 
 -- the job works on a file, and its names are names
@@ -114,6 +119,7 @@ IsOnFile (Rights j) = (rows : List Row) × IsListed rows
 IsOnFile (Pipe j) = Unit {0}
 IsOnFile (Batch j) = IsName j.caller.now × IsName j.merchant.now
 IsOnFile (Serve j) = Unit {0}
+IsOnFile (Sweep j) = IsName j.caller.now × IsName j.merchant.now
 IsOnFile (Check j) = Unit {0}
 
 -- it is a batch, of which some rows are refused
@@ -126,6 +132,7 @@ IsRefusedInPart (Rights j) s = ⊥
 IsRefusedInPart (Pipe j) s = ⊥
 IsRefusedInPart (Batch j) s = (counts : Counts) × IsTabled s counts × (counts.refused ≢ 0)
 IsRefusedInPart (Serve j) s = ⊥
+IsRefusedInPart (Sweep j) s = ⊥
 IsRefusedInPart (Check j) s = ⊥
 
 -- it is a batch

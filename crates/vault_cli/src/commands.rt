@@ -7,4 +7,5 @@ pub(crate) mod pipe;
 pub(crate) mod rights;
 pub(crate) mod rights_file;
 pub(crate) mod serve;
+pub(crate) mod sweep;
 pub(crate) mod trial;

@@ -1,6 +1,7 @@
 //! The program `vault`: tokens in place of card numbers.
 #![tactic(auto)]
 
+mod asker;
 mod commands;
 pub mod ending;
 mod on_file;

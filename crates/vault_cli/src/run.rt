@@ -14,6 +14,7 @@ use crate::commands::pipe::pipe;
 use crate::commands::rights::{grant, withdraw};
 use crate::commands::rights_file::rights;
 use crate::commands::serve::serve;
+use crate::commands::sweep::sweep;
 use crate::commands::trial::trial;
 use crate::ending::Ending;
 use crate::report::report;
@@ -46,6 +47,7 @@ fn do_job<R: Read, W: Write>(
         Job::Pipe(job) => pipe(rt, job, input, output),
         Job::Batch(job) => batch(rt, job, input, output),
         Job::Serve(job) => serve(rt, job, input, output),
+        Job::Sweep(job) => sweep(rt, job, input, output),
         Job::Check(job) => check(rt, job, input, output),
     }
 }

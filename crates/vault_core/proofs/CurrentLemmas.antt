@@ -1,5 +1,6 @@
 -- The live multi-use token of a number.
-use Rattle.std.proofs.Common.{◌≡◌, inl, inr, ℕ, true, false, Some, None, Option, cond, option_map, sym, ◌∙◌, ap, refl, subst}
+use Rattle.std.proofs.Common.{◌≡◌, inl, inr, ℕ, true, false, Some, None, Option, cond, option_map, sym, ◌∙◌}
+use Rattle.std.proofs.Common.{ap, refl, subst}
 use Rattle.std.specs.FinMap as map
 use Rattle.std.specs.Cmp.{Equal-is, tied_itself}
 use Rattle.std.specs.Cmp.Lexicographic.{texts_ties, slice_cmp}
@@ -19,7 +20,8 @@ none_mapped : {A B : Type 0} (f : A → B) (o : Option A) → option_map f o ≡
 none_mapped f None e = refl
 none_mapped f (Some x) e = cc
 
-mapped_some : {A B : Type 0} (f : A → B) (o : Option A) (y : B) → option_map f o ≡ Some y → (x : A) × (o ≡ Some x) × (f x ≡ y)
+mapped_some : {A B : Type 0} (f : A → B) (o : Option A) (y : B) → option_map f o ≡ Some y
+    → (x : A) × (o ≡ Some x) × (f x ≡ y)
 mapped_some f None y e = cc
 mapped_some f (Some x) y e = (x, refl, some_same e)
 
@@ -28,30 +30,37 @@ pub get-entries_of : (V : Vault) (m : Bytes) (key : Bytes × Bytes)
     → map.get (entries_of V m) key ≡ cond (eq_by_cmp bytes_cmp m key.0) (map.get V.entries key) None
 get-entries_of V m key = get-retained entry_total entry_exact V.entries (λ k. eq_by_cmp bytes_cmp m k.0) key
 
-pub get-entries_of_own : (V : Vault) (m token : Bytes) → map.get (entries_of V m) (m, token) ≡ entry_at V m token
+pub get-entries_of_own : (V : Vault) (m token : Bytes)
+    → map.get (entries_of V m) (m, token) ≡ entry_at V m token
 get-entries_of_own V m token =
     get-entries_of V m (m, token)
     ∙ ap (λ r. cond (is_eq r) (map.get V.entries (m, token)) None) (tied_itself bytes_total m)
 
 -- what stands among a merchant's entries stands in the vault, under its name
-own_entry : (V : Vault) (m : Bytes) (key : Bytes × Bytes) (entry : Entry) → map.get (entries_of V m) key ≡ Some entry
+own_entry : (V : Vault) (m : Bytes) (key : Bytes × Bytes) (entry : Entry)
+    → map.get (entries_of V m) key ≡ Some entry
     → (m ≡ key.0) × (map.get V.entries key ≡ Some entry)
 own_entry V m key entry found =
     elim (tied bytes_exact m key.0) [
       | inl own ↦ (own, sym (get-entries_of V m key ∙ passes own) ∙ found)
-      | inr apart ↦ let clash = sym (get-entries_of V m key ∙ ap (λ b. cond b (map.get V.entries key) None) apart) ∙ found in cc
+      | inr apart ↦ let clash =
+          sym (get-entries_of V m key ∙ ap (λ b. cond b (map.get V.entries key) None) apart) ∙ found in cc
     ]
   where
-    passes : m ≡ key.0 → cond (eq_by_cmp bytes_cmp m key.0) (map.get V.entries key) None ≡ map.get V.entries key
-    passes own = ap (λ r. cond (is_eq r) (map.get V.entries key) None) (ap (λ x. bytes_cmp x key.0) own ∙ tied_itself bytes_total key.0)
+    passes : m ≡ key.0 → cond (eq_by_cmp bytes_cmp m key.0) (map.get V.entries key) None
+        ≡ map.get V.entries key
+    passes own = ap (λ r. cond (is_eq r) (map.get V.entries key) None)
+        (ap (λ x. bytes_cmp x key.0) own ∙ tied_itself bytes_total key.0)
 
 -- where there is none, no entry is one
 pub current-none : (V : Vault) (m pan token : Bytes) (at : ℕ) (entry : Entry)
     → current V m pan at ≡ None → entry_at V m token ≡ Some entry → is_reusable pan at entry ≡ false
 unfolding current
 current-none V m pan token at entry none found =
-    find-none entry_total entry_exact (λ e. is_reusable pan at e.1) (map.entries (entries_of V m)) (m, token) entry
-    (none_mapped _ _ none) (sym (map.get-entries (entries_of V m) (m, token)) ∙ get-entries_of_own V m token ∙ found)
+    find-none entry_total entry_exact (λ e. is_reusable pan at e.1) (map.entries (entries_of V m))
+    (m, token) entry
+    (none_mapped _ _ none)
+    (sym (map.get-entries (entries_of V m) (m, token)) ∙ get-entries_of_own V m token ∙ found)
 
 -- the one that there is, is an entry of the merchant that can be given again
 pub current-some : (V : Vault) (m pan : Bytes) (at : ℕ) (held : Bytes × Entry)
@@ -65,7 +74,8 @@ current-some V m pan at held h =
     let passes = find-passes p (map.entries (entries_of V m)) e found.1 in
     let listed : map.get (entries_of V m) e.0 ≡ Some e.1 =
     map.get-entries (entries_of V m) e.0
-    ∙ find-lookup entry_total p (map.entries (entries_of V m)) e (true-T _ (map.entries_sorted (entries_of V m))) found.1
+    ∙ find-lookup entry_total p (map.entries (entries_of V m)) e
+    (true-T _ (map.entries_sorted (entries_of V m))) found.1
     in
     let own = own_entry V m e.0 e.1 listed in
     let P : Bytes × Entry → Type 0 = λ x. (entry_at V m x.0 ≡ Some x.1) × (is_reusable pan at x.1 ≡ true) in

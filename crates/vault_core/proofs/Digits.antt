@@ -1,13 +1,16 @@
 -- The number that a few digits write.
-use Rattle.std.proofs.Common.{◌≡◌, ◌+◌, ◌-◌, ◌*◌, ◌<◌, ◌≤◌, ◌^◌, ℕ, List, All, length, take, get_or, ◌≢◌, arith, refl}
+use Rattle.std.proofs.Common.{◌≡◌, ◌+◌, ◌-◌, ◌*◌, ◌<◌, ◌≤◌, ◌^◌, ℕ, List, All, length, take, get_or, ◌≢◌}
+use Rattle.std.proofs.Common.{arith, refl}
 use Rattle.std.specs.Char.{IsAsciiDigit}
 use Rattle.std.specs.Str.Parse.{digits_value}
 use Rattle.std.proofs.lemmas.Int.Digits.{digits_value_more}
-use Rattle.std.proofs.lemmas.Str.Parse.{digits_value-take-le, digits_value_short, numerals_by_value, tells_by_index}
+use Rattle.std.proofs.lemmas.Str.Parse.{digits_value-take-le, digits_value_short, numerals_by_value}
+use Rattle.std.proofs.lemmas.Str.Parse.{tells_by_index}
 use Rattle.std.proofs.lemmas.Str.{digit_value_digit}
 
 -- 19 digits write less than 10 to the 19th
-pub value_small : (digits : List ℕ) → length digits ≤ 19 → All IsAsciiDigit digits → digits_value 10 digits < 10 ^ 19
+pub value_small : (digits : List ℕ) → length digits ≤ 19 → All IsAsciiDigit digits
+    → digits_value 10 digits < 10 ^ 19
 value_small digits few all =
     digits_value_short (numerals_by_value _ tells_by_index) digits 19 (λ i inside. all i 0 inside) few
 

@@ -22,17 +22,23 @@ cond_none false o h = sym h
 no_entries : (p : Bytes × Bytes → Bool) → map.retain_keys empty_vault.entries p ≡ empty_vault.entries
 no_entries p =
     map.same_map entry_total entry_exact (map.retain_keys empty_vault.entries p) empty_vault.entries
-    (λ q. get-retained entry_total entry_exact empty_vault.entries p q ∙ cond_none (p q) (map.get empty_vault.entries q) (map.get-empty entry_cmp q))
+    (λ q. get-retained entry_total entry_exact empty_vault.entries p q
+    ∙ cond_none (p q) (map.get empty_vault.entries q) (map.get-empty entry_cmp q))
 
 pub sound-empty : Sound empty_vault
 sound-empty = record {
   few = let none = map.len-empty bytes_cmp Merchant in omega (arith, none);
-  merchants = λ m merchant h. absurd (none_some (merchant_at empty_vault m) merchant (map.get-empty bytes_cmp m) h);
+  merchants = λ m merchant h. absurd (none_some (merchant_at empty_vault m) merchant
+      (map.get-empty bytes_cmp m) h);
   made_few = λ m.
-      let none = ap map.len (no_entries (λ key. eq_by_cmp bytes_cmp m key.0)) ∙ map.len-empty entry_cmp Entry in
+      let none = ap map.len (no_entries (λ key. eq_by_cmp bytes_cmp m key.0))
+      ∙ map.len-empty entry_cmp Entry in
       omega (arith, none);
-  entries = λ m token entry h. absurd (none_some (entry_at empty_vault m token) entry (map.get-empty entry_cmp (m, token)) h);
-  alone = λ m pan token other entry entry' merchant h _ _ _ _. absurd (none_some (merchant_at empty_vault m) merchant (map.get-empty bytes_cmp m) h);
-  records = λ caller request r h. absurd (none_some (record_at empty_vault caller request) r (map.get-empty record_cmp (caller, request)) h);
+  entries = λ m token entry h. absurd (none_some (entry_at empty_vault m token) entry
+      (map.get-empty entry_cmp (m, token)) h);
+  alone = λ m pan token other entry entry' merchant h _ _ _ _. absurd
+      (none_some (merchant_at empty_vault m) merchant (map.get-empty bytes_cmp m) h);
+  records = λ caller request r h. absurd (none_some (record_at empty_vault caller request) r
+      (map.get-empty record_cmp (caller, request)) h);
   rights = λ caller m right h. absurd (false_true _ (set.contains-empty right_cmp (caller, (m, right))) h);
 }

@@ -1,20 +1,25 @@
--- A command at a merchant is answered the same in vaults that agree on what it reads, and changes nothing else.
+-- A command at a merchant is answered the same in vaults that agree on what it reads, and changes nothing
+-- else.
 use Rattle.std.proofs.Common.{◌≡◌, Option, Some, None, nat_lt, refl, sym, subst, ◌∙◌}
 use Rattle.std.specs.FinMap as map
 use Rattle.vault_core.specs.Isolation.{AgreeAt, AgreeFor, StepsAreIsolated}
 use Rattle.vault_core.specs.Keys.{Bytes}
-use Rattle.vault_core.specs.Merchants.{most_merchants, granted, withdrawn}
-use Rattle.vault_core.specs.Named.{merchant_of, caller_of}
-use Rattle.vault_core.specs.Outcome.{of_token}
-use Rattle.vault_core.specs.Redeem.{redeem}
-use Rattle.vault_core.specs.Retire.{retired}
-use Rattle.vault_core.specs.Show.{shown, counted}
+use Rattle.vault_core.specs.Merchants.{granting, withdrawal}
+use Rattle.vault_core.specs.Named.{token_command, merchant_of, caller_of}
+use Rattle.vault_core.specs.Outcome.{plain_refusal}
+use Rattle.vault_core.specs.Redeem.{denial, redemption}
+use Rattle.vault_core.specs.Retire.{retirement, purging}
+use Rattle.vault_core.specs.Show.{showing, totals}
 use Rattle.vault_core.specs.Table.{outcome, token_request}
 use Rattle.vault_core.specs.Vault.{Vault, merchant_at}
+use Rattle.vault_core.specs.declared.limit.TheConstants.{MOST_MERCHANTS}
 use Rattle.vault_core.specs.declared.command.Command.{Command}
-use Rattle.vault_core.specs.declared.command.Command.TheVariants.{SetMerchant, Grant, Withdraw, Tokenize, Detokenize, View, Revoke, Audit}
+use Rattle.vault_core.specs.declared.command.Command.TheVariants.{SetMerchant, Grant, Withdraw, Tokenize}
+use Rattle.vault_core.specs.declared.command.Command.TheVariants.{Detokenize, View, Revoke, Purge, Audit}
 use Rattle.vault_core.specs.declared.right.Right.TheVariants as right
-use Rattle.vault_core.proofs.Alike.{Alike, alike-of_merchant, alike-of_token, alike-unchanged, alike-set, alike-grant, alike-withdraw, alike-redeem, alike-retired, alike-counted}
+use Rattle.vault_core.proofs.Alike.{Alike, alike-of_merchant, alike-on_token, alike-refused, alike-set}
+use Rattle.vault_core.proofs.Alike.{alike-grant, alike-withdraw, alike-denied, alike-redeemed, alike-shown}
+use Rattle.vault_core.proofs.Alike.{alike-retired, alike-purged, alike-counted}
 use Rattle.vault_core.proofs.Finds.{some_same}
 use Rattle.vault_core.proofs.TokenizeAlike.{alike-tokenize}
 
@@ -26,7 +31,8 @@ writer_of c = None
 -- a new merchant is refused in both vaults or in neither
 abbrev pub HaveSameRoom : Command → Vault → Vault → Type 0
 HaveSameRoom (SetMerchant m single multi now) V W =
-    merchant_at V m ≡ None → nat_lt (map.len V.merchants) most_merchants ≡ nat_lt (map.len W.merchants) most_merchants
+    merchant_at V m ≡ None
+    → nat_lt (map.len V.merchants) MOST_MERCHANTS ≡ nat_lt (map.len W.merchants) MOST_MERCHANTS
 HaveSameRoom c V W = Unit {0}
 
 -- the vaults agree on the records of the caller whose record a command can write
@@ -34,31 +40,44 @@ abbrev pub AgreeForWriter : Command → Vault → Vault → Type 0
 AgreeForWriter c V W = (caller : Bytes) → writer_of c ≡ Some caller → AgreeFor caller V W
 
 -- each command, in two vaults
-pub alike : (V W : Vault) (c : Command) → AgreeAt (merchant_of c) V W → AgreeForWriter c V W → HaveSameRoom c V W
+pub alike : (V W : Vault) (c : Command) → AgreeAt (merchant_of c) V W → AgreeForWriter c V W
+    → HaveSameRoom c V W
     → Alike (merchant_of c) (writer_of c) V W (outcome V c) (outcome W c)
 alike V W (SetMerchant m single multi now) agree records room =
     alike-set m None V W agree single multi now (merchant_at V m) (merchant_at W m) agree.merchant room
 alike V W (Grant caller m right now) agree records room =
-    alike-of_merchant m None V W agree (λ U. granted U caller m right now) (alike-grant m None V W agree caller right now)
+    alike-of_merchant m None V W agree (λ U. granting U caller m right now)
+    (alike-grant m None V W agree caller right now)
 alike V W (Withdraw caller m right now) agree records room =
-    alike-of_merchant m None V W agree (λ U. withdrawn U caller m right now) (alike-withdraw m None V W agree caller right now)
+    alike-of_merchant m None V W agree (λ U. withdrawal U caller m right now)
+    (alike-withdraw m None V W agree caller right now)
 alike V W (Tokenize caller m request usage pan digits now) agree records room =
     alike-tokenize V W (token_request caller m request usage pan digits now) agree (records caller refl)
 alike V W (Detokenize caller m token now) agree records room =
-    alike-of_merchant m None V W agree (λ U. redeem U caller m token now) (alike-redeem m None V W agree caller token now)
+    alike-on_token m None V W agree (token_command caller m token right.Detokenize now) refl
+    (λ U. denial U m now) (λ U known entry. redemption U m now known)
+    (alike-denied m None V W agree now) (λ known entry. alike-redeemed m None V W agree now known)
 alike V W (View caller m token now) agree records room =
-    alike-of_merchant m None V W agree (λ U merchant. of_token U caller m token right.View (shown U now merchant))
-    (λ known. alike-of_token m None V W agree caller token right.View (λ U. shown U now known)
-    (λ entry number. alike-unchanged m None V W agree _))
+    alike-on_token m None V W agree (token_command caller m token right.View now) refl
+    (λ U known. plain_refusal U) (λ U. showing U)
+    (λ known. alike-refused m None V W agree) (alike-shown m None V W agree)
 alike V W (Revoke caller m token now) agree records room =
-    alike-of_merchant m None V W agree (λ U merchant. of_token U caller m token right.Revoke (retired U m token now merchant))
-    (λ known. alike-of_token m None V W agree caller token right.Revoke (λ U. retired U m token now known)
-    (alike-retired m None V W agree token now known))
+    let t = token_command caller m token right.Revoke now in
+    alike-on_token m None V W agree t refl
+    (λ U known. plain_refusal U) (λ U. retirement U t)
+    (λ known. alike-refused m None V W agree) (alike-retired t V W agree)
+alike V W (Purge caller m token now) agree records room =
+    let t = token_command caller m token right.Purge now in
+    alike-on_token m None V W agree t refl
+    (λ U known. plain_refusal U) (λ U. purging U t)
+    (λ known. alike-refused m None V W agree) (alike-purged t V W agree)
 alike V W (Audit caller m now) agree records room =
-    alike-of_merchant m None V W agree (λ U. counted U caller m) (alike-counted m None V W agree caller)
+    alike-of_merchant m None V W agree (λ U. totals U caller m now)
+    (alike-counted m None V W agree caller now)
 
 -- a writer is the command's caller
-writer-is_caller : (c : Command) (writer caller : Bytes) → writer_of c ≡ Some writer → caller_of c ≡ Some caller → caller ≡ writer
+writer-is_caller : (c : Command) (writer caller : Bytes) → writer_of c ≡ Some writer
+    → caller_of c ≡ Some caller → caller ≡ writer
 writer-is_caller (Tokenize c m request usage pan digits now) writer caller e f = some_same (sym f ∙ e)
 writer-is_caller c writer caller e f = absurd (cc)
 
@@ -78,6 +97,7 @@ steps_isolated V W c caller is agree records =
       both.after.records caller records,
       record {
         others = both.after.others;
-        records = λ other apart. both.after.unwritten other (λ e. apart (sym (writer-is_caller c other caller e is)));
+        records = λ other apart. both.after.unwritten other
+            (λ e. apart (sym (writer-is_caller c other caller e is)));
       },
     )

@@ -1,7 +1,7 @@
--- Entries stay, with their numbers or erased.
+-- Entries stay, with their numbers or purged.
 use Rattle.std.proofs.Common.{◌≡◌, Option, Some, None, List, [], ◌∷◌, ◌∙◌, subst, sym}
 use Rattle.vault_core.specs.Keys.{Bytes}
-use Rattle.vault_core.specs.Laws.{NumbersNeverShare, IsOrErased}
+use Rattle.vault_core.specs.Laws.{NumbersNeverShare, IsOrPurged}
 use Rattle.vault_core.specs.Proper.{AllProper}
 use Rattle.vault_core.specs.Repeats.{is_number_of}
 use Rattle.std.specs.Prelude.{true}
@@ -24,12 +24,13 @@ kept V (c ∷ cs) s p m token entry here =
     let last = kept (after V c) cs (sound-after V s c p.0) p.1 m token next.0 next.1 in
     (last.0, last.1, last.2 ∙ next.2, λ pan is. last.3 pan (next.3 pan is))
 
-own_or_erased : (number token : Bytes) (o : Option Bytes) → is_number_of number token o ≡ true → IsOrErased number o
-own_or_erased number token None is = tt
-own_or_erased number token (Some other) is = same-is other number is
+own_or_purged : (number token : Bytes) (o : Option Bytes) → is_number_of number token o ≡ true
+    → IsOrPurged number o
+own_or_purged number token None is = tt
+own_or_purged number token (Some other) is = same-is other number is
 
 pub never_share : NumbersNeverShare
 never_share V cs s p m token number entry here has =
     let last = kept V cs s p m token entry here in
     let own = subst (λ (o : Option Bytes). is_number_of number token o ≡ true) (sym has) (same-refl number) in
-    (last.0, last.1, own_or_erased number token last.0.number (last.3 number own))
+    (last.0, last.1, own_or_purged number token last.0.number (last.3 number own))

@@ -9,6 +9,7 @@ pub mod Empty
 pub mod Finds
 pub mod Isolated
 pub mod Kept
+pub mod LeftOut
 pub mod Maps
 pub mod Recorded
 pub mod Redeemed

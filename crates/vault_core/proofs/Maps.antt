@@ -1,5 +1,6 @@
 -- Look-ups in the vault's maps after an insertion.
-use Rattle.std.proofs.Common.{◌≡◌, ◌≢◌, ◌+◌, ℕ, zero, suc, Bool, true, false, cond, Some, None, ◌⊎◌, inl, inr, refl, sym, ap, ◌∙◌, subst, is_some}
+use Rattle.std.proofs.Common.{◌≡◌, ◌≢◌, ◌+◌, ℕ, zero, suc, Bool, true, false, cond, Some, None, ◌⊎◌, inl}
+use Rattle.std.proofs.Common.{inr, refl, sym, ap, ◌∙◌, subst, is_some}
 use Rattle.std.specs.FinMap as map
 use Rattle.std.specs.FinMap.{FinMap, IsAntisymmetric}
 use Rattle.std.specs.Ordering.{eq_by_cmp, is_eq, nat_cmp, ordering_then}
@@ -8,9 +9,11 @@ use Rattle.std.specs.Cmp.Lexicographic.{nat_list_cmp_total}
 use Rattle.std.specs.declared.cmp.Ordering.{Ordering}
 use Rattle.std.specs.declared.cmp.Ordering.TheVariants.{Less, Equal, Greater}
 use Rattle.std.proofs.lemmas.Map.Lookups.{exact_pairs, exact_bytes, exact_unsigned}
-use Rattle.vault_core.specs.Keys.{Bytes, bytes_cmp, entry_cmp, record_cmp, right_cmp, right_number}
+use Rattle.vault_core.specs.Keys.{Bytes, bytes_cmp, entry_cmp, record_cmp, right_cmp}
+use Rattle.vault_core.specs.Numbers.{right_number}
 use Rattle.vault_core.specs.declared.right.Right.{Right}
-use Rattle.vault_core.specs.declared.right.Right.TheVariants.{Tokenize, Detokenize, View, Revoke, Purge, Audit}
+use Rattle.vault_core.specs.declared.right.Right.TheVariants.{Tokenize, Detokenize, View, Revoke, Purge}
+use Rattle.vault_core.specs.declared.right.Right.TheVariants.{Audit}
 
 pub bytes_total : IsTotalOrder bytes_cmp
 bytes_total = nat_list_cmp_total
@@ -57,8 +60,11 @@ numbers_exact a b e = sym (numbered_back a) ∙ ap numbered (exact_unsigned _ _ 
 
 pub right_exact : IsAntisymmetric right_cmp
 right_exact =
-    exact_pairs bytes_cmp (λ (a b : Bytes × Right). ordering_then (bytes_cmp a.0 b.0) (nat_cmp (right_number a.1) (right_number b.1)))
-    exact_bytes (exact_pairs bytes_cmp (λ (a b : Right). nat_cmp (right_number a) (right_number b)) exact_bytes numbers_exact)
+    exact_pairs bytes_cmp
+    (λ (a b : Bytes × Right). ordering_then (bytes_cmp a.0 b.0)
+    (nat_cmp (right_number a.1) (right_number b.1)))
+    exact_bytes (exact_pairs bytes_cmp (λ (a b : Right). nat_cmp (right_number a) (right_number b))
+    exact_bytes numbers_exact)
 
 -- a key ties with itself alone
 pub tied : {K : Type 0} {R : K → K → Ordering} → IsAntisymmetric R → (q k : K)
@@ -71,11 +77,13 @@ tied {R = R} exact q k =
     ] refl
 
 -- keys that differ don't tie
-pub untied : {K : Type 0} {R : K → K → Ordering} → IsAntisymmetric R → (q k : K) → q ≢ k → eq_by_cmp R q k ≡ false
+pub untied : {K : Type 0} {R : K → K → Ordering} → IsAntisymmetric R → (q k : K) → q ≢ k
+    → eq_by_cmp R q k ≡ false
 untied exact q k apart = elim (tied exact q k) [ inl same ↦ absurd (apart same) | inr is ↦ is ]
 
 -- the same insertion in two maps that agree at a key
-pub get-insert_both : {K X : Type 0} {R : K → K → Ordering} → IsTotalOrder R → (m n : FinMap R X) (k : K) (v : X) (q : K)
+pub get-insert_both : {K X : Type 0} {R : K → K → Ordering} → IsTotalOrder R
+    → (m n : FinMap R X) (k : K) (v : X) (q : K)
     → map.get m q ≡ map.get n q → map.get (map.insert m k v) q ≡ map.get (map.insert n k v) q
 get-insert_both {R = R} o m n k v q same =
     map.get-insert o m k v q ∙ ap (cond (eq_by_cmp R q k) (Some v)) same ∙ sym (map.get-insert o n k v q)
@@ -114,7 +122,8 @@ module _ {K X : Type 0} {R : K → K → Ordering} (o : IsTotalOrder R) (exact :
       map.same_map o exact _ _ (λ q.
       elim (tied exact q k) [
         | inl is ↦
-            subst (λ (x : K). map.get (map.retain_keys (map.insert m k v) p) x ≡ map.get (map.insert (map.retain_keys m p) k v) x) (sym is)
+            subst (λ (x : K). map.get (map.retain_keys (map.insert m k v) p) x
+            ≡ map.get (map.insert (map.retain_keys m p) k v) x) (sym is)
             (get-retained (map.insert m k v) p k ∙ ap (λ b. cond b (map.get (map.insert m k v) k) None) passes
             ∙ get-insert_same m k v ∙ sym (get-insert_same (map.retain_keys m p) k v))
         | inr apart ↦
@@ -130,7 +139,8 @@ module _ {K X : Type 0} {R : K → K → Ordering} (o : IsTotalOrder R) (exact :
       map.same_map o exact _ _ (λ q.
       elim (tied exact q k) [
         | inl is ↦
-            subst (λ (x : K). map.get (map.retain_keys (map.insert m k v) p) x ≡ map.get (map.retain_keys m p) x) (sym is)
+            subst (λ (x : K). map.get (map.retain_keys (map.insert m k v) p) x
+            ≡ map.get (map.retain_keys m p) x) (sym is)
             (get-retained (map.insert m k v) p k ∙ ap (λ b. cond b (map.get (map.insert m k v) k) None) fails
             ∙ sym (get-retained m p k ∙ ap (λ b. cond b (map.get m k) None) fails))
         | inr apart ↦
@@ -153,7 +163,8 @@ module _ {K X : Type 0} {R : K → K → Ordering} (o : IsTotalOrder R) (exact :
       → map.len (map.retain_keys (map.insert m k v) p) ≡ map.len (map.retain_keys m p)
   retained-len_same m k v p old there = by_pass (p k) refl
     where
-      by_pass : (b : Bool) → p k ≡ b → map.len (map.retain_keys (map.insert m k v) p) ≡ map.len (map.retain_keys m p)
+      by_pass : (b : Bool) → p k ≡ b
+          → map.len (map.retain_keys (map.insert m k v) p) ≡ map.len (map.retain_keys m p)
       by_pass true passes =
           ap map.len (retained-yes m k v p passes)
           ∙ map.len-insert o (map.retain_keys m p) k v

@@ -1,16 +1,19 @@
 -- Leaving out the commands that don't name a merchant leaves the replies to those that do.
-use Rattle.std.proofs.Common.{◌≡◌, ◌≢◌, ℕ, suc, ◌≤◌, Bool, true, false, cond, List, [], ◌∷◌, Some, None, Contains, nat_lt, refl, sym, ap, subst, ◌∙◌, arith, true≢false}
+use Rattle.std.proofs.Common.{◌≡◌, ◌≢◌, ℕ, suc, ◌≤◌, Bool, true, false, cond, List, [], ◌∷◌, Some, None}
+use Rattle.std.proofs.Common.{Contains, nat_lt, refl, sym, ap, subst, ◌∙◌, arith, true≢false}
 use Rattle.std.specs.FinMap as map
 use Rattle.std.proofs.lemmas.Bool.Decides.{nat_tests}
-use Rattle.vault_core.specs.Isolation.{AgreeAt, AgreeFor, EachAtOneMerchant, HasRoomForMerchants, RunsAreIsolated, names, naming, replies_naming}
+use Rattle.vault_core.specs.Isolation.{AgreeAt, AgreeFor, EachAtOneMerchant, HasRoomForMerchants}
+use Rattle.vault_core.specs.Isolation.{RunsAreIsolated, names, naming, replies_naming}
 use Rattle.vault_core.specs.Keys.{Bytes}
-use Rattle.vault_core.specs.Merchants.{most_merchants, set_from, set_to, new_merchant}
+use Rattle.vault_core.specs.Merchants.{set_from, set_to, new_merchant}
 use Rattle.vault_core.specs.Named.{merchant_of}
-use Rattle.vault_core.specs.Outcome.{refused}
+use Rattle.vault_core.specs.Outcome.{plain_refusal}
 use Rattle.vault_core.specs.Refusals.{too_many_merchants}
 use Rattle.vault_core.specs.Runs.{replies}
 use Rattle.vault_core.specs.Table.{command_of, token_request, reply, after}
 use Rattle.vault_core.specs.Vault.{Vault, merchant_at}
+use Rattle.vault_core.specs.declared.limit.TheConstants.{MOST_MERCHANTS}
 use Rattle.vault_core.specs.declared.command.Command.{Command}
 use Rattle.vault_core.specs.declared.command.Command.TheVariants.{SetMerchant, Tokenize}
 use Rattle.vault_core.specs.declared.command.TokenRequest.{TokenRequest}
@@ -34,23 +37,24 @@ as-request (Tokenize c m request usage pan digits now) caller e =
     (token_request c m request usage pan digits now, refl, some_same e, refl)
 as-request c caller e = absurd (cc)
 
-fewer-room : (v w : ℕ) → w ≤ v → nat_lt v most_merchants ≡ true → nat_lt w most_merchants ≡ true
+fewer-room : (v w : ℕ) → w ≤ v → nat_lt v MOST_MERCHANTS ≡ true → nat_lt w MOST_MERCHANTS ≡ true
 fewer-room v w le h = grind (arith, nat_tests)
 
 -- where a merchant isn't refused in a vault, it isn't in one with no more merchants
 same-room : (V W : Vault) (c : Command) → map.len W.merchants ≤ map.len V.merchants
     → reply V c ≢ Refused too_many_merchants → HaveSameRoom c V W
 same-room V W (SetMerchant m single multi now) le room =
-    λ none. go none (nat_lt (map.len V.merchants) most_merchants) refl
+    λ none. go none (nat_lt (map.len V.merchants) MOST_MERCHANTS) refl
   where
-    refusal : merchant_at V m ≡ None → nat_lt (map.len V.merchants) most_merchants ≡ false
+    refusal : merchant_at V m ≡ None → nat_lt (map.len V.merchants) MOST_MERCHANTS ≡ false
         → reply V (SetMerchant m single multi now) ≡ Refused too_many_merchants
     refusal none full =
         ap (λ o. (set_from V m single multi now o).reply) none
-        ∙ ap (λ b. (cond b (set_to V m (new_merchant single multi now)) (refused V too_many_merchants)).reply) full
+        ∙ ap (λ b. (cond b (set_to V m (new_merchant single multi now))
+        (plain_refusal V too_many_merchants)).reply) full
 
-    go : merchant_at V m ≡ None → (b : Bool) → nat_lt (map.len V.merchants) most_merchants ≡ b
-        → nat_lt (map.len V.merchants) most_merchants ≡ nat_lt (map.len W.merchants) most_merchants
+    go : merchant_at V m ≡ None → (b : Bool) → nat_lt (map.len V.merchants) MOST_MERCHANTS ≡ b
+        → nat_lt (map.len V.merchants) MOST_MERCHANTS ≡ nat_lt (map.len W.merchants) MOST_MERCHANTS
     go none true below = below ∙ sym (fewer-room _ _ le below)
     go none false full = absurd (room (refusal none full))
 same-room V W c le room = tt
@@ -61,16 +65,22 @@ own-room V (SetMerchant m single multi now) = λ none. refl
 own-room V c = tt
 
 each_later : (c : Command) (cs : List Command) → EachAtOneMerchant (c ∷ cs) → EachAtOneMerchant cs
-each_later c cs each a b x y = each a b (Contains-later c cs (command_of a) x) (Contains-later c cs (command_of b) y)
+each_later c cs each a b x y =
+    each a b (Contains-later c cs (command_of a) x) (Contains-later c cs (command_of b) y)
 
-room_later : (c : Command) (cs : List Command) (V : Vault) → HasRoomForMerchants (c ∷ cs) V → HasRoomForMerchants cs (after V c)
-room_later c cs V room x = room (Contains-later (reply V c) (replies cs (after V c)) (Refused too_many_merchants) x)
+room_later : (c : Command) (cs : List Command) (V : Vault) → HasRoomForMerchants (c ∷ cs) V
+    → HasRoomForMerchants cs (after V c)
+room_later c cs V room x =
+    room (Contains-later (reply V c) (replies cs (after V c)) (Refused too_many_merchants) x)
 
-room_now : (c : Command) (cs : List Command) (V : Vault) → HasRoomForMerchants (c ∷ cs) V → reply V c ≢ Refused too_many_merchants
+room_now : (c : Command) (cs : List Command) (V : Vault) → HasRoomForMerchants (c ∷ cs) V
+    → reply V c ≢ Refused too_many_merchants
 room_now c cs V room e =
-    room (subst (Contains (reply V c ∷ replies cs (after V c))) e (Contains-first (reply V c) (replies cs (after V c))))
+    room (subst (Contains (reply V c ∷ replies cs (after V c))) e
+    (Contains-first (reply V c) (replies cs (after V c))))
 
--- what V, which ran all commands, and W, which ran those that name m, have in common: the merchant's rows, and
+-- what V, which ran all commands, and W, which ran those that name m, have in common: the merchant's rows,
+-- and
 -- the records of all callers who are still to ask for tokens there
 record Beside (m : Bytes) (cs : List Command) (V W : Vault) : Type 0 where
   rows : AgreeAt m V W
@@ -120,7 +130,8 @@ module _ (m : Bytes) (c : Command) (cs : List Command) (V W : Vault) (beside : B
       elsewhere : m ≢ merchant_of c
       elsewhere e = true≢false (sym (ap (λ n. names n c) e ∙ same-refl (merchant_of c)) ∙ other)
 
-      own_merchant : (a : TokenRequest) → Contains cs (command_of a) → writer_of c ≡ Some a.caller → a.merchant ≡ merchant_of c
+      own_merchant : (a : TokenRequest) → Contains cs (command_of a) → writer_of c ≡ Some a.caller
+          → a.merchant ≡ merchant_of c
       own_merchant a x e =
           let b = as-request c a.caller e in
           sym (each b.0 a (subst (Contains (c ∷ cs)) (sym b.1) first) (later a x) b.2) ∙ b.3
@@ -134,10 +145,12 @@ isolated m (c ∷ cs) V W each room beside =
     ≡ replies (cond b (c ∷ naming m cs) (naming m cs)) W) [
       | true ↦ λ yes.
           let next = named m c cs V W beside yes (room_now c cs V room) in
-          let rest = isolated m cs (after V c) (after W c) (each_later c cs each) (room_later c cs V room) next.1 in
+          let rest = isolated m cs (after V c) (after W c) (each_later c cs each) (room_later c cs V room)
+          next.1 in
           λ i. next.0 i ∷ rest i
       | false ↦ λ no.
-          isolated m cs (after V c) W (each_later c cs each) (room_later c cs V room) (unnamed m c cs V W beside no each)
+          isolated m cs (after V c) W (each_later c cs each) (room_later c cs V room)
+          (unnamed m c cs V W beside no each)
     ] refl
 
 pub runs_isolated : RunsAreIsolated

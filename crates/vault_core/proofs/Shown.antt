@@ -12,11 +12,13 @@ use Rattle.vault_core.specs.declared.row.MerchantRow.{MerchantRow}
 use Rattle.vault_core.specs.declared.window.Window.{Window}
 use Rattle.vault_core.proofs.StaysSound.{life-bounds}
 
-pub shows_merchant : (V : Vault) → Sound V → (a : TokenRequest) (w : Window) (row : MerchantRow) → ShowsRequest V a w
+pub shows_merchant : (V : Vault) → Sound V → (a : TokenRequest) (w : Window) (row : MerchantRow)
+    → ShowsRequest V a w
     → w.merchant ≡ Some row → (known : Merchant) × ShowsMerchant V a known w row
 shows_merchant V s a w row shows is = go (merchant_at V a.merchant) refl
   where
-    go : (o : Option Merchant) → merchant_at V a.merchant ≡ o → (known : Merchant) × ShowsMerchant V a known w row
+    go : (o : Option Merchant) → merchant_at V a.merchant ≡ o
+        → (known : Merchant) × ShowsMerchant V a known w row
     go None h = let clash = sym (sym shows.merchant ∙ is) ∙ ap (option_map (row_of V a.merchant)) h in cc
     go (Some known) h =
         let same = sym (sym shows.merchant ∙ is) ∙ ap (option_map (row_of V a.merchant)) h in
@@ -29,7 +31,9 @@ shows_merchant V s a w row shows is = go (merchant_at V a.merchant) refl
             moment = cc;
             made_is = cc;
             right = shows.right;
-            held = shows.held ∙ ap (λ (o : Option Merchant). reusable a.usage (current V a.merchant a.pan (option_map_or (λ merchant. time_at merchant a.moment) o a.moment))) h;
+            held = shows.held ∙ ap (λ (o : Option Merchant). reusable a.usage
+                (current V a.merchant a.pan
+                (option_map_or (λ merchant. time_at merchant a.moment) o a.moment))) h;
             candidate = shows.candidate;
             life = life-bounds a.usage known.single_life known.multi_life old.single old.multi;
           },

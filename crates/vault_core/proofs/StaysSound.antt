@@ -1,5 +1,6 @@
 -- Every command leaves a sound vault sound.
-use Rattle.std.proofs.Common.{◌≡◌, ℕ, ◌+◌, ◌<◌, ◌≤◌, Bool, true, false, cond, Option, Some, None, [], ◌∷◌, not, is_none, refl, sym, ap, ◌∙◌, subst, arith, nat_lt, ◌==◌, zero, suc, lit≤}
+use Rattle.std.proofs.Common.{◌≡◌, ℕ, ◌+◌, ◌<◌, ◌≤◌, Bool, true, false, cond, Option, Some, None, [], ◌∷◌}
+use Rattle.std.proofs.Common.{not, is_none, refl, sym, ap, ◌∙◌, subst, arith, nat_lt, ◌==◌, zero, suc, lit≤}
 use Rattle.std.specs.Prelude.{map}
 use Rattle.std.specs.Option.{option_map_or}
 use Rattle.std.specs.FinMap as map
@@ -10,23 +11,29 @@ use Rattle.vault_pan.specs.CardText.{IsPan, IsNumber, fits}
 use Rattle.vault_pan.specs.Luhn.{passes_check}
 use Rattle.vault_pan.specs.Draw.{IsDrawing, candidate_digits}
 use Rattle.vault_pan.proofs.DrawLemmas.{candidate_digits-fits, candidate_digits-IsNumber}
-use Rattle.vault_core.specs.Draw.{chosen, candidates, is_good}
+use Rattle.vault_core.specs.Draw.{chosen_token, candidates, is_good}
 use Rattle.vault_core.specs.Keys.{Bytes}
 use Rattle.vault_core.specs.Laws.{StaysSound}
-use Rattle.vault_core.specs.Merchants.{most_merchants, granted, set_from, set_to, new_merchant}
+use Rattle.vault_core.specs.Merchants.{granting, set_from, set_to, new_merchant}
 use Rattle.vault_core.specs.Name.{IsName}
-use Rattle.vault_core.specs.Outcome.{Outcome, unchanged, refused, moved, of_merchant}
+use Rattle.vault_core.specs.Named.{token_command}
+use Rattle.vault_core.specs.Outcome.{Outcome, plain_reply, plain_refusal, moved_vault, of_merchant}
 use Rattle.vault_core.specs.Proper.{IsProper}
 use Rattle.vault_core.specs.Repeats.{current, is_repeat, is_reusable, reusable, same_use}
 use Rattle.vault_core.specs.Scalar.{IsLife, IsMoment, IsRequest}
 use Rattle.vault_core.specs.Sound.{Sound, IsSoundEntry}
 use Rattle.vault_core.specs.Table.{after, token_request}
-use Rattle.vault_core.specs.Tokens.{most_tokens, came_before, repeated, new_request, given_again, made_new, drawn, new_entry, life_asked, tokenize}
-use Rattle.vault_core.specs.Vault.{Vault, Merchant, merchant_at, entry_at, record_at, has_right, made, time_at, life_for}
+use Rattle.vault_core.specs.Tokens.{earlier_request, repetition, new_request, token_again, new_token}
+use Rattle.vault_core.specs.Tokens.{drawing, new_entry, life_asked, tokenize}
+use Rattle.vault_core.specs.Vault.{Vault, Merchant, merchant_at, entry_at, record_at, entitled, made_count}
+use Rattle.vault_core.specs.Vault.{time_at, life_for}
+use Rattle.vault_core.specs.declared.limit.TheConstants.{MOST_MERCHANTS, MOST_TOKENS}
 use Rattle.vault_core.specs.declared.command.Command.{Command}
-use Rattle.vault_core.specs.declared.command.Command.TheVariants.{SetMerchant, Grant, Withdraw, Tokenize, Detokenize, View, Revoke, Audit}
+use Rattle.vault_core.specs.declared.command.Command.TheVariants.{SetMerchant, Grant, Withdraw, Tokenize}
+use Rattle.vault_core.specs.declared.command.Command.TheVariants.{Detokenize, View, Revoke, Purge, Audit}
 use Rattle.vault_core.specs.declared.command.TokenRequest.{TokenRequest}
-use Rattle.vault_core.specs.Refusals.{no_merchant, no_right, wrong_use, number_reused, full, no_candidate, too_many_merchants}
+use Rattle.vault_core.specs.Refusals.{no_merchant, no_right, wrong_use, number_reused, full, no_candidate}
+use Rattle.vault_core.specs.Refusals.{too_many_merchants}
 use Rattle.vault_core.specs.declared.reply.Reply.TheVariants.{Token}
 use Rattle.vault_core.specs.declared.right.Right.{Right}
 use Rattle.vault_core.specs.declared.right.Right.TheVariants as right
@@ -39,7 +46,8 @@ use Rattle.vault_core.proofs.DrawLemmas.{chosen-is_good}
 use Rattle.vault_core.proofs.Finds.{find-holds}
 use Rattle.vault_core.proofs.Maps.{bytes_total, bytes_exact, entry_total, entry_exact, get-insert_same}
 use Rattle.vault_core.proofs.SoundMoved.{known-set, sound-moved}
-use Rattle.vault_core.proofs.SoundRedeem.{sound-withdraw, sound-detokenize, sound-view, sound-revoke, sound-audit}
+use Rattle.vault_core.proofs.SoundRedeem.{sound-withdraw, sound-detokenize, sound-view, sound-revoke}
+use Rattle.vault_core.proofs.SoundRedeem.{sound-purge, sound-audit}
 use Rattle.vault_core.proofs.Steps.{sound-merchant, sound-right, sound-record, sound-entry, IsSole}
 
 -- the vault that an outcome leaves is sound
@@ -49,9 +57,10 @@ SoundAfter o = Sound o.after
 sound-grant : (V : Vault) → Sound V → (caller m : Bytes) (right : Right) (now : ℕ)
     → IsName caller → IsMoment now → Sound (after V (Grant caller m right now))
 sound-grant V s caller m right now name moment =
-    by_option SoundAfter (merchant_at V m) (granted V caller m right now) (refused V no_merchant)
-    (λ known e. sound-right (moved V m known now) (sound-moved V s m known now e moment) caller m right
-    (record known { moment = time_at known now }) name (get-insert_same bytes_total bytes_exact V.merchants m _))
+    by_option SoundAfter (merchant_at V m) (granting V caller m right now) (plain_refusal V no_merchant)
+    (λ known e. sound-right (moved_vault V m known now) (sound-moved V s m known now e moment) caller m right
+    (record known { moment = time_at known now }) name
+    (get-insert_same bytes_total bytes_exact V.merchants m _))
     (λ none. s)
 
 at_most : (b : Bool) (n : ℕ) → cond b n (n + 1) ≤ n + 1
@@ -65,42 +74,64 @@ sound-set : (V : Vault) → Sound V → (m : Bytes) (single multi now : ℕ)
     → IsName m → IsLife single → IsLife multi → IsMoment now → (o : Option Merchant) → merchant_at V m ≡ o
     → SoundAfter (set_from V m single multi now o)
 sound-set V s m single multi now name life life' moment None e =
-    by_test SoundAfter (nat_lt (map.len V.merchants) most_merchants) (set_to V m (new_merchant single multi now)) (refused V too_many_merchants)
+    by_test SoundAfter (nat_lt (map.len V.merchants) MOST_MERCHANTS)
+    (set_to V m (new_merchant single multi now)) (plain_refusal V too_many_merchants)
     (λ few.
     let below = below-true _ _ few in
     let count = map.len-insert bytes_total V.merchants m (new_merchant single multi now) in
     let most = at_most (map.contains_key V.merchants m) (map.len V.merchants) in
     sound-merchant V s m (new_merchant single multi now)
-    (record { name = name; single = life; multi = life'; moment = moment; given = omega arith; denied = omega arith })
+    (record {
+      name = name;
+      single = life;
+      multi = life';
+      moment = moment;
+      given = omega arith;
+      denied = omega arith;
+    })
     (λ old at. let clash = sym e ∙ at in cc)
     (omega (arith, count, most, below)))
     (λ many. s)
 sound-set V s m single multi now name life life' moment (Some known) e =
     let old = s.merchants m known e in
     let before = old.moment in
-    known-set V s m known (record known { single_life = single; multi_life = multi; moment = time_at known now }) e
-    (record { name = old.name; single = life; multi = life'; moment = omega arith; given = old.given; denied = old.denied })
+    known-set V s m known
+    (record known { single_life = single; multi_life = multi; moment = time_at known now }) e
+    (record {
+      name = old.name;
+      single = life;
+      multi = life';
+      moment = omega arith;
+      given = old.given;
+      denied = old.denied;
+    })
     (omega arith)
 
 all-drawn : (digits pan : Bytes) → IsDrawing digits → IsNumber pan → (a n : ℕ) → a + n ≤ 20
-    → AllByRecursion (λ token. IsNumber token × (fits token pan ≡ true)) (map (λ k. candidate_digits digits k pan) (range_with_len a n))
+    → AllByRecursion (λ token. IsNumber token × (fits token pan ≡ true))
+    (map (λ k. candidate_digits digits k pan) (range_with_len a n))
 all-drawn digits pan d p a zero le = tt
 all-drawn digits pan d p a (suc n) le = (
-  (candidate_digits-IsNumber digits a pan d (omega arith) p, candidate_digits-fits digits a pan d (omega arith) p),
+  (
+    candidate_digits-IsNumber digits a pan d (omega arith) p,
+    candidate_digits-fits digits a pan d (omega arith) p,
+  ),
   all-drawn digits pan d p (a + 1) n (omega arith),
 )
 
 chosen-fits : (V : Vault) (m pan digits token : Bytes) → IsDrawing digits → IsNumber pan
-    → chosen V m pan digits ≡ Some token → IsNumber token × (fits token pan ≡ true)
-unfolding chosen
+    → chosen_token V m pan digits ≡ Some token → IsNumber token × (fits token pan ≡ true)
+unfolding chosen_token
 chosen-fits V m pan digits token d p e =
-    find-holds (λ token. IsNumber token × (fits token pan ≡ true)) (is_good V m) (candidates digits pan) token (all-drawn digits pan d p 0 20 (lit≤ tt)) e
+    find-holds (λ token. IsNumber token × (fits token pan ≡ true)) (is_good V m) (candidates digits pan)
+    token (all-drawn digits pan d p 0 20 (lit≤ tt)) e
 
 fails-check : (b : Bool) → not b ≡ true → b ≡ false
 fails-check true h = cc
 fails-check false h = refl
 
-pub life-bounds : (usage : Use) (single multi : ℕ) → IsLife single → IsLife multi → IsLife (life_for usage single multi)
+pub life-bounds : (usage : Use) (single multi : ℕ) → IsLife single → IsLife multi
+    → IsLife (life_for usage single multi)
 life-bounds Single single multi a b = a
 life-bounds Multi single multi a b = b
 
@@ -110,30 +141,34 @@ not-zero n h = grind (arith, nat_tests)
 -- the number of an entry that can be given again
 pub sole : (V : Vault) (a : TokenRequest) (known : Merchant) (token : Bytes) (usage : Use) → usage ≡ a.usage
     → reusable usage (current V a.merchant a.pan (time_at known a.moment)) ≡ None
-    → IsSole (moved V a.merchant known a.moment) a.merchant token (new_entry a known) (time_at known a.moment)
+    → IsSole (moved_vault V a.merchant known a.moment) a.merchant token (new_entry a known)
+    (time_at known a.moment)
 sole V a known token Single same_usage none pan other e found old new =
     let multi = first_so _ _ (first_so _ _ new) in
     let clash = ap (λ u. same_use u Multi) same_usage ∙ multi in cc
 sole V a known token Multi same_usage none pan other e found old new =
     let number = same-is a.pan pan (second_so _ _ (first_so _ _ new)) in
     let fails = current-none V a.merchant a.pan other (time_at known a.moment) e none found in
-    let clash = sym fails ∙ subst (λ (x : Bytes). is_reusable x (time_at known a.moment) e ≡ true) (sym number) old in
+    let clash = sym fails
+    ∙ subst (λ (x : Bytes). is_reusable x (time_at known a.moment) e ≡ true) (sym number) old in
     cc
 
 -- the parts of what is asked are values of their types
 abbrev IsProperRequest : TokenRequest → Type 0
 IsProperRequest a =
-    IsName a.caller × IsName a.merchant × IsRequest a.request × IsPan a.pan × IsDrawing a.digits × IsMoment a.moment
+    IsName a.caller × IsName a.merchant × IsRequest a.request × IsPan a.pan × IsDrawing a.digits
+    × IsMoment a.moment
 
 sound-again : (V : Vault) → Sound V → (a : TokenRequest) → IsProperRequest a → (known : Merchant)
     → merchant_at V a.merchant ≡ Some known → (usage : Use) → usage ≡ a.usage → (held : Bytes × Entry)
     → reusable usage (current V a.merchant a.pan (time_at known a.moment)) ≡ Some held
-    → Sound (given_again V a known held).after
+    → Sound (token_again V a known held).after
 sound-again V s a p known is Single same_usage held h = absurd (cc)
 sound-again V s a p known is Multi same_usage held h =
     let found = current-some V a.merchant a.pan (time_at known a.moment) held h in
     let multi = is-multi held.1.usage (first_so _ _ (first_so _ _ found.1)) in
-    sound-record (moved V a.merchant known a.moment) (sound-moved V s a.merchant known a.moment is p.5) a.caller a.request
+    sound-record (moved_vault V a.merchant known a.moment)
+    (sound-moved V s a.merchant known a.moment is p.5) a.caller a.request
     (record { merchant = a.merchant; token = held.0; usage = a.usage }) p.0 p.2
     (held.1, found.0, multi ∙ same_usage)
   where
@@ -144,16 +179,16 @@ sound-again V s a p known is Multi same_usage held h =
 sound-new : (V : Vault) → Sound V → (a : TokenRequest) → IsProperRequest a → (known : Merchant)
     → merchant_at V a.merchant ≡ Some known → (life_asked a known == 0) ≡ false
     → reusable a.usage (current V a.merchant a.pan (time_at known a.moment)) ≡ None
-    → (made V a.merchant == most_tokens) ≡ false
-    → (token : Bytes) → chosen V a.merchant a.pan a.digits ≡ Some token
-    → Sound (made_new V a known token).after
+    → (made_count V a.merchant == MOST_TOKENS) ≡ false
+    → (token : Bytes) → chosen_token V a.merchant a.pan a.digits ≡ Some token
+    → Sound (new_token V a known token).after
 sound-new V s a p known is offered none room token drew =
     let old = s.merchants a.merchant known is in
     let good = chosen-is_good V a.merchant a.pan a.digits token drew in
     let shape = chosen-fits V a.merchant a.pan a.digits token p.4 p.3.0 drew in
     let lives = not-zero (life_asked a known) offered in
     let short = life-bounds a.usage known.single_life known.multi_life old.single old.multi in
-    let few = not-full (made V a.merchant) (s.made_few a.merchant) room in
+    let few = not-full (made_count V a.merchant) (s.made_few a.merchant) room in
     let later : Merchant = record known { moment = time_at known a.moment } in
     let fine : IsSoundEntry token (new_entry a known) later = record {
       token_fails = (shape.0, fails-check (passes_check token) (first_so _ _ good));
@@ -163,16 +198,23 @@ sound-new V s a p known is offered none room token drew =
       life = omega arith;
       revoked = tt;
     } in
-    let V1 = moved V a.merchant known a.moment in
-    let s2 = sound-entry V1 (sound-moved V s a.merchant known a.moment is p.5) a.merchant token (new_entry a known) later
-    (get-insert_same bytes_total bytes_exact V.merchants a.merchant later) fine (none_is (entry_at V a.merchant token) (second_so _ _ good)) few
+    let V1 = moved_vault V a.merchant known a.moment in
+    let s2 = sound-entry V1 (sound-moved V s a.merchant known a.moment is p.5) a.merchant token
+    (new_entry a known) later
+    (get-insert_same bytes_total bytes_exact V.merchants a.merchant later) fine
+    (none_is (entry_at V a.merchant token) (second_so _ _ good)) few
     (sole V a known token a.usage refl none)
     in
-    sound-record (record V1 { entries = map.insert V.entries (a.merchant, token) (new_entry a known) }) s2 a.caller a.request
-    (record { merchant = a.merchant; token = token; usage = a.usage }) p.0 p.2
-    (new_entry a known, get-insert_same entry_total entry_exact V.entries (a.merchant, token) (new_entry a known), refl)
+    sound-record (record V1 { entries = map.insert V.entries (a.merchant, token) (new_entry a known) }) s2
+    a.caller a.request
+    (record { merchant = a.merchant; token = token; usage = a.usage }) p.0 p.2 (
+      new_entry a known,
+      get-insert_same entry_total entry_exact V.entries (a.merchant, token)
+          (new_entry a known),
+      refl,
+    )
   where
-    not-full : (n : ℕ) → n ≤ 1000000 → (n == 1000000) ≡ false → n < 1000000
+    not-full : (n : ℕ) → n ≤ MOST_TOKENS → (n == MOST_TOKENS) ≡ false → n < MOST_TOKENS
     not-full n le h = grind (arith, nat_tests)
 
     none_is : (o : Option Entry) → is_none o ≡ true → o ≡ None
@@ -181,42 +223,57 @@ sound-new V s a p known is offered none room token drew =
 
 sound-tokenize : (V : Vault) → Sound V → (a : TokenRequest) → IsProperRequest a → SoundAfter (tokenize V a)
 sound-tokenize V s a p =
-    by_option SoundAfter (record_at V a.caller a.request) (came_before V a) (of_merchant V a.merchant (new_request V a))
-    (λ r _. by_option SoundAfter (entry_at V r.merchant r.token) (repeated V a r) (refused V number_reused)
-    (λ entry _. by_test SoundAfter (is_repeat a.merchant a.usage a.pan r entry) (unchanged V (Token r.token entry.expires)) (refused V number_reused) (λ _. s) (λ _. s))
+    by_option SoundAfter (record_at V a.caller a.request) (earlier_request V a)
+    (of_merchant V a.merchant (new_request V a))
+    (λ r _. by_option SoundAfter (entry_at V r.merchant r.token) (repetition V a r)
+    (plain_refusal V number_reused)
+    (λ entry _. by_test SoundAfter (is_repeat a.merchant a.usage a.pan r entry)
+    (plain_reply V (Token r.token entry.expires)) (plain_refusal V number_reused) (λ _. s) (λ _. s))
     (λ _. s))
-    (λ _. by_option SoundAfter (merchant_at V a.merchant) (new_request V a) (refused V no_merchant)
-    (λ known is. by_test SoundAfter (not (has_right V a.caller a.merchant right.Tokenize)) (refused V no_right) (offered known)
+    (λ _. by_option SoundAfter (merchant_at V a.merchant) (new_request V a) (plain_refusal V no_merchant)
+    (λ known is. by_test SoundAfter
+    (not (entitled V a.caller a.merchant right.Tokenize (time_at known a.moment)))
+    (plain_refusal V no_right) (offered known)
     (λ _. s)
-    (λ _. by_test SoundAfter (life_asked a known == 0) (refused V wrong_use) (given known)
+    (λ _. by_test SoundAfter (life_asked a known == 0) (plain_refusal V wrong_use) (given known)
     (λ _. s)
-    (λ life. by_option SoundAfter (reusable a.usage (current V a.merchant a.pan (time_at known a.moment))) (given_again V a known) (drawn V a known)
+    (λ life. by_option SoundAfter (reusable a.usage (current V a.merchant a.pan (time_at known a.moment)))
+    (token_again V a known) (drawing V a known)
     (λ held h. sound-again V s a p known is a.usage refl held h)
-    (λ none. by_test SoundAfter (made V a.merchant == most_tokens) (refused V full) (picked known)
+    (λ none. by_test SoundAfter (made_count V a.merchant == MOST_TOKENS) (plain_refusal V full) (picked known)
     (λ _. s)
-    (λ room. by_option SoundAfter (chosen V a.merchant a.pan a.digits) (made_new V a known) (refused V no_candidate)
+    (λ room. by_option SoundAfter (chosen_token V a.merchant a.pan a.digits) (new_token V a known)
+    (plain_refusal V no_candidate)
     (λ token drew. sound-new V s a p known is life none room token drew)
     (λ _. s))))))
     (λ _. s))
   where
     picked : Merchant → Outcome
-    picked known = option_map_or (made_new V a known) (chosen V a.merchant a.pan a.digits) (refused V no_candidate)
+    picked known = option_map_or (new_token V a known) (chosen_token V a.merchant a.pan a.digits)
+        (plain_refusal V no_candidate)
 
     given : Merchant → Outcome
-    given known = option_map_or (given_again V a known) (reusable a.usage (current V a.merchant a.pan (time_at known a.moment))) (drawn V a known)
+    given known = option_map_or (token_again V a known)
+        (reusable a.usage (current V a.merchant a.pan (time_at known a.moment))) (drawing V a known)
 
     offered : Merchant → Outcome
-    offered known = cond (life_asked a known == 0) (refused V wrong_use) (given known)
+    offered known = cond (life_asked a known == 0) (plain_refusal V wrong_use) (given known)
 
 pub sound-after : (V : Vault) → Sound V → (c : Command) → IsProper c → Sound (after V c)
-sound-after V s (SetMerchant m single multi now) p = sound-set V s m single multi now p.0 p.1 p.2 p.3 (merchant_at V m) refl
+sound-after V s (SetMerchant m single multi now) p =
+    sound-set V s m single multi now p.0 p.1 p.2 p.3 (merchant_at V m) refl
 sound-after V s (Grant caller m right now) p = sound-grant V s caller m right now p.0 p.2
 sound-after V s (Withdraw caller m right now) p = sound-withdraw V s caller m right now p.2
-sound-after V s (Tokenize caller m request usage pan digits now) p = sound-tokenize V s (token_request caller m request usage pan digits now) p
-sound-after V s (Detokenize caller m token now) p = sound-detokenize V s caller m token now p.3
-sound-after V s (View caller m token now) p = sound-view V s caller m token now
-sound-after V s (Revoke caller m token now) p = sound-revoke V s caller m token now p.3
-sound-after V s (Audit caller m now) p = sound-audit V s caller m
+sound-after V s (Tokenize caller m request usage pan digits now) p =
+    sound-tokenize V s (token_request caller m request usage pan digits now) p
+sound-after V s (Detokenize caller m token now) p =
+    sound-detokenize V s (token_command caller m token right.Detokenize now) p.3
+sound-after V s (View caller m token now) p = sound-view V s (token_command caller m token right.View now)
+sound-after V s (Revoke caller m token now) p =
+    sound-revoke V s (token_command caller m token right.Revoke now) p.3
+sound-after V s (Purge caller m token now) p =
+    sound-purge V s (token_command caller m token right.Purge now) p.3
+sound-after V s (Audit caller m now) p = sound-audit V s caller m now
 
 pub stays_sound : StaysSound
 stays_sound V [] s p = s

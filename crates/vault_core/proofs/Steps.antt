@@ -1,5 +1,6 @@
 -- What keeps a vault sound.
-use Rattle.std.proofs.Common.{◌≡◌, ℕ, ◌<◌, ◌≤◌, true, Option, Some, None, inl, inr, refl, sym, ap, ◌∙◌, subst, arith, ◌||◌}
+use Rattle.std.proofs.Common.{◌≡◌, ℕ, ◌<◌, ◌≤◌, true, Option, Some, None, inl, inr, refl, sym, ap, ◌∙◌}
+use Rattle.std.proofs.Common.{subst, arith, ◌||◌}
 use Rattle.std.specs.FinMap as map
 use Rattle.std.specs.FinSet as set
 use Rattle.std.specs.Ordering.{eq_by_cmp, is_eq}
@@ -10,11 +11,15 @@ use Rattle.vault_core.specs.Name.{IsName}
 use Rattle.vault_core.specs.Repeats.{is_reusable}
 use Rattle.vault_core.specs.Scalar.{IsRequest}
 use Rattle.vault_core.specs.Sound.{Sound, IsSoundMerchant, IsSoundEntry, IsNumber, IsRevocation, IsEntryOf}
-use Rattle.vault_core.specs.Vault.{Vault, Merchant, merchant_at, entry_at, has_right, made}
+use Rattle.vault_core.specs.Vault.{Vault, Merchant, merchant_at, entry_at, has_right, made_count}
+use Rattle.vault_core.specs.declared.limit.TheConstants.{MOST_MERCHANTS, MOST_TOKENS}
 use Rattle.vault_core.specs.declared.row.Entry.{Entry}
 use Rattle.vault_core.specs.declared.row.Record.{Record}
 use Rattle.vault_core.specs.declared.right.Right.{Right}
-use Rattle.vault_core.proofs.Maps.{bytes_total, bytes_exact, entry_total, entry_exact, record_total, record_exact, right_total, right_exact, tied, get-insert_same, get-insert_other, get-insert_cases, retained-len_yes, retained-len_same, retained-no}
+use Rattle.vault_core.proofs.Maps.{bytes_total, bytes_exact, entry_total, entry_exact, record_total}
+use Rattle.vault_core.proofs.Maps.{record_exact, right_total, right_exact, tied, get-insert_same}
+use Rattle.vault_core.proofs.Maps.{get-insert_other, get-insert_cases, retained-len_yes, retained-len_same}
+use Rattle.vault_core.proofs.Maps.{retained-no}
 use Rattle.vault_core.proofs.Finds.{some_same}
 
 later_number : (token : Bytes) (entry : Entry) (a b : ℕ) (number : Option Bytes) → a ≤ b
@@ -47,12 +52,13 @@ earlier pan a b entry le h = grind (arith, nat_tests)
 -- a merchant is set whose moment doesn't fall
 pub sound-merchant : (V : Vault) → Sound V → (m : Bytes) (new : Merchant) → IsSoundMerchant m new
     → ((old : Merchant) → merchant_at V m ≡ Some old → old.moment ≤ new.moment)
-    → map.len (map.insert V.merchants m new) ≤ 10000
+    → map.len (map.insert V.merchants m new) ≤ MOST_MERCHANTS
     → Sound (record V { merchants = map.insert V.merchants m new })
 sound-merchant V s m new fine later room = record {
   few = room;
   merchants = λ q row e. elim (get-insert_cases bytes_total bytes_exact V.merchants m new q row e) [
-    | inl h ↦ subst (λ (x : Bytes). IsSoundMerchant x row) (sym h.0) (subst (λ (x : Merchant). IsSoundMerchant m x) (sym h.1) fine)
+    | inl h ↦ subst (λ (x : Bytes). IsSoundMerchant x row) (sym h.0)
+        (subst (λ (x : Merchant). IsSoundMerchant m x) (sym h.1) fine)
     | inr h ↦ s.merchants q row h.1
   ];
   made_few = s.made_few;
@@ -61,21 +67,38 @@ sound-merchant V s m new fine later room = record {
       elim (tied bytes_exact q m) [
         | inl same ↦ (
           new,
-          ap (map.get (map.insert V.merchants m new)) same ∙ get-insert_same bytes_total bytes_exact V.merchants m new,
+          ap (map.get (map.insert V.merchants m new)) same
+              ∙ get-insert_same bytes_total bytes_exact V.merchants m new,
           later_entry token entry old.0 new (later old.0 (sym (ap (map.get V.merchants) same) ∙ old.1)) old.2,
         )
-        | inr apart ↦ (old.0, get-insert_other bytes_total bytes_exact V.merchants m new q apart ∙ old.1, old.2)
+        | inr apart ↦ (
+          old.0,
+          get-insert_other bytes_total bytes_exact V.merchants m new q apart
+              ∙ old.1,
+          old.2,
+        )
       ];
   alone = λ q pan token other entry entry' row e e1 r1 e2 r2.
       let old = s.entries q token entry e1 in
       let le : old.0.moment ≤ row.moment = not_before q row old.0 e old.1 in
-      s.alone q pan token other entry entry' old.0 old.1 e1 (earlier pan _ _ entry le r1) e2 (earlier pan _ _ entry' le r2);
+      s.alone q pan token other entry entry' old.0 old.1 e1 (earlier pan _ _ entry le r1) e2
+      (earlier pan _ _ entry' le r2);
   records = s.records;
   rights = λ caller q right e.
       let old = s.rights caller q right e in
       elim (tied bytes_exact q m) [
-        | inl same ↦ (old.0, new, ap (map.get (map.insert V.merchants m new)) same ∙ get-insert_same bytes_total bytes_exact V.merchants m new)
-        | inr apart ↦ (old.0, old.1, get-insert_other bytes_total bytes_exact V.merchants m new q apart ∙ old.2)
+        | inl same ↦ (
+          old.0,
+          new,
+          ap (map.get (map.insert V.merchants m new)) same
+              ∙ get-insert_same bytes_total bytes_exact V.merchants m new,
+        )
+        | inr apart ↦ (
+          old.0,
+          old.1,
+          get-insert_other bytes_total bytes_exact V.merchants m new q apart
+              ∙ old.2,
+        )
       ];
 }
   where
@@ -83,7 +106,8 @@ sound-merchant V s m new fine later room = record {
         → merchant_at V q ≡ Some old → old.moment ≤ row.moment
     not_before q row old e before =
         elim (get-insert_cases bytes_total bytes_exact V.merchants m new q row e) [
-          | inl h ↦ let le = later old (sym (ap (map.get V.merchants) h.0) ∙ before) in let is = ap (λ (x : Merchant). x.moment) h.1 in omega arith
+          | inl h ↦ let le = later old (sym (ap (map.get V.merchants) h.0) ∙ before) in let is =
+              ap (λ (x : Merchant). x.moment) h.1 in omega arith
           | inr h ↦ let is : old ≡ row = cc in let at = ap (λ (x : Merchant). x.moment) is in omega arith
         ]
 
@@ -107,7 +131,8 @@ sound-right V s caller m right known name is = record {
         )
         | inr apart ↦
             s.rights caller' q right'
-            (sym (set.contains-insert right_total V.rights (caller, (m, right)) (caller', (q, right')) ∙ ap (λ b. b || has_right V caller' q right') apart) ∙ e)
+            (sym (set.contains-insert right_total V.rights (caller, (m, right)) (caller', (q, right'))
+            ∙ ap (λ b. b || has_right V caller' q right') apart) ∙ e)
       ];
 }
 
@@ -122,7 +147,9 @@ sound-unright V s caller m right = record {
   alone = s.alone;
   records = s.records;
   rights = λ caller' q right' e.
-      s.rights caller' q right' (second_so _ _ (sym (set.contains-remove right_total V.rights (caller, (m, right)) (caller', (q, right'))) ∙ e));
+      s.rights caller' q right'
+      (second_so _ _ (sym (set.contains-remove right_total V.rights (caller, (m, right))
+      (caller', (q, right'))) ∙ e));
 }
 
 -- a request is recorded with an entry that is there
@@ -136,7 +163,8 @@ sound-record V s caller request r name number entry = record {
   entries = s.entries;
   alone = s.alone;
   records = λ caller' request' r' e.
-      elim (get-insert_cases record_total record_exact V.records (caller, request) r (caller', request') r' e) [
+      elim (get-insert_cases record_total record_exact V.records (caller, request) r (caller', request') r'
+      e) [
         | inl h ↦ (
           subst IsName (sym (ap (λ (k : Bytes × ℕ). k.0) h.0)) name,
           subst IsRequest (sym (ap (λ (k : Bytes × ℕ). k.1) h.0)) number,
@@ -165,18 +193,22 @@ IsSole V m token entry at =
 -- a new entry comes
 pub sound-entry : (V : Vault) → Sound V → (m token : Bytes) (entry : Entry) (known : Merchant)
     → merchant_at V m ≡ Some known → IsSoundEntry token entry known → entry_at V m token ≡ None
-    → made V m < 1000000 → IsSole V m token entry known.moment
+    → made_count V m < MOST_TOKENS → IsSole V m token entry known.moment
     → Sound (record V { entries = map.insert V.entries (m, token) entry })
 sound-entry V s m token entry known is fine new few sole = record {
   few = s.few;
   merchants = s.merchants;
   made_few = λ q. elim (tied bytes_exact q m) [
     | inl same ↦
-        let more = retained-len_yes entry_total entry_exact V.entries (m, token) entry (λ key. eq_by_cmp bytes_cmp q key.0) (ap (λ r. is_eq r) (ap (λ x. bytes_cmp x m) same ∙ tied_itself bytes_total m)) new in
-        let here : made V q < 1000000 = subst (λ (x : Bytes). made V x < 1000000) (sym same) few in
+        let more = retained-len_yes entry_total entry_exact V.entries (m, token) entry
+        (λ key. eq_by_cmp bytes_cmp q key.0)
+        (ap (λ r. is_eq r) (ap (λ x. bytes_cmp x m) same ∙ tied_itself bytes_total m)) new in
+        let here : made_count V q < MOST_TOKENS =
+        subst (λ (x : Bytes). made_count V x < MOST_TOKENS) (sym same) few in
         omega arith
     | inr apart ↦
-        let equal = ap map.len (retained-no entry_total entry_exact V.entries (m, token) entry (λ key. eq_by_cmp bytes_cmp q key.0) apart) in
+        let equal = ap map.len (retained-no entry_total entry_exact V.entries (m, token) entry
+        (λ key. eq_by_cmp bytes_cmp q key.0) apart) in
         let before = s.made_few q in
         omega arith
   ];
@@ -185,7 +217,8 @@ sound-entry V s m token entry known is fine new few sole = record {
         | inl i ↦ (
           known,
           ap (λ (k : Bytes × Bytes). map.get V.merchants k.0) i.0 ∙ is,
-          subst (λ (x : Bytes). IsSoundEntry x e known) (sym (ap (λ (k : Bytes × Bytes). k.1) i.0)) (subst (λ (x : Entry). IsSoundEntry token x known) (sym i.1) fine),
+          subst (λ (x : Bytes). IsSoundEntry x e known) (sym (ap (λ (k : Bytes × Bytes). k.1) i.0))
+              (subst (λ (x : Entry). IsSoundEntry token x known) (sym i.1) fine),
         )
         | inr i ↦ s.entries q t e i.1
       ];
@@ -222,19 +255,22 @@ sound-entry V s m token entry known is fine new few sole = record {
     still r found before =
         elim (tied entry_exact (r.merchant, r.token) (m, token)) [
           | inl same ↦ let clash = sym before ∙ ap (map.get V.entries) same ∙ new in cc
-          | inr apart ↦ get-insert_other entry_total entry_exact V.entries (m, token) entry (r.merchant, r.token) apart ∙ before
+          | inr apart ↦ get-insert_other entry_total entry_exact V.entries (m, token) entry
+              (r.merchant, r.token) apart ∙ before
         ]
 
 -- an entry changes, and can't be given again where it couldn't before
 pub sound-changed : (V : Vault) → Sound V → (m token : Bytes) (old new : Entry) (known : Merchant)
-    → merchant_at V m ≡ Some known → entry_at V m token ≡ Some old → IsSoundEntry token new known → new.usage ≡ old.usage
+    → merchant_at V m ≡ Some known → entry_at V m token ≡ Some old → IsSoundEntry token new known
+    → new.usage ≡ old.usage
     → ((pan : Bytes) → is_reusable pan known.moment new ≡ true → is_reusable pan known.moment old ≡ true)
     → Sound (record V { entries = map.insert V.entries (m, token) new })
 sound-changed V s m token old new known is here fine same_usage reuse = record {
   few = s.few;
   merchants = s.merchants;
   made_few = λ q.
-      let equal = retained-len_same entry_total entry_exact V.entries (m, token) new (λ key. eq_by_cmp bytes_cmp q key.0) old here in
+      let equal = retained-len_same entry_total entry_exact V.entries (m, token) new
+      (λ key. eq_by_cmp bytes_cmp q key.0) old here in
       let before = s.made_few q in
       omega (arith, equal, before);
   entries = λ q t e h.
@@ -242,7 +278,8 @@ sound-changed V s m token old new known is here fine same_usage reuse = record {
         | inl i ↦ (
           known,
           ap (λ (k : Bytes × Bytes). map.get V.merchants k.0) i.0 ∙ is,
-          subst (λ (x : Bytes). IsSoundEntry x e known) (sym (ap (λ (k : Bytes × Bytes). k.1) i.0)) (subst (λ (x : Entry). IsSoundEntry token x known) (sym i.1) fine),
+          subst (λ (x : Bytes). IsSoundEntry x e known) (sym (ap (λ (k : Bytes × Bytes). k.1) i.0))
+              (subst (λ (x : Entry). IsSoundEntry token x known) (sym i.1) fine),
         )
         | inr i ↦ s.entries q t e i.1
       ];
@@ -267,7 +304,8 @@ sound-changed V s m token old new known is here fine same_usage reuse = record {
               let moments = ap (λ (x : Merchant). x.moment) (same_row V q m row known qm at_q is) in (
                 old,
                 ap (map.get V.entries) i.0 ∙ here,
-                same_reusable pan _ _ old old (sym moments) refl (reuse pan (same_reusable pan _ _ e new moments i.1 again)),
+                same_reusable pan _ _ old old (sym moments) refl
+                    (reuse pan (same_reusable pan _ _ e new moments i.1 again)),
               )
           | inr i ↦ (e, i.1, again)
         ]
@@ -279,8 +317,14 @@ sound-changed V s m token old new known is here fine same_usage reuse = record {
           | inl same ↦
               let was : found ≡ old = some_same (sym before_it ∙ ap (map.get V.entries) same ∙ here) in (
                 new,
-                ap (map.get (map.insert V.entries (m, token) new)) same ∙ get-insert_same entry_total entry_exact V.entries (m, token) new,
+                ap (map.get (map.insert V.entries (m, token) new)) same
+                    ∙ get-insert_same entry_total entry_exact V.entries (m, token) new,
                 same_usage ∙ sym (ap (λ (x : Entry). x.usage) was) ∙ usage,
               )
-          | inr apart ↦ (found, get-insert_other entry_total entry_exact V.entries (m, token) new (r.merchant, r.token) apart ∙ before_it, usage)
+          | inr apart ↦ (
+            found,
+            get-insert_other entry_total entry_exact V.entries (m, token) new
+                (r.merchant, r.token) apart ∙ before_it,
+            usage,
+          )
         ]

@@ -1,5 +1,7 @@
--- Two vaults that change together at one merchant: what they agree on they still agree on, and nothing else changes.
-use Rattle.std.proofs.Common.{◌≡◌, ◌≢◌, ℕ, ◌+◌, ◌≤◌, Bool, true, false, cond, not, ◌&&◌, ◌||◌, Option, Some, is_some, refl, sym, ap, ◌∙◌, arith}
+-- Two vaults that change together at one merchant: what they agree on they still agree on, and nothing else
+-- changes.
+use Rattle.std.proofs.Common.{◌≡◌, ◌≢◌, ℕ, ◌+◌, ◌≤◌, Bool, true, false, cond, not, ◌&&◌, ◌||◌, Option, Some}
+use Rattle.std.proofs.Common.{is_some, refl, sym, ap, ◌∙◌, arith}
 use Rattle.std.specs.FinMap as map
 use Rattle.std.specs.FinSet as set
 use Rattle.std.specs.Ordering.{eq_by_cmp}
@@ -10,13 +12,16 @@ use Rattle.vault_core.specs.declared.right.Right.{Right}
 use Rattle.vault_core.specs.declared.row.Entry.{Entry}
 use Rattle.vault_core.specs.declared.row.Record.{Record}
 use Rattle.vault_core.proofs.Agree.{agree-refl, agree-trans}
-use Rattle.vault_core.proofs.Maps.{bytes_total, bytes_exact, entry_total, entry_exact, record_total, record_exact, right_total, right_exact, untied, get-insert_both, get-insert_other}
+use Rattle.vault_core.proofs.Maps.{bytes_total, bytes_exact, entry_total, entry_exact, record_total}
+use Rattle.vault_core.proofs.Maps.{record_exact, right_total, right_exact, untied, get-insert_both}
+use Rattle.vault_core.proofs.Maps.{get-insert_other}
 
 -- V and W become V' and W' by the same change of a merchant's rows and of one caller's records
 pub record Together (m : Bytes) (writer : Option Bytes) (V W V' W' : Vault) : Type 0 where
   pub rows : AgreeAt m V W → AgreeAt m V' W'
   pub records : (caller : Bytes) → AgreeFor caller V W → AgreeFor caller V' W'
-  pub fewer : AgreeAt m V W → map.len W.merchants ≤ map.len V.merchants → map.len W'.merchants ≤ map.len V'.merchants
+  pub fewer : AgreeAt m V W → map.len W.merchants ≤ map.len V.merchants
+      → map.len W'.merchants ≤ map.len V'.merchants
   pub others : (other : Bytes) → other ≢ m → AgreeAt other V V'
   pub unwritten : (other : Bytes) → writer ≢ Some other → AgreeFor other V V'
   pub grows : map.len V.merchants ≤ map.len V'.merchants
@@ -52,7 +57,8 @@ module _ (m : Bytes) (writer : Option Bytes) (V W : Vault) where
   -- the merchant's row is set
   pub set_row : (merchant : Merchant)
       → Together m writer V W
-      (record V { merchants = map.insert V.merchants m merchant }) (record W { merchants = map.insert W.merchants m merchant })
+      (record V { merchants = map.insert V.merchants m merchant })
+      (record W { merchants = map.insert W.merchants m merchant })
   set_row merchant = record {
     rows = λ a. record {
       merchant = get-insert_both bytes_total V.merchants W.merchants m merchant m a.merchant;
@@ -60,18 +66,23 @@ module _ (m : Bytes) (writer : Option Bytes) (V W : Vault) where
       rights = a.rights;
     };
     records = λ caller a. a;
-    fewer = λ a le. still_fewer (map.len V.merchants) (map.len W.merchants) (map.contains_key V.merchants m) (map.contains_key W.merchants m)
-        _ _ (ap is_some a.merchant) le (map.len-insert bytes_total V.merchants m merchant) (map.len-insert bytes_total W.merchants m merchant);
+    fewer = λ a le. still_fewer (map.len V.merchants) (map.len W.merchants) (map.contains_key V.merchants m)
+        (map.contains_key W.merchants m)
+        _ _ (ap is_some a.merchant) le (map.len-insert bytes_total V.merchants m merchant)
+        (map.len-insert bytes_total W.merchants m merchant);
     others = λ other apart. record {
-      merchant = sym (get-insert_other bytes_total bytes_exact V.merchants m merchant other (untied bytes_exact other m apart));
+      merchant = sym (get-insert_other bytes_total bytes_exact V.merchants m merchant other
+          (untied bytes_exact other m apart));
       entries = λ token. refl;
-      rights = λ caller right. refl;
+      rights = λ caller right at. refl;
     };
     unwritten = λ other apart request. refl;
-    grows = at_least (map.len V.merchants) (map.contains_key V.merchants m) _ (map.len-insert bytes_total V.merchants m merchant);
+    grows = at_least (map.len V.merchants) (map.contains_key V.merchants m) _
+        (map.len-insert bytes_total V.merchants m merchant);
   }
     where
-      still_fewer : (v w : ℕ) (b c : Bool) (v' w' : ℕ) → b ≡ c → w ≤ v → v' ≡ cond b v (v + 1) → w' ≡ cond c w (w + 1) → w' ≤ v'
+      still_fewer : (v w : ℕ) (b c : Bool) (v' w' : ℕ) → b ≡ c → w ≤ v → v' ≡ cond b v (v + 1)
+          → w' ≡ cond c w (w + 1) → w' ≤ v'
       still_fewer v w true true v' w' same le e f = omega arith
       still_fewer v w false false v' w' same le e f = omega arith
       still_fewer v w true false v' w' same le e f = absurd (cc)
@@ -84,7 +95,8 @@ module _ (m : Bytes) (writer : Option Bytes) (V W : Vault) where
   -- an entry of the merchant is set
   pub set_entry : (token : Bytes) (entry : Entry)
       → Together m writer V W
-      (record V { entries = map.insert V.entries (m, token) entry }) (record W { entries = map.insert W.entries (m, token) entry })
+      (record V { entries = map.insert V.entries (m, token) entry })
+      (record W { entries = map.insert W.entries (m, token) entry })
   set_entry token entry = record {
     rows = λ a. record {
       merchant = a.merchant;
@@ -98,7 +110,7 @@ module _ (m : Bytes) (writer : Option Bytes) (V W : Vault) where
       entries = λ t.
           sym (get-insert_other entry_total entry_exact V.entries (m, token) entry (other, t)
           (untied entry_exact (other, t) (m, token) (λ same. apart (ap (λ (k : Bytes × Bytes). k.0) same))));
-      rights = λ caller right. refl;
+      rights = λ caller right at. refl;
     };
     unwritten = λ other apart request. refl;
     grows = omega arith;
@@ -107,14 +119,15 @@ module _ (m : Bytes) (writer : Option Bytes) (V W : Vault) where
   -- a right at the merchant is given
   pub give_right : (caller : Bytes) (right : Right)
       → Together m writer V W
-      (record V { rights = set.insert V.rights (caller, (m, right)) }) (record W { rights = set.insert W.rights (caller, (m, right)) })
+      (record V { rights = set.insert V.rights (caller, (m, right)) })
+      (record W { rights = set.insert W.rights (caller, (m, right)) })
   give_right caller right = record {
     rows = λ a. record {
       merchant = a.merchant;
       entries = a.entries;
-      rights = λ c r.
+      rights = λ c r at.
           set.contains-insert right_total V.rights (caller, (m, right)) (c, (m, r))
-          ∙ ap (λ b. eq_by_cmp right_cmp (c, (m, r)) (caller, (m, right)) || b) (a.rights c r)
+          ∙ ap (λ b. eq_by_cmp right_cmp (c, (m, r)) (caller, (m, right)) || b) (a.rights c r at)
           ∙ sym (set.contains-insert right_total W.rights (caller, (m, right)) (c, (m, r)));
     };
     records = λ caller a. a;
@@ -122,7 +135,7 @@ module _ (m : Bytes) (writer : Option Bytes) (V W : Vault) where
     others = λ other apart. record {
       merchant = refl;
       entries = λ token. refl;
-      rights = λ c r.
+      rights = λ c r at.
           sym (set.contains-insert right_total V.rights (caller, (m, right)) (c, (other, r))
           ∙ ap (λ b. b || has_right V c other r) (other_right caller right m other apart c r));
     };
@@ -133,14 +146,15 @@ module _ (m : Bytes) (writer : Option Bytes) (V W : Vault) where
   -- a right at the merchant is taken away
   pub take_right : (caller : Bytes) (right : Right)
       → Together m writer V W
-      (record V { rights = set.remove V.rights (caller, (m, right)) }) (record W { rights = set.remove W.rights (caller, (m, right)) })
+      (record V { rights = set.remove V.rights (caller, (m, right)) })
+      (record W { rights = set.remove W.rights (caller, (m, right)) })
   take_right caller right = record {
     rows = λ a. record {
       merchant = a.merchant;
       entries = a.entries;
-      rights = λ c r.
+      rights = λ c r at.
           set.contains-remove right_total V.rights (caller, (m, right)) (c, (m, r))
-          ∙ ap (λ b. not (eq_by_cmp right_cmp (c, (m, r)) (caller, (m, right))) && b) (a.rights c r)
+          ∙ ap (λ b. not (eq_by_cmp right_cmp (c, (m, r)) (caller, (m, right))) && b) (a.rights c r at)
           ∙ sym (set.contains-remove right_total W.rights (caller, (m, right)) (c, (m, r)));
     };
     records = λ caller a. a;
@@ -148,7 +162,7 @@ module _ (m : Bytes) (writer : Option Bytes) (V W : Vault) where
     others = λ other apart. record {
       merchant = refl;
       entries = λ token. refl;
-      rights = λ c r.
+      rights = λ c r at.
           sym (set.contains-remove right_total V.rights (caller, (m, right)) (c, (other, r))
           ∙ ap (λ b. not b && has_right V c other r) (other_right caller right m other apart c r));
     };
@@ -159,12 +173,13 @@ module _ (m : Bytes) (writer : Option Bytes) (V W : Vault) where
 -- a record of the writer is set
 pub set_record : (m : Bytes) (V W : Vault) (caller : Bytes) (request : ℕ) (r : Record)
     → Together m (Some caller) V W
-    (record V { records = map.insert V.records (caller, request) r }) (record W { records = map.insert W.records (caller, request) r })
+    (record V { records = map.insert V.records (caller, request) r })
+    (record W { records = map.insert W.records (caller, request) r })
 set_record m V W caller request r = record {
   rows = λ a. record { merchant = a.merchant; entries = a.entries; rights = a.rights };
   records = λ c a q. get-insert_both record_total V.records W.records (caller, request) r (c, q) (a q);
   fewer = λ a le. le;
-  others = λ other apart. record { merchant = refl; entries = λ token. refl; rights = λ c right. refl };
+  others = λ other apart. record { merchant = refl; entries = λ token. refl; rights = λ c right at. refl };
   unwritten = λ other apart q.
       sym (get-insert_other record_total record_exact V.records (caller, request) r (other, q)
       (untied record_exact (other, q) (caller, request) (λ same. apart (ap (λ k. Some k.0) (sym same)))));

@@ -1,52 +1,63 @@
--- What holds of what a command leaves, by the cases of its outcome.
-use Rattle.std.proofs.Common.{◌≡◌, ℕ, true, cond, Option, Some, not, is_some, nat_lt, refl}
+-- What holds of what a command on a token leaves, by the cases of its outcome.
+use Rattle.std.proofs.Common.{◌≡◌, ℕ, true, Some, not, refl}
 use Rattle.std.specs.Option.{option_map_or}
 use Rattle.vault_core.specs.Keys.{Bytes}
 use Rattle.vault_core.specs.Named.{denies}
-use Rattle.vault_core.specs.Outcome.{Outcome, refused, of_token, of_number}
-use Rattle.vault_core.specs.Redeem.{given, denied, yielded, redeemed, redeem}
-use Rattle.vault_core.specs.Refusals.{no_right, no_token, token_purged, token_revoked, token_expired}
-use Rattle.vault_core.specs.Vault.{Vault, Merchant, entry_at, has_right, time_at}
-use Rattle.vault_core.specs.declared.right.Right.{Right}
-use Rattle.vault_core.specs.declared.right.Right.TheVariants as right
+use Rattle.vault_core.specs.Outcome.{Outcome, plain_refusal, of_token, on_token}
+use Rattle.vault_core.specs.Redeem.{gift, denial, redemption, detokenize}
+use Rattle.vault_core.specs.Refusals.{no_merchant, no_right, no_token, token_purged, token_revoked}
+use Rattle.vault_core.specs.Refusals.{token_expired}
+use Rattle.vault_core.specs.Vault.{Vault, Merchant, merchant_at, entry_at, entitled, time_at, state_of}
+use Rattle.vault_core.specs.declared.command.TokenCommand.{TokenCommand}
+use Rattle.vault_core.specs.declared.reply.State.TheVariants.{Live, Expired, Revoked}
 use Rattle.vault_core.specs.declared.row.Entry.{Entry}
+use Rattle.vault_core.specs.declared.row.EntryState.{EntryState}
+use Rattle.vault_core.specs.declared.row.EntryState.TheVariants.{Kept, Purged}
 use Rattle.vault_core.proofs.Branches.{by_test, by_option}
 
--- a Detokenize at a merchant that is known denies the number, or gives the one of the entry
-pub by_redeem : (P : Outcome → Type 0) (V : Vault) (caller m token : Bytes) (now : ℕ) (known : Merchant)
-    → ((reason : ℕ) → denies reason ≡ true → P (denied V m now known reason))
-    → ((number : Bytes) → P (given V m now known number))
-    → P (redeem V caller m token now known)
-by_redeem P V caller m token now known denial gift =
-    by_test P (not (has_right V caller m right.Detokenize)) (denied V m now known no_right) (found (entry_at V m token))
-    (λ _. denial no_right refl)
-    (λ _. by_option P (entry_at V m token) (redeemed V m now known) (denied V m now known no_token)
-    (λ entry _. by_option P entry.number (yielded V m now known entry) (denied V m now known token_purged)
-    (λ number _. by_test P (is_some entry.revoked) (denied V m now known token_revoked) (live entry number)
-    (λ _. denial token_revoked refl)
-    (λ _. by_test P (nat_lt (time_at known now) entry.expires) (given V m now known number) (denied V m now known token_expired)
-    (λ _. gift number)
-    (λ _. denial token_expired refl)))
-    (λ _. denial token_purged refl))
-    (λ _. denial no_token refl))
+-- a command on a token is refused, or answered by the state of the token's entry
+pub by_token : (P : Outcome → Type 0) (V : Vault) (t : TokenCommand)
+    (refusal : Merchant → ℕ → Outcome) (answer : Merchant → Entry → EntryState → Outcome)
+    → P (plain_refusal V no_merchant)
+    → ((known : Merchant) (number : ℕ) → merchant_at V t.merchant ≡ Some known → denies number ≡ true
+    → P (refusal known number))
+    → ((known : Merchant) (entry : Entry) (state : EntryState) → merchant_at V t.merchant ≡ Some known
+    → entry_at V t.merchant t.token ≡ Some entry → state_of entry (time_at known t.moment) ≡ state
+    → P (answer known entry state))
+    → P (on_token V t refusal answer)
+by_token P V t refusal answer unknown refusing answering =
+    by_option P (merchant_at V t.merchant) (λ known. of_token V t known (refusal known) (by_state known))
+    (plain_refusal V no_merchant)
+    (λ known is. by_test P (not (entitled V t.caller t.merchant t.right (time_at known t.moment)))
+    (refusal known no_right) (found known)
+    (λ _. refusing known no_right is refl)
+    (λ _. by_option P (entry_at V t.merchant t.token) (by_state known) (refusal known no_token)
+    (λ entry here. answering known entry (state_of entry (time_at known t.moment)) is here refl)
+    (λ _. refusing known no_token is refl)))
+    (λ _. unknown)
   where
-    found : Option Entry → Outcome
-    found o = option_map_or (redeemed V m now known) o (denied V m now known no_token)
+    by_state : Merchant → Entry → Outcome
+    by_state known entry = answer known entry (state_of entry (time_at known t.moment))
 
-    live : Entry → Bytes → Outcome
-    live entry number =
-        cond (nat_lt (time_at known now) entry.expires) (given V m now known number) (denied V m now known token_expired)
+    found : Merchant → Outcome
+    found known = option_map_or (by_state known) (entry_at V t.merchant t.token) (refusal known no_token)
 
--- a command that names a token is refused, or answered of its entry and number
-pub by_token : (P : Outcome → Type 0) (V : Vault) (caller m token : Bytes) (needed : Right) (answer : Entry → Bytes → Outcome)
-    → ((number : ℕ) → P (refused V number))
-    → ((entry : Entry) (number : Bytes) → entry_at V m token ≡ Some entry → entry.number ≡ Some number → P (answer entry number))
-    → P (of_token V caller m token needed answer)
-by_token P V caller m token needed answer refusal answered =
-    by_test P (not (has_right V caller m needed)) (refused V no_right) (option_map_or (of_number V answer) (entry_at V m token) (refused V no_token))
-    (λ _. refusal no_right)
-    (λ _. by_option P (entry_at V m token) (of_number V answer) (refused V no_token)
-    (λ entry here. by_option P entry.number (answer entry) (refused V token_purged)
-    (λ number has. answered entry number here has)
-    (λ _. refusal token_purged))
-    (λ _. refusal no_token))
+-- a Detokenize at a merchant that is known denies the number, or gives the one of the entry
+pub by_redeem : (P : Outcome → Type 0) (V : Vault) (t : TokenCommand)
+    → P (plain_refusal V no_merchant)
+    → ((known : Merchant) (reason : ℕ) → merchant_at V t.merchant ≡ Some known → denies reason ≡ true
+    → P (denial V t.merchant t.moment known reason))
+    → ((known : Merchant) (number : Bytes) → merchant_at V t.merchant ≡ Some known
+    → P (gift V t.merchant t.moment known number))
+    → P (detokenize V t)
+by_redeem P V t unknown denying giving =
+    by_token P V t (denial V t.merchant t.moment) (λ known entry. redemption V t.merchant t.moment known)
+    unknown denying
+    (λ known entry state is _ _. in_state known is state)
+  where
+    in_state : (known : Merchant) → merchant_at V t.merchant ≡ Some known → (state : EntryState)
+        → P (redemption V t.merchant t.moment known state)
+    in_state known is Purged = denying known token_purged is refl
+    in_state known is (Kept number Revoked) = denying known token_revoked is refl
+    in_state known is (Kept number Expired) = denying known token_expired is refl
+    in_state known is (Kept number Live) = giving known number is

@@ -1,5 +1,6 @@
 -- Changes, and the vault with them.
-use Rattle.std.specs.Prelude.{◌≡◌, ℕ, ◌+◌, Bool, true, false, Option, Some, None, max, is_none, IsSome, if◌then◌else◌}
+use Rattle.std.specs.Prelude.{◌≡◌, ℕ, ◌+◌, Bool, true, false, Option, Some, None, max, is_none, IsSome}
+use Rattle.std.specs.Prelude.{if◌then◌else◌}
 use Rattle.std.specs.FinMap as map
 use Rattle.std.specs.FinSet as set
 use Rattle.vault_core.specs.Keys.{Bytes, bytes_cmp, entry_cmp, record_cmp, right_cmp}
@@ -14,7 +15,8 @@ use Rattle.vault_core.specs.declared.changes.Count.{Count}
 use Rattle.vault_core.specs.declared.changes.Count.TheVariants.{Made, Given, Denied}
 use Rattle.vault_core.specs.declared.changes.Lives.{Lives}
 use Rattle.vault_core.specs.declared.command.Command.{Command}
-use Rattle.vault_core.specs.declared.command.Command.TheVariants.{SetMerchant, Grant, Withdraw, Tokenize, Detokenize, View, Revoke, Audit}
+use Rattle.vault_core.specs.declared.command.Command.TheVariants.{Tokenize, View, Audit}
+use Rattle.vault_core.specs.declared.command.TokenRequest.{TokenRequest}
 use Rattle.vault_core.specs.declared.reply.Reply.{Reply}
 use Rattle.vault_core.specs.declared.reply.Reply.TheVariants.{Done, Token, Number, Shown, Counts, Refused}
 use Rattle.vault_core.specs.declared.right.Right.{Right}
@@ -26,30 +28,40 @@ use Rattle.vault_core.specs.declared.window.Window.{Window}
 -- the merchant with its new lives and moment, and its counts as they were
 abbrev pub merchant_with : Lives → Option Merchant → Merchant
 merchant_with x None =
-    record { single_life = x.single_life; multi_life = x.multi_life; moment = x.moment; given = 0; denied = 0 }
+    record {
+      single_life = x.single_life;
+      multi_life = x.multi_life;
+      moment = x.moment;
+      given = 0;
+      denied = 0;
+    }
 merchant_with x (Some old) =
     record old { single_life = x.single_life; multi_life = x.multi_life; moment = x.moment }
 
 -- one more number given or denied; how many tokens were made follows from the entries
-abbrev pub raised : Option Count → Merchant → Merchant
-raised None merchant = merchant
-raised (Some Made) merchant = merchant
-raised (Some Given) merchant = record merchant { given = merchant.given + 1 }
-raised (Some Denied) merchant = record merchant { denied = merchant.denied + 1 }
+abbrev pub merchant_with_count : Option Count → Merchant → Merchant
+merchant_with_count None merchant = merchant
+merchant_with_count (Some Made) merchant = merchant
+merchant_with_count (Some Given) merchant = record merchant { given = merchant.given + 1 }
+merchant_with_count (Some Denied) merchant = record merchant { denied = merchant.denied + 1 }
 
 -- with the lives and the moment of a merchant, and a count raised
-abbrev pub with_merchant : map.FinMap bytes_cmp Merchant → Option Count → Option Lives → map.FinMap bytes_cmp Merchant
+abbrev pub with_merchant : map.FinMap bytes_cmp Merchant → Option Count → Option Lives
+    → map.FinMap bytes_cmp Merchant
 with_merchant merchants count None = merchants
 with_merchant merchants count (Some x) =
-    map.insert merchants x.merchant (raised count (merchant_with x (map.get merchants x.merchant)))
+    map.insert merchants x.merchant
+    (merchant_with_count count (merchant_with x (map.get merchants x.merchant)))
 
 -- with an entry put in
-abbrev pub with_entry : map.FinMap entry_cmp Entry → Option (Bytes × Bytes × Entry) → map.FinMap entry_cmp Entry
+abbrev pub with_entry : map.FinMap entry_cmp Entry → Option (Bytes × Bytes × Entry)
+    → map.FinMap entry_cmp Entry
 with_entry entries None = entries
 with_entry entries (Some x) = map.insert entries (x.0, x.1) x.2
 
 -- with a record put in
-abbrev pub with_record : map.FinMap record_cmp Record → Option (Bytes × ℕ × Record) → map.FinMap record_cmp Record
+abbrev pub with_record : map.FinMap record_cmp Record → Option (Bytes × ℕ × Record)
+    → map.FinMap record_cmp Record
 with_record records None = records
 with_record records (Some x) = map.insert records (x.0, x.1) x.2
 
@@ -103,7 +115,8 @@ Decides w c d = (V : Vault) → Sound V → IsWindow V c w → Yields V (outcome
 -- in each vault that has the row as the merchant's, the decision is an outcome
 abbrev pub YieldsAt : Bytes → MerchantRow → (Vault → Merchant → Outcome) → Reply × Changes → Type 0
 YieldsAt m row o d =
-    (V : Vault) (known : Merchant) → merchant_at V m ≡ Some known → row ≡ row_of V m known → Yields V (o V known) d
+    (V : Vault) (known : Merchant) → merchant_at V m ≡ Some known → row ≡ row_of V m known
+    → Yields V (o V known) d
 
 -- of whatever sound vault the window is, the changes fit it
 abbrev pub FitsVault : Window → Command → Changes → Type 0
@@ -116,23 +129,34 @@ no_changes = record { lives = None; count = None; entry = None; recorded = None;
 -- the merchant's lives as they are, and its moment moved
 abbrev pub moved_lives : Bytes → MerchantRow → ℕ → Lives
 moved_lives m row now =
-    record { merchant = m; single_life = row.single_life; multi_life = row.multi_life; moment = max row.moment now }
+    record {
+      merchant = m;
+      single_life = row.single_life;
+      multi_life = row.multi_life;
+      moment = max row.moment now;
+    }
+
+-- a request is recorded with the token that it is answered, and the merchant's moment moves
+abbrev pub record_changes : TokenRequest → MerchantRow → Bytes → Changes
+record_changes a row token =
+    let r : Record = record { merchant = a.merchant; token = token; usage = a.usage } in
+    record no_changes {
+      lives = Some (moved_lives a.merchant row a.moment);
+      recorded = Some (a.caller, a.request, r);
+    }
 
 -- a View, an Audit, and a request that the window shows to be recorded before change nothing
 abbrev pub WritesNothing : Window → Command → Type 0
-WritesNothing w (SetMerchant m single multi now) = ⊥
-WritesNothing w (Grant caller m right now) = ⊥
-WritesNothing w (Withdraw caller m right now) = ⊥
 WritesNothing w (Tokenize caller m request usage pan digits now) = IsSome w.recorded
-WritesNothing w (Detokenize caller m token now) = ⊥
 WritesNothing w (View caller m token now) = Unit {0}
-WritesNothing w (Revoke caller m token now) = ⊥
 WritesNothing w (Audit caller m now) = Unit {0}
+WritesNothing w c = ⊥
 
 -- one more number was denied at the merchant, whose moment moves, and nothing else changes
 abbrev pub CountsDenial : Bytes → Changes → Type 0
 CountsDenial m ch =
-    (lives : Lives) × (lives.merchant ≡ m) × (ch ≡ record no_changes { lives = Some lives; count = Some Denied })
+    (lives : Lives) × (lives.merchant ≡ m)
+    × (ch ≡ record no_changes { lives = Some lives; count = Some Denied })
 
 -- a refusal changes nothing, unless its number is one of these, by which a denial is counted
 abbrev pub RefusesBy : (ℕ → Bool) → Bytes → Reply → Changes → Type 0

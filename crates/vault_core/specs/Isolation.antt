@@ -7,18 +7,19 @@ use Rattle.vault_core.specs.Named.{merchant_of, caller_of}
 use Rattle.vault_core.specs.Refusals.{too_many_merchants}
 use Rattle.vault_core.specs.Runs.{replies}
 use Rattle.vault_core.specs.Table.{command_of, reply, after}
-use Rattle.vault_core.specs.Vault.{Vault, merchant_at, entry_at, record_at, has_right}
+use Rattle.vault_core.specs.Vault.{Vault, merchant_at, entry_at, record_at, entitled}
 use Rattle.vault_core.specs.declared.command.Command.{Command}
 use Rattle.vault_core.specs.declared.command.TokenRequest.{TokenRequest}
 use Rattle.vault_core.specs.declared.reply.Reply.{Reply}
 use Rattle.vault_core.specs.declared.reply.Reply.TheVariants.{Refused}
 use Rattle.vault_core.specs.declared.right.Right.{Right}
 
--- two vaults have the same rows of a merchant: its own, its entries and the rights there
+-- two vaults have the same rows of a merchant: its own, its entries and whoever is entitled there
 pub record AgreeAt (m : Bytes) (V W : Vault) : Type 0 where
   pub merchant : merchant_at V m ≡ merchant_at W m
   pub entries : (token : Bytes) → entry_at V m token ≡ entry_at W m token
-  pub rights : (caller : Bytes) (right : Right) → has_right V caller m right ≡ has_right W caller m right
+  pub rights : (caller : Bytes) (right : Right) (at : ℕ)
+      → entitled V caller m right at ≡ entitled W caller m right at
 
 -- two vaults have the same records of a caller
 abbrev pub AgreeFor : Bytes → Vault → Vault → Type 0
@@ -29,8 +30,9 @@ pub record TouchesOnly (caller m : Bytes) (V W : Vault) : Type 0 where
   pub others : (other : Bytes) → other ≢ m → AgreeAt other V W
   pub records : (other : Bytes) → other ≢ caller → AgreeFor other V W
 
--- Where two vaults, sound or not, agree on a merchant's rows and on a caller's records, a command of that caller
--- at that merchant is answered the same in both, they agree on both afterwards, and nothing else changes.
+-- Where two vaults, sound or not, agree on a merchant's rows and on a caller's records, a command of that
+-- caller at that merchant is answered the same in both, they agree on both afterwards, and nothing else
+-- changes.
 abbrev pub StepsAreIsolated : Type 0
 StepsAreIsolated =
     (V W : Vault) (c : Command) (caller : Bytes) → caller_of c ≡ Some caller

@@ -3,8 +3,8 @@ use Rattle.std.specs.Prelude.{ℕ, List}
 use Rattle.std.specs.Ordering.{nat_cmp, ordering_then}
 use Rattle.std.specs.Cmp.Lexicographic.{slice_cmp}
 use Rattle.std.specs.declared.cmp.Ordering.{Ordering}
+use Rattle.vault_core.specs.Numbers.{right_number}
 use Rattle.vault_core.specs.declared.right.Right.{Right}
-use Rattle.vault_core.specs.declared.right.Right.TheVariants.{Tokenize, Detokenize, View, Revoke, Purge, Audit}
 
 -- bytes
 abbrev pub Bytes : Type 0
@@ -21,15 +21,6 @@ entry_cmp a b = ordering_then (bytes_cmp a.0 b.0) (bytes_cmp a.1 b.1)
 -- records by caller and request number
 abbrev pub record_cmp : Bytes × ℕ → Bytes × ℕ → Ordering
 record_cmp a b = ordering_then (bytes_cmp a.0 b.0) (nat_cmp a.1 b.1)
-
--- the number of a right
-abbrev pub right_number : Right → ℕ
-right_number Tokenize = 1
-right_number Detokenize = 2
-right_number View = 3
-right_number Revoke = 4
-right_number Purge = 5
-right_number Audit = 6
 
 -- rights by caller, merchant and number
 abbrev pub right_cmp : Bytes × (Bytes × Right) → Bytes × (Bytes × Right) → Ordering

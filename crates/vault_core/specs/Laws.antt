@@ -3,7 +3,7 @@ use Rattle.std.specs.Prelude.{◌≡◌, ℕ, List, Option, Some, None, is_some,
 use Rattle.vault_pan.specs.Luhn.{passes_check}
 use Rattle.vault_core.specs.Keys.{Bytes}
 use Rattle.vault_core.specs.Proper.{IsProper, AllProper}
-use Rattle.vault_core.specs.Runs.{run}
+use Rattle.vault_core.specs.Runs.{run, LeavesOut}
 use Rattle.vault_core.specs.Sound.{Sound}
 use Rattle.vault_core.specs.Table.{command_of, reply, after}
 use Rattle.vault_core.specs.Vault.{Vault, entry_at}
@@ -23,21 +23,21 @@ TokensFail =
     → (m token : Bytes) → is_some (entry_at (run cs V) m token) ≡ true → passes_check token ≡ false
 
 -- this number, or none
-abbrev pub IsOrErased : Bytes → Option Bytes → Type 0
-IsOrErased number None = Unit {0}
-IsOrErased number (Some other) = other ≡ number
+abbrev pub IsOrPurged : Bytes → Option Bytes → Type 0
+IsOrPurged number None = Unit {0}
+IsOrPurged number (Some other) = other ≡ number
 
 -- an entry that is found has this number, or none
-abbrev pub HasOrErased : Bytes → Option Entry → Type 0
-HasOrErased number found = (entry : Entry) × (found ≡ Some entry) × IsOrErased number entry.number
+abbrev pub HasOrPurged : Bytes → Option Entry → Type 0
+HasOrPurged number found = (entry : Entry) × (found ≡ Some entry) × IsOrPurged number entry.number
 
 -- no two card numbers ever share a merchant's token: an entry that once had a number has it, or is
--- erased, at every later place
+-- purged, at every later place
 abbrev pub NumbersNeverShare : Type 0
 NumbersNeverShare =
     (V : Vault) (cs : List Command) → Sound V → AllProper cs
     → (m token number : Bytes) (entry : Entry) → entry_at V m token ≡ Some entry → entry.number ≡ Some number
-    → HasOrErased number (entry_at (run cs V) m token)
+    → HasOrPurged number (entry_at (run cs V) m token)
 
 -- the request comes again: all but the digits and the moment are the same
 pub record IsSameRequest (first again : TokenRequest) : Type 0 where
@@ -56,3 +56,8 @@ RepeatsAnswerFirst =
     → IsSameRequest first again
     → reply V (command_of first) ≡ Token token expires
     → reply (run between (after V (command_of first))) (command_of again) ≡ Token token expires
+
+-- leaving out commands that aren't accepted leaves the last vault as it is
+abbrev pub UnacceptedCanBeLeftOut : Type 0
+UnacceptedCanBeLeftOut =
+    (V : Vault) (cs fewer : List Command) → LeavesOut cs fewer V → run fewer V ≡ run cs V

@@ -1,4 +1,5 @@
 pub mod Changes
+pub mod Dead
 pub mod Draw
 pub mod Isolation
 pub mod Keys
@@ -6,6 +7,7 @@ pub mod Laws
 pub mod Merchants
 pub mod Name
 pub mod Named
+pub mod Numbers
 pub mod Outcome
 pub mod Proper
 pub mod Redeem

@@ -3,19 +3,17 @@ use Rattle.std.specs.Prelude.{ℕ, Option, Some, None, nat_lt, if◌then◌else�
 use Rattle.std.specs.FinMap as map
 use Rattle.std.specs.FinSet as set
 use Rattle.vault_core.specs.Keys.{Bytes}
-use Rattle.vault_core.specs.Outcome.{Outcome, refused, of_merchant, moved}
+use Rattle.vault_core.specs.Outcome.{Outcome, plain_refusal, of_merchant, moved_vault}
 use Rattle.vault_core.specs.Vault.{Vault, Merchant, merchant_at, time_at}
 use Rattle.vault_core.specs.Refusals.{too_many_merchants}
+use Rattle.vault_core.specs.declared.limit.TheConstants.{MOST_MERCHANTS}
 use Rattle.vault_core.specs.declared.reply.Reply.TheVariants.{Done}
 use Rattle.vault_core.specs.declared.right.Right.{Right}
 
--- the most merchants of a vault
-abbrev pub most_merchants : ℕ
-most_merchants = 10000
-
 -- done, with the merchant set to this
 abbrev pub set_to : Vault → Bytes → Merchant → Outcome
-set_to V m merchant = record { reply = Done; after = record V { merchants = map.insert V.merchants m merchant } }
+set_to V m merchant =
+    record { reply = Done; after = record V { merchants = map.insert V.merchants m merchant } }
 
 -- a new merchant, whose moment is the one handed in
 abbrev pub new_merchant : ℕ → ℕ → ℕ → Merchant
@@ -27,32 +25,32 @@ abbrev pub set_from : Vault → Bytes → ℕ → ℕ → ℕ → Option Merchan
 set_from V m single multi now (Some old) =
     set_to V m (record old { single_life = single; multi_life = multi; moment = time_at old now })
 set_from V m single multi now None =
-    if nat_lt (map.len V.merchants) most_merchants
+    if nat_lt (map.len V.merchants) MOST_MERCHANTS
     then set_to V m (new_merchant single multi now)
-    else refused V too_many_merchants
+    else plain_refusal V too_many_merchants
 
 -- a merchant is set
 abbrev pub set_merchant : Vault → Bytes → ℕ → ℕ → ℕ → Outcome
 set_merchant V m single multi now = set_from V m single multi now (merchant_at V m)
 
 -- done, with the right given
-abbrev pub granted : Vault → Bytes → Bytes → Right → ℕ → Merchant → Outcome
-granted V caller m right now merchant = record {
+abbrev pub granting : Vault → Bytes → Bytes → Right → ℕ → Merchant → Outcome
+granting V caller m right now merchant = record {
   reply = Done;
-  after = record (moved V m merchant now) { rights = set.insert V.rights (caller, (m, right)) };
+  after = record (moved_vault V m merchant now) { rights = set.insert V.rights (caller, (m, right)) };
 }
 
 -- a right is given, also where it was there before
 abbrev pub grant : Vault → Bytes → Bytes → Right → ℕ → Outcome
-grant V caller m right now = of_merchant V m (granted V caller m right now)
+grant V caller m right now = of_merchant V m (granting V caller m right now)
 
 -- done, with the right taken away
-abbrev pub withdrawn : Vault → Bytes → Bytes → Right → ℕ → Merchant → Outcome
-withdrawn V caller m right now merchant = record {
+abbrev pub withdrawal : Vault → Bytes → Bytes → Right → ℕ → Merchant → Outcome
+withdrawal V caller m right now merchant = record {
   reply = Done;
-  after = record (moved V m merchant now) { rights = set.remove V.rights (caller, (m, right)) };
+  after = record (moved_vault V m merchant now) { rights = set.remove V.rights (caller, (m, right)) };
 }
 
 -- a right is taken away, also where it wasn't there before
 abbrev pub withdraw : Vault → Bytes → Bytes → Right → ℕ → Outcome
-withdraw V caller m right now = of_merchant V m (withdrawn V caller m right now)
+withdraw V caller m right now = of_merchant V m (withdrawal V caller m right now)

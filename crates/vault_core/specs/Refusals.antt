@@ -41,7 +41,7 @@ no_candidate = 12
 abbrev pub no_token : ℕ
 no_token = 13
 
--- the number of the token is erased
+-- the number of the token is purged
 abbrev pub token_purged : ℕ
 token_purged = 14
 
@@ -52,6 +52,10 @@ token_revoked = 15
 -- the token has expired
 abbrev pub token_expired : ℕ
 token_expired = 16
+
+-- the token is live
+abbrev pub still_live : ℕ
+still_live = 17
 
 -- there are as many merchants as there may be
 abbrev pub too_many_merchants : ℕ

@@ -3,20 +3,19 @@ use Rattle.std.specs.Prelude.{◌≡◌, ℕ, ◌+◌, ◌<◌, ◌≤◌, ◌�
 use Rattle.std.specs.FinMap as map
 use Rattle.vault_pan.specs.CardText.{IsPan, IsToken, fits}
 use Rattle.vault_core.specs.Keys.{Bytes}
-use Rattle.vault_core.specs.Merchants.{most_merchants}
 use Rattle.vault_core.specs.Name.{IsName}
-use Rattle.vault_core.specs.Redeem.{most_count}
 use Rattle.vault_core.specs.Repeats.{is_reusable}
 use Rattle.vault_core.specs.Scalar.{IsMoment, IsLife, IsRequest}
-use Rattle.vault_core.specs.Tokens.{most_tokens}
-use Rattle.vault_core.specs.Vault.{Vault, Merchant, merchant_at, entry_at, record_at, has_right, made}
+use Rattle.vault_core.specs.Vault.{Vault, Merchant, merchant_at, entry_at, record_at, has_right, made_count}
+use Rattle.vault_core.specs.declared.limit.TheConstants.{MOST_MERCHANTS, MOST_TOKENS, MOST_COUNT}
+use Rattle.vault_core.specs.declared.limit.TheConstants.{LONGEST_LIFE}
 use Rattle.vault_core.specs.declared.right.Right.{Right}
 use Rattle.vault_core.specs.declared.row.Entry.{Entry}
 use Rattle.vault_core.specs.declared.row.Record.{Record}
 
 -- a count of numbers given or denied
 abbrev pub IsCount : ℕ → Type 0
-IsCount n = n ≤ most_count
+IsCount n = n ≤ MOST_COUNT
 
 -- a merchant's name is a name; its lives, its moment and its counts are within their limits
 pub record IsSoundMerchant (m : Bytes) (merchant : Merchant) : Type 0 where
@@ -43,7 +42,7 @@ pub record IsSoundEntry (token : Bytes) (entry : Entry) (merchant : Merchant) : 
   pub number : IsNumber token entry merchant.moment entry.number
   pub birth : entry.birth ≤ merchant.moment
   pub lives : entry.birth < entry.expires
-  pub life : entry.expires ≤ entry.birth + 3155760000
+  pub life : entry.expires ≤ entry.birth + LONGEST_LIFE
   pub revoked : IsRevocation entry merchant.moment entry.revoked
 
 -- the entry of a record is there, with the record's use
@@ -52,10 +51,10 @@ IsEntryOf r found = (entry : Entry) × (found ≡ Some entry) × (entry.usage �
 
 -- what holds of a vault: of one merchant and number at most one multi-use token is live
 pub record Sound (V : Vault) : Type 0 where
-  pub few : map.len V.merchants ≤ most_merchants
+  pub few : map.len V.merchants ≤ MOST_MERCHANTS
   pub merchants : (m : Bytes) (merchant : Merchant)
       → merchant_at V m ≡ Some merchant → IsSoundMerchant m merchant
-  pub made_few : (m : Bytes) → made V m ≤ most_tokens
+  pub made_few : (m : Bytes) → made_count V m ≤ MOST_TOKENS
   pub entries : (m token : Bytes) (entry : Entry) → entry_at V m token ≡ Some entry
       → (merchant : Merchant) × (merchant_at V m ≡ Some merchant) × IsSoundEntry token entry merchant
   pub alone : (m pan token other : Bytes) (entry entry' : Entry) (merchant : Merchant)

@@ -2,22 +2,33 @@
 use Rattle.std.specs.Prelude.{ℕ, Option, Some, None}
 use Rattle.vault_core.specs.Keys.{Bytes}
 use Rattle.vault_core.specs.Merchants.{set_merchant, grant, withdraw}
+use Rattle.vault_core.specs.Named.{token_command}
 use Rattle.vault_core.specs.Outcome.{Outcome}
 use Rattle.vault_core.specs.Redeem.{detokenize}
-use Rattle.vault_core.specs.Retire.{revoke}
+use Rattle.vault_core.specs.Retire.{revoke, purge}
 use Rattle.vault_core.specs.Show.{view, audit}
 use Rattle.vault_core.specs.Tokens.{tokenize}
 use Rattle.vault_core.specs.Vault.{Vault}
 use Rattle.vault_core.specs.declared.command.Command.{Command}
-use Rattle.vault_core.specs.declared.command.Command.TheVariants.{SetMerchant, Grant, Withdraw, Tokenize, Detokenize, View, Revoke, Audit}
+use Rattle.vault_core.specs.declared.command.Command.TheVariants.{SetMerchant, Grant, Withdraw, Tokenize}
+use Rattle.vault_core.specs.declared.command.Command.TheVariants.{Detokenize, View, Revoke, Purge, Audit}
 use Rattle.vault_core.specs.declared.command.TokenRequest.{TokenRequest}
 use Rattle.vault_core.specs.declared.reply.Reply.{Reply}
+use Rattle.vault_core.specs.declared.right.Right.TheVariants as right
 use Rattle.vault_core.specs.declared.usage.Use.{Use}
 
 -- the parts of a Tokenize
 abbrev pub token_request : Bytes → Bytes → ℕ → Use → Bytes → Bytes → ℕ → TokenRequest
 token_request caller m request usage pan digits now =
-    record { caller = caller; merchant = m; request = request; usage = usage; pan = pan; digits = digits; moment = now }
+    record {
+      caller = caller;
+      merchant = m;
+      request = request;
+      usage = usage;
+      pan = pan;
+      digits = digits;
+      moment = now;
+    }
 
 -- the command of a request for a token
 abbrev pub command_of : TokenRequest → Command
@@ -25,15 +36,9 @@ command_of a = Tokenize a.caller a.merchant a.request a.usage a.pan a.digits a.m
 
 -- the request that a command is, where it asks for a token
 abbrev pub request_in : Command → Option TokenRequest
-request_in (SetMerchant m single multi now) = None
-request_in (Grant caller m right now) = None
-request_in (Withdraw caller m right now) = None
 request_in (Tokenize caller m request usage pan digits now) =
     Some (token_request caller m request usage pan digits now)
-request_in (Detokenize caller m token now) = None
-request_in (View caller m token now) = None
-request_in (Revoke caller m token now) = None
-request_in (Audit caller m now) = None
+request_in c = None
 
 -- the first case that applies
 abbrev pub outcome : Vault → Command → Outcome
@@ -42,10 +47,11 @@ outcome V (Grant caller m right now) = grant V caller m right now
 outcome V (Withdraw caller m right now) = withdraw V caller m right now
 outcome V (Tokenize caller m request usage pan digits now) =
     tokenize V (token_request caller m request usage pan digits now)
-outcome V (Detokenize caller m token now) = detokenize V caller m token now
-outcome V (View caller m token now) = view V caller m token now
-outcome V (Revoke caller m token now) = revoke V caller m token now
-outcome V (Audit caller m now) = audit V caller m
+outcome V (Detokenize caller m token now) = detokenize V (token_command caller m token right.Detokenize now)
+outcome V (View caller m token now) = view V (token_command caller m token right.View now)
+outcome V (Revoke caller m token now) = revoke V (token_command caller m token right.Revoke now)
+outcome V (Purge caller m token now) = purge V (token_command caller m token right.Purge now)
+outcome V (Audit caller m now) = audit V caller m now
 
 -- what a command is answered
 abbrev pub reply : Vault → Command → Reply

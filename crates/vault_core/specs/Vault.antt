@@ -1,11 +1,16 @@
 -- A vault: four finite maps.
-use Rattle.std.specs.Prelude.{ℕ, ◌&&◌, Bool, Option, max, is_none, is_some, nat_lt}
+use Rattle.std.specs.Prelude.{ℕ, ◌&&◌, Bool, Option, max, is_none, is_some, nat_lt, if◌then◌else◌}
+use Rattle.std.specs.Option.{option_map_or}
 use Rattle.std.specs.FinMap as map
 use Rattle.std.specs.FinSet as set
 use Rattle.std.specs.Ordering.{eq_by_cmp}
 use Rattle.vault_core.specs.Keys.{Bytes, bytes_cmp, entry_cmp, record_cmp, right_cmp}
+use Rattle.vault_core.specs.declared.reply.State.{State}
+use Rattle.vault_core.specs.declared.reply.State.TheVariants.{Live, Expired, Revoked}
 use Rattle.vault_core.specs.declared.right.Right.{Right}
 use Rattle.vault_core.specs.declared.row.Entry.{Entry}
+use Rattle.vault_core.specs.declared.row.EntryState.{EntryState}
+use Rattle.vault_core.specs.declared.row.EntryState.TheVariants.{Kept, Purged}
 use Rattle.vault_core.specs.declared.row.Record.{Record}
 use Rattle.vault_core.specs.declared.usage.Use.{Use}
 use Rattle.vault_core.specs.declared.usage.Use.TheVariants.{Single, Multi}
@@ -46,13 +51,17 @@ record_at V caller request = map.get V.records (caller, request)
 abbrev pub has_right : Vault → Bytes → Bytes → Right → Bool
 has_right V caller m right = set.contains V.rights (caller, (m, right))
 
+-- whether a caller is entitled at a moment to what a right allows at a merchant: a right has no end
+abbrev pub entitled : Vault → Bytes → Bytes → Right → ℕ → Bool
+entitled V caller m right at = has_right V caller m right
+
 -- the entries of one merchant
 abbrev pub entries_of : Vault → Bytes → map.FinMap entry_cmp Entry
 entries_of V m = map.retain_keys V.entries (λ key. eq_by_cmp bytes_cmp m key.0)
 
 -- how many tokens a merchant has, counted afresh
-abbrev pub made : Vault → Bytes → ℕ
-made V m = map.len (entries_of V m)
+abbrev pub made_count : Vault → Bytes → ℕ
+made_count V m = map.len (entries_of V m)
 
 -- the moment of a command: the merchant's, unless the one handed in is later
 abbrev pub time_at : Merchant → ℕ → ℕ
@@ -63,6 +72,17 @@ abbrev pub life_for : Use → ℕ → ℕ → ℕ
 life_for Single single multi = single
 life_for Multi single multi = multi
 
--- an entry that is neither erased nor revoked nor expired
+-- an entry that is neither purged nor revoked nor expired
 abbrev pub is_live : Entry → ℕ → Bool
 is_live entry at = is_some entry.number && is_none entry.revoked && nat_lt at entry.expires
+
+-- the state of an entry that has its number: live, else revoked, else expired
+abbrev pub kept_state : Entry → ℕ → State
+kept_state entry at =
+    if is_live entry at then Live
+    else if is_some entry.revoked then Revoked
+    else Expired
+
+-- the state of an entry at a moment
+abbrev pub state_of : Entry → ℕ → EntryState
+state_of entry at = option_map_or (λ number. Kept number (kept_state entry at)) entry.number Purged

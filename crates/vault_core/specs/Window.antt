@@ -1,17 +1,20 @@
 -- The rows that a command needs.
-use Rattle.std.specs.Prelude.{◌≡◌, ℕ, Option, Some, None, false, option_map}
+use Rattle.std.specs.Prelude.{◌≡◌, ℕ, Option, Some, None, IfSome, false, option_map}
 use Rattle.std.specs.Option.{option_map_or}
 use Rattle.std.specs.FinMap as map
-use Rattle.vault_core.specs.Draw.{chosen}
+use Rattle.vault_core.specs.Draw.{chosen_token}
 use Rattle.vault_core.specs.Keys.{Bytes}
-use Rattle.vault_core.specs.Repeats.{recorded, current, reusable}
+use Rattle.vault_core.specs.Named.{token_command_in}
+use Rattle.vault_core.specs.Repeats.{record_with_entry, current, reusable}
 use Rattle.vault_core.specs.Scalar.{IsLife}
 use Rattle.vault_core.specs.Table.{token_request}
-use Rattle.vault_core.specs.Vault.{Vault, Merchant, merchant_at, entry_at, has_right, made, time_at, life_for}
+use Rattle.vault_core.specs.Vault.{Vault, Merchant, merchant_at, entry_at, entitled, made_count, time_at}
+use Rattle.vault_core.specs.Vault.{life_for}
 use Rattle.vault_core.specs.declared.command.Command.{Command}
-use Rattle.vault_core.specs.declared.command.Command.TheVariants.{SetMerchant, Grant, Withdraw, Tokenize, Detokenize, View, Revoke, Audit}
+use Rattle.vault_core.specs.declared.command.Command.TheVariants.{SetMerchant, Grant, Withdraw, Tokenize}
+use Rattle.vault_core.specs.declared.command.Command.TheVariants.{Audit}
+use Rattle.vault_core.specs.declared.command.TokenCommand.{TokenCommand}
 use Rattle.vault_core.specs.declared.command.TokenRequest.{TokenRequest}
-use Rattle.vault_core.specs.declared.right.Right.{Right}
 use Rattle.vault_core.specs.declared.right.Right.TheVariants as right
 use Rattle.vault_core.specs.declared.row.MerchantRow.{MerchantRow}
 use Rattle.vault_core.specs.declared.window.Window.{Window}
@@ -22,7 +25,7 @@ row_of V m merchant = record {
   single_life = merchant.single_life;
   multi_life = merchant.multi_life;
   moment = merchant.moment;
-  made = made V m;
+  made = made_count V m;
   given = merchant.given;
   denied = merchant.denied;
 }
@@ -38,18 +41,19 @@ moment_at V m now = option_map_or (λ merchant. time_at merchant now) (merchant_
 -- what the vault holds at the places that a Tokenize needs
 pub record ShowsRequest (V : Vault) (a : TokenRequest) (w : Window) : Type 0 where
   pub merchant : w.merchant ≡ row_at V a.merchant
-  pub right : w.right ≡ has_right V a.caller a.merchant right.Tokenize
-  pub before : w.recorded ≡ recorded V a.caller a.request
+  pub right : w.right ≡ entitled V a.caller a.merchant right.Tokenize (moment_at V a.merchant a.moment)
+  pub before : w.recorded ≡ record_with_entry V a.caller a.request
   pub held : w.current ≡ reusable a.usage (current V a.merchant a.pan (moment_at V a.merchant a.moment))
-  pub candidate : w.candidate ≡ chosen V a.merchant a.pan a.digits
+  pub candidate : w.candidate ≡ chosen_token V a.merchant a.pan a.digits
 
--- what the vault holds at the places that a command needs which names a token
-pub record ShowsToken (V : Vault) (caller m token : Bytes) (needed : Right) (w : Window) : Type 0 where
-  pub merchant : w.merchant ≡ row_at V m
-  pub right : w.right ≡ has_right V caller m needed
-  pub named : w.named ≡ entry_at V m token
+-- what the vault holds at the places that a command on a token needs
+pub record ShowsToken (V : Vault) (t : TokenCommand) (w : Window) : Type 0 where
+  pub merchant : w.merchant ≡ row_at V t.merchant
+  pub right : w.right ≡ entitled V t.caller t.merchant t.right (moment_at V t.merchant t.moment)
+  pub named : w.named ≡ entry_at V t.merchant t.token
 
--- the window shows what the vault holds at the places that the command needs
+-- the window shows what the vault holds at the places that the command needs; the last row is that of the
+-- commands on a token
 abbrev pub IsWindow : Vault → Command → Window → Type 0
 IsWindow V (SetMerchant m single multi now) w =
     (w.merchant ≡ row_at V m) × (w.merchants ≡ map.len V.merchants)
@@ -57,24 +61,32 @@ IsWindow V (Grant caller m right now) w = w.merchant ≡ row_at V m
 IsWindow V (Withdraw caller m right now) w = w.merchant ≡ row_at V m
 IsWindow V (Tokenize caller m request usage pan digits now) w =
     ShowsRequest V (token_request caller m request usage pan digits now) w
-IsWindow V (Detokenize caller m token now) w = ShowsToken V caller m token right.Detokenize w
-IsWindow V (View caller m token now) w = ShowsToken V caller m token right.View w
-IsWindow V (Revoke caller m token now) w = ShowsToken V caller m token right.Revoke w
-IsWindow V (Audit caller m now) w = (w.merchant ≡ row_at V m) × (w.right ≡ has_right V caller m right.Audit)
+IsWindow V (Audit caller m now) w =
+    (w.merchant ≡ row_at V m) × (w.right ≡ entitled V caller m right.Audit (moment_at V m now))
+IsWindow V c w = IfSome (token_command_in c) (λ t. ShowsToken V t w)
 
 -- nothing is shown
 abbrev pub empty_window : Window
 empty_window =
-    record { merchant = None; merchants = 0; right = false; recorded = None; current = None; candidate = None; named = None }
+    record {
+      merchant = None;
+      merchants = 0;
+      right = false;
+      recorded = None;
+      current = None;
+      candidate = None;
+      named = None;
+    }
 
 -- the window of a Tokenize shows a merchant that is known
-pub record ShowsMerchant (V : Vault) (a : TokenRequest) (known : Merchant) (w : Window) (row : MerchantRow) : Type 0 where
+pub record ShowsMerchant (V : Vault) (a : TokenRequest) (known : Merchant) (w : Window)
+    (row : MerchantRow) : Type 0 where
   pub known_as : merchant_at V a.merchant ≡ Some known
   pub single : row.single_life ≡ known.single_life
   pub multi : row.multi_life ≡ known.multi_life
   pub moment : row.moment ≡ known.moment
-  pub made_is : row.made ≡ made V a.merchant
-  pub right : w.right ≡ has_right V a.caller a.merchant right.Tokenize
+  pub made_is : row.made ≡ made_count V a.merchant
+  pub right : w.right ≡ entitled V a.caller a.merchant right.Tokenize (time_at known a.moment)
   pub held : w.current ≡ reusable a.usage (current V a.merchant a.pan (time_at known a.moment))
   pub life : IsLife (life_for a.usage known.single_life known.multi_life)
-  pub candidate : w.candidate ≡ chosen V a.merchant a.pan a.digits
+  pub candidate : w.candidate ≡ chosen_token V a.merchant a.pan a.digits

@@ -3,7 +3,8 @@ use Rattle.std.specs.Prelude.{ℕ, List, codes}
 use Rattle.vault_core.specs.declared.reply.State.{State}
 use Rattle.vault_core.specs.declared.reply.State.TheVariants as state
 use Rattle.vault_core.specs.declared.right.Right.{Right}
-use Rattle.vault_core.specs.declared.right.Right.TheVariants.{Tokenize, Detokenize, View, Revoke, Purge, Audit}
+use Rattle.vault_core.specs.declared.right.Right.TheVariants.{Tokenize, Detokenize, View, Revoke, Purge}
+use Rattle.vault_core.specs.declared.right.Right.TheVariants.{Audit}
 use Rattle.vault_core.specs.declared.usage.Use.{Use}
 use Rattle.vault_core.specs.declared.usage.Use.TheVariants.{Single, Multi}
 

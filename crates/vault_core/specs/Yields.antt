@@ -5,12 +5,12 @@ use Rattle.vault_pan.specs.CardText.{same}
 use Rattle.vault_core.specs.Keys.{Bytes}
 use Rattle.vault_core.specs.Named.{merchant_of, is_denial}
 use Rattle.vault_core.specs.Proper.{AllProper}
-use Rattle.vault_core.specs.Redeem.{most_count}
 use Rattle.vault_core.specs.Runs.{run}
 use Rattle.vault_core.specs.Sound.{Sound}
 use Rattle.vault_core.specs.Table.{reply, after}
-use Rattle.vault_core.specs.Vault.{Vault, merchant_at, entry_at, has_right, is_live}
+use Rattle.vault_core.specs.Vault.{Vault, merchant_at, entry_at, entitled, is_live}
 use Rattle.vault_core.specs.Window.{moment_at}
+use Rattle.vault_core.specs.declared.limit.TheConstants.{MOST_COUNT}
 use Rattle.vault_core.specs.declared.command.Command.{Command}
 use Rattle.vault_core.specs.declared.command.Command.TheVariants.{Detokenize as Redeem}
 use Rattle.vault_core.specs.declared.reply.Reply.{Reply}
@@ -26,16 +26,17 @@ given_by V m = option_map_or (λ merchant. merchant.given) (merchant_at V m) 0
 abbrev pub denied_by : Vault → Bytes → ℕ
 denied_by V m = option_map_or (λ merchant. merchant.denied) (merchant_at V m) 0
 
--- After any commands from a sound vault a Detokenize by a caller with the right, of a token that is live at the command's moment, is answered
--- the number that the token stands for, while the merchant's count of numbers given is below its limit
+-- After any commands from a sound vault a Detokenize by a caller that is entitled, of a token that is live at
+-- the command's moment, is answered the number that the token stands for, while the merchant's count of
+-- numbers given is below its limit
 abbrev pub LiveTokensYield : Type 0
 LiveTokensYield =
     (V : Vault) (cs : List Command) → Sound V → AllProper cs
     → (caller m token : Bytes) (now : ℕ) (entry : Entry)
-    → has_right (run cs V) caller m Detokenize ≡ true
+    → entitled (run cs V) caller m Detokenize (moment_at (run cs V) m now) ≡ true
     → entry_at (run cs V) m token ≡ Some entry
     → is_live entry (moment_at (run cs V) m now) ≡ true
-    → given_by (run cs V) m < most_count
+    → given_by (run cs V) m < MOST_COUNT
     → (number : Bytes) × (entry.number ≡ Some number)
     × (reply (run cs V) (Redeem caller m token now) ≡ Number number)
 

@@ -1,5 +1,6 @@
 //! The few rows of a vault that one command changes.
 ghost use Rattle.std.specs.Prelude.{◌≡◌, ◌↔◌, IsTrue};
+ghost use Rattle.vault_core.specs.Numbers.{count_number};
 
 use crate::moment::Moment;
 use crate::name::{Caller, MerchantId};
@@ -17,12 +18,21 @@ pub struct Lives {
     pub moment: Moment,
 }
 
-/// Which count of the merchant goes up by one.
+/// Which count of the merchant goes up by one. The numbers stand in the stored rows.
 #[derive(Clone, Copy, Debug, PartialEq, Eq)]
 pub enum Count {
-    Made,
+    Made = 1,
     Given,
     Denied,
+}
+
+impl Count {
+    /// Its number.
+    pub fn number(self) -> u8
+        ensures { result ≡ count_number self }
+    {
+        self as u8
+    }
 }
 
 /// What a command changes.

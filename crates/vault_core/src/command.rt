@@ -2,8 +2,10 @@
 ghost use Rattle.std.specs.Prelude.{IsTrue, ◌↔◌, ◌≡◌};
 ghost use Rattle.vault_core.specs.Name.{IsName};
 ghost use Rattle.vault_core.specs.Scalar.{IsMoment};
+ghost use Rattle.vault_core.specs.Named.{token_command_in};
 ghost use Rattle.vault_core.specs.Table.{request_in};
 
+use crate::limit::LONGEST_LIFE;
 use crate::moment::Moment;
 use crate::name::{Caller, MerchantId};
 use crate::request::RequestNo;
@@ -12,9 +14,6 @@ use crate::usage::Use;
 use vault_pan::draw::Digits;
 use vault_pan::pan::Pan;
 use vault_pan::token::Token;
-
-/// The longest life of a token, 100 years in seconds.
-pub const LONGEST_LIFE: u64 = 3155760000;
 
 /// What can be asked of a vault.
 #[derive(Clone, Copy, Debug)]
@@ -71,6 +70,13 @@ pub enum Command {
         token: Token,
         now: Moment,
     },
+    /// Purges a token's card number for good; the token stays taken.
+    Purge {
+        caller: Caller,
+        merchant: MerchantId,
+        token: Token,
+        now: Moment,
+    },
     /// Asks for a merchant's counts.
     Audit {
         caller: Caller,
@@ -88,6 +94,16 @@ pub struct TokenRequest {
     pub usage: Use,
     pub pan: Pan,
     pub digits: Digits,
+    pub moment: Moment,
+}
+
+/// The parts of a command on one token, with the right that it asks for.
+#[derive(Clone, Copy, Debug)]
+pub struct TokenCommand {
+    pub caller: Caller,
+    pub merchant: MerchantId,
+    pub token: Token,
+    pub right: Right,
     pub moment: Moment,
 }
 
@@ -141,26 +157,12 @@ impl Command {
                 let _digits = digits.values();
                 is_asked(caller, merchant, now)
             }
-            Command::Detokenize {
-                caller,
-                merchant,
-                token,
-                now,
-            }
-            | Command::View {
-                caller,
-                merchant,
-                token,
-                now,
-            }
-            | Command::Revoke {
-                caller,
-                merchant,
-                token,
-                now,
-            } => {
-                let _token = token.digits();
-                is_asked(caller, merchant, now)
+            _ => {
+                let Some(asked) = self.token_command() else {
+                    unreachable!()
+                };
+                let _token = asked.token.digits();
+                is_asked(asked.caller, asked.merchant, asked.moment)
             }
         }
     }
@@ -189,6 +191,46 @@ impl Command {
             }),
             _ => None,
         }
+    }
+
+    /// The parts of a command on one token; nothing of every other command.
+    pub fn token_command(&self) -> Option<TokenCommand>
+        ensures { result ≡ token_command_in self.now }
+    {
+        let (caller, merchant, token, right, moment) = match *self {
+            Command::Detokenize {
+                caller,
+                merchant,
+                token,
+                now,
+            } => (caller, merchant, token, Right::Detokenize, now),
+            Command::View {
+                caller,
+                merchant,
+                token,
+                now,
+            } => (caller, merchant, token, Right::View, now),
+            Command::Revoke {
+                caller,
+                merchant,
+                token,
+                now,
+            } => (caller, merchant, token, Right::Revoke, now),
+            Command::Purge {
+                caller,
+                merchant,
+                token,
+                now,
+            } => (caller, merchant, token, Right::Purge, now),
+            _ => return None,
+        };
+        Some(TokenCommand {
+            caller,
+            merchant,
+            token,
+            right,
+            moment,
+        })
     }
 }
 

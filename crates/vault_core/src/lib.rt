@@ -5,6 +5,7 @@ pub mod changes;
 pub mod command;
 pub mod decide;
 pub mod laws;
+pub mod limit;
 pub mod moment;
 pub mod name;
 pub mod refusal;

@@ -3,11 +3,9 @@ ghost use Rattle.std.specs.Prelude.{◌≡◌, IsOk, IfOk, ◌↔◌, max};
 ghost use Rattle.vault_core.specs.Scalar.{IsMoment};
 ghost use Rattle.vault_core.specs.Refusals.{bad_moment};
 
+use crate::limit::LAST_MOMENT;
 use crate::refusal::BAD_MOMENT;
 use std::marker::Model;
-
-/// The last moment, the end of the year 9999.
-pub const LAST_MOMENT: u64 = 253402300799;
 
 /// Whole seconds since 1970. Contracts see their number.
 #[derive(Clone, Copy, Debug, PartialEq, Eq, PartialOrd, Ord)]

@@ -30,7 +30,7 @@ pub const NO_CANDIDATE: u8 = 12;
 /// The merchant has no such token.
 pub const NO_TOKEN: u8 = 13;
 
-/// The number of the token is erased.
+/// The number of the token is purged.
 pub const PURGED: u8 = 14;
 
 /// The token is revoked.

@@ -1,5 +1,6 @@
 //! The rights of callers.
 ghost use Rattle.std.specs.Prelude.{◌≡◌, IfSome, IfNone, codes};
+ghost use Rattle.vault_core.specs.Numbers.{right_number};
 ghost use Rattle.vault_core.specs.Words.{right_word};
 
 /// What a caller may do at a merchant. The numbers stand in the stored rows.
@@ -30,5 +31,12 @@ impl Right {
             b"audit" => Some(Right::Audit),
             _ => None,
         }
+    }
+
+    /// Its number.
+    pub fn number(self) -> u8
+        ensures { result ≡ right_number self }
+    {
+        self as u8
     }
 }

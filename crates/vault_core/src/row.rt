@@ -1,6 +1,10 @@
 //! The rows of a vault.
+ghost use Rattle.std.specs.Prelude.{◌≡◌};
+ghost use Rattle.vault_core.specs.Vault.{state_of};
+
 use crate::moment::Moment;
 use crate::name::MerchantId;
+use crate::reply::State;
 use crate::usage::Use;
 use vault_pan::pan::Pan;
 use vault_pan::token::Token;
@@ -22,13 +26,41 @@ pub struct MerchantRow {
 /// What a token stands for.
 #[derive(Clone, Copy, Debug, PartialEq, Eq)]
 pub struct Entry {
-    /// The card number, unless it is erased.
+    /// The card number, unless it is purged.
     pub number: Option<Pan>,
     pub usage: Use,
     pub birth: Moment,
     /// The first second, since 1970, at which the token isn't live.
     pub expires: u64,
     pub revoked: Option<Moment>,
+}
+
+/// What became of an entry by a moment.
+#[derive(Clone, Copy, Debug, PartialEq, Eq)]
+pub enum EntryState {
+    /// It has its number, and is live, revoked or expired.
+    Kept { number: Pan, state: State },
+    /// Its number is purged.
+    Purged,
+}
+
+impl Entry {
+    /// Its state at a moment.
+    pub fn state(&self, at: Moment) -> EntryState
+        ensures { result ≡ state_of self.now at }
+    {
+        let Some(number) = self.number else {
+            return EntryState::Purged;
+        };
+        let state = if self.revoked.is_some() {
+            State::Revoked
+        } else if at.seconds() < self.expires {
+            State::Live
+        } else {
+            State::Expired
+        };
+        EntryState::Kept { number, state }
+    }
 }
 
 /// What an accepted request was answered.

@@ -1,4 +1,5 @@
 //! Cases of this project's rules, worked out by hand.
+mod purge;
 mod redeem;
 
 use crate::changes::{Changes, Count};
@@ -85,7 +86,7 @@ fn open_window(rt: &impl Abort) -> Window {
     }
 }
 
-/// The record of the first request, whose token stands for a number or for an erased one.
+/// The record of the first request, whose token stands for a number or for a purged one.
 fn recorded(rt: &impl Abort, number: Option<Pan>) -> (Record, Entry) {
     let record = Record {
         merchant: merchant(rt, "shop1"),
@@ -169,12 +170,18 @@ fn the_last_moment_ends_the_year_9999(rt: HostRuntime) {
 }
 
 #[test]
-fn uses_and_rights_are_read_by_their_words(rt: HostRuntime) {
+fn uses_rights_and_counts_have_their_words_and_numbers(rt: HostRuntime) {
     assert_eq!(rt; Use::read(b"single"), Ok(Use::Single));
     assert_eq!(rt; Use::read(b"multi"), Ok(Use::Multi));
     assert_eq!(rt; Use::read(b"Single"), Err(BadUse));
     assert_eq!(rt; Use::Single.word(), "single");
     assert_eq!(rt; Use::Multi.word(), "multi");
+    for (usage, number) in [(Use::Single, 1), (Use::Multi, 2)] {
+        assert_eq!(rt; usage.number(), number);
+    }
+    for (count, number) in [(Count::Made, 1), (Count::Given, 2), (Count::Denied, 3)] {
+        assert_eq!(rt; count.number(), number);
+    }
     for (right, word, number) in [
         (Right::Tokenize, "tokenize", 1),
         (Right::Detokenize, "detokenize", 2),
@@ -184,7 +191,7 @@ fn uses_and_rights_are_read_by_their_words(rt: HostRuntime) {
         (Right::Audit, "audit", 6),
     ] {
         assert_eq!(rt; Right::read(word.as_bytes()), Some(right));
-        assert_eq!(rt; right as u8, number, "{word}");
+        assert_eq!(rt; right.number(), number, "{word}");
     }
     assert_eq!(rt; Right::read(b"grant"), None);
 }

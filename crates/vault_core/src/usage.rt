@@ -1,15 +1,16 @@
 //! The uses of tokens.
 ghost use Rattle.std.specs.Prelude.{◌≡◌, IfOk, OnErr, codes};
+ghost use Rattle.vault_core.specs.Numbers.{use_number};
 ghost use Rattle.vault_core.specs.Words.{use_word};
 ghost use Rattle.vault_core.specs.Refusals.{bad_use};
 
 use crate::refusal::BAD_USE;
 
-/// What a token stands for.
+/// What a token stands for. The numbers stand in the stored rows.
 #[derive(Clone, Copy, Debug, PartialEq, Eq)]
 pub enum Use {
     /// One transaction: each new request gets a new token.
-    Single,
+    Single = 1,
     /// One card number over several transactions.
     Multi,
 }
@@ -40,6 +41,13 @@ impl Use {
             b"multi" => Ok(Use::Multi),
             _ => Err(BadUse),
         }
+    }
+
+    /// Its number.
+    pub fn number(self) -> u8
+        ensures { result ≡ use_number self }
+    {
+        self as u8
     }
 
     /// Its word.

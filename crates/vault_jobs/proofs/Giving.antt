@@ -6,8 +6,8 @@ use Rattle.std.specs.Option.{option_map_or}
 use Rattle.std.proofs.lemmas.List.{length-map, map-append, replicate-append-replicate, take-map, take_more}
 use Rattle.vault_core.specs.Runs.{replies, run}
 use Rattle.vault_core.specs.Table.{after, reply}
-use Rattle.vault_core.specs.Merchants.{granted}
-use Rattle.vault_core.specs.Outcome.{refused}
+use Rattle.vault_core.specs.Merchants.{granting}
+use Rattle.vault_core.specs.Outcome.{plain_refusal}
 use Rattle.vault_core.specs.Refusals.{no_merchant}
 use Rattle.vault_core.specs.Vault.{Merchant, Vault as Content, merchant_at}
 use Rattle.vault_core.specs.declared.command.Command.{Command}
@@ -28,13 +28,13 @@ use Rattle.vault_jobs.specs.declared.change.Verdict.{Verdict}
 use Rattle.vault_jobs.specs.declared.change.Verdict.TheVariants.{Done, Refused}
 
 -- the replies to commands and to one more
-replies_more : (cs : List Command) (c : Command) (V : Content)
+pub replies_more : (cs : List Command) (c : Command) (V : Content)
     → replies (cs ++ c ∷ []) V ≡ replies cs V ++ reply (run cs V) c ∷ []
 replies_more [] c V = refl
 replies_more (d ∷ cs) c V = ap (λ rs. reply V d ∷ rs) (replies_more cs c (after V d))
 
 -- the vault after commands and one more
-run_more : (cs : List Command) (c : Command) (V : Content) → run (cs ++ c ∷ []) V ≡ after (run cs V) c
+pub run_more : (cs : List Command) (c : Command) (V : Content) → run (cs ++ c ∷ []) V ≡ after (run cs V) c
 run_more [] c V = refl
 run_more (d ∷ cs) c V = run_more cs c (after V d)
 
@@ -65,7 +65,7 @@ granted_or_refused caller m right now V =
     by_merchant (merchant_at V m) refl
   where
     answered : Option Merchant → Reply
-    answered found = (option_map_or (granted V caller m right now) found (refused V no_merchant)).reply
+    answered found = (option_map_or (granting V caller m right now) found (plain_refusal V no_merchant)).reply
 
     by_merchant : (found : Option Merchant) → merchant_at V m ≡ found
         → (v : Verdict) × (reply V (Grant caller m right now) ≡ reply_of v)

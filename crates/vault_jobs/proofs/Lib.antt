@@ -3,5 +3,7 @@ pub mod Carrying
 pub mod Flushing
 pub mod Giving
 pub mod Moments
+pub mod Purging
 pub mod Stops
+pub mod Sweeping
 pub mod Telling

@@ -5,6 +5,7 @@ pub mod Grants
 pub mod Moments
 pub mod Piped
 pub mod Streams
+pub mod Sweeps
 pub mod Tasks
 pub mod Told
 pub mod Trial

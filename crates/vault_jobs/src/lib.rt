@@ -10,6 +10,7 @@ pub mod listening;
 pub mod pipe;
 pub mod source;
 pub mod stop;
+pub mod sweep;
 pub mod task;
 pub mod told;
 pub mod trial;

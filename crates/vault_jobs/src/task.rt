@@ -8,7 +8,8 @@ ghost use Rattle.vault_jobs.specs.Carried.{IsKept, IsTorn};
 ghost use Rattle.vault_wire.specs.Watching.{inner_of, is_stopped};
 ghost use Rattle.vault_jobs.specs.Causes.{IsCauseOf};
 ghost use Rattle.vault_jobs.specs.Streams.{IsHeard, Streams, streams};
-ghost use Rattle.vault_jobs.specs.Tasks.{IsProper, Says, TaskEnds, granted_line};
+ghost use Rattle.vault_jobs.specs.Tasks.{EndsSweep, IsProper, Says, SweepEnds, TaskEnds};
+ghost use Rattle.vault_jobs.specs.Tasks.{granted_line};
 ghost use Rattle.vault_jobs.specs.declared.task.Task.{Task};
 
 use crate::answer::answer;
@@ -19,6 +20,7 @@ use crate::listening::serve_at;
 use crate::pipe::pipe;
 use crate::source::{row_source, source};
 use crate::stop::Stop;
+use crate::sweep::{Swept, sweep};
 use itoa::Buffer;
 use std::io::{Read, Write};
 use vault_batch::asker::Asker;
@@ -38,6 +40,8 @@ pub enum Task<'a> {
     Change(Command),
     /// Gives rights at a moment, to the first that is refused.
     Give(&'a [(Caller, MerchantId, Right)], Moment),
+    /// Purges the numbers of a merchant's dead tokens at a moment, until none is left or one is refused.
+    Sweep(Asker, Moment),
     /// Answers the rows of the input, with this moment and these digits, where they are fixed.
     Batch(Asker, Option<Moment>, Option<Digits>),
     /// Answers the messages of the input, with this moment and these digits, where they are fixed.
@@ -108,6 +112,36 @@ fn do_give<W: Write, T: Tables>(
             }
         }
         Ok(Verdict::Refused(number)) => Ok(Outcome::Refused(number)),
+        Err(fault) => Err(Stop::Vault(fault)),
+    }
+}
+
+/// Purges the numbers of dead tokens, and says how many.
+fn do_sweep<W: Write, T: Tables>(
+    vault: &mut Vault<T>,
+    asker: Asker,
+    now: Moment,
+    output: &mut Watched<W>,
+) -> Result<Outcome, Stop>
+    requires { is_broken vault.old ≡ false }
+    ensures swept { let w : Passage = vault_passing T.is_honest T.holds T.leaves vault.old vault.new in
+        SweepEnds asker now w (is_broken vault.new) result (output.new ≡ output.old)
+        (W.contents (inner_of output.old)) (W.contents (inner_of output.new)) (is_stopped output.new) }
+    ensures kept { let w : Passage = vault_passing T.is_honest T.holds T.leaves vault.old vault.new in
+        is_broken vault.new ≡ false → IsKept w }
+    ensures torn { let w : Passage = vault_passing T.is_honest T.holds T.leaves vault.old vault.new in
+        is_broken vault.new ≡ true → IsTorn w }
+    ensures broken { is_broken vault.new ≡ true → IsErr result }
+{
+    match sweep(vault, &asker, now) {
+        Ok(Swept::Purged(count)) => {
+            let mut digits = Buffer::new();
+            match answer(output, &["purged ", digits.format(count), "\n"]) {
+                Ok(()) => Ok(Outcome::Done),
+                Err(fault) => Err(Stop::Service(fault)),
+            }
+        }
+        Ok(Swept::Refused(number)) => Ok(Outcome::Refused(number)),
         Err(fault) => Err(Stop::Vault(fault)),
     }
 }
@@ -185,6 +219,9 @@ pub fn do_task<R: Read, W: Write, T: Tables>(
     ensures ends { let s : Streams =
         streams R.remaining input.old input.new W.contents output.old output.new in
         TaskEnds task.now result (input.new ≡ input.old) (output.new ≡ output.old) s }
+    ensures swept { let w : Passage = vault_passing T.is_honest T.holds T.leaves vault.old vault.new in
+        let s : Streams = streams R.remaining input.old input.new W.contents output.old output.new in
+        EndsSweep task.now w (is_broken vault.new) result (output.new ≡ output.old) s }
     ensures kept { let w : Passage = vault_passing T.is_honest T.holds T.leaves vault.old vault.new in
         is_broken vault.new ≡ false → IsKept w }
     ensures torn { let w : Passage = vault_passing T.is_honest T.holds T.leaves vault.old vault.new in
@@ -194,6 +231,7 @@ pub fn do_task<R: Read, W: Write, T: Tables>(
     match *task {
         Task::Change(ref command) => do_change(vault, command, output),
         Task::Give(rights, now) => do_give(vault, rights, now, output),
+        Task::Sweep(asker, now) => do_sweep(vault, asker, now, output),
         Task::Batch(asker, moment, digits) => {
             do_batch(rt, asker, moment, digits, vault, input, output)
         }

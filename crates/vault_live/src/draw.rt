@@ -3,14 +3,11 @@ ghost use Rattle.std.specs.Prelude.{◌≡◌};
 
 use rand::RngExt;
 use rand_core::Rng;
-use vault_pan::draw::Digits;
-
-/// How many digits a drawing has.
-const DRAWN: usize = 300;
+use vault_pan::draw::{DRAWN_DIGITS, Digits};
 
 /// Draws digits.
 pub fn drawn<G: Rng>(generator: &mut G) -> Digits {
-    let mut values = [0u8; DRAWN];
+    let mut values = [0u8; DRAWN_DIGITS];
     for value in &mut values {
         *value = generator.random_range(0..10u8);
     }

@@ -15,7 +15,7 @@ use Rattle.sqlite_rules.specs.Lists.{Has}
 use Rattle.sql_maps.proofs.HowMany.{as_many}
 use Rattle.vault_core.proofs.Maps.{entry_total, entry_exact}
 use Rattle.vault_core.specs.Keys.{Bytes, bytes_cmp}
-use Rattle.vault_core.specs.Vault.{Vault, Merchant, merchant_at, entry_at, made}
+use Rattle.vault_core.specs.Vault.{Vault, Merchant, merchant_at, entry_at, made_count}
 use Rattle.vault_core.specs.declared.row.Entry.{Entry}
 use Rattle.vault_recover.proofs.Backs.{both_ways, given_back, none_unless, some_unless}
 use Rattle.vault_recover.proofs.Table.{pair_of, row_at}
@@ -44,7 +44,7 @@ use Rattle.vault_sql.specs.Stands.{Stands, count_at, lives_in, unless_zero}
 -- which of a merchant's counts this is
 abbrev IsWhich : Vault → Bytes → ℕ → ℕ → Type 0
 IsWhich V m kind total =
-    (kind ≡ 1) × (total ≡ made V m)
+    (kind ≡ 1) × (total ≡ made_count V m)
     ⊎ (merchant : Merchant) × (merchant_at V m ≡ Some merchant)
     × ((kind ≡ 2) × (total ≡ merchant.given) ⊎ (kind ≡ 3) × (total ≡ merchant.denied))
 
@@ -98,11 +98,11 @@ module _ (db : Trees) (V : Vault) (stands : Stands db V) (rows : Rows) (raws : A
         counted = which V (string_bytes c.merchant) (natural c.kind) it.2;
       }
 
-  made_counted : (name : Bytes) → total_of rows.counts.items name (pos 1) ≡ pos (made V name)
-  made_counted name = elim (unless_zero (made V name))
-      as (λ o. unless_zero (made V name) ≡ o → total_of rows.counts.items name (pos 1) ≡ pos (made V name)) [
-        | None ↦ λ none. count_cases rows.counts.items name (pos 1) (λ z. z ≡ pos (made V name))
-            (ap pos (sym (none_unless (made V name) none)))
+  made_counted : (name : Bytes) → total_of rows.counts.items name (pos 1) ≡ pos (made_count V name)
+  made_counted name = elim (unless_zero (made_count V name))
+      as (λ o. unless_zero (made_count V name) ≡ o → total_of rows.counts.items name (pos 1) ≡ pos (made_count V name)) [
+        | None ↦ λ none. count_cases rows.counts.items name (pos 1) (λ z. z ≡ pos (made_count V name))
+            (ap pos (sym (none_unless (made_count V name) none)))
             (λ c at. (count_is c at.there).1
             ∙ (λ i. pos (count_at V (at.merchant_is i) (natural (at.kind_is i)))))
         | Some x ↦ λ some.
@@ -135,7 +135,7 @@ module _ (db : Trees) (V : Vault) (stands : Stands db V) (rows : Rows) (raws : A
       sym (λ i. entry_at V (row.0.merchant_is i) (row.0.token_is i)) ∙ it.1
       ∙ ap (λ v. Some v) (sym value ∙ row.1)))
 
-  held_made : (name : Bytes) → held_by rows.entries.items name ≡ made V name
+  held_made : (name : Bytes) → held_by rows.entries.items name ≡ made_count V name
   held_made name = sym (made_is rows apart name)
       ∙ (λ i. finite.len (finite.retain_keys (sym same_entries i) (λ key. eq_by_cmp bytes_cmp name key.0)))
 

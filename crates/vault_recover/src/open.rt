@@ -114,7 +114,7 @@ pub fn open<S: Alter>(
 {
     let mut conn = conn;
     match ready(alloc, &mut conn) {
-        Ok(()) => Ok(Vault::new(SqlTables::on(conn))),
+        Ok(()) => Ok(Vault::new(SqlTables::on(alloc, conn))),
         Err(fault) => Err((fault, conn)),
     }
 }

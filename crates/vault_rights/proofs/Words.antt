@@ -1,10 +1,13 @@
 -- The words of an array, and the rights that they say.
 use Rattle.std.proofs.Common.{◌≡◌, ◌↔◌, ◌<◌, ◌≤◌, ℕ, zero, suc, List, [], ◌∷◌, cond, ◌==◌, Some}
 use Rattle.std.proofs.Common.{Contains, get_or, length, map, take, refl, sym, ap, ◌∙◌, subst, arith}
+use Rattle.std.proofs.lemmas.Cmp.{nat_cmp_total}
+use Rattle.std.specs.Cmp.{tied_itself}
 use Rattle.toml.specs.Data.{Data, Items, Members, string, integer, float, boolean, datetime, array}
 use Rattle.toml.specs.Data.{table, get_item, as_array, as_table}
 use Rattle.toml.specs.View.{view, items_of}
-use Rattle.vault_core.specs.Keys.{right_number}
+use Rattle.vault_core.proofs.Maps.{right_exact}
+use Rattle.vault_core.specs.Numbers.{right_number}
 use Rattle.vault_core.specs.Words.{right_word}
 use Rattle.vault_core.specs.declared.right.Right.{Right}
 use Rattle.vault_core.specs.declared.right.Right.TheVariants.{Tokenize, Detokenize, View, Revoke, Purge}
@@ -61,21 +64,11 @@ back Audit = refl
 pub word-exact : (a b : Right) → right_word a ≡ right_word b → a ≡ b
 word-exact a b h = sym (back a) ∙ ap (λ w. right_of (get_or w 0 0)) h ∙ back b
 
-abbrev numbered : ℕ → Right
-numbered n = cond (n == 1) Tokenize (cond (n == 2) Detokenize (cond (n == 3) View (cond (n == 4) Revoke
-    (cond (n == 5) Purge Audit))))
-
-numbered-back : (r : Right) → numbered (right_number r) ≡ r
-numbered-back Tokenize = refl
-numbered-back Detokenize = refl
-numbered-back View = refl
-numbered-back Revoke = refl
-numbered-back Purge = refl
-numbered-back Audit = refl
-
 -- rights with one number are one
 pub number-exact : (a b : Right) → right_number a ≡ right_number b → a ≡ b
-number-exact a b h = sym (numbered-back a) ∙ ap numbered h ∙ numbered-back b
+number-exact a b h =
+    ap (λ (key : Bytes × (Bytes × Right)). key.1.1)
+    (right_exact ([], ([], a)) ([], ([], b)) (rw h (tied_itself nat_cmp_total (right_number b))))
 
 -- the numbers go from 1 to 6
 pub number-within : (r : Right) → (0 < right_number r) × (right_number r ≤ 6)

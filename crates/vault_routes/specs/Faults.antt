@@ -1,6 +1,7 @@
 -- Why a message gives no command.
 use Rattle.std.specs.Prelude.{◌≡◌, ℕ, ◌==◌, List, Option, Some, None, if◌then◌else◌}
-use Rattle.vault_pan.specs.Pan.{fault_number}
+use Rattle.vault_core.specs.Refusals.{bad_name, bad_request_number, bad_use}
+use Rattle.vault_pan.specs.Pan.{bad_token_number, fault_number}
 use Rattle.vault_routes.specs.Table.{methods_of}
 use Rattle.vault_routes.specs.declared.body.BodyFault.{BodyFault}
 use Rattle.vault_routes.specs.declared.body.BodyFault.TheVariants as body
@@ -14,10 +15,10 @@ number_of (fault.BadMethod place) = 57
 number_of fault.BadFields = 58
 number_of fault.BadBody = 59
 number_of (fault.Number e) = fault_number e
-number_of (fault.Token e) = 3
-number_of (fault.Name e) = 4
-number_of (fault.Request e) = 5
-number_of (fault.Use e) = 19
+number_of (fault.Token e) = bad_token_number
+number_of (fault.Name e) = bad_name
+number_of (fault.Request e) = bad_request_number
+number_of (fault.Use e) = bad_use
 number_of fault.Memory = 64
 
 -- the text of the answer's Allow field, where it has one

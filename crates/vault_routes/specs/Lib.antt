@@ -2,7 +2,6 @@ pub mod Body
 pub mod Faults
 pub mod Reply
 pub mod Route
-pub mod Rows
 pub mod Status
 pub mod Table
 pub mod Templates

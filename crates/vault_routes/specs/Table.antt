@@ -1,6 +1,6 @@
 -- The routes of the service: what stands at each place, and what the methods ask for there.
-use Rattle.std.specs.Prelude.{ℕ, List, [], ◌∷◌, ◌++◌, Bool, true, false, codes, Option, Some, None}
-use Rattle.std.specs.Prelude.{if◌then◌else◌}
+use Rattle.std.specs.Prelude.{ℕ, List, [], ◌∷◌, ◌++◌, Bool, true, false, codes, Option, option_map, find}
+use Rattle.std.specs.List.{join_by}
 use Rattle.std.specs.Str.{bytes_eq}
 use Rattle.vault_routes.specs.declared.table.Action.{Action}
 use Rattle.vault_routes.specs.declared.table.Action.TheVariants as action
@@ -14,11 +14,10 @@ pub data Part : Type 0 where
   merchant : Part
   token : Part
 
--- a row of the table: a template, and what GET and POST ask for, where its targets take them
+-- a row of the table: a template, and the methods that its targets take, each with what it asks for
 pub record Row : Type 0 where
   pub template : List Part
-  pub get : Option Action
-  pub post : Option Action
+  pub methods : List (List ℕ × Action)
 
 -- the beginning of each template
 abbrev pub at_merchant : List Part → List Part
@@ -31,23 +30,30 @@ at_token rest = at_merchant (text (codes "/tokens/") ∷ token ∷ rest)
 -- the table
 abbrev pub row_of : Place → Row
 row_of place.Tokens =
-    record { template = at_merchant (text (codes "/tokens") ∷ []); get = None; post = Some action.Tokenize }
+    record {
+      template = at_merchant (text (codes "/tokens") ∷ []);
+      methods = (codes "POST", action.Tokenize) ∷ [];
+    }
 row_of place.Token =
-    record { template = at_token []; get = Some (action.OnToken on.View); post = None }
+    record {
+      template = at_token [];
+      methods = (codes "GET", action.OnToken on.View) ∷ (codes "DELETE", action.OnToken on.Purge) ∷ [];
+    }
 row_of place.Number =
     record {
       template = at_token (text (codes "/number") ∷ []);
-      get = None;
-      post = Some (action.OnToken on.Detokenize);
+      methods = (codes "POST", action.OnToken on.Detokenize) ∷ [];
     }
 row_of place.Revoke =
     record {
       template = at_token (text (codes "/revoke") ∷ []);
-      get = None;
-      post = Some (action.OnToken on.Revoke);
+      methods = (codes "POST", action.OnToken on.Revoke) ∷ [];
     }
 row_of place.Audit =
-    record { template = at_merchant (text (codes "/audit") ∷ []); get = Some action.Audit; post = None }
+    record {
+      template = at_merchant (text (codes "/audit") ∷ []);
+      methods = (codes "GET", action.Audit) ∷ [];
+    }
 
 -- the text of a part, with a merchant's text and a token's for the parameters
 abbrev pub part_text : List ℕ → List ℕ → Part → List ℕ
@@ -71,23 +77,10 @@ has_token (text w ∷ ps) = has_token ps
 has_token (merchant ∷ ps) = has_token ps
 has_token (token ∷ ps) = true
 
--- the methods of a row as the text of an Allow field (RFC 9110, section 10.2.1)
-abbrev pub allow_text : Option Action → Option Action → List ℕ
-allow_text None None = []
-allow_text (Some got) None = codes "GET"
-allow_text None (Some posted) = codes "POST"
-allow_text (Some got) (Some posted) = codes "GET, POST"
-
--- the methods that the targets of a place take
+-- the methods that the targets of a place take, as the text of an Allow field (RFC 9110, section 10.2.1)
 abbrev pub methods_of : Place → List ℕ
-methods_of p = allow_text (row_of p).get (row_of p).post
+methods_of p = join_by (λ m. m.0) (codes ", ") (row_of p).methods
 
--- what a method asks for in a row; methods are told apart by case (RFC 9110, section 9.1)
-abbrev pub action_in : Row → List ℕ → Option Action
-action_in row method =
-    if bytes_eq method (codes "GET") then row.get else (
-    if bytes_eq method (codes "POST") then row.post else None)
-
--- what a method asks for at a place
+-- what a method asks for at a place; methods are told apart by case (RFC 9110, section 9.1)
 abbrev pub action_at : Place → List ℕ → Option Action
-action_at p method = action_in (row_of p) method
+action_at p method = option_map (λ m. m.1) (find (λ m. bytes_eq method m.0) (row_of p).methods)

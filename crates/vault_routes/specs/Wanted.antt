@@ -3,11 +3,14 @@ use Rattle.std.specs.Prelude.{◌≡◌, ◌≢◌, ℕ, ◌⊎◌, List, codes,
 use Rattle.std.specs.Str.Parse.{digits_value}
 use Rattle.vault_pan.specs.CardText.{IsCardText, IsNumber, IsToken, digits_of}
 use Rattle.vault_pan.specs.Luhn.{passes_check}
+use Rattle.vault_pan.specs.Pan.{bad_token_number}
 use Rattle.vault_core.specs.Name.{IsName}
+use Rattle.vault_core.specs.Refusals.{bad_name, bad_request_number, bad_use}
 use Rattle.vault_core.specs.Scalar.{IsRequestText}
 use Rattle.vault_core.specs.Words.{use_word}
 use Rattle.vault_core.specs.declared.command.Command.{Command}
-use Rattle.vault_core.specs.declared.command.Command.TheVariants.{Tokenize, Detokenize, View, Revoke, Audit}
+use Rattle.vault_core.specs.declared.command.Command.TheVariants.{Tokenize, Detokenize, View, Revoke}
+use Rattle.vault_core.specs.declared.command.Command.TheVariants.{Purge, Audit}
 use Rattle.vault_core.specs.declared.usage.Use.{Use}
 use Rattle.vault_wire.specs.Fields.{sole_value}
 use Rattle.vault_wire.specs.Parts.{Parts}
@@ -45,8 +48,8 @@ With {X} {Y} P n goes r =
 abbrev pub WantsAsker : {X : Type 0} → Parts → Bytes → ℕ → (Asker → Wanted X → Type 0) → Wanted X → Type 0
 WantsAsker p m now goes =
     With (λ (caller : Bytes). sole_value (codes "x-vault-caller") p.pairs ≡ Some caller) 58 (λ caller.
-    Must (IsName caller) 4 (
-    Must (IsName m) 4 (
+    Must (IsName caller) bad_name (
+    Must (IsName m) bad_name (
     goes (record { caller = caller; merchant = m; now = now }))))
 
 -- the body has the two texts, else 59; the number's text reads as digits of a card number, else 1, that
@@ -56,14 +59,14 @@ WantsBody body request goes =
     With (λ (texts : Bytes × Bytes). asked_in body ≡ Some texts) 59 (λ texts.
     Must (IsCardText texts.0 × IsNumber (digits_of texts.0)) 1 (
     Must (passes_check (digits_of texts.0) ≡ true) 2 (
-    With (λ (usage : Use). texts.1 ≡ use_word usage) 19 (λ usage.
+    With (λ (usage : Use). texts.1 ≡ use_word usage) bad_use (λ usage.
     goes (record { request = request; usage = usage; pan = digits_of texts.0 })))))
 
 -- one field has the request's number, else 58, and it reads as one, else 5; then the body counts
 abbrev pub WantsOrder : {X : Type 0} → Parts → (Order → Wanted X → Type 0) → Wanted X → Type 0
 WantsOrder p goes =
     With (λ (text : Bytes). sole_value (codes "x-vault-request") p.pairs ≡ Some text) 58 (λ text.
-    Must (IsRequestText text) 5 (
+    Must (IsRequestText text) bad_request_number (
     WantsBody p.body (digits_value 10 text) goes))
 
 -- the command that asks for this of a token
@@ -71,6 +74,7 @@ abbrev pub command_on : TokenAction → Asker → Bytes → Command
 command_on on.View a token = View a.caller a.merchant token a.now
 command_on on.Detokenize a token = Detokenize a.caller a.merchant token a.now
 command_on on.Revoke a token = Revoke a.caller a.merchant token a.now
+command_on on.Purge a token = Purge a.caller a.merchant token a.now
 
 -- the command that asks for a token
 abbrev pub command_for : Asker → Order → Bytes → Command
@@ -80,7 +84,7 @@ command_for a o drawn = Tokenize a.caller a.merchant o.request o.usage o.pan dra
 abbrev pub WantsAction : Action → Target → Parts → Bytes → Asker → Wanted Command → Type 0
 WantsAction action.Tokenize target p drawn a = WantsOrder p (λ o r. r ≡ Ok (command_for a o drawn))
 WantsAction (action.OnToken what) target p drawn a =
-    Must (IsToken target.token) 3 (λ r. r ≡ Ok (command_on what a target.token))
+    Must (IsToken target.token) bad_token_number (λ r. r ≡ Ok (command_on what a target.token))
 WantsAction action.Audit target p drawn a = λ r. r ≡ Ok (Audit a.caller a.merchant a.now)
 
 -- the target names something, else 56, and takes the method, else 57

@@ -112,7 +112,7 @@ mod tests {
         let token = Token::read(b"0000000000001111").expect(&rt, "a token");
         let number = Pan::read(b"4111111111111111").expect(&rt, "a card number");
         let birth = Moment::new(1000).expect(&rt, "a moment");
-        let cases: [(Reply, &[u8]); 6] = [
+        let cases: [(Reply, &[u8]); 7] = [
             (Reply::Done, b"{\"done\":true}"),
             (
                 Reply::Token {
@@ -141,6 +141,7 @@ mod tests {
                 },
                 b"{\"denied\":0,\"given\":2,\"made\":1}",
             ),
+            (Reply::Refused(17), b"{\"refused\":17}"),
             (Reply::Refused(57), b"{\"refused\":57}"),
         ];
         for (reply, text) in cases {

@@ -1,7 +1,6 @@
 //! The table of routes.
 ghost use Rattle.std.specs.Prelude.{◌≡◌};
-ghost use Rattle.vault_routes.specs.Rows.{IsRow};
-ghost use Rattle.vault_routes.specs.Table.{action_at, methods_of, row_of, template_text};
+ghost use Rattle.vault_routes.specs.Table.{action_at, methods_of, template_text};
 
 /// What a message asks for of one token.
 #[derive(Clone, Copy, Debug, PartialEq, Eq)]
@@ -9,6 +8,7 @@ pub enum TokenAction {
     View,
     Detokenize,
     Revoke,
+    Purge,
 }
 
 /// What a message asks for at a place.
@@ -34,65 +34,28 @@ pub enum Place {
     Audit,
 }
 
-// A row of the table: the template, and what GET and POST ask for.
-#[derive(Clone, Copy)]
-struct Row {
-    template: &'static str,
-    get: Option<Action>,
-    post: Option<Action>,
-}
-
 impl Place {
-    // The table.
-    fn row(self) -> Row
-        ensures { IsRow result self }
-    {
-        match self {
-            Place::Tokens => Row {
-                template: "/v1/merchants/{m}/tokens",
-                get: None,
-                post: Some(Action::Tokenize),
-            },
-            Place::Token => Row {
-                template: "/v1/merchants/{m}/tokens/{t}",
-                get: Some(Action::OnToken(TokenAction::View)),
-                post: None,
-            },
-            Place::Number => Row {
-                template: "/v1/merchants/{m}/tokens/{t}/number",
-                get: None,
-                post: Some(Action::OnToken(TokenAction::Detokenize)),
-            },
-            Place::Revoke => Row {
-                template: "/v1/merchants/{m}/tokens/{t}/revoke",
-                get: None,
-                post: Some(Action::OnToken(TokenAction::Revoke)),
-            },
-            Place::Audit => Row {
-                template: "/v1/merchants/{m}/audit",
-                get: Some(Action::Audit),
-                post: None,
-            },
-        }
-    }
-
     // The template, with `{m}` for a merchant and `{t}` for a token.
     pub(crate) fn template(self) -> &'static str
         ensures { result.now ≡ template_text self }
     {
-        self.row().template
+        match self {
+            Place::Tokens => "/v1/merchants/{m}/tokens",
+            Place::Token => "/v1/merchants/{m}/tokens/{t}",
+            Place::Number => "/v1/merchants/{m}/tokens/{t}/number",
+            Place::Revoke => "/v1/merchants/{m}/tokens/{t}/revoke",
+            Place::Audit => "/v1/merchants/{m}/audit",
+        }
     }
 
     /// The methods that the targets of the place take, as the text of an Allow field.
     pub fn methods(self) -> &'static str
         ensures { result.now ≡ methods_of self }
     {
-        let row = self.row();
-        match (row.get, row.post) {
-            (Some(_), Some(_)) => "GET, POST",
-            (Some(_), None) => "GET",
-            (None, Some(_)) => "POST",
-            (None, None) => "",
+        match self {
+            Place::Tokens | Place::Number | Place::Revoke => "POST",
+            Place::Token => "GET, DELETE",
+            Place::Audit => "GET",
         }
     }
 
@@ -100,9 +63,13 @@ impl Place {
     pub fn action(self, method: &[u8]) -> Option<Action>
         ensures { result ≡ action_at self method.now }
     {
-        match method {
-            b"GET" => self.row().get,
-            b"POST" => self.row().post,
+        match (self, method) {
+            (Place::Tokens, b"POST") => Some(Action::Tokenize),
+            (Place::Token, b"GET") => Some(Action::OnToken(TokenAction::View)),
+            (Place::Token, b"DELETE") => Some(Action::OnToken(TokenAction::Purge)),
+            (Place::Number, b"POST") => Some(Action::OnToken(TokenAction::Detokenize)),
+            (Place::Revoke, b"POST") => Some(Action::OnToken(TokenAction::Revoke)),
+            (Place::Audit, b"GET") => Some(Action::Audit),
             _ => None,
         }
     }

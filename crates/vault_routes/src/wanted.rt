@@ -99,6 +99,12 @@ impl Asker {
                 token,
                 now,
             },
+            TokenAction::Purge => Command::Purge {
+                caller,
+                merchant,
+                token,
+                now,
+            },
         }
     }
 }

@@ -8,7 +8,7 @@ use Rattle.std.specs.Ordering.{int_eq}
 use Rattle.std.proofs.lemmas.Bool.{and_from}
 use Rattle.sqlite_rules.specs.Lists.{Has}
 use Rattle.sqlite_rules.proofs.ListLemmas.{test_from}
-use Rattle.vault_core.specs.Keys.{right_number}
+use Rattle.vault_core.specs.Numbers.{right_number, use_number}
 use Rattle.vault_core.specs.Sound.{Sound}
 use Rattle.vault_core.specs.Vault.{Vault, entry_at}
 use Rattle.vault_core.specs.declared.right.Right.{Right}
@@ -18,7 +18,7 @@ use Rattle.vault_rules.specs.Lookups.{is_known, total_of, held_by}
 use Rattle.vault_rules.specs.Rules.{is_within, has_one_version, are_named, is_lasting, is_count, has_token}
 use Rattle.vault_rules.specs.Rules.{has_number, is_timed, is_kept, at_moments, is_counted, is_record}
 use Rattle.vault_rules.specs.Rules.{is_right, keeps}
-use Rattle.vault_rules.specs.Showing.{Shows, ShowsCount, usage_number}
+use Rattle.vault_rules.specs.Showing.{Shows, ShowsCount}
 use Rattle.vault_rules.specs.Texts.{is_name, is_token}
 use Rattle.vault_rules.specs.VaultOf.{HasKeysApart}
 use Rattle.vault_rules.specs.declared.rows.RawCount.{RawCount}
@@ -142,7 +142,7 @@ module _ (rows : Rows) (V : Vault) (shows : Shows rows V) (sound : Sound V) wher
       let row = entry_shown rows V shows (string_bytes r.merchant) (string_bytes r.token) fine.2.0
       ((λ i. entry_at V (it.4.merchant i) (it.4.token i)) ∙ fine.2.1) in
       let usage : row.0.e.usage ≡ r.usage =
-      row.1.usage ∙ ap (λ u. pos (usage_number u)) fine.2.2 ∙ sym it.4.usage in
+      row.1.usage ∙ ap (λ u. pos (use_number u)) fine.2.2 ∙ sym it.4.usage in
       and_from _ _ (and_from _ _ (name_from (string_bytes r.caller) fine.0)
       (within_from 1 9223372036854775807 it.0 r.request it.2 fine.1.0 fine.1.1))
       (ap (λ (o : Option RawEntry). option_map_or (λ (e : RawEntry). int_eq e.usage r.usage) o false)

@@ -5,12 +5,13 @@ use Rattle.std.specs.Prelude.{string_bytes}
 use Rattle.std.specs.Option.{option_map_or}
 use Rattle.sqlite_rules.specs.Lists.{Has}
 use Rattle.vault_core.specs.Keys.{Bytes}
+use Rattle.vault_core.specs.Numbers.{use_number}
 use Rattle.vault_core.specs.Repeats.{is_reusable}
 use Rattle.vault_core.specs.Vault.{Merchant, merchant_at, entry_at}
 use Rattle.vault_core.specs.declared.row.Entry.{Entry}
 use Rattle.vault_rules.specs.Lookups.{merchant_of}
 use Rattle.vault_rules.specs.Rules.{is_within, is_timed, live_key, live_number, keeps}
-use Rattle.vault_rules.specs.Showing.{ShowsEntry, usage_number}
+use Rattle.vault_rules.specs.Showing.{ShowsEntry}
 use Rattle.vault_rules.specs.VaultOf.{vault_of, natural, use_of, entry_value}
 use Rattle.vault_rules.specs.declared.rows.RawEntry.{RawEntry}
 use Rattle.vault_rules.specs.declared.rows.Rows.{Rows}
@@ -21,11 +22,11 @@ use Rattle.vault_rules.proofs.Numbers.{IsBetween, within_is}
 use Rattle.vault_rules.proofs.RowsSound.{merchant_of_entry, lasting_moment}
 use Rattle.vault_rules.proofs.Timed.{timely}
 
-used : (z : ℤ) → IsBetween 1 2 z → z ≡ pos (usage_number (use_of z))
+used : (z : ℤ) → IsBetween 1 2 z → z ≡ pos (use_number (use_of z))
 used z h =
-    h.is ∙ ap pos (own (natural z) h.low_is h.high_is) ∙ ap (λ x. pos (usage_number (use_of x))) (sym h.is)
+    h.is ∙ ap pos (own (natural z) h.low_is h.high_is) ∙ ap (λ x. pos (use_number (use_of x))) (sym h.is)
   where
-    own : (n : ℕ) → 1 ≤ n → n ≤ 2 → n ≡ usage_number (use_of (pos n))
+    own : (n : ℕ) → 1 ≤ n → n ≤ 2 → n ≡ use_number (use_of (pos n))
     own zero low high = absurd (omega arith)
     own (suc zero) low high = refl
     own (suc (suc zero)) low high = refl

@@ -10,7 +10,7 @@ use Rattle.sqlite_rules.specs.Lists.{Has}
 use Rattle.sqlite_rules.proofs.ListLemmas.{has_found}
 use Rattle.vault_core.specs.Keys.{Bytes}
 use Rattle.vault_core.specs.Sound.{IsSoundMerchant}
-use Rattle.vault_core.specs.Vault.{Vault, Merchant, merchant_at, made}
+use Rattle.vault_core.specs.Vault.{Vault, Merchant, merchant_at, made_count}
 use Rattle.vault_rules.specs.Lookups.{merchant_of, total_of, held_by, is_known}
 use Rattle.vault_rules.specs.Rules.{keeps}
 use Rattle.vault_rules.specs.VaultOf.{vault_of, natural, merchant_value, count_key, HasKeysApart}
@@ -27,7 +27,7 @@ use Rattle.vault_rules.proofs.RowsSound.{held_none}
 -- how many tokens a merchant has (1), and how often a number was given (2) or denied (3)
 abbrev pub count_of : Vault → Bytes → ℕ → ℕ
 count_of V m kind =
-    if kind == 1 then made V m
+    if kind == 1 then made_count V m
     else if kind == 2 then option_map_or (λ (merchant : Merchant). merchant.given) (merchant_at V m) 0
     else if kind == 3 then option_map_or (λ (merchant : Merchant). merchant.denied) (merchant_at V m) 0
     else 0
@@ -110,7 +110,7 @@ module _ (rows : Rows) (keep : (r : ℕ) → keeps rows r ≡ true) where
       none n a b c low high = grind (arith, nat_tests)
 
   made_total : HasKeysApart rows → (name : Bytes)
-      → total_of rows.counts.items name (pos 1) ≡ pos (made (vault_of rows) name)
+      → total_of rows.counts.items name (pos 1) ≡ pos (made_count (vault_of rows) name)
   made_total apart name =
       by_merchant (merchant_of rows.merchants.items name) refl ∙ ap pos (sym (made_is rows apart name))
     where
@@ -149,11 +149,11 @@ module _ (rows : Rows) (keep : (r : ℕ) → keeps rows r ≡ true) where
     where
       by_kind : (a b c : Bool) → (kind == 1) ≡ a → (kind == 2) ≡ b → (kind == 3) ≡ c
           → total_of rows.counts.items name (pos kind)
-          ≡ pos (cond a (made (vault_of rows) name)
+          ≡ pos (cond a (made_count (vault_of rows) name)
           (cond b (option_map_or (λ (m : Merchant). m.given) (merchant_at (vault_of rows) name) 0)
           (cond c (option_map_or (λ (m : Merchant). m.denied) (merchant_at (vault_of rows) name) 0) 0)))
       by_kind true b c one _ _ =
-          subst (λ n. total_of rows.counts.items name (pos n) ≡ pos (made (vault_of rows) name))
+          subst (λ n. total_of rows.counts.items name (pos n) ≡ pos (made_count (vault_of rows) name))
           (sym ((Decides-eqb kind 1).0 one)) (made_total apart name)
       by_kind false true c _ two _ =
           subst (λ n. total_of rows.counts.items name (pos n)

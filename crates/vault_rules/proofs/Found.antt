@@ -9,7 +9,7 @@ use Rattle.std.specs.declared.cmp.Ordering.TheVariants.{Less, Equal, Greater}
 use Rattle.std.proofs.lemmas.Map.Text.{is_eq-slice_cmp}
 use Rattle.std.proofs.lemmas.Slice.Eq.{bytes_eq-Decides}
 use Rattle.vault_core.specs.Keys.{Bytes, bytes_cmp, entry_cmp, record_cmp}
-use Rattle.vault_core.specs.Vault.{merchant_at, entry_at, record_at, made}
+use Rattle.vault_core.specs.Vault.{merchant_at, entry_at, record_at, made_count}
 use Rattle.vault_core.proofs.Maps.{bytes_total, bytes_exact, entry_total, entry_exact, record_total}
 use Rattle.vault_core.proofs.Maps.{record_exact}
 use Rattle.vault_rules.specs.Lookups.{merchant_of, entry_of, held_by}
@@ -66,7 +66,7 @@ module _ (rows : Rows) where
       rows.merchants.items apart.merchants
 
   pub made_is : HasKeysApart rows → (name : Bytes)
-      → made (vault_of rows) name ≡ held_by rows.entries.items name
+      → made_count (vault_of rows) name ≡ held_by rows.entries.items name
   made_is apart name =
       kept_is entry_total entry_exact entry_key entry_value (λ key. eq_by_cmp bytes_cmp name key.0)
       (λ e. bytes_eq (string_bytes e.merchant) name) (λ e. bytes_tie name (string_bytes e.merchant))

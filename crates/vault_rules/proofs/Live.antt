@@ -12,6 +12,7 @@ use Rattle.std.proofs.lemmas.Bool.{and_parts, and_from}
 use Rattle.sqlite_rules.specs.Lists.{Has}
 use Rattle.sqlite_rules.proofs.ListLemmas.{some_from}
 use Rattle.vault_core.specs.Keys.{Bytes, bytes_cmp}
+use Rattle.vault_core.specs.Numbers.{use_number}
 use Rattle.vault_core.specs.Repeats.{is_reusable, same_use}
 use Rattle.vault_core.specs.declared.row.Entry.{Entry}
 use Rattle.vault_core.specs.declared.usage.Use.{Use}
@@ -21,7 +22,7 @@ use Rattle.vault_core.proofs.Repeats.{same-refl}
 use Rattle.vault_pan.specs.CardText.{same}
 use Rattle.vault_rules.specs.Lookups.{merchant_of}
 use Rattle.vault_rules.specs.Rules.{live_number, live_key, are_distinct}
-use Rattle.vault_rules.specs.Showing.{ShowsEntry, usage_number}
+use Rattle.vault_rules.specs.Showing.{ShowsEntry}
 use Rattle.vault_rules.specs.declared.rows.RawMerchant.{RawMerchant}
 use Rattle.vault_rules.specs.declared.rows.RawEntry.{RawEntry}
 use Rattle.vault_rules.proofs.Found.{bytes_same}
@@ -30,7 +31,7 @@ use Rattle.vault_rules.proofs.Options.{tested_is}
 same_is : (a b : Bytes) → same a b ≡ true → a ≡ b
 same_is a b h = bytes_exact a b ((Equal-is (bytes_cmp a b)).0 (sym (texts_ties a b) ∙ h))
 
-multi_is : (u : Use) → int_eq (pos (usage_number u)) (pos 2) ≡ same_use u Multi
+multi_is : (u : Use) → int_eq (pos (use_number u)) (pos 2) ≡ same_use u Multi
 multi_is Single = refl
 multi_is Multi = refl
 

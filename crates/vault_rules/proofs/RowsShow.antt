@@ -8,11 +8,11 @@ use Rattle.std.specs.Ordering.{int_eq}
 use Rattle.std.proofs.lemmas.Bool.{and_parts}
 use Rattle.std.proofs.lemmas.Bool.Decides.{Decides-eqb}
 use Rattle.sqlite_rules.specs.Lists.{Has}
-use Rattle.vault_core.specs.Keys.{right_number}
+use Rattle.vault_core.specs.Numbers.{right_number, use_number}
 use Rattle.vault_core.specs.Vault.{Merchant}
 use Rattle.vault_rules.specs.Lookups.{total_of, entry_of}
 use Rattle.vault_rules.specs.Rules.{has_one_version, keeps}
-use Rattle.vault_rules.specs.Showing.{Shows, ShowsCount, ShowsRecord, usage_number}
+use Rattle.vault_rules.specs.Showing.{Shows, ShowsCount, ShowsRecord}
 use Rattle.vault_rules.specs.VaultOf.{HasKeysApart, vault_of, natural, use_of, right_of, merchant_value}
 use Rattle.vault_rules.specs.VaultOf.{entry_value, record_value}
 use Rattle.vault_rules.specs.declared.rows.RawVersion.{RawVersion}
@@ -107,7 +107,7 @@ module _ (rows : Rows) (apart : HasKeysApart rows) (keep : (r : ℕ) → keeps r
         token = refl;
         usage =
             sym same ∙ (entry_shown rows keep it.0 row.there).usage
-            ∙ ap (λ z. pos (usage_number (use_of z))) same;
+            ∙ ap (λ z. pos (use_number (use_of z))) same;
       }
 
   pub rows_show : Shows rows (vault_of rows)

@@ -6,7 +6,7 @@ use Rattle.std.proofs.lemmas.Bool.{and_from}
 use Rattle.sqlite_rules.specs.Lists.{Has}
 use Rattle.vault_core.specs.Keys.{Bytes}
 use Rattle.vault_core.specs.Sound.{Sound, IsSoundEntry}
-use Rattle.vault_core.specs.Vault.{Vault, Merchant, merchant_at, entry_at, made}
+use Rattle.vault_core.specs.Vault.{Vault, Merchant, merchant_at, entry_at, made_count}
 use Rattle.vault_core.specs.declared.row.Entry.{Entry}
 use Rattle.vault_core.proofs.Finds.{some_same}
 use Rattle.vault_rules.specs.Lookups.{is_known}
@@ -90,7 +90,7 @@ module _ (rows : Rows) (V : Vault) (shows : Shows rows V) (sound : Sound V) wher
       at_moment rows.merchants.items test e it.row.m it.row.first ∙ ap (λ z. test z e) it.moment ∙ h
 
   -- a merchant with entries is there
-  pub held_known : (name : Bytes) → 0 < made V name → is_known rows.merchants.items name ≡ true
+  pub held_known : (name : Bytes) → 0 < made_count V name → is_known rows.merchants.items name ≡ true
   held_known name some = by_known (is_known rows.merchants.items name) refl
     where
       fails : is_known rows.merchants.items name ≡ false → (e : RawEntry) → Has rows.entries.items e

@@ -7,6 +7,7 @@ use Rattle.std.specs.Option.{option_map_or}
 use Rattle.std.proofs.lemmas.Bool.{and_from, or_left, or_right}
 use Rattle.std.proofs.lemmas.Bool.Decides.{nat_tests}
 use Rattle.vault_core.specs.Keys.{Bytes}
+use Rattle.vault_core.specs.Numbers.{use_number}
 use Rattle.vault_core.specs.Sound.{IsNumber, IsRevocation, IsSoundEntry}
 use Rattle.vault_core.specs.Vault.{Merchant}
 use Rattle.vault_core.specs.declared.row.Entry.{Entry}
@@ -14,7 +15,7 @@ use Rattle.vault_core.specs.declared.usage.Use.{Use}
 use Rattle.vault_core.specs.declared.usage.Use.TheVariants.{Single, Multi}
 use Rattle.vault_pan.specs.CardText.{fits}
 use Rattle.vault_rules.specs.Rules.{is_within, is_timed, is_kept, has_number}
-use Rattle.vault_rules.specs.Showing.{ShowsEntry, usage_number}
+use Rattle.vault_rules.specs.Showing.{ShowsEntry}
 use Rattle.vault_rules.specs.Texts.{is_pan}
 use Rattle.vault_rules.specs.declared.rows.RawEntry.{RawEntry}
 use Rattle.vault_rules.proofs.Numbers.{within_from}
@@ -27,7 +28,7 @@ number_fits bytes token entry moment None h = refl
 number_fits bytes token entry moment (Some number) h =
     and_from (is_pan (bytes number)) (fits token (bytes number)) (pan_from (bytes number) h.0) h.1
 
-use_within : (u : Use) (z : ℤ) → z ≡ pos (usage_number u) → is_within (pos 1) (pos 2) z ≡ true
+use_within : (u : Use) (z : ℤ) → z ≡ pos (use_number u) → is_within (pos 1) (pos 2) z ≡ true
 use_within Single z is = within_from 1 2 1 z is (omega arith) (omega arith)
 use_within Multi z is = within_from 1 2 2 z is (omega arith) (omega arith)
 

@@ -64,7 +64,7 @@ is_timed moment e =
     && is_within (e.birth +ℤ pos 1) (e.birth +ℤ pos 3155760000) e.expires
     && option_map_or (is_within e.birth moment) e.revoked true
 
--- 8: an erased entry is revoked, or has expired at its merchant's moment
+-- 8: a purged entry is revoked, or has expired at its merchant's moment
 abbrev pub is_kept : ℤ → RawEntry → Bool
 is_kept moment e = is_some e.number || is_some e.revoked || int_le e.expires moment
 

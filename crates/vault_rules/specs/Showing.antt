@@ -2,8 +2,9 @@
 use Rattle.std.specs.Prelude.{◌≡◌, ◌<◌, ◌⊎◌, ℕ, pos, true, [], ◌∷◌, length, Some, option_map, string_bytes}
 use Rattle.std.specs.FinMap as finite
 use Rattle.sqlite_rules.specs.Lists.{Has}
-use Rattle.vault_core.specs.Keys.{Bytes, right_number}
-use Rattle.vault_core.specs.Vault.{Vault, Merchant, merchant_at, entry_at, record_at, has_right, made}
+use Rattle.vault_core.specs.Keys.{Bytes}
+use Rattle.vault_core.specs.Numbers.{right_number, use_number}
+use Rattle.vault_core.specs.Vault.{Vault, Merchant, merchant_at, entry_at, record_at, has_right, made_count}
 use Rattle.vault_core.specs.declared.right.Right.{Right}
 use Rattle.vault_core.specs.declared.row.Entry.{Entry}
 use Rattle.vault_core.specs.declared.row.Record.{Record}
@@ -18,11 +19,6 @@ use Rattle.vault_rules.specs.declared.rows.RawRecord.{RawRecord}
 use Rattle.vault_rules.specs.declared.rows.RawRight.{RawRight}
 use Rattle.vault_rules.specs.declared.rows.Rows.{Rows}
 
--- the number of a use
-abbrev pub usage_number : Use → ℕ
-usage_number Single = 1
-usage_number Multi = 2
-
 -- a row has the lives and the moment of a merchant
 pub record ShowsMerchant (m : RawMerchant) (merchant : Merchant) : Type 0 where
   pub single_life : m.single_life ≡ pos merchant.single_life
@@ -32,7 +28,7 @@ pub record ShowsMerchant (m : RawMerchant) (merchant : Merchant) : Type 0 where
 -- a row has the columns of an entry
 pub record ShowsEntry (e : RawEntry) (entry : Entry) : Type 0 where
   pub number : option_map (λ number. string_bytes number) e.number ≡ entry.number
-  pub usage : e.usage ≡ pos (usage_number entry.usage)
+  pub usage : e.usage ≡ pos (use_number entry.usage)
   pub birth : e.birth ≡ pos entry.birth
   pub expires : e.expires ≡ pos entry.expires
   pub revoked : e.revoked ≡ option_map pos entry.revoked
@@ -41,7 +37,7 @@ pub record ShowsEntry (e : RawEntry) (entry : Entry) : Type 0 where
 pub record ShowsRecord (r : RawRecord) (shown : Record) : Type 0 where
   pub merchant : string_bytes r.merchant ≡ shown.merchant
   pub token : string_bytes r.token ≡ shown.token
-  pub usage : r.usage ≡ pos (usage_number shown.usage)
+  pub usage : r.usage ≡ pos (use_number shown.usage)
 
 -- a row is one of a merchant's counts: of tokens made (1), of numbers given (2) or denied (3)
 pub record ShowsCount (c : RawCount) (V : Vault) : Type 0 where
@@ -50,7 +46,7 @@ pub record ShowsCount (c : RawCount) (V : Vault) : Type 0 where
   pub kind_is : c.kind ≡ pos kind
   pub total_is : c.total ≡ pos total
   pub some : 0 < total
-  pub counted : (kind ≡ 1) × (total ≡ made V (string_bytes c.merchant))
+  pub counted : (kind ≡ 1) × (total ≡ made_count V (string_bytes c.merchant))
       ⊎ (merchant : Merchant) × (merchant_at V (string_bytes c.merchant) ≡ Some merchant)
       × ((kind ≡ 2) × (total ≡ merchant.given) ⊎ (kind ≡ 3) × (total ≡ merchant.denied))
 
@@ -66,8 +62,8 @@ pub record Shows (rows : Rows) (V : Vault) : Type 0 where
   pub merchants_there : (name : Bytes) (merchant : Merchant) → merchant_at V name ≡ Some merchant
       → (m : RawMerchant) × Has rows.merchants.items m × (string_bytes m.name ≡ name)
   pub counts : (c : RawCount) → Has rows.counts.items c → ShowsCount c V
-  pub counted : (name : Bytes) → total_of rows.counts.items name (pos 1) ≡ pos (made V name)
-  pub held : (name : Bytes) → held_by rows.entries.items name ≡ made V name
+  pub counted : (name : Bytes) → total_of rows.counts.items name (pos 1) ≡ pos (made_count V name)
+  pub held : (name : Bytes) → held_by rows.entries.items name ≡ made_count V name
   pub entries : (e : RawEntry) → Has rows.entries.items e
       → (entry : Entry) × (entry_at V (string_bytes e.merchant) (string_bytes e.token) ≡ Some entry)
       × ShowsEntry e entry

@@ -32,7 +32,7 @@ pub struct RawEntry {
     pub rowid: i64,
     pub merchant: String,
     pub token: String,
-    /// NULL where it is erased.
+    /// NULL where it is purged.
     pub number: Option<String>,
     pub usage: i64,
     pub birth: i64,

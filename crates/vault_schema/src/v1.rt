@@ -70,6 +70,10 @@ pub const FIND_ENTRY: &str =
 pub const FIND_CURRENT: &str =
     "SELECT token FROM entries WHERE merchant = ?1 AND number = ?2 AND usage = 2 AND revoked IS NULL AND expires > ?3";
 
+/// So many of the tokens of a merchant that are dead at a moment, in order.
+pub const FIND_DEAD: &str =
+    "SELECT token FROM entries WHERE merchant = ?1 AND number IS NOT NULL AND (revoked IS NOT NULL OR expires <= ?2) ORDER BY token LIMIT ?3";
+
 /// What a caller's request was answered.
 pub const FIND_RECORD: &str =
     "SELECT merchant, token, usage FROM records WHERE caller = ?1 AND request = ?2";

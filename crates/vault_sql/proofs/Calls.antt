@@ -23,12 +23,14 @@ use Rattle.sql_maps.specs.States.{Reads, Steps}
 use Rattle.sql_maps.specs.States as maps
 use Rattle.sql_maps.proofs.Calls as calls
 use Rattle.sql_maps.proofs.Statements.{Ran}
-use Rattle.vault_core.specs.Keys.{Bytes, right_number}
+use Rattle.vault_core.specs.Keys.{Bytes}
+use Rattle.vault_core.specs.Numbers.{right_number}
 use Rattle.vault_core.specs.Vault.{Vault}
 use Rattle.vault_core.specs.declared.right.Right.{Right}
 use Rattle.vault_core.specs.declared.usage.Use.{Use}
 use Rattle.vault_schema.specs.Version1.Claims.{Lookups, claims}
-use Rattle.vault_schema.specs.Version1.Rows.{text_or_null, number_or_null, use_number}
+use Rattle.vault_core.specs.Numbers.{use_number}
+use Rattle.vault_schema.specs.Version1.Rows.{text_or_null, number_or_null}
 use Rattle.vault_schema.proofs.Version1.AsClaims.{as_claims, as_fields}
 use Rattle.vault_sql.specs.Calls.{IsWithin, Makes, Tells}
 use Rattle.vault_sql.specs.Holds.{AreOurs, Holds, LeavesEither}

@@ -1,4 +1,5 @@
 pub mod Calls
+pub mod Dead
 pub mod Lookups
 pub mod Making
 pub mod Statements

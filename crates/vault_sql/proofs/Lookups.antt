@@ -1,7 +1,7 @@
 -- What each query shows of a vault: exactly what it has, or nothing.
 use Rattle.std.proofs.Common.{◌≡◌, ℕ, ℤ, pos, List, [], ◌∷◌, Bool, true, false, ◌&&◌, is_eq, is_none, is_some}
 use Rattle.std.proofs.Common.{nat_lt, Option, Some, None, option_map, refl, sym, ap, ◌∙◌, arith, nat_cmp, inl}
-use Rattle.std.proofs.Common.{inr, slice_get}
+use Rattle.std.proofs.Common.{inr, max, slice_get}
 use Rattle.std.proofs.lemmas.Bool.Decides.{nat_tests}
 use Rattle.std.proofs.lemmas.Bool.{and_parts}
 use Rattle.std.proofs.lemmas.Int.{ints}
@@ -23,7 +23,7 @@ use Rattle.vault_core.proofs.CurrentLemmas.{current-some, current-none}
 use Rattle.vault_core.specs.Keys.{Bytes, bytes_cmp}
 use Rattle.vault_core.specs.Repeats.{current, is_reusable, same_use}
 use Rattle.vault_core.specs.Sound.{Sound}
-use Rattle.vault_core.specs.Vault.{Vault, entry_at, Merchant, merchant_at, made}
+use Rattle.vault_core.specs.Vault.{Vault, entry_at, Merchant, merchant_at, made_count, time_at}
 use Rattle.vault_core.specs.Window.{moment_at, row_at, row_of}
 use Rattle.vault_core.specs.declared.row.Entry.{Entry}
 use Rattle.vault_core.specs.declared.usage.Use.{Use}
@@ -37,7 +37,8 @@ use Rattle.sql_maps.specs.Texts.{by_key}
 use Rattle.sql_maps.proofs.KeyTests.{text_eq, number_eq, and_true, equal_is}
 use Rattle.sql_maps.proofs.Reading.{how_many, shown_are, shown_none, shown_one}
 use Rattle.vault_schema.specs.Version1.Claims.{claims}
-use Rattle.vault_schema.specs.Version1.Rows.{text_or_null, number_or_null, use_number, number_column}
+use Rattle.vault_core.specs.Numbers.{use_number}
+use Rattle.vault_schema.specs.Version1.Rows.{text_or_null, number_or_null, number_column}
 use Rattle.vault_schema.specs.Version1.Rows.{count_row, entry_row, lives_columns}
 use Rattle.vault_schema.specs.declared.v1.TheConstants.{FIND_COUNTS, FIND_CURRENT, COUNT_MERCHANTS}
 use Rattle.vault_schema.proofs.Version1.Codes.{merchant_coding, count_table, entry_table}
@@ -176,11 +177,11 @@ total_is V m rows kind total shows (inr none) =
     none.0 ∙ (shown_or_zero (count_at V m kind)).1 (λ n is. none.1 _ (shows.complete kind n is) refl)
 
 abbrev row_with : Lives → ℕ → ℕ → ℕ → MerchantRow
-row_with x made given denied = record {
+row_with x made_count given denied = record {
   single_life = x.single_life;
   multi_life = x.multi_life;
   moment = x.moment;
-  made = made;
+  made = made_count;
   given = given;
   denied = denied;
 }
@@ -210,3 +211,22 @@ lives_shown o rows row x is first shows = grind arith
 pub no_row : (V : Vault) (m : Bytes) (found : Option Lives) → found ≡ option_map lives_in (merchant_at V m)
     → found ≡ None → None ≡ row_at V m
 no_row V m found is none = grind arith
+
+-- the moment of a command is that of the merchant's lives or later
+pub moment_some : (V : Vault) (m : Bytes) (now : ℕ) (x : Lives) → Some x ≡ option_map lives_in (merchant_at V m)
+    → max x.moment now ≡ moment_at V m now
+moment_some V m now x is = go (merchant_at V m) is
+  where
+    go : (o : Option Merchant) → Some x ≡ option_map lives_in o
+        → max x.moment now ≡ option_map_or (λ (merchant : Merchant). time_at merchant now) o now
+    go None is = cc
+    go (Some merchant) is = ap (λ (lives : Lives). max lives.moment now) (some_same is)
+
+pub moment_none : (V : Vault) (m : Bytes) (now : ℕ) → None ≡ option_map lives_in (merchant_at V m)
+    → now ≡ moment_at V m now
+moment_none V m now is = go (merchant_at V m) is
+  where
+    go : (o : Option Merchant) → None ≡ option_map lives_in o
+        → now ≡ option_map_or (λ (merchant : Merchant). time_at merchant now) o now
+    go None is = refl
+    go (Some merchant) is = cc

@@ -22,7 +22,7 @@ use Rattle.sql_maps.proofs.Making.{makes_index, makes_table}
 use Rattle.sql_maps.proofs.Statements.{insert_first, retold}
 use Rattle.vault_core.proofs.Maps.{entry_total, entry_exact, get-retained}
 use Rattle.vault_core.specs.Keys.{Bytes, bytes_cmp, entry_cmp, record_cmp, right_cmp}
-use Rattle.vault_core.specs.Vault.{Merchant, empty_vault, entries_of, made}
+use Rattle.vault_core.specs.Vault.{Merchant, empty_vault, entries_of, made_count}
 use Rattle.vault_core.specs.declared.row.Entry.{Entry}
 use Rattle.vault_schema.specs.Version1.Claims.{IsVersion, claims}
 use Rattle.vault_schema.specs.Version1.Rows.{merchant_row, count_row, entry_row, record_row, right_row}
@@ -79,7 +79,7 @@ module _ {old new : State} {sql : List ℕ} (steps : Steps old new)
 
 -- ---- the empty vault
 
-none_made : (m : Bytes) → made empty_vault m ≡ 0
+none_made : (m : Bytes) → made_count empty_vault m ≡ 0
 none_made m = ap map.len (map.same_map entry_total entry_exact (entries_of empty_vault m) map.empty none)
     ∙ map.len-empty entry_cmp Entry
   where

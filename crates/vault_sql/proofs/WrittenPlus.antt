@@ -7,11 +7,11 @@ use Rattle.std.specs.FinSet as set
 use Rattle.std.specs.Option.{option_map_or}
 use Rattle.std.specs.Ordering.{eq_by_cmp}
 use Rattle.vault_core.proofs.Maps.{bytes_total, bytes_exact, entry_total, record_total, right_total}
-use Rattle.vault_core.specs.Changes.{Fit, plus, with_merchant, merchant_with, raised, with_entry, with_record}
+use Rattle.vault_core.specs.Changes.{Fit, plus, with_merchant, merchant_with, merchant_with_count, with_entry, with_record}
 use Rattle.vault_core.specs.Changes.{with_right, made_raised}
 use Rattle.vault_core.specs.Keys.{Bytes, bytes_cmp, entry_cmp, record_cmp, right_cmp}
 use Rattle.vault_core.specs.Sound.{Sound}
-use Rattle.vault_core.specs.Vault.{Vault, Merchant, merchant_at, made}
+use Rattle.vault_core.specs.Vault.{Vault, Merchant, merchant_at, made_count}
 use Rattle.vault_core.specs.declared.changes.Changes.{Changes}
 use Rattle.vault_core.specs.declared.changes.Count.{Count}
 use Rattle.vault_core.specs.declared.changes.Count.TheVariants.{Made, Given, Denied}
@@ -22,7 +22,8 @@ use Rattle.vault_core.specs.declared.row.Record.{Record}
 use Rattle.vault_store.proofs.MadeLemmas.{one_at, made-plus}
 use Rattle.vault_sql.specs.Stands.{lives_in, count_at, unless_zero, lookups_of}
 use Rattle.sql_maps.specs.Rows.{put}
-use Rattle.vault_sql.specs.Written.{put_lives, kind_of, raise, put_entry, put_record, put_right, written}
+use Rattle.vault_core.specs.Numbers.{count_number}
+use Rattle.vault_sql.specs.Written.{put_lives, raise, put_entry, put_record, put_right, written}
 use Rattle.vault_sql.specs.Written.{HasRoom}
 use Rattle.sql_maps.proofs.KeyTests.{equal_is, then_eq}
 
@@ -31,13 +32,13 @@ use Rattle.sql_maps.proofs.KeyTests.{equal_is, then_eq}
 -- what a merchant's table has at a key, with the change
 found_plus : (merchants : map.FinMap bytes_cmp Merchant) (count : Option Count) (x : core.Lives) (q : Bytes)
     → map.get (with_merchant merchants count (Some x)) q
-    ≡ cond (eq_by_cmp bytes_cmp q x.merchant) (Some (raised count (merchant_with x (map.get merchants q))))
+    ≡ cond (eq_by_cmp bytes_cmp q x.merchant) (Some (merchant_with_count count (merchant_with x (map.get merchants q))))
     (map.get merchants q)
 found_plus merchants count x q =
     let same : is_eq (bytes_cmp q x.merchant) ≡ true → q ≡ x.merchant =
     λ e. bytes_exact q x.merchant (equal_is _ e) in
     rw (map.get-insert bytes_total merchants x.merchant
-    (raised count (merchant_with x (map.get merchants x.merchant))) q) (grind (arith, same))
+    (merchant_with_count count (merchant_with x (map.get merchants x.merchant))) q) (grind (arith, same))
 
 merchants_plus : (merchants : map.FinMap bytes_cmp Merchant) (count : Option Count)
     (lives : Option core.Lives) (q : Bytes)
@@ -51,7 +52,7 @@ abbrev up_at : Option core.Lives → Option Count → Bytes → ℕ → ℕ
 up_at None count q kind = 0
 up_at (Some x) None q kind = 0
 up_at (Some x) (Some count) q kind =
-    cond (eq_by_cmp bytes_cmp q x.merchant && is_eq (nat_cmp kind (kind_of count))) 1 0
+    cond (eq_by_cmp bytes_cmp q x.merchant && is_eq (nat_cmp kind (count_number count))) 1 0
 
 -- a count in the table goes up where the number does
 raise_is : (n : Bytes × ℕ → ℕ) (lives : Option core.Lives) (count : Option Count) (q : Bytes) (kind : ℕ)
@@ -62,15 +63,15 @@ raise_is n (Some x) None q kind = grind arith
 raise_is n (Some x) (Some count) q kind =
     let same : is_eq (bytes_cmp q x.merchant) ≡ true → q ≡ x.merchant =
     λ e. bytes_exact q x.merchant (equal_is _ e) in
-    let kinds : is_eq (nat_cmp kind (kind_of count)) ≡ true → kind ≡ kind_of count =
-    λ e. map.nat_cmp-IsAntisymmetric kind (kind_of count) (equal_is _ e) in
-    rw (then_eq (bytes_cmp q x.merchant) (nat_cmp kind (kind_of count)))
+    let kinds : is_eq (nat_cmp kind (count_number count)) ≡ true → kind ≡ count_number count =
+    λ e. map.nat_cmp-IsAntisymmetric kind (count_number count) (equal_is _ e) in
+    rw (then_eq (bytes_cmp q x.merchant) (nat_cmp kind (count_number count)))
     (grind (arith, nat_tests, same, kinds))
 
 -- the count of a kind, of tokens that were made and of a merchant
 abbrev count_in : ℕ → Option Merchant → ℕ → ℕ
-count_in made o kind =
-    if kind == 1 then made
+count_in made_count o kind =
+    if kind == 1 then made_count
     else if kind == 2 then option_map_or (λ (merchant : Merchant). merchant.given) o 0
     else if kind == 3 then option_map_or (λ (merchant : Merchant). merchant.denied) o 0
     else 0
@@ -87,8 +88,8 @@ counts_plus : (V : Vault) (ch : Changes) → Fit V ch → (key : Bytes × ℕ)
     → raise (lookups_of V).counts ch.lives ch.count key ≡ (lookups_of (plus V ch)).counts key
 counts_plus V ch fit key =
     raise_is (λ k. count_at V k.0 k.1) ch.lives ch.count key.0 key.1
-    ∙ ap unless_zero (sym (count_raised V.merchants ch.lives ch.count key.0 key.1 (made V key.0)
-    (made (plus V ch) key.0) (made-plus V ch fit key.0)))
+    ∙ ap unless_zero (sym (count_raised V.merchants ch.lives ch.count key.0 key.1 (made_count V key.0)
+    (made_count (plus V ch) key.0) (made-plus V ch fit key.0)))
 
 -- ---- the other tables
 
@@ -144,7 +145,7 @@ has_room V sound (Some x) (Some count) = let few = below count in grind (arith, 
     bounded (Some merchant) is =
         let it = sound.merchants x.merchant merchant is in (it.given, it.denied)
 
-    below : (count : Count) → count_at V x.merchant (kind_of count) ≤ 4611686018427387903
+    below : (count : Count) → count_at V x.merchant (count_number count) ≤ 4611686018427387903
     below Made = let few = sound.made_few x.merchant in omega (arith, few)
     below Given = (bounded (merchant_at V x.merchant) refl).0
     below Denied = (bounded (merchant_at V x.merchant) refl).1

@@ -8,7 +8,8 @@ use Rattle.vault_core.specs.Vault.{Vault}
 use Rattle.vault_core.specs.declared.row.Entry.{Entry}
 use Rattle.vault_core.specs.declared.row.Record.{Record}
 use Rattle.vault_schema.specs.declared.v1.Lives.{Lives}
-use Rattle.vault_schema.specs.Version1.Rows.{text_or_null, number_or_null, use_number}
+use Rattle.vault_core.specs.Numbers.{use_number}
+use Rattle.vault_schema.specs.Version1.Rows.{text_or_null, number_or_null}
 use Rattle.vault_sql.specs.Stands.{count_at, unless_zero}
 
 -- a row of one text

@@ -5,7 +5,7 @@ use Rattle.std.specs.FinMap as map
 use Rattle.std.specs.FinSet as set
 use Rattle.sqlite.specs.Tree.{Trees}
 use Rattle.vault_core.specs.Keys.{Bytes}
-use Rattle.vault_core.specs.Vault.{Vault, Merchant, merchant_at, made}
+use Rattle.vault_core.specs.Vault.{Vault, Merchant, merchant_at, made_count}
 use Rattle.vault_schema.specs.Version1.Claims.{Lookups, StandsFor}
 use Rattle.vault_schema.specs.declared.v1.Lives.{Lives}
 
@@ -17,7 +17,7 @@ lives_in merchant =
 -- how many tokens a merchant has (1), and how often a number was given (2) or denied (3)
 abbrev pub count_at : Vault → Bytes → ℕ → ℕ
 count_at V m kind =
-    if kind == 1 then made V m
+    if kind == 1 then made_count V m
     else if kind == 2 then option_map_or (λ (merchant : Merchant). merchant.given) (merchant_at V m) 0
     else if kind == 3 then option_map_or (λ (merchant : Merchant). merchant.denied) (merchant_at V m) 0
     else 0

@@ -1,9 +1,9 @@
 -- What changes make of the lookups.
 use Rattle.std.specs.Prelude.{◌<◌, ◌^◌, ◌+◌, ℕ, Bool, Option, Some, None, unwrap_or, if◌then◌else◌}
 use Rattle.vault_core.specs.Keys.{Bytes, bytes_cmp, entry_cmp, record_cmp, right_cmp}
+use Rattle.vault_core.specs.Numbers.{count_number}
 use Rattle.vault_core.specs.declared.changes.Changes.{Changes}
 use Rattle.vault_core.specs.declared.changes.Count.{Count}
-use Rattle.vault_core.specs.declared.changes.Count.TheVariants.{Made, Given, Denied}
 use Rattle.vault_core.specs.declared.changes.Lives as core
 use Rattle.vault_core.specs.declared.right.Right.{Right}
 use Rattle.vault_core.specs.declared.row.Entry.{Entry}
@@ -21,12 +21,6 @@ abbrev pub put_lives : (Bytes → Option Lives) → Option core.Lives → Bytes 
 put_lives held None = held
 put_lives held (Some x) = put bytes_cmp held x.merchant (Some (lives_of x))
 
--- the kind of a count
-abbrev pub kind_of : Count → ℕ
-kind_of Made = 1
-kind_of Given = 2
-kind_of Denied = 3
-
 -- a count that has no row is 0
 abbrev pub raise_at : (Bytes × ℕ → Option ℕ) → Bytes × ℕ → Bytes × ℕ → Option ℕ
 raise_at held key = put record_cmp held key (Some (unwrap_or (held key) 0 + 1))
@@ -35,7 +29,7 @@ raise_at held key = put record_cmp held key (Some (unwrap_or (held key) 0 + 1))
 abbrev pub raise : (Bytes × ℕ → Option ℕ) → Option core.Lives → Option Count → Bytes × ℕ → Option ℕ
 raise held None count = held
 raise held (Some x) None = held
-raise held (Some x) (Some count) = raise_at held (x.merchant, kind_of count)
+raise held (Some x) (Some count) = raise_at held (x.merchant, count_number count)
 
 -- the entries with the one that changes
 abbrev pub put_entry : (Bytes × Bytes → Option Entry) → Option (Bytes × Bytes × Entry) → Bytes × Bytes
@@ -72,4 +66,4 @@ HasRoomAt held key = unwrap_or (held key) 0 + 1 < 2 ^ 63
 abbrev pub HasRoom : (Bytes × ℕ → Option ℕ) → Option core.Lives → Option Count → Type 0
 HasRoom held None count = Unit {0}
 HasRoom held (Some x) None = Unit {0}
-HasRoom held (Some x) (Some count) = HasRoomAt held (x.merchant, kind_of count)
+HasRoom held (Some x) (Some count) = HasRoomAt held (x.merchant, count_number count)

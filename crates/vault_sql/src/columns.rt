@@ -2,7 +2,8 @@
 ghost use Rattle.std.specs.Prelude.{◌≡◌, pos, IfOk};
 ghost use Rattle.sqlite.specs.Order.{column};
 ghost use Rattle.sqlite.specs.declared.types.Value.TheVariants.{Int, Text};
-ghost use Rattle.vault_schema.specs.Version1.Rows.{text_or_null, number_or_null, use_number};
+ghost use Rattle.vault_core.specs.Numbers.{use_number};
+ghost use Rattle.vault_schema.specs.Version1.Rows.{text_or_null, number_or_null};
 
 use crate::fault::StoreFault;
 use sqlite::Row;

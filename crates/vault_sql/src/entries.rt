@@ -1,6 +1,9 @@
 //! The rows of entries.
-ghost use Rattle.std.specs.Prelude.{◌≡◌, ◌<◌, ◌^◌, Some, IfOk, option_map};
+ghost use Rattle.std.specs.Prelude.{◌≡◌, ◌<◌, ◌^◌, ℕ, Some, IfOk, option_map, map, take};
 ghost use Rattle.sqlite.specs.Held.{state};
+ghost use Rattle.sqlite.specs.Order.{column};
+ghost use Rattle.sqlite.specs.declared.types.Value.TheVariants.{Text};
+ghost use Rattle.vault_core.specs.Dead.{dead_tokens};
 ghost use Rattle.vault_core.specs.Repeats.{current as current_lem};
 ghost use Rattle.vault_core.specs.Sound.{Sound};
 ghost use Rattle.vault_core.specs.Vault.{entry_at};
@@ -13,17 +16,21 @@ ghost use Rattle.sql_maps.specs.Rows.{one_of, put};
 
 use crate::columns::{moment_in, moment_or_null_in, number_in, token_in, usage_in};
 use crate::fault::StoreFault;
-use crate::parameters::{moment_value, number_value, usage_number};
+use crate::merchants::moment;
+use crate::parameters::{moment_value, number_value};
 use crate::text::merchant_text;
 use sql_maps::run::{rows_of, step};
 use sqlite::types::ToSql;
 use sqlite::{Alter, Connection, Error, Row, Transaction, params};
+use std::alloc::{AllocError, Global};
+use vault_core::limit::MOST_TOKENS;
 use vault_core::moment::Moment;
 use vault_core::name::MerchantId;
 use vault_core::row::Entry;
 use vault_pan::pan::Pan;
 use vault_pan::token::Token;
-use vault_schema::v1::{FIND_CURRENT, FIND_ENTRY, PUT_ENTRY};
+use vault_schema::v1::{FIND_CURRENT, FIND_DEAD, FIND_ENTRY, PUT_ENTRY};
+use vault_store::tables::TablesFault;
 
 /// The row of an entry.
 fn entry_rows<S: Alter>(conn: &mut Connection<S>, m: &str, token: &str) -> Result<Vec<Row>, Error>
@@ -101,6 +108,52 @@ pub(crate) fn current<S: Alter>(
     }
 }
 
+/// The first of a merchant's tokens that are dead at a moment, in order.
+fn dead_rows<S: Alter>(
+    conn: &mut Connection<S>,
+    m: &str,
+    at: u64,
+    many: u64,
+) -> Result<Vec<Row>, Error>
+    requires at { at < 2 ^ 63 }
+    requires many { many < 2 ^ 63 }
+    ensures { Tells result (state S.Store conn.old) (state S.Store conn.new)
+        (λ V rows. (now : ℕ) → moment_at V m.now now ≡ at
+        → rows.items ≡ map text_column (take many (dead_tokens V m.now now))) }
+{
+    rows_of(conn, FIND_DEAD, params![m, at as i64, many as i64])
+}
+
+/// The rows of the first `limit` tokens of a merchant that are dead at the later of its moment and `now`,
+/// in order.
+pub(crate) fn dead<S: Alter>(
+    conn: &mut Connection<S>,
+    m: &MerchantId,
+    now: Moment,
+    limit: usize,
+) -> Result<Vec<Row>, StoreFault>
+    ensures { Tells result (state S.Store conn.old) (state S.Store conn.new)
+        (λ V rows. Sound V → rows.items ≡ map text_column (take limit (dead_tokens V m.now now))) }
+{
+    let at = moment(conn, m, now)?;
+    let many = MOST_TOKENS.min(limit as u64);
+    Ok(dead_rows(conn, merchant_text(m), at.seconds(), many)?)
+}
+
+/// The tokens that rows show.
+pub(crate) fn tokens_of(alloc: Global, rows: &[Row]) -> Result<Vec<Token>, TablesFault>
+    ensures { IfOk result (λ tokens. map (λ row. column row 0) rows.now ≡ map Text tokens.items) }
+{
+    let mut tokens = Vec::new(alloc);
+    for row in rows {
+        let token = token_in(row, 0)?;
+        if let Err(refused) = tokens.push(token) {
+            return Err(AllocError::from(refused).into());
+        }
+    }
+    Ok(tokens)
+}
+
 /// Writes an entry, whether or not it was there.
 pub(crate) fn put_entry<S: Alter>(
     tx: &mut Transaction<'_, S>,
@@ -114,7 +167,7 @@ pub(crate) fn put_entry<S: Alter>(
         (λ _. Unit {0})
         (λ h. record h { entries = put entry_cmp h.entries (m.now, token.now) (Some entry.now) }) }
 {
-    let usage = usage_number(entry.usage);
+    let usage = entry.usage.number();
     let birth = entry.birth.seconds();
     step(
         tx,

@@ -2,9 +2,10 @@
 ghost use Rattle.std.specs.FinMap as map;
 ghost use Rattle.std.specs.Prelude.{◌≡◌, ◌<◌, ◌^◌, [], ◌∷◌, Some, IfOk, option_map};
 ghost use Rattle.sqlite.specs.Held.{state};
+ghost use Rattle.vault_core.specs.Numbers.{count_number};
 ghost use Rattle.vault_core.specs.Sound.{Sound};
 ghost use Rattle.vault_core.specs.Vault.{merchant_at};
-ghost use Rattle.vault_core.specs.Window.{row_at};
+ghost use Rattle.vault_core.specs.Window.{moment_at, row_at};
 ghost use Rattle.vault_core.specs.Keys.{bytes_cmp};
 ghost use Rattle.vault_sql.specs.Calls.{Makes, Tells};
 ghost use Rattle.vault_schema.specs.Version1.Rows.{lives_columns, number_column};
@@ -18,20 +19,13 @@ use crate::fault::StoreFault;
 use crate::text::merchant_text;
 use sql_maps::run::{rows_of, step};
 use sqlite::{Alter, Connection, Error, Row, Transaction, params};
+use vault_core::changes::Count;
+use vault_core::moment::Moment;
 use vault_core::name::MerchantId;
 use vault_core::row::MerchantRow;
 use vault_schema::v1::{
     COUNT_MERCHANTS, FIND_COUNTS, FIND_LIVES, Lives, PUT_MERCHANT, RAISE_COUNT,
 };
-
-/// The kind of the count of tokens made.
-pub(crate) const MADE: u8 = 1;
-
-/// The kind of the count of numbers given.
-pub(crate) const GIVEN: u8 = 2;
-
-/// The kind of the count of numbers denied.
-pub(crate) const DENIED: u8 = 3;
 
 /// The row of a merchant's lives.
 fn lives_rows<S: Alter>(conn: &mut Connection<S>, m: &str) -> Result<Vec<Row>, Error>
@@ -67,6 +61,21 @@ fn lives_at<S: Alter>(conn: &mut Connection<S>, m: &MerchantId) -> Result<Option
     }
 }
 
+/// The later one of a merchant's moment and `now`, which is `now` where there is no merchant.
+pub(crate) fn moment<S: Alter>(
+    conn: &mut Connection<S>,
+    m: &MerchantId,
+    now: Moment,
+) -> Result<Moment, StoreFault>
+    ensures { Tells result (state S.Store conn.old) (state S.Store conn.new)
+        (λ V found. found ≡ moment_at V m.now now) }
+{
+    match lives_at(conn, m)? {
+        Some(lives) => Ok(lives.moment.later(now)),
+        None => Ok(now),
+    }
+}
+
 /// The rows of a merchant's counts.
 fn count_rows<S: Alter>(conn: &mut Connection<S>, m: &str) -> Result<Vec<Row>, Error>
     ensures { Tells result (state S.Store conn.old) (state S.Store conn.new)
@@ -76,12 +85,13 @@ fn count_rows<S: Alter>(conn: &mut Connection<S>, m: &str) -> Result<Vec<Row>, E
 }
 
 /// The total that rows of counts show of this kind.
-fn total_of(rows: &[Row], kind: u8) -> Result<u64, StoreFault>
-    ensures { IfOk result (IsTotalOf kind rows.now) }
+fn total_of(rows: &[Row], kind: Count) -> Result<u64, StoreFault>
+    ensures { IfOk result (IsTotalOf (count_number kind) rows.now) }
 {
+    let number = kind.number() as u64;
     for row in rows {
         let found: u64 = row.get(0)?;
-        if found == kind as u64 {
+        if found == number {
             return Ok(row.get(1)?);
         }
     }
@@ -100,9 +110,9 @@ pub(crate) fn merchant<S: Alter>(
         return Ok(None);
     };
     let counts = count_rows(conn, merchant_text(m))?;
-    let made = total_of(&counts, MADE)?;
-    let given = total_of(&counts, GIVEN)?;
-    let denied = total_of(&counts, DENIED)?;
+    let made = total_of(&counts, Count::Made)?;
+    let given = total_of(&counts, Count::Given)?;
+    let denied = total_of(&counts, Count::Denied)?;
     Ok(Some(MerchantRow {
         single_life: lives.single_life,
         multi_life: lives.multi_life,

@@ -10,7 +10,6 @@ ghost use Rattle.sql_maps.specs.Rows.{one_of, put};
 
 use crate::columns::{merchant_in, token_in, usage_in};
 use crate::fault::StoreFault;
-use crate::parameters::usage_number;
 use crate::text::{caller_text, merchant_text};
 use sql_maps::run::{rows_of, step};
 use sqlite::{Alter, Connection, Error, Row, Transaction, params};
@@ -77,7 +76,7 @@ pub(crate) fn put_record<S: Alter>(
 {
     let m = merchant_text(&answered.merchant);
     let token = answered.token.as_str();
-    let usage = usage_number(answered.usage);
+    let usage = answered.usage.number();
     step(
         tx,
         PUT_RECORD,

@@ -1,7 +1,8 @@
 //! The rows of rights.
 ghost use Rattle.std.specs.Prelude.{◌≡◌, [], ◌∷◌, cond, Some, None};
 ghost use Rattle.sqlite.specs.Held.{state};
-ghost use Rattle.vault_core.specs.Keys.{right_cmp, right_number};
+ghost use Rattle.vault_core.specs.Keys.{right_cmp};
+ghost use Rattle.vault_core.specs.Numbers.{right_number};
 ghost use Rattle.vault_core.specs.Vault.{has_right};
 ghost use Rattle.vault_sql.specs.Calls.{Makes, Tells};
 ghost use Rattle.vault_schema.specs.Version1.Rows.{number_column};
@@ -15,20 +16,6 @@ use vault_core::name::{Caller, MerchantId};
 use vault_core::right::Right;
 use vault_schema::v1::{FIND_RIGHT, GIVE_RIGHT, TAKE_RIGHT};
 
-/// The number of a right.
-fn number_of(right: Right) -> u8
-    ensures { result ≡ right_number right }
-{
-    match right {
-        Right::Tokenize => 1,
-        Right::Detokenize => 2,
-        Right::View => 3,
-        Right::Revoke => 4,
-        Right::Purge => 5,
-        Right::Audit => 6,
-    }
-}
-
 /// The row of a right, where the caller has it.
 fn right_rows<S: Alter>(
     conn: &mut Connection<S>,
@@ -40,7 +27,7 @@ fn right_rows<S: Alter>(
         (λ V rows. rows.items
         ≡ cond (has_right V caller.now m.now right) (number_column (right_number right) ∷ []) []) }
 {
-    let what = number_of(right);
+    let what = right.number();
     rows_of(conn, FIND_RIGHT, params![caller, m, what as i64])
 }
 
@@ -70,7 +57,7 @@ pub(crate) fn give<S: Alter>(
         (λ _. Unit {0})
         (λ h. record h { rights = put right_cmp h.rights (caller.now, (m.now, right)) (Some tt) }) }
 {
-    let what = number_of(right);
+    let what = right.number();
     step(tx, GIVE_RIGHT, params![caller, m, what as i64])
 }
 
@@ -86,6 +73,6 @@ pub(crate) fn take<S: Alter>(
         (λ _. Unit {0})
         (λ h. record h { rights = put right_cmp h.rights (caller.now, (m.now, right)) None }) }
 {
-    let what = number_of(right);
+    let what = right.number();
     step(tx, TAKE_RIGHT, params![caller, m, what as i64])
 }

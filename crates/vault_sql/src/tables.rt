@@ -1,12 +1,13 @@
 //! Tables in a database.
 ghost use Rattle.std.specs.Prelude.{◌≡◌, true, false, Err};
 
-use crate::entries::{current, entry};
+use crate::entries::{current, dead, entry, tokens_of};
 use crate::merchants::{how_many, merchant};
 use crate::records::recorded;
 use crate::rights::has;
 use crate::transaction::{are_storable, write};
 use sqlite::{Alter, Connection};
+use std::alloc::Global;
 use vault_core::changes::Changes;
 use vault_core::moment::Moment;
 use vault_core::name::{Caller, MerchantId};
@@ -19,6 +20,7 @@ use vault_store::tables::{Tables, TablesFault};
 
 /// Tables in a database, which fail from the first call on that the database refused.
 pub struct SqlTables<S: Alter> {
+    alloc: Global,
     conn: Connection<S>,
     failed: bool,
     ghost idle: { conn.in_transaction ≡ false },
@@ -27,12 +29,13 @@ pub struct SqlTables<S: Alter> {
 impl<S: Alter> SqlTables<S> {
     /// Tables over a connection that is not inside a transaction. Nothing is promised of a database that
     /// holds no vault.
-    pub fn on(conn: Connection<S>) -> SqlTables<S>
+    pub fn on(alloc: Global, conn: Connection<S>) -> SqlTables<S>
         requires { conn.in_transaction ≡ false }
         ensures conn { result.conn ≡ conn }
         ensures fresh { result.failed ≡ false }
     {
         SqlTables {
+            alloc,
             conn,
             failed: false,
         }
@@ -42,7 +45,11 @@ impl<S: Alter> SqlTables<S> {
     pub fn into_connection(self) -> Connection<S>
         ensures { result ≡ self.conn }
     {
-        let SqlTables { conn, failed: _ } = self;
+        let SqlTables {
+            alloc: _,
+            conn,
+            failed: _,
+        } = self;
         conn
     }
 
@@ -149,6 +156,26 @@ impl<S: Alter> Tables for SqlTables<S> {
         }
         match current(&mut self.conn, &m, &p, at) {
             Ok(found) => Ok(found),
+            Err(_) => self.fail(),
+        }
+    }
+
+    #[tactic(auto, using(crate::proofs::Calls::left_by, crate::proofs::Calls::still_held))]
+    fn dead(
+        &mut self,
+        m: MerchantId,
+        now: Moment,
+        limit: usize,
+    ) -> Result<Vec<Token>, TablesFault> {
+        if self.failed {
+            return Err(TablesFault::Store);
+        }
+        match dead(&mut self.conn, &m, now, limit) {
+            Ok(rows) => match tokens_of(self.alloc, &rows) {
+                Ok(tokens) => Ok(tokens),
+                Err(TablesFault::Memory) => Err(TablesFault::Memory),
+                Err(TablesFault::Store) => self.fail(),
+            },
             Err(_) => self.fail(),
         }
     }

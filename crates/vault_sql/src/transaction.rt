@@ -11,12 +11,12 @@ ghost use Rattle.sql_maps.specs.Rows.{put};
 ghost use Rattle.vault_sql.specs.Calls.{Makes};
 ghost use Rattle.vault_sql.specs.Holds.{Holds, LeavesEither};
 ghost use Rattle.vault_sql.specs.Storable.{AreStorable, IsStorableEntry, IsStorableLives};
-ghost use Rattle.vault_sql.specs.Written.{HasRoom, kind_of as kind_of_lem, put_entry as put_entry_lem};
+ghost use Rattle.vault_sql.specs.Written.{HasRoom, put_entry as put_entry_lem};
 ghost use Rattle.vault_sql.specs.Written.{put_lives, put_record as put_record_lem, put_right};
 ghost use Rattle.vault_sql.specs.Written.{raise as raise_lem};
 
 use crate::entries::put_entry;
-use crate::merchants::{DENIED, GIVEN, MADE, put_merchant, raise};
+use crate::merchants::{put_merchant, raise};
 use crate::records::put_record;
 use crate::rights::{give, take};
 use crate::text::{caller_text, merchant_text};
@@ -59,17 +59,6 @@ pub(crate) fn are_storable(ch: &Changes) -> bool
     are_storable_lives(&ch.lives) && is_storable_entry(&ch.entry)
 }
 
-/// The kind of a count.
-fn kind_of(count: Count) -> u8
-    ensures { result ≡ kind_of_lem count }
-{
-    match count {
-        Count::Made => MADE,
-        Count::Given => GIVEN,
-        Count::Denied => DENIED,
-    }
-}
-
 /// Writes the lives and the moment of a merchant.
 fn write_lives<S: Alter>(
     tx: &mut Transaction<'_, S>,
@@ -108,7 +97,7 @@ fn write_count<S: Alter>(
         return Ok(());
     };
     match count {
-        Some(count) => raise(tx, merchant_text(&x.merchant), kind_of(count)),
+        Some(count) => raise(tx, merchant_text(&x.merchant), count.number()),
         None => Ok(()),
     }
 }

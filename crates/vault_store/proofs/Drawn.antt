@@ -5,7 +5,7 @@ use Rattle.std.specs.Prelude.{find}
 use Rattle.std.specs.List.{range_with_len}
 use Rattle.vault_pan.specs.Draw.{candidate_digits}
 use Rattle.vault_pan.specs.Luhn.{passes_check}
-use Rattle.vault_core.specs.Draw.{is_good, chosen}
+use Rattle.vault_core.specs.Draw.{is_good, chosen_token}
 use Rattle.vault_core.specs.Keys.{Bytes}
 use Rattle.vault_core.specs.Vault.{Vault, entry_at}
 use Rattle.vault_core.specs.declared.row.Entry.{Entry}
@@ -15,8 +15,8 @@ unfoldable pub chosen_from : Vault → Bytes → Bytes → Bytes → ℕ → Opt
 chosen_from V m pan digits k =
     find (is_good V m) (map (λ j. candidate_digits digits j pan) (range_with_len k (20 - k)))
 
-pub chosen-all : (V : Vault) (m pan digits : Bytes) → chosen V m pan digits ≡ chosen_from V m pan digits 0
-unfolding chosen chosen_from
+pub chosen-all : (V : Vault) (m pan digits : Bytes) → chosen_token V m pan digits ≡ chosen_from V m pan digits 0
+unfolding chosen_token chosen_from
 chosen-all V m pan digits = refl
 
 pub chosen_from-none : (V : Vault) (m pan digits : Bytes) → chosen_from V m pan digits 20 ≡ None

@@ -1,4 +1,5 @@
 pub mod AddsLemmas
+pub mod DeadLemmas
 pub mod Drawn
 pub mod EmptyLemmas
 pub mod Held

@@ -7,7 +7,7 @@ use Rattle.std.specs.Ordering.{eq_by_cmp, is_eq}
 use Rattle.vault_core.specs.Changes.{Fit, plus, with_entry, newly, made_raised}
 use Rattle.vault_core.specs.Keys.{Bytes, bytes_cmp, entry_cmp}
 use Rattle.vault_core.specs.Sound.{Sound}
-use Rattle.vault_core.specs.Vault.{Vault, merchant_at, entry_at, entries_of, made}
+use Rattle.vault_core.specs.Vault.{Vault, merchant_at, entry_at, entries_of, made_count}
 use Rattle.vault_core.specs.declared.changes.Changes.{Changes}
 use Rattle.vault_core.specs.declared.row.Entry.{Entry}
 use Rattle.vault_core.proofs.Maps.{bytes_total, bytes_exact, entry_total, entry_exact, tied, get-retained}
@@ -30,7 +30,7 @@ no_more (Some e) n q m apart = sym (add-zero n)
 
 made-insert : (V : Vault) (m token : Bytes) (entry : Entry) (q : Bytes)
     → map.len (map.retain_keys (map.insert V.entries (m, token) entry) (λ key. eq_by_cmp bytes_cmp q key.0))
-    ≡ made V q + one_at (cond (is_none (entry_at V m token)) (Some m) None) q
+    ≡ made_count V q + one_at (cond (is_none (entry_at V m token)) (Some m) None) q
 made-insert V m token entry q =
     elim (tied bytes_exact q m) [
       | inl same ↦
@@ -39,26 +39,26 @@ made-insert V m token entry q =
           ap map.len (retained-yes entry_total entry_exact V.entries (m, token) entry
           (λ key. eq_by_cmp bytes_cmp q key.0) here)
           ∙ map.len-insert entry_total (entries_of V q) (m, token) entry
-          ∙ ap (λ x. cond (is_some x) (made V q) (made V q + 1))
+          ∙ ap (λ x. cond (is_some x) (made_count V q) (made_count V q + 1))
           (get-retained entry_total entry_exact V.entries (λ key. eq_by_cmp bytes_cmp q key.0) (m, token)
           ∙ ap (λ b. cond b (entry_at V m token) None) here)
-          ∙ one_more (entry_at V m token) (made V q) q m here
+          ∙ one_more (entry_at V m token) (made_count V q) q m here
       | inr apart ↦
           ap map.len (retained-no entry_total entry_exact V.entries (m, token) entry
           (λ key. eq_by_cmp bytes_cmp q key.0) apart)
-          ∙ no_more (entry_at V m token) (made V q) q m apart
+          ∙ no_more (entry_at V m token) (made_count V q) q m apart
     ]
 
 made-with : (V : Vault) (change : Option (Bytes × Bytes × Entry)) (q : Bytes)
     → map.len (map.retain_keys (with_entry V.entries change) (λ key. eq_by_cmp bytes_cmp q key.0))
-    ≡ made V q + one_at (newly V change) q
-made-with V None q = sym (add-zero (made V q))
+    ≡ made_count V q + one_at (newly V change) q
+made-with V None q = sym (add-zero (made_count V q))
 made-with V (Some x) q = made-insert V x.0 x.1 x.2 q
 
 -- the count goes up by one at the merchant that it is raised of
 pub made-plus : (V : Vault) (ch : Changes) → Fit V ch → (q : Bytes)
-    → made (plus V ch) q ≡ made V q + one_at (made_raised ch.count ch.lives) q
-made-plus V ch fit q = made-with V ch.entry q ∙ ap (λ m. made V q + one_at m q) (sym fit.counted)
+    → made_count (plus V ch) q ≡ made_count V q + one_at (made_raised ch.count ch.lives) q
+made-plus V ch fit q = made-with V ch.entry q ∙ ap (λ m. made_count V q + one_at m q) (sym fit.counted)
 
 pub one_at-own : (b : Bool) (m : Bytes) → one_at (cond b (Some m) None) m ≡ cond b 1 0
 one_at-own true m = ap (λ r. cond (is_eq r) 1 0) (tied_itself bytes_total m)
@@ -70,7 +70,7 @@ one_at-other true q m apart = ap (λ e. cond e 1 0) apart
 one_at-other false q m apart = refl
 
 -- a merchant that isn't known has no tokens
-pub made-unknown : (V : Vault) → Sound V → (m : Bytes) → merchant_at V m ≡ None → made V m ≡ 0
+pub made-unknown : (V : Vault) → Sound V → (m : Bytes) → merchant_at V m ≡ None → made_count V m ≡ 0
 made-unknown V sound m unknown =
     ap map.len (map.same_map entry_total entry_exact (entries_of V m) map.empty none)
     ∙ map.len-empty entry_cmp Entry

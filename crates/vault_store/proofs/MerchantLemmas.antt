@@ -6,10 +6,10 @@ use Rattle.std.specs.BTreeMap as rows
 use Rattle.std.specs.FinMap as map
 use Rattle.std.specs.Cmp.{eq_by_cmp_equiv, tied_itself}
 use Rattle.std.specs.Ordering.{eq_by_cmp, is_eq}
-use Rattle.vault_core.specs.Changes.{Fit, plus, with_merchant, merchant_with, raised, is_made, made_raised}
+use Rattle.vault_core.specs.Changes.{Fit, plus, with_merchant, merchant_with, merchant_with_count, is_made, made_raised}
 use Rattle.vault_core.specs.Keys.{Bytes, bytes_cmp}
 use Rattle.vault_core.specs.Sound.{Sound}
-use Rattle.vault_core.specs.Vault.{Vault, Merchant, merchant_at, made}
+use Rattle.vault_core.specs.Vault.{Vault, Merchant, merchant_at, made_count}
 use Rattle.vault_core.specs.Window.{row_at}
 use Rattle.vault_core.specs.declared.changes.Changes.{Changes}
 use Rattle.vault_core.specs.declared.changes.Count.{Count}
@@ -34,7 +34,7 @@ counted n merchant = record {
 -- the row of the merchant whose lives change
 counted-raised : (count : Option Count) (x : Lives) (o : Option Merchant) (n k : ℕ) → (o ≡ None → n ≡ 0)
     → k ≡ n + cond (is_made count) 1 0
-    → counted k (raised count (merchant_with x o)) ≡ row_raised count (row_with x (option_map (counted n) o))
+    → counted k (merchant_with_count count (merchant_with x o)) ≡ row_raised count (row_with x (option_map (counted n) o))
 counted-raised None x None n k none more =
     let zero = none refl in
     let is : k ≡ 0 = omega arith in
@@ -50,20 +50,20 @@ counted-raised (Some Made) x (Some old) n k none more = ap (λ j. counted j (mer
 counted-raised (Some Given) x None n k none more =
     let zero = none refl in
     let is : k ≡ 0 = omega arith in
-    ap (λ j. counted j (raised (Some Given) (merchant_with x None))) is
+    ap (λ j. counted j (merchant_with_count (Some Given) (merchant_with x None))) is
 counted-raised (Some Given) x (Some old) n k none more =
     let is : k ≡ n = omega arith in
-    ap (λ j. counted j (raised (Some Given) (merchant_with x (Some old)))) is
+    ap (λ j. counted j (merchant_with_count (Some Given) (merchant_with x (Some old)))) is
 counted-raised (Some Denied) x None n k none more =
     let zero = none refl in
     let is : k ≡ 0 = omega arith in
-    ap (λ j. counted j (raised (Some Denied) (merchant_with x None))) is
+    ap (λ j. counted j (merchant_with_count (Some Denied) (merchant_with x None))) is
 counted-raised (Some Denied) x (Some old) n k none more =
     let is : k ≡ n = omega arith in
-    ap (λ j. counted j (raised (Some Denied) (merchant_with x (Some old)))) is
+    ap (λ j. counted j (merchant_with_count (Some Denied) (merchant_with x (Some old)))) is
 
 -- a row is the same where its merchant and its count are
-row-same : (V W : Vault) (q : Bytes) → merchant_at W q ≡ merchant_at V q → made W q ≡ made V q
+row-same : (V W : Vault) (q : Bytes) → merchant_at W q ≡ merchant_at V q → made_count W q ≡ made_count V q
     → row_at W q ≡ row_at V q
 row-same V W q merchant count = λ i. option_map (counted (count i)) (merchant i)
 
@@ -79,8 +79,8 @@ shows-unchanged shown V ch none fit h = record {
   at = λ q.
       h.at q ∙ sym (row-same V (plus V ch) q
       (ap (λ lives. map.get (with_merchant V.merchants ch.count lives) q) none)
-      (made-plus V ch fit q ∙ ap (λ lives. made V q + one_at (made_raised ch.count lives) q) none
-      ∙ add-zero (made V q)));
+      (made-plus V ch fit q ∙ ap (λ lives. made_count V q + one_at (made_raised ch.count lives) q) none
+      ∙ add-zero (made_count V q)));
   many = h.many ∙ sym (ap (λ lives. map.len (with_merchant V.merchants ch.count lives)) none);
 }
 
@@ -89,7 +89,7 @@ pub has_room : (V : Vault) → Sound V → (x : Lives) (m : Bytes) → HasRoom (
 has_room V sound x m = go (merchant_at V m) refl
   where
     go : (o : Option Merchant) → merchant_at V m ≡ o
-        → HasRoom (row_with x (option_map (counted (made V m)) o))
+        → HasRoom (row_with x (option_map (counted (made_count V m)) o))
     go None is = record { made = omega arith; given = omega arith; denied = omega arith }
     go (Some old) is =
         let few = sound.made_few m in
@@ -102,28 +102,28 @@ module _ (V : Vault) (sound : Sound V) (ch : Changes) (fit : Fit V ch) (x : Live
   looked_up : (q : Bytes)
       → merchant_at (plus V ch) q
       ≡ map.get
-      (map.insert V.merchants x.merchant (raised ch.count (merchant_with x (merchant_at V x.merchant)))) q
+      (map.insert V.merchants x.merchant (merchant_with_count ch.count (merchant_with x (merchant_at V x.merchant)))) q
   looked_up q = ap (λ lives. map.get (with_merchant V.merchants ch.count lives) q) is
 
   made_is : (q : Bytes)
-      → made (plus V ch) q ≡ made V q + one_at (cond (is_made ch.count) (Some x.merchant) None) q
-  made_is q = made-plus V ch fit q ∙ ap (λ lives. made V q + one_at (made_raised ch.count lives) q) is
+      → made_count (plus V ch) q ≡ made_count V q + one_at (cond (is_made ch.count) (Some x.merchant) None) q
+  made_is q = made-plus V ch fit q ∙ ap (λ lives. made_count V q + one_at (made_raised ch.count lives) q) is
 
   row-own : row_at (plus V ch) x.merchant ≡ Some (row_raised ch.count (row_with x (row_at V x.merchant)))
   row-own =
-      ap (option_map (counted (made (plus V ch) x.merchant)))
+      ap (option_map (counted (made_count (plus V ch) x.merchant)))
       (looked_up x.merchant ∙ get-insert_same bytes_total bytes_exact V.merchants x.merchant _)
-      ∙ ap Some (counted-raised ch.count x (merchant_at V x.merchant) (made V x.merchant)
-      (made (plus V ch) x.merchant)
+      ∙ ap Some (counted-raised ch.count x (merchant_at V x.merchant) (made_count V x.merchant)
+      (made_count (plus V ch) x.merchant)
       (made-unknown V sound x.merchant)
-      (made_is x.merchant ∙ ap (λ n. made V x.merchant + n) (one_at-own (is_made ch.count) x.merchant)))
+      (made_is x.merchant ∙ ap (λ n. made_count V x.merchant + n) (one_at-own (is_made ch.count) x.merchant)))
 
   row-other : (q : Bytes) → eq_by_cmp bytes_cmp q x.merchant ≡ false → row_at (plus V ch) q ≡ row_at V q
   row-other q apart =
       row-same V (plus V ch) q
       (looked_up q ∙ get-insert_other bytes_total bytes_exact V.merchants x.merchant _ q apart)
-      (made_is q ∙ ap (λ n. made V q + n) (one_at-other (is_made ch.count) q x.merchant apart)
-      ∙ add-zero (made V q))
+      (made_is q ∙ ap (λ n. made_count V q + n) (one_at-other (is_made ch.count) q x.merchant apart)
+      ∙ add-zero (made_count V q))
 
   -- the row of the merchant was put
   pub shows-put_merchant : (old new : rows.BTreeMap Bytes MerchantRow)
@@ -146,7 +146,7 @@ module _ (V : Vault) (sound : Sound V) (ch : Changes) (fit : Fit V ch) (x : Live
     many =
         len
         ∙ ap (λ b. rows.btree_map_len old + cond b 0 1)
-        (ap is_some (h.at x.merchant) ∙ is_some-map (counted (made V x.merchant)) (merchant_at V x.merchant))
+        (ap is_some (h.at x.merchant) ∙ is_some-map (counted (made_count V x.merchant)) (merchant_at V x.merchant))
         ∙ more (merchant_at V x.merchant)
         ∙ sym (ap (λ lives. map.len (with_merchant V.merchants ch.count lives)) is
         ∙ map.len-insert bytes_total V.merchants x.merchant _);
@@ -170,6 +170,6 @@ module _ (V : Vault) (sound : Sound V) (ch : Changes) (fit : Fit V ch) (x : Live
 pub unknown : (V : Vault) (m : Bytes) → row_at V m ≡ None → merchant_at V m ≡ None
 unknown V m = go (merchant_at V m)
   where
-    go : (o : Option Merchant) → option_map (counted (made V m)) o ≡ None → o ≡ None
+    go : (o : Option Merchant) → option_map (counted (made_count V m)) o ≡ None → o ≡ None
     go None none = refl
     go (Some merchant) none = cc

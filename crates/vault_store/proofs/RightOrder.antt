@@ -3,7 +3,8 @@ use Rattle.std.proofs.Common.{◌≡◌, refl, ap, subst, Bool, cond}
 use Rattle.std.specs.BTreeSet as keys
 use Rattle.std.specs.Ordering.{nat_cmp, ordering_then, eq_by_cmp}
 use Rattle.std.specs.declared.cmp.Ordering.{Ordering}
-use Rattle.vault_core.specs.Keys.{Bytes, bytes_cmp, right_cmp, right_number}
+use Rattle.vault_core.specs.Keys.{Bytes, bytes_cmp, right_cmp}
+use Rattle.vault_core.specs.Numbers.{right_number}
 use Rattle.vault_core.specs.declared.right.Right.{Right}
 use Rattle.vault_core.specs.declared.right.Right.TheVariants.{Tokenize, Detokenize, View, Revoke, Purge}
 use Rattle.vault_core.specs.declared.right.Right.TheVariants.{Audit}

@@ -2,6 +2,8 @@
 use Rattle.std.specs.Prelude.{◌≡◌, ℕ, Bool, true, false, Result, Ok, Err}
 use Rattle.vault_core.specs.Sound.{Sound}
 use Rattle.vault_core.specs.Vault.{Vault as Content}
+use Rattle.vault_store.specs.declared.tables.TablesFault.{TablesFault}
+use Rattle.vault_store.specs.declared.tables.TablesFault.TheVariants as tables
 use Rattle.vault_store.specs.declared.vault.Fault.{Fault}
 use Rattle.vault_store.specs.declared.vault.Fault.TheVariants.{Memory, Store, Reopen}
 use Rattle.vault_store.specs.declared.vault.Vault.{Vault}
@@ -24,6 +26,16 @@ breaks (Ok x) = false
 breaks (Err Memory) = false
 breaks (Err Store) = true
 breaks (Err Reopen) = true
+
+-- the fault of a vault by that of its tables
+abbrev pub tables_fault : TablesFault → Fault
+tables_fault tables.Memory = Memory
+tables_fault tables.Store = Store
+
+-- whether the store failed
+abbrev pub is_store : TablesFault → Bool
+is_store tables.Memory = false
+is_store tables.Store = true
 
 -- the tables fail with 21, and with no other answer
 abbrev pub FailsBy : {X : Type 0} → Result X Fault → Bool → Bool → Type 0

@@ -4,13 +4,16 @@ ghost use Rattle.std.specs.Prelude.{false, refl, ◌⊎◌};
 ghost use Rattle.vault_core.specs.Vault.{empty_vault};
 
 mod current;
+mod dead;
 mod merchant;
 mod rights;
 mod rows;
 mod write;
 
 use crate::tables::{Tables, TablesFault};
+use crate::window::moment_of;
 use current::live_token;
+use dead::dead_among;
 use rows::{put, put_back};
 use std::alloc::Global;
 use std::collections::{BTreeMap, BTreeSet};
@@ -24,9 +27,10 @@ use vault_pan::pan::Pan;
 use vault_pan::token::Token;
 use write::write_record;
 
-/// Tables in memory. Their reads, and their writes that add nothing, are never refused.
+/// Tables in memory. Their reads but `dead`, and their writes that add nothing, are never refused.
 #[derive(Drop)]
 pub struct MemTables {
+    alloc: Global,
     merchants: BTreeMap<MerchantId, MerchantRow>,
     entries: BTreeMap<(MerchantId, Token), Entry>,
     records: BTreeMap<(Caller, RequestNo), Record>,
@@ -41,6 +45,7 @@ impl MemTables {
         ensures { IsHeld result empty_vault }
     {
         MemTables {
+            alloc,
             merchants: BTreeMap::new(alloc),
             entries: BTreeMap::new(alloc),
             records: BTreeMap::new(alloc),
@@ -96,6 +101,16 @@ impl Tables for MemTables {
 
     fn current(&mut self, m: MerchantId, p: Pan, at: Moment) -> Result<Option<Token>, TablesFault> {
         Ok(live_token(&self.entries, m, &p, at))
+    }
+
+    fn dead(
+        &mut self,
+        m: MerchantId,
+        now: Moment,
+        limit: usize,
+    ) -> Result<Vec<Token>, TablesFault> {
+        let at = moment_of(&self.merchants.get(&m).copied(), now);
+        Ok(dead_among(self.alloc, &self.entries, m, at, limit)?)
     }
 
     fn write(&mut self, ch: &Changes) -> Result<(), TablesFault> {

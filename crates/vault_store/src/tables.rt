@@ -1,8 +1,9 @@
 //! Tables that hold a vault, whichever way.
 ghost use Rattle.std.specs.Prelude.{◌≡◌, ◌≤◌, Bool, true, false, Option, Some, None, IfOk, OnOk, IsOk, Err};
-ghost use Rattle.std.specs.Prelude.{option_map};
+ghost use Rattle.std.specs.Prelude.{option_map, take};
 ghost use Rattle.std.specs.FinMap as map;
 ghost use Rattle.vault_core.specs.Changes.{Fit, plus};
+ghost use Rattle.vault_core.specs.Dead.{dead_tokens};
 ghost use Rattle.vault_core.specs.Repeats.{current};
 ghost use Rattle.vault_core.specs.Sound.{Sound};
 ghost use Rattle.vault_core.specs.Vault.{Vault, entry_at, has_right, record_at};
@@ -43,8 +44,8 @@ impl From<AllocError> for TablesFault {
 ///
 /// Contracts see which vaults the tables hold, and what a crash may leave of them now. Both are true
 /// where the disk is honest: it returned what was written, and nobody else wrote it. Tables also say
-/// whether their reads, and their writes that add nothing, may be refused memory, and whether they
-/// may fail.
+/// whether their reads but `dead`, and their writes that add nothing, may be refused memory, and
+/// whether they may fail.
 pub trait Tables {
     ghost use Rattle.std.specs.Prelude.{Bool};
     ghost use Rattle.vault_core.specs.Vault.{Vault};
@@ -127,6 +128,18 @@ pub trait Tables {
         ensures crash { is_honest self.new → (V : Vault) → holds self.old V → leaves self.new V V }
         ensures failing { FailsWith result (has_failed self.old) (has_failed self.new) }
         ensures allowed { IsAllowed may_refuse may_fail result };
+
+    /// The first `limit` tokens of a merchant that are dead at the later of its moment and `now`, in
+    /// order of their texts. They are listed, for which any tables may be refused memory.
+    fn dead(&mut self, m: MerchantId, now: Moment, limit: usize) -> Result<Vec<Token>, TablesFault>
+        ensures honest { is_honest self.new → is_honest self.old }
+        ensures told { is_honest self.new
+            → IfOk result (λ tokens. (V : Vault) → holds self.old V → Sound V
+            → tokens.items ≡ take limit (dead_tokens V m now)) }
+        ensures kept { Keeps result (holds self.old) (holds self.new) }
+        ensures crash { is_honest self.new → (V : Vault) → holds self.old V → leaves self.new V V }
+        ensures failing { FailsWith result (has_failed self.old) (has_failed self.new) }
+        ensures sturdy { may_fail ≡ false → ¬ (result ≡ Err TablesFault.Store) };
 
     /// Makes the changes, all of them or none. Contracts ask that they fit the vault.
     fn write(&mut self, ch: &Changes) -> Result<(), TablesFault>

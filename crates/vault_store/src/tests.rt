@@ -1,4 +1,5 @@
 //! Lists of commands over tables in memory: worked cases, with tokens and moments worked out by hand.
+mod purge;
 mod redeem;
 mod stuck;
 

@@ -1,5 +1,6 @@
 //! The vault: commands that are decided, and written before they are answered.
-ghost use Rattle.std.specs.Prelude.{◌≡◌, ◌↔◌, false, true, Err, IfOk};
+ghost use Rattle.std.specs.Prelude.{◌≡◌, ◌↔◌, ◌||◌, false, true, Err, IfOk, take};
+ghost use Rattle.vault_core.specs.Dead.{dead_tokens};
 ghost use Rattle.vault_core.specs.Proper.{HasLivesInRange};
 ghost use Rattle.vault_core.specs.Sound.{Sound};
 ghost use Rattle.vault_core.specs.Table.{after as after_lem, reply as reply_lem};
@@ -12,7 +13,10 @@ use crate::tables::{Tables, TablesFault};
 use crate::window::window;
 use vault_core::command::Command;
 use vault_core::decide::decide;
+use vault_core::moment::Moment;
+use vault_core::name::MerchantId;
 use vault_core::reply::Reply;
+use vault_pan::token::Token;
 
 /// Why a command wasn't answered.
 #[derive(Clone, Copy, Debug, PartialEq, Eq)]
@@ -49,7 +53,7 @@ pub struct Vault<T> {
 
 impl<T: Tables> Vault<T> {
     ghost use Rattle.vault_store.specs.Applied.{Contains, FailsBy, IsAllowedFault, breaks, is_broken};
-    ghost use Rattle.vault_store.specs.Applied.{tables_of};
+    ghost use Rattle.vault_store.specs.Applied.{is_store, tables_fault, tables_of};
 
     /// The vault that tables hold. Nothing is promised of tables that hold no sound vault.
     pub fn new(tables: T) -> Vault<T>
@@ -89,10 +93,49 @@ impl<T: Tables> Vault<T> {
         }
         match answer(&mut self.tables, c) {
             Ok(reply) => Ok(reply),
-            Err(TablesFault::Memory) => Err(Fault::Memory),
-            Err(TablesFault::Store) => {
+            Err(fault) => Err(self.fault_of(fault)),
+        }
+    }
+
+    /// The first `limit` tokens of a merchant that are dead at the later of its moment and `now`, in
+    /// order of their texts. Nothing changes.
+    pub fn dead(&mut self, m: MerchantId, now: Moment, limit: usize) -> Result<Vec<Token>, Fault>
+        ensures honest { T.is_honest (tables_of self.new) → T.is_honest (tables_of self.old) }
+        ensures told { T.is_honest (tables_of self.new)
+            → IfOk result (λ tokens. (V : Content) → Contains T.holds self.old V
+            → (tokens.items ≡ take limit (dead_tokens V m now)) × Contains T.holds self.new V) }
+        ensures memory { result ≡ Err Fault.Memory → (V : Content) → Contains T.holds self.old V
+            → Contains T.holds self.new V }
+        ensures reopen { (result ≡ Err Fault.Reopen) ↔ (is_broken self.old ≡ true) }
+        ensures unchanged { result ≡ Err Fault.Reopen → tables_of self.new ≡ tables_of self.old }
+        ensures broken { is_broken self.new ≡ breaks result }
+        ensures crash { T.is_honest (tables_of self.new) → (V : Content) → Contains T.holds self.old V
+            → LeavesBy result (T.leaves (tables_of self.new)) V V }
+        ensures failing { FailsBy result (T.has_failed (tables_of self.old))
+            (T.has_failed (tables_of self.new)) }
+        ensures sturdy { T.may_fail ≡ false → ¬ (result ≡ Err Fault.Store) }
+    {
+        if self.broken {
+            Err(Fault::Reopen)
+        } else {
+            match self.tables.dead(m, now, limit) {
+                Ok(tokens) => Ok(tokens),
+                Err(fault) => Err(self.fault_of(fault)),
+            }
+        }
+    }
+
+    /// The fault of the vault by that of its tables. A Store fault breaks the vault.
+    fn fault_of(&mut self, fault: TablesFault) -> Fault
+        ensures fault { result ≡ tables_fault fault }
+        ensures broken { is_broken self.new ≡ (is_store fault || is_broken self.old) }
+        ensures tables { tables_of self.new ≡ tables_of self.old }
+    {
+        match fault {
+            TablesFault::Memory => Fault::Memory,
+            TablesFault::Store => {
                 self.broken = true;
-                Err(Fault::Store)
+                Fault::Store
             }
         }
     }

@@ -1,8 +1,8 @@
 //! The rows of the tables that one command needs.
 ghost use Rattle.std.specs.Prelude.{◌≡◌, IfOk, option_map};
 ghost use Rattle.std.specs.Option.{option_map_or};
-ghost use Rattle.vault_core.specs.Draw.{chosen};
-ghost use Rattle.vault_core.specs.Repeats.{current, recorded, reusable as reusable_lem};
+ghost use Rattle.vault_core.specs.Draw.{chosen_token};
+ghost use Rattle.vault_core.specs.Repeats.{current, record_with_entry, reusable as reusable_lem};
 ghost use Rattle.vault_core.specs.Sound.{Sound};
 ghost use Rattle.vault_core.specs.Vault.{Vault};
 ghost use Rattle.vault_core.specs.Window.{IsWindow, ShowsRequest, ShowsToken, moment_at};
@@ -10,9 +10,8 @@ ghost use Rattle.vault_store.specs.Reads.{FailsWith, IsAllowed, Keeps};
 ghost use Rattle.vault_store.specs.Rows.{row_moment};
 
 use crate::tables::{Tables, TablesFault};
-use vault_core::command::{Command, TokenRequest};
+use vault_core::command::{Command, TokenCommand, TokenRequest};
 use vault_core::moment::Moment;
-use vault_core::name::{Caller, MerchantId};
 use vault_core::right::Right;
 use vault_core::row::{Entry, MerchantRow, Record};
 use vault_core::usage::Use;
@@ -53,24 +52,6 @@ pub fn window<T: Tables>(tables: &mut T, c: &Command) -> Result<Window, TablesFa
             };
             request_window(tables, &asked)
         }
-        Command::Detokenize {
-            caller,
-            merchant,
-            token,
-            ..
-        } => token_window(tables, caller, merchant, token, Right::Detokenize),
-        Command::View {
-            caller,
-            merchant,
-            token,
-            ..
-        } => token_window(tables, caller, merchant, token, Right::View),
-        Command::Revoke {
-            caller,
-            merchant,
-            token,
-            ..
-        } => token_window(tables, caller, merchant, token, Right::Revoke),
         Command::Audit {
             caller,
             merchant,
@@ -84,31 +65,31 @@ pub fn window<T: Tables>(tables: &mut T, c: &Command) -> Result<Window, TablesFa
                 ..Window::empty()
             })
         }
+        _ => {
+            let Some(asked) = c.token_command() else {
+                unreachable!()
+            };
+            token_window(tables, &asked)
+        }
     }
 }
 
-/// The window of a command that names a token and needs a right.
-fn token_window<T: Tables>(
-    tables: &mut T,
-    caller: Caller,
-    merchant: MerchantId,
-    token: Token,
-    needed: Right,
-) -> Result<Window, TablesFault>
+/// The window of a command on a token.
+fn token_window<T: Tables>(tables: &mut T, asked: &TokenCommand) -> Result<Window, TablesFault>
     ensures honest { T.is_honest tables.new → T.is_honest tables.old }
     ensures told { T.is_honest tables.new
-        → IfOk result (λ found. (V : Vault) → T.holds tables.old V → Sound V
-        → ShowsToken V caller merchant token needed found) }
+        → IfOk result
+        (λ found. (V : Vault) → T.holds tables.old V → Sound V → ShowsToken V asked.now found) }
     ensures kept { Keeps result (T.holds tables.old) (T.holds tables.new) }
     ensures crash { T.is_honest tables.new → (V : Vault) → T.holds tables.old V → T.leaves tables.new V V }
     ensures failing { FailsWith result (T.has_failed tables.old) (T.has_failed tables.new) }
     ensures allowed { IsAllowed T.may_refuse T.may_fail result }
 {
-    let row = tables.merchant(merchant)?;
-    let right = tables.right(caller, merchant, needed)?;
-    let named = tables.entry(merchant, token)?;
+    let merchant = tables.merchant(asked.merchant)?;
+    let right = tables.right(asked.caller, asked.merchant, asked.right)?;
+    let named = tables.entry(asked.merchant, asked.token)?;
     Ok(Window {
-        merchant: row,
+        merchant,
         right,
         named,
         ..Window::empty()
@@ -142,7 +123,7 @@ fn request_window<T: Tables>(tables: &mut T, asked: &TokenRequest) -> Result<Win
 }
 
 /// The moment of a command at a merchant.
-fn moment_of(merchant: &Option<MerchantRow>, now: Moment) -> Moment
+pub fn moment_of(merchant: &Option<MerchantRow>, now: Moment) -> Moment
     ensures { result ≡ row_moment merchant.now now }
 {
     match merchant {
@@ -159,7 +140,7 @@ fn recorded_entry<T: Tables>(
     ensures honest { T.is_honest tables.new → T.is_honest tables.old }
     ensures told { T.is_honest tables.new
         → IfOk result (λ found. (V : Vault) → T.holds tables.old V → Sound V
-        → found ≡ recorded V asked.now.caller asked.now.request) }
+        → found ≡ record_with_entry V asked.now.caller asked.now.request) }
     ensures kept { Keeps result (T.holds tables.old) (T.holds tables.new) }
     ensures crash { T.is_honest tables.new → (V : Vault) → T.holds tables.old V → T.leaves tables.new V V }
     ensures failing { FailsWith result (T.has_failed tables.old) (T.has_failed tables.new) }
@@ -209,7 +190,7 @@ fn first_good<T: Tables>(tables: &mut T, asked: &TokenRequest) -> Result<Option<
     ensures honest { T.is_honest tables.new → T.is_honest tables.old }
     ensures told { T.is_honest tables.new
         → IfOk result (λ found. (V : Vault) → T.holds tables.old V → Sound V
-        → found ≡ chosen V asked.now.merchant asked.now.pan asked.now.digits) }
+        → found ≡ chosen_token V asked.now.merchant asked.now.pan asked.now.digits) }
     ensures kept { Keeps result (T.holds tables.old) (T.holds tables.new) }
     ensures crash { T.is_honest tables.new → (V : Vault) → T.holds tables.old V → T.leaves tables.new V V }
     ensures failing { FailsWith result (T.has_failed tables.old) (T.has_failed tables.new) }

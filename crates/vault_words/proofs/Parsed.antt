@@ -19,7 +19,7 @@ use Rattle.vault_words.specs.declared.commands.pipe.PipeJob.{PipeJob}
 use Rattle.vault_words.specs.declared.commands.trial.TrialJob.{TrialJob}
 use Rattle.vault_words.specs.declared.jobs.Job.{Job}
 use Rattle.vault_words.specs.declared.jobs.Job.TheVariants.{Trial, Merchant, Grant, Withdraw}
-use Rattle.vault_words.specs.declared.jobs.Job.TheVariants.{Rights, Pipe, Batch, Serve, Check}
+use Rattle.vault_words.specs.declared.jobs.Job.TheVariants.{Rights, Pipe, Batch, Serve, Sweep, Check}
 use Rattle.vault_words.specs.declared.jobs.JobFault.{JobFault}
 use Rattle.vault_words.specs.declared.jobs.JobFault.TheVariants.{Help, BadWords, Memory}
 
@@ -71,6 +71,7 @@ no_trial name rows is never (Rights job) h =
 no_trial name rows is never (Pipe job) h = differ name (codes "trial") (codes "pipe") refl refl is h.0
 no_trial name rows is never (Batch job) h = differ name (codes "trial") (codes "batch") refl refl is h.0
 no_trial name rows is never (Serve job) h = differ name (codes "trial") (codes "serve") refl refl is h.0
+no_trial name rows is never (Sweep job) h = differ name (codes "trial") (codes "sweep") refl refl is h.0
 no_trial name rows is never (Check job) h = differ name (codes "trial") (codes "check") refl refl is h.0
 
 pub no_pipe : (name : Text) (rows : List Row) → name ≡ codes "pipe"
@@ -85,6 +86,7 @@ no_pipe name rows is never (Rights job) h = differ name (codes "pipe") (codes "r
 no_pipe name rows is never (Pipe job) h = never job h.1
 no_pipe name rows is never (Batch job) h = differ name (codes "pipe") (codes "batch") refl refl is h.0
 no_pipe name rows is never (Serve job) h = differ name (codes "pipe") (codes "serve") refl refl is h.0
+no_pipe name rows is never (Sweep job) h = differ name (codes "pipe") (codes "sweep") refl refl is h.0
 no_pipe name rows is never (Check job) h = differ name (codes "pipe") (codes "check") refl refl is h.0
 
 pub no_batch : (name : Text) (rows : List Row) → name ≡ codes "batch"
@@ -101,6 +103,7 @@ no_batch name rows is never (Rights job) h =
 no_batch name rows is never (Pipe job) h = differ name (codes "batch") (codes "pipe") refl refl is h.0
 no_batch name rows is never (Batch job) h = never job h.1
 no_batch name rows is never (Serve job) h = differ name (codes "batch") (codes "serve") refl refl is h.0
+no_batch name rows is never (Sweep job) h = differ name (codes "batch") (codes "sweep") refl refl is h.0
 no_batch name rows is never (Check job) h = differ name (codes "batch") (codes "check") refl refl is h.0
 
 -- the program's commands are plain enough for clap to say all of a parse

@@ -11,6 +11,7 @@ use Rattle.vault_words.specs.declared.commands.pipe.PipeJob.{PipeJob}
 use Rattle.vault_words.specs.declared.commands.rights.RightJob.{RightJob}
 use Rattle.vault_words.specs.declared.commands.rights_file.RightsFileJob.{RightsFileJob}
 use Rattle.vault_words.specs.declared.commands.serve.ServeJob.{ServeJob}
+use Rattle.vault_words.specs.declared.commands.sweep.SweepJob.{SweepJob}
 use Rattle.vault_words.specs.declared.commands.trial.TrialJob.{TrialJob}
 
 -- trial [--now T] [--digits D] CALLER MERCHANT LIFE
@@ -100,6 +101,19 @@ AsksServe rows job =
     HasConnections rows job.connections × HasPort rows job.port
     × HasText rows (codes "FILE") job.file.now
 
+-- sweep [--now T] FILE CALLER MERCHANT
+abbrev pub sweep_app : App
+sweep_app = with_rules (new_app (codes "sweep"))
+    (now_rule ∷ text_rule (codes "FILE") ∷ text_rule (codes "CALLER")
+    ∷ text_rule (codes "MERCHANT") ∷ [])
+
+-- the values of sweep ask for this job
+abbrev pub AsksSweep : List Row → SweepJob → Type 0
+AsksSweep rows job =
+    HasNow rows job.now × HasText rows (codes "FILE") job.file.now
+    × HasText rows (codes "CALLER") job.caller.now
+    × HasText rows (codes "MERCHANT") job.merchant.now
+
 -- check FILE
 abbrev pub check_app : App
 check_app = with_rules (new_app (codes "check")) (text_rule (codes "FILE") ∷ [])
@@ -123,4 +137,4 @@ root_app =
 abbrev pub vault_app : App
 vault_app = with_subcommands root_app
     (trial_app ∷ merchant_app ∷ right_app (codes "grant") ∷ right_app (codes "withdraw")
-    ∷ rights_app ∷ pipe_app ∷ batch_app ∷ serve_app ∷ check_app ∷ [])
+    ∷ rights_app ∷ pipe_app ∷ batch_app ∷ serve_app ∷ sweep_app ∷ check_app ∷ [])

@@ -4,10 +4,10 @@ use Rattle.clap.specs.Words.{App, Row, Text, IsAmong, fault_of, subcommand_of}
 use Rattle.clap.specs.declared.error.kind.ErrorKind.{ErrorKind}
 use Rattle.clap.specs.declared.error.kind.ErrorKind.TheVariants.{DisplayHelp, OutOfMemory}
 use Rattle.vault_words.specs.Commands.{AsksBatch, AsksCheck, AsksMerchant, AsksPipe, AsksRight}
-use Rattle.vault_words.specs.Commands.{AsksRights, AsksServe, AsksTrial}
+use Rattle.vault_words.specs.Commands.{AsksRights, AsksServe, AsksSweep, AsksTrial}
 use Rattle.vault_words.specs.declared.jobs.Job.{Job}
 use Rattle.vault_words.specs.declared.jobs.Job.TheVariants.{Trial, Merchant, Grant, Withdraw}
-use Rattle.vault_words.specs.declared.jobs.Job.TheVariants.{Rights, Pipe, Batch, Serve, Check}
+use Rattle.vault_words.specs.declared.jobs.Job.TheVariants.{Rights, Pipe, Batch, Serve, Sweep, Check}
 use Rattle.vault_words.specs.declared.jobs.JobFault.{JobFault}
 use Rattle.vault_words.specs.declared.jobs.JobFault.TheVariants.{Help, BadWords, Memory}
 
@@ -21,6 +21,7 @@ Asks name rows (Rights job) = (name ≡ codes "rights") × AsksRights rows job
 Asks name rows (Pipe job) = (name ≡ codes "pipe") × AsksPipe rows job
 Asks name rows (Batch job) = (name ≡ codes "batch") × AsksBatch rows job
 Asks name rows (Serve job) = (name ≡ codes "serve") × AsksServe rows job
+Asks name rows (Sweep job) = (name ≡ codes "sweep") × AsksSweep rows job
 Asks name rows (Check job) = (name ≡ codes "check") × AsksCheck rows job
 
 -- the subcommand that was met, with its values, asks for the job

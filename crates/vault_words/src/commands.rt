@@ -7,4 +7,5 @@ pub mod pipe;
 pub mod rights;
 pub mod rights_file;
 pub mod serve;
+pub mod sweep;
 pub mod trial;

@@ -12,6 +12,7 @@ use crate::commands::pipe::PipeJob;
 use crate::commands::rights::RightJob;
 use crate::commands::rights_file::RightsFileJob;
 use crate::commands::serve::ServeJob;
+use crate::commands::sweep::SweepJob;
 use crate::commands::trial::TrialJob;
 use crate::jobs::{Job, JobFault};
 use crate::tree::tree;
@@ -45,6 +46,7 @@ fn job_of<'a>(name: &str, matches: &ArgMatches<'a>) -> Result<Job<'a>, BadValue>
         "pipe" => read!(matches, PipeJob, Job::Pipe),
         "batch" => read!(matches, BatchJob, Job::Batch),
         "serve" => read!(matches, ServeJob, Job::Serve),
+        "sweep" => read!(matches, SweepJob, Job::Sweep),
         "check" => read!(matches, CheckJob, Job::Check),
         _ => Err(BadValue),
     }

@@ -7,6 +7,7 @@ use crate::commands::pipe::PipeJob;
 use crate::commands::rights::RightJob;
 use crate::commands::rights_file::RightsFileJob;
 use crate::commands::serve::ServeJob;
+use crate::commands::sweep::SweepJob;
 use crate::commands::trial::TrialJob;
 
 /// Why words are no job.
@@ -39,6 +40,8 @@ pub enum Job<'a> {
     Batch(BatchJob<'a>),
     /// Messages of connections are answered by the vault in a file.
     Serve(ServeJob<'a>),
+    /// The card numbers of a merchant's dead tokens are purged.
+    Sweep(SweepJob<'a>),
     /// A file is checked whole.
     Check(CheckJob<'a>),
 }

@@ -12,6 +12,7 @@ use crate::commands::pipe::pipe;
 use crate::commands::rights::{grant, withdraw};
 use crate::commands::rights_file::rights;
 use crate::commands::serve::serve;
+use crate::commands::sweep::sweep;
 use crate::commands::trial::trial;
 use clap::Command;
 use std::alloc::{AllocError, Global};
@@ -48,5 +49,6 @@ pub(crate) fn tree<'a>(alloc: Global) -> Result<Command<'a>, AllocError>
     let tree = with(tree, pipe(alloc));
     let tree = with(tree, batch(alloc));
     let tree = with(tree, serve(alloc));
+    let tree = with(tree, sweep(alloc));
     with(tree, check(alloc))
 }

@@ -6,7 +6,7 @@ ghost use Rattle.vault_words.specs.Values.{HasNumber, HasPort, HasText, IsLeftOu
 
 use crate::digits::drawn;
 use clap::ArgMatches;
-use vault_core::command::LONGEST_LIFE;
+use vault_core::limit::LONGEST_LIFE;
 use vault_core::moment::Moment;
 use vault_pan::draw::Digits;
 

@@ -17,11 +17,11 @@ use vault_sql::tables::SqlTables;
 use vault_store::vault::{Fault, Vault};
 
 /// A vault over a connection to a vault's database.
-fn vault_over<S: Alter>(conn: Connection<S>) -> Vault<SqlTables<S>>
+fn vault_over<S: Alter>(alloc: Global, conn: Connection<S>) -> Vault<SqlTables<S>>
     requires idle { conn.in_transaction ≡ false }
     requires unlimited { conn.step_limit ≡ None }
 {
-    Vault::new(SqlTables::on(conn))
+    Vault::new(SqlTables::on(alloc, conn))
 }
 
 /// Whether a command was answered with a token.
@@ -42,7 +42,7 @@ fn answered<D: Disk + Drop>(
 {
     match open_files(alloc, files) {
         Some(conn) => {
-            let (answer, store) = apply_last(vault_over(conn), request);
+            let (answer, store) = apply_last(vault_over(alloc, conn), request);
             Some((is_token(answer), store.close()))
         }
         None => None,

@@ -5,12 +5,10 @@ ghost use Rattle.vault_words.specs.declared.jobs.Job.{Job};
 ghost use Rattle.vault_jobs.specs.Streams.{Streams, streams};
 ghost use Rattle.vault_cli.specs.Ran.{Ends};
 
+use crate::asker::asker_of;
 use crate::ending::Ending;
 use crate::on_file::do_on_file;
 use std::io::{Read, Write};
-use vault_batch::asker::Asker;
-use vault_core::name::{Caller, MerchantId};
-use vault_core::refusal::BAD_NAME;
 use vault_jobs::task::Task;
 use vault_wire::watched::Watched;
 use vault_words::commands::batch::BatchJob;
@@ -25,13 +23,10 @@ pub(crate) fn batch<R: Read, W: Write>(
     ensures { let s : Streams = streams R.remaining input.old input.new W.contents output.old output.new in
         Ends (Job.Batch job.entry.now) result (input.new ≡ input.old) (output.new ≡ output.old) s }
 {
-    let Ok(caller) = Caller::read(job.caller.as_bytes()) else {
-        return Ending::Refused(BAD_NAME);
+    let asker = match asker_of(job.caller, job.merchant) {
+        Ok(asker) => asker,
+        Err(number) => return Ending::Refused(number),
     };
-    let Ok(merchant) = MerchantId::read(job.merchant.as_bytes()) else {
-        return Ending::Refused(BAD_NAME);
-    };
-    let asker = Asker { caller, merchant };
     let task = Task::Batch(asker, job.now, job.digits);
     do_on_file(rt, job.file, &task, input, output)
 }

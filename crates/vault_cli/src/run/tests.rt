@@ -302,4 +302,5 @@ mod files;
 mod rights;
 mod sequence;
 mod streams;
+mod sweep;
 mod words;

@@ -5,15 +5,13 @@ ghost use Rattle.vault_core.specs.Scalar.{IsLife};
 use crate::changes::{Changes, Lives};
 use crate::command::Command;
 use crate::decide::answer::{moved, refused};
+use crate::limit::MOST_MERCHANTS;
 use crate::moment::Moment;
 use crate::name::{Caller, MerchantId};
 use crate::refusal::{NO_MERCHANT, TOO_MANY_MERCHANTS};
 use crate::reply::Reply;
 use crate::right::Right;
 use crate::window::Window;
-
-/// The most merchants of a vault.
-const MOST_MERCHANTS: u64 = 10000;
 
 /// A merchant is set.
 pub fn set_merchant(
@@ -26,7 +24,8 @@ pub fn set_merchant(
     requires single { IsLife single_life }
     requires multi { IsLife multi_life }
     ensures settles { Decides w.now (Command.SetMerchant merchant single_life multi_life now) result }
-    ensures refusals { RefusesQuietly (Command.SetMerchant merchant single_life multi_life now) result.0 result.1 }
+    ensures refusals { RefusesQuietly (Command.SetMerchant merchant single_life multi_life now)
+        result.0 result.1 }
 {
     let moment = match w.merchant {
         Some(row) => row.moment.later(now),

@@ -1,27 +1,19 @@
-//! Tokens whose lives are ended.
+//! Tokens whose lives are ended, and whose card numbers are purged.
 ghost use Rattle.vault_core.specs.Changes.{Decides, RefusesQuietly};
+ghost use Rattle.vault_core.specs.Named.{command_by};
 
 use crate::changes::Changes;
-use crate::command::Command;
+use crate::command::{Command, TokenCommand};
 use crate::decide::answer::{moved, refused};
-use crate::moment::Moment;
-use crate::name::{Caller, MerchantId};
-use crate::refusal::{NO_MERCHANT, NO_RIGHT, NO_TOKEN, PURGED};
-use crate::reply::Reply;
-use crate::row::Entry;
+use crate::refusal::{NO_MERCHANT, NO_RIGHT, NO_TOKEN, PURGED, STILL_LIVE};
+use crate::reply::{Reply, State};
+use crate::row::{Entry, EntryState};
 use crate::window::Window;
-use vault_pan::token::Token;
 
 /// A token's life is ended.
-pub fn revoke(
-    w: &Window,
-    caller: Caller,
-    merchant: MerchantId,
-    token: Token,
-    now: Moment,
-) -> (Reply, Changes)
-    ensures settles { Decides w.now (Command.Revoke caller merchant token now) result }
-    ensures refusals { RefusesQuietly (Command.Revoke caller merchant token now) result.0 result.1 }
+pub fn revoke(w: &Window, asked: &TokenCommand) -> (Reply, Changes)
+    ensures settles { Decides w.now (command_by Command.Revoke asked.now) result }
+    ensures refusals { RefusesQuietly (command_by Command.Revoke asked.now) result.0 result.1 }
 {
     let Some(row) = w.merchant else {
         return refused(NO_MERCHANT);
@@ -32,18 +24,54 @@ pub fn revoke(
     let Some(entry) = w.named else {
         return refused(NO_TOKEN);
     };
-    if entry.number.is_none() {
+    let at = row.moment.later(asked.moment);
+    if let EntryState::Purged = entry.state(at) {
         return refused(PURGED);
     }
-    let at = row.moment.later(now);
     let retired = Entry {
         revoked: Some(entry.revoked.unwrap_or(at)),
         ..entry
     };
     let changes = Changes {
-        lives: Some(moved(merchant, &row, now)),
-        entry: Some((merchant, token, retired)),
+        lives: Some(moved(asked.merchant, &row, asked.moment)),
+        entry: Some((asked.merchant, asked.token, retired)),
         ..Changes::none()
+    };
+    (Reply::Done, changes)
+}
+
+/// A token's card number is purged; everything else of its entry stays.
+pub fn purge(w: &Window, asked: &TokenCommand) -> (Reply, Changes)
+    ensures settles { Decides w.now (command_by Command.Purge asked.now) result }
+    ensures refusals { RefusesQuietly (command_by Command.Purge asked.now) result.0 result.1 }
+{
+    let Some(row) = w.merchant else {
+        return refused(NO_MERCHANT);
+    };
+    if !w.right {
+        return refused(NO_RIGHT);
+    }
+    let Some(entry) = w.named else {
+        return refused(NO_TOKEN);
+    };
+    let changes = Changes {
+        lives: Some(moved(asked.merchant, &row, asked.moment)),
+        ..Changes::none()
+    };
+    let state = match entry.state(row.moment.later(asked.moment)) {
+        EntryState::Kept { state, .. } => state,
+        EntryState::Purged => return (Reply::Done, changes),
+    };
+    if let State::Live = state {
+        return refused(STILL_LIVE);
+    }
+    let purged = Entry {
+        number: None,
+        ..entry
+    };
+    let changes = Changes {
+        entry: Some((asked.merchant, asked.token, purged)),
+        ..changes
     };
     (Reply::Done, changes)
 }

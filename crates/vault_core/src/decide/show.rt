@@ -1,30 +1,23 @@
 //! Tokens that are asked about, and counts.
 ghost use Rattle.vault_core.specs.Changes.{Decides, RefusesQuietly, no_changes};
 ghost use Rattle.std.specs.Prelude.{◌≡◌};
-ghost use Rattle.vault_core.specs.Show.{state_of as state_of_lem};
+ghost use Rattle.vault_core.specs.Named.{command_by};
 
 use crate::changes::Changes;
-use crate::command::Command;
+use crate::command::{Command, TokenCommand};
 use crate::decide::answer::refused;
 use crate::moment::Moment;
 use crate::name::{Caller, MerchantId};
 use crate::refusal::{NO_MERCHANT, NO_RIGHT, NO_TOKEN, PURGED};
-use crate::reply::{Reply, State};
-use crate::row::Entry;
+use crate::reply::Reply;
+use crate::row::EntryState;
 use crate::window::Window;
 use vault_pan::mask::mask;
-use vault_pan::token::Token;
 
 /// A token is asked about.
-pub fn view(
-    w: &Window,
-    caller: Caller,
-    merchant: MerchantId,
-    token: Token,
-    now: Moment,
-) -> (Reply, Changes)
-    ensures settles { Decides w.now (Command.View caller merchant token now) result }
-    ensures refusals { RefusesQuietly (Command.View caller merchant token now) result.0 result.1 }
+pub fn view(w: &Window, asked: &TokenCommand) -> (Reply, Changes)
+    ensures settles { Decides w.now (command_by Command.View asked.now) result }
+    ensures refusals { RefusesQuietly (command_by Command.View asked.now) result.0 result.1 }
     ensures silent { result.1 ≡ no_changes }
 {
     let Some(row) = w.merchant else {
@@ -36,30 +29,18 @@ pub fn view(
     let Some(entry) = w.named else {
         return refused(NO_TOKEN);
     };
-    let Some(number) = entry.number else {
-        return refused(PURGED);
+    let (number, state) = match entry.state(row.moment.later(asked.moment)) {
+        EntryState::Kept { number, state } => (number, state),
+        EntryState::Purged => return refused(PURGED),
     };
     let reply = Reply::Shown {
         masked: mask(&number),
         usage: entry.usage,
         birth: entry.birth,
         expires: entry.expires,
-        state: state_of(&entry, row.moment.later(now)),
+        state,
     };
     (reply, Changes::none())
-}
-
-/// The state of an entry that isn't erased.
-fn state_of(entry: &Entry, at: Moment) -> State
-    ensures { result ≡ state_of_lem entry.now at }
-{
-    if entry.revoked.is_some() {
-        State::Revoked
-    } else if at.seconds() < entry.expires {
-        State::Live
-    } else {
-        State::Expired
-    }
 }
 
 /// A merchant's counts are asked for.

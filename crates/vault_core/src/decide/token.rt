@@ -1,6 +1,6 @@
 //! Tokens that are asked for.
 ghost use Rattle.std.specs.Prelude.{◌≡◌, IsSome};
-ghost use Rattle.vault_core.specs.Changes.{Decides, RefusesQuietly, Yields, no_changes, moved_lives};
+ghost use Rattle.vault_core.specs.Changes.{Decides, RefusesQuietly, Yields, no_changes, record_changes};
 ghost use Rattle.vault_core.specs.Repeats.{is_repeat as is_repeat_lem};
 ghost use Rattle.vault_core.specs.Table.{command_of};
 ghost use Rattle.vault_core.specs.Tokens.{new_request as new_request_lem};
@@ -10,15 +10,13 @@ ghost use Rattle.vault_core.specs.Window.{ShowsMerchant};
 use crate::changes::{Changes, Count};
 use crate::command::TokenRequest;
 use crate::decide::answer::{moved, refused};
+use crate::limit::MOST_TOKENS;
 use crate::refusal::{FULL, NO_CANDIDATE, NO_MERCHANT, NO_RIGHT, NUMBER_REUSED, WRONG_USE};
 use crate::reply::Reply;
 use crate::row::{Entry, MerchantRow, Record};
 use crate::usage::Use;
 use crate::window::Window;
 use vault_pan::token::Token;
-
-/// The most tokens of a merchant, erased ones too.
-const MOST_TOKENS: u64 = 1000000;
 
 /// A token is asked for.
 pub fn tokenize(w: &Window, asked: &TokenRequest) -> (Reply, Changes)
@@ -106,7 +104,7 @@ fn life_of(row: &MerchantRow, usage: Use) -> u64
 /// The token of an entry is given, and the request is recorded.
 fn again(asked: &TokenRequest, row: &MerchantRow, token: Token, entry: &Entry) -> (Reply, Changes)
     ensures value { result.0 ≡ Reply.Token token entry.now.expires }
-    ensures changes { result.1 ≡ record no_changes { lives = Some (moved_lives asked.now.merchant row.now asked.now.moment); recorded = Some (asked.now.caller, asked.now.request, record { merchant = asked.now.merchant; token = token; usage = asked.now.usage }) } }
+    ensures changes { result.1 ≡ record_changes asked.now row.now token }
 {
     let record = Record {
         merchant: asked.merchant,

@@ -1,4 +1,4 @@
-//! Decisions on commands that name a token, at the limits of the counts and for erased numbers.
+//! Decisions on commands that name a token, at the limits of the counts and for purged numbers.
 use super::{caller, decision, merchant, moment, open_window, pan, refusal, shop, token};
 use crate::changes::Count;
 use crate::command::Command;
@@ -13,7 +13,7 @@ use vault_pan::pan::Pan;
 const MOST: u64 = 4611686018427387903;
 
 /// The entry of a token that is live from second 1000 to second 1059.
-fn live(rt: &impl Abort) -> Entry {
+pub(super) fn live(rt: &impl Abort) -> Entry {
     Entry {
         number: Some(pan(rt, "4111111111111111")),
         usage: Use::Single,
@@ -24,7 +24,7 @@ fn live(rt: &impl Abort) -> Entry {
 }
 
 /// What a command that names the live token needs, where these counts stand.
-fn counted(rt: &impl Abort, given: u64, denied: u64) -> Window {
+pub(super) fn counted(rt: &impl Abort, given: u64, denied: u64) -> Window {
     Window {
         merchant: Some(MerchantRow {
             made: 1,
@@ -38,7 +38,7 @@ fn counted(rt: &impl Abort, given: u64, denied: u64) -> Window {
 }
 
 /// A Detokenize of `till-1` at `shop1`.
-fn detokenize(rt: &impl Abort, now: u64) -> Command {
+pub(super) fn detokenize(rt: &impl Abort, now: u64) -> Command {
     Command::Detokenize {
         caller: caller(rt, "till-1"),
         merchant: merchant(rt, "shop1"),
@@ -48,7 +48,7 @@ fn detokenize(rt: &impl Abort, now: u64) -> Command {
 }
 
 /// A View of `till-1` at `shop1`.
-fn view(rt: &impl Abort, now: u64) -> Command {
+pub(super) fn view(rt: &impl Abort, now: u64) -> Command {
     Command::View {
         caller: caller(rt, "till-1"),
         merchant: merchant(rt, "shop1"),
@@ -58,7 +58,7 @@ fn view(rt: &impl Abort, now: u64) -> Command {
 }
 
 /// A Revoke of `till-1` at `shop1`.
-fn revoke(rt: &impl Abort, now: u64) -> Command {
+pub(super) fn revoke(rt: &impl Abort, now: u64) -> Command {
     Command::Revoke {
         caller: caller(rt, "till-1"),
         merchant: merchant(rt, "shop1"),
@@ -68,7 +68,12 @@ fn revoke(rt: &impl Abort, now: u64) -> Command {
 }
 
 /// The number of a denial that is counted and moves the merchant's moment, and changes nothing else.
-fn denial(rt: &impl Abort, window: &Window, command: &Command, moved_to: u64) -> Option<u8> {
+pub(super) fn denial(
+    rt: &impl Abort,
+    window: &Window,
+    command: &Command,
+    moved_to: u64,
+) -> Option<u8> {
     let (reply, changes) = decision(rt, window, command);
     if changes.count != Some(Count::Denied) || changes.entry.is_some() {
         return None;
@@ -87,7 +92,7 @@ fn denial(rt: &impl Abort, window: &Window, command: &Command, moved_to: u64) ->
 }
 
 /// The window of a command that names a token with this entry.
-fn naming(rt: &impl Abort, named: Option<Entry>) -> Window {
+pub(super) fn naming(rt: &impl Abort, named: Option<Entry>) -> Window {
     Window {
         named,
         ..counted(rt, 0, 0)
@@ -95,7 +100,7 @@ fn naming(rt: &impl Abort, named: Option<Entry>) -> Window {
 }
 
 /// The entry of the token, revoked at its birth.
-fn revoked(rt: &impl Abort, number: Option<Pan>) -> Entry {
+pub(super) fn revoked(rt: &impl Abort, number: Option<Pan>) -> Entry {
     Entry {
         number,
         revoked: Some(moment(rt, 1000)),
@@ -127,7 +132,7 @@ fn the_first_reason_of_a_denial_is_counted(rt: HostRuntime) {
     let number = pan(&rt, "4111111111111111");
     let expired = naming(&rt, Some(live(&rt)));
     let retired = naming(&rt, Some(revoked(&rt, Some(number))));
-    let erased = naming(&rt, Some(revoked(&rt, None)));
+    let purged = naming(&rt, Some(revoked(&rt, None)));
     let missing = naming(&rt, None);
     let without_right = Window {
         right: false,
@@ -136,7 +141,7 @@ fn the_first_reason_of_a_denial_is_counted(rt: HostRuntime) {
     for (window, reason) in [
         (expired, 16),
         (retired, 15),
-        (erased, 14),
+        (purged, 14),
         (missing, 13),
         (without_right, 8),
     ] {
@@ -150,10 +155,10 @@ fn the_first_reason_of_a_denial_is_counted(rt: HostRuntime) {
 }
 
 #[test]
-fn an_erased_number_is_neither_shown_nor_revoked(rt: HostRuntime) {
-    let erased = naming(&rt, Some(revoked(&rt, None)));
+fn a_purged_number_is_neither_shown_nor_revoked(rt: HostRuntime) {
+    let purged = naming(&rt, Some(revoked(&rt, None)));
     for command in [view(&rt, 1000), revoke(&rt, 1000)] {
-        assert_eq!(rt; refusal(&rt, &erased, &command), Some(14));
+        assert_eq!(rt; refusal(&rt, &purged, &command), Some(14));
     }
 }
 

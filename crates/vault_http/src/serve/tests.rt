@@ -219,6 +219,25 @@ fn a_number_is_given_until_its_token_is_revoked(rt: HostRuntime) {
 }
 
 #[test]
+fn a_number_is_purged_once_its_token_is_dead(rt: HostRuntime) {
+    let mut vault = shop(&rt);
+    assert!(rt; connect(&rt, &mut vault, 1000, 0, ASKED.as_bytes()).is(1, ANSWERED));
+    let purge = message(&rt, "DELETE /v1/merchants/shop1/tokens/0000000000001111");
+    let live = answer(&rt, "409 Conflict", "", "{\"refused\":17}");
+    assert!(rt; connect(&rt, &mut vault, 1059, 0, purge.as_bytes()).is(1, live.as_str()));
+    let asked = twice(&rt, purge.as_str());
+    let done = answer(&rt, "200 OK", "", "{\"done\":true}");
+    let done = twice(&rt, done.as_str());
+    assert!(rt; connect(&rt, &mut vault, 1060, 0, asked.as_bytes()).is(2, done.as_str()));
+    let view = message(&rt, "GET /v1/merchants/shop1/tokens/0000000000001111");
+    let gone = answer(&rt, "410 Gone", "", "{\"refused\":14}");
+    assert!(rt; connect(&rt, &mut vault, 1060, 0, view.as_bytes()).is(1, gone.as_str()));
+    let audit = message(&rt, "GET /v1/merchants/shop1/audit");
+    let counts = answer(&rt, "200 OK", "", "{\"denied\":0,\"given\":0,\"made\":1}");
+    assert!(rt; connect(&rt, &mut vault, 1060, 0, audit.as_bytes()).is(1, counts.as_str()));
+}
+
+#[test]
 fn a_source_that_gives_no_pair_ends_the_connection(rt: HostRuntime) {
     let mut vault = shop(&rt);
     let asked = twice(&rt, ASKED);

@@ -1,6 +1,7 @@
 use super::*;
 use std::process::Abort;
 use std::test::Fail;
+use vault_core::right::Right;
 use vault_wire::message::first_message;
 
 // What a message is answered, by the number of its refusal; 0 for a command.
@@ -22,17 +23,26 @@ fn asked<H: AllocGlobal + Abort>(rt: &H, bytes: &[u8]) -> Result<Command, HttpFa
     command_of(alloc, &routes, &message, now, digits)
 }
 
-// What a message by `till-1` with this method and target is answered: the number of its refusal,
-// 0 for a command, and the methods that the refusal allows.
+// The command of a message by `till-1` with this method and target.
+fn asked_by<H: AllocGlobal + Abort>(
+    rt: &H,
+    method: &str,
+    target: &str,
+) -> Result<Command, HttpFault> {
+    let text = format!(in rt.alloc();
+        "{method} {target} HTTP/1.1\r\nX-Vault-Caller: till-1\r\n\r\n"
+    ).expect(rt, "memory");
+    asked(rt, text.as_bytes())
+}
+
+// What such a message is answered: the number of its refusal, 0 for a command, and the methods
+// that the refusal allows.
 fn answer<H: AllocGlobal + Abort>(
     rt: &H,
     method: &str,
     target: &str,
 ) -> (u8, Option<&'static str>) {
-    let text = format!(in rt.alloc();
-        "{method} {target} HTTP/1.1\r\nX-Vault-Caller: till-1\r\n\r\n"
-    ).expect(rt, "memory");
-    match asked(rt, text.as_bytes()) {
+    match asked_by(rt, method, target) {
         Ok(_) => (0, None),
         Err(fault) => (fault.number(), fault.allow()),
     }
@@ -42,7 +52,11 @@ fn answer<H: AllocGlobal + Abort>(
 fn each_route_takes_its_methods(rt: HostRuntime) {
     let targets = [
         ("/v1/merchants/shop1/tokens", "POST", 58),
-        ("/v1/merchants/shop1/tokens/0000000000001111", "GET", 0),
+        (
+            "/v1/merchants/shop1/tokens/0000000000001111",
+            "GET, DELETE",
+            0,
+        ),
         (
             "/v1/merchants/shop1/tokens/0000000000001111/number",
             "POST",
@@ -56,9 +70,9 @@ fn each_route_takes_its_methods(rt: HostRuntime) {
         ("/v1/merchants/shop1/audit", "GET", 0),
     ];
     for (target, allowed, taken) in targets {
-        for method in ["GET", "POST", "DELETE", "PUT", "get", "post"] {
+        for method in ["GET", "POST", "DELETE", "PUT", "get", "post", "delete"] {
             let (number, allow) = answer(&rt, method, target);
-            if method == allowed {
+            if allowed.split(", ").any(|word| word == method) {
                 assert_eq!(rt; number, taken);
                 assert!(rt; allow.is_none());
             } else {
@@ -66,6 +80,38 @@ fn each_route_takes_its_methods(rt: HostRuntime) {
                 assert!(rt; allow == Some(allowed));
             }
         }
+    }
+}
+
+#[test]
+fn a_method_asks_for_what_its_right_allows(rt: HostRuntime) {
+    let cases = [
+        (
+            "GET",
+            "/v1/merchants/shop1/tokens/0000000000001111",
+            Right::View,
+        ),
+        (
+            "DELETE",
+            "/v1/merchants/shop1/tokens/0000000000001111",
+            Right::Purge,
+        ),
+        (
+            "POST",
+            "/v1/merchants/shop1/tokens/0000000000001111/number",
+            Right::Detokenize,
+        ),
+        (
+            "POST",
+            "/v1/merchants/shop1/tokens/0000000000001111/revoke",
+            Right::Revoke,
+        ),
+    ];
+    for (method, target, right) in cases {
+        let command = asked_by(&rt, method, target).expect(&rt, "a command");
+        let parts = command.token_command().expect(&rt, "a command on a token");
+        assert!(rt; parts.right == right, "{method} {target}");
+        assert_eq!(rt; parts.token.as_str(), "0000000000001111");
     }
 }
 

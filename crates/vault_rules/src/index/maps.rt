@@ -10,9 +10,7 @@ use crate::index::first::put_first;
 use crate::rows::{RawCount, RawEntry, RawMerchant};
 use std::alloc::{AllocError, Global};
 use std::collections::BTreeMap;
-
-/// The kind of the count of tokens made.
-const MADE: i64 = 1;
+use vault_core::changes::Count;
 
 /// The first merchant of each name.
 pub(crate) fn merchants_by_name<'a>(
@@ -50,7 +48,7 @@ pub(crate) fn made_by_merchant<'a>(
 fn counts_made(row: &RawCount) -> bool
     ensures { result ≡ int_eq row.now.kind (pos 1) }
 {
-    row.kind == MADE
+    row.kind == Count::Made.number() as i64
 }
 
 /// How many entries each merchant has.

@@ -98,7 +98,7 @@ fn is_revoked_in_time(moment: i64, e: &RawEntry) -> bool
     }
 }
 
-/// Rule 8: each entry that is erased, and whose merchant exists, is revoked or has expired.
+/// Rule 8: each entry that is purged, and whose merchant exists, is revoked or has expired.
 pub fn are_kept(index: &Index) -> bool
     ensures { result
         ≡ list_all (rules.at_moments index.now.rows.now.merchants.items rules.is_kept)

@@ -5,8 +5,8 @@ use crate::rows::Rows;
 use std::alloc::{AllocError, Global};
 use std::test::Fail;
 
-/// A store with one revoked entry that is erased, of this merchant and token.
-fn erased(alloc: Global, merchant: &str, token: &str) -> Result<Rows, AllocError> {
+/// A store with one revoked entry that is purged, of this merchant and token.
+fn purged(alloc: Global, merchant: &str, token: &str) -> Result<Rows, AllocError> {
     let mut rows = sound(alloc)?;
     let mut row = entry(alloc, merchant, token)?;
     row.number = None;
@@ -46,7 +46,7 @@ fn an_entrys_token_is_10_to_19_digits_that_fail_the_check(rt: HostRuntime) -> Re
         ("shop2", "0000000001", Some(5)),
     ];
     for (shop, token, broken) in cases {
-        let rows = erased(alloc, shop, token)?;
+        let rows = purged(alloc, shop, token)?;
         assert_eq!(rt; least_broken(alloc, &rows)?, broken, "{shop} {token}");
     }
     Ok(())
@@ -123,9 +123,9 @@ fn an_entry_is_revoked_from_its_birth_to_the_moment(rt: HostRuntime) -> Result<(
 }
 
 #[test]
-fn an_erased_entry_is_revoked_or_has_expired(rt: HostRuntime) -> Result<(), Fail> {
+fn a_purged_entry_is_revoked_or_has_expired(rt: HostRuntime) -> Result<(), Fail> {
     let alloc = rt.alloc();
-    assert_eq!(rt; least_broken(alloc, &erased(alloc, "shop1", TOKEN)?)?, None);
+    assert_eq!(rt; least_broken(alloc, &purged(alloc, "shop1", TOKEN)?)?, None);
     for (expires, broken) in [(1000, None), (1001, Some(8))] {
         let mut rows = timed(alloc, 900, expires, None)?;
         for row in &mut rows.entries {

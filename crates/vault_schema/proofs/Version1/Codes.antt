@@ -11,10 +11,11 @@ use Rattle.sql_maps.proofs.Keys.{Keyed, coding}
 use Rattle.sql_maps.proofs.KeyTests.{text_eq, number_eq, and_true, two_tests, three_tests}
 use Rattle.vault_core.proofs.Maps.{bytes_total, bytes_exact, entry_total, entry_exact, record_total}
 use Rattle.vault_core.proofs.Maps.{record_exact, right_total, right_exact}
-use Rattle.vault_core.specs.Keys.{Bytes, bytes_cmp, entry_cmp, record_cmp, right_cmp, right_number}
+use Rattle.vault_core.specs.Keys.{Bytes, bytes_cmp, entry_cmp, record_cmp, right_cmp}
+use Rattle.vault_core.specs.Numbers.{right_number, use_number}
 use Rattle.vault_core.specs.declared.usage.Use.{Use}
 use Rattle.vault_core.specs.declared.usage.Use.TheVariants.{Single, Multi}
-use Rattle.vault_schema.specs.Version1.Rows.{text_or_null, number_or_null, use_number, merchant_key}
+use Rattle.vault_schema.specs.Version1.Rows.{text_or_null, number_or_null, merchant_key}
 use Rattle.vault_schema.specs.Version1.Rows.{lives_columns, numbered_key, number_column, entry_key}
 use Rattle.vault_schema.specs.Version1.Rows.{entry_columns, record_columns, right_key, no_columns}
 use Rattle.vault_schema.specs.Version1.Rows.{merchant_row, count_row, entry_row, record_row, right_row}

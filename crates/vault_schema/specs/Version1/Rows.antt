@@ -4,7 +4,8 @@ use Rattle.sqlite.specs.Order.{Row}
 use Rattle.sqlite.specs.declared.types.Value.{Value}
 use Rattle.sqlite.specs.declared.types.Value.TheVariants.{Null, Int, Text}
 use Rattle.sql_maps.specs.Codes.{row_of}
-use Rattle.vault_core.specs.Keys.{Bytes, right_number}
+use Rattle.vault_core.specs.Keys.{Bytes}
+use Rattle.vault_core.specs.Numbers.{right_number, use_number}
 use Rattle.vault_core.specs.declared.right.Right.{Right}
 use Rattle.vault_core.specs.declared.row.Entry.{Entry}
 use Rattle.vault_core.specs.declared.row.Record.{Record}
@@ -21,11 +22,6 @@ text_or_null (Some text) = Text text
 abbrev pub number_or_null : Option ℕ → Value
 number_or_null None = Null
 number_or_null (Some n) = Int (pos n)
-
--- the number of a use
-abbrev pub use_number : Use → ℕ
-use_number Single = 1
-use_number Multi = 2
 
 -- a merchant's name
 abbrev pub merchant_key : Bytes → Row

@@ -7,7 +7,8 @@ ghost use Rattle.vault_store.specs.Live.{IsLiveToken};
 use std::collections::BTreeMap;
 use vault_core::moment::Moment;
 use vault_core::name::MerchantId;
-use vault_core::row::Entry;
+use vault_core::reply::State;
+use vault_core::row::{Entry, EntryState};
 use vault_core::usage::Use;
 use vault_pan::pan::Pan;
 use vault_pan::token::Token;
@@ -34,11 +35,9 @@ pub fn live_token(
 fn is_reusable(entry: &Entry, pan: &Pan, at: Moment) -> bool
     ensures { result ≡ is_reusable_lem pan.now at entry.now }
 {
-    if entry.usage != Use::Multi || entry.revoked.is_some() {
-        return false;
-    }
-    match entry.number {
-        Some(number) => number == *pan && at.seconds() < entry.expires,
-        None => false,
-    }
+    let live = EntryState::Kept {
+        number: *pan,
+        state: State::Live,
+    };
+    entry.usage == Use::Multi && entry.state(at) == live
 }

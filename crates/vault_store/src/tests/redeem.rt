@@ -13,10 +13,10 @@ use vault_core::usage::Use;
 use vault_pan::pan::Pan;
 use vault_pan::token::Token;
 
-const TOKEN: &[u8] = b"0000000000001111";
+pub const TOKEN: &[u8] = b"0000000000001111";
 
 /// The reply to a Detokenize of a caller.
-fn redeem<T: Tables>(
+pub fn redeem<T: Tables>(
     rt: &impl Abort,
     vault: &mut Vault<T>,
     caller: &[u8],
@@ -44,12 +44,12 @@ pub fn view<T: Tables>(rt: &impl Abort, vault: &mut Vault<T>, now: u64) -> Reply
     answer(rt, vault, &command)
 }
 
-/// The reply to a Revoke of `till-1` at `shop1`, of the first token.
-fn revoke<T: Tables>(rt: &impl Abort, vault: &mut Vault<T>, now: u64) -> Reply {
+/// The reply to a Revoke of `till-1` at `shop1`.
+pub fn revoke<T: Tables>(rt: &impl Abort, vault: &mut Vault<T>, token: &[u8], now: u64) -> Reply {
     let command = Command::Revoke {
         caller: till(rt),
         merchant: merchant(rt, b"shop1"),
-        token: Token::read(TOKEN).expect(rt, "a token"),
+        token: Token::read(token).expect(rt, "a token"),
         now: moment(rt, now),
     };
     answer(rt, vault, &command)
@@ -77,7 +77,7 @@ pub fn counts<T: Tables>(
 }
 
 /// Whether a reply is the first number.
-fn is_number(rt: &impl Abort, reply: Reply) -> bool {
+pub fn is_number(rt: &impl Abort, reply: Reply) -> bool {
     let number = Pan::read(NUMBER).expect(rt, "a card number");
     reply == Reply::Number(number)
 }
@@ -140,7 +140,7 @@ fn a_revoked_multi_use_token_is_drawn_anew(rt: HostRuntime) {
     assert!(rt; gives(&rt, &mut vault, &first, TOKEN, 1100));
     assert!(rt; gives(&rt, &mut vault, &second, TOKEN, 1100));
     assert!(rt; counts(&rt, &mut vault, 1, 0, 0));
-    assert!(rt; revoke(&rt, &mut vault, 1020) == Reply::Done);
+    assert!(rt; revoke(&rt, &mut vault, TOKEN, 1020) == Reply::Done);
     let third = Asked {
         request: b"3",
         now: 1030,
@@ -200,8 +200,8 @@ fn a_token_is_shown_with_its_number_masked(rt: HostRuntime) {
     assert!(rt; shows(view(&rt, &mut vault, 1000), Use::Single, State::Live));
     assert!(rt; shows(view(&rt, &mut vault, 1060), Use::Single, State::Expired));
     assert!(rt; counts(&rt, &mut vault, 1, 0, 0));
-    assert!(rt; revoke(&rt, &mut vault, 1020) == Reply::Done);
-    assert!(rt; revoke(&rt, &mut vault, 1030) == Reply::Done);
+    assert!(rt; revoke(&rt, &mut vault, TOKEN, 1020) == Reply::Done);
+    assert!(rt; revoke(&rt, &mut vault, TOKEN, 1030) == Reply::Done);
     assert!(rt; shows(view(&rt, &mut vault, 1060), Use::Single, State::Revoked));
     let revoked = redeem(&rt, &mut vault, b"till-1", b"shop1", TOKEN, 1030);
     assert!(rt; revoked == Reply::Refused(15));

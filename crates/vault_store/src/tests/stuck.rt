@@ -4,7 +4,7 @@ ghost use Rattle.std.specs.Prelude.{◌≡◌, ◌⊎◌, false, true};
 ghost use Rattle.vault_store.specs.Held.{IsHeld};
 
 use super::redeem::{counts, shows, view};
-use super::{Asked, FIRST, gives, tokenize, vault};
+use super::{Asked, FIRST, gives, merchant, moment, tokenize, vault};
 use crate::memory::MemTables;
 use crate::tables::{Tables, TablesFault};
 use crate::vault::{Fault, Vault};
@@ -74,6 +74,15 @@ impl Tables for Stuck {
         self.tables.current(m, p, at)
     }
 
+    fn dead(
+        &mut self,
+        m: MerchantId,
+        now: Moment,
+        limit: usize,
+    ) -> Result<Vec<Token>, TablesFault> {
+        self.tables.dead(m, now, limit)
+    }
+
     fn write(&mut self, _ch: &Changes) -> Result<(), TablesFault> {
         self.failed = true;
         Err(TablesFault::Store)
@@ -113,6 +122,8 @@ fn a_write_that_fails_breaks_the_vault(rt: HostRuntime) {
     assert_eq!(rt; fault(&rt, &mut stuck, &FIRST), Some(Fault::Store));
     assert!(rt; stuck.broken());
     assert_eq!(rt; fault(&rt, &mut stuck, &FIRST), Some(Fault::Reopen));
+    let list = stuck.dead(merchant(&rt, b"shop1"), moment(&rt, 1000), 1000);
+    assert_eq!(rt; list.err(), Some(Fault::Reopen));
     let tables = stuck.into_tables();
     assert!(rt; tables.failed());
 }

@@ -19,7 +19,7 @@ use vault_pan::token::Token;
 const TWO_GROUPS: &str = "411111111111000000000000000000";
 
 /// Words with options, and the jobs that they ask for.
-const WITH_OPTIONS: [(&[&str], &str); 11] = [
+const WITH_OPTIONS: [(&[&str], &str); 13] = [
     (
         &["vault", "trial", "--now", "1000", "till-1", "shop1", "60"],
         "Trial(TrialJob { now: Some(Moment { seconds: 1000 }), digits: None, \
@@ -84,10 +84,20 @@ const WITH_OPTIONS: [(&[&str], &str); 11] = [
         &["vault", "serve", "v.db", "--connections=3", "--port=8080"],
         "Serve(ServeJob { connections: 3, port: 8080, file: \"v.db\" })",
     ),
+    (
+        &["vault", "sweep", "--now", "12", "v.db", "back", "shop1"],
+        "Sweep(SweepJob { now: Some(Moment { seconds: 12 }), file: \"v.db\", \
+         caller: \"back\", merchant: \"shop1\" })",
+    ),
+    (
+        &["vault", "sweep", "v.db", "shop1", "back", "--now=12"],
+        "Sweep(SweepJob { now: Some(Moment { seconds: 12 }), file: \"v.db\", \
+         caller: \"shop1\", merchant: \"back\" })",
+    ),
 ];
 
 /// Words without options that may be left out, and the jobs that they ask for.
-const WITHOUT_OPTIONS: [(&[&str], &str); 10] = [
+const WITHOUT_OPTIONS: [(&[&str], &str); 11] = [
     (
         &["vault", "trial", "till-1", "shop1", "60"],
         "Trial(TrialJob { now: None, digits: None, caller: \"till-1\", \
@@ -124,6 +134,10 @@ const WITHOUT_OPTIONS: [(&[&str], &str); 10] = [
     (
         &["vault", "serve", "--connections", "1", "v.db"],
         "Serve(ServeJob { connections: 1, port: 0, file: \"v.db\" })",
+    ),
+    (
+        &["vault", "sweep", "v.db", "back", "shop1"],
+        "Sweep(SweepJob { now: None, file: \"v.db\", caller: \"back\", merchant: \"shop1\" })",
     ),
     (
         &["vault", "check", "a folder/v.db"],

@@ -74,6 +74,15 @@ impl Tables for Stuck {
         self.tables.current(m, p, at)
     }
 
+    fn dead(
+        &mut self,
+        m: MerchantId,
+        now: Moment,
+        limit: usize,
+    ) -> Result<Vec<Token>, TablesFault> {
+        self.tables.dead(m, now, limit)
+    }
+
     fn write(&mut self, _ch: &Changes) -> Result<(), TablesFault> {
         self.failed = true;
         Err(TablesFault::Store)

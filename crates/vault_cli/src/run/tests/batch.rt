@@ -54,7 +54,7 @@ fn make_shop(rt: &HostRuntime, file: &str) -> bool {
 }
 
 /// Runs `batch` at a moment, with digits that are all this one.
-fn batch_at(rt: &HostRuntime, file: &str, now: &str, digit: &str, input: &str) -> Ran {
+pub(super) fn batch_at(rt: &HostRuntime, file: &str, now: &str, digit: &str, input: &str) -> Ran {
     let words = [
         "vault", "batch", "--now", now, "--digits", digit, file, "till-1", "shop1",
     ];

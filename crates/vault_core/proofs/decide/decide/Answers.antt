@@ -8,5 +8,6 @@ returns-clause-fits c V sound window =
     let done = c.settled.ensures.settles V sound window in
     record {
       counted = done.counted;
-      sound = subst Sound (sym done.changes) (sound-after V sound c.args.c.now (c.proper-proper.ensures.parts.0 (c.proper-proper.ensures.lives.1 c.requires)));
+      sound = subst Sound (sym done.changes) (sound-after V sound c.args.c.now
+          (c.proper-proper.ensures.parts.0 (c.proper-proper.ensures.lives.1 c.requires)));
     }

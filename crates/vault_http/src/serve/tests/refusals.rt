@@ -69,7 +69,11 @@ fn targets_and_methods(rt: HostRuntime) {
         ("PUT /v1/merchants/shop1/audit", "Allow: GET\r\n"),
         ("HEAD /v1/merchants/shop1/audit", "Allow: GET\r\n"),
         ("get /v1/merchants/shop1/audit", "Allow: GET\r\n"),
-        ("DELETE /v1/merchants/shop1/tokens/12", "Allow: GET\r\n"),
+        (
+            "POST /v1/merchants/shop1/tokens/12",
+            "Allow: GET, DELETE\r\n",
+        ),
+        ("DELETE /v1/merchants/shop1/tokens", "Allow: POST\r\n"),
         ("GET /v1/merchants/shop1/tokens", "Allow: POST\r\n"),
         (
             "GET /v1/merchants/shop1/tokens/12/number",

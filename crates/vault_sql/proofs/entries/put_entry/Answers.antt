@@ -11,7 +11,7 @@ returns-clause-done g c =
     (rw (small _ c.requires) at
     (rw (small c.args.entry.now.birth (omega (arith, c.seconds-birth.ensures.moment))) at
     (rw (c.seconds-birth.ensures.value) at
-    (rw (c.usage_number-usage.ensures, small _ (small_use c.args.entry.now.usage)) at
+    (rw (c.number-usage.ensures, small _ (small_use c.args.entry.now.usage)) at
     (rw (text_bound c.args.entry.now.number, number_bound c.args.entry.now.revoked) at
     (rw (c.to_sql-4.ensures, c.to_sql-5.ensures, c.moment_value.ensures) at
     (rw (c.to_sql.ensures, c.to_sql-2.ensures, c.number_value.ensures, c.to_sql-3.ensures) at

@@ -6,4 +6,4 @@ use Rattle.vault_sql.proofs.merchants.total_of.Given as goal
 
 -- no row so far is of the kind
 abbrev pub invariant-loop-row : goal.invariant-loop-row
-invariant-loop-row l = AllByRecursion (λ r. column r 0 ≡ Int (pos l.kind) → ⊥) (take l.row-index l.rows)
+invariant-loop-row l = AllByRecursion (λ r. column r 0 ≡ Int (pos l.number) → ⊥) (take l.row-index l.rows)

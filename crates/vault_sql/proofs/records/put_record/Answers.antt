@@ -8,7 +8,7 @@ returns-clause-done g c =
     makes c.step.ensures.steps c.step.ensures.ran (λ h base can run.
     record_put (c.args.caller.now, c.args.request) c.args.answered.now
     (rw (small _ (small_use c.args.answered.now.usage), small _ c.requires) at
-    (rw (c.as_str-token.ensures, c.usage_number-usage.ensures) at
+    (rw (c.as_str-token.ensures, c.number-usage.ensures) at
     (rw (c.params-to_sql-4.ensures, c.params-to_sql-5.ensures, c.merchant_text-m.ensures) at
     (rw (c.params-to_sql.ensures, c.params-to_sql-2.ensures, c.params-to_sql-3.ensures) at
     run)))))

@@ -7,6 +7,6 @@ pub returns-clause-done : goal.returns-clause-done
 returns-clause-done g c =
     makes c.step.ensures.steps c.step.ensures.ran (λ h base can run.
     right_given (c.args.caller.now, (c.args.m.now, c.args.right))
-    (rw (c.number_of-what.ensures, small _ (small_right c.args.right)) at
+    (rw (c.number-what.ensures, small _ (small_right c.args.right)) at
     (rw (c.params-to_sql.ensures, c.params-to_sql-2.ensures, c.params-to_sql-3.ensures) at
     run)))

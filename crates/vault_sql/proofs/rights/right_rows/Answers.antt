@@ -2,7 +2,7 @@ use Rattle.std.proofs.Common.{◌≡◌, [], ◌∷◌, true, false, cond, Some,
 use Rattle.sql_maps.specs.Rows.{one_of}
 use Rattle.sql_maps.proofs.Calls.{small}
 use Rattle.sql_maps.proofs.Reading.{look_up}
-use Rattle.vault_core.specs.Keys.{right_number}
+use Rattle.vault_core.specs.Numbers.{right_number}
 use Rattle.vault_core.specs.Vault.{has_right}
 use Rattle.vault_schema.specs.Version1.Rows.{number_column}
 use Rattle.vault_schema.proofs.Version1.Codes.{right_table}
@@ -19,7 +19,7 @@ returns g c =
     look_up _ _ it _ _ rows.items read right_table (lookups_of V).rights (λ are. are)
     _ (right_is [] []) (c.args.caller.now, (c.args.m.now, c.args.right))
     (rw (c.params-to_sql.ensures, c.params-to_sql-2.ensures, c.params-to_sql-3.ensures)
-    (rw (c.number_of-what.ensures, small _ (small_right c.args.right))
+    (rw (c.number-what.ensures, small _ (small_right c.args.right))
     refl)) (λ u. shown) (λ n x. refl)
     ∙ elim (has_right V c.args.caller.now c.args.m.now c.args.right)
     as (λ b. one_of (λ (u : Unit {0}). shown) (cond b (Some tt) None) ≡ cond b (shown ∷ []) [])

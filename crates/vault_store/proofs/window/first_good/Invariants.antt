@@ -1,5 +1,5 @@
 use Rattle.std.proofs.Common.{◌≡◌}
-use Rattle.vault_core.specs.Draw.{chosen}
+use Rattle.vault_core.specs.Draw.{chosen_token}
 use Rattle.vault_core.specs.Sound.{Sound}
 use Rattle.vault_core.specs.Vault.{Vault}
 use Rattle.vault_store.specs.Reads.{StillHolds}
@@ -13,6 +13,6 @@ invariant-loop-k g l = record {
   kept : StillHolds (g.T.Tables.holds l.initial.tables) (g.T.Tables.holds l.tables);
   failing : g.T.Tables.has_failed l.tables ≡ g.T.Tables.has_failed l.initial.tables;
   passed : g.T.Tables.is_honest l.tables → (V : Vault) → g.T.Tables.holds l.initial.tables V → Sound V
-      → chosen V l.asked.merchant l.asked.pan l.asked.digits
+      → chosen_token V l.asked.merchant l.asked.pan l.asked.digits
       ≡ chosen_from V l.asked.merchant l.asked.pan l.asked.digits l.k;
 }

@@ -10,4 +10,5 @@ returns c =
     let h₆ = c.with-tree-6.ensures _ _ h₅ c.pipe.ensures in
     let h₇ = c.with-tree-7.ensures _ _ h₆ c.batch.ensures in
     let h₈ = c.with-tree-8.ensures _ _ h₇ c.serve.ensures in
-    c.with.ensures _ _ h₈ c.check.ensures
+    let h₉ = c.with-tree-9.ensures _ _ h₈ c.sweep.ensures in
+    c.with.ensures _ _ h₉ c.check.ensures

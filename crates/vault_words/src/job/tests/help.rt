@@ -20,6 +20,7 @@ Commands:
   pipe      Answers messages from standard input by the vault in FILE
   batch     Answers a CSV batch on standard input with tokens
   serve     Answers messages of connections by the vault in FILE
+  sweep     Purges the card numbers of a merchant's dead tokens
   check     Checks that FILE holds a sound vault
   help      Print this message or the help of the given subcommand(s)
 
@@ -92,6 +93,27 @@ that it does, and P is its port. Connections are served one after the other,
 and one whose peer sends or takes nothing for 5 seconds is ended.
 ";
 
+/// `vault help sweep`
+const SWEEP: &str = "\
+Purges the card numbers of a merchant's dead tokens
+
+Usage: vault sweep [OPTIONS] <FILE> <CALLER> <MERCHANT>
+
+Arguments:
+  <FILE>      The vault's file; it is made if it isn't there
+  <CALLER>    The caller who purges
+  <MERCHANT>  The merchant whose tokens they are
+
+Options:
+      --now <T>  The moment, in seconds since 1970, in place of the clock's
+  -h, --help     Print help
+
+A token is dead once it is revoked or has expired. Its card number is purged
+for good, and the token stays taken. All are purged at one moment, to the
+first that is refused. The line `purged N` on standard output says how many
+were purged.
+";
+
 /// The help that the words ask for.
 fn help(alloc: Global, words: &[&str]) -> Result<String, Fail> {
     match job(alloc, words) {
@@ -102,7 +124,7 @@ fn help(alloc: Global, words: &[&str]) -> Result<String, Fail> {
 
 #[test]
 fn help_is_the_text_of_the_command(rt: HostRuntime) -> Result<(), Fail> {
-    let cases: [(&[&str], &str); 10] = [
+    let cases: [(&[&str], &str); 12] = [
         (&["vault", "--help"], PROGRAM),
         (&["vault", "-h"], PROGRAM),
         (&["vault", "help"], PROGRAM),
@@ -113,6 +135,8 @@ fn help_is_the_text_of_the_command(rt: HostRuntime) -> Result<(), Fail> {
         (&["vault", "serve", "--help"], SERVE),
         (&["vault", "serve", "v.db", "-h"], SERVE),
         (&["vault", "help", "serve"], SERVE),
+        (&["vault", "sweep", "--help"], SWEEP),
+        (&["vault", "help", "sweep"], SWEEP),
     ];
     for (words, wanted) in cases {
         let text = help(rt.alloc(), words)?;
@@ -123,7 +147,7 @@ fn help_is_the_text_of_the_command(rt: HostRuntime) -> Result<(), Fail> {
 
 #[test]
 fn help_fits_24_lines_of_80_columns(rt: HostRuntime) -> Result<(), Fail> {
-    let cases: [&[&str]; 10] = [
+    let cases: [&[&str]; 11] = [
         &["vault", "help"],
         &["vault", "help", "trial"],
         &["vault", "help", "merchant"],
@@ -133,6 +157,7 @@ fn help_fits_24_lines_of_80_columns(rt: HostRuntime) -> Result<(), Fail> {
         &["vault", "help", "pipe"],
         &["vault", "help", "batch"],
         &["vault", "help", "serve"],
+        &["vault", "help", "sweep"],
         &["vault", "help", "check"],
     ];
     for words in cases {

@@ -41,7 +41,7 @@ fn lives_are_0_to_3155760000(rt: HostRuntime) -> Result<(), Fail> {
 
 #[test]
 fn moments_are_0_to_253402300799(rt: HostRuntime) -> Result<(), Fail> {
-    let cases: [&[&str]; 7] = [
+    let cases: [&[&str]; 8] = [
         &["vault", "trial", "--now", "?", "till-1", "shop1", "60"],
         &[
             "vault", "merchant", "--now", "?", "v.db", "shop1", "60", "0",
@@ -55,6 +55,7 @@ fn moments_are_0_to_253402300799(rt: HostRuntime) -> Result<(), Fail> {
         &["vault", "rights", "--now", "?", "v.db", "rights.toml"],
         &["vault", "pipe", "--now", "?", "v.db"],
         &["vault", "batch", "--now", "?", "v.db", "till-1", "shop1"],
+        &["vault", "sweep", "--now", "?", "v.db", "back", "shop1"],
     ];
     for words in cases {
         assert_answer(&rt, words, "0", Answer::Job)?;
@@ -117,7 +118,7 @@ fn digits_are_1_to_300(rt: HostRuntime) -> Result<(), Fail> {
 
 #[test]
 fn missing_words_are_bad(rt: HostRuntime) {
-    let cases: [&[&str]; 19] = [
+    let cases: [&[&str]; 22] = [
         &[],
         &["vault"],
         &["vault", "trial"],
@@ -136,6 +137,9 @@ fn missing_words_are_bad(rt: HostRuntime) {
         &["vault", "batch", "v.db", "till-1", "shop1", "--digits"],
         &["vault", "serve", "v.db"],
         &["vault", "serve", "--connections", "1"],
+        &["vault", "sweep"],
+        &["vault", "sweep", "back", "shop1"],
+        &["vault", "sweep", "v.db", "back", "shop1", "--now"],
         &["vault", "check"],
     ];
     for words in cases {
@@ -145,7 +149,7 @@ fn missing_words_are_bad(rt: HostRuntime) {
 
 #[test]
 fn words_too_many_or_unknown_are_bad(rt: HostRuntime) {
-    let cases: [&[&str]; 16] = [
+    let cases: [&[&str]; 18] = [
         &["vault", "trail"],
         &["vault", "--version"],
         &["vault", "help", "trail"],
@@ -163,6 +167,15 @@ fn words_too_many_or_unknown_are_bad(rt: HostRuntime) {
         &["vault", "batch", "v.db", "till-1", "shop1", "60"],
         &["vault", "batch", "v.db", "till-1", "shop1", "--port", "0"],
         &["vault", "serve", "--connections", "1", "--now", "1", "v.db"],
+        &[
+            "vault",
+            "sweep",
+            "v.db",
+            "back",
+            "shop1",
+            "0000000000001111",
+        ],
+        &["vault", "sweep", "--digits", "0", "v.db", "back", "shop1"],
         &["vault", "check", "--now", "1", "v.db"],
     ];
     for words in cases {

@@ -1,39 +1,54 @@
-use Rattle.std.proofs.Common.{◌≡◌, true, false, nat_lt, is_some, sym, subst, arith, ◌∙◌}
-use Rattle.std.proofs.lemmas.Bool.Decides.{nat_tests}
+use Rattle.std.proofs.Common.{◌≡◌, ℕ, max, sym, ap, subst, ◌∙◌}
 use Rattle.vault_core.specs.Changes.{Yields}
-use Rattle.vault_core.specs.Outcome.{Outcome}
-use Rattle.vault_core.specs.Vault.{time_at}
-use Rattle.vault_core.proofs.Redeemed.{redeemed-erased, redeemed-revoked, redeemed-expired, redeemed-given}
+use Rattle.vault_core.specs.Redeem.{redemption}
+use Rattle.vault_core.specs.Vault.{Vault, Merchant, state_of, time_at}
+use Rattle.vault_core.specs.Window.{row_of}
+use Rattle.vault_core.specs.declared.reply.Reply.{Reply}
+use Rattle.vault_core.specs.declared.changes.Changes.{Changes}
+use Rattle.vault_core.specs.declared.row.Entry.{Entry}
+use Rattle.vault_core.specs.declared.row.EntryState.{EntryState}
+use Rattle.vault_core.specs.declared.row.EntryState.TheVariants.{Kept}
+use Rattle.vault_core.specs.declared.row.MerchantRow.{MerchantRow}
+use Rattle.vault_core.specs.Keys.{Bytes}
 use Rattle.vault_core.proofs.decide.redeem.redeemed.Goals as goal
 
-pub returns-in_default-clause-yields : goal.returns-in_default-clause-yields
-returns-in_default-clause-yields c V known is row =
-    let a = c.args in
-    subst (λ (o : Outcome). Yields V o c.denied.result) (sym (redeemed-erased V a.merchant a.now known a.entry.now c.in_default.is))
-    (c.denied.ensures.yields V known is row)
+-- what is yielded in the state that the code found
+of_state : (V : Vault) (m : Bytes) (now : ℕ) (known : Merchant) (row : MerchantRow) (entry : Entry) (at : ℕ)
+    (found state : EntryState) (d : Reply × Changes)
+    → row ≡ row_of V m known → at ≡ max row.moment now → found ≡ state_of entry at → found ≡ state
+    → Yields V (redemption V m now known state) d
+    → Yields V (redemption V m now known (state_of entry (time_at known now))) d
+of_state V m now known row entry at found state d row_is at_is found_is state_is yields =
+    let moment : at ≡ time_at known now = at_is ∙ ap (λ (r : MerchantRow). max r.moment now) row_is in
+    let same : state_of entry (time_at known now) ≡ state = ap (state_of entry) (sym moment) ∙ sym found_is
+    ∙ state_is in
+    subst (λ (s : EntryState). Yields V (redemption V m now known s) d) (sym same) yields
 
-pub returns-then-is_some-clause-yields : goal.returns-then-is_some-clause-yields
-returns-then-is_some-clause-yields c V known is row =
+pub returns-in-Purged-clause-yields : goal.returns-in-Purged-clause-yields
+returns-in-Purged-clause-yields c V known is row =
     let a = c.args in
-    let revoked : is_some a.entry.now.revoked ≡ true = sym c.is_some.ensures ∙ c.if-is_some.true in
-    subst (λ (o : Outcome). Yields V o c.denied-then-is_some.result)
-    (sym (redeemed-revoked V a.merchant a.now known a.entry.now c.in-Some.number c.in-Some.is revoked))
-    (c.denied-then-is_some.ensures.yields V known is row)
+    of_state V a.merchant a.now known a.row.now a.entry.now c.later.result c.state.result _ c.denied.result
+    row c.later.ensures c.state.ensures c.in-Purged.is (c.denied.ensures.yields V known is row)
 
-pub returns-then-seconds-entry-clause-yields : goal.returns-then-seconds-entry-clause-yields
-returns-then-seconds-entry-clause-yields c V known is row =
+pub returns-in-Live-clause-yields : goal.returns-in-Live-clause-yields
+returns-in-Live-clause-yields c V known is row =
     let a = c.args in
-    let unrevoked : is_some a.entry.now.revoked ≡ false = sym c.is_some.ensures ∙ c.if-is_some.false in
-    let over : nat_lt (time_at known a.now) a.entry.now.expires ≡ false = grind (arith, nat_tests) in
-    subst (λ (o : Outcome). Yields V o c.denied-then-seconds-entry.result)
-    (sym (redeemed-expired V a.merchant a.now known a.entry.now c.in-Some.number c.in-Some.is unrevoked over))
-    (c.denied-then-seconds-entry.ensures.yields V known is row)
-
-pub returns-clause-yields : goal.returns-clause-yields
-returns-clause-yields c V known is row =
-    let a = c.args in
-    let unrevoked : is_some a.entry.now.revoked ≡ false = sym c.is_some.ensures ∙ c.if-is_some.false in
-    let live : nat_lt (time_at known a.now) a.entry.now.expires ≡ true = grind (arith, nat_tests) in
-    subst (λ (o : Outcome). Yields V o c.given.result)
-    (sym (redeemed-given V a.merchant a.now known a.entry.now c.in-Some.number c.in-Some.is unrevoked live))
+    of_state V a.merchant a.now known a.row.now a.entry.now c.later.result c.state.result _ c.given.result
+    row c.later.ensures c.state.ensures (c.in-Kept.is ∙ ap (Kept c.in-Kept.number) c.in-Live.is)
     (c.given.ensures.yields V known is row)
+
+pub returns-in-Revoked-clause-yields : goal.returns-in-Revoked-clause-yields
+returns-in-Revoked-clause-yields c V known is row =
+    let a = c.args in
+    of_state V a.merchant a.now known a.row.now a.entry.now c.later.result c.state.result _
+    c.denied-in-Revoked.result
+    row c.later.ensures c.state.ensures (c.in-Kept.is ∙ ap (Kept c.in-Kept.number) c.in-Revoked.is)
+    (c.denied-in-Revoked.ensures.yields V known is row)
+
+pub returns-in-Expired-clause-yields : goal.returns-in-Expired-clause-yields
+returns-in-Expired-clause-yields c V known is row =
+    let a = c.args in
+    of_state V a.merchant a.now known a.row.now a.entry.now c.later.result c.state.result _
+    c.denied-in-Expired.result
+    row c.later.ensures c.state.ensures (c.in-Kept.is ∙ ap (Kept c.in-Kept.number) c.in-Expired.is)
+    (c.denied-in-Expired.ensures.yields V known is row)

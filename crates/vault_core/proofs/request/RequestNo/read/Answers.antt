@@ -22,5 +22,7 @@ returns-clause-request c =
     let least = value_positive c.args.text.now digits some first in
     let is = c.value_of-number.ensures in
     let most = c.if-number-gt-LAST_REQUEST.false in
-    let few = c.if-text-gt19.false in
-    (λ _. (omega (arith, some), omega (arith, few), digits, first, (least, omega (arith, is, most))), λ _. refl)
+    let few = c.if-text-gt19.false in (
+      λ _. (omega (arith, some), omega (arith, few), digits, first, (least, omega (arith, is, most))),
+      λ _. refl,
+    )

@@ -1,0 +1,23 @@
+//! The names of words that ask in a caller's name.
+ghost use Rattle.std.specs.Prelude.{◌≡◌, IfOk, MatchResult};
+ghost use Rattle.vault_core.specs.Name.{IsName};
+
+use vault_batch::asker::Asker;
+use vault_core::name::{Caller, MerchantId};
+use vault_core::refusal::BAD_NAME;
+
+/// Who asks at which merchant, or the number of a name's refusal.
+pub(crate) fn asker_of(caller: &str, merchant: &str) -> Result<Asker, u8>
+    ensures names { MatchResult result
+        (λ _. IsName caller.now × IsName merchant.now)
+        (λ n. (n ≡ 4) × ¬ (IsName caller.now × IsName merchant.now)) }
+    ensures value { IfOk result (λ asker. (asker.caller ≡ caller.now) × (asker.merchant ≡ merchant.now)) }
+{
+    let Ok(caller) = Caller::read(caller.as_bytes()) else {
+        return Err(BAD_NAME);
+    };
+    let Ok(merchant) = MerchantId::read(merchant.as_bytes()) else {
+        return Err(BAD_NAME);
+    };
+    Ok(Asker { caller, merchant })
+}

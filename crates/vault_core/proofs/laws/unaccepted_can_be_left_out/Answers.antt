@@ -1,0 +1,5 @@
+use Rattle.vault_core.proofs.LeftOut.{left_out}
+use Rattle.vault_core.proofs.laws.unaccepted_can_be_left_out.Goals as goal
+
+pub returns : goal.returns
+returns c = left_out

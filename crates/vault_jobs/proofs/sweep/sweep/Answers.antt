@@ -1,0 +1,76 @@
+use Rattle.std.proofs.Common.{◌≡◌, ◌≤◌, ◌∙◌, Err, ap, arith, length}
+use Rattle.std.proofs.lemmas.Grind.{common_steps}
+use Rattle.std.proofs.lemmas.Bool.Decides.{nat_tests}
+use Rattle.vault_store.specs.Applied.{is_broken}
+use Rattle.vault_jobs.proofs.Giving.{unbroken}
+use Rattle.vault_jobs.proofs.Sweeping.{all_swept, never_ends, none_yet, page_refused, page_stopped}
+use Rattle.vault_jobs.proofs.Sweeping.{page_swept, unread}
+use Rattle.vault_jobs.proofs.sweep.sweep.Goals as goal
+
+pub loop-init : goal.loop-init
+loop-init g c = (
+  c.requires,
+  λ h. h,
+  none_yet c.args.asker.now c.args.now g.T.Tables.is_honest g.T.Tables.holds g.T.Tables.leaves
+      c.args.vault.now,
+)
+
+pub returns-in-Err-clause-swept : goal.returns-in-Err-clause-swept
+returns-in-Err-clause-swept g c =
+    unread g.T.Tables.is_honest g.T.Tables.holds g.T.Tables.leaves c.args.asker.now c.args.now
+    c.args.vault.now c.loop.vault c.dead.new.self c.loop.counter c.loop.count c.loop.invariant.2
+    c.in-Err.ensures.honest c.in-Err.fault c.loop.invariant.0 c.in-Err.ensures.broken
+    (λ is. c.in-Err.ensures.reopen.0 (ap Err is)) (λ is. c.in-Err.ensures.memory (ap Err is))
+    c.in-Err.ensures.crash
+
+pub returns-then-is_empty-clause-swept : goal.returns-then-is_empty-clause-swept
+returns-then-is_empty-clause-swept g c =
+    let none : length c.in-Ok.tokens.items ≡ 0 =
+    grind (arith, nat_tests, common_steps, c.is_empty.ensures, c.if-is_empty.true) in
+    all_swept g.T.Tables.is_honest g.T.Tables.holds g.T.Tables.leaves c.args.asker.now c.args.now
+    c.args.vault.now c.loop.vault c.dead.new.self c.loop.counter c.loop.count c.loop.invariant.2
+    c.in-Ok.ensures.honest (is_broken c.dead.new.self) c.in-Ok.tokens.items 1000 (omega arith) none
+    c.in-Ok.ensures.told c.in-Ok.ensures.crash
+
+pub returns-in-Ok-Refused-clause-swept : goal.returns-in-Ok-Refused-clause-swept
+returns-in-Ok-Refused-clause-swept g c =
+    page_refused g.T.Tables.is_honest g.T.Tables.holds g.T.Tables.leaves c.args.asker.now c.args.now
+    c.args.vault.now c.loop.vault c.dead.new.self c.purge_all.new.vault c.loop.counter c.loop.count
+    c.as_slice.result.now 1000 (is_broken c.purge_all.new.vault) c.loop.invariant.2 c.in-Ok.ensures.honest
+    c.in-Ok-Refused.ensures.honest
+    (λ h W held. let t = c.in-Ok.ensures.told h W held in (c.as_slice.ensures.value ∙ t.0, t.1))
+    c.in-Ok-Refused.number (rw c.in-Ok-Refused.field-0-is at c.in-Ok-Refused.ensures.carried)
+
+pub returns-in-Err-purge_all-clause-swept : goal.returns-in-Err-purge_all-clause-swept
+returns-in-Err-purge_all-clause-swept g c =
+    page_stopped g.T.Tables.is_honest g.T.Tables.holds g.T.Tables.leaves c.args.asker.now c.args.now
+    c.args.vault.now c.loop.vault c.dead.new.self c.purge_all.new.vault c.loop.counter c.loop.count
+    c.as_slice.result.now 1000 (is_broken c.purge_all.new.vault) c.loop.invariant.2 c.in-Ok.ensures.honest
+    c.in-Err-purge_all.ensures.honest
+    (λ h W held. let t = c.in-Ok.ensures.told h W held in (c.as_slice.ensures.value ∙ t.0, t.1))
+    c.in-Err-purge_all.fault c.in-Err-purge_all.ensures.carried
+
+pub loop-preserved : goal.loop-preserved
+loop-preserved g c =
+    let page = c.as_slice.result.now in
+    let some : 1 ≤ length page =
+    grind (arith, nat_tests, common_steps, c.is_empty.ensures, c.if-is_empty.false, c.as_slice.ensures.len) in
+    let size : c.len.result ≡ length page =
+    grind (arith, common_steps, c.len.ensures, c.as_slice.ensures.len) in (
+      unbroken (is_broken c.purge_all.new.vault) c.in-Ok-Done.field-0 _ c.in-Ok-Done.ensures.broken,
+      λ h. c.loop.invariant.1 (c.in-Ok.ensures.honest (c.in-Ok-Done.ensures.honest h)),
+      page_swept g.T.Tables.is_honest g.T.Tables.holds g.T.Tables.leaves c.args.asker.now c.args.now
+          c.args.vault.now c.loop.vault c.dead.new.self c.purge_all.new.vault c.loop.counter c.loop.count
+          page 1000 (is_broken c.purge_all.new.vault) c.loop.invariant.2 c.in-Ok.ensures.honest
+          c.in-Ok-Done.ensures.honest
+          (λ h W held. let t = c.in-Ok.ensures.told h W held in (c.as_slice.ensures.value ∙ t.0, t.1))
+          c.saturating_add-count.result
+          (λ few. omega (arith, few, size, c.saturating_add-count.ensures)) some
+          (rw c.in-Ok-Done.field-0-is at c.in-Ok-Done.ensures.carried),
+    )
+
+pub returns-clause-swept : goal.returns-clause-swept
+returns-clause-swept g c =
+    never_ends c.args.asker.now c.args.now g.T.Tables.is_honest g.T.Tables.holds g.T.Tables.leaves
+    c.args.vault.now c.loop.vault c.loop.counter c.loop.count (is_broken c.loop.vault)
+    (omega (arith, c.loop-test.false, c.loop.auto.counter-end)) c.loop.invariant.2

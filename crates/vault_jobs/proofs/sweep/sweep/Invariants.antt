@@ -1,0 +1,13 @@
+use Rattle.std.proofs.Common.{◌≡◌, false}
+use Rattle.vault_listen.specs.Service.{vault_passing}
+use Rattle.vault_store.specs.Applied.{is_broken, tables_of}
+use Rattle.vault_jobs.proofs.Sweeping.{IsSweeping}
+use Rattle.vault_jobs.proofs.sweep.sweep.Given as goal
+
+abbrev pub invariant-loop : goal.invariant-loop
+invariant-loop g l =
+    (is_broken l.vault ≡ false)
+    × (g.T.Tables.is_honest (tables_of l.vault) → g.T.Tables.is_honest (tables_of l.initial.vault))
+    × IsSweeping l.asker l.now
+    (vault_passing g.T.Tables.is_honest g.T.Tables.holds g.T.Tables.leaves l.initial.vault l.vault)
+    l.counter l.count
