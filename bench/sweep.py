@@ -1,0 +1,153 @@
+#!/usr/bin/env python3
+"""Times a sweep through the program: a merchant's tokens in a file, of which half are dead, each purged by a
+command of its own. Beside it Python's sqlite3 runs the same statements, and the disk syncs as many pages.
+
+sweep.py [PROGRAM] times the built program, which is crates/vault_cli/out/vault_cli if it is left out. DEAD
+says how many tokens are dead, one line each (10000 30000 100000; the merchant has twice as many), and ROUNDS
+how many rounds there are (3), each side in turn in each.
+"""
+
+import os
+import pathlib
+import subprocess
+import sys
+import tempfile
+import time
+
+sys.dont_write_bytecode = True
+import pipe  # noqa: E402, without leaving a folder of its bytecode here
+import same  # noqa: E402
+
+FIND_DEAD = "SELECT token FROM entries WHERE merchant = ?1 AND number IS NOT NULL AND (revoked IS NOT NULL OR expires <= ?2) ORDER BY token LIMIT ?3"
+LIST = 1000
+
+CALLER = "back"
+PURGE = 5
+LIFE = 60
+BORN_DEAD, BORN_LIVE = 1000, 1050
+NOW = BORN_DEAD + LIFE
+
+
+def told(program, *words):
+    """What the program says on standard output."""
+    return subprocess.run([program, *words], stdout=subprocess.PIPE, check=True).stdout.decode()
+
+
+def rows_of(dead):
+    """The rows of a merchant's entries, every other one dead, and of their records."""
+    for number in range(1, 2 * dead + 1):
+        token, birth = same.token_for(number), BORN_DEAD if number % 2 else BORN_LIVE
+        entry = (same.MERCHANT, token, same.NUMBER, 1, birth, birth + LIFE, None)
+        yield entry, (same.CALLER, number, same.MERCHANT, token, 1)
+
+
+def make_file(program, vault, dead):
+    """The program's own file, in which the tokens are put in one transaction; the program checks it."""
+    now = ("--now", str(BORN_LIVE))
+    assert told(program, "merchant", *now, vault, same.MERCHANT, str(LIFE), "0") == "done\n"
+    assert told(program, "grant", *now, vault, CALLER, same.MERCHANT, "purge") == "done\n"
+    entries, records = zip(*rows_of(dead))
+    conn = same.opened(vault)
+    conn.execute("BEGIN")
+    conn.execute("INSERT INTO counts VALUES (?1, 1, ?2)", (same.MERCHANT, 2 * dead))
+    conn.executemany(same.PUT_ENTRY, entries)
+    conn.executemany(same.PUT_RECORD, records)
+    conn.execute("COMMIT")
+    conn.close()
+    assert_sound(program, vault, dead)
+
+
+def assert_sound(program, vault, dead):
+    assert told(program, "check", vault) == f"sound 1 {2 * dead} {2 * dead}\n"
+
+
+def sweep(program, vault, merchant, purged):
+    """Sweeps a merchant's tokens by the program, and returns the seconds that it ran."""
+    start = time.perf_counter()
+    line = told(program, "sweep", "--now", str(NOW), vault, CALLER, merchant)
+    spent = time.perf_counter() - start
+    assert line == f"purged {purged}\n"
+    return spent
+
+
+def purge(conn, token):
+    """What one Purge reads, each row fetched, and what it writes, in one transaction."""
+    single_life, multi_life, moment = conn.execute(same.LIVES, (same.MERCHANT,)).fetchall()[0]
+    conn.execute(same.COUNTS, (same.MERCHANT,)).fetchall()
+    assert conn.execute(same.RIGHT, (CALLER, same.MERCHANT, PURGE)).fetchall()
+    number, usage, birth, expires, revoked = conn.execute(same.ENTRY, (same.MERCHANT, token)).fetchall()[0]
+    assert number is not None and expires <= NOW
+    conn.execute("BEGIN")
+    conn.execute(same.PUT_MERCHANT, (same.MERCHANT, single_life, multi_life, max(moment, NOW)))
+    conn.execute(same.PUT_ENTRY, (same.MERCHANT, token, None, usage, birth, expires, revoked))
+    conn.execute("COMMIT")
+
+
+def list_dead(conn):
+    """The first tokens that are dead, with what a list reads."""
+    _, _, moment = conn.execute(same.LIVES, (same.MERCHANT,)).fetchall()[0]
+    return conn.execute(FIND_DEAD, (same.MERCHANT, max(moment, NOW), LIST)).fetchall()
+
+
+def sweep_python(vault, dead):
+    """The seconds of the same statements, without Python's start and the opening; and those of the lists."""
+    conn = same.opened(vault)
+    purged, lists, start = 0, 0, time.perf_counter()
+    while True:
+        listing = time.perf_counter()
+        tokens = list_dead(conn)
+        lists += time.perf_counter() - listing
+        if not tokens:
+            break
+        for (token,) in tokens:
+            purge(conn, token)
+        purged += len(tokens)
+    spent = time.perf_counter() - start
+    conn.close()
+    assert purged == dead
+    return spent, lists
+
+
+def time_round(program, folder, dead):
+    """The seconds of the program's sweep without its opening, of Python's, of Python's lists and of the
+    opening; and the syncs a second."""
+    ours, theirs = str(folder / "vault.db"), str(folder / "python.db")
+    make_file(program, ours, dead)
+    make_file(program, theirs, dead)
+    os.sync()
+    opening = sweep(program, ours, "none", 0)
+    swept = sweep(program, ours, same.MERCHANT, dead) - opening
+    assert_sound(program, ours, dead)
+    os.sync()
+    spent, lists = sweep_python(theirs, dead)
+    assert_sound(program, theirs, dead)
+    return swept, spent, lists, opening, pipe.time_disk(folder, min(dead, 1000))
+
+
+def print_line(dead, rounds):
+    """The middle figures of some rounds, with the least and the greatest."""
+    ours = [dead / swept for swept, _, _, _, _ in rounds]
+    theirs = [dead / spent for _, spent, _, _, _ in rounds]
+    ratios = [spent / swept for swept, spent, _, _, _ in rounds]
+    listing = [100 * lists / spent for _, spent, lists, _, _ in rounds]
+    disk = [syncs for _, _, _, _, syncs in rounds]
+    openings = [opening for _, _, _, opening, _ in rounds]
+    cells = [pipe.middle(ours), pipe.middle(theirs), pipe.middle(ratios, 2), pipe.middle(listing, 1)]
+    cells += [pipe.middle(disk), pipe.middle(openings, 2)]
+    print(f"| {dead} of {2 * dead} | {' | '.join(cells)} |", flush=True)
+
+
+def main(program):
+    rounds = int(os.environ.get("ROUNDS", 3))
+    print("| Dead | Vault, a second | Python, a second | Ratio | Lists, % | Syncs, a second | Opening, s |")
+    print("|---|---|---|---|---|---|---|")
+    for dead in map(int, os.environ.get("DEAD", "10000 30000 100000").split()):
+        timed = []
+        for _ in range(rounds):
+            with tempfile.TemporaryDirectory() as name:
+                timed.append(time_round(program, pathlib.Path(name), dead))
+        print_line(dead, timed)
+
+
+if __name__ == "__main__":
+    main(os.path.abspath(sys.argv[1] if len(sys.argv) > 1 else pipe.BUILT))
