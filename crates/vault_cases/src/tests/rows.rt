@@ -85,8 +85,49 @@ grant till-1 shop1 tokenize 1004 = done
 tokenize till-1 shop1 8 single 4111111111111111 1 1000 = 1111111111111111 1064
 audit till-1 shop1 1004 = 2 0 0";
 
-const CASES: [&str; 8] = [
-    TAKEN, GIVEN, EXPIRED, MULTI, REUSED, DENIED, SHOWN, WITHDRAWN,
+/// A dead token's number is purged for good; the token stays taken, and its request answers it.
+const PURGED: &str = "open till-1 shop1 60 0 1000 = done
+tokenize till-1 shop1 7 single 4111111111111111 0 1000 = 0000000000001111 1060
+purge till-1 shop1 0000000000001111 1059 = refused 17
+detokenize till-1 shop1 0000000000001111 1059 = 4111111111111111
+revoke till-1 shop1 0000000000001111 1059 = done
+purge guest shop1 0000000000001111 1059 = refused 8
+view till-1 shop1 0000000000001111 1059 = 411111******1111 single 1000 1060 revoked
+purge till-1 shop1 0000000000001111 1059 = done
+detokenize till-1 shop1 0000000000001111 1059 = refused 14
+view till-1 shop1 0000000000001111 1059 = refused 14
+revoke till-1 shop1 0000000000001111 1059 = refused 14
+purge till-1 shop1 0000000000001111 1059 = done
+tokenize till-1 shop1 7 single 4111111111111111 5 1059 = 0000000000001111 1060
+tokenize till-1 shop1 7 single 0000000000041111 5 1059 = 0000000000001111 1060
+tokenize till-1 shop1 7 single 4222222222222 5 1059 = refused 10
+tokenize till-1 shop1 8 single 4111111111111111 0 1059 = refused 12
+purge till-1 shop1 1111111111111111 1059 = refused 13
+purge till-1 nobody 0000000000001111 1059 = refused 7
+audit till-1 shop1 1059 = 1 1 1";
+
+/// Dead tokens are listed in order of their texts, as many as are asked for; what is purged isn't.
+const DEAD: &str = "open till-1 shop1 60 0 1000 = done
+tokenize till-1 shop1 1 single 4111111111111111 2 1000 = 2222222222221111 1060
+tokenize till-1 shop1 2 single 4111111111111111 1 1010 = 1111111111111111 1070
+tokenize till-1 shop1 3 single 4111111111111111 0 1020 = 0000000000001111 1080
+dead shop1 1020 1000 = 0
+revoke till-1 shop1 0000000000001111 1020 = done
+dead shop1 1059 1000 = 1 0000000000001111
+dead shop1 1065 1000 = 2 0000000000001111 2222222222221111
+dead shop1 1065 1 = 1 0000000000001111
+dead shop1 1065 0 = 0
+dead shop2 1065 1000 = 0
+purge till-1 shop1 0000000000001111 1065 = done
+dead shop1 1065 1000 = 1 2222222222221111
+purge till-1 shop1 2222222222221111 1065 = done
+dead shop1 1065 1000 = 0
+detokenize till-1 shop1 1111111111111111 1065 = 4111111111111111
+dead shop1 1070 1000 = 1 1111111111111111
+audit till-1 shop1 1065 = 3 1 0";
+
+const CASES: [&str; 10] = [
+    TAKEN, GIVEN, EXPIRED, MULTI, REUSED, DENIED, SHOWN, WITHDRAWN, PURGED, DEAD,
 ];
 
 /// What the lines of a case tell over ordered maps.

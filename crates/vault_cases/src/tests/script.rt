@@ -137,6 +137,16 @@ fn revoke(line: &str) -> Option<Command> {
     })
 }
 
+/// `purge CALLER MERCHANT TOKEN NOW`.
+fn purge(line: &str) -> Option<Command> {
+    Some(Command::Purge {
+        caller: caller(line, 1)?,
+        merchant: merchant(line, 2)?,
+        token: token(line, 3)?,
+        now: moment(line, 4)?,
+    })
+}
+
 /// `audit CALLER MERCHANT NOW`.
 fn audit(line: &str) -> Option<Command> {
     Some(Command::Audit {
@@ -156,6 +166,7 @@ pub fn asked(line: &str) -> Option<Command> {
         "detokenize" => detokenize(line),
         "view" => view(line),
         "revoke" => revoke(line),
+        "purge" => purge(line),
         "audit" => audit(line),
         _ => None,
     }
@@ -243,15 +254,47 @@ fn answer<T: Tables>(vault: &mut Vault<T>, line: &str) -> Option<Answer> {
     }
 }
 
-/// The same in words.
+/// Tokens in words: how many they are, and each behind a space.
+fn list_told(alloc: Global, tokens: &[Token]) -> String {
+    let count = tokens.len();
+    let mut told = format!(in alloc; "{count}").unwrap_or(String::new(alloc));
+    for token in tokens {
+        let _ = told.push(' ');
+        let _ = told.push_str(token.as_str());
+    }
+    told
+}
+
+/// What a vault lists for `dead MERCHANT NOW LIMIT`.
+fn dead<T: Tables>(vault: &mut Vault<T>, line: &str) -> Option<Result<Vec<Token>, Fault>> {
+    let limit = word(line, 3)?.parse::<usize>().ok()?;
+    Some(vault.dead(merchant(line, 1)?, moment(line, 2)?, limit))
+}
+
+/// The list of dead tokens in words.
+fn dead_told<T: Tables>(alloc: Global, vault: &mut Vault<T>, line: &str) -> String {
+    match dead(vault, line) {
+        Some(Ok(tokens)) => list_told(alloc, &tokens),
+        Some(Err(fault)) => stopped_told(alloc, fault),
+        None => text(alloc, "no list"),
+    }
+}
+
+/// A fault in words.
+fn stopped_told(alloc: Global, fault: Fault) -> String {
+    let number = fault.number();
+    let told = format!(in alloc; "stopped {number}");
+    told.unwrap_or(String::new(alloc))
+}
+
+/// What a vault answers to a line, in words.
 fn answer_told<T: Tables>(alloc: Global, vault: &mut Vault<T>, line: &str) -> String {
+    if line.starts_with("dead ") {
+        return dead_told(alloc, vault, line);
+    }
     match answer(vault, line) {
         Some(Ok(reply)) => told(alloc, &reply),
-        Some(Err(fault)) => {
-            let number = fault.number();
-            let told = format!(in alloc; "stopped {number}");
-            told.unwrap_or(String::new(alloc))
-        }
+        Some(Err(fault)) => stopped_told(alloc, fault),
         None => text(alloc, "no command"),
     }
 }
