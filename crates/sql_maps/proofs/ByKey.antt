@@ -106,7 +106,7 @@ module _ {K X : Type 0} {cmp : K → K → Ordering} {encode : K → X → Row} 
 
 -- ---- what an edit makes of them
 
-put_apart : (new : Row) (rows : List Row)
+pub put_apart : (new : Row) (rows : List Row)
     → AllByRecursion (λ x. value_cmp (rowid new) (rowid x) ≢ Equal) rows → IsApart rows
     → IsApart (put_row new rows)
 put_apart new [] fresh up = (tt, tt)
@@ -119,7 +119,7 @@ put_apart new (r ∷ rows) fresh up = go (value_cmp (rowid r) (rowid new)) refl
     go Equal e more = (fresh.1, up.1)
     go Greater e more = (fresh, up)
 
-fresh_apart : (new : Row) (rows : List Row) → are_fresh rows (new ∷ []) ≡ true
+pub fresh_apart : (new : Row) (rows : List Row) → are_fresh rows (new ∷ []) ≡ true
     → AllByRecursion (λ x. value_cmp (rowid new) (rowid x) ≢ Equal) rows
 fresh_apart new rows fresh = all_from _ rows (λ x there tie. true≢false (sym
     (some_from (λ r. is_eq (value_cmp (rowid r) (rowid new))) rows x there

@@ -120,6 +120,15 @@ if_ok (Err e) P Q h f = tt
 pub small : (n : ℕ) → n < 2 ^ 63 → to_z w64 n ≡ pos n
 small n low = to_z_pos w64 n low
 
+-- a plain query changes nothing
+pub unchanged : {R E : Type 0} (items : R → List Row) (s : Schema) (sql : List _) (params : Row)
+    (old new : State) (result : Result R E) → IsPlain (understood s sql) → old.now.schema ≡ s
+    → IfOk result (λ rows. Shown sql params old new (items rows)) → OnOk result (IsUnchanged old new)
+unchanged items s sql params old new (Err e) plain has h = tt
+unchanged items s sql params old new (Ok rows) plain has h =
+    shown_unchanged sql params old new (items rows)
+    (subst (λ (x : Schema). IsPlain (understood x sql)) (sym has) plain) h
+
 -- what a query was answered from was sound
 pub was_sound : {R E : Type 0} (items : R → List Row) (s : Schema) (sql : List _) (params : Row)
     (old new : State) (result : Result R E) → IsPlain (understood s sql) → old.now.schema ≡ s → IsLive old

@@ -23,7 +23,7 @@ use Rattle.sql_maps.proofs.Answers.{shown_as}
 abbrev pub all_columns : ℕ → List Term
 all_columns n = map (λ i. col 1 i) (below (suc n))
 
-columns_behind : (places : List ℕ) (params : Row) (v : Value) (r : Row)
+pub columns_behind : (places : List ℕ) (params : Row) (v : Value) (r : Row)
     → eval_all (map (λ i. col 1 i) (map (λ i. suc i) places)) (params ∷ (v ∷ r) ∷ []) ≡ eval_all
     (map (λ i. col 1 i) places) (params ∷ r ∷ [])
 columns_behind [] params v r = refl
@@ -38,7 +38,7 @@ columns_are (suc n) params [] many = absurd (let e = many in cc)
 columns_are (suc n) params (v ∷ r) many =
     λ j. v ∷ (columns_behind (below n) params v r ∙ columns_are n params r (omega (arith, many))) j
 
-typed_many : (at : ℕ) (cols : List Column) (vs : Row) → are_typed None at cols vs ≡ true
+pub typed_many : (at : ℕ) (cols : List Column) (vs : Row) → are_typed None at cols vs ≡ true
     → length vs ≤ length cols
 typed_many at [] [] e = omega arith
 typed_many at [] (v ∷ vs) e = absurd (true≢false (sym e))
@@ -51,7 +51,7 @@ column_there (v ∷ row) zero e = omega arith
 column_there (v ∷ row) (suc i) e = omega (arith, column_there row i e)
 
 -- the last of columns that are never NULL is there
-present_many : (at : ℕ) (c : Column) (cs : List Column) (row : Row)
+pub present_many : (at : ℕ) (c : Column) (cs : List Column) (row : Row)
     → list_all (λ c. c.not_null) (c ∷ cs) ≡ true
     → are_present None at (c ∷ cs) row ≡ true → at + suc (length cs) < length row
 present_many at c [] row always e =
@@ -70,7 +70,7 @@ dropped : (n : ℕ) (r : Row) → length (drop 1 r) ≤ n → n < length r → l
 dropped n [] most least = omega (arith, least)
 dropped n (v ∷ r) most least = omega (arith, most, least)
 
-map_same : (f : Row → Row) (rows : List Row) → ((r : Row) → Has rows r → f r ≡ r) → map f rows ≡ rows
+pub map_same : (f : Row → Row) (rows : List Row) → ((r : Row) → Has rows r → f r ≡ r) → map f rows ≡ rows
 map_same f [] same = refl
 map_same f (r ∷ rows) same = λ i. same r (inl refl) i ∷ map_same f rows (λ s h. same s (inr h)) i
 

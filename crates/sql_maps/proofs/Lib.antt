@@ -1,4 +1,5 @@
 pub mod Answers
+pub mod ById
 pub mod ByKey
 pub mod Calls
 pub mod Full
@@ -7,11 +8,14 @@ pub mod KeyTests
 pub mod Keys
 pub mod Limited
 pub mod Making
+pub mod Moves
 pub mod Parts
 pub mod Ordered
 pub mod Plain
 pub mod Reading
 pub mod Rising
+pub mod RowsById
+pub mod SoundById
 pub mod Statements
 pub mod Steps
 pub mod Unique

@@ -23,7 +23,7 @@ use Rattle.sql_maps.proofs.Rising.{Rises, Untied, same_rising, sorted_rises, unt
 use Rattle.sql_maps.specs.Rows.{IsApart}
 use Rattle.sql_maps.specs.Texts.{first_of}
 
-mapped_twice : {X Y Z : Type 0} (f : Y → Z) (g : X → Y) (xs : List X) → map f (map g xs) ≡ map (λ x. f (g x)) xs
+pub mapped_twice : {X Y Z : Type 0} (f : Y → Z) (g : X → Y) (xs : List X) → map f (map g xs) ≡ map (λ x. f (g x)) xs
 mapped_twice f g [] = refl
 mapped_twice f g (x ∷ xs) = ap (λ l. f (g x) ∷ l) (mapped_twice f g xs)
 

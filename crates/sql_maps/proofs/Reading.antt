@@ -38,7 +38,7 @@ use Rattle.sql_maps.proofs.Keys.{Keyed, coding, hits}
 use Rattle.sql_maps.proofs.Plain.{claim_at, claimed}
 
 -- the rows are an answer to what the text means
-answer_of : {s : Schema} {text : List ℕ} {body : Query} → IsQuery s text body → (old new : State)
+pub answer_of : {s : Schema} {text : List ℕ} {body : Query} → IsQuery s text body → (old new : State)
     → old.now.schema ≡ s → {params : Row} {rows : List Row} → Shown text params old new rows
     → IsAnswer body (overlay old.now.trees []) params rows
 answer_of {s} {text} it old new has {params} {rows} shown =

@@ -89,7 +89,7 @@ module _ {s : Schema} (fine : is_plain s ≡ true) {claims : List Claim} {base :
   db = old.now.trees
 
   -- one table was written
-  written : IsDatabase new.now → (d : Descriptor) (place : ℕ)
+  pub written : IsDatabase new.now → (d : Descriptor) (place : ℕ)
       → slice_get s.tables place ≡ Some (table_of d) → (ids : List ℤ) (news : List Row) (Q : Claim)
       → Wrote s d.tree ids news db new.now → Q (put_all (without_all (db d.tree) ids) news)
       → Within s (at_place claims place Q) base new

@@ -1,10 +1,10 @@
--- What an INSERT, an upsert and a DELETE of one table come to, whatever its columns.
+-- What an INSERT, an upsert, an UPDATE and a DELETE of one table come to, whatever its columns.
 use Rattle.std.proofs.Common.{◌≡◌, ◌≢◌, ◌⊎◌, inl, inr, ℕ, ℤ, List, [], ◌∷◌, ◌++◌, drop, length, ◌/◌, map}
 use Rattle.std.proofs.Common.{true, slice_get, Option, Some, None, option_map, Ok, Err, Result, refl, sym, ap}
 use Rattle.std.proofs.Common.{subst, ◌∙◌, append-nil}
 use Rattle.std.specs.List.{AllByRecursion}
 use Rattle.sqlite.specs.Cast.{cast_row}
-use Rattle.sqlite.specs.Command.TheVariants.{Insert, InsertOr, Delete}
+use Rattle.sqlite.specs.Command.TheVariants.{Insert, InsertOr, Update, Delete}
 use Rattle.sqlite.specs.Does.{Tally, OnRows, OnTable, WritesRows, AtPlace}
 use Rattle.sqlite.specs.Edit.{edit_of, put_all, without_all, with_rowid, are_fresh, numbered}
 use Rattle.sqlite.specs.Effect.{Database, IsDatabase, IsSource, value_rows}
@@ -153,6 +153,25 @@ module _ (s : Schema) (plain : is_plain s ≡ true) (d : Descriptor) where
           rows.1.answer Null,
           edited (mode_of old).keys db edit.0 new.now (ids_of rows.0) Given 0 []
               (done.2 ∙ ap trees_of (same_value edit.2)) edit.1,
+          done.3,
+        )
+
+    -- an update of the rows that pass, whose rowids it shows first
+    pub update_wrote : (body : Query) → IsWrite s text (Update at (record { lets = []; body = body }))
+        → (rows : List Row) × IsAnswer body (overlay db []) params rows
+        × Wrote s d.tree (ids_of rows) (map (λ r. cast_row (table_of d) (drop 1 r)) rows) db new.now
+        × IsDatabase new.now
+    update_wrote body it =
+        let done = concluded (Update at (record { lets = []; body = body })) it
+        (λ w. (w.tally, w.changed, w.sound)) in
+        let rows = went done.1 in
+        let edit = went rows.2 in (
+          rows.0,
+          rows.1.answer Null,
+          subst (λ news. Wrote s d.tree (ids_of rows.0) news db new.now)
+              (given (without_all (db d.tree) (ids_of rows.0)) (map (λ r. cast_row (table_of d) (drop 1 r)) rows.0))
+              (edited (mode_of old).keys db edit.0 new.now (ids_of rows.0) Given 1 rows.0
+              (done.2 ∙ ap trees_of (same_value edit.2)) edit.1),
           done.3,
         )
 

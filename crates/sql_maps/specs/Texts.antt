@@ -4,7 +4,7 @@ use Rattle.sqlite.specs.Change.{created}
 use Rattle.sqlite.specs.Collation.TheVariants.{Binary}
 use Rattle.sqlite_value.specs.declared.keys.Collation.{Collation}
 use Rattle.sqlite_value.specs.declared.keys.Key.{Key}
-use Rattle.sqlite.specs.Command.TheVariants.{Select, InsertOr, Delete, CreateTable, CreateIndex}
+use Rattle.sqlite.specs.Command.TheVariants.{Select, InsertOr, Update, Delete, CreateTable, CreateIndex}
 use Rattle.sqlite.specs.Compile.{table_defined_by, index_defined_by}
 use Rattle.sqlite.specs.Does.{lacks_sequence}
 use Rattle.sqlite.specs.Listing.{understood, reads_listing}
@@ -72,9 +72,13 @@ eq = op2 (Compare Eq Binary)
 abbrev pub by_key : ℕ → List Term
 by_key n = map (λ i. eq (col 1 (suc i)) (col 0 i)) (below n)
 
+-- the rowid is a parameter
+abbrev pub by_id : ℕ → List Term
+by_id place = eq (col 1 0) (col 0 place) ∷ []
+
 -- the update of the row that a new one met, whose rowid stands behind the parameters
 abbrev pub met_update : ℕ → ℕ → List Term → Query
-met_update tree place project = query_of tree (eq (col 1 0) (col 0 place) ∷ []) (col 1 0 ∷ col 1 0 ∷ project)
+met_update tree place project = query_of tree (by_id place) (col 1 0 ∷ col 1 0 ∷ project)
 
 -- an insert of one row, which updates the row with its key
 abbrev pub upsert : ℕ → ℕ → ℕ → ℕ → List Term → ℕ → List Term → Command
@@ -90,6 +94,11 @@ upsert place tree n width terms at set =
 abbrev pub insert_or_nothing : ℕ → ℕ → ℕ → List Term → Command
 insert_or_nothing place n width terms = InsertOr place Abort (Values terms width)
     (record { target = Some (columns_to n); update = None } ∷ [])
+
+-- an update of the rows that pass, which keep their rowids
+abbrev pub update : ℕ → ℕ → List Term → List Term → Command
+update place tree tests set =
+    Update place (record { lets = []; body = query_of tree tests (col 1 0 ∷ col 1 0 ∷ set) })
 
 -- a delete of the rows that pass
 abbrev pub delete : ℕ → ℕ → List Term → Command

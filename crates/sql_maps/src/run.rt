@@ -3,7 +3,7 @@ ghost use Rattle.std.specs.Prelude.{◌≡◌, ℕ, IsTrue, Ok, IfOk, OnOk};
 ghost use Rattle.sqlite.specs.Effect.{IsDatabase};
 ghost use Rattle.sqlite.specs.Held.{state};
 ghost use Rattle.sqlite.specs.Listing.{understood};
-ghost use Rattle.sqlite.specs.State.{ExecutesInside, HasCleanDisk, Shown};
+ghost use Rattle.sqlite.specs.State.{ExecutesInside, HasCleanDisk, IsUnchanged, Shown};
 ghost use Rattle.sqlite.specs.Values.{bound};
 ghost use Rattle.sqlite.proofs.Callers.{IsPlain};
 ghost use Rattle.sql_maps.specs.States.{Reads, Steps};
@@ -46,4 +46,22 @@ pub fn step<S: Alter>(
 {
     tx.execute(sql, params)?;
     Ok(())
+}
+
+/// The rows that a query shows inside a transaction.
+pub fn rows_in<S: Alter>(
+    tx: &mut Transaction<'_, S>,
+    sql: &str,
+    params: &[ValueRef<'_>],
+) -> Result<Vec<Row>, Error>
+    ensures same_reference { tx.new.conn.ghost_name ≡ tx.old.conn.ghost_name }
+    ensures steps { Steps (state S.Store tx.old.conn.now) (state S.Store tx.new.conn.now) }
+    ensures told { HasCleanDisk (state S.Store tx.new.conn.now)
+        → IfOk result (λ rows. Shown sql.now (bound params.now) (state S.Store tx.old.conn.now)
+        (state S.Store tx.new.conn.now) rows.items) }
+    ensures kept { HasCleanDisk (state S.Store tx.new.conn.now) → (s : _) → IsPlain (understood s sql.now)
+        → (state S.Store tx.old.conn.now).now.schema ≡ s
+        → OnOk result (IsUnchanged (state S.Store tx.old.conn.now) (state S.Store tx.new.conn.now)) }
+{
+    tx.query_all(sql, params)
 }

@@ -1,6 +1,7 @@
 //! Vaults over databases: worked cases, stops, and files that were changed.
 mod changed;
 mod fresh;
+mod moved;
 mod over;
 mod reopened;
 mod rows;

@@ -8,6 +8,7 @@ use Rattle.sqlite.specs.Order.{Row}
 use Rattle.sqlite.specs.State.{State, IsUnchanged}
 use Rattle.sqlite.specs.Tree.{Trees}
 use Rattle.sql_maps.specs.Rows.{IsApart}
+use Rattle.vault_recover.proofs.AsClaims.{AreClaimed, as_fields}
 use Rattle.vault_recover.proofs.FromStands.{stands_shows, version_of}
 use Rattle.vault_recover.proofs.Opening.{apart}
 use Rattle.vault_recover.proofs.Versioned.{has_version}
@@ -18,11 +19,12 @@ use Rattle.vault_recover.specs.Opened.{AreRaws, AreVersions, IsFit, IsLeastBroke
 use Rattle.vault_recover.specs.Opened.{IsOtherVersion, IsSoundOf, StandsSound}
 use Rattle.vault_recover.specs.Reading.{AreAll, IsOurs}
 use Rattle.vault_recover.specs.Sizes.{counts_of}
-use Rattle.vault_recover.specs.Versions.{is_other, other_version}
+use Rattle.vault_recover.specs.Versions.{is_other, other_than, other_version}
 use Rattle.vault_recover.specs.declared.fault.OpenFault.{OpenFault}
 use Rattle.vault_recover.specs.declared.fault.OpenFault.TheVariants.{WrongSchema, Damaged}
 use Rattle.vault_schema.specs.Versioned.{HasVersion}
 use Rattle.vault_sql.specs.Schema.{vault_schema}
+use Rattle.vault_sql.specs.Stands.{lookups_of, tables_of}
 use Rattle.vault_recover.specs.declared.sizes.Sizes.{Sizes}
 use Rattle.vault_rules.proofs.AllKept.{all_kept}
 use Rattle.vault_rules.proofs.Found.{many_is}
@@ -35,9 +37,9 @@ use Rattle.vault_rules.specs.VaultOf.{vault_of}
 use Rattle.vault_rules.specs.declared.rows.RawVersion.{RawVersion}
 use Rattle.vault_rules.specs.declared.rows.Rows.{Rows}
 
--- the one row of `vault` says the version 1
-version_is : (v : RawVersion) → v.id ≡ pos 1 → other_version (v ∷ []) ≡ None → v.version ≡ pos 1
-version_is v id none = grind (arith, int_is v.version (pos 1), int_same v.id (pos 1))
+-- the one row of `vault` says this version
+pub version_is : (n : ℤ) (v : RawVersion) → v.id ≡ pos 1 → other_than n (v ∷ []) ≡ None → v.version ≡ n
+version_is n v id none = grind (arith, int_is v.version n, int_same v.id (pos 1))
 
 pub sound_of : (db : Database) → IsOurs db → IsDatabase db → (rows : Rows) → AreRaws db.trees rows
     → ((r : ℕ) → keeps rows r ≡ true) → AreApart rows
@@ -46,7 +48,7 @@ sound_of db ours sound rows raws keep apart says =
     let keys = apart_keys db ours.schema sound rows raws apart in
     let shows = rows_show rows keys keep in
     let version =
-    version_is shows.version shows.id (subst (λ vs. other_version vs ≡ None) shows.versions says) in
+    version_is (pos 2) shows.version shows.id (subst (λ vs. other_version vs ≡ None) shows.versions says) in
     record {
       is = sound;
       it = record {
@@ -82,15 +84,18 @@ are_read old mid versions rows is same sound are told ours =
       sound = sound has;
       raws = record {
         versions = subst (AreVersions old.now.trees) (sym is) (are has);
-        merchants = all.merchants.all ours.full;
-        counts = all.counts.all ours.full;
+        merchants = all.merchants.all tt;
+        counts = all.counts.all tt;
+        cards = all.cards.all tt;
         entries = all.entries.all ours.full;
-        records = all.records.all ours.full;
-        rights = all.rights.all ours.full;
+        records = all.records.all tt;
+        rights = all.rights.all tt;
+        replaced = all.replaced;
       };
       ordered = record {
         merchants = all.merchants.ordered;
         counts = all.counts.ordered;
+        cards = all.cards.ordered;
         entries = all.entries.ordered;
         records = all.records.ordered;
         rights = all.rights.ordered;
@@ -107,25 +112,31 @@ judged P Q (Err fault) rows is keep apart f = tt
 
 -- where no rowid comes twice in the tables, none does in the rows
 pub apart_of : (db : Trees) (rows : Rows) → AreRaws db rows
-    → IsApart (db 1) × IsApart (db 3) × IsApart (db 5) × IsApart (db 8) × IsApart (db 10) → AreApart rows
+    → IsApart (db 1) × IsApart (db 3) × IsApart (db 12) × IsApart (db 14) × IsApart (db 8) × IsApart (db 10)
+    → AreApart rows
 apart_of db rows raws apart = record {
   merchants = apart_permuted _ _ raws.merchants apart.0;
   counts = apart_permuted _ _ raws.counts apart.1;
-  entries = apart_permuted _ _ raws.entries apart.2;
-  records = apart_permuted _ _ raws.records apart.3;
-  rights = apart_permuted _ _ raws.rights apart.4;
+  cards = apart_permuted _ _ raws.cards apart.2;
+  entries = apart_permuted _ _ raws.entries apart.3;
+  records = apart_permuted _ _ raws.records apart.4;
+  rights = apart_permuted _ _ raws.rights apart.5;
 }
 
 module _ (db : Database) (it : StandsSound db) where
+  claimed : AreClaimed db.trees (tables_of (lookups_of it.vault) it.stands.cards it.stands.pointing)
+  claimed = as_fields db.trees _ it.stands.rows
+
   -- the rows of a database that stands for a sound vault break no rule
   pub never_broken : (rule : ℕ) → IsLeastBroken db rule → ⊥
   never_broken rule least =
       let keys = apart_keys db it.schema least.is least.rows least.are (apart_of db.trees least.rows least.are (
-        it.stands.merchants.apart,
-        it.stands.counts.apart,
-        it.stands.entries.apart,
-        it.stands.records.apart,
-        it.stands.rights.apart,
+        claimed.merchants.apart,
+        claimed.counts.apart,
+        claimed.cards.apart,
+        claimed.pointing.apart,
+        claimed.records.apart,
+        claimed.rights.apart,
       )) in
       true≢false (sym (all_kept least.rows it.vault
       (stands_shows db.trees it.vault it.stands least.rows least.are keys) it.sound keys rule)
@@ -134,18 +145,18 @@ module _ (db : Database) (it : StandsSound db) where
   -- nor do they say another version
   pub never_other : (n : ℤ) → IsOtherVersion db n → ⊥
   never_other n other =
-      let v = version_of db.trees it.stands.version other.versions other.are in
-      let same : is_other v.0 ≡ false = (λ i. int_eq (v.2 i) (pos 1) && not (int_eq (v.3 i) (pos 1))) in
+      let v = version_of 2 db.trees claimed.version other.versions other.are in
+      let same : is_other (pos 2) v.0 ≡ false = (λ i. int_eq (v.2 i) (pos 1) && not (int_eq (v.3 i) (pos 2))) in
       let none : other_version other.versions ≡ None =
       ap other_version v.1
       ∙ ap (λ b. option_map (λ (v : RawVersion). v.version) (cond b (Some v.0) None)) same in
       let clash = sym none ∙ other.says in cc
 
-  -- and each row of `entries` has all its columns
+  -- and each row of `entries2` has all its columns
   pub ours_of : IsOurs db
   ours_of = record {
     schema = it.schema;
-    full = λ row there. let found = it.stands.entries.sound row there in behind row (ap length found.2);
+    full = λ row there. let found = claimed.pointing.sound row there in behind row (ap length found.2);
   }
     where
       behind : (row : Row) → length (drop 1 row) ≡ 7 → 7 < length row

@@ -61,14 +61,14 @@ module _ {D : Type 0} {g : Ghosts D} (it : FileStore D g)
 
 module _ {D : Type 0} {g : Ghosts D} (image : Image) (c : Held (FileStore D g)) (is : IsOpenOf image c)
     (unlimited : (file_state c).step_limit ≡ None) where
-  now_trees : (file_state c).now.trees ≡ (file_state c).committed.trees
+  pub now_trees : (file_state c).now.trees ≡ (file_state c).committed.trees
   now_trees = ap (λ (d : Database). d.trees) is.opened.0.clean
 
-  fine : IsDatabase (file_state c).now
+  pub fine : IsDatabase (file_state c).now
   fine = (is.opened.1 is.opened.0.is_open).0
 
   -- The trees that are found list one schema.
-  one_schema : (s : Schema) → IsSound s (file_state c).committed.trees → (file_state c).now.schema ≡ s
+  pub one_schema : (s : Schema) → IsSound s (file_state c).committed.trees → (file_state c).now.schema ≡ s
   one_schema s sound =
       lists_once ((file_state c).now.trees catalog_tree) (file_state c).now.schema s fine.lists
       (subst (λ (t : Trees). Lists (t catalog_tree) s) (sym now_trees) sound.lists)

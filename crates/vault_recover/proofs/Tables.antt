@@ -1,12 +1,15 @@
--- The five tables of a vault.
-use Rattle.std.proofs.Common.{◌≡◌, ℕ, ℤ, true, [], ◌∷◌, refl, ap, ◌∙◌, is_eq, arith, string_bytes}
+-- The tables of a vault, those of schema 1 in each schema that begins with it.
+use Rattle.std.proofs.Common.{◌≡◌, ℕ, ℤ, true, List, [], ◌∷◌, refl, ap, ◌∙◌, is_eq, arith, string_bytes}
 use Rattle.std.proofs.lemmas.Cmp.{tied_itself}
 use Rattle.std.specs.Cmp.{int_cmp_total}
 use Rattle.sqlite.specs.Collation.TheVariants.{Binary}
 use Rattle.sqlite.specs.Order.{Row}
 use Rattle.sqlite.specs.declared.types.Value.TheVariants.{Int, Text}
+use Rattle.sqlite.specs.Table.{Table as SqlTable}
 use Rattle.sqlite_schema.specs.Rules.{equal}
+use Rattle.sqlite_schema.specs.declared.schema.Index.{Index}
 use Rattle.sql_maps.proofs.KeyTests.{text_eq, int_eq}
+use Rattle.sql_maps.specs.Schema.{Descriptor, columns_to, guards_of, table_of}
 use Rattle.vault_core.proofs.Maps.{bytes_total}
 use Rattle.vault_core.specs.Keys.{Bytes}
 use Rattle.vault_core.specs.declared.right.Right.{Right}
@@ -18,8 +21,12 @@ use Rattle.vault_rules.specs.declared.rows.RawCount.{RawCount}
 use Rattle.vault_rules.specs.declared.rows.RawEntry.{RawEntry}
 use Rattle.vault_rules.specs.declared.rows.RawRecord.{RawRecord}
 use Rattle.vault_rules.specs.declared.rows.RawRight.{RawRight}
+use Rattle.vault_schema.proofs.Grown.{keyed_in_grown}
 use Rattle.vault_schema.proofs.Version1.Codes as codes
+use Rattle.vault_schema.proofs.Version2.Codes as newer
 use Rattle.vault_schema.specs.Version1.Rows as row
+use Rattle.vault_schema.specs.Version1.Tables as v1
+use Rattle.vault_schema.specs.Version2.Tables.{tables2, indexes2}
 
 -- a value that isn't NULL is equal to itself
 pub same_text : (t : Bytes) → equal Binary (Text t) (Text t) ≡ true
@@ -56,29 +63,73 @@ pub right_back : (q : Bytes × (Bytes × ℤ)) (k : Bytes × (Bytes × Right)) �
     → right_in q ≡ k
 right_back q k e = grind arith
 
-abbrev pub merchants : Table codes.merchant_table RawMerchant Bytes
-merchants = record {
-  values = raw.merchant_values;
-  shown = λ m. string_bytes m.name;
-  shows = λ q. Text q ∷ [];
-  key_of = λ q. q;
-  whole = λ m. refl;
-  fits = λ q. (refl, rw (same_text q) refl);
-  back = name_back;
-}
+module _ (tables : List SqlTable) (indexes : List Index) where
+  -- no index behind those of schema 1 guards the key
+  abbrev pub IsFree : Descriptor → ℕ → Type 0
+  IsFree d n = guards_of indexes (table_of d) (columns_to n) ≡ []
 
-abbrev pub counts : Table codes.count_table RawCount (Bytes × ℤ)
-counts = record {
-  values = raw.count_values;
-  shown = count_key;
-  shows = numbered;
-  key_of = number_of;
-  whole = λ c. refl;
-  fits = λ q. (refl, rw (same_text q.0, same_int q.1) refl);
-  back = number_back;
-}
+  abbrev pub merchants_in : (free : IsFree v1.merchants 1)
+      → Table (keyed_in_grown codes.merchant_table tables indexes free) RawMerchant Bytes
+  merchants_in free = record {
+    values = raw.merchant_values;
+    shown = λ m. string_bytes m.name;
+    shows = λ q. Text q ∷ [];
+    key_of = λ q. q;
+    whole = λ m. refl;
+    fits = λ q. (refl, rw (same_text q) refl);
+    back = name_back;
+  }
 
-abbrev pub entries : Table codes.entry_table RawEntry (Bytes × Bytes)
+  abbrev pub counts_in : (free : IsFree v1.counts 2)
+      → Table (keyed_in_grown codes.count_table tables indexes free) RawCount (Bytes × ℤ)
+  counts_in free = record {
+    values = raw.count_values;
+    shown = count_key;
+    shows = numbered;
+    key_of = number_of;
+    whole = λ c. refl;
+    fits = λ q. (refl, rw (same_text q.0, same_int q.1) refl);
+    back = number_back;
+  }
+
+  abbrev pub records_in : (free : IsFree v1.records 2)
+      → Table (keyed_in_grown codes.record_table tables indexes free) RawRecord (Bytes × ℤ)
+  records_in free = record {
+    values = raw.record_values;
+    shown = request_key;
+    shows = numbered;
+    key_of = number_of;
+    whole = λ r. refl;
+    fits = λ q. (refl, rw (same_text q.0, same_int q.1) refl);
+    back = number_back;
+  }
+
+  abbrev pub rights_in : (free : IsFree v1.rights 3)
+      → Table (keyed_in_grown codes.right_table tables indexes free) RawRight (Bytes × (Bytes × ℤ))
+  rights_in free = record {
+    values = raw.right_values;
+    shown = number_key;
+    shows = whose;
+    key_of = right_in;
+    whole = λ r. refl;
+    fits = λ q. (refl, rw (same_text q.0, same_text q.1.0, same_int q.1.1) refl);
+    back = right_back;
+  }
+
+-- those of schema 2
+abbrev pub merchants : Table newer.merchant_table RawMerchant Bytes
+merchants = merchants_in tables2 indexes2 refl
+
+abbrev pub counts : Table newer.count_table RawCount (Bytes × ℤ)
+counts = counts_in tables2 indexes2 refl
+
+abbrev pub records : Table newer.record_table RawRecord (Bytes × ℤ)
+records = records_in tables2 indexes2 refl
+
+abbrev pub rights : Table newer.right_table RawRight (Bytes × (Bytes × ℤ))
+rights = rights_in tables2 indexes2 refl
+
+abbrev pub entries : Table newer.pointing_table RawEntry (Bytes × Bytes)
 entries = record {
   values = raw.entry_values;
   shown = entry_key;
@@ -87,26 +138,4 @@ entries = record {
   whole = λ e. refl;
   fits = λ q. (refl, rw (same_text q.0, same_text q.1) refl);
   back = entry_back;
-}
-
-abbrev pub records : Table codes.record_table RawRecord (Bytes × ℤ)
-records = record {
-  values = raw.record_values;
-  shown = request_key;
-  shows = counts.shows;
-  key_of = counts.key_of;
-  whole = λ r. refl;
-  fits = counts.fits;
-  back = counts.back;
-}
-
-abbrev pub rights : Table codes.right_table RawRight (Bytes × (Bytes × ℤ))
-rights = record {
-  values = raw.right_values;
-  shown = number_key;
-  shows = whose;
-  key_of = right_in;
-  whole = λ r. refl;
-  fits = λ q. (refl, rw (same_text q.0, same_text q.1.0, same_int q.1.1) refl);
-  back = right_back;
 }

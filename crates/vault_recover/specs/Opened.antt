@@ -1,5 +1,5 @@
 -- What an open finds.
-use Rattle.std.specs.Prelude.{◌≡◌, ◌≢◌, ◌⊎◌, ℕ, ℤ, pos, List, map, Some, None, IsTrue}
+use Rattle.std.specs.Prelude.{◌≡◌, ◌≢◌, ◌⊎◌, ℕ, ℤ, pos, List, length, map, Some, None, IsTrue}
 use Rattle.std.specs.List.Sorted.{IsPermutation}
 use Rattle.sqlite.specs.Effect.{Database, IsDatabase}
 use Rattle.sqlite.specs.State.{State}
@@ -7,7 +7,7 @@ use Rattle.sqlite.specs.Tree.{Trees}
 use Rattle.vault_core.specs.Sound.{Sound}
 use Rattle.vault_core.specs.Vault.{Vault, empty_vault}
 use Rattle.vault_recover.specs.Names.{IsMixed, vault_names}
-use Rattle.vault_recover.specs.Raw.{version_values, merchant_values, count_values, entry_values}
+use Rattle.vault_recover.specs.Raw.{version_values, merchant_values, count_values, card_row, entry_values}
 use Rattle.vault_recover.specs.Raw.{record_values, right_values}
 use Rattle.vault_recover.specs.Reading.{IsOurs, shown_by, version_columns}
 use Rattle.vault_recover.specs.Sizes.{sizes_of}
@@ -29,16 +29,18 @@ use Rattle.vault_sql.specs.Stands.{Stands}
 abbrev pub AreVersions : Trees → List RawVersion → Type 0
 AreVersions db versions = IsPermutation (map (shown_by version_columns) (db 0)) (map version_values versions)
 
--- the rows of all tables, each in some order
+-- the rows of all tables, each in some order; of the table that schema 2 replaced, how many
 pub record AreRaws (db : Trees) (rows : Rows) : Type 0 where
   pub versions : AreVersions db rows.versions.items
   pub merchants : IsPermutation (db 1) (map merchant_values rows.merchants.items)
   pub counts : IsPermutation (db 3) (map count_values rows.counts.items)
-  pub entries : IsPermutation (db 5) (map entry_values rows.entries.items)
+  pub cards : IsPermutation (db 12) (map card_row rows.cards.items)
+  pub entries : IsPermutation (db 14) (map entry_values rows.entries.items)
   pub records : IsPermutation (db 8) (map record_values rows.records.items)
   pub rights : IsPermutation (db 10) (map right_values rows.rights.items)
+  pub replaced : rows.replaced ≡ length (db 5)
 
--- the version is 1, and the rows break this rule and none below it
+-- the version is 2, and the rows break this rule and none below it
 pub record IsLeastBroken (db : Database) (rule : ℕ) : Type 0 where
   pub rows : Rows
   pub is : IsDatabase db
@@ -46,14 +48,14 @@ pub record IsLeastBroken (db : Database) (rule : ℕ) : Type 0 where
   pub version : other_version rows.versions.items ≡ None
   pub least : rules.IsLeastBroken rows rule
 
--- the database has a version: the row of `vault` with the id 1 says this one, which isn't 1
+-- the database has a version: the row of `vault` with the id 1 says this one, which isn't 2
 pub record IsOtherVersion (db : Database) (n : ℤ) : Type 0 where
   pub first : HasVersion db.schema
   pub versions : List RawVersion
   pub are : AreVersions db.trees versions
   pub says : other_version versions ≡ Some n
 
--- the row of `vault` with the id 1 says the version 1, or there is no such row
+-- the row of `vault` with the id 1 says the version 2, or there is no such row
 pub record IsThisVersion (db : Database) : Type 0 where
   pub versions : List RawVersion
   pub are : AreVersions db.trees versions

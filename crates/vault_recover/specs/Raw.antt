@@ -8,7 +8,10 @@ use Rattle.sqlite.specs.Order.{Row}
 use Rattle.vault_schema.specs.Version1.Rows.{text_or_null}
 use Rattle.vault_rules.specs.declared.rows.RawVersion.{RawVersion}
 use Rattle.vault_rules.specs.declared.rows.RawMerchant.{RawMerchant}
+use Rattle.vault_recover.specs.declared.replaced.EntryId.{EntryId}
+use Rattle.vault_recover.specs.declared.replaced.OldEntry.{OldEntry}
 use Rattle.vault_rules.specs.declared.rows.RawCount.{RawCount}
+use Rattle.vault_rules.specs.declared.rows.RawCard.{RawCard}
 use Rattle.vault_rules.specs.declared.rows.RawEntry.{RawEntry}
 use Rattle.vault_rules.specs.declared.rows.RawRecord.{RawRecord}
 use Rattle.vault_rules.specs.declared.rows.RawRight.{RawRight}
@@ -43,12 +46,31 @@ merchant_values m =
 abbrev pub count_values : RawCount → Row
 count_values c = Int c.rowid ∷ Text (string_bytes c.merchant) ∷ Int c.kind ∷ Int c.total ∷ []
 
--- of `entries`
+-- of `cards2`, as a query shows it
+abbrev pub card_values : RawCard → Row
+card_values c =
+    Int c.id ∷ Text (string_bytes c.merchant) ∷ Text (string_bytes c.number) ∷ Int c.uses ∷ []
+
+-- and as it stands: the database keeps the id as the rowid, and NULL in its column
+abbrev pub card_row : RawCard → Row
+card_row c =
+    Int c.id ∷ Null ∷ Text (string_bytes c.merchant) ∷ Text (string_bytes c.number) ∷ Int c.uses ∷ []
+
+-- of `entries2`
 abbrev pub entry_values : RawEntry → Row
 entry_values e =
+    Int e.rowid ∷ Text (string_bytes e.merchant) ∷ Text (string_bytes e.token) ∷ int_value e.card
+    ∷ Int e.usage ∷ Int e.birth ∷ Int e.expires ∷ int_value e.revoked ∷ []
+
+-- of `entries`, the table of schema 1
+abbrev pub old_entry_values : OldEntry → Row
+old_entry_values e =
     Int e.rowid ∷ Text (string_bytes e.merchant) ∷ Text (string_bytes e.token)
-    ∷ text_or_null (option_map (λ number. string_bytes number) e.number) ∷ Int e.usage
-    ∷ Int e.birth ∷ Int e.expires ∷ int_value e.revoked ∷ []
+    ∷ maybe_text_value e.number ∷ Int e.usage ∷ Int e.birth ∷ Int e.expires ∷ int_value e.revoked ∷ []
+
+-- of `entries`, its rowid alone
+abbrev pub entry_id_values : EntryId → Row
+entry_id_values e = Int e.rowid ∷ []
 
 -- of `records`
 abbrev pub record_values : RawRecord → Row

@@ -18,13 +18,14 @@ use Rattle.sqlite_rules.specs.Lists.{Has}
 use Rattle.sqlite_trees.specs.declared.store.Store.{Ghosts}
 use Rattle.sql_maps.specs.States.{LeavesNoMore, Reads}
 use Rattle.vault_recover.specs.Apart.{SharesRowid}
-use Rattle.vault_recover.specs.Raw.{IsStrange, merchant_values, count_values, entry_values, record_values}
-use Rattle.vault_recover.specs.Raw.{right_values, version_values}
+use Rattle.vault_recover.specs.Raw.{IsStrange, merchant_values, count_values, card_values, card_row}
+use Rattle.vault_recover.specs.Raw.{entry_values, entry_id_values, record_values, right_values}
+use Rattle.vault_recover.specs.Raw.{version_values}
 use Rattle.vault_recover.specs.declared.fault.ReadFault.{ReadFault}
 use Rattle.vault_recover.specs.declared.fault.ReadFault.TheVariants.{Store}
 use Rattle.vault_rules.specs.declared.rows.Rows.{Rows}
-use Rattle.vault_schema.specs.declared.v1.TheConstants.{READ_VERSIONS, READ_MERCHANTS, READ_COUNTS}
-use Rattle.vault_schema.specs.declared.v1.TheConstants.{READ_ENTRIES, READ_RECORDS, READ_RIGHTS}
+use Rattle.vault_schema.specs.declared.v1.TheConstants as v1
+use Rattle.vault_schema.specs.declared.v2.TheConstants as v2
 use Rattle.vault_sql.specs.Schema.{vault_schema}
 
 -- what the terms show of a row
@@ -35,21 +36,35 @@ shown_by project row = eval_all project ([] ∷ row ∷ [])
 abbrev pub version_columns : List Term
 version_columns = col 1 0 ∷ col 1 2 ∷ []
 
--- The premise on a file: each row of `entries` has all its columns. The last one may be NULL, so nothing else
--- says that no row was made before it was added; no statement of this program adds one.
+-- each row of a table of entries has all its columns
+abbrev pub AreFull : ℕ → Database → Type 0
+AreFull tree db = (row : Row) → Has (db.trees tree) row → 7 < length row
+
+-- The premise on a file: each row of `entries2` has all its columns. The last one may be NULL, so nothing
+-- else says that no row was made before it was added; no statement of this program adds one.
 abbrev pub IsFull : Database → Type 0
-IsFull db = (row : Row) → Has (db.trees 5) row → 7 < length row
+IsFull = AreFull 14
+
+-- the premise on the old table of entries
+abbrev pub IsOldFull : Database → Type 0
+IsOldFull = AreFull 5
+
+-- no premise
+abbrev pub IsAny : Database → Type 0
+IsAny db = Unit {0}
 
 -- a database in the schema of a vault, with full rows
 pub record IsOurs (db : Database) : Type 0 where
   pub schema : db.schema ≡ vault_schema
   pub full : IsFull db
 
--- these are all rows of a table, in the order of their rowids
-pub record AreTable {R : Type 0} (tree : ℕ) (values : R → Row) (id : R → ℤ) (db : Database) (raws : List R)
-    : Type 0 where
+-- Rows that were read of a table, in the order of their rowids: as many as it has, and under the premise they
+-- are all its rows, as they stand.
+pub record AreTable {R : Type 0} (Full : Database → Type 0) (tree : ℕ) (stands : R → Row) (id : R → ℤ)
+    (db : Database) (raws : List R) : Type 0 where
   pub sound : IsDatabase db
-  pub all : IsFull db → IsPermutation (db.trees tree) (map values raws)
+  pub many : length raws ≡ length (db.trees tree)
+  pub all : Full db → IsPermutation (db.trees tree) (map stands raws)
   pub ordered : IsSortedByKey id int_cmp raws
 
 -- a query that failed, but not for want of memory
@@ -69,45 +84,60 @@ module _ {S : Type 0} (g : Ghosts S) {R : Type 0} (text : List ℕ) (values : R 
     pub same : (state g at).now ≡ db
     pub why : Failed text (state g at) (state g new) ⊎ ShowsStrange text values (state g at)
 
-  -- the rows that a query shows in this schema are read, each as it comes, and nothing else is done
-  pub record ReadsRows (s : Schema) (result : Result (Vec R) ReadFault) (old new : Held S) : Type 0 where
-    pub reads : Reads s result (state g old) (state g new)
-    pub told : HasCleanDisk (state g new) → (state g old).now.schema ≡ s
-        → IfOk result (λ raws. Shown text [] (state g old) (state g new) (map values raws.items))
-    pub sound : HasCleanDisk (state g new) → (state g old).now.schema ≡ s
-        → OnOk result (IsDatabase (state g old).now)
-    pub refused : HasCleanDisk (state g new) → (state g old).now.schema ≡ s
-        → IfErr result (λ e. e ≡ Store → IsUnread (state g old).now new)
+  module _ (s : Schema) where
+    -- the rows that a query shows in this schema are read, each as it comes, and nothing else is done
+    pub record ReadsRows (result : Result (Vec R) ReadFault) (old new : Held S) : Type 0 where
+      pub reads : Reads s result (state g old) (state g new)
+      pub told : HasCleanDisk (state g new) → (state g old).now.schema ≡ s
+          → IfOk result (λ raws. Shown text [] (state g old) (state g new) (map values raws.items))
+      pub sound : HasCleanDisk (state g new) → (state g old).now.schema ≡ s
+          → OnOk result (IsDatabase (state g old).now)
+      pub refused : HasCleanDisk (state g new) → (state g old).now.schema ≡ s
+          → IfErr result (λ e. e ≡ Store → IsUnread (state g old).now new)
 
-  -- a table of a vault's schema is read by this text, and nothing else is done
-  pub record ReadsTable (tree : ℕ) (id : R → ℤ) (result : Result (Vec R) ReadFault) (old new : Held S) :
-      Type 0
-    where
-      pub reads : Reads vault_schema result (state g old) (state g new)
-      pub told : HasCleanDisk (state g new) → (state g old).now.schema ≡ vault_schema
-          → IfOk result (λ raws. AreTable tree values id (state g old).now raws.items)
-      pub refused : HasCleanDisk (state g new) → (state g old).now.schema ≡ vault_schema
+    -- a table of this schema is read by the text, and nothing else is done
+    pub record ReadsTable (Full : Database → Type 0) (tree : ℕ) (stands : R → Row) (id : R → ℤ)
+        (result : Result (Vec R) ReadFault) (old new : Held S) : Type 0
+      where
+        pub reads : Reads s result (state g old) (state g new)
+        pub told : HasCleanDisk (state g new) → (state g old).now.schema ≡ s
+            → IfOk result (λ raws. AreTable Full tree stands id (state g old).now raws.items)
+        pub refused : HasCleanDisk (state g new) → (state g old).now.schema ≡ s
+            → IfErr result (λ e. e ≡ Store → IsUnread (state g old).now new)
+
+    -- the rows of such a table are read and counted, and nothing else is done
+    pub record CountsTable (tree : ℕ) (result : Result ℕ ReadFault) (old new : Held S) : Type 0 where
+      pub reads : Reads s result (state g old) (state g new)
+      pub told : HasCleanDisk (state g new) → (state g old).now.schema ≡ s
+          → IfOk result (λ many. many ≡ length ((state g old).now.trees tree))
+      pub refused : HasCleanDisk (state g new) → (state g old).now.schema ≡ s
           → IfErr result (λ e. e ≡ Store → IsUnread (state g old).now new)
 
 -- why one of the tables beside `vault` isn't read, though memory is there
 abbrev pub IsUnreadOne : {S : Type 0} → Ghosts S → Database → Held S → Type 0
 IsUnreadOne g db new =
-    IsUnread g READ_MERCHANTS.now merchant_values db new ⊎ (IsUnread g READ_COUNTS.now count_values db new
-    ⊎ (IsUnread g READ_ENTRIES.now entry_values db new ⊎ (IsUnread g READ_RECORDS.now record_values db new
-    ⊎ IsUnread g READ_RIGHTS.now right_values db new)))
+    IsUnread g v1.READ_MERCHANTS.now merchant_values db new
+    ⊎ (IsUnread g v1.READ_COUNTS.now count_values db new
+    ⊎ (IsUnread g v2.READ_CARDS.now card_values db new
+    ⊎ (IsUnread g v2.READ_ENTRIES.now entry_values db new
+    ⊎ (IsUnread g v1.READ_RECORDS.now record_values db new
+    ⊎ (IsUnread g v1.READ_RIGHTS.now right_values db new
+    ⊎ IsUnread g v1.READ_ENTRY_IDS.now entry_id_values db new)))))
 
 -- why 33 is told of a database in a vault's schema: a table isn't read, or in one a rowid comes twice
 abbrev pub IsUnreadFile : {S : Type 0} → Ghosts S → Database → Held S → Type 0
 IsUnreadFile g db new =
-    IsUnread g READ_VERSIONS.now version_values db new ⊎ (IsUnreadOne g db new ⊎ SharesRowid db.trees)
+    IsUnread g v1.READ_VERSIONS.now version_values db new ⊎ (IsUnreadOne g db new ⊎ SharesRowid db.trees)
 
--- these are the rows of all tables beside `vault`
+-- these are the rows of all tables beside `vault`; of the table that schema 2 replaced, how many
 pub record AreAll (db : Database) (rows : Rows) : Type 0 where
-  pub merchants : AreTable 1 merchant_values (λ m. m.rowid) db rows.merchants.items
-  pub counts : AreTable 3 count_values (λ c. c.rowid) db rows.counts.items
-  pub entries : AreTable 5 entry_values (λ e. e.rowid) db rows.entries.items
-  pub records : AreTable 8 record_values (λ r. r.rowid) db rows.records.items
-  pub rights : AreTable 10 right_values (λ r. r.rowid) db rows.rights.items
+  pub merchants : AreTable IsAny 1 merchant_values (λ m. m.rowid) db rows.merchants.items
+  pub counts : AreTable IsAny 3 count_values (λ c. c.rowid) db rows.counts.items
+  pub cards : AreTable IsAny 12 card_row (λ c. c.id) db rows.cards.items
+  pub entries : AreTable IsFull 14 entry_values (λ e. e.rowid) db rows.entries.items
+  pub records : AreTable IsAny 8 record_values (λ r. r.rowid) db rows.records.items
+  pub rights : AreTable IsAny 10 right_values (λ r. r.rowid) db rows.rights.items
+  pub replaced : rows.replaced ≡ length (db.trees 5)
 
 -- Whether or not it failed, a call made no doubt of the disk go away, no transaction and no limit; and where
 -- this is so, a crash leaves nothing that it did not leave before.

@@ -4,10 +4,14 @@ use Rattle.std.specs.List.{find}
 use Rattle.std.specs.Ordering.{int_eq}
 use Rattle.vault_rules.specs.declared.rows.RawVersion.{RawVersion}
 
--- the row with the id 1, which says another version than 1
-abbrev pub is_other : RawVersion → Bool
-is_other v = int_eq v.id (pos 1) && not (int_eq v.version (pos 1))
+-- the row with the id 1, which says another version than this one
+abbrev pub is_other : ℤ → RawVersion → Bool
+is_other version v = int_eq v.id (pos 1) && not (int_eq v.version version)
 
--- that version
+-- the version that it says
+abbrev pub other_than : ℤ → List RawVersion → Option ℤ
+other_than version versions = option_map (λ v. v.version) (find (is_other version) versions)
+
+-- another version than 2
 abbrev pub other_version : List RawVersion → Option ℤ
-other_version versions = option_map (λ v. v.version) (find is_other versions)
+other_version versions = other_than (pos 2) versions

@@ -1,10 +1,10 @@
 //! No rowid comes twice: rows that were read in the order of their rowids show it themselves.
 ghost use Rattle.std.specs.Prelude.{IsTrue};
 ghost use Rattle.vault_recover.specs.Apart.{AreApart, AreByRowid, TellsApart};
-ghost use Rattle.vault_recover.specs.Raw.{merchant_values, count_values, entry_values, record_values};
-ghost use Rattle.vault_recover.specs.Raw.{right_values};
+ghost use Rattle.vault_recover.specs.Raw.{merchant_values, count_values, card_row, entry_values};
+ghost use Rattle.vault_recover.specs.Raw.{record_values, right_values};
 
-use vault_rules::rows::{RawCount, RawEntry, RawMerchant, RawRecord, RawRight, Rows};
+use vault_rules::rows::{RawCard, RawCount, RawEntry, RawMerchant, RawRecord, RawRight, Rows};
 
 /// Whether each rowid of `merchants` is below the next.
 fn merchants(rows: &[RawMerchant]) -> bool
@@ -20,7 +20,14 @@ fn counts(rows: &[RawCount]) -> bool
     rows.is_sorted_by(|earlier, later| earlier.rowid < later.rowid)
 }
 
-/// Whether each rowid of `entries` is below the next.
+/// Whether each id of `cards2` is below the next.
+fn cards(rows: &[RawCard]) -> bool
+    ensures { TellsApart card_row (λ raw. raw.id) rows.now result }
+{
+    rows.is_sorted_by(|earlier, later| earlier.id < later.id)
+}
+
+/// Whether each rowid of `entries2` is below the next.
 fn entries(rows: &[RawEntry]) -> bool
     ensures { TellsApart entry_values (λ raw. raw.rowid) rows.now result }
 {
@@ -49,6 +56,7 @@ pub(crate) fn are_apart(rows: &Rows) -> bool
 {
     merchants(&rows.merchants)
         && counts(&rows.counts)
+        && cards(&rows.cards)
         && entries(&rows.entries)
         && records(&rows.records)
         && rights(&rows.rights)

@@ -46,7 +46,7 @@ impl From<AllocError> for OpenFault {
 
 /// Why rows weren't read.
 #[derive(Clone, Copy, Debug, PartialEq, Eq)]
-pub(crate) enum ReadFault {
+pub enum ReadFault {
     /// Memory ran out.
     Memory,
     /// The database failed, or a row has a value that isn't its column's.

@@ -71,7 +71,7 @@ fn ready<S: Alter>(alloc: Global, conn: &mut Connection<S>) -> Result<(), OpenFa
 /// Opens the vault in a file; a refusal hands the connection back. A file without any table gets the tables of
 /// the empty vault in one transaction. A file with a vault's tables is checked whole and not written.
 ///
-/// Refused by 30 with the version that the file says, where it isn't 1 and its table stands first, whatever else
+/// Refused by 30 with the version that the file says, where it isn't 2 and its table stands first, whatever else
 /// there is; or with 0 where some of a vault's names are there and one is missing, or others stand beside them;
 /// by 31 with the least rule that the rows break; by 32 where memory ran out; by 33 where the database failed,
 /// the tables are another program's alone, or a vault's tables stand in another order or form than this program

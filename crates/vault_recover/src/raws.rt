@@ -6,13 +6,15 @@ ghost use Rattle.sqlite.specs.Order.{Row as SqlRow};
 ghost use Rattle.sqlite.specs.Schema.{Schema};
 ghost use Rattle.vault_recover.specs.Reading.{ReadsRows};
 ghost use Rattle.vault_recover.specs.Raw.{IsStrange, version_values, merchant_values, count_values};
-ghost use Rattle.vault_recover.specs.Raw.{entry_values, record_values, right_values};
+ghost use Rattle.vault_recover.specs.Raw.{card_values, entry_values, record_values, right_values};
 
 use crate::columns::Columns;
 use crate::fault::ReadFault;
 use sqlite::{Alter, Connection, Row};
 use std::alloc::Global;
-use vault_rules::rows::{RawCount, RawEntry, RawMerchant, RawRecord, RawRight, RawVersion};
+use vault_rules::rows::{
+    RawCard, RawCount, RawEntry, RawMerchant, RawRecord, RawRight, RawVersion,
+};
 
 /// A raw row of one of the tables.
 pub(crate) trait Raw: Sized + Drop {
@@ -70,6 +72,22 @@ impl Raw for RawCount {
     }
 }
 
+impl Raw for RawCard {
+    ghost values = { card_values };
+
+    fn read(row: &Row) -> Result<RawCard, ReadFault> {
+        let mut columns = Columns::of(row);
+        let raw = RawCard {
+            id: columns.next()?,
+            merchant: columns.next()?,
+            number: columns.next()?,
+            uses: columns.next()?,
+        };
+        columns.end()?;
+        Ok(raw)
+    }
+}
+
 impl Raw for RawEntry {
     ghost values = { entry_values };
 
@@ -79,7 +97,7 @@ impl Raw for RawEntry {
             rowid: columns.next()?,
             merchant: columns.next()?,
             token: columns.next()?,
-            number: columns.next()?,
+            card: columns.next()?,
             usage: columns.next()?,
             birth: columns.next()?,
             expires: columns.next()?,

@@ -12,7 +12,8 @@ use sqlite::{Alter, Connection};
 use std::alloc::Global;
 use vault_rules::rows::{RawVersion, Rows};
 
-/// The rows of all tables, beside those of `vault`, which are given.
+/// The rows of all tables, beside those of `vault`, which are given; of the table that schema 2 replaced, how
+/// many.
 pub(crate) fn rows<S: Alter>(
     alloc: Global,
     conn: &mut Connection<S>,
@@ -27,15 +28,19 @@ pub(crate) fn rows<S: Alter>(
 {
     let merchants = read::merchants(alloc, conn)?;
     let counts = read::counts(alloc, conn)?;
+    let cards = read::cards(alloc, conn)?;
     let entries = read::entries(alloc, conn)?;
     let records = read::records(alloc, conn)?;
     let rights = read::rights(alloc, conn)?;
+    let replaced = read::replaced(alloc, conn)?;
     Ok(Rows {
         versions,
         merchants,
         counts,
+        cards,
         entries,
         records,
         rights,
+        replaced,
     })
 }

@@ -15,7 +15,7 @@ use Rattle.vault_core.specs.declared.right.Right.{Right}
 use Rattle.vault_core.specs.declared.right.Right.TheVariants.{Tokenize, Detokenize, View, Revoke, Purge}
 use Rattle.vault_core.specs.declared.right.Right.TheVariants.{Audit}
 use Rattle.vault_rules.specs.Lookups.{is_known, total_of, held_by}
-use Rattle.vault_rules.specs.Rules.{is_within, has_one_version, are_named, is_lasting, is_count, has_token}
+use Rattle.vault_rules.specs.Rules.{is_within, is_current, are_named, is_lasting, is_count, has_token}
 use Rattle.vault_rules.specs.Rules.{has_number, is_timed, is_kept, at_moments, is_counted, is_record}
 use Rattle.vault_rules.specs.Rules.{is_right, keeps}
 use Rattle.vault_rules.specs.Showing.{Shows, ShowsCount}
@@ -25,6 +25,7 @@ use Rattle.vault_rules.specs.declared.rows.RawCount.{RawCount}
 use Rattle.vault_rules.specs.declared.rows.RawEntry.{RawEntry}
 use Rattle.vault_rules.specs.declared.rows.RawRecord.{RawRecord}
 use Rattle.vault_rules.specs.declared.rows.Rows.{Rows}
+use Rattle.vault_rules.proofs.CardsFrom.{cards_kept}
 use Rattle.vault_rules.proofs.DistinctFrom.{keys_distinct}
 use Rattle.vault_rules.proofs.Numbers.{within_from, int_same, below_from}
 use Rattle.vault_rules.proofs.ShownRows.{entered, tested, held_known, known, entry_shown}
@@ -40,8 +41,10 @@ right_within Purge z is = within_from 1 6 5 z is (omega arith) (omega arith)
 right_within Audit z is = within_from 1 6 6 z is (omega arith) (omega arith)
 
 module _ (rows : Rows) (V : Vault) (shows : Shows rows V) (sound : Sound V) where
-  kept_1 : has_one_version rows.versions.items ≡ true
-  kept_1 = ap has_one_version shows.versions ∙ ap (λ z. int_eq z (pos 1) && true) shows.id
+  kept_1 : is_current rows.versions.items rows.replaced ≡ true
+  kept_1 =
+      (λ i. is_current (shows.versions i) (shows.replaced i))
+      ∙ ap (λ z. (int_eq z (pos 1) && true) && true) shows.id
 
   kept_2 : are_named rows.merchants.items ≡ true
   kept_2 =
@@ -110,21 +113,23 @@ module _ (rows : Rows) (V : Vault) (shows : Shows rows V) (sound : Sound V) wher
       (known rows V shows (string_bytes e.merchant) it.merchant it.merchant_is)
       (token_from (string_bytes e.token) it.sound.token_fails))
 
-  kept_6 : list_all has_number rows.entries.items ≡ true
+  kept_6 : list_all (has_number rows.cards.items) rows.entries.items ≡ true
   kept_6 =
-      test_from has_number rows.entries.items (λ e h.
+      test_from (has_number rows.cards.items) rows.entries.items (λ e h.
       let it = entered rows V shows sound e h in
-      number_kept e it.entry it.shown it.merchant it.sound)
+      number_kept rows.cards.items e it.entry it.shown it.merchant it.sound)
 
   kept_7 : list_all (at_moments rows.merchants.items is_timed) rows.entries.items ≡ true
   kept_7 = test_from (at_moments rows.merchants.items is_timed) rows.entries.items (λ e h.
       let it = entered rows V shows sound e h in
-      tested rows V shows sound is_timed e it (times_kept e it.entry it.shown it.merchant it.sound))
+      tested rows V shows sound is_timed e it
+      (times_kept rows.cards.items e it.entry it.shown it.merchant it.sound))
 
   kept_8 : list_all (at_moments rows.merchants.items is_kept) rows.entries.items ≡ true
   kept_8 = test_from (at_moments rows.merchants.items is_kept) rows.entries.items (λ e h.
       let it = entered rows V shows sound e h in
-      tested rows V shows sound is_kept e it (number_or_over e it.entry it.shown it.merchant it.sound))
+      tested rows V shows sound is_kept e it
+      (number_or_over rows.cards.items e it.entry it.shown it.merchant it.sound))
 
   kept_10 : list_all (is_counted rows.counts.items rows.entries.items) rows.merchants.items ≡ true
   kept_10 = test_from (is_counted rows.counts.items rows.entries.items) rows.merchants.items (λ m h.
@@ -167,7 +172,8 @@ module _ (rows : Rows) (V : Vault) (shows : Shows rows V) (sound : Sound V) wher
   kept_after apart (suc (suc zero)) = kept_10
   kept_after apart (suc (suc (suc zero))) = kept_11
   kept_after apart (suc (suc (suc (suc zero)))) = kept_12
-  kept_after apart (suc (suc (suc (suc (suc n))))) = refl
+  kept_after apart (suc (suc (suc (suc (suc zero))))) = cards_kept rows V shows sound apart
+  kept_after apart (suc (suc (suc (suc (suc (suc n)))))) = refl
 
 pub all_kept : (rows : Rows) (V : Vault) → Shows rows V → Sound V → HasKeysApart rows → (r : ℕ)
     → keeps rows r ≡ true

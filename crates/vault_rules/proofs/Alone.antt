@@ -39,7 +39,8 @@ back moment birth (Some at) h = ap (λ x. Some x) (within_is birth moment at h).
 
 module _ (rows : Rows) (keep : (r : ℕ) → keeps rows r ≡ true) where
   -- a row has the columns of its entry
-  pub entry_shown : (e : RawEntry) → Has rows.entries.items e → ShowsEntry e (entry_value e)
+  pub entry_shown : (e : RawEntry) → Has rows.entries.items e
+      → ShowsEntry rows.cards.items e (entry_value rows.cards.items e)
   entry_shown e h =
       let row = merchant_of_entry rows keep e h in
       let moment = lasting_moment rows keep (string_bytes e.merchant) row in
@@ -49,6 +50,7 @@ module _ (rows : Rows) (keep : (r : ℕ) → keeps rows r ≡ true) where
       let times = timely (natural row.m.moment) e timed in
       record {
         number = refl;
+        card = kept.own_card rows keep e h;
         usage = used e.usage times.usage;
         birth = times.birth.is;
         expires = times.expires.is;
@@ -57,19 +59,23 @@ module _ (rows : Rows) (keep : (r : ℕ) → keeps rows r ≡ true) where
 
   live_at : (m pan token : Bytes) (entry : Entry) (merchant : Merchant)
       → merchant_at (vault_of rows) m ≡ Some merchant
-      → (row : EntryRow rows.entries.items m token) → entry_value row.e ≡ entry
+      → (row : EntryRow rows.entries.items m token) → entry_value rows.cards.items row.e ≡ entry
       → is_reusable pan merchant.moment entry ≡ true
-      → live_key rows.merchants.items row.e ≡ Some (m, pan)
+      → live_key rows.merchants.items rows.cards.items row.e ≡ Some (m, pan)
   live_at m pan token entry merchant at row value h =
       let known = merchant_row rows m merchant at in
       let moment : known.0.m.moment ≡ pos merchant.moment =
       lasting_moment rows keep m known.0 ∙ ap (λ (x : Merchant). pos x.moment) known.1 in
       let live =
-      reusable_live row.e entry (subst (ShowsEntry row.e) value (entry_shown row.e row.there))
+      reusable_live rows.cards.items row.e entry
+      (subst (ShowsEntry rows.cards.items row.e) value (entry_shown row.e row.there))
       merchant.moment pan h in
-      key_is rows.merchants.items row.e known.0.m
+      key_is rows.merchants.items rows.cards.items row.e known.0.m
       (ap (merchant_of rows.merchants.items) row.merchant_is ∙ known.0.first)
-      ∙ ap (λ z. option_map (λ number. (string_bytes row.e.merchant, number)) (live_number z row.e)) moment
+      ∙ ap
+      (λ z. option_map (λ number. (string_bytes row.e.merchant, number))
+      (live_number rows.cards.items z row.e))
+      moment
       ∙ ap (option_map (λ number. (string_bytes row.e.merchant, number))) live
       ∙ ap (λ n. Some (n, pan)) row.merchant_is
 
@@ -81,8 +87,8 @@ module _ (rows : Rows) (keep : (r : ℕ) → keeps rows r ≡ true) where
   alone m pan token other entry entry' merchant at one live two live' =
       let a = entry_row rows m token entry one in
       let b = entry_row rows m other entry' two in
-      let same = distinct_once (live_key rows.merchants.items) rows.entries.items (kept.distinct rows keep)
-      a.0.e b.0.e (m, pan) a.0.there b.0.there
+      let same = distinct_once (live_key rows.merchants.items rows.cards.items) rows.entries.items
+      (kept.distinct rows keep) a.0.e b.0.e (m, pan) a.0.there b.0.there
       (live_at m pan token entry merchant at a.0 a.1 live)
       (live_at m pan other entry' merchant at b.0 b.1 live') in
       sym a.0.token_is ∙ ap (λ e. string_bytes e.token) same ∙ b.0.token_is

@@ -46,9 +46,10 @@ module _ (rows : Rows) where
       rows.merchants.items name
 
   pub entry_is : (m token : Bytes)
-      → entry_at (vault_of rows) m token ≡ option_map entry_value (entry_of rows.entries.items m token)
+      → entry_at (vault_of rows) m token
+      ≡ option_map (entry_value rows.cards.items) (entry_of rows.entries.items m token)
   entry_is m token =
-      get_first entry_total entry_exact entry_key entry_value
+      get_first entry_total entry_exact entry_key (entry_value rows.cards.items)
       (λ q e. bytes_eq (string_bytes e.merchant) q.0 && bytes_eq (string_bytes e.token) q.1)
       (λ q e. entries_tie q (entry_key e)) rows.entries.items (m, token)
 
@@ -68,6 +69,7 @@ module _ (rows : Rows) where
   pub made_is : HasKeysApart rows → (name : Bytes)
       → made_count (vault_of rows) name ≡ held_by rows.entries.items name
   made_is apart name =
-      kept_is entry_total entry_exact entry_key entry_value (λ key. eq_by_cmp bytes_cmp name key.0)
+      kept_is entry_total entry_exact entry_key (entry_value rows.cards.items)
+      (λ key. eq_by_cmp bytes_cmp name key.0)
       (λ e. bytes_eq (string_bytes e.merchant) name) (λ e. bytes_tie name (string_bytes e.merchant))
       rows.entries.items apart.entries

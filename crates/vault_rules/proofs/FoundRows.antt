@@ -88,8 +88,9 @@ module _ (rows : Rows) where
       merchant_is rows name ∙ ap (option_map (merchant_value rows.counts.items)) row.first
 
   pub entry_there : (merchant token : Bytes) (row : EntryRow rows.entries.items merchant token)
-      → entry_at (vault_of rows) merchant token ≡ Some (entry_value row.e)
-  entry_there merchant token row = entry_is rows merchant token ∙ ap (option_map entry_value) row.first
+      → entry_at (vault_of rows) merchant token ≡ Some (entry_value rows.cards.items row.e)
+  entry_there merchant token row =
+      entry_is rows merchant token ∙ ap (option_map (entry_value rows.cards.items)) row.first
 
   -- the row of a value
   pub merchant_row : (name : Bytes) (merchant : Merchant) → merchant_at (vault_of rows) name ≡ Some merchant
@@ -102,10 +103,10 @@ module _ (rows : Rows) where
 
   pub entry_row : (merchant token : Bytes) (entry : Entry)
       → entry_at (vault_of rows) merchant token ≡ Some entry
-      → (row : EntryRow rows.entries.items merchant token) × (entry_value row.e ≡ entry)
+      → (row : EntryRow rows.entries.items merchant token) × (entry_value rows.cards.items row.e ≡ entry)
   entry_row merchant token entry h =
       let it =
-      mapped_is entry_value (entry_of rows.entries.items merchant token) entry
+      mapped_is (entry_value rows.cards.items) (entry_of rows.entries.items merchant token) entry
       (sym (entry_is rows merchant token) ∙ h) in
       (entry_found rows.entries.items merchant token it.0 it.1, it.2)
 

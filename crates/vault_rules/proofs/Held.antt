@@ -7,7 +7,7 @@ use Rattle.std.specs.FinMap as finite
 use Rattle.std.specs.FinMap.{IsAntisymmetric}
 use Rattle.std.specs.FinSet as set
 use Rattle.std.specs.Cmp.{IsTotalOrder, Equal-is}
-use Rattle.std.specs.Ordering.{eq_by_cmp, is_eq}
+use Rattle.std.specs.Ordering.{eq_by_cmp, int_eq, is_eq}
 use Rattle.std.specs.declared.cmp.Ordering.{Ordering}
 use Rattle.sqlite_rules.specs.Lists.{Has}
 use Rattle.sqlite_rules.proofs.ListLemmas.{has_found, some_from}
@@ -16,17 +16,20 @@ use Rattle.vault_core.specs.Keys.{Bytes, right_cmp}
 use Rattle.vault_core.specs.Vault.{merchant_at, entry_at, record_at, has_right}
 use Rattle.vault_core.proofs.Maps.{bytes_total, bytes_exact, entry_total, entry_exact, record_total}
 use Rattle.vault_core.proofs.Maps.{record_exact, right_total}
+use Rattle.vault_rules.specs.Lookups.{card_of}
 use Rattle.vault_rules.specs.Rules.{keeps}
 use Rattle.vault_rules.specs.VaultOf.{AreKeysApart, HasKeysApart, vault_of, natural, merchant_value}
 use Rattle.vault_rules.specs.VaultOf.{entry_key, entry_value, record_key, record_value, request_key}
 use Rattle.vault_rules.specs.VaultOf.{right_key, right_of}
 use Rattle.vault_rules.specs.declared.rows.RawMerchant.{RawMerchant}
+use Rattle.vault_rules.specs.declared.rows.RawCard.{RawCard}
 use Rattle.vault_rules.specs.declared.rows.RawEntry.{RawEntry}
 use Rattle.vault_rules.specs.declared.rows.RawRecord.{RawRecord}
 use Rattle.vault_rules.specs.declared.rows.RawRight.{RawRight}
 use Rattle.vault_rules.specs.declared.rows.Rows.{Rows}
 use Rattle.vault_rules.proofs.Keyed.{keys_once, find-some, pairs, get_first, len_is}
 use Rattle.vault_rules.proofs.Kept as kept
+use Rattle.vault_rules.proofs.Numbers.{int_is, int_same}
 
 -- keys that differ by one part differ by another that tells it
 apart_by : {R K L : Type 0} (key : R → K) (other : R → L) (rows : List R)
@@ -61,8 +64,22 @@ module _ (rows : Rows) (apart : HasKeysApart rows) where
       rows.merchants.items apart.merchants m h
 
   pub entry_held : (e : RawEntry) → Has rows.entries.items e
-      → entry_at (vault_of rows) (string_bytes e.merchant) (string_bytes e.token) ≡ Some (entry_value e)
-  entry_held e h = get_held entry_total entry_exact entry_key entry_value rows.entries.items apart.entries e h
+      → entry_at (vault_of rows) (string_bytes e.merchant) (string_bytes e.token)
+      ≡ Some (entry_value rows.cards.items e)
+  entry_held e h =
+      get_held entry_total entry_exact entry_key (entry_value rows.cards.items) rows.entries.items
+      apart.entries e h
+
+  -- a card row is the one of its id
+  pub card_held : (c : RawCard) → Has rows.cards.items c → card_of rows.cards.items c.id ≡ Some c
+  card_held c h =
+      let test = λ (d : RawCard). int_eq d.id c.id in
+      let first = find-some test rows.cards.items c h (int_same c.id c.id refl) in
+      let found = has_found test rows.cards.items first.0 first.1 in
+      let same =
+      keys_once (λ d. d.id) rows.cards.items apart.cards first.0 c found.0 h
+      (int_is first.0.id c.id found.1) in
+      first.1 ∙ ap (λ d. Some d) same
 
   -- requests that are apart have keys that are apart, since they aren't negative
   requests_apart : ((r : ℕ) → keeps rows r ≡ true) → AreKeysApart record_key rows.records.items
@@ -83,7 +100,8 @@ module _ (rows : Rows) (apart : HasKeysApart rows) where
       get_held record_total record_exact record_key record_value rows.records.items (requests_apart keep) r h
 
   pub entries_many : finite.len (vault_of rows).entries ≡ length rows.entries.items
-  entries_many = len_is entry_total entry_exact entry_key entry_value rows.entries.items apart.entries
+  entries_many =
+      len_is entry_total entry_exact entry_key (entry_value rows.cards.items) rows.entries.items apart.entries
 
   pub records_many : ((r : ℕ) → keeps rows r ≡ true)
       → finite.len (vault_of rows).records ≡ length rows.records.items

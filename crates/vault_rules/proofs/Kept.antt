@@ -1,7 +1,8 @@
 -- What the rules say of each row.
-use Rattle.std.proofs.Common.{◌≡◌, ℕ, pos, ◌≤◌, true, false, List, length, arith}
+use Rattle.std.proofs.Common.{◌≡◌, ℕ, pos, ◌<◌, ◌≤◌, true, false, List, length, arith, subst}
 use Rattle.std.specs.Prelude.{string_bytes}
-use Rattle.std.specs.List.{filter_map}
+use Rattle.std.specs.Int.RustNames.{int_le}
+use Rattle.std.specs.List.{filter_map, list_all}
 use Rattle.std.specs.Option.{option_map_or}
 use Rattle.std.specs.Ordering.{int_eq}
 use Rattle.std.proofs.lemmas.Bool.{and_parts}
@@ -9,18 +10,21 @@ use Rattle.sqlite_rules.specs.Lists.{Has}
 use Rattle.sqlite_rules.proofs.ListLemmas.{test_has}
 use Rattle.vault_core.specs.Name.{IsName}
 use Rattle.vault_pan.specs.CardText.{IsToken}
-use Rattle.vault_rules.specs.Lookups.{is_known, entry_of, held_by, total_of}
+use Rattle.vault_rules.specs.Lookups.{is_known, entry_of, held_by, total_of, used_by}
 use Rattle.vault_rules.specs.Rules.{are_named, is_lasting, is_count, has_token, has_number, is_timed}
 use Rattle.vault_rules.specs.Rules.{is_kept, at_moments, live_key, are_distinct, is_counted, is_record}
-use Rattle.vault_rules.specs.Rules.{is_right, keeps}
+use Rattle.vault_rules.specs.Rules.{is_right, is_card, has_card, keeps}
+use Rattle.vault_rules.specs.Showing.{HasCard}
 use Rattle.vault_rules.specs.Texts.{is_name}
 use Rattle.vault_rules.specs.declared.rows.RawMerchant.{RawMerchant}
 use Rattle.vault_rules.specs.declared.rows.RawCount.{RawCount}
+use Rattle.vault_rules.specs.declared.rows.RawCard.{RawCard}
 use Rattle.vault_rules.specs.declared.rows.RawEntry.{RawEntry}
 use Rattle.vault_rules.specs.declared.rows.RawRecord.{RawRecord}
 use Rattle.vault_rules.specs.declared.rows.RawRight.{RawRight}
 use Rattle.vault_rules.specs.declared.rows.Rows.{Rows}
-use Rattle.vault_rules.proofs.Numbers.{IsBetween, within_is, below_is, int_is}
+use Rattle.vault_rules.proofs.Cards.{card_is}
+use Rattle.vault_rules.proofs.Numbers.{IsBetween, within_is, below_is, int_is, le_is}
 use Rattle.vault_rules.proofs.TextLemmas.{name_is, token_is}
 
 pub record LastsWell (m : RawMerchant) : Type 0 where
@@ -38,6 +42,11 @@ pub record RecordsWell (entries : List RawEntry) (r : RawRecord) : Type 0 where
   pub request : IsBetween 1 9223372036854775807 r.request
   pub usage : option_map_or (λ (e : RawEntry). int_eq e.usage r.usage)
       (entry_of entries (string_bytes r.merchant) (string_bytes r.token)) false ≡ true
+
+pub record CardsWell (merchants : List RawMerchant) (entries : List RawEntry) (c : RawCard) : Type 0 where
+  pub known : is_known merchants (string_bytes c.merchant) ≡ true
+  pub uses : c.uses ≡ pos (used_by entries c.id)
+  pub used : 0 < used_by entries c.id
 
 module _ (rows : Rows) (kept : (r : ℕ) → keeps rows r ≡ true) where
   pub few : length rows.merchants.items ≤ 10000
@@ -77,8 +86,8 @@ module _ (rows : Rows) (kept : (r : ℕ) → keeps rows r ≡ true) where
       let parts = and_parts _ _ (test_has (has_token rows.merchants.items) rows.entries.items e (kept 5) h) in
       (parts.0, token_is (string_bytes e.token) parts.1)
 
-  pub numbers : (e : RawEntry) → Has rows.entries.items e → has_number e ≡ true
-  numbers e h = test_has has_number rows.entries.items e (kept 6) h
+  pub numbers : (e : RawEntry) → Has rows.entries.items e → has_number rows.cards.items e ≡ true
+  numbers e h = test_has (has_number rows.cards.items) rows.entries.items e (kept 6) h
 
   pub timed : (e : RawEntry) → Has rows.entries.items e → at_moments rows.merchants.items is_timed e ≡ true
   timed e h = test_has (at_moments rows.merchants.items is_timed) rows.entries.items e (kept 7) h
@@ -87,7 +96,8 @@ module _ (rows : Rows) (kept : (r : ℕ) → keeps rows r ≡ true) where
       → at_moments rows.merchants.items is_kept e ≡ true
   live_or_over e h = test_has (at_moments rows.merchants.items is_kept) rows.entries.items e (kept 8) h
 
-  pub distinct : are_distinct (filter_map (live_key rows.merchants.items) rows.entries.items) ≡ true
+  pub distinct : are_distinct
+      (filter_map (live_key rows.merchants.items rows.cards.items) rows.entries.items) ≡ true
   distinct = kept 9
 
   pub counted : (m : RawMerchant) → Has rows.merchants.items m
@@ -118,3 +128,27 @@ module _ (rows : Rows) (kept : (r : ℕ) → keeps rows r ≡ true) where
       let first = and_parts _ _ (test_has (is_right rows.merchants.items) rows.rights.items r (kept 12) h) in
       let second = and_parts _ _ first.0 in
       (name_is (string_bytes r.caller) second.0, second.1, within_is 1 6 r.what first.1)
+
+  both_cards : (list_all (is_card rows.merchants.items rows.entries.items) rows.cards.items ≡ true)
+      × (list_all (has_card rows.cards.items) rows.entries.items ≡ true)
+  both_cards =
+      and_parts (list_all (is_card rows.merchants.items rows.entries.items) rows.cards.items)
+      (list_all (has_card rows.cards.items) rows.entries.items) (kept 13)
+
+  pub cards_well : (c : RawCard) → Has rows.cards.items c
+      → CardsWell rows.merchants.items rows.entries.items c
+  cards_well c h =
+      let first =
+      and_parts _ _
+      (test_has (is_card rows.merchants.items rows.entries.items) rows.cards.items c both_cards.0 h) in
+      let second = and_parts _ _ first.0 in
+      let uses = int_is c.uses (pos (used_by rows.entries.items c.id)) first.1 in
+      record {
+        known = second.0;
+        uses = uses;
+        used = le_is 1 (used_by rows.entries.items c.id) (subst (λ z. int_le (pos 1) z ≡ true) uses second.1);
+      }
+
+  pub own_card : (e : RawEntry) → Has rows.entries.items e → HasCard rows.cards.items e
+  own_card e h =
+      card_is rows.cards.items e (test_has (has_card rows.cards.items) rows.entries.items e both_cards.1 h)

@@ -1,5 +1,7 @@
 pub mod AllKept
 pub mod Alone
+pub mod Cards
+pub mod CardsFrom
 pub mod Counts
 pub mod DistinctFrom
 pub mod FirstLemmas
@@ -14,10 +16,12 @@ pub mod Live
 pub mod LiveLemmas
 pub mod Numbers
 pub mod Options
+pub mod Pointing
 pub mod RowsShow
 pub mod RowsSound
 pub mod ShownRows
 pub mod TextLemmas
 pub mod Timed
 pub mod TimedFrom
+pub mod UsedLemmas
 pub mod VaultSound

@@ -24,6 +24,7 @@ use Rattle.vault_rules.specs.Lookups.{merchant_of}
 use Rattle.vault_rules.specs.Rules.{live_number, live_key, are_distinct}
 use Rattle.vault_rules.specs.Showing.{ShowsEntry}
 use Rattle.vault_rules.specs.declared.rows.RawMerchant.{RawMerchant}
+use Rattle.vault_rules.specs.declared.rows.RawCard.{RawCard}
 use Rattle.vault_rules.specs.declared.rows.RawEntry.{RawEntry}
 use Rattle.vault_rules.proofs.Found.{bytes_same}
 use Rattle.vault_rules.proofs.Options.{tested_is}
@@ -39,8 +40,9 @@ none_is : (o : Option ℕ) → is_none (option_map pos o) ≡ is_none o
 none_is None = refl
 none_is (Some x) = refl
 
-module _ (e : RawEntry) (entry : Entry) (shows : ShowsEntry e entry) (moment : ℕ) where
-  number_shown : live_number (pos moment) e
+module _ (cards : List RawCard) (e : RawEntry) (entry : Entry) (shows : ShowsEntry cards e entry)
+    (moment : ℕ) where
+  number_shown : live_number cards (pos moment) e
       ≡ cond (same_use entry.usage Multi && is_none entry.revoked && nat_lt moment entry.expires)
       entry.number None
   number_shown =
@@ -52,7 +54,7 @@ module _ (e : RawEntry) (entry : Entry) (shows : ShowsEntry e entry) (moment : �
 
   -- its number is live
   pub reusable_live : (pan : Bytes) → is_reusable pan moment entry ≡ true
-      → live_number (pos moment) e ≡ Some pan
+      → live_number cards (pos moment) e ≡ Some pan
   reusable_live pan h =
       let outer = and_parts
       (same_use entry.usage Multi && option_map_or (λ number. same number pan) entry.number false)
@@ -71,7 +73,7 @@ module _ (e : RawEntry) (entry : Entry) (shows : ShowsEntry e entry) (moment : �
       ∙ found.1 ∙ ap (λ x. Some x) (same_is found.0 pan found.2)
 
   -- it is reused where its number is live
-  pub live_reusable : (pan : Bytes) → live_number (pos moment) e ≡ Some pan
+  pub live_reusable : (pan : Bytes) → live_number cards (pos moment) e ≡ Some pan
       → is_reusable pan moment entry ≡ true
   live_reusable pan h =
       back (same_use entry.usage Multi) (is_none entry.revoked) (nat_lt moment entry.expires) entry.number
@@ -90,13 +92,14 @@ module _ (e : RawEntry) (entry : Entry) (shows : ShowsEntry e entry) (moment : �
       back false unrevoked before o e = cc
 
 -- the key of a live entry, by the row of its merchant
-pub key_is : (merchants : List RawMerchant) (e : RawEntry) (m : RawMerchant)
+pub key_is : (merchants : List RawMerchant) (cards : List RawCard) (e : RawEntry) (m : RawMerchant)
     → merchant_of merchants (string_bytes e.merchant) ≡ Some m
-    → live_key merchants e ≡ option_map (λ number. (string_bytes e.merchant, number)) (live_number m.moment e)
-key_is merchants e m first =
+    → live_key merchants cards e
+    ≡ option_map (λ number. (string_bytes e.merchant, number)) (live_number cards m.moment e)
+key_is merchants cards e m first =
     ap (λ (o : Option RawMerchant). option_and_then
     (λ moment. option_map (λ number. let pair : Bytes × Bytes = (string_bytes e.merchant, number) in pair)
-    (live_number moment e))
+    (live_number cards moment e))
     (option_map (λ n. n.moment) o)) first
 
 module _ {R : Type 0} (f : R → Option (Bytes × Bytes)) where

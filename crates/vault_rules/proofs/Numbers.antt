@@ -2,6 +2,7 @@
 use Rattle.std.proofs.Common.{◌≡◌, ℕ, ℤ, pos, negsuc, ◌<◌, ◌≤◌, true, refl, sym, ap, ◌∙◌, arith, true≢false}
 use Rattle.std.specs.Prelude.{nat_lt}
 use Rattle.std.proofs.Math.Dec.{leb}
+use Rattle.std.specs.Int.RustNames.{int_le}
 use Rattle.std.specs.Ordering.{int_eq}
 use Rattle.std.proofs.lemmas.Bool.{and_parts, and_from}
 use Rattle.std.proofs.lemmas.Bool.Decides.{nat_tests, Decides-int_eq}
@@ -44,3 +45,9 @@ below_from m n h = grind (arith, nat_tests)
 
 pub pos_same : {m n : ℕ} → pos m ≡ pos n → m ≡ n
 pos_same h = cc
+
+pub le_is : (m n : ℕ) → int_le (pos m) (pos n) ≡ true → m ≤ n
+le_is m n h = grind (arith, nat_tests)
+
+pub le_from : (m n : ℕ) → m ≤ n → int_le (pos m) (pos n) ≡ true
+le_from m n h = grind (arith, nat_tests)

@@ -1,6 +1,6 @@
 -- Rows that keep the rules show their vault.
-use Rattle.std.proofs.Common.{◌≡◌, ◌⊎◌, inl, inr, ℕ, zero, suc, pos, ◌≤◌, ◌==◌, true, List, [], ◌∷◌, length}
-use Rattle.std.proofs.Common.{Option, refl, sym, ap, ◌∙◌, arith, true≢false}
+use Rattle.std.proofs.Common.{◌≡◌, ◌⊎◌, inl, inr, ℕ, zero, suc, pos, ◌≤◌, ◌==◌, ◌&&◌, true, List, [], ◌∷◌}
+use Rattle.std.proofs.Common.{length, Option, refl, sym, ap, ◌∙◌, arith, true≢false}
 use Rattle.std.specs.Prelude.{string_bytes}
 use Rattle.std.specs.List.{list_all}
 use Rattle.std.specs.Option.{option_map_or}
@@ -11,7 +11,7 @@ use Rattle.sqlite_rules.specs.Lists.{Has}
 use Rattle.vault_core.specs.Numbers.{right_number, use_number}
 use Rattle.vault_core.specs.Vault.{Merchant}
 use Rattle.vault_rules.specs.Lookups.{total_of, entry_of}
-use Rattle.vault_rules.specs.Rules.{has_one_version, keeps}
+use Rattle.vault_rules.specs.Rules.{is_current, keeps}
 use Rattle.vault_rules.specs.Showing.{Shows, ShowsCount, ShowsRecord}
 use Rattle.vault_rules.specs.VaultOf.{HasKeysApart, vault_of, natural, use_of, right_of, merchant_value}
 use Rattle.vault_rules.specs.VaultOf.{entry_value, record_value}
@@ -29,7 +29,8 @@ use Rattle.vault_rules.proofs.Kept as kept
 use Rattle.vault_rules.proofs.Numbers.{int_is, pos_same}
 use Rattle.vault_rules.proofs.Options.{tested_is}
 
-one_row : (versions : List RawVersion) → has_one_version versions ≡ true
+one_row : (versions : List RawVersion)
+    → (length versions == 1 && list_all (λ x. int_eq x.id (pos 1)) versions) ≡ true
     → (v : RawVersion) × (versions ≡ v ∷ []) × (v.id ≡ pos 1)
 one_row [] h = absurd (true≢false (sym h))
 one_row (v ∷ []) h = (v, refl, int_is v.id (pos 1) (and_parts (int_eq v.id (pos 1)) true h).0)
@@ -38,6 +39,13 @@ one_row (v ∷ w ∷ versions) h =
     (Decides-eqb (length (v ∷ w ∷ versions)) 1).0 (and_parts (length (v ∷ w ∷ versions) == 1)
     (list_all (λ x. int_eq x.id (pos 1)) (v ∷ w ∷ versions)) h).0 in
     absurd (omega arith)
+
+-- one version row, and no row that was replaced
+current_is : (versions : List RawVersion) (replaced : ℕ) → is_current versions replaced ≡ true
+    → ((v : RawVersion) × (versions ≡ v ∷ []) × (v.id ≡ pos 1)) × (replaced ≡ 0)
+current_is versions replaced h =
+    let parts = and_parts _ _ h in
+    (one_row versions parts.0, (Decides-eqb replaced 0).0 parts.1)
 
 numbered : (n : ℕ) → 1 ≤ n → n ≤ 6 → n ≡ right_number (right_of (pos n))
 numbered zero low high = absurd (omega arith)
@@ -112,11 +120,13 @@ module _ (rows : Rows) (apart : HasKeysApart rows) (keep : (r : ℕ) → keeps r
 
   pub rows_show : Shows rows (vault_of rows)
   rows_show =
-      let one = one_row rows.versions.items (keep 1) in
+      let current = current_is rows.versions.items rows.replaced (keep 1) in
+      let one = current.0 in
       record {
         version = one.0;
         versions = one.1;
         id = one.2;
+        replaced = current.1;
         many = sym (many_is rows apart);
         merchants = λ m h.
             let lasting = kept.lasts rows keep m h in (
@@ -135,7 +145,15 @@ module _ (rows : Rows) (apart : HasKeysApart rows) (keep : (r : ℕ) → keeps r
         counts = count_shown;
         counted = λ name. counts_are rows apart keep name 1;
         held = λ name. sym (made_is rows apart name);
-        entries = λ e h. (entry_value e, entry_held rows apart e h, entry_shown rows keep e h);
+        entries =
+            λ e h. (
+              entry_value rows.cards.items e,
+              entry_held rows apart e h,
+              entry_shown rows keep e h,
+            );
+        cards = λ c h.
+            let well = kept.cards_well rows keep c h in
+            record { uses = well.uses; used = well.used };
         entries_there =
             λ m token entry at.
             let row = (entry_row rows m token entry at).0 in

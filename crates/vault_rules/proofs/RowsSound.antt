@@ -49,7 +49,7 @@ module _ (rows : Rows) (keep : (r : ℕ) → keeps rows r ≡ true) where
 
   row_sound : (e : RawEntry) → Has rows.entries.items e
       → (merchant : Merchant) × (merchant_at (vault_of rows) (string_bytes e.merchant) ≡ Some merchant)
-      × IsSoundEntry (string_bytes e.token) (entry_value e) merchant
+      × IsSoundEntry (string_bytes e.token) (entry_value rows.cards.items e) merchant
   row_sound e h =
       let row = merchant_of_entry e h in
       let merchant = merchant_value rows.counts.items row.m in
@@ -62,7 +62,8 @@ module _ (rows : Rows) (keep : (r : ℕ) → keeps rows r ≡ true) where
       (sym (at_moment rows.merchants.items is_kept e row.m row.first) ∙ kept.live_or_over rows keep e h) in (
         merchant,
         merchant_there rows (string_bytes e.merchant) row,
-        entry_sound e merchant (kept.tokens rows keep e h).1 (kept.numbers rows keep e h) timed over,
+        entry_sound rows.cards.items e merchant (kept.tokens rows keep e h).1 (kept.numbers rows keep e h)
+            (kept.own_card rows keep e h) timed over,
       )
 
   pub entries_sound : (m token : Bytes) (entry : Entry) → entry_at (vault_of rows) m token ≡ Some entry
@@ -72,7 +73,8 @@ module _ (rows : Rows) (keep : (r : ℕ) → keeps rows r ≡ true) where
       let it = entry_row rows m token entry h in
       let sound = row_sound it.0.e it.0.there in
       let at = subst (λ name. merchant_at (vault_of rows) name ≡ Some sound.0) it.0.merchant_is sound.1 in
-      let own = subst (λ t. IsSoundEntry t (entry_value it.0.e) sound.0) it.0.token_is sound.2 in
+      let own =
+      subst (λ t. IsSoundEntry t (entry_value rows.cards.items it.0.e) sound.0) it.0.token_is sound.2 in
       (sound.0, at, subst (λ x. IsSoundEntry token x sound.0) it.1 own)
 
   record_fine : (r : RawRecord) → Has rows.records.items r
@@ -89,7 +91,7 @@ module _ (rows : Rows) (keep : (r : ℕ) → keeps rows r ≡ true) where
         well.caller,
         (well.request.low_is, well.request.high_is),
         (
-          entry_value it.0,
+          entry_value rows.cards.items it.0,
           entry_there rows (string_bytes r.merchant) (string_bytes r.token) row,
           ap use_of (int_is it.0.usage r.usage it.2),
         ),

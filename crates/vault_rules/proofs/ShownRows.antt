@@ -39,7 +39,7 @@ module _ (rows : Rows) (V : Vault) (shows : Shows rows V) where
 
   -- the row of an entry has its columns
   pub entry_shown : (m token : Bytes) (entry : Entry) → entry_at V m token ≡ Some entry
-      → (row : EntryRow rows.entries.items m token) × ShowsEntry row.e entry
+      → (row : EntryRow rows.entries.items m token) × ShowsEntry rows.cards.items row.e entry
   entry_shown m token entry at =
       let there = shows.entries_there m token entry at in
       let found = find-some
@@ -52,13 +52,13 @@ module _ (rows : Rows) (V : Vault) (shows : Shows rows V) where
       let shown = shows.entries row.e row.there in
       let own : shown.0 ≡ entry =
       some_same (sym shown.1 ∙ (λ i. entry_at V (row.merchant_is i) (row.token_is i)) ∙ at) in
-      (row, subst (ShowsEntry row.e) own shown.2)
+      (row, subst (ShowsEntry rows.cards.items row.e) own shown.2)
 
 -- an entry's row, with its entry and its merchant
 pub record Entered (rows : Rows) (V : Vault) (e : RawEntry) : Type 0 where
   pub entry : Entry
   pub at : entry_at V (string_bytes e.merchant) (string_bytes e.token) ≡ Some entry
-  pub shown : ShowsEntry e entry
+  pub shown : ShowsEntry rows.cards.items e entry
   pub merchant : Merchant
   pub merchant_is : merchant_at V (string_bytes e.merchant) ≡ Some merchant
   pub sound : IsSoundEntry (string_bytes e.token) entry merchant

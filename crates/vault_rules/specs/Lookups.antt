@@ -1,12 +1,13 @@
 -- What the rows have at a name or a key: the first row of it.
-use Rattle.std.specs.Prelude.{ℕ, ℤ, pos, ◌&&◌, Bool, List, length, filter, Option, option_map, is_some}
-use Rattle.std.specs.Prelude.{bytes_eq, string_bytes}
+use Rattle.std.specs.Prelude.{ℕ, ℤ, pos, ◌&&◌, Bool, false, List, length, filter, Option, option_map}
+use Rattle.std.specs.Prelude.{option_and_then, is_some, bytes_eq, string_bytes}
 use Rattle.std.specs.List.{find}
 use Rattle.std.specs.Option.{option_map_or}
 use Rattle.std.specs.Ordering.{int_eq}
 use Rattle.vault_core.specs.Keys.{Bytes}
 use Rattle.vault_rules.specs.declared.rows.RawMerchant.{RawMerchant}
 use Rattle.vault_rules.specs.declared.rows.RawCount.{RawCount}
+use Rattle.vault_rules.specs.declared.rows.RawCard.{RawCard}
 use Rattle.vault_rules.specs.declared.rows.RawEntry.{RawEntry}
 
 -- the merchant of a name
@@ -35,3 +36,15 @@ held_by entries name = length (filter (λ e. bytes_eq (string_bytes e.merchant) 
 abbrev pub entry_of : List RawEntry → Bytes → Bytes → Option RawEntry
 entry_of entries name token =
     find (λ e. bytes_eq (string_bytes e.merchant) name && bytes_eq (string_bytes e.token) token) entries
+
+-- the card row of an id
+abbrev pub card_of : List RawCard → ℤ → Option RawCard
+card_of cards id = find (λ c. int_eq c.id id) cards
+
+-- the number of an entry: that of its card row, where there is one
+abbrev pub number_of : List RawCard → RawEntry → Option Bytes
+number_of cards e = option_map (λ c. string_bytes c.number) (option_and_then (card_of cards) e.card)
+
+-- how many entries point at the card row of an id
+abbrev pub used_by : List RawEntry → ℤ → ℕ
+used_by entries id = length (filter (λ e. option_map_or (λ card. int_eq card id) e.card false) entries)

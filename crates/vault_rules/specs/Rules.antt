@@ -12,20 +12,23 @@ use Rattle.vault_pan.specs.CardText.{fits}
 use Rattle.vault_rules.specs.declared.rows.RawVersion.{RawVersion}
 use Rattle.vault_rules.specs.declared.rows.RawMerchant.{RawMerchant}
 use Rattle.vault_rules.specs.declared.rows.RawCount.{RawCount}
+use Rattle.vault_rules.specs.declared.rows.RawCard.{RawCard}
 use Rattle.vault_rules.specs.declared.rows.RawEntry.{RawEntry}
 use Rattle.vault_rules.specs.declared.rows.RawRecord.{RawRecord}
 use Rattle.vault_rules.specs.declared.rows.RawRight.{RawRight}
 use Rattle.vault_rules.specs.declared.rows.Rows.{Rows}
-use Rattle.vault_rules.specs.Lookups.{is_known, moment_of, total_of, held_by, entry_of}
+use Rattle.vault_rules.specs.Lookups.{is_known, moment_of, total_of, held_by, entry_of, card_of}
+use Rattle.vault_rules.specs.Lookups.{number_of, used_by}
 use Rattle.vault_rules.specs.Texts.{is_name, is_token, is_pan}
 
 -- from low up to high
 abbrev pub is_within : ℤ → ℤ → ℤ → Bool
 is_within low high x = int_le low x && int_le x high
 
--- 1: `vault` has exactly one row, and its id is 1
-abbrev pub has_one_version : List RawVersion → Bool
-has_one_version versions = length versions == 1 && list_all (λ v. int_eq v.id (pos 1)) versions
+-- 1: `vault` has exactly one row, its id is 1; tables that a later schema replaced are empty
+abbrev pub is_current : List RawVersion → ℕ → Bool
+is_current versions replaced =
+    length versions == 1 && list_all (λ v. int_eq v.id (pos 1)) versions && replaced == 0
 
 -- 2: each merchant's name is a name; there are at most 10000
 abbrev pub are_named : List RawMerchant → Bool
@@ -48,13 +51,11 @@ is_count merchants c =
 abbrev pub has_token : List RawMerchant → RawEntry → Bool
 has_token merchants e = is_known merchants (string_bytes e.merchant) && is_token (string_bytes e.token)
 
--- 6: an entry's number, where there is one, is a card number, as long as the token and with its
--- last four digits
-abbrev pub has_number : RawEntry → Bool
-has_number e =
-    option_map_or
-    (λ number. is_pan (string_bytes number) && fits (string_bytes e.token) (string_bytes number))
-    e.number true
+-- 6: the number of an entry's card row, where there is one, is a card number, as long as the token
+-- and with its last four digits
+abbrev pub has_number : List RawCard → RawEntry → Bool
+has_number cards e =
+    option_map_or (λ number. is_pan number && fits (string_bytes e.token) number) (number_of cards e) true
 
 -- 7: an entry's usage is 1 or 2; its birth is 0 to its merchant's moment; it expires 1 to 3155760000 seconds
 -- later; it is revoked never, or from its birth to the moment
@@ -64,9 +65,9 @@ is_timed moment e =
     && is_within (e.birth +ℤ pos 1) (e.birth +ℤ pos 3155760000) e.expires
     && option_map_or (is_within e.birth moment) e.revoked true
 
--- 8: a purged entry is revoked, or has expired at its merchant's moment
+-- 8: a purged entry, which has no card, is revoked or has expired at its merchant's moment
 abbrev pub is_kept : ℤ → RawEntry → Bool
-is_kept moment e = is_some e.number || is_some e.revoked || int_le e.expires moment
+is_kept moment e = is_some e.card || is_some e.revoked || int_le e.expires moment
 
 -- a test of each entry whose merchant exists, with the merchant's moment
 abbrev pub at_moments : List RawMerchant → (ℤ → RawEntry → Bool) → RawEntry → Bool
@@ -74,17 +75,17 @@ at_moments merchants test e =
     option_map_or (λ moment. test moment e) (moment_of merchants (string_bytes e.merchant)) true
 
 -- the number of a multi-use entry that is live
-abbrev pub live_number : ℤ → RawEntry → Option Bytes
-live_number moment e =
+abbrev pub live_number : List RawCard → ℤ → RawEntry → Option Bytes
+live_number cards moment e =
     if int_eq e.usage (pos 2) && is_none e.revoked && int_lt moment e.expires
-    then option_map (λ number. string_bytes number) e.number
+    then number_of cards e
     else None
 
 -- the merchant and the number of a multi-use entry that is live at its merchant's moment
-abbrev pub live_key : List RawMerchant → RawEntry → Option (Bytes × Bytes)
-live_key merchants e =
+abbrev pub live_key : List RawMerchant → List RawCard → RawEntry → Option (Bytes × Bytes)
+live_key merchants cards e =
     option_and_then
-    (λ moment. option_map (λ number. (string_bytes e.merchant, number)) (live_number moment e))
+    (λ moment. option_map (λ number. (string_bytes e.merchant, number)) (live_number cards moment e))
     (moment_of merchants (string_bytes e.merchant))
 
 -- no pair comes twice
@@ -113,23 +114,41 @@ is_right merchants r =
     is_name (string_bytes r.caller) && is_known merchants (string_bytes r.merchant)
     && is_within (pos 1) (pos 6) r.what
 
--- each rule, from 1 to 12
+-- 13: a card row's merchant exists, and its uses are the number of entries that point at it, 1 or
+-- more
+abbrev pub is_card : List RawMerchant → List RawEntry → RawCard → Bool
+is_card merchants entries c =
+    is_known merchants (string_bytes c.merchant) && int_le (pos 1) c.uses
+    && int_eq c.uses (pos (used_by entries c.id))
+
+-- and the card of an entry, unless it is purged, is a card row of its merchant
+abbrev pub has_card : List RawCard → RawEntry → Bool
+has_card cards e =
+    option_map_or
+    (λ id.
+    option_map_or (λ (c : RawCard). bytes_eq (string_bytes c.merchant) (string_bytes e.merchant))
+    (card_of cards id) false)
+    e.card true
+
+-- each rule, from 1 to 13
 abbrev pub verdicts : Rows → List Bool
 verdicts rows =
     let merchants = rows.merchants.items in
+    let cards = rows.cards.items in
     let entries = rows.entries.items in
-    has_one_version rows.versions.items
+    is_current rows.versions.items rows.replaced
     ∷ are_named merchants
     ∷ list_all is_lasting merchants
     ∷ list_all (is_count merchants) rows.counts.items
     ∷ list_all (has_token merchants) entries
-    ∷ list_all has_number entries
+    ∷ list_all (has_number cards) entries
     ∷ list_all (at_moments merchants is_timed) entries
     ∷ list_all (at_moments merchants is_kept) entries
-    ∷ are_distinct (filter_map (live_key merchants) entries)
+    ∷ are_distinct (filter_map (live_key merchants cards) entries)
     ∷ list_all (is_counted rows.counts.items entries) merchants
     ∷ list_all (is_record entries) rows.records.items
     ∷ list_all (is_right merchants) rows.rights.items
+    ∷ (list_all (is_card merchants entries) cards && list_all (has_card cards) entries)
     ∷ []
 
 -- whether the rows keep the rule of this number

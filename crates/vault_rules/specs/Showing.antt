@@ -1,5 +1,6 @@
 -- Rows that show a vault.
-use Rattle.std.specs.Prelude.{◌≡◌, ◌<◌, ◌⊎◌, ℕ, pos, true, [], ◌∷◌, length, Some, option_map, string_bytes}
+use Rattle.std.specs.Prelude.{◌≡◌, ◌<◌, ◌⊎◌, ℕ, ℤ, pos, true, List, [], ◌∷◌, length, Some, option_map}
+use Rattle.std.specs.Prelude.{string_bytes}
 use Rattle.std.specs.FinMap as finite
 use Rattle.sqlite_rules.specs.Lists.{Has}
 use Rattle.vault_core.specs.Keys.{Bytes}
@@ -8,12 +9,11 @@ use Rattle.vault_core.specs.Vault.{Vault, Merchant, merchant_at, entry_at, recor
 use Rattle.vault_core.specs.declared.right.Right.{Right}
 use Rattle.vault_core.specs.declared.row.Entry.{Entry}
 use Rattle.vault_core.specs.declared.row.Record.{Record}
-use Rattle.vault_core.specs.declared.usage.Use.{Use}
-use Rattle.vault_core.specs.declared.usage.Use.TheVariants.{Single, Multi}
-use Rattle.vault_rules.specs.Lookups.{total_of, held_by}
+use Rattle.vault_rules.specs.Lookups.{total_of, held_by, card_of, number_of, used_by}
 use Rattle.vault_rules.specs.declared.rows.RawVersion.{RawVersion}
 use Rattle.vault_rules.specs.declared.rows.RawMerchant.{RawMerchant}
 use Rattle.vault_rules.specs.declared.rows.RawCount.{RawCount}
+use Rattle.vault_rules.specs.declared.rows.RawCard.{RawCard}
 use Rattle.vault_rules.specs.declared.rows.RawEntry.{RawEntry}
 use Rattle.vault_rules.specs.declared.rows.RawRecord.{RawRecord}
 use Rattle.vault_rules.specs.declared.rows.RawRight.{RawRight}
@@ -25,13 +25,25 @@ pub record ShowsMerchant (m : RawMerchant) (merchant : Merchant) : Type 0 where
   pub multi_life : m.multi_life ≡ pos merchant.multi_life
   pub moment : m.moment ≡ pos merchant.moment
 
--- a row has the columns of an entry
-pub record ShowsEntry (e : RawEntry) (entry : Entry) : Type 0 where
-  pub number : option_map (λ number. string_bytes number) e.number ≡ entry.number
+-- the card of an entry, unless it is purged, is a card row of its merchant
+abbrev pub HasCard : List RawCard → RawEntry → Type 0
+HasCard cards e =
+    (id : ℤ) → e.card ≡ Some id
+    → (c : RawCard) × (card_of cards id ≡ Some c) × (string_bytes c.merchant ≡ string_bytes e.merchant)
+
+-- a row has the columns of an entry, and its card row has the number
+pub record ShowsEntry (cards : List RawCard) (e : RawEntry) (entry : Entry) : Type 0 where
+  pub number : number_of cards e ≡ entry.number
+  pub card : HasCard cards e
   pub usage : e.usage ≡ pos (use_number entry.usage)
   pub birth : e.birth ≡ pos entry.birth
   pub expires : e.expires ≡ pos entry.expires
   pub revoked : e.revoked ≡ option_map pos entry.revoked
+
+-- a card row counts the entries that point at it, which are one or more
+pub record ShowsCard (entries : List RawEntry) (c : RawCard) : Type 0 where
+  pub uses : c.uses ≡ pos (used_by entries c.id)
+  pub used : 0 < used_by entries c.id
 
 -- a row has the columns of a record
 pub record ShowsRecord (r : RawRecord) (shown : Record) : Type 0 where
@@ -55,6 +67,7 @@ pub record Shows (rows : Rows) (V : Vault) : Type 0 where
   pub version : RawVersion
   pub versions : rows.versions.items ≡ version ∷ []
   pub id : version.id ≡ pos 1
+  pub replaced : rows.replaced ≡ 0
   pub many : length rows.merchants.items ≡ finite.len V.merchants
   pub merchants : (m : RawMerchant) → Has rows.merchants.items m
       → (merchant : Merchant) × (merchant_at V (string_bytes m.name) ≡ Some merchant)
@@ -66,7 +79,8 @@ pub record Shows (rows : Rows) (V : Vault) : Type 0 where
   pub held : (name : Bytes) → held_by rows.entries.items name ≡ made_count V name
   pub entries : (e : RawEntry) → Has rows.entries.items e
       → (entry : Entry) × (entry_at V (string_bytes e.merchant) (string_bytes e.token) ≡ Some entry)
-      × ShowsEntry e entry
+      × ShowsEntry rows.cards.items e entry
+  pub cards : (c : RawCard) → Has rows.cards.items c → ShowsCard rows.entries.items c
   pub entries_there : (m token : Bytes) (entry : Entry) → entry_at V m token ≡ Some entry
       → (e : RawEntry) × Has rows.entries.items e × (string_bytes e.merchant ≡ m)
       × (string_bytes e.token ≡ token)

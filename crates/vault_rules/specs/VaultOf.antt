@@ -14,9 +14,10 @@ use Rattle.vault_core.specs.declared.row.Entry.{Entry}
 use Rattle.vault_core.specs.declared.row.Record.{Record}
 use Rattle.vault_core.specs.declared.usage.Use.{Use}
 use Rattle.vault_core.specs.declared.usage.Use.TheVariants.{Single, Multi}
-use Rattle.vault_rules.specs.Lookups.{total_of}
+use Rattle.vault_rules.specs.Lookups.{total_of, number_of}
 use Rattle.vault_rules.specs.declared.rows.RawMerchant.{RawMerchant}
 use Rattle.vault_rules.specs.declared.rows.RawCount.{RawCount}
+use Rattle.vault_rules.specs.declared.rows.RawCard.{RawCard}
 use Rattle.vault_rules.specs.declared.rows.RawEntry.{RawEntry}
 use Rattle.vault_rules.specs.declared.rows.RawRecord.{RawRecord}
 use Rattle.vault_rules.specs.declared.rows.RawRight.{RawRight}
@@ -55,10 +56,10 @@ merchant_value counts m = record {
 abbrev pub entry_key : RawEntry → Bytes × Bytes
 entry_key e = (string_bytes e.merchant, string_bytes e.token)
 
--- what a row says of an entry
-abbrev pub entry_value : RawEntry → Entry
-entry_value e = record {
-  number = option_map (λ number. string_bytes number) e.number;
+-- what a row, with its card row, says of an entry
+abbrev pub entry_value : List RawCard → RawEntry → Entry
+entry_value cards e = record {
+  number = number_of cards e;
   usage = use_of e.usage;
   birth = natural e.birth;
   expires = natural e.expires;
@@ -84,7 +85,7 @@ vault_of rows = record {
   merchants =
       finite.from_entries
       (map (λ m. (string_bytes m.name, merchant_value rows.counts.items m)) rows.merchants.items);
-  entries = finite.from_entries (map (λ e. (entry_key e, entry_value e)) rows.entries.items);
+  entries = finite.from_entries (map (λ e. (entry_key e, entry_value rows.cards.items e)) rows.entries.items);
   records = finite.from_entries (map (λ r. (record_key r, record_value r)) rows.records.items);
   rights = set.from_list (map right_key rows.rights.items);
 }
@@ -92,6 +93,10 @@ vault_of rows = record {
 -- keys as they stand
 abbrev pub count_key : RawCount → Bytes × ℤ
 count_key c = (string_bytes c.merchant, c.kind)
+
+-- a card number at its merchant
+abbrev pub card_key : RawCard → Bytes × Bytes
+card_key c = (string_bytes c.merchant, string_bytes c.number)
 
 -- a request as it stands
 abbrev pub request_key : RawRecord → Bytes × ℤ
@@ -106,10 +111,11 @@ abbrev pub AreKeysApart : {R K : Type 0} → (R → K) → List R → Type 0
 AreKeysApart key [] = Unit {0}
 AreKeysApart key (row ∷ rows) = ((other : _) → Has rows other → key row ≢ key other) × AreKeysApart key rows
 
--- of each table
+-- of each table; of the cards no id
 pub record HasKeysApart (rows : Rows) : Type 0 where
   pub merchants : AreKeysApart (λ m. string_bytes m.name) rows.merchants.items
   pub counts : AreKeysApart count_key rows.counts.items
+  pub cards : AreKeysApart (λ c. c.id) rows.cards.items
   pub entries : AreKeysApart entry_key rows.entries.items
   pub records : AreKeysApart request_key rows.records.items
   pub rights : AreKeysApart number_key rows.rights.items

@@ -7,8 +7,11 @@ ghost use Rattle.vault_rules.specs.Lookups as lookups;
 mod first;
 mod maps;
 
-use crate::index::maps::{entries_by_token, held_by_merchant, made_by_merchant, merchants_by_name};
-use crate::rows::{RawCount, RawEntry, RawMerchant, Rows};
+use crate::index::maps::{
+    cards_by_id, entries_by_token, held_by_merchant, made_by_merchant, merchants_by_name,
+    used_by_id,
+};
+use crate::rows::{RawCard, RawCount, RawEntry, RawMerchant, Rows};
 use std::alloc::{AllocError, Global};
 use std::collections::BTreeMap;
 
@@ -21,7 +24,9 @@ pub struct Index<'a> {
     made: BTreeMap<&'a str, &'a RawCount>,
     held: BTreeMap<&'a str, usize>,
     entries: BTreeMap<(&'a str, &'a str), &'a RawEntry>,
-    ghost is_index: { IsIndexOf merchants made held entries rows.now },
+    cards: BTreeMap<i64, &'a RawCard>,
+    used: BTreeMap<i64, usize>,
+    ghost is_index: { IsIndexOf merchants made held entries cards used rows.now },
 }
 
 impl<'a> Index<'a> {
@@ -33,12 +38,16 @@ impl<'a> Index<'a> {
         let made = made_by_merchant(alloc, &rows.counts)?;
         let held = held_by_merchant(alloc, &rows.entries)?;
         let entries = entries_by_token(alloc, &rows.entries)?;
+        let cards = cards_by_id(alloc, &rows.cards)?;
+        let used = used_by_id(alloc, &rows.entries)?;
         Ok(Index {
             rows,
             merchants,
             made,
             held,
             entries,
+            cards,
+            used,
         })
     }
 
@@ -83,5 +92,27 @@ impl<'a> Index<'a> {
             ≡ lookups.entry_of self.now.rows.now.entries.items merchant.now token.now }
     {
         self.entries.get(&(merchant, token)).copied()
+    }
+
+    /// The card row of an id.
+    pub(crate) fn card(&self, id: i64) -> Option<&'a RawCard>
+        ensures { option_copied result ≡ lookups.card_of self.now.rows.now.cards.items id }
+    {
+        self.cards.get(&id).copied()
+    }
+
+    /// The number of an entry: that of its card row, where there is one.
+    pub(crate) fn number(&self, e: &RawEntry) -> Option<&'a str>
+        ensures { option_copied result ≡ lookups.number_of self.now.rows.now.cards.items e.now }
+    {
+        let card = self.card(e.card?)?;
+        Some(card.number.as_str())
+    }
+
+    /// How many entries point at the card row of an id.
+    pub(crate) fn used(&self, id: i64) -> usize
+        ensures { result ≡ lookups.used_by self.now.rows.now.entries.items id }
+    {
+        self.used.get(&id).copied().unwrap_or(0)
     }
 }

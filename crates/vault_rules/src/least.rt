@@ -7,16 +7,17 @@ ghost use Rattle.vault_rules.specs.Verdicts.{IsFirstBroken};
 use crate::index::Index;
 use crate::rows::Rows;
 use crate::rules::callers::{are_records, are_rights};
+use crate::rules::cards::are_cards;
 use crate::rules::counts::{are_counted, are_counts};
 use crate::rules::entries::{are_kept, are_timed, have_numbers, have_tokens};
 use crate::rules::live::are_alone;
-use crate::rules::merchants::{are_lasting, are_named, has_one_version};
+use crate::rules::merchants::{are_lasting, are_named, is_current};
 use std::alloc::{AllocError, Global};
 
 /// How many rules there are.
-const RULES: usize = 12;
+const RULES: usize = 13;
 
-/// The least number of a rule that the rows break, from 1 to 12. Only memory can fail.
+/// The least number of a rule that the rows break, from 1 to 13. Only memory can fail.
 pub fn least_broken(alloc: Global, rows: &Rows) -> Result<Option<u8>, AllocError>
     ensures none { IfOk result (λ found. found ≡ None → (r : ℕ) → keeps rows.now r ≡ true) }
     ensures some { IfOk result (λ found. (rule : ℕ) → found ≡ Some rule → IsLeastBroken rows.now rule) }
@@ -26,24 +27,25 @@ pub fn least_broken(alloc: Global, rows: &Rows) -> Result<Option<u8>, AllocError
     Ok(first_broken(&kept))
 }
 
-/// Whether the rows keep each rule, from 1 to 12.
+/// Whether the rows keep each rule, from 1 to 13.
 fn verdicts(alloc: Global, index: &Index) -> Result<[bool; RULES], AllocError>
     ensures { IfOk result (λ kept. kept ≡ verdicts_spec index.now.rows.now) }
 {
     let rows = index.rows;
     Ok([
-        has_one_version(&rows.versions),
+        is_current(&rows.versions, rows.replaced),
         are_named(&rows.merchants),
         are_lasting(&rows.merchants),
         are_counts(index),
         have_tokens(index),
-        have_numbers(&rows.entries),
+        have_numbers(index),
         are_timed(index),
         are_kept(index),
         are_alone(alloc, index)?,
         are_counted(index),
         are_records(index),
         are_rights(index),
+        are_cards(index),
     ])
 }
 

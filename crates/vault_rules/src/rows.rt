@@ -26,14 +26,23 @@ pub struct RawCount {
     pub total: i64,
 }
 
+/// A row of `cards2`: a card number of a merchant, and how many entries point at it.
+#[derive(Drop)]
+pub struct RawCard {
+    pub id: i64,
+    pub merchant: String,
+    pub number: String,
+    pub uses: i64,
+}
+
 /// A row of `entries`.
 #[derive(Drop)]
 pub struct RawEntry {
     pub rowid: i64,
     pub merchant: String,
     pub token: String,
-    /// NULL where it is purged.
-    pub number: Option<String>,
+    /// The id of its card row; NULL where it is purged.
+    pub card: Option<i64>,
     pub usage: i64,
     pub birth: i64,
     pub expires: i64,
@@ -61,13 +70,16 @@ pub struct RawRight {
     pub what: i64,
 }
 
-/// The rows of all tables. Nothing of them is printed, since entries hold card numbers.
+/// The rows of all tables. Nothing of them is printed, since cards hold card numbers.
 #[derive(Drop)]
 pub struct Rows {
     pub versions: Vec<RawVersion>,
     pub merchants: Vec<RawMerchant>,
     pub counts: Vec<RawCount>,
+    pub cards: Vec<RawCard>,
     pub entries: Vec<RawEntry>,
     pub records: Vec<RawRecord>,
     pub rights: Vec<RawRight>,
+    /// How many rows the tables have that a later schema replaced.
+    pub replaced: u64,
 }

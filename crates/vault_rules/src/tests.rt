@@ -1,12 +1,15 @@
 //! Small stores, each with one row at a bound of a rule or past it. Digits, sums and moments are
 //! worked out by hand.
 mod callers;
+mod cards;
 mod entries;
 mod live;
 mod merchants;
 
 use crate::least::least_broken;
-use crate::rows::{RawCount, RawEntry, RawMerchant, RawRecord, RawRight, RawVersion, Rows};
+use crate::rows::{
+    RawCard, RawCount, RawEntry, RawMerchant, RawRecord, RawRight, RawVersion, Rows,
+};
 use std::alloc::{AllocError, Global};
 use std::test::Fail;
 
@@ -40,13 +43,29 @@ fn count(alloc: Global, merchant: &str, kind: i64, total: i64) -> Result<RawCoun
     })
 }
 
-/// A single-use entry of that number, which was made at the moment and expires 60 seconds later.
+/// A card row.
+fn card(
+    alloc: Global,
+    id: i64,
+    merchant: &str,
+    number: &str,
+    uses: i64,
+) -> Result<RawCard, AllocError> {
+    Ok(RawCard {
+        id,
+        merchant: String::from_str(alloc, merchant)?,
+        number: String::from_str(alloc, number)?,
+        uses,
+    })
+}
+
+/// A single-use entry of the card row 1, which was made at the moment and expires 60 seconds later.
 fn entry(alloc: Global, merchant: &str, token: &str) -> Result<RawEntry, AllocError> {
     Ok(RawEntry {
         rowid: 1,
         merchant: String::from_str(alloc, merchant)?,
         token: String::from_str(alloc, token)?,
-        number: Some(String::from_str(alloc, NUMBER)?),
+        card: Some(1),
         usage: 1,
         birth: 1000,
         expires: 1060,
@@ -84,17 +103,20 @@ fn empty(alloc: Global) -> Result<Rows, AllocError> {
         versions,
         merchants: Vec::new(alloc),
         counts: Vec::new(alloc),
+        cards: Vec::new(alloc),
         entries: Vec::new(alloc),
         records: Vec::new(alloc),
         rights: Vec::new(alloc),
+        replaced: 0,
     })
 }
 
-/// A store with one merchant, and one token of it.
+/// A store with one merchant, and one token and one card number of it.
 fn sound(alloc: Global) -> Result<Rows, AllocError> {
     let mut rows = empty(alloc)?;
     rows.merchants.push(merchant(alloc, "shop1")?)?;
     rows.counts.push(count(alloc, "shop1", 1, 1)?)?;
+    rows.cards.push(card(alloc, 1, "shop1", NUMBER, 1)?)?;
     rows.entries.push(entry(alloc, "shop1", TOKEN)?)?;
     rows.records.push(record(alloc, "till-1", 7)?)?;
     rows.rights.push(right(alloc, "till-1", "shop1", 1)?)?;
@@ -120,5 +142,16 @@ fn there_is_one_version_row_and_its_id_is_1(rt: HostRuntime) -> Result<(), Fail>
     let mut two = sound(alloc)?;
     two.versions.push(RawVersion { id: 1, version: 1 })?;
     assert_eq!(rt; least_broken(alloc, &two)?, Some(1));
+    Ok(())
+}
+
+#[test]
+fn tables_that_a_later_schema_replaced_are_empty(rt: HostRuntime) -> Result<(), Fail> {
+    let alloc = rt.alloc();
+    for replaced in [1, u64::MAX] {
+        let mut rows = sound(alloc)?;
+        rows.replaced = replaced;
+        assert_eq!(rt; least_broken(alloc, &rows)?, Some(1), "{replaced}");
+    }
     Ok(())
 }

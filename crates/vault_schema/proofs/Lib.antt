@@ -1,1 +1,3 @@
+pub mod Grown
 pub mod Version1
+pub mod Version2

@@ -2,3 +2,4 @@
 #![tactic(auto)]
 
 pub mod v1;
+pub mod v2;

@@ -1,4 +1,5 @@
-//! Schema 1: the texts that make its tables, and those that read and write them.
+//! Schema 1: the texts that make its tables, and those that read and write them, but for those of its entries,
+//! which are only read whole: schema 2 replaced them.
 pub mod shape;
 
 use vault_core::moment::Moment;
@@ -49,9 +50,6 @@ pub const CREATE_RECORDS: &str =
 pub const CREATE_RIGHTS: &str =
     "CREATE TABLE rights (caller TEXT NOT NULL, merchant TEXT NOT NULL, what INTEGER NOT NULL, PRIMARY KEY (caller, merchant, what)) STRICT";
 
-/// Writes the version.
-pub const PUT_VERSION: &str = "INSERT INTO vault VALUES (1, 1)";
-
 /// The lives of a merchant.
 pub const FIND_LIVES: &str =
     "SELECT single_life, multi_life, moment FROM merchants WHERE name = ?1";
@@ -61,18 +59,6 @@ pub const FIND_COUNTS: &str = "SELECT kind, total FROM counts WHERE merchant = ?
 
 /// How many merchants there are.
 pub const COUNT_MERCHANTS: &str = "SELECT count(*) FROM merchants";
-
-/// What a merchant's token stands for.
-pub const FIND_ENTRY: &str =
-    "SELECT number, usage, birth, expires, revoked FROM entries WHERE merchant = ?1 AND token = ?2";
-
-/// The multi-use token of a number that is live at a moment.
-pub const FIND_CURRENT: &str =
-    "SELECT token FROM entries WHERE merchant = ?1 AND number = ?2 AND usage = 2 AND revoked IS NULL AND expires > ?3";
-
-/// So many of the tokens of a merchant that are dead at a moment, in order.
-pub const FIND_DEAD: &str =
-    "SELECT token FROM entries WHERE merchant = ?1 AND number IS NOT NULL AND (revoked IS NOT NULL OR expires <= ?2) ORDER BY token LIMIT ?3";
 
 /// What a caller's request was answered.
 pub const FIND_RECORD: &str =
@@ -89,10 +75,6 @@ pub const PUT_MERCHANT: &str =
 /// Raises a count of a merchant by one, whether or not it was there.
 pub const RAISE_COUNT: &str =
     "INSERT INTO counts VALUES (?1, ?2, 1) ON CONFLICT (merchant, kind) DO UPDATE SET total = total + 1";
-
-/// Writes an entry, whether or not it was there.
-pub const PUT_ENTRY: &str =
-    "INSERT INTO entries VALUES (?1, ?2, ?3, ?4, ?5, ?6, ?7) ON CONFLICT (merchant, token) DO UPDATE SET number = ?3, usage = ?4, birth = ?5, expires = ?6, revoked = ?7";
 
 /// Writes a record, whether or not it was there.
 pub const PUT_RECORD: &str =
@@ -118,6 +100,9 @@ pub const READ_COUNTS: &str = "SELECT rowid, merchant, kind, total FROM counts O
 /// The whole of `entries`, by its rowid.
 pub const READ_ENTRIES: &str =
     "SELECT rowid, merchant, token, number, usage, birth, expires, revoked FROM entries ORDER BY rowid";
+
+/// The rowids of `entries`, in their order.
+pub const READ_ENTRY_IDS: &str = "SELECT rowid FROM entries ORDER BY rowid";
 
 /// The whole of `records`, by its rowid.
 pub const READ_RECORDS: &str =

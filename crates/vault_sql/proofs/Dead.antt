@@ -1,6 +1,8 @@
 -- The dead tokens of a merchant as the first of a list that rises.
-use Rattle.std.proofs.Common.{◌≡◌, ◌∙◌, ◌&&◌, ◌||◌, ℕ, pos, List, [], ◌∷◌, map, filter, take, Bool, true, false}
-use Rattle.std.proofs.Common.{Option, Some, None, is_some, is_none, nat_lt, is_eq, is_lt, is_le, int_cmp, cond}
+use Rattle.std.proofs.Common.{◌≡◌, ◌∙◌, ◌&&◌, ◌||◌, ℕ, ℤ, pos, List, [], ◌∷◌, map, filter, take, Bool, true}
+use Rattle.std.proofs.Common.{false}
+use Rattle.std.proofs.Common.{Option, Some, None, option_map, option_and_then, is_some, is_none, nat_lt}
+use Rattle.std.proofs.Common.{is_eq, is_lt, is_le, int_cmp, cond}
 use Rattle.std.proofs.Common.{◌≤◌, length, min, suc, zero}
 use Rattle.std.proofs.Common.{refl, sym, ap, subst, arith, inl, inr, Less, Equal, Greater, T, Ordering, not}
 use Rattle.std.proofs.lemmas.Bool.{and_parts}
@@ -39,22 +41,26 @@ use Rattle.vault_core.specs.Sound.{Sound}
 use Rattle.vault_core.specs.Vault.{Vault, entries_of}
 use Rattle.vault_core.specs.Window.{moment_at}
 use Rattle.vault_core.specs.declared.row.Entry.{Entry}
-use Rattle.vault_schema.proofs.Version1.Codes.{entry_table}
-use Rattle.vault_schema.proofs.Version1.Texts.{dead_is, dead_tests}
-use Rattle.vault_schema.specs.Version1.Claims.{claims}
-use Rattle.vault_schema.specs.declared.v1.TheConstants.{FIND_DEAD}
+use Rattle.vault_schema.proofs.Version2.Codes.{pointing_table}
+use Rattle.vault_schema.proofs.Version2.Texts.{dead_is, dead_tests}
+use Rattle.vault_schema.specs.Version1.Rows.{number_or_null}
+use Rattle.vault_schema.specs.Version2.Claims.{Lookups as Tables, claims}
+use Rattle.vault_schema.specs.Version2.Joined.{AreJoined, joined, nothing_owed, number_of}
+use Rattle.vault_schema.specs.Version2.Rows.{id_or_null, pointing_row}
+use Rattle.vault_schema.specs.declared.v2.Card.{Card}
+use Rattle.vault_schema.specs.declared.v2.Pointing.{Pointing}
+use Rattle.vault_schema.specs.declared.v2.TheConstants.{FIND_DEAD}
+use Rattle.vault_sql.proofs.JoinedEntries.{entry_there, points_there}
 use Rattle.vault_sql.specs.Schema.{vault_schema}
 use Rattle.vault_sql.specs.Shown.{text_column}
-use Rattle.vault_sql.specs.Stands.{lookups_of}
-use Rattle.vault_schema.specs.Version1.Rows.{entry_row, number_or_null, text_or_null}
 
 -- ---- the test of a row
 
-number_there : (o : Option Bytes)
-    → is_true (unary Not (binary (Is Binary) (text_or_null o) Null)) ≡ is_some o
+card_there : (o : Option ℤ)
+    → is_true (unary Not (binary (Is Binary) (id_or_null o) Null)) ≡ is_some o
 unfolding unary binary value_cmp lib.Ieee.is_nan lib.Ieee.lt
-number_there None = refl
-number_there (Some t) = refl
+card_there None = refl
+card_there (Some id) = refl
 
 low_is : (a b : ℕ) → is_le (int_cmp (pos a) (pos b)) ≡ not (nat_lt b a)
 low_is a b = grind (arith, ints, nat_tests)
@@ -83,21 +89,21 @@ over_is : (o : Option ℕ) (e at : ℕ)
 over_is o e at = rw (null_is o, le_is e at)
     (or_is (is_some o) (is_le (int_cmp (pos e) (pos at))) ∙ ap (λ b. is_some o || b) (low_is e at))
 
--- a dead entry of this merchant
-abbrev pub is_good : Bytes → ℕ → Bytes × Bytes → Entry → Bool
-is_good m at key e = is_eq (bytes_cmp key.0 m) && is_dead e at
+-- an entry of this merchant that has a card and isn't live
+abbrev is_good : Bytes → ℕ → Bytes × Bytes → Pointing → Bool
+is_good m at key y =
+    is_eq (bytes_cmp key.0 m)
+    && (is_some y.card && ((is_some y.revoked || not (nat_lt at y.expires)) && true))
 
 dead_is_over : (number : Option Bytes) (revoked : Option ℕ) (low : Bool)
     → (is_some number && ((is_some revoked || not low) && true))
     ≡ (is_some number && not (is_some number && is_none revoked && low))
 dead_is_over number revoked low = grind arith
 
-pub dead_hits : (m : Bytes) (at limit : ℕ) (n : _) (q : Bytes × Bytes) (y : Entry)
-    → list_all (holds ((Text m ∷ Int (pos at) ∷ Int (pos limit) ∷ []) ∷ (Int n ∷ entry_row q y) ∷ []))
+dead_hits : (m : Bytes) (at limit : ℕ) (n : _) (q : Bytes × Bytes) (y : Pointing)
+    → list_all (holds ((Text m ∷ Int (pos at) ∷ Int (pos limit) ∷ []) ∷ (Int n ∷ pointing_row q y) ∷ []))
     dead_tests ≡ is_good m at q y
-dead_hits m at limit n q y =
-    rw (text_eq q.0 m, number_there y.number, over_is y.revoked y.expires at)
-    (ap (λ b. is_eq (bytes_cmp q.0 m) && b) (dead_is_over y.number y.revoked (nat_lt at y.expires)))
+dead_hits m at limit n q y = rw (text_eq q.0 m, card_there y.card, over_is y.revoked y.expires at) refl
 
 -- ---- lists of entries in order
 
@@ -216,49 +222,75 @@ module _ (V : Vault) (m : Bytes) where
       ∙ ap (λ b. cond b (map.get V.entries q) None)
       (ap (λ x. eq_by_cmp bytes_cmp x q.0) (sym same) ∙ ap is_eq (tied_itself bytes_total q.0)) ∙ found)
 
-  alike : (at : ℕ) (q : Bytes × Bytes) (y : Entry) → is_good m at q y ≡ true
-      → (q.0 ≡ m) × (is_dead y at ≡ true)
-  alike at q y good =
-      let parts = and_parts _ _ good in (bytes_exact q.0 m (equal_is _ parts.0), parts.1)
+  module _ (t : Tables) (are : AreJoined nothing_owed t.cards t.pointing (map.get V.entries)) (at : ℕ) where
+    -- an entry has a number where it points at a card
+    numbered : (q : Bytes × Bytes) (y : Pointing) → t.pointing q ≡ Some y
+        → is_some y.card ≡ is_some (joined t.cards y).number
+    numbered q y is = go y.card refl
+      where
+        go : (o : Option ℤ) → y.card ≡ o → is_some o ≡ is_some (option_and_then (number_of t.cards) o)
+        go None none = refl
+        go (Some id) some =
+            let own = are.owned q id (ap (option_and_then (λ (p : Pointing). p.card)) is ∙ some) in
+            ap (λ o. is_some (option_map (λ (c : Card). c.number) o)) (sym own.1)
 
-  same_token : (at : ℕ) (q p : Bytes × Bytes) (y x : Entry) → is_good m at q y ≡ true → is_good m at p x ≡ true
-      → value_cmp (Text q.1) (Text p.1) ≡ Equal → q ≡ p
-  same_token at q p y x good good' tie =
-      let merchant = (alike at q y good).0 ∙ sym (alike at p x good').0 in
-      let token = bytes_exact q.1 p.1 (sym (value_cmp-Text q.1 p.1) ∙ tie) in
-      λ i. (merchant i, token i)
+    -- it passes where it is dead
+    passes : (q : Bytes × Bytes) (y : Pointing) → t.pointing q ≡ Some y
+        → is_good m at q y ≡ (is_eq (bytes_cmp q.0 m) && is_dead (joined t.cards y) at)
+    passes q y is =
+        ap (λ b. is_eq (bytes_cmp q.0 m) && (b && ((is_some y.revoked || not (nat_lt at y.expires)) && true)))
+        (numbered q y is)
+        ∙ ap (λ b. is_eq (bytes_cmp q.0 m) && b)
+        (dead_is_over (joined t.cards y).number y.revoked (nat_lt at y.expires))
 
-  -- what a query shows of them
-  pub shows_dead : (old new : State) → Stands vault_schema (claims (lookups_of V)) old.now → (at many now : ℕ)
-      → moment_at V m now ≡ at → (rows : List Row)
-      → Shown FIND_DEAD.now (Text m ∷ Int (pos at) ∷ Int (pos many) ∷ []) old new rows
-      → rows ≡ map text_column (take many (dead_tokens V m now))
-  unfolding dead_tokens
-  shows_dead old new it at many now is rows shown =
-      let test = λ (e : (Bytes × Bytes) × Entry). is_dead e.1 at in
-      shown_first old new it _ (Text m ∷ Int (pos at) ∷ Int (pos many) ∷ []) rows shown entry_table
-      (lookups_of V).entries (λ are. are)
-      dead_tests 2 2 (dead_is [] []) (is_good m at) (dead_hits m at many) (λ q y. Text q.1) (λ n q y. refl)
-      many refl
-      (λ q p y x found good found' good' tie. same_token at q p y x good good' tie)
-      (map token_value (filter test own))
-      (rising_tokens m test own (map.entries_sorted (entries_of V m)) (λ e h. (own_there e h).0))
-      (λ v h.
-      let e = has_mapped token_value (filter test own) v h in
-      let kept = has_filtered test own e.0 e.1 in
-      let there = own_there e.0 kept.0 in (
-        e.0.0,
-        e.0.1,
-        there.1,
-        ap (λ x. is_eq (bytes_cmp x m) && is_dead e.0.1 at) there.0
-            ∙ ap (λ o. is_eq o && is_dead e.0.1 at) (tied_itself bytes_total m) ∙ kept.1,
-        e.2,
-      ))
-      (λ q y found good.
-      let it = alike at q y good in
-      mapped_has token_value (filter test own) (q, y) (has_kept test own (q, y) (there_own q y found it.0) it.1))
-      ∙ taken_tokens many (filter test own)
-      ∙ ap (λ t. map text_column (take many (map (λ e. e.0.1) (filter (λ e. is_dead e.1 t) own)))) (sym is)
+    alike : (q : Bytes × Bytes) (y : Pointing) → t.pointing q ≡ Some y → is_good m at q y ≡ true
+        → (q.0 ≡ m) × (is_dead (joined t.cards y) at ≡ true)
+    alike q y is good =
+        let parts = and_parts _ _ (sym (passes q y is) ∙ good) in
+        (bytes_exact q.0 m (equal_is _ parts.0), parts.1)
+
+    same_token : (q p : Bytes × Bytes) → q.0 ≡ m → p.0 ≡ m → value_cmp (Text q.1) (Text p.1) ≡ Equal → q ≡ p
+    same_token q p own own' tie =
+        let merchant = own ∙ sym own' in
+        let token = bytes_exact q.1 p.1 (sym (value_cmp-Text q.1 p.1) ∙ tie) in
+        λ i. (merchant i, token i)
+
+    -- what a query shows of them
+    pub shows_dead : (old new : State) → Stands vault_schema (claims t) old.now → (many now : ℕ)
+        → moment_at V m now ≡ at → (rows : List Row)
+        → Shown FIND_DEAD.now (Text m ∷ Int (pos at) ∷ Int (pos many) ∷ []) old new rows
+        → rows ≡ map text_column (take many (dead_tokens V m now))
+    unfolding dead_tokens
+    shows_dead old new it many now is rows shown =
+        let test = λ (e : (Bytes × Bytes) × Entry). is_dead e.1 at in
+        shown_first old new it _ (Text m ∷ Int (pos at) ∷ Int (pos many) ∷ []) rows shown pointing_table
+        t.pointing (λ are. are)
+        dead_tests 2 2 (dead_is [] []) (is_good m at) (dead_hits m at many) (λ q y. Text q.1) (λ n q y. refl)
+        many refl
+        (λ q p y x found good found' good' tie.
+        same_token q p (alike q y found good).0 (alike p x found' good').0 tie)
+        (map token_value (filter test own))
+        (rising_tokens m test own (map.entries_sorted (entries_of V m)) (λ e h. (own_there e h).0))
+        (λ v h.
+        let e = has_mapped token_value (filter test own) v h in
+        let kept = has_filtered test own e.0 e.1 in
+        let there = own_there e.0 kept.0 in
+        let y = points_there are e.0.0 e.0.1 there.1 in (
+          e.0.0,
+          y.0,
+          y.1,
+          passes e.0.0 y.0 y.1 ∙ ap (λ x. is_eq (bytes_cmp x m) && is_dead (joined t.cards y.0) at) there.0
+              ∙ ap (λ o. is_eq o && is_dead (joined t.cards y.0) at) (tied_itself bytes_total m)
+              ∙ ap (λ x. is_dead x at) (sym y.2) ∙ kept.1,
+          e.2,
+        ))
+        (λ q y found good.
+        let its = alike q y found good in
+        let e = joined t.cards y in
+        mapped_has token_value (filter test own) (q, e)
+        (has_kept test own (q, e) (there_own q e (entry_there are q y found) its.0) its.1))
+        ∙ taken_tokens many (filter test own)
+        ∙ ap (λ t. map text_column (take many (map (λ e. e.0.1) (filter (λ e. is_dead e.1 t) own)))) (sym is)
 
   few_dead : Sound V → (now : ℕ) → length (dead_tokens V m now) ≤ 1000000
   unfolding dead_tokens

@@ -1,6 +1,12 @@
 pub mod Calls
+pub mod Current
 pub mod Dead
+pub mod JoinedEntries
 pub mod Lookups
 pub mod Making
+pub mod Owing
+pub mod Pointed
+pub mod ShownCards
 pub mod Statements
+pub mod WrittenEntry
 pub mod WrittenPlus

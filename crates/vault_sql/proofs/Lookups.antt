@@ -1,160 +1,71 @@
 -- What each query shows of a vault: exactly what it has, or nothing.
-use Rattle.std.proofs.Common.{◌≡◌, ℕ, ℤ, pos, List, [], ◌∷◌, Bool, true, false, ◌&&◌, is_eq, is_none, is_some}
-use Rattle.std.proofs.Common.{nat_lt, Option, Some, None, option_map, refl, sym, ap, ◌∙◌, arith, nat_cmp, inl}
+use Rattle.std.proofs.Common.{◌≡◌, ℕ, ℤ, List, [], ◌∷◌, is_eq}
+use Rattle.std.proofs.Common.{Option, Some, None, option_map, refl, sym, ap, ◌∙◌, arith, inl}
 use Rattle.std.proofs.Common.{inr, max, slice_get}
 use Rattle.std.proofs.lemmas.Bool.Decides.{nat_tests}
-use Rattle.std.proofs.lemmas.Bool.{and_parts}
-use Rattle.std.proofs.lemmas.Int.{ints}
-use Rattle.std.specs.Cmp.Lexicographic.{texts_ties}
 use Rattle.std.specs.FinMap as map
 use Rattle.std.specs.List.{list_all}
 use Rattle.std.specs.Option.{option_map_or}
-use Rattle.sqlite.specs.Collation.TheVariants.{Binary}
-use Rattle.sqlite.specs.Ops.{binary, is_true}
 use Rattle.sqlite.specs.Term.{holds}
-use Rattle.sqlite.specs.declared.types.Value.TheVariants.{Null, Int, Text}
-use Rattle.sqlite_sql.specs.declared.ops.BinaryOp.TheVariants.{Compare, Is}
-use Rattle.sqlite_sql.specs.declared.ops.CompareOp.TheVariants.{Eq, Gt}
-use Rattle.sqlite_value.proofs.OrderLemmas.{value_cmp-Int}
-use Rattle.vault_pan.specs.CardText.{same}
+use Rattle.sqlite.specs.declared.types.Value.TheVariants.{Int, Text}
 use Rattle.std.specs.Cmp.{tied_itself}
 use Rattle.vault_core.proofs.Maps.{bytes_exact, bytes_total}
-use Rattle.vault_core.proofs.CurrentLemmas.{current-some, current-none}
 use Rattle.vault_core.specs.Keys.{Bytes, bytes_cmp}
-use Rattle.vault_core.specs.Repeats.{current, is_reusable, same_use}
 use Rattle.vault_core.specs.Sound.{Sound}
-use Rattle.vault_core.specs.Vault.{Vault, entry_at, Merchant, merchant_at, made_count, time_at}
+use Rattle.vault_core.specs.Vault.{Vault, Merchant, merchant_at, made_count, time_at}
 use Rattle.vault_core.specs.Window.{moment_at, row_at, row_of}
-use Rattle.vault_core.specs.declared.row.Entry.{Entry}
-use Rattle.vault_core.specs.declared.usage.Use.{Use}
-use Rattle.vault_core.specs.declared.usage.Use.TheVariants.{Multi}
-use Rattle.vault_store.proofs.LiveLemmas.{one_live}
-use Rattle.sqlite.specs.Order.{Row, value_cmp, column}
+use Rattle.sqlite.specs.Order.{Row, column}
 use Rattle.sqlite.specs.State.{State, Shown}
 use Rattle.sql_maps.specs.Rows.{one_of}
 use Rattle.sql_maps.specs.States.{Stands}
 use Rattle.sql_maps.specs.Texts.{by_key}
-use Rattle.sql_maps.proofs.KeyTests.{text_eq, number_eq, and_true, equal_is}
-use Rattle.sql_maps.proofs.Reading.{how_many, shown_are, shown_none, shown_one}
-use Rattle.vault_schema.specs.Version1.Claims.{claims}
-use Rattle.vault_core.specs.Numbers.{use_number}
-use Rattle.vault_schema.specs.Version1.Rows.{text_or_null, number_or_null, number_column}
-use Rattle.vault_schema.specs.Version1.Rows.{count_row, entry_row, lives_columns}
-use Rattle.vault_schema.specs.declared.v1.TheConstants.{FIND_COUNTS, FIND_CURRENT, COUNT_MERCHANTS}
-use Rattle.vault_schema.proofs.Version1.Codes.{merchant_coding, count_table, entry_table}
-use Rattle.vault_schema.proofs.Version1.Texts.{counts_is, current_is, current_tests, how_many_is}
+use Rattle.sql_maps.proofs.KeyTests.{text_eq, and_true, equal_is}
+use Rattle.sql_maps.proofs.Reading.{how_many, shown_are}
+use Rattle.vault_schema.specs.Version2.Claims.{claims}
+use Rattle.vault_schema.specs.Version2.Tables.{tables2, indexes2}
+use Rattle.vault_schema.specs.declared.v2.Card.{Card}
+use Rattle.vault_schema.specs.declared.v2.Pointing.{Pointing}
+use Rattle.vault_schema.specs.Version1.Rows.{number_column}
+use Rattle.vault_schema.specs.Version1.Rows.{count_row, lives_columns}
+use Rattle.vault_schema.specs.declared.v1.TheConstants.{FIND_COUNTS, COUNT_MERCHANTS}
+use Rattle.vault_schema.proofs.Version1.Codes.{merchant_coding}
+use Rattle.vault_schema.proofs.Version2.Codes.{count_table}
+use Rattle.vault_schema.proofs.Version1.Texts.{counts_is, how_many_is}
 use Rattle.vault_sql.specs.Schema.{vault_schema}
-use Rattle.vault_sql.specs.Shown.{text_column, count_columns, ShowsCounts, IsTotalOf, ShowsLives}
-use Rattle.vault_sql.specs.Stands.{lives_in, count_at, unless_zero, lookups_of}
+use Rattle.vault_sql.specs.Shown.{count_columns, ShowsCounts, IsTotalOf, ShowsLives}
+use Rattle.vault_sql.specs.Stands.{lives_in, count_at, unless_zero, lookups_of, tables_of}
 use Rattle.vault_core.proofs.Finds.{some_same}
 use Rattle.vault_core.specs.declared.row.MerchantRow.{MerchantRow}
 use Rattle.vault_schema.specs.declared.v1.Lives.{Lives}
 
 -- the rows of a query of this vault
-module _ (old new : State) (V : Vault) (it : Stands vault_schema (claims (lookups_of V)) old.now)
-    (rows : List Row) where
-  pub shows_counts : (m : Bytes) → Shown FIND_COUNTS.now (Text m ∷ []) old new rows → ShowsCounts rows V m
-  shows_counts m shown =
-      let it = shown_are old new it _ _ rows shown count_table (lookups_of V).counts (λ are. are)
-      _ _ _ (counts_is [] []) (λ q y. is_eq (bytes_cmp q.0 m)) passes (λ q y. count_columns q.1 y)
-      (λ n q y. refl) in
-      record {
-        sound = λ r there.
-            let row = it.0 r there in
-            let same : row.0.0 ≡ m = bytes_exact row.0.0 m (equal_is _ row.3) in
-            (row.0.1, row.1, row.4, ap (λ k. unless_zero (count_at V k row.0.1)) (sym same) ∙ row.2);
-        complete = λ kind total is. it.1 (m, kind) total is (ap is_eq (tied_itself bytes_total m));
-      }
-    where
-      -- each count of the merchant passes, whatever its kind
-      passes : (n : ℤ) (q : Bytes × ℕ) (y : ℕ)
-          → list_all (holds ((Text m ∷ []) ∷ (Int n ∷ count_row q y) ∷ [])) (by_key 1) ≡ is_eq
-          (bytes_cmp q.0 m)
-      passes n q y = rw (text_eq q.0 m) (and_true _)
-
-  pub shows_how_many : Shown COUNT_MERCHANTS.now [] old new rows → Sound V
-      → rows ≡ number_column (map.len V.merchants) ∷ []
-  shows_how_many shown sound =
-      how_many old new it.schema 1 (how_many_is [] []) shown merchant_coding lives_in V.merchants it.rows.1.0
-      (omega (arith, sound.few))
-
--- ---- the live multi-use token of a number
-
-number_is : (o : Option Bytes) (pan : Bytes)
-    → is_true (binary (Compare Eq Binary) (text_or_null o) (Text pan)) ≡ option_map_or
-    (λ number. same number pan) o false
-unfolding binary
-number_is None pan = refl
-number_is (Some number) pan = text_eq number pan ∙ sym (texts_ties number pan)
-
-usage_is : (u : Use) → is_eq (nat_cmp (use_number u) 2) ≡ same_use u Multi
-usage_is u = grind arith
-
-revoked_is : (o : Option ℕ) → is_true (binary (Is Binary) (number_or_null o) Null) ≡ is_none o
-unfolding binary value_cmp lib.Ieee.is_nan lib.Ieee.lt
-revoked_is None = refl
-revoked_is (Some n) = refl
-
-later_is : (a b : ℕ) → is_true (binary (Compare Gt Binary) (Int (pos a)) (Int (pos b))) ≡ nat_lt b a
-unfolding binary
-later_is a b = rw value_cmp-Int (grind (arith, ints, nat_tests))
-
--- an entry of this merchant that can be given again for this number
-abbrev is_good : Bytes → Bytes → ℕ → Bytes × Bytes → Entry → Bool
-is_good m pan at key e = is_eq (bytes_cmp key.0 m) && is_reusable pan at e
-
-in_order : (a b : Bool) (o : Option Bytes) (pan : Bytes) (c d : Bool)
-    → (a && (option_map_or (λ number. same number pan) o false && (b && (c && (d && true)))))
-    ≡ (a && (b && option_map_or (λ number. same number pan) o false && (is_some o && c && d)))
-in_order a b o pan c d = grind arith
-
-good_hits : (m pan : Bytes) (at : ℕ) (n : ℤ) (q : Bytes × Bytes) (y : Entry)
-    → list_all (holds ((Text m ∷ Text pan ∷ Int (pos at) ∷ []) ∷ (Int n ∷ entry_row q y) ∷ [])) current_tests
-    ≡ is_good m pan at q y
-good_hits m pan at n q y =
-    rw (
-      text_eq q.0 m,
-      number_is y.number pan,
-      number_eq (use_number y.usage) 2,
-      usage_is y.usage,
-      revoked_is
-          y.revoked,
-      later_is y.expires at,
-    )
-    (in_order (is_eq (bytes_cmp q.0 m)) (same_use y.usage Multi) y.number pan (is_none y.revoked)
-    (nat_lt at y.expires))
-
--- a token that can be given again is the one that is live
-pub shows_current : (old new : State) (V : Vault) → Stands vault_schema (claims (lookups_of V)) old.now
-    → Sound V → (m pan : Bytes) (at : ℕ) → moment_at V m at ≡ at → (rows : List Row)
-    → Shown FIND_CURRENT.now (Text m ∷ Text pan ∷ Int (pos at) ∷ []) old new rows
-    → rows ≡ one_of text_column (option_map (λ held. held.0) (current V m pan at))
-shows_current old new V it sound m pan at now rows shown =
-    elim (current V m pan at)
-    as (λ o. current V m pan at ≡ o → rows ≡ one_of text_column (option_map (λ held. held.0) o)) [
-      | None ↦ λ e. shown_none old new it _ _ rows shown entry_table (lookups_of V).entries (λ are. are)
-          _ _ _ (current_is [] []) (is_good m pan at) (good_hits m pan at) (λ q y is good.
-          let it = own q y is good in
-          let clash = sym it.2 ∙ current-none V m pan q.1 at y e it.1 in cc)
-      | Some held ↦ λ e.
-          let there = current-some V m pan at held e in
-          shown_one old new it _ _ rows shown entry_table (lookups_of V).entries (λ are. are)
-          _ _ _ (current_is [] []) (is_good m pan at) (good_hits m pan at)
-          (λ (q : Bytes × Bytes) y. text_column q.1) (λ n q y. refl) (m, held.0) held.1 there.0
-          (ap (λ o. is_eq o && is_reusable pan at held.1) (tied_itself bytes_total m) ∙ there.1)
-          (λ q y is good.
-          let it = own q y is good in
-          it.0 ∙ ap (λ t. (m, t))
-          (one_live V sound m pan at now q.1 held.0 y held.1 it.1 it.2 there.0 there.1))
-    ] refl
+module _ (old new : State) (V : Vault) (cards : ℤ → Option Card) (pointing : Bytes × Bytes → Option Pointing)
+    (it : Stands vault_schema (claims (tables_of (lookups_of V) cards pointing)) old.now) (rows : List Row)
   where
-    own : (q : Bytes × Bytes) (y : Entry) → map.get V.entries q ≡ Some y → is_good m pan at q y ≡ true
-        → (q ≡ (m, q.1)) × (entry_at V m q.1 ≡ Some y) × (is_reusable pan at y ≡ true)
-    own q y is good =
-        let parts = and_parts _ _ good in
-        let same_name : q.0 ≡ m = bytes_exact q.0 m (equal_is _ parts.0) in
-        let key : q ≡ (m, q.1) = λ i. (same_name i, q.1) in
-        (key, ap (map.get V.entries) (sym key) ∙ is, parts.1)
+    pub shows_counts : (m : Bytes) → Shown FIND_COUNTS.now (Text m ∷ []) old new rows → ShowsCounts rows V m
+    shows_counts m shown =
+        let it = shown_are old new it _ _ rows shown count_table (lookups_of V).counts (λ are. are)
+        _ _ _ (counts_is tables2 indexes2) (λ q y. is_eq (bytes_cmp q.0 m)) passes (λ q y. count_columns q.1 y)
+        (λ n q y. refl) in
+        record {
+          sound = λ r there.
+              let row = it.0 r there in
+              let same : row.0.0 ≡ m = bytes_exact row.0.0 m (equal_is _ row.3) in
+              (row.0.1, row.1, row.4, ap (λ k. unless_zero (count_at V k row.0.1)) (sym same) ∙ row.2);
+          complete = λ kind total is. it.1 (m, kind) total is (ap is_eq (tied_itself bytes_total m));
+        }
+      where
+        -- each count of the merchant passes, whatever its kind
+        passes : (n : ℤ) (q : Bytes × ℕ) (y : ℕ)
+            → list_all (holds ((Text m ∷ []) ∷ (Int n ∷ count_row q y) ∷ [])) (by_key 1) ≡ is_eq
+            (bytes_cmp q.0 m)
+        passes n q y = rw (text_eq q.0 m) (and_true _)
+
+    pub shows_how_many : Shown COUNT_MERCHANTS.now [] old new rows → Sound V
+        → rows ≡ number_column (map.len V.merchants) ∷ []
+    shows_how_many shown sound =
+        how_many old new it.schema 1 (how_many_is tables2 indexes2) shown merchant_coding lives_in V.merchants it.rows.1.0
+        (omega (arith, sound.few))
 
 -- ---- the row of a merchant, put together from its own table and its counts
 

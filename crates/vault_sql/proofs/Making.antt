@@ -1,6 +1,7 @@
 -- What making the schema leads to: the empty vault.
-use Rattle.std.proofs.Common.{◌≡◌, ◌++◌, ℕ, zero, suc, pos, List, [], ◌∷◌, Option, Some, None, Ok, true, cond}
-use Rattle.std.proofs.Common.{option_map, refl, ap, subst, ◌∙◌, arith, IsTrue, Result, OnOk}
+use Rattle.std.proofs.Common.{◌≡◌, ◌++◌, ℕ, ℤ, zero, suc, pos, List, [], ◌∷◌, Option, Some, None, Ok, true}
+use Rattle.std.proofs.Common.{cond}
+use Rattle.std.proofs.Common.{option_map, refl, sym, ap, subst, ◌∙◌, arith, IsTrue, Result, OnOk}
 use Rattle.std.proofs.lemmas.Bool.Decides.{nat_tests}
 use Rattle.sqlite.specs.State.{HasCleanDisk, State, ExecutesInside}
 use Rattle.sqlite.specs.Change.{indexed, created}
@@ -12,11 +13,13 @@ use Rattle.std.specs.FinMap as map
 use Rattle.std.specs.FinSet as set
 use Rattle.std.specs.Ordering.{eq_by_cmp}
 use Rattle.sqlite.specs.Effect.{Database}
+use Rattle.sqlite.specs.Order.{Row}
 use Rattle.sqlite.specs.Schema.{Schema}
 use Rattle.sqlite.specs.Table.{Table}
 use Rattle.sqlite.specs.Tree.{Trees}
 use Rattle.sqlite.specs.declared.types.Value.TheVariants.{Null, Int}
-use Rattle.sql_maps.specs.Schema.{no_schema}
+use Rattle.sql_maps.specs.Rows.{AreRowsById}
+use Rattle.sql_maps.specs.Schema.{no_schema, table_of}
 use Rattle.sql_maps.proofs.ByKey.{no_rows}
 use Rattle.sql_maps.proofs.Making.{makes_index, makes_table}
 use Rattle.sql_maps.proofs.Statements.{insert_first, retold}
@@ -24,16 +27,24 @@ use Rattle.vault_core.proofs.Maps.{entry_total, entry_exact, get-retained}
 use Rattle.vault_core.specs.Keys.{Bytes, bytes_cmp, entry_cmp, record_cmp, right_cmp}
 use Rattle.vault_core.specs.Vault.{Merchant, empty_vault, entries_of, made_count}
 use Rattle.vault_core.specs.declared.row.Entry.{Entry}
-use Rattle.vault_schema.specs.Version1.Claims.{IsVersion, claims}
-use Rattle.vault_schema.specs.Version1.Rows.{merchant_row, count_row, entry_row, record_row, right_row}
-use Rattle.vault_schema.specs.Version1.Tables.{vault, rights}
-use Rattle.vault_schema.specs.declared.v1.TheConstants.{PUT_VERSION}
-use Rattle.vault_schema.proofs.Version1.Making.{six, treeless, all_made}
-use Rattle.vault_schema.proofs.Version1.Texts.{put_version_is}
+use Rattle.vault_schema.specs.Version1.Claims.{IsVersion}
+use Rattle.vault_schema.specs.Version1.Rows.{merchant_row, count_row, record_row, right_row}
+use Rattle.vault_schema.specs.Version1.Tables.{rights, v1, vault}
+use Rattle.vault_schema.specs.Version2.Claims.{claims}
+use Rattle.vault_schema.specs.Version2.Joined.{AreJoined, nothing_owed}
+use Rattle.vault_schema.specs.Version2.Rows.{card_columns, pointing_row}
+use Rattle.vault_schema.specs.Version2.Tables.{entries}
+use Rattle.vault_schema.specs.declared.v2.Card.{Card}
+use Rattle.vault_schema.specs.declared.v2.Pointing.{Pointing}
+use Rattle.vault_schema.specs.declared.v2.TheConstants.{PUT_VERSION}
+use Rattle.vault_schema.proofs.Version1.Making as version1
+use Rattle.vault_schema.proofs.Version1.Making.{six, treeless}
+use Rattle.vault_schema.proofs.Version2.Making.{all_made, card_index, with_entries}
+use Rattle.vault_schema.proofs.Version2.Texts.{put_version_is}
 use Rattle.vault_sql.specs.Calls.{IsWithin}
 use Rattle.vault_sql.specs.Making.{IsBegun, IsReady}
 use Rattle.vault_sql.specs.Schema.{vault_schema}
-use Rattle.vault_sql.specs.Stands.{count_at, lives_in, lookups_of, unless_zero}
+use Rattle.vault_sql.specs.Stands.{count_at, lives_in, lookups_of, tables_of, unless_zero}
 
 -- ---- the tables, one after the other
 
@@ -77,6 +88,12 @@ module _ {old new : State} {sql : List ℕ} (steps : Steps old new)
       makes_index s (empties n) base old new w.free w.committed w.stands.schema w.stands.rows sql did.0 did.1
       steps.limit _ _ _ it
 
+-- all tables of schema 1
+pub first_schema : (first st : State) → Reached first st (created six (treeless rights)) 6
+    → Reached first st v1 6
+first_schema first st made clean base b =
+    subst (λ s. Within s (empties 6) base st) version1.all_made (made clean base b)
+
 -- ---- the empty vault
 
 none_made : (m : Bytes) → made_count empty_vault m ≡ 0
@@ -94,9 +111,31 @@ no_count : (m : Bytes) (kind : ℕ) → count_at empty_vault m kind ≡ 0
 no_count m kind = let none = none_made m in let empty = map.get-empty {X = Merchant} bytes_cmp m in
     grind (arith, nat_tests, none, empty)
 
+-- no cards, and no entries that point at one
+abbrev no_cards : ℤ → Option Card
+no_cards id = None
+
+abbrev no_pointing : Bytes × Bytes → Option Pointing
+no_pointing key = None
+
+none_joined : AreJoined nothing_owed no_cards no_pointing (map.get empty_vault.entries)
+none_joined = record {
+  same = λ key. map.get-empty entry_cmp key;
+  owned = λ key id at. absurd cc;
+  once = λ a b c d here. absurd cc;
+  used = λ id c is. absurd cc;
+}
+
+no_ids : (rows : List Row) → rows ≡ [] → AreRowsById card_columns rows no_cards
+no_ids rows is = subst (λ l. AreRowsById card_columns l no_cards) (sym is) (record {
+  apart = tt;
+  sound = λ r h. absurd h;
+  complete = λ n x some. absurd cc;
+})
+
 -- tables without rows stand for the empty vault
-emptied : (db : Trees) → StandsIn vault_schema.tables (IsVersion 1 ∷ empties 5) db
-    → StandsIn vault_schema.tables (claims (lookups_of empty_vault)) db
+emptied : (db : Trees) → StandsIn vault_schema.tables (IsVersion 2 ∷ empties 7) db
+    → StandsIn vault_schema.tables (claims (tables_of (lookups_of empty_vault) no_cards no_pointing)) db
 emptied db s = (
   s.0,
   (
@@ -104,14 +143,17 @@ emptied db s = (
     (
       no_rows count_row (db 3) _ s.1.1.0 (λ key. ap unless_zero (no_count key.0 key.1)),
       (
-        no_rows entry_row (db 5) _ s.1.1.1.0 (λ key. map.get-empty entry_cmp key),
+        s.1.1.1.0,
         (
           no_rows record_row (db 8) _ s.1.1.1.1.0 (λ key. map.get-empty record_cmp key),
           (
             no_rows right_row (db 10) _ s.1.1.1.1.1.0
                 (λ key. ap (λ b. let there : Option (Unit {0}) = Some tt in cond b there None)
                 (set.contains-empty right_cmp key)),
-            tt,
+            (
+              no_ids (db 12) s.1.1.1.1.1.1.0,
+              (no_rows pointing_row (db 14) no_pointing s.1.1.1.1.1.1.1.0 (λ key. refl), tt),
+            ),
           ),
         ),
       ),
@@ -123,14 +165,20 @@ emptied db s = (
 pub version_put : {R E : Type 0} (result : Result R E) {first old new : State} → Steps old new
     → (HasCleanDisk new → OnOk result (IsTrue old.in_transaction
     → (count : ℕ) × ExecutesInside 0 PUT_VERSION.now [] old new (Ok count)))
-    → Reached first old (created six (treeless rights)) 6 → HasCleanDisk new
+    → Reached first old (indexed with_entries (table_of entries) card_index) 8 → HasCleanDisk new
     → OnOk result ((base : Database) → IsBegun first base → IsWithin new base (lookups_of empty_vault))
 version_put result {old = old} {new = new} steps ran before clean =
     on_ok result (ran clean) (λ ran base b.
     let made = before (omega (arith, steps.clean, clean)) base b in
-    let ready : Within vault_schema (empties 6) base old =
-    subst (λ s. Within s (empties 6) base old) all_made made in
+    let ready : Within vault_schema (empties 8) base old =
+    subst (λ s. Within s (empties 8) base old) all_made made in
     let did = ran made.inside in
-    retold vault_schema (IsVersion 1 ∷ empties 5) (claims (lookups_of empty_vault)) base new emptied
-    (insert_first refl (record { within = ready; count = did.0; ran = did.1; limit = steps.limit }) vault 0
-    refl 3 _ (put_version_is [] []) (pos 1) (Null ∷ Int (pos 1) ∷ []) ready.stands.rows.0 refl refl))
+    record {
+      cards = no_cards;
+      pointing = no_pointing;
+      has = retold vault_schema (IsVersion 2 ∷ empties 7)
+          (claims (tables_of (lookups_of empty_vault) no_cards no_pointing)) base new emptied
+          (insert_first refl (record { within = ready; count = did.0; ran = did.1; limit = steps.limit }) vault 0
+          refl 3 _ (put_version_is [] []) (pos 1) (Null ∷ Int (pos 2) ∷ []) ready.stands.rows.0 refl refl);
+      joined = none_joined;
+    })

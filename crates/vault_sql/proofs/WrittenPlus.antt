@@ -7,7 +7,8 @@ use Rattle.std.specs.FinSet as set
 use Rattle.std.specs.Option.{option_map_or}
 use Rattle.std.specs.Ordering.{eq_by_cmp}
 use Rattle.vault_core.proofs.Maps.{bytes_total, bytes_exact, entry_total, record_total, right_total}
-use Rattle.vault_core.specs.Changes.{Fit, plus, with_merchant, merchant_with, merchant_with_count, with_entry, with_record}
+use Rattle.vault_core.specs.Changes.{Fit, plus, with_merchant, merchant_with, merchant_with_count}
+use Rattle.vault_core.specs.Changes.{with_entry, with_record}
 use Rattle.vault_core.specs.Changes.{with_right, made_raised}
 use Rattle.vault_core.specs.Keys.{Bytes, bytes_cmp, entry_cmp, record_cmp, right_cmp}
 use Rattle.vault_core.specs.Sound.{Sound}

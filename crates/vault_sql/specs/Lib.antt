@@ -1,4 +1,5 @@
 pub mod Calls
+pub mod Cards
 pub mod Holds
 pub mod Left
 pub mod Making

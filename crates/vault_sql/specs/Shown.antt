@@ -5,20 +5,21 @@ use Rattle.sqlite.specs.declared.types.Value.TheVariants.{Int, Text}
 use Rattle.sqlite_rules.specs.Lists.{Has}
 use Rattle.vault_core.specs.Keys.{Bytes}
 use Rattle.vault_core.specs.Vault.{Vault}
-use Rattle.vault_core.specs.declared.row.Entry.{Entry}
 use Rattle.vault_core.specs.declared.row.Record.{Record}
 use Rattle.vault_schema.specs.declared.v1.Lives.{Lives}
 use Rattle.vault_core.specs.Numbers.{use_number}
-use Rattle.vault_schema.specs.Version1.Rows.{text_or_null, number_or_null}
+use Rattle.vault_schema.specs.Version1.Rows.{number_or_null}
+use Rattle.vault_schema.specs.Version2.Rows.{id_or_null}
+use Rattle.vault_schema.specs.declared.v2.Pointing.{Pointing}
 use Rattle.vault_sql.specs.Stands.{count_at, unless_zero}
 
 -- a row of one text
 abbrev pub text_column : Bytes → Row
 text_column text = Text text ∷ []
 
--- a row has the columns of an entry
-pub record ShowsEntry (row : Row) (e : Entry) : Type 0 where
-  pub number : column row 0 ≡ text_or_null e.number
+-- a row has the columns of an entry that points at a card
+pub record ShowsPointing (row : Row) (e : Pointing) : Type 0 where
+  pub card : column row 0 ≡ id_or_null e.card
   pub usage : column row 1 ≡ Int (pos (use_number e.usage))
   pub birth : column row 2 ≡ Int (pos e.birth)
   pub expires : column row 3 ≡ Int (pos e.expires)

@@ -14,10 +14,7 @@ ghost use Rattle.vault_sql.specs.Stands.{lookups_of};
 use sql_maps::run::step;
 use sqlite::{Alter, Connection, Error, Transaction};
 use sqlite_schema::schema::Schema;
-use vault_schema::v1::{
-    CREATE_COUNTS, CREATE_ENTRIES, CREATE_ENTRIES_NUMBER, CREATE_MERCHANTS, CREATE_RECORDS,
-    CREATE_RIGHTS, CREATE_VAULT, PUT_VERSION,
-};
+use vault_schema::{v1, v2};
 
 /// Why no schema was made.
 #[derive(Clone, Copy, Debug, PartialEq, Eq)]
@@ -43,14 +40,17 @@ fn create_tables<S: Alter>(tx: &mut Transaction<'_, S>) -> Result<(), Error>
         → OnOk result ((base : _) → IsBegun (state S.Store tx.old.conn.now) base
         → IsWithin (state S.Store tx.new.conn.now) base (lookups_of empty_vault)) }
 {
-    step(tx, CREATE_VAULT, &[])?;
-    step(tx, CREATE_MERCHANTS, &[])?;
-    step(tx, CREATE_COUNTS, &[])?;
-    step(tx, CREATE_ENTRIES, &[])?;
-    step(tx, CREATE_ENTRIES_NUMBER, &[])?;
-    step(tx, CREATE_RECORDS, &[])?;
-    step(tx, CREATE_RIGHTS, &[])?;
-    step(tx, PUT_VERSION, &[])
+    step(tx, v1::CREATE_VAULT, &[])?;
+    step(tx, v1::CREATE_MERCHANTS, &[])?;
+    step(tx, v1::CREATE_COUNTS, &[])?;
+    step(tx, v1::CREATE_ENTRIES, &[])?;
+    step(tx, v1::CREATE_ENTRIES_NUMBER, &[])?;
+    step(tx, v1::CREATE_RECORDS, &[])?;
+    step(tx, v1::CREATE_RIGHTS, &[])?;
+    step(tx, v2::CREATE_CARDS, &[])?;
+    step(tx, v2::CREATE_ENTRIES, &[])?;
+    step(tx, v2::CREATE_ENTRIES_CARD, &[])?;
+    step(tx, v2::PUT_VERSION, &[])
 }
 
 /// Makes all tables of the empty vault in one transaction.

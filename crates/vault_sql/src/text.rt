@@ -16,7 +16,7 @@ fn as_text(name: &[u8]) -> &str
 }
 
 /// A merchant's name as a text.
-pub(crate) fn merchant_text(m: &MerchantId) -> &str
+pub fn merchant_text(m: &MerchantId) -> &str
     ensures { result.now ≡ m.now }
 {
     as_text(m.bytes())

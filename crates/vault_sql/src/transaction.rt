@@ -15,8 +15,9 @@ ghost use Rattle.vault_sql.specs.Written.{HasRoom, put_entry as put_entry_lem};
 ghost use Rattle.vault_sql.specs.Written.{put_lives, put_record as put_record_lem, put_right};
 ghost use Rattle.vault_sql.specs.Written.{raise as raise_lem};
 
-use crate::entries::put_entry;
+use crate::fault::StoreFault;
 use crate::merchants::{put_merchant, raise};
+use crate::pointing::put_entry;
 use crate::records::put_record;
 use crate::rights::{give, take};
 use crate::text::{caller_text, merchant_text};
@@ -106,7 +107,7 @@ fn write_count<S: Alter>(
 fn write_entry<S: Alter>(
     tx: &mut Transaction<'_, S>,
     change: &Option<(MerchantId, Token, Entry)>,
-) -> Result<(), Error>
+) -> Result<(), StoreFault>
     requires { IsStorableEntry change.now }
     ensures same_reference { tx.new.conn.ghost_name ≡ tx.old.conn.ghost_name }
     ensures done { Makes result (state S.Store tx.old.conn.now) (state S.Store tx.new.conn.now)
@@ -173,7 +174,7 @@ fn write_right<S: Alter>(
 }
 
 /// Writes what changes of a merchant and its entries.
-fn write_merchant<S: Alter>(tx: &mut Transaction<'_, S>, ch: &Changes) -> Result<(), Error>
+fn write_merchant<S: Alter>(tx: &mut Transaction<'_, S>, ch: &Changes) -> Result<(), StoreFault>
     requires { AreStorable ch.now }
     ensures same_reference { tx.new.conn.ghost_name ≡ tx.old.conn.ghost_name }
     ensures done { Makes result (state S.Store tx.old.conn.now) (state S.Store tx.new.conn.now)
@@ -200,7 +201,7 @@ fn write_caller<S: Alter>(tx: &mut Transaction<'_, S>, ch: &Changes) -> Result<(
 }
 
 /// Makes the changes in one transaction, all of them or none.
-pub(crate) fn write<S: Alter>(conn: &mut Connection<S>, ch: &Changes) -> Result<(), Error>
+pub(crate) fn write<S: Alter>(conn: &mut Connection<S>, ch: &Changes) -> Result<(), StoreFault>
     requires storable { AreStorable ch.now }
     requires idle { conn.old.in_transaction ≡ false }
     ensures idle { conn.new.in_transaction ≡ false }
@@ -214,5 +215,5 @@ pub(crate) fn write<S: Alter>(conn: &mut Connection<S>, ch: &Changes) -> Result<
     let mut tx = conn.transaction();
     write_merchant(&mut tx, ch)?;
     write_caller(&mut tx, ch)?;
-    tx.commit()
+    tx.commit().map_err(|_| StoreFault)
 }

@@ -4,6 +4,7 @@ ghost use Rattle.std.specs.Prelude.{◌≡◌, false, None};
 use super::script::{text, wrong};
 use sqlite::{Alter, Connection, Error};
 use std::alloc::Global;
+use vault_migrate::migrate::migrate;
 use vault_recover::check::check;
 use vault_recover::fault::OpenFault;
 use vault_recover::open::open;
@@ -18,6 +19,10 @@ pub enum Step<'a> {
     /// Lines are asked of the vault that is opened: `answered`, how it is refused, or the first line that is
     /// answered otherwise.
     Ask(&'a str),
+    /// The files move to the newest schema: `schema` and its version, or how they are refused.
+    Migrate,
+    /// The number that a query shows, or `none`.
+    Number(&'a str),
     /// The rows of a sound vault are counted: its entries, its records and the tokens made.
     Count,
 }
@@ -58,10 +63,36 @@ fn number<S: Alter>(conn: &mut Connection<S>, sql: &str) -> Result<i64, Error> {
     conn.query_row(sql, &[])?.get(0)
 }
 
+/// What a migration says: the version of the newest schema, or how it refuses.
+fn migrated<S: Alter>(alloc: Global, conn: &mut Connection<S>) -> String
+    requires idle { conn.old.in_transaction ≡ false }
+    requires unlimited { conn.old.step_limit ≡ None }
+    ensures idle { conn.new.in_transaction ≡ false }
+{
+    match migrate(alloc, conn) {
+        Ok(version) => {
+            let told = format!(in alloc; "schema {version}");
+            told.unwrap_or(String::new(alloc))
+        }
+        Err(fault) => refusal(alloc, fault),
+    }
+}
+
+/// The number that a query shows, in words.
+fn shown<S: Alter>(alloc: Global, conn: &mut Connection<S>, sql: &str) -> String {
+    match number(conn, sql) {
+        Ok(number) => {
+            let told = format!(in alloc; "{number}");
+            told.unwrap_or(String::new(alloc))
+        }
+        Err(_) => text(alloc, "none"),
+    }
+}
+
 /// How many entries, records and tokens made a database holds.
 fn numbers<S: Alter>(conn: &mut Connection<S>) -> Result<(i64, i64, i64), Error> {
     Ok((
-        number(conn, "SELECT count(*) FROM entries")?,
+        number(conn, "SELECT count(*) FROM entries2")?,
         number(conn, "SELECT count(*) FROM records")?,
         number(
             conn,
@@ -116,6 +147,8 @@ pub fn done_over<S: Alter + Drop>(
     let told = match step {
         Step::Change(sql) => changed(alloc, &mut conn, sql),
         Step::Check => checked(alloc, &mut conn),
+        Step::Migrate => migrated(alloc, &mut conn),
+        Step::Number(sql) => shown(alloc, &mut conn, sql),
         Step::Count => counted(alloc, &mut conn),
         Step::Ask(lines) => return asked(alloc, conn, lines),
     };

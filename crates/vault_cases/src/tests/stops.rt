@@ -33,40 +33,70 @@ fn copy(alloc: Global, bytes: &[u8]) -> Memory {
     }
 }
 
-/// Sends the request over files of which one may stop. It tells how the request was answered, and what is
-/// counted after a crash.
-fn stopped<D: Crash + Drop>(alloc: Global, files: Files<D>) -> (String, String) {
-    let (told, mut files) = done(alloc, files, Step::Ask(REQUEST));
-    files.log.crash();
-    files.db.crash();
-    let (held, _files) = done(alloc, files, Step::Count);
-    (told, held)
+/// What is done over files that stop, and what a crash may leave of it.
+#[derive(Clone, Copy)]
+pub struct Trial<'a> {
+    /// The step, and what it tells once nothing stops it.
+    pub step: Step<'a>,
+    pub done: &'a str,
+    /// What is asked after the crash, and what it tells of a step that left nothing, and of one that is done.
+    pub seen: Step<'a>,
+    pub before: &'a str,
+    pub after: &'a str,
 }
 
-/// Stops the open and the request after no call to a file, after one, after two and so on, until the request
-/// is answered, and tells how many calls that took.
-fn calls_until_answered(rt: &impl Abort, alloc: Global, base: &Files<Memory>, is_log: bool) -> u64 {
+/// Does a step over files of which one may stop, and tells what it told, and what is seen after a crash.
+fn stopped<D: Crash + Drop>(alloc: Global, files: Files<D>, trial: &Trial<'_>) -> (String, String) {
+    let (told, mut files) = done(alloc, files, trial.step);
+    files.log.crash();
+    files.db.crash();
+    let (seen, _files) = done(alloc, files, trial.seen);
+    (told, seen)
+}
+
+/// Copies of files, of which one stops after so many calls.
+fn fused(alloc: Global, base: &Files<Memory>, calls: u64, is_log: bool) -> Files<Fuse<Memory>> {
+    let (log, db) = if is_log {
+        (calls, u64::MAX)
+    } else {
+        (u64::MAX, calls)
+    };
+    Files {
+        log: Fuse::new(copy(alloc, base.log.bytes()), log),
+        db: Fuse::new(copy(alloc, base.db.bytes()), db),
+    }
+}
+
+/// Stops the open and the step after no call to a file, after one, after two and so on, until the step is
+/// done, and tells how many calls that took.
+pub fn calls_until_done(
+    rt: &impl Abort,
+    alloc: Global,
+    base: &Files<Memory>,
+    is_log: bool,
+    trial: &Trial<'_>,
+) -> u64 {
     for calls in 0..MOST_CALLS {
-        let (log, db) = if is_log {
-            (calls, u64::MAX)
-        } else {
-            (u64::MAX, calls)
-        };
-        let files = Files {
-            log: Fuse::new(copy(alloc, base.log.bytes()), log),
-            db: Fuse::new(copy(alloc, base.db.bytes()), db),
-        };
-        let (told, held) = stopped(alloc, files);
-        if told.as_str() == "answered" {
-            assert_eq!(rt; held.as_str(), "1 1 1");
+        let (told, seen) = stopped(alloc, fused(alloc, base, calls, is_log), trial);
+        if told.as_str() == trial.done {
+            assert_eq!(rt; seen.as_str(), trial.after);
             return calls;
         }
         assert!(rt;
-            held.as_str() == "0 0 0" || held.as_str() == "1 1 1",
-            "{held} after {calls}"
+            seen.as_str() == trial.before || seen.as_str() == trial.after,
+            "{seen} after {calls}"
         );
     }
     MOST_CALLS
+}
+
+/// Stops a step over each of the two files in turn.
+pub fn stop_everywhere(rt: &impl Abort, alloc: Global, base: &Files<Memory>, trial: &Trial<'_>) {
+    for is_log in [true, false] {
+        let calls = calls_until_done(rt, alloc, base, is_log, trial);
+        assert!(rt; calls > 0, "no call was stopped");
+        assert!(rt; calls < MOST_CALLS, "the step was never done");
+    }
 }
 
 #[test]
@@ -75,10 +105,13 @@ fn a_request_that_is_stopped_is_there_whole_or_not_at_all(rt: HostRuntime) -> Re
     let shop = [Step::Ask("open till-1 shop1 60 0 1000 = done")];
     let (told, base) = all_done(alloc, no_files(alloc), &shop);
     assert_eq!(rt; told.as_str(), "answered; ");
-    for is_log in [true, false] {
-        let calls = calls_until_answered(&rt, alloc, &base, is_log);
-        assert!(rt; calls > 0, "no call was stopped");
-        assert!(rt; calls < MOST_CALLS, "the request was never answered");
-    }
+    let trial = Trial {
+        step: Step::Ask(REQUEST),
+        done: "answered",
+        seen: Step::Count,
+        before: "0 0 0",
+        after: "1 1 1",
+    };
+    stop_everywhere(&rt, alloc, &base, &trial);
     Ok(())
 }

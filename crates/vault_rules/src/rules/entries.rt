@@ -24,20 +24,21 @@ fn has_token(index: &Index, e: &RawEntry) -> bool
     index.is_known(e.merchant.as_str()) && is_token(e.token.as_str())
 }
 
-/// Rule 6: each number that an entry has is a card number, as long as the token and with its last
-/// four digits.
-pub fn have_numbers(entries: &[RawEntry]) -> bool
-    ensures { result ≡ list_all rules.has_number entries.now }
+/// Rule 6: the number of each entry's card row, where there is one, is a card number, as long as
+/// the token and with its last four digits.
+pub fn have_numbers(index: &Index) -> bool
+    ensures { result
+        ≡ list_all (rules.has_number index.now.rows.now.cards.items) index.now.rows.now.entries.items }
 {
-    entries.iter().all(|e| has_number(e))
+    index.rows.entries.iter().all(|e| has_number(index, e))
 }
 
 /// Whether an entry's number, where there is one, is a card number that its token fits.
-fn has_number(e: &RawEntry) -> bool
-    ensures { result ≡ rules.has_number e.now }
+fn has_number(index: &Index, e: &RawEntry) -> bool
+    ensures { result ≡ rules.has_number index.now.rows.now.cards.items e.now }
 {
-    match &e.number {
-        Some(number) => is_pan(number.as_str()) && fits(e.token.as_str(), number.as_str()),
+    match index.number(e) {
+        Some(number) => is_pan(number) && fits(e.token.as_str(), number),
         None => true,
     }
 }
@@ -112,7 +113,7 @@ fn is_kept_there(index: &Index, e: &RawEntry) -> bool
     ensures { result ≡ rules.at_moments index.now.rows.now.merchants.items rules.is_kept e.now }
 {
     match index.moment(e.merchant.as_str()) {
-        Some(moment) => e.number.is_some() || e.revoked.is_some() || e.expires <= moment,
+        Some(moment) => e.card.is_some() || e.revoked.is_some() || e.expires <= moment,
         None => true,
     }
 }

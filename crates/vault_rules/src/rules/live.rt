@@ -16,7 +16,8 @@ const MULTI: i64 = 2;
 pub fn are_alone(alloc: Global, index: &Index) -> Result<bool, AllocError>
     ensures { IfOk result (λ alone. alone
         ≡ rules.are_distinct
-        (filter_map (rules.live_key index.now.rows.now.merchants.items) index.now.rows.now.entries.items)) }
+        (filter_map (rules.live_key index.now.rows.now.merchants.items index.now.rows.now.cards.items)
+        index.now.rows.now.entries.items)) }
 {
     let mut keys = BTreeSet::new(alloc);
     let rows = index.rows;
@@ -33,22 +34,19 @@ pub fn are_alone(alloc: Global, index: &Index) -> Result<bool, AllocError>
 /// The merchant and the number of a multi-use entry that is live at its merchant's moment.
 fn live_key<'a>(index: &Index<'a>, e: &'a RawEntry) -> Option<(&'a str, &'a str)>
     ensures { option_map (λ key. (key.0.now, key.1.now)) result
-        ≡ rules.live_key index.now.rows.now.merchants.items e.now }
+        ≡ rules.live_key index.now.rows.now.merchants.items index.now.rows.now.cards.items e.now }
 {
     let moment = index.moment(e.merchant.as_str())?;
-    let number = live_number(moment, e)?;
+    let number = live_number(index, moment, e)?;
     Some((e.merchant.as_str(), number))
 }
 
 /// The number of a multi-use entry that is live at a moment.
-fn live_number(moment: i64, e: &RawEntry) -> Option<&str>
-    ensures { option_copied result ≡ rules.live_number moment e.now }
+fn live_number<'a>(index: &Index<'a>, moment: i64, e: &RawEntry) -> Option<&'a str>
+    ensures { option_copied result ≡ rules.live_number index.now.rows.now.cards.items moment e.now }
 {
     if e.usage != MULTI || e.revoked.is_some() || e.expires <= moment {
         return None;
     }
-    match &e.number {
-        Some(number) => Some(number.as_str()),
-        None => None,
-    }
+    index.number(e)
 }

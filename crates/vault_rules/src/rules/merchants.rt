@@ -1,4 +1,4 @@
-//! The rules of the version and of merchants.
+//! The rules of the schema and of merchants.
 ghost use Rattle.std.specs.Prelude.{◌≡◌, string_bytes};
 ghost use Rattle.std.specs.List.{list_all};
 ghost use Rattle.vault_rules.specs.Rules as rules;
@@ -8,11 +8,11 @@ use crate::rows::{RawMerchant, RawVersion};
 use crate::rules::bounds::{LAST_MOMENT, LONGEST_LIFE, MOST_MERCHANTS, is_within};
 use crate::texts::is_name;
 
-/// Rule 1: `vault` has exactly one row, and its id is 1.
-pub fn has_one_version(versions: &[RawVersion]) -> bool
-    ensures { result ≡ rules.has_one_version versions.now }
+/// Rule 1: `vault` has exactly one row, its id is 1; tables that a later schema replaced are empty.
+pub fn is_current(versions: &[RawVersion], replaced: u64) -> bool
+    ensures { result ≡ rules.is_current versions.now replaced }
 {
-    versions.len() == 1 && versions[0].id == 1
+    versions.len() == 1 && versions[0].id == 1 && replaced == 0
 }
 
 /// Rule 2: each merchant's name is a name, and there are at most 10000.

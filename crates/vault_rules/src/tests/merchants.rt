@@ -1,5 +1,5 @@
 //! The rules of merchants and of their counts.
-use super::{OTHER_TOKEN, count, empty, entry, merchant, sound};
+use super::{NUMBER, OTHER_TOKEN, card, count, empty, entry, merchant, sound};
 use crate::least::least_broken;
 use std::test::Fail;
 
@@ -102,6 +102,8 @@ fn a_merchants_count_is_the_number_of_its_entries(rt: HostRuntime) -> Result<(),
     }
     assert_eq!(rt; least_broken(alloc, &rows)?, Some(10));
     rows.entries.push(entry(alloc, "shop1", OTHER_TOKEN)?)?;
+    rows.cards.clear();
+    rows.cards.push(card(alloc, 1, "shop1", NUMBER, 2)?)?;
     assert_eq!(rt; least_broken(alloc, &rows)?, None);
     rows.counts.clear();
     assert_eq!(rt; least_broken(alloc, &rows)?, Some(10));

@@ -23,7 +23,7 @@ use Rattle.vault_schema.specs.Version1.Tables.{v1, merchants, counts, entries, r
 
 -- ---- a value and back
 
-abbrev number_in : Value → ℕ
+abbrev pub number_in : Value → ℕ
 number_in (Int (pos n)) = n
 number_in _ = 0
 
@@ -35,22 +35,22 @@ abbrev maybe_text : Value → Option Bytes
 maybe_text (Text t) = Some t
 maybe_text _ = None
 
-abbrev maybe_number : Value → Option ℕ
+abbrev pub maybe_number : Value → Option ℕ
 maybe_number (Int (pos n)) = Some n
 maybe_number _ = None
 
-abbrev use_in : Value → Use
+abbrev pub use_in : Value → Use
 use_in v = cond (number_in v == 1) Single Multi
 
 text_back : (o : Option Bytes) → maybe_text (text_or_null o) ≡ o
 text_back None = refl
 text_back (Some t) = refl
 
-number_back : (o : Option ℕ) → maybe_number (number_or_null o) ≡ o
+pub number_back : (o : Option ℕ) → maybe_number (number_or_null o) ≡ o
 number_back None = refl
 number_back (Some n) = refl
 
-use_back : (u : Use) → use_in (Int (pos (use_number u))) ≡ u
+pub use_back : (u : Use) → use_in (Int (pos (use_number u))) ≡ u
 use_back Single = refl
 use_back Multi = refl
 
@@ -58,7 +58,7 @@ text_fits : (o : Option Bytes) → fits Words (text_or_null o) ≡ true
 text_fits None = refl
 text_fits (Some t) = refl
 
-number_fits : (o : Option ℕ) → fits Integer (number_or_null o) ≡ true
+pub number_fits : (o : Option ℕ) → fits Integer (number_or_null o) ≡ true
 number_fits None = refl
 number_fits (Some n) = refl
 

@@ -1,46 +1,25 @@
 -- What the texts of schema 1 mean, in each schema that begins with it.
-use Rattle.std.proofs.Common.{ℕ, pos, List, [], ◌∷◌, refl}
+use Rattle.std.proofs.Common.{pos, List, [], ◌∷◌, refl}
 use Rattle.sqlite_tied.specs.Compute.{everything}
-use Rattle.sqlite.specs.Collation.TheVariants.{Binary}
-use Rattle.sqlite.specs.Command.TheVariants.{Insert}
 use Rattle.sqlite.specs.Listing.{understood}
-use Rattle.sqlite.specs.Source.TheVariants.{Values}
 use Rattle.sqlite.specs.Table.{Table}
-use Rattle.sqlite.specs.Term.{Term, lit, col, op1, op2}
+use Rattle.sqlite.specs.Term.{Term, lit, col, op2}
 use Rattle.sqlite.specs.declared.types.Value.TheVariants.{Null, Int}
 use Rattle.sqlite_schema.specs.declared.schema.Index.{Index}
 use Rattle.sqlite_sql.specs.declared.ops.ArithOp.TheVariants.{Add}
-use Rattle.sqlite_sql.specs.declared.ops.BinaryOp.TheVariants.{Arith, Compare, Is, Or}
-use Rattle.sqlite_sql.specs.declared.ops.CompareOp.TheVariants.{Gt, Le}
-use Rattle.sqlite_sql.specs.declared.ops.UnaryOp.TheVariants.{Not}
+use Rattle.sqlite_sql.specs.declared.ops.BinaryOp.TheVariants.{Arith}
 use Rattle.sql_maps.specs.Schema.{grown}
-use Rattle.sql_maps.specs.Texts.{IsQuery, IsWrite, query_of, sorted_of, ordered_by, counting_of, by_key, eq}
-use Rattle.sql_maps.specs.Texts.{upsert, insert_or_nothing, delete, first_of}
+use Rattle.sql_maps.specs.Texts.{IsQuery, IsWrite, query_of, sorted_of, ordered_by, counting_of, by_key}
+use Rattle.sql_maps.specs.Texts.{upsert, insert_or_nothing, delete}
 use Rattle.sql_maps.proofs.Full.{all_columns}
 use Rattle.vault_schema.specs.Versioned.{versioned}
 use Rattle.vault_schema.specs.Version1.Tables.{v1}
 use Rattle.vault_schema.specs.declared.v1.TheConstants.{READ_VERSIONS, READ_MERCHANTS, READ_COUNTS}
-use Rattle.vault_schema.specs.declared.v1.TheConstants.{READ_ENTRIES, READ_RECORDS, READ_RIGHTS, PUT_VERSION}
-use Rattle.vault_schema.specs.declared.v1.TheConstants.{FIND_LIVES, FIND_COUNTS, COUNT_MERCHANTS, FIND_ENTRY}
-use Rattle.vault_schema.specs.declared.v1.TheConstants.{FIND_CURRENT, FIND_DEAD, FIND_RECORD, FIND_RIGHT, PUT_MERCHANT}
-use Rattle.vault_schema.specs.declared.v1.TheConstants.{RAISE_COUNT, PUT_ENTRY, PUT_RECORD, GIVE_RIGHT}
+use Rattle.vault_schema.specs.declared.v1.TheConstants.{READ_ENTRIES, READ_ENTRY_IDS, READ_RECORDS}
+use Rattle.vault_schema.specs.declared.v1.TheConstants.{READ_RIGHTS, FIND_LIVES, FIND_COUNTS, COUNT_MERCHANTS}
+use Rattle.vault_schema.specs.declared.v1.TheConstants.{FIND_RECORD, FIND_RIGHT, PUT_MERCHANT}
+use Rattle.vault_schema.specs.declared.v1.TheConstants.{RAISE_COUNT, PUT_RECORD, GIVE_RIGHT}
 use Rattle.vault_schema.specs.declared.v1.TheConstants.{TAKE_RIGHT}
-
--- the tests of a live multi-use token
-abbrev pub current_tests : List Term
-current_tests =
-    eq (col 1 1) (col 0 0) ∷ eq (col 1 3) (col 0 1) ∷ eq (col 1 4) (lit (Int (pos 2)))
-    ∷ op2 (Is Binary) (col 1 7) (lit Null) ∷ op2 (Compare Gt Binary) (col 1 6) (col 0 2) ∷ []
-
--- a column that isn't NULL
-abbrev present : ℕ → Term
-present place = op1 Not (op2 (Is Binary) (col 1 place) (lit Null))
-
--- the tests of a token that is dead
-abbrev pub dead_tests : List Term
-dead_tests =
-    eq (col 1 1) (col 0 0) ∷ present 3
-    ∷ op2 Or (present 7) (op2 (Compare Le Binary) (col 1 6) (col 0 1)) ∷ []
 
 -- the columns of a merchant after an update
 abbrev pub merchant_set : List Term
@@ -49,10 +28,6 @@ merchant_set = col 1 1 ∷ col 0 1 ∷ col 0 2 ∷ col 0 3 ∷ []
 -- those of a count
 abbrev pub count_set : List Term
 count_set = col 1 1 ∷ col 1 2 ∷ op2 (Arith Add) (col 1 3) (lit (Int (pos 1))) ∷ []
-
--- those of an entry
-abbrev pub entry_set : List Term
-entry_set = col 1 1 ∷ col 1 2 ∷ col 0 2 ∷ col 0 3 ∷ col 0 4 ∷ col 0 5 ∷ col 0 6 ∷ []
 
 -- those of a record
 abbrev pub record_set : List Term
@@ -73,19 +48,6 @@ module _ (ts : List Table) (is : List Index) where
   pub how_many_is : IsQuery (grown v1 ts is) COUNT_MERCHANTS.now (counting_of 1)
   unfolding understood everything
   how_many_is = record { names = _; is = refl; plain = (refl, refl); unlisted = refl }
-
-  pub entry_is : IsQuery (grown v1 ts is) FIND_ENTRY.now
-      (query_of 5 (by_key 2) (col 1 3 ∷ col 1 4 ∷ col 1 5 ∷ col 1 6 ∷ col 1 7 ∷ []))
-  unfolding understood everything
-  entry_is = record { names = _; is = refl; plain = (refl, refl); unlisted = refl }
-
-  pub current_is : IsQuery (grown v1 ts is) FIND_CURRENT.now (query_of 5 current_tests (col 1 2 ∷ []))
-  unfolding understood everything
-  current_is = record { names = _; is = refl; plain = (refl, refl); unlisted = refl }
-
-  pub dead_is : IsQuery (grown v1 ts is) FIND_DEAD.now (first_of 5 dead_tests 2 2)
-  unfolding understood everything
-  dead_is = record { names = _; is = refl; plain = (refl, refl); unlisted = refl }
 
   pub record_is : IsQuery (grown v1 ts is) FIND_RECORD.now
       (query_of 8 (by_key 2) (col 1 3 ∷ col 1 4 ∷ col 1 5 ∷ []))
@@ -113,6 +75,11 @@ module _ (ts : List Table) (is : List Index) where
   unfolding understood everything
   read_entries_is = record { names = _; is = refl; plain = (refl, refl); unlisted = refl }
 
+  pub read_entry_ids_is : IsQuery (grown v1 ts is) READ_ENTRY_IDS.now
+      (sorted_of 5 [] (col 1 0 ∷ []) [] (ordered_by (0 ∷ [])))
+  unfolding understood everything
+  read_entry_ids_is = record { names = _; is = refl; plain = (refl, refl); unlisted = refl }
+
   pub read_records_is : IsQuery (grown v1 ts is) READ_RECORDS.now
       (sorted_of 8 [] (all_columns 5) [] (ordered_by (0 ∷ [])))
   unfolding understood everything
@@ -125,11 +92,6 @@ module _ (ts : List Table) (is : List Index) where
 
   -- ---- writes
 
-  pub put_version_is : IsWrite (grown v1 ts is) PUT_VERSION.now
-      (Insert 0 (Values (lit (Int (pos 1)) ∷ lit Null ∷ lit (Int (pos 1)) ∷ []) 3))
-  unfolding understood everything
-  put_version_is = record { is = refl; plain = (refl, refl) }
-
   pub put_merchant_is : IsWrite (grown v1 ts is) PUT_MERCHANT.now
       (upsert 1 1 1 5 (lit Null ∷ col 0 0 ∷ col 0 1 ∷ col 0 2 ∷ col 0 3 ∷ []) 4 merchant_set)
   unfolding understood everything
@@ -139,12 +101,6 @@ module _ (ts : List Table) (is : List Index) where
       (upsert 2 3 2 4 (lit Null ∷ col 0 0 ∷ col 0 1 ∷ lit (Int (pos 1)) ∷ []) 2 count_set)
   unfolding understood everything
   raise_is = record { is = refl; plain = (refl, refl) }
-
-  pub put_entry_is : IsWrite (grown v1 ts is) PUT_ENTRY.now
-      (upsert 3 5 2 8 (lit Null ∷ col 0 0 ∷ col 0 1 ∷ col 0 2 ∷ col 0 3 ∷ col 0 4 ∷ col 0 5 ∷ col 0 6 ∷ []) 7
-      entry_set)
-  unfolding understood everything
-  put_entry_is = record { is = refl; plain = (refl, refl) }
 
   pub put_record_is : IsWrite (grown v1 ts is) PUT_RECORD.now
       (upsert 4 8 2 6 (lit Null ∷ col 0 0 ∷ col 0 1 ∷ col 0 2 ∷ col 0 3 ∷ col 0 4 ∷ []) 5 record_set)

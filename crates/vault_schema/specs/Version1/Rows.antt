@@ -9,8 +9,6 @@ use Rattle.vault_core.specs.Numbers.{right_number, use_number}
 use Rattle.vault_core.specs.declared.right.Right.{Right}
 use Rattle.vault_core.specs.declared.row.Entry.{Entry}
 use Rattle.vault_core.specs.declared.row.Record.{Record}
-use Rattle.vault_core.specs.declared.usage.Use.{Use}
-use Rattle.vault_core.specs.declared.usage.Use.TheVariants.{Single, Multi}
 use Rattle.vault_schema.specs.declared.v1.Lives.{Lives}
 
 -- a text, or NULL

@@ -9,7 +9,7 @@ use sqlite_schema::schema::Kind::{Integer, Text};
 use sqlite_schema::schema::Schema;
 
 /// The version, in the row with the id 1; the id stands in the rowid.
-const VAULT: TableShape<'static> = TableShape {
+pub(crate) const VAULT: TableShape<'static> = TableShape {
     name: "vault",
     tree: 0,
     columns: &[Optional("id", Integer), Present("version", Integer)],
@@ -19,7 +19,7 @@ const VAULT: TableShape<'static> = TableShape {
 };
 
 /// Merchants by name.
-const MERCHANTS: TableShape<'static> = TableShape {
+pub(crate) const MERCHANTS: TableShape<'static> = TableShape {
     name: "merchants",
     tree: 1,
     columns: &[
@@ -34,7 +34,7 @@ const MERCHANTS: TableShape<'static> = TableShape {
 };
 
 /// Counts by merchant and kind.
-const COUNTS: TableShape<'static> = TableShape {
+pub(crate) const COUNTS: TableShape<'static> = TableShape {
     name: "counts",
     tree: 3,
     columns: &[
@@ -48,7 +48,7 @@ const COUNTS: TableShape<'static> = TableShape {
 };
 
 /// Entries by merchant and token.
-const ENTRIES: TableShape<'static> = TableShape {
+pub(crate) const ENTRIES: TableShape<'static> = TableShape {
     name: "entries",
     tree: 5,
     columns: &[
@@ -66,7 +66,7 @@ const ENTRIES: TableShape<'static> = TableShape {
 };
 
 /// Records by caller and request.
-const RECORDS: TableShape<'static> = TableShape {
+pub(crate) const RECORDS: TableShape<'static> = TableShape {
     name: "records",
     tree: 8,
     columns: &[
@@ -82,7 +82,7 @@ const RECORDS: TableShape<'static> = TableShape {
 };
 
 /// Rights, each its key alone.
-const RIGHTS: TableShape<'static> = TableShape {
+pub(crate) const RIGHTS: TableShape<'static> = TableShape {
     name: "rights",
     tree: 10,
     columns: &[
@@ -95,52 +95,70 @@ const RIGHTS: TableShape<'static> = TableShape {
     uniques: &[&[1, 2, 3]],
 };
 
+/// The key of merchants.
+pub(crate) const MERCHANTS_KEY: IndexShape<'static> = IndexShape {
+    name: "sqlite_autoindex_merchants_1",
+    tree: 2,
+    table: 1,
+    columns: &[1],
+    is_unique: true,
+};
+
+/// The key of counts.
+pub(crate) const COUNTS_KEY: IndexShape<'static> = IndexShape {
+    name: "sqlite_autoindex_counts_1",
+    tree: 4,
+    table: 3,
+    columns: &[1, 2],
+    is_unique: true,
+};
+
+/// The key of entries.
+pub(crate) const ENTRIES_KEY: IndexShape<'static> = IndexShape {
+    name: "sqlite_autoindex_entries_1",
+    tree: 6,
+    table: 5,
+    columns: &[1, 2],
+    is_unique: true,
+};
+
+/// Entries by number.
+pub(crate) const ENTRIES_NUMBER: IndexShape<'static> = IndexShape {
+    name: "entries_number",
+    tree: 7,
+    table: 5,
+    columns: &[1, 3],
+    is_unique: false,
+};
+
+/// The key of records.
+pub(crate) const RECORDS_KEY: IndexShape<'static> = IndexShape {
+    name: "sqlite_autoindex_records_1",
+    tree: 9,
+    table: 8,
+    columns: &[1, 2],
+    is_unique: true,
+};
+
+/// The key of rights.
+pub(crate) const RIGHTS_KEY: IndexShape<'static> = IndexShape {
+    name: "sqlite_autoindex_rights_1",
+    tree: 11,
+    table: 10,
+    columns: &[1, 2, 3],
+    is_unique: true,
+};
+
 /// All tables and indexes, with their trees.
 const SCHEMA: SchemaShape<'static> = SchemaShape {
     tables: &[VAULT, MERCHANTS, COUNTS, ENTRIES, RECORDS, RIGHTS],
     indexes: &[
-        IndexShape {
-            name: "sqlite_autoindex_merchants_1",
-            tree: 2,
-            table: 1,
-            columns: &[1],
-            is_unique: true,
-        },
-        IndexShape {
-            name: "sqlite_autoindex_counts_1",
-            tree: 4,
-            table: 3,
-            columns: &[1, 2],
-            is_unique: true,
-        },
-        IndexShape {
-            name: "sqlite_autoindex_entries_1",
-            tree: 6,
-            table: 5,
-            columns: &[1, 2],
-            is_unique: true,
-        },
-        IndexShape {
-            name: "entries_number",
-            tree: 7,
-            table: 5,
-            columns: &[1, 3],
-            is_unique: false,
-        },
-        IndexShape {
-            name: "sqlite_autoindex_records_1",
-            tree: 9,
-            table: 8,
-            columns: &[1, 2],
-            is_unique: true,
-        },
-        IndexShape {
-            name: "sqlite_autoindex_rights_1",
-            tree: 11,
-            table: 10,
-            columns: &[1, 2, 3],
-            is_unique: true,
-        },
+        MERCHANTS_KEY,
+        COUNTS_KEY,
+        ENTRIES_KEY,
+        ENTRIES_NUMBER,
+        RECORDS_KEY,
+        RIGHTS_KEY,
     ],
 };
 

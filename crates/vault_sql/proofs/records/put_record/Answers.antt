@@ -1,3 +1,4 @@
+use Rattle.std.proofs.Common.{refl}
 use Rattle.sql_maps.proofs.Calls.{small}
 use Rattle.vault_sql.proofs.Calls.{makes, small_use}
 use Rattle.vault_sql.proofs.Statements.{record_put}
@@ -5,7 +6,7 @@ use Rattle.vault_sql.proofs.records.put_record.Goals as goal
 
 pub returns-clause-done : goal.returns-clause-done
 returns-clause-done g c =
-    makes c.step.ensures.steps c.step.ensures.ran (λ h base can run.
+    makes c.step.ensures.steps c.step.ensures.ran (λ h. refl) (λ h cards pointing base can run.
     record_put (c.args.caller.now, c.args.request) c.args.answered.now
     (rw (small _ (small_use c.args.answered.now.usage), small _ c.requires) at
     (rw (c.as_str-token.ensures, c.number-usage.ensures) at

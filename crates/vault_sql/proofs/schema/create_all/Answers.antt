@@ -2,13 +2,13 @@ use Rattle.std.proofs.Common.{◌≡◌, sym, subst, arith, rules, inl, inr, OnO
 use Rattle.sqlite.specs.Held.{state}
 use Rattle.sqlite.specs.State.{HasCleanDisk}
 use Rattle.sql_maps.specs.Schema.{no_schema}
-use Rattle.sql_maps.proofs.Calls.{committed, on_ok}
+use Rattle.sql_maps.proofs.Calls.{on_ok}
 use Rattle.vault_core.specs.Vault.{empty_vault}
 use Rattle.vault_sql.specs.Calls.{IsWithin}
 use Rattle.vault_sql.specs.Holds.{Holds}
 use Rattle.vault_sql.specs.Making.{IsBegun, IsReady}
 use Rattle.vault_sql.specs.Stands.{lookups_of}
-use Rattle.vault_sql.proofs.Calls.{as_vault, ours}
+use Rattle.vault_sql.proofs.Calls.{held_after, ours}
 use Rattle.vault_sql.proofs.Making.{begun_blank}
 use Rattle.vault_sql.proofs.schema.create_all.Given.{Over}
 use Rattle.vault_sql.proofs.schema.create_all.Goals as goal
@@ -35,8 +35,7 @@ returns-clause-done g c clean =
     subst (λ h. OnOk c.commit.result
     (IsReady old → old.now.schema ≡ no_schema → Holds (state g.S.Store h) empty_vault)) same
     (on_ok c.commit.result (c.commit.ensures.ok late) (λ done is blank.
-    as_vault (state g.S.Store end) empty_vault
-    (committed (made g c late is blank) done.1 c.commit.ensures.survives.limit)))
+    held_after empty_vault (made g c late is blank) done.1 c.commit.ensures.survives.limit))
 
 pub returns-clause-crash : goal.returns-clause-crash
 returns-clause-crash g c clean is blank db left =

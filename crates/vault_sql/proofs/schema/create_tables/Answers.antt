@@ -1,6 +1,7 @@
 use Rattle.vault_schema.proofs.Version1.Making.{makes_vault, makes_merchants, makes_counts, makes_entries}
 use Rattle.vault_schema.proofs.Version1.Making.{makes_entries_number, makes_records, makes_rights}
-use Rattle.vault_sql.proofs.Making.{first_made, index_made, table_made, version_put}
+use Rattle.vault_schema.proofs.Version2.Making as second
+use Rattle.vault_sql.proofs.Making.{first_made, first_schema, index_made, table_made, version_put}
 use Rattle.vault_sql.proofs.schema.create_tables.Goals as goal
 
 pub returns-clause-done : goal.returns-clause-done
@@ -16,4 +17,13 @@ returns-clause-done g c =
     in
     let records = table_made c.in_ok-step-6.ensures.steps c.in_ok-step-6.ensures.ran 4 makes_records number in
     let rights = table_made c.in_ok-step-7.ensures.steps c.in_ok-step-7.ensures.ran 5 makes_rights records in
-    version_put c.step-8.result c.step-8.ensures.steps c.step-8.ensures.ran rights
+    let cards = table_made c.in_ok-step-8.ensures.steps c.in_ok-step-8.ensures.ran 6 second.makes_cards
+    (first_schema _ _ rights)
+    in
+    let pointing = table_made c.in_ok-step-9.ensures.steps c.in_ok-step-9.ensures.ran 7 second.makes_entries
+    cards
+    in
+    let card = index_made c.in_ok-step-10.ensures.steps c.in_ok-step-10.ensures.ran 8
+    second.makes_entries_card pointing
+    in
+    version_put c.step-11.result c.step-11.ensures.steps c.step-11.ensures.ran card

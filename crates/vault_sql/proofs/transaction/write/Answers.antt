@@ -1,30 +1,29 @@
 use Rattle.std.proofs.Common.{◌≡◌, subst, arith, rules, inl, inr, OnOk}
 use Rattle.sqlite.specs.Held.{state}
 use Rattle.sqlite.specs.State.{HasCleanDisk}
-use Rattle.sql_maps.proofs.Calls.{begun, committed, on_ok, steps_then}
+use Rattle.sql_maps.proofs.Calls.{on_ok, steps_then}
 use Rattle.vault_core.specs.Changes.{Fit, plus}
 use Rattle.vault_core.specs.Sound.{Sound}
 use Rattle.vault_core.specs.Vault.{Vault}
-use Rattle.vault_schema.specs.Version1.Claims.{Lookups, claims}
+use Rattle.vault_schema.specs.Version1.Claims.{Lookups}
 use Rattle.vault_sql.specs.Calls.{IsWithin}
 use Rattle.vault_sql.specs.Holds.{Holds, LeavesEither}
-use Rattle.vault_sql.specs.Schema.{vault_schema}
 use Rattle.vault_sql.specs.Stands.{lookups_of}
-use Rattle.vault_sql.proofs.Calls.{as_held, as_vault, ours}
+use Rattle.vault_sql.proofs.Calls.{as_ok, begun_over, held_after, ours}
 use Rattle.vault_sql.specs.Left.{last_commit}
 use Rattle.vault_sql.proofs.WrittenPlus.{has_room, written_plus}
 use Rattle.vault_sql.proofs.transaction.write.Given.{Over}
 use Rattle.vault_sql.proofs.transaction.write.Goals as goal
 
 -- before the commit all changes were written
-ready : (g : Over) (c : goal.After-conn-2-1 g) → HasCleanDisk (state g.S.Store c.commit.new.self.0)
+ready : (g : Over) (c : goal.After-map_err g) → HasCleanDisk (state g.S.Store c.commit.new.self.0)
     → (V : Vault) → Holds (state g.S.Store c.args.conn.now) V → Sound V → Fit V c.args.ch.now
     → IsWithin (state g.S.Store c.write_caller.new.tx.conn.now) (state g.S.Store c.args.conn.now).committed
     (lookups_of (plus V c.args.ch.now))
 ready g c late V h sound fit =
     let old = state g.S.Store c.args.conn.now in
     let first : IsWithin (state g.S.Store c.transaction-tx.result.conn.now) old.committed (lookups_of V) =
-    rw c.transaction-tx.ensures.begun (begun vault_schema (claims (lookups_of V)) old (as_held old V h)) in
+    rw c.transaction-tx.ensures.begun (begun_over old V h) in
     let third : HasCleanDisk (state g.S.Store c.write_caller.new.tx.conn.now) =
     omega (arith, c.commit.ensures.survives.clean) in
     let second : HasCleanDisk (state g.S.Store c.write_merchant.new.tx.conn.now) =
@@ -41,12 +40,12 @@ returns-clause-done g c clean =
     let same : end ≡ c.conn-2-1.given.0 = search rules in
     let late : HasCleanDisk (state g.S.Store end) = search rules in
     let old = state g.S.Store c.args.conn.now in
-    subst (λ h. OnOk c.commit.result
+    subst (λ h. OnOk c.map_err.result
     ((V : Vault) → Holds old V → Sound V → Fit V c.args.ch.now
     → Holds (state g.S.Store h) (plus V c.args.ch.now))) same
+    (as_ok _ c.commit.result c.map_err.result c.map_err.ensures.variant
     (on_ok c.commit.result (c.commit.ensures.ok late) (λ done V h sound fit.
-    as_vault (state g.S.Store end) (plus V c.args.ch.now)
-    (committed (ready g c late V h sound fit) done.1 c.commit.ensures.survives.limit)))
+    held_after (plus V c.args.ch.now) (ready g c late V h sound fit) done.1 c.commit.ensures.survives.limit)))
 
 pub returns-clause-crash : goal.returns-clause-crash
 returns-clause-crash g c clean V h sound fit =

@@ -12,7 +12,7 @@ use Rattle.vault_rules.proofs.rules.live.are_alone.Goals.{in-Some+in_ok-insert+e
 pub returns-then-not-branch : goal.returns-then-not-branch
 returns-then-not-branch c =
     let rows = c.args.index.now.rows.now in
-    let h = live_key rows.merchants.items in
+    let h = live_key rows.merchants.items rows.cards.items in
     let xs = rows.entries.items in
     let i = c.loop-entry.entry-index in
     let x = c.entry-item.result in
@@ -29,7 +29,7 @@ returns-then-not-branch c =
 pub loop-entry-preserved : goal.loop-entry-preserved
 loop-entry-preserved c =
     let rows = c.args.index.now.rows.now in
-    let h = live_key rows.merchants.items in
+    let h = live_key rows.merchants.items rows.cards.items in
     let xs = rows.entries.items in
     let i = c.loop-entry.entry-index in
     let x = c.entry-item.result in

@@ -9,7 +9,8 @@ use Rattle.vault_rules.proofs.rules.live.are_alone.Given as goal
 abbrev pub invariant-loop-entry : goal.invariant-loop-entry
 invariant-loop-entry l =
     let rows = l.index.rows.now in
-    let so_far = filter_map (live_key rows.merchants.items) (take l.entry-index rows.entries.items) in
+    let h = live_key rows.merchants.items rows.cards.items in
+    let so_far = filter_map h (take l.entry-index rows.entries.items) in
     record {
       held : (merchant number : Bytes)
           → has_pair l.keys merchant number ≡ list_any (alike (merchant, number)) so_far;

@@ -1,0 +1,6 @@
+pub mod Judged
+pub mod Laws
+pub mod Made
+pub mod Moved
+pub mod Older
+pub mod Reopened

@@ -1,0 +1,12 @@
+//! A vault's file moves from an older schema to the newest one.
+#![tactic(auto)]
+
+pub mod laws;
+mod made;
+pub mod migrate;
+mod read;
+pub mod reopen;
+mod rows;
+mod typed;
+pub mod upgrade;
+mod verdict;

@@ -1,0 +1,23 @@
+//! What a crash in the midst of a migration leaves of the files.
+ghost use Rattle.std.specs.Prelude.{◌≤◌};
+ghost use Rattle.sqlite.specs.Files.{file_state};
+ghost use Rattle.sqlite.specs.View.{IsClean, doubt};
+ghost use Rattle.sqlite_store.specs.FileStore.{view};
+ghost use Rattle.vault_core.specs.Vault.{Vault};
+ghost use Rattle.vault_migrate.specs.Older.{LeavesStep};
+ghost use Rattle.vault_migrate.specs.Reopened.{ReopensStep};
+
+use sqlite::{Connection, FileStore};
+use sqlite_disk::Disk;
+
+/// Ends a connection after a migration. A crash at the moment of the call, or after it, leaves files in which
+/// whoever opens them finds the vault that was there, in schema 1 or in the newest one.
+pub fn close_moved<D: Disk + Drop>(conn: Connection<FileStore<D>>) -> FileStore<D>
+    ensures clean { doubt (file_state conn).is_clean ≤ doubt (view result).is_clean }
+    ensures step { IsClean (view result)
+        → (V : Vault) → LeavesStep (file_state conn) V → ReopensStep conn.store V }
+    ensures step_after { IsClean (view result)
+        → (V : Vault) → LeavesStep (file_state conn) V → ReopensStep result V }
+{
+    conn.into_store()
+}

@@ -1,0 +1,164 @@
+//! Old entries as the vault has them.
+ghost use Rattle.std.specs.Prelude.{◌≡◌, ◌≢◌, ◌<◌, ◌^◌, ◌↔◌, ℕ, pos, drop, map, IfErr, IfOk, IsOk};
+ghost use Rattle.std.specs.List.{All};
+ghost use Rattle.std.specs.Prelude.{string_bytes};
+ghost use Rattle.vault_core.specs.Name.{IsName};
+ghost use Rattle.vault_core.specs.Numbers.{use_number};
+ghost use Rattle.vault_migrate.specs.Made.{old_columns, typed_columns};
+ghost use Rattle.vault_recover.specs.Raw.{int_value, maybe_text_value, old_entry_values};
+ghost use Rattle.vault_pan.specs.CardText.{IsToken};
+ghost use Rattle.vault_schema.specs.Version1.Rows.{entry_columns, number_or_null, text_or_null};
+
+use std::alloc::Global;
+use vault_core::moment::Moment;
+use vault_core::name::MerchantId;
+use vault_core::row::Entry;
+use vault_core::usage::Use;
+use vault_pan::pan::Pan;
+use vault_pan::token::Token;
+use vault_recover::fault::ReadFault;
+use vault_recover::replaced::OldEntry;
+
+/// The name of a merchant.
+fn merchant_of(text: &str) -> Result<MerchantId, ReadFault>
+    ensures value { IfOk result (λ m. m ≡ text.now) }
+    ensures refused { IsOk result ↔ IsName text.now }
+{
+    match MerchantId::read(text.as_bytes()) {
+        Ok(m) => Ok(m),
+        Err(_) => Err(ReadFault::Store),
+    }
+}
+
+/// A token.
+fn token_of(text: &str) -> Result<Token, ReadFault>
+    ensures value { IfOk result (λ token. token ≡ text.now) }
+    ensures refused { IsOk result ↔ IsToken text.now }
+{
+    match Token::read(text.as_bytes()) {
+        Ok(token) => Ok(token),
+        Err(_) => Err(ReadFault::Store),
+    }
+}
+
+/// A card number.
+fn number_of(text: &str) -> Result<Pan, ReadFault>
+    ensures { IfOk result (λ number. number ≡ text.now) }
+{
+    match Pan::read(text.as_bytes()) {
+        Ok(pan) if pan.as_str() == text => Ok(pan),
+        _ => Err(ReadFault::Store),
+    }
+}
+
+/// A card number, or none.
+fn maybe_number_of(text: &Option<String>) -> Result<Option<Pan>, ReadFault>
+    ensures { IfOk result (λ number. maybe_text_value text.now ≡ text_or_null number) }
+{
+    match text {
+        Some(text) => Ok(Some(number_of(text.as_str())?)),
+        None => Ok(None),
+    }
+}
+
+/// A use, by its number.
+fn usage_of(number: i64) -> Result<Use, ReadFault>
+    ensures value { IfOk result (λ usage. number ≡ pos (use_number usage)) }
+    ensures refused { IfErr result (λ e. (number ≢ pos 1) × (number ≢ pos 2)) }
+{
+    match number {
+        1 => Ok(Use::Single),
+        2 => Ok(Use::Multi),
+        _ => Err(ReadFault::Store),
+    }
+}
+
+/// A number of seconds.
+fn seconds_of(number: i64) -> Result<u64, ReadFault>
+    ensures value { IfOk result (λ seconds. number ≡ pos seconds) }
+    ensures small { IfOk result (λ seconds. seconds < 2 ^ 63) }
+    ensures refused { IfErr result (λ e. (n : ℕ) → number ≢ pos n) }
+{
+    if number < 0 {
+        return Err(ReadFault::Store);
+    }
+    Ok(number as u64)
+}
+
+/// A moment.
+fn moment_of(number: i64) -> Result<Moment, ReadFault>
+    ensures value { IfOk result (λ moment. number ≡ pos moment) }
+    ensures refused { IfErr result (λ e. (n : ℕ) → number ≡ pos n → 253402300799 < n) }
+{
+    match Moment::new(seconds_of(number)?) {
+        Ok(moment) => Ok(moment),
+        Err(_) => Err(ReadFault::Store),
+    }
+}
+
+/// A moment, or none.
+fn maybe_moment_of(number: Option<i64>) -> Result<Option<Moment>, ReadFault>
+    ensures { IfOk result (λ moment. int_value number ≡ number_or_null moment) }
+{
+    match number {
+        Some(number) => Ok(Some(moment_of(number)?)),
+        None => Ok(None),
+    }
+}
+
+/// An old entry's columns behind its key, with these values of those that may be NULL.
+fn entry_of(
+    older: &OldEntry,
+    number: Option<Pan>,
+    revoked: Option<Moment>,
+) -> Result<Entry, ReadFault>
+    requires number { maybe_text_value older.now.number ≡ text_or_null number }
+    requires revoked { int_value older.now.revoked ≡ number_or_null revoked }
+    ensures columns { IfOk result (λ e. drop 3 (old_entry_values older.now) ≡ entry_columns e) }
+    ensures small { IfOk result (λ e. e.expires < 2 ^ 63) }
+{
+    let usage = usage_of(older.usage)?;
+    let birth = moment_of(older.birth)?;
+    let expires = seconds_of(older.expires)?;
+    Ok(Entry {
+        number,
+        usage,
+        birth,
+        expires,
+        revoked,
+    })
+}
+
+/// An old entry, with its merchant and its token, and these values.
+fn typed(
+    older: &OldEntry,
+    number: Option<Pan>,
+    revoked: Option<Moment>,
+) -> Result<(MerchantId, Token, Entry), ReadFault>
+    requires number { maybe_text_value older.now.number ≡ text_or_null number }
+    requires revoked { int_value older.now.revoked ≡ number_or_null revoked }
+    ensures row { IfOk result (λ x. old_columns older.now ≡ typed_columns x) }
+    ensures small { IfOk result (λ x. x.2.expires < 2 ^ 63) }
+{
+    let merchant = merchant_of(older.merchant.as_str())?;
+    let token = token_of(older.token.as_str())?;
+    let entry = entry_of(older, number, revoked)?;
+    Ok((merchant, token, entry))
+}
+
+/// Old entries, each with its merchant and its token; one that can't be read so is refused.
+pub(crate) fn typed_entries(
+    alloc: Global,
+    olders: &[OldEntry],
+) -> Result<Vec<(MerchantId, Token, Entry)>, ReadFault>
+    ensures rows { IfOk result (λ xs. map old_columns olders.now ≡ map typed_columns xs.items) }
+    ensures storable { IfOk result (λ xs. All (λ x. x.2.expires < 2 ^ 63) xs.items) }
+{
+    let mut entries = Vec::new(alloc);
+    for older in olders {
+        let number = maybe_number_of(&older.number)?;
+        let revoked = maybe_moment_of(older.revoked)?;
+        entries.push(typed(older, number, revoked)?)?;
+    }
+    Ok(entries)
+}

@@ -1,0 +1,42 @@
+-- What the texts that make schema 2 of schema 1 define, one after the other.
+use Rattle.std.proofs.Common.{◌≡◌, [], ◌∷◌, codes, refl}
+use Rattle.sqlite_tied.specs.Compute.{everything}
+use Rattle.sqlite.specs.Change.{created, indexed}
+use Rattle.sqlite.specs.Listing.{understood}
+use Rattle.sqlite.specs.Schema.{Schema}
+use Rattle.sqlite_schema.specs.declared.schema.Index.{Index}
+use Rattle.sql_maps.specs.Schema.{table_of, plain_index}
+use Rattle.sql_maps.specs.Texts.{MakesTable, MakesIndex}
+use Rattle.vault_schema.proofs.Version1.Making.{treeless}
+use Rattle.vault_schema.specs.Version1.Tables.{v1}
+use Rattle.vault_schema.specs.Version2.Tables.{v2, cards, entries}
+use Rattle.vault_schema.specs.declared.v2.TheConstants.{CREATE_CARDS, CREATE_ENTRIES, CREATE_ENTRIES_CARD}
+
+-- schema 1 with the table of cards
+abbrev pub with_cards : Schema
+with_cards = created v1 (treeless cards)
+
+-- with the table of entries, too
+abbrev pub with_entries : Schema
+with_entries = created with_cards (treeless entries)
+
+-- the index by card, before it has a tree
+abbrev pub card_index : Index
+card_index = plain_index 0 (codes "entries2_card") 14 (1 ∷ 3 ∷ [])
+
+pub makes_cards : MakesTable v1 CREATE_CARDS.now (treeless cards)
+unfolding understood everything
+makes_cards = record { is = refl; whole = refl; plain = (refl, refl); defines = refl; uncounted = refl }
+
+pub makes_entries : MakesTable with_cards CREATE_ENTRIES.now (treeless entries)
+unfolding understood everything
+makes_entries = record { is = refl; whole = refl; plain = (refl, refl); defines = refl; uncounted = refl }
+
+pub makes_entries_card : MakesIndex with_entries CREATE_ENTRIES_CARD.now 7 (table_of entries) card_index
+unfolding understood everything
+makes_entries_card = record { is = refl; whole = refl; plain = (refl, refl); here = refl; defines = refl }
+
+-- with all of them it is schema 2
+pub all_made : indexed with_entries (table_of entries) card_index ≡ v2
+unfolding everything
+all_made = refl
