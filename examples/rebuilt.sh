@@ -43,23 +43,23 @@ step "a table in another form" 'vault: file not opened 33 (3)' \
 # Names that are missing, and others beside them
 step "a table more" 'vault: file not opened 30 0 (3)' "$(changed 'CREATE TABLE notes (line TEXT)')"
 step "an index more" 'vault: file not opened 30 0 (3)' "$(changed 'CREATE INDEX by_token ON records (token)')"
-step "a view more" 'vault: file not opened 30 0 (3)' "$(changed 'CREATE VIEW tokens AS SELECT token FROM entries')"
+step "a view more" 'vault: file not opened 30 0 (3)' "$(changed 'CREATE VIEW tokens AS SELECT token FROM entries2')"
 step "a table is missing" 'vault: file not opened 30 0 (3)' "$(changed 'DROP TABLE rights')"
-step "an index is missing" 'vault: file not opened 30 0 (3)' "$(changed 'DROP INDEX entries_number')"
+step "an index is missing" 'vault: file not opened 30 0 (3)' "$(changed 'DROP INDEX entries2_card')"
 step "another program's file" 'vault: file not opened 33 (3)' \
     "$(sqlite3 other.db 'CREATE TABLE notes (line TEXT)' && told "$program" check other.db)"
 
 # Versions
-for version in 2 9 -1; do
+for version in 1 9 -1; do
     step "version $version" "vault: file not opened 30 $version (3)" \
         "$(changed "UPDATE vault SET version = $version")"
 done
 step "version 9, and a table is missing" 'vault: file not opened 30 9 (3)' \
     "$(changed 'UPDATE vault SET version = 9; DROP TABLE rights')"
-step "version 2, and a table more" 'vault: file not opened 30 2 (3)' \
-    "$(changed 'UPDATE vault SET version = 2; CREATE TABLE notes (line TEXT)')"
-step "version 2, vacuumed" 'vault: file not opened 30 2 (3)' \
-    "$(changed 'UPDATE vault SET version = 2; VACUUM')"
+step "version 3, and a table more" 'vault: file not opened 30 3 (3)' \
+    "$(changed 'UPDATE vault SET version = 3; CREATE TABLE notes (line TEXT)')"
+step "version 3, vacuumed" 'vault: file not opened 30 3 (3)' \
+    "$(changed 'UPDATE vault SET version = 3; VACUUM')"
 step "no version, and a table is missing" 'vault: file not opened 30 0 (3)' \
     "$(changed 'DELETE FROM vault; DROP TABLE rights')"
 step "no version" 'vault: file not opened 31 1 (3)' "$(changed 'DELETE FROM vault')"

@@ -19,6 +19,7 @@ mode() {
 
 # 0
 step "0: a file that isn't there is made" 'sound 0 0 0 (0)' "$(told "$program" check new.db)"
+step "0: it is in the newest schema" 'schema 2 (0)' "$(told "$program" migrate new.db)"
 step "0: help" 'Keeps card numbers*' "$(told "$program" help)"
 step "0: a merchant" 'done (0)' "$(told "$program" merchant shop.db shop1 86400 0)"
 step "0: a right" 'done (0)' "$(told "$program" grant shop.db till-1 shop1 tokenize)"
@@ -41,6 +42,7 @@ step "1: a merchant that isn't known" 'refused 7 (1)' "$(told "$program" grant s
 step "2: no word" 'vault: bad words (2)' "$(told "$program")"
 step "2: a word that is none" 'vault: bad words (2)' "$(told "$program" trail)"
 step "2: connections are missing" 'vault: bad words (2)' "$(told "$program" serve shop.db)"
+step "2: no file to move" 'vault: bad words (2)' "$(told "$program" migrate)"
 step "2: a port that is none" 'vault: bad words (2)' \
     "$(told "$program" serve --connections 1 --port 65536 shop.db)"
 
@@ -54,6 +56,7 @@ step "3: a path into nowhere" 'vault: file not opened 34 (3)' "$(told "$program"
 step "3: no name of a file" 'vault: file not opened 34 (3)' "$(told "$program" pipe :memory:)"
 start_service 100 shop.db
 step "3: a file that is in use" 'vault: file not opened 34 (3)' "$(told "$program" check shop.db)"
+step "3: nor does it move" 'vault: file not opened 34 (3)' "$(told "$program" migrate shop.db)"
 
 # 4
 step "4: a port that is taken" 'vault: stopped 80 (4)' \
@@ -61,6 +64,7 @@ step "4: a port that is taken" 'vault: stopped 80 (4)' \
 step "4: a rights file that isn't there" 'vault: stopped 80 (4)' \
     "$(told "$program" rights new.db none.toml)"
 step "4: a full disk behind the output" 'vault: stopped 62 (4)' "$(told_full "$program" check new.db)"
+step "4: so of a file that moves" 'vault: stopped 62 (4)' "$(told_full "$program" migrate new.db)"
 step "4: a closed output" 'vault: stopped 62 (4)' "$(
     code=0
     "$program" check new.db >&- 2> told.err || code=$?

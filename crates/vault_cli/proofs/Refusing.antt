@@ -3,7 +3,7 @@ use Rattle.std.proofs.Common.{◌≡◌, ◌⊎◌, inl, inr, ℕ, List, refl, a
 use Rattle.clap.specs.Words.{Text}
 use Rattle.vault_words.specs.declared.jobs.Job.{Job}
 use Rattle.vault_words.specs.declared.jobs.Job.TheVariants.{Trial, Merchant, Grant, Withdraw, Rights, Pipe}
-use Rattle.vault_words.specs.declared.jobs.Job.TheVariants.{Batch, Serve, Sweep, Check}
+use Rattle.vault_words.specs.declared.jobs.Job.TheVariants.{Batch, Serve, Sweep, Check, Migrate}
 use Rattle.vault_jobs.specs.Streams.{Streams}
 use Rattle.vault_cli.specs.Ending.{status_of}
 use Rattle.vault_cli.specs.Ran.{AsksFor, IsBatch, IsRefusedInPart, Ran}
@@ -23,6 +23,7 @@ batch_of (Batch j) s part = (j, refl)
 batch_of (Serve j) s never = absurd never
 batch_of (Sweep j) s never = absurd never
 batch_of (Check j) s never = absurd never
+batch_of (Migrate j) s never = absurd never
 
 -- where the program is refused it read nothing, or was asked for a batch
 pub unread_of : (words : List Text) (ending : Ending) (unread unsent : Type 0) (s : Streams) (status : ℕ)

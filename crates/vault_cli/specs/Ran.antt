@@ -17,7 +17,7 @@ use Rattle.vault_words.specs.declared.commands.batch.BatchJob.{BatchJob}
 use Rattle.vault_words.specs.declared.commands.rights.RightJob.{RightJob}
 use Rattle.vault_words.specs.declared.jobs.Job.{Job}
 use Rattle.vault_words.specs.declared.jobs.Job.TheVariants.{Trial, Merchant, Grant, Withdraw, Rights, Pipe}
-use Rattle.vault_words.specs.declared.jobs.Job.TheVariants.{Batch, Serve, Sweep, Check}
+use Rattle.vault_words.specs.declared.jobs.Job.TheVariants.{Batch, Serve, Sweep, Check, Migrate}
 use Rattle.vault_batch.specs.declared.counts.Counts.{Counts}
 use Rattle.vault_jobs.specs.Batched.{IsTabled}
 use Rattle.vault_jobs.specs.Causes.{IsCauseOf, number_of}
@@ -45,11 +45,16 @@ HasLives (Batch j) = Unit {0}
 HasLives (Serve j) = Unit {0}
 HasLives (Sweep j) = Unit {0}
 HasLives (Check j) = Unit {0}
+HasLives (Migrate j) = Unit {0}
 
 -- the line of a file that is sound
 abbrev pub sound_line : Sizes → List ℕ
 sound_line sizes = codes "sound " ++ decimal sizes.merchants ++ codes " " ++ decimal sizes.entries
     ++ codes " " ++ decimal sizes.records ++ codes "\n"
+
+-- the line of a file that is in the newest schema: the version of that is 2
+abbrev pub schema_line : List ℕ
+schema_line = codes "schema 2\n"
 
 -- what a job that is done read and wrote
 abbrev pub IsDone : Job → Type 0 → Streams → Type 0
@@ -66,6 +71,7 @@ IsDone (Batch j) unread s = (counts : Counts) × IsTabled s counts × (counts.re
 IsDone (Serve j) unread s = unread × ((port : ℕ) × Writes s (listening_line port))
 IsDone (Sweep j) unread s = unread × ((count : ℕ) × Writes s (purged_line count))
 IsDone (Check j) unread s = unread × ((sizes : Sizes) × Writes s (sound_line sizes))
+IsDone (Migrate j) unread s = unread × Writes s schema_line
 
 -- what a job that is stopped read and wrote
 abbrev pub IsBegun : Job → Stop → Type 0 → Streams → Type 0
@@ -82,6 +88,7 @@ IsBegun (Batch j) stop unread s = Unit {0}
 IsBegun (Serve j) stop unread s = unread
 IsBegun (Sweep j) stop unread s = unread
 IsBegun (Check j) stop unread s = unread
+IsBegun (Migrate j) stop unread s = unread
 
 -- both names of a right are names
 abbrev pub AreNames : RightJob → Type 0
@@ -108,6 +115,7 @@ IsRefused (Serve j) n = ⊥
 IsRefused (Sweep j) n =
     (n ≡ 4) × ¬ (IsName j.caller.now × IsName j.merchant.now) ⊎ IsName j.caller.now × IsName j.merchant.now
 IsRefused (Check j) n = ⊥
+IsRefused (Migrate j) n = ⊥
 
 -- the job works on a file, and its names are names
 abbrev pub IsOnFile : Job → Type 0
@@ -121,6 +129,7 @@ IsOnFile (Batch j) = IsName j.caller.now × IsName j.merchant.now
 IsOnFile (Serve j) = Unit {0}
 IsOnFile (Sweep j) = IsName j.caller.now × IsName j.merchant.now
 IsOnFile (Check j) = Unit {0}
+IsOnFile (Migrate j) = Unit {0}
 
 -- it is a batch, of which some rows are refused
 abbrev pub IsRefusedInPart : Job → Streams → Type 0
@@ -134,6 +143,7 @@ IsRefusedInPart (Batch j) s = (counts : Counts) × IsTabled s counts × (counts.
 IsRefusedInPart (Serve j) s = ⊥
 IsRefusedInPart (Sweep j) s = ⊥
 IsRefusedInPart (Check j) s = ⊥
+IsRefusedInPart (Migrate j) s = ⊥
 
 -- it is a batch
 abbrev pub IsBatch : Job → Type 0

@@ -3,6 +3,7 @@
 pub(crate) mod batch;
 pub(crate) mod check;
 pub(crate) mod merchant;
+pub(crate) mod migrate;
 pub(crate) mod pipe;
 pub(crate) mod rights;
 pub(crate) mod rights_file;

@@ -10,6 +10,7 @@ ghost use Rattle.vault_cli.specs.Ran.{AsksFor, Ends, EndsBy, HasLives, IsBatch, 
 use crate::commands::batch::batch;
 use crate::commands::check::check;
 use crate::commands::merchant::merchant;
+use crate::commands::migrate::migrate;
 use crate::commands::pipe::pipe;
 use crate::commands::rights::{grant, withdraw};
 use crate::commands::rights_file::rights;
@@ -49,6 +50,7 @@ fn do_job<R: Read, W: Write>(
         Job::Serve(job) => serve(rt, job, input, output),
         Job::Sweep(job) => sweep(rt, job, input, output),
         Job::Check(job) => check(rt, job, input, output),
+        Job::Migrate(job) => migrate(rt, job, input, output),
     }
 }
 

@@ -4,6 +4,7 @@
 pub mod check;
 pub mod fault;
 mod make;
+pub mod migrate;
 pub mod open;
 #[cfg(test)]
 mod tests;

@@ -1,11 +1,15 @@
 //! Files in folders of the tests' own.
 mod damaged;
 mod made;
+mod moved;
 mod refused;
 
 use crate::check::check_file;
 use crate::fault::NotOpened;
+use crate::migrate::migrate_file;
 use crate::open::{close_vault, open_vault};
+use sqlite::Connection;
+use std::os::unix::fs::PermissionsExt;
 use std::test::Fail;
 use std::{fs, io};
 use vault_recover::fault::OpenFault;
@@ -38,6 +42,27 @@ fn checked(rt: &HostRuntime, path: &str) -> Result<String, Fail> {
         }
         Err(fault) => Ok(fault.to_string(alloc)?),
     }
+}
+
+/// What moving a file to the newest schema says: its version, or why it isn't opened.
+fn migrated(rt: &HostRuntime, path: &str) -> Result<String, Fail> {
+    let alloc = rt.alloc();
+    match migrate_file(rt, path) {
+        Ok(version) => Ok(format!(in alloc; "schema {version}")?),
+        Err(fault) => Ok(fault.to_string(alloc)?),
+    }
+}
+
+/// Runs statements of SQL in the database at a path.
+fn run(rt: &HostRuntime, path: &str, sql: &str) -> Result<(), Fail> {
+    let mut conn = Connection::open(rt, path)?;
+    conn.execute_batch(sql)?;
+    Ok(())
+}
+
+/// Who may do what with a file.
+fn mode(rt: &HostRuntime, path: &str) -> io::Result<u32> {
+    Ok(fs::metadata(rt, path)?.permissions().mode() & 0o777)
 }
 
 #[test]

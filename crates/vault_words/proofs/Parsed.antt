@@ -19,7 +19,7 @@ use Rattle.vault_words.specs.declared.commands.pipe.PipeJob.{PipeJob}
 use Rattle.vault_words.specs.declared.commands.trial.TrialJob.{TrialJob}
 use Rattle.vault_words.specs.declared.jobs.Job.{Job}
 use Rattle.vault_words.specs.declared.jobs.Job.TheVariants.{Trial, Merchant, Grant, Withdraw}
-use Rattle.vault_words.specs.declared.jobs.Job.TheVariants.{Rights, Pipe, Batch, Serve, Sweep, Check}
+use Rattle.vault_words.specs.declared.jobs.Job.TheVariants.{Rights, Pipe, Batch, Serve, Sweep, Check, Migrate}
 use Rattle.vault_words.specs.declared.jobs.JobFault.{JobFault}
 use Rattle.vault_words.specs.declared.jobs.JobFault.TheVariants.{Help, BadWords, Memory}
 
@@ -73,6 +73,7 @@ no_trial name rows is never (Batch job) h = differ name (codes "trial") (codes "
 no_trial name rows is never (Serve job) h = differ name (codes "trial") (codes "serve") refl refl is h.0
 no_trial name rows is never (Sweep job) h = differ name (codes "trial") (codes "sweep") refl refl is h.0
 no_trial name rows is never (Check job) h = differ name (codes "trial") (codes "check") refl refl is h.0
+no_trial name rows is never (Migrate job) h = differ name (codes "trial") (codes "migrate") refl refl is h.0
 
 pub no_pipe : (name : Text) (rows : List Row) → name ≡ codes "pipe"
     → ((job : PipeJob) → ¬ (AsksPipe rows job)) → (job : Job) → ¬ (Asks name rows job)
@@ -88,6 +89,7 @@ no_pipe name rows is never (Batch job) h = differ name (codes "pipe") (codes "ba
 no_pipe name rows is never (Serve job) h = differ name (codes "pipe") (codes "serve") refl refl is h.0
 no_pipe name rows is never (Sweep job) h = differ name (codes "pipe") (codes "sweep") refl refl is h.0
 no_pipe name rows is never (Check job) h = differ name (codes "pipe") (codes "check") refl refl is h.0
+no_pipe name rows is never (Migrate job) h = differ name (codes "pipe") (codes "migrate") refl refl is h.0
 
 pub no_batch : (name : Text) (rows : List Row) → name ≡ codes "batch"
     → ((job : BatchJob) → ¬ (AsksBatch rows job)) → (job : Job) → ¬ (Asks name rows job)
@@ -105,6 +107,7 @@ no_batch name rows is never (Batch job) h = never job h.1
 no_batch name rows is never (Serve job) h = differ name (codes "batch") (codes "serve") refl refl is h.0
 no_batch name rows is never (Sweep job) h = differ name (codes "batch") (codes "sweep") refl refl is h.0
 no_batch name rows is never (Check job) h = differ name (codes "batch") (codes "check") refl refl is h.0
+no_batch name rows is never (Migrate job) h = differ name (codes "batch") (codes "migrate") refl refl is h.0
 
 -- the program's commands are plain enough for clap to say all of a parse
 is_plain : is_simple_and_free vault_app ≡ true

@@ -7,6 +7,7 @@ use Rattle.vault_words.specs.Values.{HasConnections, HasDigits, HasLife, HasNow,
 use Rattle.vault_words.specs.declared.commands.batch.BatchJob.{BatchJob}
 use Rattle.vault_words.specs.declared.commands.check.CheckJob.{CheckJob}
 use Rattle.vault_words.specs.declared.commands.merchant.MerchantJob.{MerchantJob}
+use Rattle.vault_words.specs.declared.commands.migrate.MigrateJob.{MigrateJob}
 use Rattle.vault_words.specs.declared.commands.pipe.PipeJob.{PipeJob}
 use Rattle.vault_words.specs.declared.commands.rights.RightJob.{RightJob}
 use Rattle.vault_words.specs.declared.commands.rights_file.RightsFileJob.{RightsFileJob}
@@ -122,6 +123,14 @@ check_app = with_rules (new_app (codes "check")) (text_rule (codes "FILE") ∷ [
 abbrev pub AsksCheck : List Row → CheckJob → Type 0
 AsksCheck rows job = HasText rows (codes "FILE") job.file.now
 
+-- migrate FILE
+abbrev pub migrate_app : App
+migrate_app = with_rules (new_app (codes "migrate")) (text_rule (codes "FILE") ∷ [])
+
+-- the values of migrate ask for this job
+abbrev pub AsksMigrate : List Row → MigrateJob → Type 0
+AsksMigrate rows job = HasText rows (codes "FILE") job.file.now
+
 -- a command with these subcommands, in order
 abbrev pub with_subcommands : App → List App → App
 with_subcommands a [] = a
@@ -137,4 +146,5 @@ root_app =
 abbrev pub vault_app : App
 vault_app = with_subcommands root_app
     (trial_app ∷ merchant_app ∷ right_app (codes "grant") ∷ right_app (codes "withdraw")
-    ∷ rights_app ∷ pipe_app ∷ batch_app ∷ serve_app ∷ sweep_app ∷ check_app ∷ [])
+    ∷ rights_app ∷ pipe_app ∷ batch_app ∷ serve_app ∷ sweep_app ∷ check_app
+    ∷ migrate_app ∷ [])

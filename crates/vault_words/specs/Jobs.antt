@@ -3,11 +3,11 @@ use Rattle.std.specs.Prelude.{◌≡◌, ◌≢◌, ◌⊎◌, List, [], ◌∷�
 use Rattle.clap.specs.Words.{App, Row, Text, IsAmong, fault_of, subcommand_of}
 use Rattle.clap.specs.declared.error.kind.ErrorKind.{ErrorKind}
 use Rattle.clap.specs.declared.error.kind.ErrorKind.TheVariants.{DisplayHelp, OutOfMemory}
-use Rattle.vault_words.specs.Commands.{AsksBatch, AsksCheck, AsksMerchant, AsksPipe, AsksRight}
+use Rattle.vault_words.specs.Commands.{AsksBatch, AsksCheck, AsksMerchant, AsksMigrate, AsksPipe, AsksRight}
 use Rattle.vault_words.specs.Commands.{AsksRights, AsksServe, AsksSweep, AsksTrial}
 use Rattle.vault_words.specs.declared.jobs.Job.{Job}
 use Rattle.vault_words.specs.declared.jobs.Job.TheVariants.{Trial, Merchant, Grant, Withdraw}
-use Rattle.vault_words.specs.declared.jobs.Job.TheVariants.{Rights, Pipe, Batch, Serve, Sweep, Check}
+use Rattle.vault_words.specs.declared.jobs.Job.TheVariants.{Rights, Pipe, Batch, Serve, Sweep, Check, Migrate}
 use Rattle.vault_words.specs.declared.jobs.JobFault.{JobFault}
 use Rattle.vault_words.specs.declared.jobs.JobFault.TheVariants.{Help, BadWords, Memory}
 
@@ -23,6 +23,7 @@ Asks name rows (Batch job) = (name ≡ codes "batch") × AsksBatch rows job
 Asks name rows (Serve job) = (name ≡ codes "serve") × AsksServe rows job
 Asks name rows (Sweep job) = (name ≡ codes "sweep") × AsksSweep rows job
 Asks name rows (Check job) = (name ≡ codes "check") × AsksCheck rows job
+Asks name rows (Migrate job) = (name ≡ codes "migrate") × AsksMigrate rows job
 
 -- the subcommand that was met, with its values, asks for the job
 abbrev pub AsksBy : Option (Text × List Row) → Job → Type 0

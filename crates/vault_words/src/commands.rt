@@ -3,6 +3,7 @@
 pub mod batch;
 pub mod check;
 pub mod merchant;
+pub mod migrate;
 pub mod pipe;
 pub mod rights;
 pub mod rights_file;

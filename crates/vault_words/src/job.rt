@@ -8,6 +8,7 @@ ghost use Rattle.vault_words.specs.Values.{Finds};
 use crate::commands::batch::BatchJob;
 use crate::commands::check::CheckJob;
 use crate::commands::merchant::MerchantJob;
+use crate::commands::migrate::MigrateJob;
 use crate::commands::pipe::PipeJob;
 use crate::commands::rights::RightJob;
 use crate::commands::rights_file::RightsFileJob;
@@ -48,6 +49,7 @@ fn job_of<'a>(name: &str, matches: &ArgMatches<'a>) -> Result<Job<'a>, BadValue>
         "serve" => read!(matches, ServeJob, Job::Serve),
         "sweep" => read!(matches, SweepJob, Job::Sweep),
         "check" => read!(matches, CheckJob, Job::Check),
+        "migrate" => read!(matches, MigrateJob, Job::Migrate),
         _ => Err(BadValue),
     }
 }

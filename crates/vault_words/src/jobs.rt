@@ -3,6 +3,7 @@
 use crate::commands::batch::BatchJob;
 use crate::commands::check::CheckJob;
 use crate::commands::merchant::MerchantJob;
+use crate::commands::migrate::MigrateJob;
 use crate::commands::pipe::PipeJob;
 use crate::commands::rights::RightJob;
 use crate::commands::rights_file::RightsFileJob;
@@ -44,4 +45,6 @@ pub enum Job<'a> {
     Sweep(SweepJob<'a>),
     /// A file is checked whole.
     Check(CheckJob<'a>),
+    /// A file moves to the newest schema.
+    Migrate(MigrateJob<'a>),
 }

@@ -8,6 +8,7 @@ use crate::args::command;
 use crate::commands::batch::batch;
 use crate::commands::check::check;
 use crate::commands::merchant::merchant;
+use crate::commands::migrate::migrate;
 use crate::commands::pipe::pipe;
 use crate::commands::rights::{grant, withdraw};
 use crate::commands::rights_file::rights;
@@ -50,5 +51,6 @@ pub(crate) fn tree<'a>(alloc: Global) -> Result<Command<'a>, AllocError>
     let tree = with(tree, batch(alloc));
     let tree = with(tree, serve(alloc));
     let tree = with(tree, sweep(alloc));
-    with(tree, check(alloc))
+    let tree = with(tree, check(alloc));
+    with(tree, migrate(alloc))
 }

@@ -1,6 +1,5 @@
-//! Files that statements of SQL changed: both calls refuse them with the same words, and write nothing.
-use super::{checked, make_folder, opened};
-use sqlite::Connection;
+//! Files that statements of SQL changed: all three calls refuse them with the same words, and write nothing.
+use super::{checked, make_folder, migrated, opened, run};
 use std::fs;
 use std::test::Fail;
 
@@ -12,13 +11,6 @@ const CASES: [(&str, &str); 4] = [
     ("INSERT INTO rights VALUES ('till-1', 'shop1', 6)", "31 12"),
 ];
 
-/// Runs statements of SQL in the database at a path.
-fn run(rt: &HostRuntime, path: &str, sql: &str) -> Result<(), Fail> {
-    let mut conn = Connection::open(rt, path)?;
-    conn.execute_batch(sql)?;
-    Ok(())
-}
-
 #[test]
 fn a_changed_file_is_refused_by_its_version_or_rule(rt: HostRuntime) -> Result<(), Fail> {
     make_folder(&rt, "vault_file_damaged")?;
@@ -27,6 +19,7 @@ fn a_changed_file_is_refused_by_its_version_or_rule(rt: HostRuntime) -> Result<(
         assert_eq!(rt; opened(&rt, path.as_str())?.as_str(), "opened", "{sql}");
         run(&rt, path.as_str(), sql)?;
         assert_eq!(rt; checked(&rt, path.as_str())?.as_str(), *wanted, "{sql}");
+        assert_eq!(rt; migrated(&rt, path.as_str())?.as_str(), *wanted, "{sql}");
         assert_eq!(rt; opened(&rt, path.as_str())?.as_str(), *wanted, "{sql}");
     }
     fs::remove_dir_all(&rt, "vault_file_damaged")?;
@@ -39,6 +32,7 @@ fn another_programs_file_is_refused(rt: HostRuntime) -> Result<(), Fail> {
     let path = "vault_file_foreign/a";
     run(&rt, path, "CREATE TABLE notes (line TEXT)")?;
     assert_eq!(rt; checked(&rt, path)?.as_str(), "33");
+    assert_eq!(rt; migrated(&rt, path)?.as_str(), "33");
     assert_eq!(rt; opened(&rt, path)?.as_str(), "33");
     fs::remove_dir_all(&rt, "vault_file_foreign")?;
     Ok(())

@@ -1,19 +1,14 @@
 //! Files that are made, and files that are found again.
-use super::{checked, make_folder, opened};
+use super::{checked, make_folder, mode, opened};
 use crate::open::{close_vault, open_vault};
+use std::fs;
 use std::os::unix::fs::PermissionsExt;
 use std::test::Fail;
-use std::{fs, io};
 use vault_core::command::Command;
 use vault_core::moment::Moment;
 use vault_core::name::MerchantId;
 use vault_core::reply::Reply;
 use vault_store::vault::Fault;
-
-/// Who may do what with a file.
-fn mode(rt: &HostRuntime, path: &str) -> io::Result<u32> {
-    Ok(fs::metadata(rt, path)?.permissions().mode() & 0o777)
-}
 
 /// Asks for a merchant.
 fn set_merchant() -> Result<Command, Fail> {

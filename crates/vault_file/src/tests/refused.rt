@@ -1,5 +1,5 @@
 //! Files that are refused, and stay as they are.
-use super::{checked, make_folder, opened};
+use super::{checked, make_folder, migrated, opened};
 use crate::open::{close_vault, open_vault};
 use std::fs;
 use std::os::unix::fs::symlink;
@@ -26,10 +26,10 @@ const NOT_MADE: [&str; 5] = [
     "vault_file_refused/none",
 ];
 
-/// What opening a file and checking it says.
+/// What opening a file, checking it and moving it to the newest schema says.
 fn told(rt: &HostRuntime, path: &str) -> Result<String, Fail> {
-    let (open, check) = (opened(rt, path)?, checked(rt, path)?);
-    Ok(format!(in rt.alloc(); "{open} {check}")?)
+    let (open, check, moved) = (opened(rt, path)?, checked(rt, path)?, migrated(rt, path)?);
+    Ok(format!(in rt.alloc(); "{open} {check} {moved}")?)
 }
 
 #[test]
@@ -39,7 +39,7 @@ fn what_is_no_database_is_refused_and_not_written(rt: HostRuntime) -> Result<(),
     fs::write(&rt, "vault_file_refused/text", text.as_slice())?;
     symlink(&rt, "nowhere", "vault_file_refused/link")?;
     for path in REFUSED {
-        assert_eq!(rt; told(&rt, path)?.as_str(), "34 34", "{path:?}");
+        assert_eq!(rt; told(&rt, path)?.as_str(), "34 34 34", "{path:?}");
     }
     assert_eq!(rt;
         fs::read(&rt, "vault_file_refused/text")?.as_slice(),
@@ -61,7 +61,7 @@ fn an_open_file_is_refused_until_it_is_closed(rt: HostRuntime) -> Result<(), Fai
         Ok(vault) => {
             let told = told(&rt, path);
             close_vault(vault);
-            assert_eq!(rt; told?.as_str(), "34 34");
+            assert_eq!(rt; told?.as_str(), "34 34 34");
         }
         Err(fault) => return Err(fault)?,
     }

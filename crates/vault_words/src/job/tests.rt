@@ -97,7 +97,7 @@ const WITH_OPTIONS: [(&[&str], &str); 13] = [
 ];
 
 /// Words without options that may be left out, and the jobs that they ask for.
-const WITHOUT_OPTIONS: [(&[&str], &str); 11] = [
+const WITHOUT_OPTIONS: [(&[&str], &str); 12] = [
     (
         &["vault", "trial", "till-1", "shop1", "60"],
         "Trial(TrialJob { now: None, digits: None, caller: \"till-1\", \
@@ -146,6 +146,10 @@ const WITHOUT_OPTIONS: [(&[&str], &str); 11] = [
     (
         &["vault", "check", "--", "--help"],
         "Check(CheckJob { file: \"--help\" })",
+    ),
+    (
+        &["vault", "migrate", "v.db"],
+        "Migrate(MigrateJob { file: \"v.db\" })",
     ),
 ];
 

@@ -22,6 +22,7 @@ Commands:
   serve     Answers messages of connections by the vault in FILE
   sweep     Purges the card numbers of a merchant's dead tokens
   check     Checks that FILE holds a sound vault
+  migrate   Moves FILE to the newest schema
   help      Print this message or the help of the given subcommand(s)
 
 Options:
@@ -147,7 +148,7 @@ fn help_is_the_text_of_the_command(rt: HostRuntime) -> Result<(), Fail> {
 
 #[test]
 fn help_fits_24_lines_of_80_columns(rt: HostRuntime) -> Result<(), Fail> {
-    let cases: [&[&str]; 11] = [
+    let cases: [&[&str]; 12] = [
         &["vault", "help"],
         &["vault", "help", "trial"],
         &["vault", "help", "merchant"],
@@ -159,6 +160,7 @@ fn help_fits_24_lines_of_80_columns(rt: HostRuntime) -> Result<(), Fail> {
         &["vault", "help", "serve"],
         &["vault", "help", "sweep"],
         &["vault", "help", "check"],
+        &["vault", "help", "migrate"],
     ];
     for words in cases {
         let text = help(rt.alloc(), words)?;

@@ -118,7 +118,7 @@ fn digits_are_1_to_300(rt: HostRuntime) -> Result<(), Fail> {
 
 #[test]
 fn missing_words_are_bad(rt: HostRuntime) {
-    let cases: [&[&str]; 22] = [
+    let cases: [&[&str]; 23] = [
         &[],
         &["vault"],
         &["vault", "trial"],
@@ -141,6 +141,7 @@ fn missing_words_are_bad(rt: HostRuntime) {
         &["vault", "sweep", "back", "shop1"],
         &["vault", "sweep", "v.db", "back", "shop1", "--now"],
         &["vault", "check"],
+        &["vault", "migrate"],
     ];
     for words in cases {
         assert_eq!(rt; answer_to(rt.alloc(), words), Answer::BadWords, "{words:?}");
@@ -149,7 +150,7 @@ fn missing_words_are_bad(rt: HostRuntime) {
 
 #[test]
 fn words_too_many_or_unknown_are_bad(rt: HostRuntime) {
-    let cases: [&[&str]; 18] = [
+    let cases: [&[&str]; 19] = [
         &["vault", "trail"],
         &["vault", "--version"],
         &["vault", "help", "trail"],
@@ -177,6 +178,7 @@ fn words_too_many_or_unknown_are_bad(rt: HostRuntime) {
         ],
         &["vault", "sweep", "--digits", "0", "v.db", "back", "shop1"],
         &["vault", "check", "--now", "1", "v.db"],
+        &["vault", "migrate", "v.db", "2"],
     ];
     for words in cases {
         assert_eq!(rt; answer_to(rt.alloc(), words), Answer::BadWords, "{words:?}");

@@ -1,0 +1,72 @@
+//! The file at a path moves to the newest schema.
+ghost use Rattle.std.specs.Prelude.{◌≡◌, ◌↔◌, ℕ, ℤ, pos, None, Err, IfOk, IfErr, IfSome, IsErrAnd};
+ghost use Rattle.sqlite.specs.Files.{file_state};
+ghost use Rattle.sqlite.specs.State.{HasCleanDisk};
+ghost use Rattle.sqlite_wal.specs.Files.{image_at};
+ghost use Rattle.vault_core.specs.Sound.{Sound};
+ghost use Rattle.vault_core.specs.Vault.{Vault as Content};
+ghost use Rattle.vault_file.specs.Found.{HoldsSuch, IsNoPath, IsNoVerdict, LeavesFrom};
+ghost use Rattle.vault_file.specs.Moved.{LeavesOld, MovesFrom};
+ghost use Rattle.vault_migrate.specs.Moved.{FindsBroken, FindsVersion};
+ghost use Rattle.vault_migrate.specs.Reopened.{KeepsOlder};
+ghost use Rattle.vault_recover.specs.Crashed.{Keeps};
+
+use crate::fault::NotOpened;
+use crate::make::open_private;
+use sqlite::{Connection, FileFrom, FileStore, Start, Unknown};
+use vault_migrate::migrate::migrate;
+use vault_migrate::reopen::close_moved;
+use vault_recover::fault::OpenFault;
+
+/// Moves the file at a path to the newest schema, and answers its version, 2. The connection is given back, and
+/// with a refusal where there is one. The file keeps its mode; one that isn't there is made, as `open_from`
+/// makes it, and gets the tables of the empty vault.
+///
+/// Refused by 30 to 33 as `vault_migrate::migrate` refuses, by 34 as `open_from` refuses.
+pub fn migrate_from<S: Start>(
+    rt: &HostRuntime,
+    path: &str,
+    start: S,
+) -> Result<
+    (i64, Connection<FileStore<FileFrom<S>>>),
+    (NotOpened, Option<Connection<FileStore<FileFrom<S>>>>),
+>
+    ensures no_path { IsNoPath path.now → IsErrAnd result (λ e. e.0 ≡ NotOpened.Refused) }
+    ensures version { IfOk result (λ told. told.0 ≡ pos 2) }
+    ensures moved { IfOk result (λ told. MovesFrom (image_at S.Start) told.1) }
+    ensures refused { IfErr result (λ e. (e.0 ≡ NotOpened.Refused) ↔ (e.1 ≡ None)) }
+    ensures damaged { IfErr result (λ e. IfSome e.1 (λ conn. HasCleanDisk (file_state conn)
+        → (rule : ℕ) → e.0 ≡ NotOpened.Fault (OpenFault.Damaged rule)
+        → HoldsSuch (image_at S.Start) (λ db. FindsBroken db rule))) }
+    ensures wrong { IfErr result (λ e. IfSome e.1 (λ conn. HasCleanDisk (file_state conn)
+        → (n : ℤ) → e.0 ≡ NotOpened.Fault (OpenFault.WrongSchema n)
+        → HoldsSuch (image_at S.Start) (λ db. FindsVersion db n))) }
+    ensures never_older { IfErr result (λ e. IfSome e.1 (λ conn. HasCleanDisk (file_state conn)
+        → (V : Content) → Sound V → KeepsOlder (image_at S.Start) V → IsNoVerdict e.0)) }
+    ensures never { IfErr result (λ e. IfSome e.1 (λ conn. HasCleanDisk (file_state conn)
+        → (V : Content) → Sound V → Keeps (image_at S.Start) V → IsNoVerdict e.0)) }
+    ensures left { IfErr result (λ e. IfSome e.1 (LeavesFrom (image_at S.Start))) }
+    ensures left_older { IfErr result (λ e. IfSome e.1 (LeavesOld (image_at S.Start) e.0)) }
+{
+    let Some(mut conn) = open_private(rt, path, start) else {
+        return Err((NotOpened::Refused, None));
+    };
+    match migrate(rt.alloc(), &mut conn) {
+        Ok(version) => Ok((version, conn)),
+        Err(fault) => Err((NotOpened::Fault(fault), Some(conn))),
+    }
+}
+
+/// Moves the file at a path to the newest schema, as `migrate_from` does over a file that holds what it may.
+pub fn migrate_file(rt: &HostRuntime, path: &str) -> Result<i64, NotOpened>
+    ensures no_path { IsNoPath path.now → result ≡ Err NotOpened.Refused }
+    ensures version { IfOk result (λ version. version ≡ pos 2) }
+{
+    match migrate_from(rt, path, Unknown) {
+        Ok(told) => {
+            drop(close_moved(told.1));
+            Ok(told.0)
+        }
+        Err(refusal) => Err(refusal.0),
+    }
+}
