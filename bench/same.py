@@ -17,10 +17,13 @@ LIVES = "SELECT single_life, multi_life, moment FROM merchants WHERE name = ?1"
 COUNTS = "SELECT kind, total FROM counts WHERE merchant = ?1"
 RIGHT = "SELECT what FROM rights WHERE caller = ?1 AND merchant = ?2 AND what = ?3"
 RECORD = "SELECT merchant, token, usage FROM records WHERE caller = ?1 AND request = ?2"
-ENTRY = "SELECT number, usage, birth, expires, revoked FROM entries WHERE merchant = ?1 AND token = ?2"
+ENTRY = "SELECT card, usage, birth, expires, revoked FROM entries2 WHERE merchant = ?1 AND token = ?2"
+CARD = "SELECT id, uses FROM cards2 WHERE merchant = ?1 AND number = ?2"
 PUT_MERCHANT = "INSERT INTO merchants VALUES (?1, ?2, ?3, ?4) ON CONFLICT (name) DO UPDATE SET single_life = ?2, multi_life = ?3, moment = ?4"
 RAISE = "INSERT INTO counts VALUES (?1, ?2, 1) ON CONFLICT (merchant, kind) DO UPDATE SET total = total + 1"
-PUT_ENTRY = "INSERT INTO entries VALUES (?1, ?2, ?3, ?4, ?5, ?6, ?7) ON CONFLICT (merchant, token) DO UPDATE SET number = ?3, usage = ?4, birth = ?5, expires = ?6, revoked = ?7"
+ADD_CARD = "INSERT INTO cards2 VALUES (NULL, ?1, ?2, 1)"
+SET_USES = "UPDATE cards2 SET uses = ?2 WHERE id = ?1"
+PUT_ENTRY = "INSERT INTO entries2 VALUES (?1, ?2, ?3, ?4, ?5, ?6, ?7) ON CONFLICT (merchant, token) DO UPDATE SET card = ?3, usage = ?4, birth = ?5, expires = ?6, revoked = ?7"
 PUT_RECORD = "INSERT INTO records VALUES (?1, ?2, ?3, ?4, ?5) ON CONFLICT (caller, request) DO UPDATE SET merchant = ?3, token = ?4, usage = ?5"
 
 CALLER = "till-1"
@@ -65,13 +68,26 @@ def read(conn, number, token):
     return single_life, multi_life, moment
 
 
+def put_entry(conn, token, number, rest):
+    """A new entry, and a use more of its number's card: what stands at the token is read first."""
+    assert not conn.execute(ENTRY, (MERCHANT, token)).fetchall()
+    cards = conn.execute(CARD, (MERCHANT, number)).fetchall()
+    if cards:
+        card, uses = cards[0]
+        conn.execute(SET_USES, (card, uses + 1))
+    else:
+        conn.execute(ADD_CARD, (MERCHANT, number))
+        card, _ = conn.execute(CARD, (MERCHANT, number)).fetchall()[0]
+    conn.execute(PUT_ENTRY, (MERCHANT, token, card, *rest))
+
+
 def write(conn, number, token, lives):
     """What one Tokenize writes, in one transaction."""
     single_life, multi_life, moment = lives
     conn.execute("BEGIN")
     conn.execute(PUT_MERCHANT, (MERCHANT, single_life, multi_life, moment))
     conn.execute(RAISE, (MERCHANT, 1))
-    conn.execute(PUT_ENTRY, (MERCHANT, token, NUMBER, 1, moment, moment + single_life, None))
+    put_entry(conn, token, NUMBER, (1, moment, moment + single_life, None))
     conn.execute(PUT_RECORD, (CALLER, number, MERCHANT, token, 1))
     conn.execute("COMMIT")
 
@@ -103,7 +119,7 @@ def time_check(file):
     spent = microseconds(start)
     peak = resource.getrusage(resource.RUSAGE_SELF).ru_maxrss
     assert found == [("ok",)]
-    entries = conn.execute("SELECT count(*) FROM entries").fetchone()[0]
+    entries = conn.execute("SELECT count(*) FROM entries2").fetchone()[0]
     print(f"{entries} entries in {spent} microseconds, {peak} KiB")
 
 

@@ -18,7 +18,9 @@ sys.dont_write_bytecode = True
 import pipe  # noqa: E402, without leaving a folder of its bytecode here
 import same  # noqa: E402
 
-FIND_DEAD = "SELECT token FROM entries WHERE merchant = ?1 AND number IS NOT NULL AND (revoked IS NOT NULL OR expires <= ?2) ORDER BY token LIMIT ?3"
+FIND_DEAD = "SELECT token FROM entries2 WHERE merchant = ?1 AND card IS NOT NULL AND (revoked IS NOT NULL OR expires <= ?2) ORDER BY token LIMIT ?3"
+NUMBER_OF = "SELECT number FROM cards2 WHERE id = ?1"
+USES = "SELECT uses FROM cards2 WHERE id = ?1"
 LIST = 1000
 
 CALLER = "back"
@@ -34,10 +36,10 @@ def told(program, *words):
 
 
 def rows_of(dead):
-    """The rows of a merchant's entries, every other one dead, and of their records."""
+    """The rows of a merchant's entries, every other one dead, all of the card with the id 1, and of their records."""
     for number in range(1, 2 * dead + 1):
         token, birth = same.token_for(number), BORN_DEAD if number % 2 else BORN_LIVE
-        entry = (same.MERCHANT, token, same.NUMBER, 1, birth, birth + LIFE, None)
+        entry = (same.MERCHANT, token, 1, 1, birth, birth + LIFE, None)
         yield entry, (same.CALLER, number, same.MERCHANT, token, 1)
 
 
@@ -50,6 +52,7 @@ def make_file(program, vault, dead):
     conn = same.opened(vault)
     conn.execute("BEGIN")
     conn.execute("INSERT INTO counts VALUES (?1, 1, ?2)", (same.MERCHANT, 2 * dead))
+    conn.execute("INSERT INTO cards2 VALUES (1, ?1, ?2, ?3)", (same.MERCHANT, same.NUMBER, 2 * dead))
     conn.executemany(same.PUT_ENTRY, entries)
     conn.executemany(same.PUT_RECORD, records)
     conn.execute("COMMIT")
@@ -75,11 +78,15 @@ def purge(conn, token):
     single_life, multi_life, moment = conn.execute(same.LIVES, (same.MERCHANT,)).fetchall()[0]
     conn.execute(same.COUNTS, (same.MERCHANT,)).fetchall()
     assert conn.execute(same.RIGHT, (CALLER, same.MERCHANT, PURGE)).fetchall()
-    number, usage, birth, expires, revoked = conn.execute(same.ENTRY, (same.MERCHANT, token)).fetchall()[0]
-    assert number is not None and expires <= NOW
+    card, usage, birth, expires, revoked = conn.execute(same.ENTRY, (same.MERCHANT, token)).fetchall()[0]
+    assert conn.execute(NUMBER_OF, (card,)).fetchall() and expires <= NOW
     conn.execute("BEGIN")
     conn.execute(same.PUT_MERCHANT, (same.MERCHANT, single_life, multi_life, max(moment, NOW)))
+    conn.execute(same.ENTRY, (same.MERCHANT, token)).fetchall()
     conn.execute(same.PUT_ENTRY, (same.MERCHANT, token, None, usage, birth, expires, revoked))
+    ((uses,),) = conn.execute(USES, (card,)).fetchall()
+    assert uses > 1
+    conn.execute(same.SET_USES, (card, uses - 1))
     conn.execute("COMMIT")
 
 

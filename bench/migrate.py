@@ -1,0 +1,140 @@
+#!/usr/bin/env python3
+"""Times how a file of schema 1 moves to the newest schema, by the program and by Python's sqlite3 with the same
+statements, each on a copy of the same file, in turn.
+
+migrate.py [PROGRAM] times the built program, which is crates/vault_cli/out/vault_cli if it is left out. ENTRIES
+says how many entries a file has, one line each (1000 10000 100000), and ROUNDS how many rounds there are (5).
+
+migrate.py move FILE moves a file by Python alone, and prints its seconds and the peak of its own memory in KiB.
+"""
+
+import os
+import pathlib
+import resource
+import shutil
+import sqlite3
+import subprocess
+import sys
+import tempfile
+import time
+
+sys.dont_write_bytecode = True
+import pipe  # noqa: E402, without leaving a folder of its bytecode here
+import same  # noqa: E402
+
+TABLES = """
+CREATE TABLE vault (id INTEGER PRIMARY KEY, version INTEGER NOT NULL) STRICT;
+CREATE TABLE merchants (name TEXT NOT NULL PRIMARY KEY, single_life INTEGER NOT NULL, multi_life INTEGER NOT NULL, moment INTEGER NOT NULL) STRICT;
+CREATE TABLE counts (merchant TEXT NOT NULL, kind INTEGER NOT NULL, total INTEGER NOT NULL, PRIMARY KEY (merchant, kind)) STRICT;
+CREATE TABLE entries (merchant TEXT NOT NULL, token TEXT NOT NULL, number TEXT, usage INTEGER NOT NULL, birth INTEGER NOT NULL, expires INTEGER NOT NULL, revoked INTEGER, PRIMARY KEY (merchant, token)) STRICT;
+CREATE INDEX entries_number ON entries (merchant, number);
+CREATE TABLE records (caller TEXT NOT NULL, request INTEGER NOT NULL, merchant TEXT NOT NULL, token TEXT NOT NULL, usage INTEGER NOT NULL, PRIMARY KEY (caller, request)) STRICT;
+CREATE TABLE rights (caller TEXT NOT NULL, merchant TEXT NOT NULL, what INTEGER NOT NULL, PRIMARY KEY (caller, merchant, what)) STRICT;
+INSERT INTO vault VALUES (1, 1);
+INSERT INTO merchants VALUES ('shop1', 60, 0, 1000);
+"""
+NEWER = """
+CREATE TABLE cards2 (id INTEGER PRIMARY KEY, merchant TEXT NOT NULL, number TEXT NOT NULL, uses INTEGER NOT NULL, UNIQUE (merchant, number)) STRICT;
+CREATE TABLE entries2 (merchant TEXT NOT NULL, token TEXT NOT NULL, card INTEGER, usage INTEGER NOT NULL, birth INTEGER NOT NULL, expires INTEGER NOT NULL, revoked INTEGER, PRIMARY KEY (merchant, token)) STRICT;
+CREATE INDEX entries2_card ON entries2 (merchant, card);
+DELETE FROM entries;
+UPDATE vault SET version = 2 WHERE id = 1;
+"""
+READ = "SELECT rowid, merchant, token, number, usage, birth, expires, revoked FROM entries ORDER BY rowid"
+
+
+def number_of(place):
+    """A card number of 16 digits, another one for each place."""
+    front = f"4{place:014}"
+    return next(front + last for last in "0123456789" if same.passes(front + last))
+
+
+def token_for(place, number):
+    """A token of the number's last four digits, another one for each place."""
+    front = f"{place:011}"[::-1]
+    first = front + "0" + number[-4:]
+    return front + "1" + number[-4:] if same.passes(first) else first
+
+
+def make_file(path, many):
+    """A file of schema 1: a merchant, and two tokens for each number."""
+    conn = sqlite3.connect(path, isolation_level=None)
+    conn.executescript(TABLES)
+    conn.execute("BEGIN")
+    conn.execute("INSERT INTO counts VALUES ('shop1', 1, ?1)", (many,))
+    for place in range(1, many + 1):
+        number = number_of(place // 2)
+        token = token_for(place, number)
+        conn.execute("INSERT INTO entries VALUES ('shop1', ?1, ?2, 1, 1000, 1060, NULL)", (token, number))
+        conn.execute("INSERT INTO records VALUES ('till-1', ?1, 'shop1', ?2, 1)", (place, token))
+    conn.execute("COMMIT")
+    conn.close()
+
+
+def move(path):
+    """Moves a file by Python: the whole check of its pages, its rows, and then one transaction."""
+    start = time.perf_counter()
+    conn = same.opened(path)
+    assert conn.execute("PRAGMA integrity_check").fetchall() == [("ok",)]
+    rows = conn.execute(READ).fetchall()
+    conn.execute("BEGIN")
+    for statement in NEWER.strip().split(";\n"):
+        conn.execute(statement)
+    for _, _, token, number, *rest in rows:
+        same.put_entry(conn, token, number, rest)
+    conn.execute("COMMIT")
+    conn.close()
+    spent = time.perf_counter() - start
+    print(spent, resource.getrusage(resource.RUSAGE_SELF).ru_maxrss)
+
+
+def timed(*words):
+    """The seconds of a process, its peak memory in KiB, and what it says."""
+    start = time.perf_counter()
+    process = subprocess.Popen(words, stdout=subprocess.PIPE)
+    said = process.stdout.read().decode()
+    _, status, usage = os.wait4(process.pid, 0)
+    process.returncode = os.waitstatus_to_exitcode(status)
+    assert process.returncode == 0, said
+    return time.perf_counter() - start, usage.ru_maxrss, said
+
+
+def time_round(program, base, folder, many):
+    """Seconds and peaks of both sides, each on a copy of the file; the program finds both sound afterwards."""
+    ours, theirs = folder / "ours.db", folder / "theirs.db"
+    for path in (ours, theirs):
+        for old in folder.glob(path.name + "*"):
+            old.unlink()
+        shutil.copy(base, path)
+    os.sync()
+    spent, peak, said = timed(program, "migrate", str(ours))
+    assert said == "schema 2\n"
+    os.sync()
+    _, _, said = timed(sys.executable, __file__, "move", str(theirs))
+    python_spent, python_peak = said.split()
+    for path in (ours, theirs):
+        assert timed(program, "check", str(path))[2] == f"sound 1 {many} {many}\n"
+    return spent, float(python_spent), peak / 1024, int(python_peak) / 1024
+
+
+def main(program):
+    rounds = int(os.environ.get("ROUNDS", 5))
+    print("| Entries | Vault, seconds | Python, seconds | Ratio | Vault, peak MiB | Python, peak MiB |")
+    print("|---|---|---|---|---|---|")
+    for many in map(int, os.environ.get("ENTRIES", "1000 10000 100000").split()):
+        with tempfile.TemporaryDirectory() as name:
+            folder = pathlib.Path(name)
+            make_file(folder / "base.db", many)
+            all_rounds = [time_round(program, folder / "base.db", folder, many) for _ in range(rounds)]
+        ours, theirs, our_peaks, their_peaks = zip(*all_rounds)
+        ratios = [ours[i] / theirs[i] for i in range(rounds)]
+        cells = [pipe.middle(ours, 2), pipe.middle(theirs, 2), pipe.middle(ratios, 2)]
+        cells += [f"{max(our_peaks):.1f}", f"{max(their_peaks):.1f}"]
+        print(f"| {many} | {' | '.join(cells)} |", flush=True)
+
+
+if __name__ == "__main__":
+    if sys.argv[1:2] == ["move"]:
+        move(sys.argv[2])
+    else:
+        main(os.path.abspath(sys.argv[1] if len(sys.argv) > 1 else pipe.BUILT))
