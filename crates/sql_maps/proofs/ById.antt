@@ -5,7 +5,6 @@ use Rattle.std.proofs.lemmas.List.Sorted.{IsPermutation-sym}
 use Rattle.std.specs.List.{list_all}
 use Rattle.std.specs.Ordering.{eq_by_cmp}
 use Rattle.sqlite.specs.Cast.{cast_row}
-use Rattle.sqlite.specs.Command.TheVariants.{Insert}
 use Rattle.sqlite.specs.Edit.{next_rowid, numbered, put_all, without_all}
 use Rattle.sqlite.specs.Effect.{Database, IsDatabase, value_rows}
 use Rattle.sqlite.specs.Order.{Row, column}
@@ -13,7 +12,6 @@ use Rattle.sqlite.specs.Program.{overlay}
 use Rattle.sqlite.specs.Query.{IsAnswer}
 use Rattle.sqlite.specs.Rowids.TheVariants.{Chosen}
 use Rattle.sqlite.specs.Schema.{Schema}
-use Rattle.sqlite.specs.Source.TheVariants.{Values}
 use Rattle.sqlite.specs.State.{State, Shown}
 use Rattle.sqlite.specs.Term.{Term, col, holds}
 use Rattle.sqlite.specs.Tree.{Trees}
@@ -27,7 +25,8 @@ use Rattle.sql_maps.specs.Codes.{fit}
 use Rattle.sql_maps.specs.Rows.{AreRowsById, one_of, put}
 use Rattle.sql_maps.specs.Schema.{Descriptor, table_of, is_plain}
 use Rattle.sql_maps.specs.States.{Claim, Stands, Within, at_place}
-use Rattle.sql_maps.specs.Texts.{IsQuery, IsWrite, by_id, delete, query_of, sorted_of, update}
+use Rattle.sql_maps.specs.Texts.{IsQuery, IsWrite, by_id, delete, insert, query_of, sorted_of}
+use Rattle.sql_maps.specs.Texts.{update}
 use Rattle.sql_maps.proofs.Answers.{answers, has_permuted, passing, shown_as, shows_none, shows_row}
 use Rattle.sql_maps.proofs.Keys.{cast_row_fits, cast_row_new}
 use Rattle.sql_maps.proofs.KeyTests.{and_true, int_eq}
@@ -83,7 +82,7 @@ module _ {s : Schema} (fine : is_plain s ≡ true) {claims : List Claim} {base :
 
   -- INSERT with NULL for the id: the new id was free
   pub insert_id : (x : X) (width : ℕ) (terms : List Term)
-      → IsWrite s text (Insert t.place (Values terms width))
+      → IsWrite s text (insert t.place width terms)
       → value_rows params width (length terms / width) terms ≡ (Null ∷ value x) ∷ []
       → (held new_id ≡ None) × IsPutId new_id (Some x)
   insert_id x width terms it one =

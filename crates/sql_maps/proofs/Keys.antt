@@ -165,6 +165,16 @@ pub record Keyed {K X : Type 0} (s : Schema) (cmp : K → K → Ordering) (key :
     pub codes : Codes cmp table.columns (suc more) key value
     pub guarded : IsGuarded s.indexes (table_of table) (columns_to (suc more))
 
+-- the key's columns of two rows are the same where their keys are
+pub same_keys : {K X : Type 0} {s : Schema} {cmp : K → K → Ordering} {key : K → Row} {value : X → Row}
+    (t : Keyed s cmp key value) (k : K) (x : X) (id m : ℤ) (q : K) (y : X)
+    → same_at (columns_to (suc t.more)) (Int m ∷ row_of key value q y) (Int id ∷ row_of key value k x)
+    ≡ eq_by_cmp cmp q k
+same_keys {key = key} {value = value} t k x id m q y =
+    same_behind (below (suc t.more)) (Int m) (Int id) (row_of key value q y) (row_of key value k x)
+    ∙ same_first (suc t.more) (key q) (key k) (value y) (value x) (t.codes.long q) (t.codes.long k)
+    ∙ t.codes.same q k
+
 -- a new row meets the row of its key alone
 pub meets : {K X : Type 0} {s : Schema} {cmp : K → K → Ordering} {key : K → Row} {value : X → Row}
     (t : Keyed s cmp key value) (k : K) (x : X) (id m : ℤ) (q : K) (y : X)
@@ -172,7 +182,4 @@ pub meets : {K X : Type 0} {s : Schema} {cmp : K → K → Ordering} {key : K �
     (Int m ∷ row_of key value q y) ≡ eq_by_cmp cmp q k
 meets {key = key} {value = value} t k x id m q y =
     conflicts_by _ (table_of t.table) t.more (Int id ∷ row_of key value k x) (Int m ∷ row_of key value q y)
-    t.guarded
-    ∙ same_behind (below (suc t.more)) (Int m) (Int id) (row_of key value q y) (row_of key value k x)
-    ∙ same_first (suc t.more) (key q) (key k) (value y) (value x) (t.codes.long q) (t.codes.long k)
-    ∙ t.codes.same q k
+    t.guarded ∙ same_keys t k x id m q y

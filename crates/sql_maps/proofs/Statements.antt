@@ -9,11 +9,11 @@ use Rattle.std.specs.Cmp.{tied_itself, int_cmp_total}
 use Rattle.std.specs.FinMap.{int_cmp-IsAntisymmetric}
 use Rattle.std.specs.List.{list_all}
 use Rattle.sqlite.specs.Cast.{cast_row}
-use Rattle.sqlite.specs.Command.TheVariants.{Insert, InsertOr}
+use Rattle.sqlite.specs.Command.TheVariants.{InsertOr}
 use Rattle.sqlite.specs.Edit.{id_in, next_rowid, numbered, put_all, with_rowid, without_all}
 use Rattle.sqlite.specs.Effect.{Database, IsDatabase, value_rows}
 use Rattle.sqlite.specs.Ops.{binary, int_or, real_arith, from_int}
-use Rattle.sqlite.specs.Order.{Row, column}
+use Rattle.sqlite.specs.Order.{Row, column, value_cmp}
 use Rattle.sqlite.specs.Query.{Query}
 use Rattle.sqlite.specs.Rowids.TheVariants.{Chosen}
 use Rattle.sqlite.specs.Rows.{shown}
@@ -24,7 +24,8 @@ use Rattle.sqlite.specs.Term.{Term, col, holds}
 use Rattle.sqlite.specs.Tree.{Trees, rowid}
 use Rattle.sqlite.specs.View.{is_int}
 use Rattle.sqlite.specs.declared.types.Value.TheVariants.{Null, Int}
-use Rattle.sqlite_rules.proofs.TableLemmas.{int_is}
+use Rattle.sqlite_rules.proofs.ListLemmas.{all_has}
+use Rattle.sqlite_rules.proofs.TableLemmas.{has_put, int_is, put_all_keeps}
 use Rattle.sqlite_rules.specs.Calls.{ids_of}
 use Rattle.sqlite_rules.specs.Keys.{conflicts}
 use Rattle.sqlite_rules.specs.Lists.{Has}
@@ -36,13 +37,15 @@ use Rattle.sql_maps.specs.Codes.{fit, row_of}
 use Rattle.sql_maps.specs.Rows.{AreRowsOf, put}
 use Rattle.sql_maps.specs.Schema.{Descriptor, table_of, columns_to, is_plain}
 use Rattle.sql_maps.specs.States.{Claim, StandsIn, Within, at_place}
-use Rattle.sql_maps.specs.Texts.{IsWrite, upsert, insert_or_nothing, delete, met_update, by_key, eq}
+use Rattle.sql_maps.specs.Texts.{IsWrite, insert, upsert, insert_or_nothing, delete, met_update}
+use Rattle.sql_maps.specs.Texts.{by_key, eq}
 use Rattle.sql_maps.proofs.Answers.{one_at, passing, shown_as, shows_none, shows_row}
 use Rattle.sql_maps.proofs.ByKey.{at_key, eq_itself, passes_key, row_at, inserted, put_again, removed}
-use Rattle.sql_maps.proofs.ByKey.{replaced, same_held, same_row}
-use Rattle.sql_maps.proofs.Keys.{Keyed, cast_row_fits, cast_row_new, coding, hits, meets}
+use Rattle.sql_maps.proofs.ByKey.{fresh_apart, replaced, same_held, same_row}
+use Rattle.sql_maps.proofs.Keys.{Keyed, cast_row_fits, cast_row_new, coding, hits, meets, same_keys}
 use Rattle.sql_maps.proofs.KeyTests.{equal_is, int_eq, and_true}
 use Rattle.sql_maps.proofs.Plain.{claim_at, claimed, frame}
+use Rattle.sql_maps.proofs.Unique.{one_at_key}
 use Rattle.sql_maps.proofs.Steps.{Resolves, Tried, Wrote, clause_of, delete_wrote, insert_wrote, upsert_wrote}
 
 -- a claim that is told in other words
@@ -107,7 +110,7 @@ module _ {s : Schema} (fine : is_plain s ≡ true) {claims : List Claim} {base :
 
   -- INSERT of one row, with its rowid, into an empty table
   pub insert_first : (d : Descriptor) (place : ℕ) → slice_get s.tables place ≡ Some (table_of d)
-      → (width : ℕ) (terms : List Term) → IsWrite s text (Insert place (Values terms width))
+      → (width : ℕ) (terms : List Term) → IsWrite s text (insert place width terms)
       → (id : ℤ) (now : Row) → db d.tree ≡ []
       → value_rows params width (length terms / width) terms ≡ (Int id ∷ now) ∷ [] → fit d.columns now ≡ true
       → Within s (at_place claims place (λ rows. rows ≡ (Int id ∷ now) ∷ [])) base new
@@ -221,6 +224,42 @@ module _ {s : Schema} (fine : is_plain s ≡ true) {claims : List Claim} {base :
         (subst (λ l. Wrote s t.table.tree (ids_of l)
         (map (λ r. cast_row (table_of t.table) (drop 1 r)) l) db new.now) all wrote) in
         put_rows k (Some x) sound (n ∷ []) _ now (replaced (coding t.codes) are_rows k x y n there now.fresh))
+
+    -- INSERT: a new row with a key that wasn't there
+    pub insert_in : (k : K) (x : X) (width : ℕ) (terms : List Term)
+        → IsWrite s text (insert t.place width terms)
+        → value_rows params width (length terms / width) terms ≡ (Null ∷ row_of key value k x) ∷ []
+        → (held k ≡ None) × IsPut k (Some x)
+    insert_in k x width terms it one =
+        let did = insert_wrote s fine t.table text params old new run.count t.place t.here
+        run.within.stands.schema run.ran.0 _ it in
+        let cast = cast_row (table_of t.table) in
+        let news : numbered Chosen (db t.table.tree) (map cast did.0) ≡ fresh k x ∷ [] =
+        ap (λ l. numbered Chosen (db t.table.tree) (map cast l)) (did.1.1 ∙ one)
+        ∙ ap (λ r. numbered Chosen (db t.table.tree) (r ∷ []))
+        (cast_row_new t.table (row_of key value k x) (t.codes.fit k x)) in
+        let now = subst (λ l. Wrote s t.table.tree [] l db new.now) news did.2 in
+        let none = unmet k x now did.3 in (
+          none,
+          put_rows k (Some x) did.3 [] _ now (inserted (coding t.codes) are_rows k x _ none now.fresh),
+        )
+      where
+        -- a sound database has one row of a key, so what was there would be the new row
+        unmet : (k : K) (x : X) → Wrote s t.table.tree [] (fresh k x ∷ []) db new.now → IsDatabase new.now
+            → held k ≡ None
+        unmet k x now sound = elim (held k) as (λ o. held k ≡ o → o ≡ None) [
+          | None ↦ λ e. refl
+          | Some y ↦ λ e.
+              let was = row_at (coding t.codes) are_rows k y e in
+              let still = subst (λ l. Has l (Int was.0 ∷ row_of key value k y)) (sym now.is)
+              (put_all_keeps (fresh k x ∷ []) (db t.table.tree) _ now.fresh was.1) in
+              let added = subst (λ l. Has l (fresh k x)) (sym now.is) (has_put (fresh k x) (db t.table.tree)) in
+              let same = one_at_key s new.now now.schema sound t.table t.place t.here columns t.guarded _ _ _ _
+              still added (same_keys t k x _ _ k y ∙ eq_itself (coding t.codes) k) in
+              absurd (all_has _ (db t.table.tree) _ (fresh_apart (fresh k x) (db t.table.tree) now.fresh) was.1
+              (ap (λ i. value_cmp (rowid (fresh k x)) (Int i)) same
+              ∙ tied_itself value_cmp_total (rowid (fresh k x))))
+        ] refl
 
     -- DO NOTHING, where what may be there is the same
     pub keep_in : (k : K) (x : X) (width : ℕ) (terms : List Term)

@@ -4,7 +4,7 @@ use Rattle.sqlite.specs.Change.{created}
 use Rattle.sqlite.specs.Collation.TheVariants.{Binary}
 use Rattle.sqlite_value.specs.declared.keys.Collation.{Collation}
 use Rattle.sqlite_value.specs.declared.keys.Key.{Key}
-use Rattle.sqlite.specs.Command.TheVariants.{Select, InsertOr, Update, Delete, CreateTable, CreateIndex}
+use Rattle.sqlite.specs.Command.TheVariants.{Select, Insert, InsertOr, Update, Delete, CreateTable, CreateIndex}
 use Rattle.sqlite.specs.Compile.{table_defined_by, index_defined_by}
 use Rattle.sqlite.specs.Does.{lacks_sequence}
 use Rattle.sqlite.specs.Listing.{understood, reads_listing}
@@ -75,6 +75,10 @@ by_key n = map (λ i. eq (col 1 (suc i)) (col 0 i)) (below n)
 -- the rowid is a parameter
 abbrev pub by_id : ℕ → List Term
 by_id place = eq (col 1 0) (col 0 place) ∷ []
+
+-- an insert of one row, which fails where its key is there
+abbrev pub insert : ℕ → ℕ → List Term → Command
+insert place width terms = Insert place (Values terms width)
 
 -- the update of the row that a new one met, whose rowid stands behind the parameters
 abbrev pub met_update : ℕ → ℕ → List Term → Query

@@ -11,13 +11,8 @@ ghost use Rattle.vault_recover.specs.Crashed.{Keeps, KeepsEither, KeepsFirst};
 ghost use Rattle.vault_sql.specs.Holds.{Holds};
 
 use sqlite::{Connection, FileFrom, FileStore, Start};
-use std::fs::{OpenOptions, Permissions};
-use std::io;
-use std::os::unix::fs::{OpenOptionsExt, PermissionsExt};
+use vault_blank::make::make_blank;
 use vault_recover::reopen::open_path;
-
-/// Its owner alone may read and write it.
-const PRIVATE: u32 = 0o600;
 
 /// Whether the words name no file: the database keeps `:memory:` and what begins with `file:` for itself.
 fn is_no_path(path: &str) -> bool
@@ -26,23 +21,7 @@ fn is_no_path(path: &str) -> bool
     path.is_empty() || path == ":memory:" || path.starts_with("file:")
 }
 
-/// Makes an empty file that its owner alone may read and write, whatever the umask takes away. What has the
-/// name already stays as it is.
-fn make_private(rt: &HostRuntime, path: &str) -> io::Result<()> {
-    match OpenOptions::new()
-        .read(true)
-        .write(true)
-        .create_new(true)
-        .mode(PRIVATE)
-        .open(rt, path)
-    {
-        Ok(file) => file.set_permissions(Permissions::from_mode(PRIVATE)),
-        Err(error) if error.kind() == io::ErrorKind::AlreadyExists => Ok(()),
-        Err(error) => Err(error),
-    }
-}
-
-/// Opens the file at a path, or makes it for its owner alone.
+/// Opens the file at a path, or makes it for its owner alone: a database without a table, in small pages.
 pub(crate) fn open_private<S: Start>(
     rt: &HostRuntime,
     path: &str,
@@ -63,8 +42,8 @@ pub(crate) fn open_private<S: Start>(
     if is_no_path(path) {
         return None;
     }
-    match make_private(rt, path) {
-        Ok(()) => open_path(rt, path, start),
+    match make_blank(rt, path) {
+        Ok(_) => open_path(rt, path, start),
         Err(_) => None,
     }
 }

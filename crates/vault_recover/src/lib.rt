@@ -10,6 +10,7 @@ pub mod last;
 pub mod laws;
 mod names;
 pub mod open;
+mod options;
 mod raws;
 pub mod read;
 pub mod reopen;

@@ -5,6 +5,7 @@
 //! caller's `Start` stand for them.
 ghost use Rattle.std.specs.Prelude.{◌≡◌, ◌≤◌, false, None, IfSome};
 ghost use Rattle.sqlite.specs.Files.{file_state, image_of};
+ghost use Rattle.sqlite.specs.Held.{IsNew};
 ghost use Rattle.sqlite.specs.State.{HasCleanDisk};
 ghost use Rattle.sqlite.specs.View.{IsClean, doubt};
 ghost use Rattle.sqlite_store.specs.FileStore.{view};
@@ -16,6 +17,7 @@ ghost use Rattle.vault_recover.specs.Crashed.{Keeps, KeepsEither, KeepsFirst};
 ghost use Rattle.vault_recover.specs.Crashed.{Reopens, ReopensEither, ReopensFirst};
 ghost use Rattle.vault_sql.specs.Holds.{AreOurs, Holds, LeavesEither, LeavesFirst};
 
+use crate::options::options_for;
 use sqlite::{Connection, FileFrom, FileStore, Files, Options, Start};
 use sqlite_disk::Disk;
 use std::alloc::Global;
@@ -72,7 +74,31 @@ pub fn open_files<D: Disk + Drop>(
     }
 }
 
-/// Opens the files at a path, or makes them.
+/// Opens the files at a path, or makes them, with what is read of them kept in memory as far as it may be.
+fn connect<S: Start>(
+    rt: &HostRuntime,
+    path: &str,
+    start: S,
+) -> Option<Connection<FileStore<FileFrom<S>>>>
+    ensures fresh { IfSome result IsNew }
+    ensures opened { IfSome result (λ c. HasCleanDisk (file_state c) → IsOpenOf (image_at S.Start) c) }
+{
+    let Ok(options) = options_for(rt, path) else {
+        return None;
+    };
+    let Ok(files) = sqlite_std_file::open(rt, path, start) else {
+        return None;
+    };
+    match Connection::open_files_with(rt.alloc(), files, options, false) {
+        Ok(mut opened) => {
+            opened.set_clock(rt);
+            Some(opened)
+        }
+        Err(_) => None,
+    }
+}
+
+/// Opens the files at a path, or makes them. Any path is a file's, `:memory:` too.
 pub fn open_path<S: Start>(
     rt: &HostRuntime,
     path: &str,
@@ -91,8 +117,8 @@ pub fn open_path<S: Start>(
         → (before : Trees) → AreBlank before → KeepsFirst (image_at S.Start) before
         → HoldsFirst (file_state c) before) }
 {
-    match Connection::open_from(rt, path, false, start) {
-        Ok(opened) => Some(opened),
-        Err(_) => None,
+    match connect(rt, path, start) {
+        Some(opened) => Some(opened),
+        None => None,
     }
 }

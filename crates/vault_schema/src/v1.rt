@@ -5,7 +5,7 @@ pub mod shape;
 use vault_core::moment::Moment;
 
 /// A merchant as its own table has it, without its counts.
-#[derive(Clone, Copy, Debug)]
+#[derive(Clone, Copy, Debug, PartialEq, Eq)]
 pub struct Lives {
     pub single_life: u64,
     pub multi_life: u64,
@@ -76,9 +76,8 @@ pub const PUT_MERCHANT: &str =
 pub const RAISE_COUNT: &str =
     "INSERT INTO counts VALUES (?1, ?2, 1) ON CONFLICT (merchant, kind) DO UPDATE SET total = total + 1";
 
-/// Writes a record, whether or not it was there.
-pub const PUT_RECORD: &str =
-    "INSERT INTO records VALUES (?1, ?2, ?3, ?4, ?5) ON CONFLICT (caller, request) DO UPDATE SET merchant = ?3, token = ?4, usage = ?5";
+/// Writes a new record.
+pub const ADD_RECORD: &str = "INSERT INTO records VALUES (?1, ?2, ?3, ?4, ?5)";
 
 /// Gives a caller a right, whether or not it was there.
 pub const GIVE_RIGHT: &str =

@@ -88,6 +88,9 @@ pub const FIND_CURRENT: &str =
 pub const FIND_DEAD: &str =
     "SELECT token FROM entries2 WHERE merchant = ?1 AND card IS NOT NULL AND (revoked IS NOT NULL OR expires <= ?2) ORDER BY token LIMIT ?3";
 
+/// Writes a new entry.
+pub const ADD_ENTRY: &str = "INSERT INTO entries2 VALUES (?1, ?2, ?3, ?4, ?5, ?6, ?7)";
+
 /// Writes an entry, whether or not it was there.
 pub const PUT_ENTRY: &str =
     "INSERT INTO entries2 VALUES (?1, ?2, ?3, ?4, ?5, ?6, ?7) ON CONFLICT (merchant, token) DO UPDATE SET card = ?3, usage = ?4, birth = ?5, expires = ?6, revoked = ?7";

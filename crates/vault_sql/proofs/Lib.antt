@@ -2,6 +2,7 @@ pub mod Calls
 pub mod Current
 pub mod Dead
 pub mod JoinedEntries
+pub mod Kept
 pub mod Lookups
 pub mod Making
 pub mod Owing

@@ -1,5 +1,6 @@
 -- What each query shows of a vault: exactly what it has, or nothing.
-use Rattle.std.proofs.Common.{◌≡◌, ℕ, ℤ, List, [], ◌∷◌, is_eq}
+use Rattle.std.proofs.Common.{◌≡◌, ◌↔◌, ℕ, ℤ, List, [], ◌∷◌, is_eq, Bool, IsTrue, false}
+use Rattle.std.proofs.Common.{◌==◌, ◌&&◌, subst, true, true≢false}
 use Rattle.std.proofs.Common.{Option, Some, None, option_map, refl, sym, ap, ◌∙◌, arith, inl}
 use Rattle.std.proofs.Common.{inr, max, slice_get}
 use Rattle.std.proofs.lemmas.Bool.Decides.{nat_tests}
@@ -117,6 +118,34 @@ row_is V m x is one two three e f g = go (merchant_at V m) refl
 pub lives_shown : (o : Option Lives) (rows : List Row) (row : Row) (x : Lives) → rows ≡ one_of lives_columns o
     → Some row ≡ slice_get rows 0 → ShowsLives row x → Some x ≡ o
 lives_shown o rows row x is first shows = grind arith
+
+abbrev are_same : Lives → Lives → Bool
+are_same x y = x.single_life == y.single_life && (x.multi_life == y.multi_life && x.moment == y.moment)
+
+same_are : (x y : Lives) → are_same x y ≡ true → x ≡ y
+same_are x y is =
+    let single : x.single_life ≡ y.single_life = grind (arith, nat_tests, is) in
+    let multi : x.multi_life ≡ y.multi_life = grind (arith, nat_tests, is) in
+    let moment : x.moment ≡ y.moment = grind (arith, nat_tests, is) in
+    λ i. record { single_life = single i; multi_life = multi i; moment = moment i }
+
+are_itself : (x : Lives) → are_same x x ≡ true
+are_itself x = grind (arith, nat_tests)
+
+-- lives that are compared with those that are there
+pub same_lives : (o : Option Lives) (x y : Lives) (same : Bool) → same ≡ are_same x y → Some x ≡ o
+    → IsTrue same ↔ (o ≡ Some y)
+same_lives o x y same tests is = (
+  λ says. sym is ∙ ap Some (same_are x y (sym tests ∙ says)),
+  λ there. tests ∙ subst (λ z. are_same x z ≡ true) (some_same (is ∙ there)) (are_itself x),
+)
+
+-- where no row is shown, there are no lives
+pub no_lives : (o : Option Lives) (y : Lives) (rows : List Row) → rows ≡ one_of lives_columns o
+    → None ≡ slice_get rows 0 → IsTrue false ↔ (o ≡ Some y)
+no_lives None y rows is first = (λ says. absurd (true≢false (sym says)), λ there. absurd (let clash : None ≡ Some y = there in cc))
+no_lives (Some x) y rows is first =
+    let some : None ≡ Some (lives_columns x) = first ∙ ap (λ l. slice_get l 0) is in absurd cc
 
 -- where no lives are there, there is no row
 pub no_row : (V : Vault) (m : Bytes) (found : Option Lives) → found ≡ option_map lives_in (merchant_at V m)

@@ -8,7 +8,7 @@ use Rattle.sqlite.specs.declared.types.Value.TheVariants.{Int, Text}
 use Rattle.sqlite_sql.specs.declared.ops.ArithOp.TheVariants.{Add}
 use Rattle.sqlite_sql.specs.declared.ops.BinaryOp.TheVariants.{Arith}
 use Rattle.sql_maps.specs.Rows.{put}
-use Rattle.sql_maps.proofs.Statements.{Ran, keep_in, plus_one, take_in, upsert_in}
+use Rattle.sql_maps.proofs.Statements.{Ran, insert_in, keep_in, plus_one, take_in, upsert_in}
 use Rattle.vault_core.specs.Keys.{Bytes, bytes_cmp, entry_cmp, record_cmp, right_cmp}
 use Rattle.vault_core.specs.declared.right.Right.{Right}
 use Rattle.vault_core.specs.declared.row.Record.{Record}
@@ -18,16 +18,17 @@ use Rattle.vault_schema.specs.Version2.Rows.{pointing_columns}
 use Rattle.vault_schema.specs.Version2.Tables.{tables2, indexes2}
 use Rattle.vault_schema.specs.declared.v2.Card.{Card}
 use Rattle.vault_schema.specs.declared.v2.Pointing.{Pointing}
-use Rattle.vault_schema.specs.declared.v2.TheConstants.{PUT_ENTRY, ADD_CARD, SET_USES, DROP_CARD}
+use Rattle.vault_schema.specs.declared.v2.TheConstants.{ADD_ENTRY, PUT_ENTRY, ADD_CARD, SET_USES, DROP_CARD}
 use Rattle.vault_schema.specs.Version1.Rows.{lives_columns, numbered_key, count_row, entry_key}
 use Rattle.vault_schema.specs.Version1.Rows.{record_columns, right_key}
 use Rattle.vault_schema.specs.declared.v1.Lives.{Lives}
-use Rattle.vault_schema.specs.declared.v1.TheConstants.{PUT_MERCHANT, RAISE_COUNT, PUT_RECORD}
+use Rattle.vault_schema.specs.declared.v1.TheConstants.{PUT_MERCHANT, RAISE_COUNT, ADD_RECORD}
 use Rattle.vault_schema.specs.declared.v1.TheConstants.{GIVE_RIGHT, TAKE_RIGHT}
-use Rattle.vault_schema.proofs.Version1.Texts.{put_merchant_is, raise_is, put_record_is, give_is, take_is}
+use Rattle.vault_schema.proofs.Version1.Texts.{put_merchant_is, raise_is, add_record_is, give_is, take_is}
 use Rattle.vault_schema.proofs.Version2.Codes.{merchant_table, count_table, record_table, right_table}
 use Rattle.vault_schema.proofs.Version2.Codes.{card_table, pointing_table}
-use Rattle.vault_schema.proofs.Version2.Texts.{put_entry_is, add_card_is, set_uses_is, drop_card_is, uses_set}
+use Rattle.vault_schema.proofs.Version2.Texts.{add_entry_is, put_entry_is, add_card_is, set_uses_is, drop_card_is}
+use Rattle.vault_schema.proofs.Version2.Texts.{uses_set}
 use Rattle.vault_sql.specs.Calls.{HasTables}
 use Rattle.vault_sql.specs.Schema.{vault_schema}
 use Rattle.vault_sql.specs.Written.{raise_at, HasRoomAt}
@@ -61,11 +62,17 @@ module _ {t : Tables} {base : Database} {old new : State} where
   pointing_put at x run = upsert_in refl run pointing_table t.pointing (λ are. are) at x x 8 _ 7 _
       (put_entry_is [] []) refl (λ none. refl) (λ n. refl) (λ n y is. refl)
 
-  pub record_put : (at : Bytes × ℕ) (x : Record)
-      → Ran vault_schema (claims t) base old new PUT_RECORD.now (numbered_key at ++ record_columns x)
+  pub pointing_added : (at : Bytes × Bytes) (x : Pointing)
+      → Ran vault_schema (claims t) base old new ADD_ENTRY.now (entry_key at ++ pointing_columns x)
+      → (t.pointing at ≡ None) × HasTables new base (record t { pointing = put entry_cmp t.pointing at (Some x) })
+  pointing_added at x run =
+      insert_in refl run pointing_table t.pointing (λ are. are) at x 8 _ (add_entry_is [] []) refl
+
+  pub record_added : (at : Bytes × ℕ) (x : Record)
+      → Ran vault_schema (claims t) base old new ADD_RECORD.now (numbered_key at ++ record_columns x)
       → HasTables new base (record t { records = put record_cmp t.records at (Some x) })
-  record_put at x run = upsert_in refl run record_table t.records (λ are. are) at x x 6 _ 5 _
-      (put_record_is tables2 indexes2) refl (λ none. refl) (λ n. refl) (λ n y is. refl)
+  record_added at x run =
+      (insert_in refl run record_table t.records (λ are. are) at x 6 _ (add_record_is tables2 indexes2) refl).1
 
   pub right_given : (at : Bytes × (Bytes × Right))
       → Ran vault_schema (claims t) base old new GIVE_RIGHT.now (right_key at)

@@ -1,6 +1,6 @@
 -- An entry is written: its number's card is used once more, and the card that it had once less.
 use Rattle.std.proofs.Common.{◌≡◌, ◌∙◌, ℤ, Option, Some, refl, sym, ap, subst, Result, Ok, Err, IfOk, OnOk}
-use Rattle.std.proofs.Common.{arith}
+use Rattle.std.proofs.Common.{None, arith, option_and_then}
 use Rattle.sqlite.specs.State.{State, HasCleanDisk}
 use Rattle.sql_maps.specs.Rows.{put}
 use Rattle.sql_maps.proofs.Calls.{steps_then}
@@ -94,4 +94,33 @@ entry_written {last = last} {b = b} {c = c} {d = d} {was = was} {card = card} ke
         joined = still_joined h w.cards w.pointing key e card was one.0 two.0 three.0 seen.0 one.1 two.1 three.1
             w.joined;
       });
+}
+
+-- an entry that wasn't there leaves no card
+pub entry_added : {E₁ E₂ E₃ : Type 0} {a b c : State} {card : Option ℤ} (key : Bytes × Bytes) (e : Entry)
+    → Turns (let it : Result (Option ℤ) E₁ = Ok card in it) a b (λ t. Unit {0})
+    (λ card t new. OwesNumber t new card key.0 e.number)
+    → Turns (let it : Result (Unit {0}) E₂ = Ok tt in it) b c (λ t. Unit {0})
+    (λ it t new. (t.pointing key ≡ None)
+    × (new ≡ record t { pointing = put entry_cmp t.pointing key (Some (pointed_at card e)) }))
+    → Makes (let it : Result (Unit {0}) E₃ = Ok tt in it) a c (λ _. Unit {0})
+    (λ h. record h { entries = put entry_cmp h.entries key (Some e) })
+entry_added {b = b} {card = card} key e used written = record {
+  steps = steps_then used.steps written.steps;
+  done = λ clean base h w can.
+      let first : HasCleanDisk b = omega (arith, written.steps.clean, clean) in
+      let start = tables_of h w.cards w.pointing in
+      let one = used.done first base start w.has tt in
+      let two = written.done clean base one.0 one.2 tt in
+      let had : None ≡ card_of w.pointing key =
+      sym (ap (option_and_then (λ (p : Pointing). p.card))
+      (ap (λ (t : Tables). t.pointing key) (sym one.1.others) ∙ two.1.0)) in
+      let left : OwesNoMore two.0 two.0 None = record { others = refl; joined = λ entries it. it } in
+      let are = tables_are h w.cards w.pointing key e card None one.0 two.0 two.0 had one.1 two.1.1 left in
+      record {
+        cards = two.0.cards;
+        pointing = put entry_cmp w.pointing key (Some (pointed_at card e));
+        has = subst (HasTables _ base) are two.2;
+        joined = still_joined h w.cards w.pointing key e card None one.0 two.0 two.0 had one.1 two.1.1 left w.joined;
+      };
 }

@@ -1,13 +1,13 @@
 //! The rows of merchants and their counts.
 ghost use Rattle.std.specs.FinMap as map;
-ghost use Rattle.std.specs.Prelude.{◌≡◌, ◌<◌, ◌^◌, [], ◌∷◌, Some, IfOk, option_map};
+ghost use Rattle.std.specs.Prelude.{◌≡◌, ◌↔◌, ◌<◌, ◌^◌, [], ◌∷◌, Some, IfOk, IsTrue, option_map};
 ghost use Rattle.sqlite.specs.Held.{state};
 ghost use Rattle.vault_core.specs.Numbers.{count_number};
 ghost use Rattle.vault_core.specs.Sound.{Sound};
 ghost use Rattle.vault_core.specs.Vault.{merchant_at};
 ghost use Rattle.vault_core.specs.Window.{moment_at, row_at};
 ghost use Rattle.vault_core.specs.Keys.{bytes_cmp};
-ghost use Rattle.vault_sql.specs.Calls.{Makes, Tells};
+ghost use Rattle.vault_sql.specs.Calls.{Makes, Tells, TellsInside};
 ghost use Rattle.vault_schema.specs.Version1.Rows.{lives_columns, number_column};
 ghost use Rattle.vault_sql.specs.Shown.{IsTotalOf, ShowsCounts, ShowsLives};
 ghost use Rattle.vault_sql.specs.Stands.{lives_in};
@@ -17,7 +17,7 @@ ghost use Rattle.vault_sql.specs.Written.{HasRoomAt, raise_at};
 use crate::columns::moment_in;
 use crate::fault::StoreFault;
 use crate::text::merchant_text;
-use sql_maps::run::{rows_of, step};
+use sql_maps::run::{rows_in, rows_of, step};
 use sqlite::{Alter, Connection, Error, Row, Transaction, params};
 use vault_core::changes::Count;
 use vault_core::moment::Moment;
@@ -143,12 +143,49 @@ pub(crate) fn how_many<S: Alter>(conn: &mut Connection<S>) -> Result<u64, StoreF
     }
 }
 
-/// Writes the lives and the moment of a merchant, whether or not it was there.
-pub(crate) fn put_merchant<S: Alter>(
+/// The row of a merchant's lives, inside a transaction.
+fn lives_rows_in<S: Alter>(tx: &mut Transaction<'_, S>, m: &str) -> Result<Vec<Row>, Error>
+    ensures same_reference { tx.new.conn.ghost_name ≡ tx.old.conn.ghost_name }
+    ensures told { TellsInside result (state S.Store tx.old.conn.now) (state S.Store tx.new.conn.now)
+        (λ t rows. rows.items ≡ one_of lives_columns (t.merchants m.now)) }
+{
+    rows_in(tx, FIND_LIVES, params![m])
+}
+
+/// Whether a merchant has these lives and this moment, inside a transaction.
+fn has_lives<S: Alter>(tx: &mut Transaction<'_, S>, m: &str, x: &Lives) -> Result<bool, StoreFault>
+    ensures same_reference { tx.new.conn.ghost_name ≡ tx.old.conn.ghost_name }
+    ensures told { TellsInside result (state S.Store tx.old.conn.now) (state S.Store tx.new.conn.now)
+        (λ t has. IsTrue has ↔ (t.merchants m.now ≡ Some x.now)) }
+{
+    let rows = lives_rows_in(tx, m)?;
+    match rows.first() {
+        Some(row) => Ok(lives_of(row)? == *x),
+        None => Ok(false),
+    }
+}
+
+/// Writes the lives and the moment of a merchant where it has others or isn't there: a look costs less than a
+/// write, and within a second a merchant's moment stays.
+pub(crate) fn set_lives<S: Alter>(
     tx: &mut Transaction<'_, S>,
     m: &str,
     x: &Lives,
-) -> Result<(), Error>
+) -> Result<(), StoreFault>
+    requires single { x.now.single_life < 2 ^ 63 }
+    requires multi { x.now.multi_life < 2 ^ 63 }
+    ensures same_reference { tx.new.conn.ghost_name ≡ tx.old.conn.ghost_name }
+    ensures done { Makes result (state S.Store tx.old.conn.now) (state S.Store tx.new.conn.now)
+        (λ _. Unit {0}) (λ h. record h { merchants = put bytes_cmp h.merchants m.now (Some x.now) }) }
+{
+    if has_lives(tx, m, x)? {
+        return Ok(());
+    }
+    Ok(put_merchant(tx, m, x)?)
+}
+
+/// Writes the lives and the moment of a merchant, whether or not it was there.
+fn put_merchant<S: Alter>(tx: &mut Transaction<'_, S>, m: &str, x: &Lives) -> Result<(), Error>
     requires single { x.now.single_life < 2 ^ 63 }
     requires multi { x.now.multi_life < 2 ^ 63 }
     ensures same_reference { tx.new.conn.ghost_name ≡ tx.old.conn.ghost_name }

@@ -16,7 +16,7 @@ use sqlite::{Alter, Connection, Error, Row, Transaction, params};
 use vault_core::name::Caller;
 use vault_core::request::RequestNo;
 use vault_core::row::Record;
-use vault_schema::v1::{FIND_RECORD, PUT_RECORD};
+use vault_schema::v1::{ADD_RECORD, FIND_RECORD};
 
 /// The row of a record.
 fn record_rows<S: Alter>(
@@ -61,8 +61,8 @@ pub(crate) fn recorded<S: Alter>(
     }
 }
 
-/// Writes a record, whether or not it was there.
-pub(crate) fn put_record<S: Alter>(
+/// Writes a record, which isn't there yet: one that is there makes it fail.
+pub(crate) fn add_record<S: Alter>(
     tx: &mut Transaction<'_, S>,
     caller: &str,
     request: u64,
@@ -79,7 +79,7 @@ pub(crate) fn put_record<S: Alter>(
     let usage = answered.usage.number();
     step(
         tx,
-        PUT_RECORD,
+        ADD_RECORD,
         params![caller, request as i64, m, token, usage as i64],
     )
 }

@@ -16,9 +16,9 @@ ghost use Rattle.vault_sql.specs.Written.{put_lives, put_record as put_record_le
 ghost use Rattle.vault_sql.specs.Written.{raise as raise_lem};
 
 use crate::fault::StoreFault;
-use crate::merchants::{put_merchant, raise};
-use crate::pointing::put_entry;
-use crate::records::put_record;
+use crate::merchants::{raise, set_lives};
+use crate::pointing::{add_entry, put_entry};
+use crate::records::add_record;
 use crate::rights::{give, take};
 use crate::text::{caller_text, merchant_text};
 use sqlite::{Alter, Connection, Error, Transaction};
@@ -64,7 +64,7 @@ pub(crate) fn are_storable(ch: &Changes) -> bool
 fn write_lives<S: Alter>(
     tx: &mut Transaction<'_, S>,
     lives: &Option<changes::Lives>,
-) -> Result<(), Error>
+) -> Result<(), StoreFault>
     requires { IsStorableLives lives.now }
     ensures same_reference { tx.new.conn.ghost_name ≡ tx.old.conn.ghost_name }
     ensures done { Makes result (state S.Store tx.old.conn.now) (state S.Store tx.new.conn.now)
@@ -77,7 +77,7 @@ fn write_lives<S: Alter>(
                 multi_life: x.multi_life,
                 moment: x.moment,
             };
-            put_merchant(tx, merchant_text(&x.merchant), &row)
+            set_lives(tx, merchant_text(&x.merchant), &row)
         }
         None => Ok(()),
     }
@@ -103,10 +103,11 @@ fn write_count<S: Alter>(
     }
 }
 
-/// Writes an entry.
+/// Writes an entry. That of a token which is made with it is new.
 fn write_entry<S: Alter>(
     tx: &mut Transaction<'_, S>,
     change: &Option<(MerchantId, Token, Entry)>,
+    count: Option<Count>,
 ) -> Result<(), StoreFault>
     requires { IsStorableEntry change.now }
     ensures same_reference { tx.new.conn.ghost_name ≡ tx.old.conn.ghost_name }
@@ -114,7 +115,10 @@ fn write_entry<S: Alter>(
         (λ _. Unit {0}) (λ h. record h { entries = put_entry_lem h.entries change.now }) }
 {
     match change {
-        Some((m, token, entry)) => put_entry(tx, merchant_text(m), token.as_str(), entry),
+        Some((m, token, entry)) => match count {
+            Some(Count::Made) => add_entry(tx, merchant_text(m), token.as_str(), entry),
+            _ => put_entry(tx, merchant_text(m), token.as_str(), entry),
+        },
         None => Ok(()),
     }
 }
@@ -130,7 +134,7 @@ fn write_record<S: Alter>(
 {
     match change {
         Some((caller, request, answered)) => {
-            put_record(tx, caller_text(caller), request.get(), answered)
+            add_record(tx, caller_text(caller), request.get(), answered)
         }
         None => Ok(()),
     }
@@ -186,7 +190,7 @@ fn write_merchant<S: Alter>(tx: &mut Transaction<'_, S>, ch: &Changes) -> Result
 {
     write_lives(tx, &ch.lives)?;
     write_count(tx, &ch.lives, ch.count)?;
-    write_entry(tx, &ch.entry)
+    write_entry(tx, &ch.entry, ch.count)
 }
 
 /// Writes what changes of a caller's records and rights.

@@ -53,6 +53,58 @@ fn a_new_file_is_its_owners_alone(rt: HostRuntime) -> Result<(), Fail> {
     Ok(())
 }
 
+/// The bytes of a page, as a file says them.
+fn page_bytes(rt: &HostRuntime, path: &str) -> Result<u16, Fail> {
+    let bytes = fs::read(rt, path)?;
+    match bytes.as_slice() {
+        [
+            _,
+            _,
+            _,
+            _,
+            _,
+            _,
+            _,
+            _,
+            _,
+            _,
+            _,
+            _,
+            _,
+            _,
+            _,
+            _,
+            high,
+            low,
+            ..
+        ] => { Ok(u16::from_be_bytes([*high, *low])) }
+        _ => Err("no header")?,
+    }
+}
+
+#[test]
+fn a_new_file_has_pages_of_1024_bytes(rt: HostRuntime) -> Result<(), Fail> {
+    make_folder(&rt, "vault_file_small")?;
+    assert_eq!(rt; opened(&rt, "vault_file_small/a")?.as_str(), "opened");
+    assert_eq!(rt; page_bytes(&rt, "vault_file_small/a")?, 1024);
+    assert!(rt; fs::metadata(&rt, "vault_file_small/a-new").is_err());
+    assert_eq!(rt; checked(&rt, "vault_file_small/a")?.as_str(), "0 0 0");
+    fs::remove_dir_all(&rt, "vault_file_small")?;
+    Ok(())
+}
+
+#[test]
+fn a_file_keeps_the_pages_that_it_has(rt: HostRuntime) -> Result<(), Fail> {
+    make_folder(&rt, "vault_file_pages")?;
+    fs::write(&rt, "vault_file_pages/a", b"".as_slice())?;
+    assert_eq!(rt; opened(&rt, "vault_file_pages/a")?.as_str(), "opened");
+    assert_eq!(rt; page_bytes(&rt, "vault_file_pages/a")?, 4096);
+    assert_eq!(rt; opened(&rt, "vault_file_pages/a")?.as_str(), "opened");
+    assert_eq!(rt; page_bytes(&rt, "vault_file_pages/a")?, 4096);
+    fs::remove_dir_all(&rt, "vault_file_pages")?;
+    Ok(())
+}
+
 #[test]
 fn a_file_that_is_there_keeps_its_mode(rt: HostRuntime) -> Result<(), Fail> {
     make_folder(&rt, "vault_file_mode")?;

@@ -10,7 +10,7 @@ use Rattle.sqlite_sql.specs.declared.ops.ArithOp.TheVariants.{Add}
 use Rattle.sqlite_sql.specs.declared.ops.BinaryOp.TheVariants.{Arith}
 use Rattle.sql_maps.specs.Schema.{grown}
 use Rattle.sql_maps.specs.Texts.{IsQuery, IsWrite, query_of, sorted_of, ordered_by, counting_of, by_key}
-use Rattle.sql_maps.specs.Texts.{upsert, insert_or_nothing, delete}
+use Rattle.sql_maps.specs.Texts.{insert, upsert, insert_or_nothing, delete}
 use Rattle.sql_maps.proofs.Full.{all_columns}
 use Rattle.vault_schema.specs.Versioned.{versioned}
 use Rattle.vault_schema.specs.Version1.Tables.{v1}
@@ -18,7 +18,7 @@ use Rattle.vault_schema.specs.declared.v1.TheConstants.{READ_VERSIONS, READ_MERC
 use Rattle.vault_schema.specs.declared.v1.TheConstants.{READ_ENTRIES, READ_ENTRY_IDS, READ_RECORDS}
 use Rattle.vault_schema.specs.declared.v1.TheConstants.{READ_RIGHTS, FIND_LIVES, FIND_COUNTS, COUNT_MERCHANTS}
 use Rattle.vault_schema.specs.declared.v1.TheConstants.{FIND_RECORD, FIND_RIGHT, PUT_MERCHANT}
-use Rattle.vault_schema.specs.declared.v1.TheConstants.{RAISE_COUNT, PUT_RECORD, GIVE_RIGHT}
+use Rattle.vault_schema.specs.declared.v1.TheConstants.{RAISE_COUNT, ADD_RECORD, GIVE_RIGHT}
 use Rattle.vault_schema.specs.declared.v1.TheConstants.{TAKE_RIGHT}
 
 -- the columns of a merchant after an update
@@ -28,10 +28,6 @@ merchant_set = col 1 1 ∷ col 0 1 ∷ col 0 2 ∷ col 0 3 ∷ []
 -- those of a count
 abbrev pub count_set : List Term
 count_set = col 1 1 ∷ col 1 2 ∷ op2 (Arith Add) (col 1 3) (lit (Int (pos 1))) ∷ []
-
--- those of a record
-abbrev pub record_set : List Term
-record_set = col 1 1 ∷ col 1 2 ∷ col 0 2 ∷ col 0 3 ∷ col 0 4 ∷ []
 
 module _ (ts : List Table) (is : List Index) where
   -- ---- queries
@@ -102,10 +98,10 @@ module _ (ts : List Table) (is : List Index) where
   unfolding understood everything
   raise_is = record { is = refl; plain = (refl, refl) }
 
-  pub put_record_is : IsWrite (grown v1 ts is) PUT_RECORD.now
-      (upsert 4 8 2 6 (lit Null ∷ col 0 0 ∷ col 0 1 ∷ col 0 2 ∷ col 0 3 ∷ col 0 4 ∷ []) 5 record_set)
+  pub add_record_is : IsWrite (grown v1 ts is) ADD_RECORD.now
+      (insert 4 6 (lit Null ∷ col 0 0 ∷ col 0 1 ∷ col 0 2 ∷ col 0 3 ∷ col 0 4 ∷ []))
   unfolding understood everything
-  put_record_is = record { is = refl; plain = (refl, refl) }
+  add_record_is = record { is = refl; plain = (refl, refl) }
 
   pub give_is : IsWrite (grown v1 ts is) GIVE_RIGHT.now
       (insert_or_nothing 5 3 4 (lit Null ∷ col 0 0 ∷ col 0 1 ∷ col 0 2 ∷ []))

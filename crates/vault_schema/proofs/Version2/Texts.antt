@@ -2,9 +2,8 @@
 use Rattle.std.proofs.Common.{ℕ, pos, List, [], ◌∷◌, refl}
 use Rattle.sqlite_tied.specs.Compute.{everything}
 use Rattle.sqlite.specs.Collation.TheVariants.{Binary}
-use Rattle.sqlite.specs.Command.TheVariants.{Insert, Update}
+use Rattle.sqlite.specs.Command.TheVariants.{Update}
 use Rattle.sqlite.specs.Listing.{understood}
-use Rattle.sqlite.specs.Source.TheVariants.{Values}
 use Rattle.sqlite.specs.Table.{Table}
 use Rattle.sqlite.specs.Term.{Term, lit, col, op1, op2}
 use Rattle.sqlite.specs.declared.types.Value.TheVariants.{Null, Int}
@@ -14,13 +13,13 @@ use Rattle.sqlite_sql.specs.declared.ops.CompareOp.TheVariants.{Gt, Le}
 use Rattle.sqlite_sql.specs.declared.ops.UnaryOp.TheVariants.{Not}
 use Rattle.sql_maps.specs.Schema.{grown}
 use Rattle.sql_maps.specs.Texts.{IsQuery, IsWrite, query_of, sorted_of, ordered_by, by_id, by_key, eq, update}
-use Rattle.sql_maps.specs.Texts.{upsert, delete, first_of}
+use Rattle.sql_maps.specs.Texts.{insert, upsert, delete, first_of}
 use Rattle.sql_maps.proofs.Full.{all_columns}
 use Rattle.vault_schema.specs.Version2.Tables.{v2}
 use Rattle.vault_schema.specs.declared.v2.TheConstants.{PUT_VERSION, SET_VERSION, EMPTY_ENTRIES, FIND_CARD}
 use Rattle.vault_schema.specs.declared.v2.TheConstants.{FIND_NUMBER, FIND_USES, ADD_CARD, SET_USES}
 use Rattle.vault_schema.specs.declared.v2.TheConstants.{DROP_CARD, FIND_ENTRY, FIND_CURRENT}
-use Rattle.vault_schema.specs.declared.v2.TheConstants.{FIND_DEAD, PUT_ENTRY, READ_CARDS, READ_ENTRIES}
+use Rattle.vault_schema.specs.declared.v2.TheConstants.{FIND_DEAD, ADD_ENTRY, PUT_ENTRY, READ_CARDS, READ_ENTRIES}
 
 -- the card with the merchant and the number that the parameters say
 abbrev pub card_tests : List Term
@@ -46,7 +45,11 @@ dead_tests =
 abbrev pub uses_set : List Term
 uses_set = lit Null ∷ col 1 2 ∷ col 1 3 ∷ col 0 1 ∷ []
 
--- those of an entry after an update
+-- the row of an entry that comes
+abbrev pub entry_terms : List Term
+entry_terms = lit Null ∷ col 0 0 ∷ col 0 1 ∷ col 0 2 ∷ col 0 3 ∷ col 0 4 ∷ col 0 5 ∷ col 0 6 ∷ []
+
+-- the columns of an entry after an update
 abbrev pub entry_set : List Term
 entry_set = col 1 1 ∷ col 1 2 ∷ col 0 2 ∷ col 0 3 ∷ col 0 4 ∷ col 0 5 ∷ col 0 6 ∷ []
 
@@ -93,7 +96,7 @@ module _ (ts : List Table) (is : List Index) where
   -- ---- writes
 
   pub put_version_is : IsWrite (grown v2 ts is) PUT_VERSION.now
-      (Insert 0 (Values (lit (Int (pos 1)) ∷ lit Null ∷ lit (Int (pos 2)) ∷ []) 3))
+      (insert 0 3 (lit (Int (pos 1)) ∷ lit Null ∷ lit (Int (pos 2)) ∷ []))
   unfolding understood everything
   put_version_is = record { is = refl; plain = (refl, refl) }
 
@@ -113,7 +116,7 @@ module _ (ts : List Table) (is : List Index) where
   empty_entries_is = record { is = refl; plain = (refl, refl) }
 
   pub add_card_is : IsWrite (grown v2 ts is) ADD_CARD.now
-      (Insert 6 (Values (lit Null ∷ lit Null ∷ col 0 0 ∷ col 0 1 ∷ lit (Int (pos 1)) ∷ []) 5))
+      (insert 6 5 (lit Null ∷ lit Null ∷ col 0 0 ∷ col 0 1 ∷ lit (Int (pos 1)) ∷ []))
   unfolding understood everything
   add_card_is = record { is = refl; plain = (refl, refl) }
 
@@ -125,8 +128,11 @@ module _ (ts : List Table) (is : List Index) where
   unfolding understood everything
   drop_card_is = record { is = refl; plain = (refl, refl) }
 
+  pub add_entry_is : IsWrite (grown v2 ts is) ADD_ENTRY.now (insert 7 8 entry_terms)
+  unfolding understood everything
+  add_entry_is = record { is = refl; plain = (refl, refl) }
+
   pub put_entry_is : IsWrite (grown v2 ts is) PUT_ENTRY.now
-      (upsert 7 14 2 8 (lit Null ∷ col 0 0 ∷ col 0 1 ∷ col 0 2 ∷ col 0 3 ∷ col 0 4 ∷ col 0 5 ∷ col 0 6 ∷ []) 7
-      entry_set)
+      (upsert 7 14 2 8 entry_terms 7 entry_set)
   unfolding understood everything
   put_entry_is = record { is = refl; plain = (refl, refl) }

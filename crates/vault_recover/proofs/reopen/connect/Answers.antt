@@ -1,0 +1,25 @@
+use Rattle.std.proofs.Common.{ℕ, Bool, cond, List, ap₂, subst}
+use Rattle.sqlite.specs.Files.{file_state}
+use Rattle.sqlite.specs.Start.{FindsIn}
+use Rattle.sqlite_disk.specs.Events.{Event, replay}
+use Rattle.sqlite_wal.specs.Recovery.{Image}
+use Rattle.vault_recover.proofs.reopen.connect.Goals as goal
+
+abbrev image : List ℕ → List ℕ → Image
+image log db = record { log = log; db = db }
+
+abbrev seen : List ℕ → List ℕ → Bool → List Event → List ℕ
+seen log db is_log history = (replay (cond is_log log db) history).seen
+
+-- files that were just opened hold what the start says
+pub returns-in-Ok-open_files_with-clause-opened : goal.returns-in-Ok-open_files_with-clause-opened
+returns-in-Ok-open_files_with-clause-opened g c = rw c.set_clock.ensures λ clean.
+    let (log, db) = c.in-Ok-open.ensures.fresh in
+    let found = c.in-Ok-open_files_with.ensures.found clean in
+    let same = ap₂ image (ap₂ (seen g.S.Start.log g.S.Start.db) log.0 log.1)
+    (ap₂ (seen g.S.Start.log g.S.Start.db) db.0 db.1) in
+    record {
+      found = subst (λ i. FindsIn i (file_state c.in-Ok-open_files_with.opened)) same
+          (record { holds = found.holds; reads = found.reads });
+      opened = c.in-Ok-open_files_with.ensures.opened clean;
+    }
