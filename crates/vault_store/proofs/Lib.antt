@@ -3,6 +3,9 @@ pub mod DeadLemmas
 pub mod Drawn
 pub mod EmptyLemmas
 pub mod Held
+pub mod IndexLemmas
+pub mod LatestLemmas
+pub mod ListedLemmas
 pub mod LiveLemmas
 pub mod MadeLemmas
 pub mod MerchantLemmas
@@ -10,3 +13,4 @@ pub mod Results
 pub mod RightOrder
 pub mod ShownKeysLemmas
 pub mod ShownLemmas
+pub mod WithAt

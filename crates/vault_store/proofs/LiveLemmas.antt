@@ -26,7 +26,7 @@ use Rattle.vault_store.specs.Shown.{Shows}
 abbrev pub IsNotLive : Bytes → Bytes → ℕ → (Bytes × Bytes) × Entry → Type 0
 IsNotLive m pan at e = e.0.0 ≡ m → ¬ (is_reusable pan at e.1 ≡ true)
 
-same_itself : (a b : Bytes) → a ≡ b → same a b ≡ true
+pub same_itself : (a b : Bytes) → a ≡ b → same a b ≡ true
 same_itself a b is =
     texts_ties a b ∙ ap (λ x. is_eq (bytes_cmp x b)) is ∙ ap is_eq (tied_itself bytes_total b)
 

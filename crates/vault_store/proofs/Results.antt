@@ -1,6 +1,8 @@
 -- Facts about results.
-use Rattle.std.proofs.Common.{◌≡◌, Result, Ok, Err, Bool, true, false, not, refl}
-use Rattle.std.specs.Prelude.{OnErr}
+use Rattle.std.proofs.Common.{◌≡◌, Result, Ok, Err, Bool, true, false, not, refl, Option, Some, None}
+use Rattle.std.proofs.Common.{is_some}
+use Rattle.std.specs.Prelude.{OnErr, OnOk}
+use Rattle.std.specs.Result.{is_err}
 use Rattle.vault_core.specs.Vault.{Vault}
 use Rattle.vault_store.specs.Reads.{KeepsOnMemory, StillHolds}
 use Rattle.vault_store.specs.declared.tables.TablesFault.{TablesFault}
@@ -10,6 +12,15 @@ use Rattle.vault_store.specs.declared.tables.TablesFault.TheVariants.{Memory, St
 pub on_err : {T E P : Type 0} (r : Result T E) → P → OnErr r P
 on_err (Ok x) p = tt
 on_err (Err e) p = p
+
+-- what holds on Ok holds where the result is no Err
+pub not_err : {T E : Type 0} (r : Result T E) (P : Type 0) → is_err r ≡ false → OnOk r P → P
+not_err (Ok x) P fine p = p
+not_err (Err e) P fine p = cc
+
+pub none_is : {X : Type 0} (o : Option X) → is_some o ≡ false → o ≡ None
+none_is None empty = refl
+none_is (Some x) empty = cc
 
 -- what keeps the vaults that the tables hold keeps them on want of memory
 pub keeps : {X : Type 0} (r : Result X TablesFault) (before now : Vault → Type 0) → StillHolds before now

@@ -1,6 +1,7 @@
 -- Tables in memory that hold a vault.
-use Rattle.vault_core.specs.Keys.{entry_cmp, record_cmp, right_cmp}
+use Rattle.vault_core.specs.Keys.{record_cmp, right_cmp}
 use Rattle.vault_core.specs.Vault.{Vault}
+use Rattle.vault_store.specs.HeldEntries.{HoldsEntries}
 use Rattle.vault_store.specs.Shown.{Shows}
 use Rattle.vault_store.specs.ShownKeys.{ShowsKeys}
 use Rattle.vault_store.specs.ShownMerchants.{ShowsMerchants}
@@ -9,6 +10,6 @@ use Rattle.vault_store.specs.declared.memory.MemTables.{MemTables}
 -- the tables hold the vault
 pub record IsHeld (t : MemTables) (V : Vault) : Type 0 where
   pub merchants : ShowsMerchants t.merchants V
-  pub entries : Shows entry_cmp t.entries V.entries
+  pub entries : HoldsEntries t.entries V.entries
   pub records : Shows record_cmp t.records V.records
   pub rights : ShowsKeys right_cmp t.rights V.rights

@@ -1,6 +1,8 @@
 pub mod Added
 pub mod Applied
 pub mod Held
+pub mod HeldEntries
+pub mod Index
 pub mod Left
 pub mod Live
 pub mod Reads

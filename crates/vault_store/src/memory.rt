@@ -5,6 +5,8 @@ ghost use Rattle.vault_core.specs.Vault.{empty_vault};
 
 mod current;
 mod dead;
+mod entries;
+mod index;
 mod merchant;
 mod rights;
 mod rows;
@@ -12,9 +14,8 @@ mod write;
 
 use crate::tables::{Tables, TablesFault};
 use crate::window::moment_of;
-use current::live_token;
 use dead::dead_among;
-use rows::{put, put_back};
+use entries::Entries;
 use std::alloc::Global;
 use std::collections::{BTreeMap, BTreeSet};
 use vault_core::changes::Changes;
@@ -32,7 +33,7 @@ use write::write_record;
 pub struct MemTables {
     alloc: Global,
     merchants: BTreeMap<MerchantId, MerchantRow>,
-    entries: BTreeMap<(MerchantId, Token), Entry>,
+    entries: Entries,
     records: BTreeMap<(Caller, RequestNo), Record>,
     rights: BTreeSet<(Caller, (MerchantId, Right))>,
 }
@@ -47,7 +48,7 @@ impl MemTables {
         MemTables {
             alloc,
             merchants: BTreeMap::new(alloc),
-            entries: BTreeMap::new(alloc),
+            entries: Entries::new(alloc),
             records: BTreeMap::new(alloc),
             rights: BTreeSet::new(alloc),
         }
@@ -96,11 +97,11 @@ impl Tables for MemTables {
     }
 
     fn entry(&mut self, m: MerchantId, t: Token) -> Result<Option<Entry>, TablesFault> {
-        Ok(self.entries.get(&(m, t)).copied())
+        Ok(self.entries.get(m, t))
     }
 
     fn current(&mut self, m: MerchantId, p: Pan, at: Moment) -> Result<Option<Token>, TablesFault> {
-        Ok(live_token(&self.entries, m, &p, at))
+        Ok(self.entries.current(m, &p, at))
     }
 
     fn dead(
@@ -110,7 +111,7 @@ impl Tables for MemTables {
         limit: usize,
     ) -> Result<Vec<Token>, TablesFault> {
         let at = moment_of(&self.merchants.get(&m).copied(), now);
-        Ok(dead_among(self.alloc, &self.entries, m, at, limit)?)
+        Ok(dead_among(self.alloc, &self.entries.rows, m, at, limit)?)
     }
 
     fn write(&mut self, ch: &Changes) -> Result<(), TablesFault> {
@@ -118,14 +119,14 @@ impl Tables for MemTables {
             write_record(&mut self.records, &mut self.rights, &mut self.merchants, ch)?;
             return Ok(());
         };
-        let was = put(&mut self.entries, (merchant, token), entry)?;
+        let was = self.entries.put(merchant, token, &entry)?;
         if let Err(refused) = write_record(
             &mut self.records,
             &mut self.rights,
             &mut self.merchants,
             ch,
         ) {
-            put_back(&mut self.entries, (merchant, token), was);
+            self.entries.put_back(merchant, token, &entry, was);
             return Err(TablesFault::from(refused));
         }
         Ok(())

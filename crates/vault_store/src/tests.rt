@@ -1,6 +1,7 @@
 //! Lists of commands over tables in memory: worked cases, with tokens and moments worked out by hand.
 mod purge;
 mod redeem;
+mod reuse;
 mod stuck;
 
 use crate::memory::MemTables;

@@ -15,7 +15,7 @@ const SECOND: &[u8] = b"1111111111111111";
 const THIRD: &[u8] = b"2222222222221111";
 
 /// The reply to a Purge of a caller at `shop1`.
-fn purge<T: Tables>(
+pub fn purge<T: Tables>(
     rt: &impl Abort,
     vault: &mut Vault<T>,
     caller: &[u8],

@@ -1,9 +1,7 @@
 use Rattle.std.proofs.Common.{sym, ap, ◌∙◌, subst, inl, inr, Err}
-use Rattle.vault_core.proofs.Maps.{entry_exact}
 use Rattle.vault_core.specs.Changes.{with_entry}
-use Rattle.vault_core.specs.Keys.{entry_cmp}
 use Rattle.vault_store.specs.Held.{IsHeld}
-use Rattle.vault_store.specs.Shown.{Shows}
+use Rattle.vault_store.specs.HeldEntries.{HoldsEntries}
 use Rattle.vault_store.proofs.AddsLemmas.{adds_entry}
 use Rattle.vault_store.proofs.Results.{keeps}
 use Rattle.vault_store.proofs.memory.MemTablesTables.write.Goals as goal
@@ -22,7 +20,7 @@ pub returns-in_err-was-clause-allowed : goal.returns-in_err-was-clause-allowed
 returns-in_err-was-clause-allowed c V held fit adds =
     let x = c.in-Some in
     absurd (adds_entry V c.args.ch.now (x.merchant, x.token, x.entry) x.is
-    (sym (held.entries.at (x.merchant, x.token)) ∙ c.in_err-was.ensures.new) adds)
+    (sym (held.entries.rows.at (x.merchant, x.token)) ∙ c.in_err-was.ensures.new) adds)
 
 pub returns-in-Err-clause-kept : goal.returns-in-Err-clause-kept
 returns-in-Err-clause-kept c =
@@ -38,7 +36,7 @@ returns-in-Err-clause-kept c =
     record {
       merchants = kept.others.merchants_are;
       entries =
-          c.put_back.ensures entry_exact V.entries x.entry (put.was ∙ held.entries.at (x.merchant, x.token))
+          c.put_back.ensures V.entries (put.was ∙ held.entries.rows.at (x.merchant, x.token))
           (put.ok V.entries held.entries);
       records = kept.records_are;
       rights = kept.others.rights_are;
@@ -56,7 +54,7 @@ returns-clause-done c _ V held sound fit =
     record {
       merchants = rest.others.merchants_are;
       entries =
-          subst (λ F. Shows entry_cmp c.put.new.rows F) (sym (ap (with_entry V.entries) c.in-Some.is))
+          subst (HoldsEntries c.put.new.self) (sym (ap (with_entry V.entries) c.in-Some.is))
           (c.in_ok-was.ensures.ok V.entries held.entries);
       records = rest.records_are;
       rights = rest.others.rights_are;
@@ -83,7 +81,7 @@ returns-in-Err-clause-crash c _ V held sound fit =
     inl (record {
       merchants = kept.others.merchants_are;
       entries =
-          c.put_back.ensures entry_exact V.entries x.entry (put.was ∙ held.entries.at (x.merchant, x.token))
+          c.put_back.ensures V.entries (put.was ∙ held.entries.rows.at (x.merchant, x.token))
           (put.ok V.entries held.entries);
       records = kept.records_are;
       rights = kept.others.rights_are;
@@ -101,7 +99,7 @@ returns-clause-crash c _ V held sound fit =
     inr (record {
       merchants = rest.others.merchants_are;
       entries =
-          subst (λ F. Shows entry_cmp c.put.new.rows F) (sym (ap (with_entry V.entries) c.in-Some.is))
+          subst (HoldsEntries c.put.new.self) (sym (ap (with_entry V.entries) c.in-Some.is))
           (c.in_ok-was.ensures.ok V.entries held.entries);
       records = rest.records_are;
       rights = rest.others.rights_are;
