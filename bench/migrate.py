@@ -81,7 +81,7 @@ def move(path):
     for statement in NEWER.strip().split(";\n"):
         conn.execute(statement)
     for _, _, token, number, *rest in rows:
-        same.put_entry(conn, token, number, rest)
+        same.add_entry(conn, token, number, rest)
     conn.execute("COMMIT")
     conn.close()
     spent = time.perf_counter() - start

@@ -20,14 +20,14 @@ trap 'exit 1' HUP INT TERM
 build() {
     build="$folder/build"
     mkdir -p "$build/crates/vault_bench/src"
-    for crate in sql_maps vault_pan vault_core vault_rules vault_store vault_schema vault_sql vault_recover; do
+    for crate in sql_maps vault_pan vault_core vault_rules vault_store vault_schema vault_sql vault_recover vault_blank; do
         cp -R "$here/../crates/$crate" "$build/crates/"
         grep "^$crate:" "$here/../crates.txt" >> "$build/crates.txt"
     done
     for source in "$here"/vault_bench/src/*.rattle; do
         cp "$source" "$build/crates/vault_bench/src/$(basename "$source" .rattle).rt"
     done
-    echo 'vault_bench: vault_recover vault_rules vault_sql vault_schema sql_maps vault_store vault_core vault_pan sqlite' >> "$build/crates.txt"
+    echo 'vault_bench: vault_blank vault_recover vault_rules vault_sql vault_schema sql_maps vault_store vault_core vault_pan sqlite' >> "$build/crates.txt"
     (cd "$build/crates/vault_bench" && rt run > /dev/null)
     program="$build/crates/vault_bench/out/vault_bench"
 }

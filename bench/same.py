@@ -23,8 +23,9 @@ PUT_MERCHANT = "INSERT INTO merchants VALUES (?1, ?2, ?3, ?4) ON CONFLICT (name)
 RAISE = "INSERT INTO counts VALUES (?1, ?2, 1) ON CONFLICT (merchant, kind) DO UPDATE SET total = total + 1"
 ADD_CARD = "INSERT INTO cards2 VALUES (NULL, ?1, ?2, 1)"
 SET_USES = "UPDATE cards2 SET uses = ?2 WHERE id = ?1"
+ADD_ENTRY = "INSERT INTO entries2 VALUES (?1, ?2, ?3, ?4, ?5, ?6, ?7)"
 PUT_ENTRY = "INSERT INTO entries2 VALUES (?1, ?2, ?3, ?4, ?5, ?6, ?7) ON CONFLICT (merchant, token) DO UPDATE SET card = ?3, usage = ?4, birth = ?5, expires = ?6, revoked = ?7"
-PUT_RECORD = "INSERT INTO records VALUES (?1, ?2, ?3, ?4, ?5) ON CONFLICT (caller, request) DO UPDATE SET merchant = ?3, token = ?4, usage = ?5"
+ADD_RECORD = "INSERT INTO records VALUES (?1, ?2, ?3, ?4, ?5)"
 
 CALLER = "till-1"
 MERCHANT = "shop1"
@@ -48,13 +49,14 @@ def token_for(number):
 
 
 def opened(file):
-    """The file as the vault has it: a log, a sync at each commit, as many pages in memory."""
+    """The file as the vault has it: a log, a sync at each commit, as much in memory, and as long a log."""
     conn = sqlite3.connect(file, isolation_level=None)
     conn.execute("PRAGMA journal_mode = WAL")
     conn.execute("PRAGMA synchronous = FULL")
     conn.execute("PRAGMA locking_mode = EXCLUSIVE")
-    conn.execute("PRAGMA cache_size = 2000")
-    conn.execute("PRAGMA wal_autocheckpoint = 1000")
+    conn.execute("PRAGMA cache_size = -16384")
+    page = conn.execute("PRAGMA page_size").fetchall()[0][0]
+    conn.execute(f"PRAGMA wal_autocheckpoint = {24576000 // page}")
     return conn
 
 
@@ -68,9 +70,8 @@ def read(conn, number, token):
     return single_life, multi_life, moment
 
 
-def put_entry(conn, token, number, rest):
-    """A new entry, and a use more of its number's card: what stands at the token is read first."""
-    assert not conn.execute(ENTRY, (MERCHANT, token)).fetchall()
+def add_entry(conn, token, number, rest):
+    """A new entry, and a use more of its number's card."""
     cards = conn.execute(CARD, (MERCHANT, number)).fetchall()
     if cards:
         card, uses = cards[0]
@@ -78,17 +79,23 @@ def put_entry(conn, token, number, rest):
     else:
         conn.execute(ADD_CARD, (MERCHANT, number))
         card, _ = conn.execute(CARD, (MERCHANT, number)).fetchall()[0]
-    conn.execute(PUT_ENTRY, (MERCHANT, token, card, *rest))
+    conn.execute(ADD_ENTRY, (MERCHANT, token, card, *rest))
+
+
+def put_merchant(conn, lives):
+    """The merchant's lives and its moment, written where it has others."""
+    if conn.execute(LIVES, (MERCHANT,)).fetchall() != [lives]:
+        conn.execute(PUT_MERCHANT, (MERCHANT, *lives))
 
 
 def write(conn, number, token, lives):
     """What one Tokenize writes, in one transaction."""
     single_life, multi_life, moment = lives
     conn.execute("BEGIN")
-    conn.execute(PUT_MERCHANT, (MERCHANT, single_life, multi_life, moment))
+    put_merchant(conn, lives)
     conn.execute(RAISE, (MERCHANT, 1))
-    put_entry(conn, token, NUMBER, (1, moment, moment + single_life, None))
-    conn.execute(PUT_RECORD, (CALLER, number, MERCHANT, token, 1))
+    add_entry(conn, token, NUMBER, (1, moment, moment + single_life, None))
+    conn.execute(ADD_RECORD, (CALLER, number, MERCHANT, token, 1))
     conn.execute("COMMIT")
 
 

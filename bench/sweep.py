@@ -53,8 +53,8 @@ def make_file(program, vault, dead):
     conn.execute("BEGIN")
     conn.execute("INSERT INTO counts VALUES (?1, 1, ?2)", (same.MERCHANT, 2 * dead))
     conn.execute("INSERT INTO cards2 VALUES (1, ?1, ?2, ?3)", (same.MERCHANT, same.NUMBER, 2 * dead))
-    conn.executemany(same.PUT_ENTRY, entries)
-    conn.executemany(same.PUT_RECORD, records)
+    conn.executemany(same.ADD_ENTRY, entries)
+    conn.executemany(same.ADD_RECORD, records)
     conn.execute("COMMIT")
     conn.close()
     assert_sound(program, vault, dead)
@@ -81,7 +81,7 @@ def purge(conn, token):
     card, usage, birth, expires, revoked = conn.execute(same.ENTRY, (same.MERCHANT, token)).fetchall()[0]
     assert conn.execute(NUMBER_OF, (card,)).fetchall() and expires <= NOW
     conn.execute("BEGIN")
-    conn.execute(same.PUT_MERCHANT, (same.MERCHANT, single_life, multi_life, max(moment, NOW)))
+    same.put_merchant(conn, (single_life, multi_life, max(moment, NOW)))
     conn.execute(same.ENTRY, (same.MERCHANT, token)).fetchall()
     conn.execute(same.PUT_ENTRY, (same.MERCHANT, token, None, usage, birth, expires, revoked))
     ((uses,),) = conn.execute(USES, (card,)).fetchall()

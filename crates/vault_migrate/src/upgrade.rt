@@ -21,7 +21,7 @@ use vault_schema::v2::{
     CREATE_CARDS, CREATE_ENTRIES, CREATE_ENTRIES_CARD, EMPTY_ENTRIES, SET_VERSION,
 };
 use vault_sql::fault::StoreFault;
-use vault_sql::pointing::put_entry;
+use vault_sql::pointing::add_entry;
 use vault_sql::text::merchant_text;
 
 /// Makes the tables that come with this schema, takes the entries away and says this version.
@@ -39,7 +39,7 @@ fn make_room<S: Alter>(tx: &mut Transaction<'_, S>) -> Result<(), Error>
     step(tx, SET_VERSION, &[])
 }
 
-/// Writes entries, one after the other.
+/// Writes new entries, one after the other.
 fn put_entries<S: Alter>(
     tx: &mut Transaction<'_, S>,
     entries: &[(MerchantId, Token, Entry)],
@@ -50,7 +50,7 @@ fn put_entries<S: Alter>(
         (λ _. Unit {0}) (λ h. record h { entries = with_all entries.now h.entries }) }
 {
     for (m, token, entry) in entries {
-        put_entry(tx, merchant_text(m), token.as_str(), entry)?;
+        add_entry(tx, merchant_text(m), token.as_str(), entry)?;
     }
     Ok(())
 }
