@@ -13,7 +13,9 @@ returns-then-is_some-clause-ok c F held =
     let put = c.in_ok-was.ensures in
     record {
       rows = put.ok F held.rows;
-      index = c.follow.ensures.shown F (sym (put.was ∙ held.rows.at (c.args.merchant, c.args.token))) held.index;
+      index =
+          c.follow.ensures.shown F
+          (sym (put.was ∙ held.rows.at (c.args.merchant, c.args.token))) held.index;
     }
 
 pub returns-in-Err-clause-err : goal.returns-in-Err-clause-err

@@ -14,6 +14,7 @@ returns c F was held =
       rows = c.put_back.ensures entry_exact F entry was held.rows;
       index =
           subst (ShowsIndex c.follow.new.index) (put_back-is F at entry c.args.was was)
-          (c.follow.ensures.shown (map.insert F at entry) (get-insert_same entry_total entry_exact F at entry)
+          (c.follow.ensures.shown (map.insert F at entry)
+          (get-insert_same entry_total entry_exact F at entry)
           held.index);
     }
