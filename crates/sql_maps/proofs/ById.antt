@@ -32,7 +32,7 @@ use Rattle.sql_maps.proofs.Keys.{cast_row_fits, cast_row_new}
 use Rattle.sql_maps.proofs.KeyTests.{and_true, int_eq}
 use Rattle.sql_maps.proofs.Plain.{claim_at, claimed}
 use Rattle.sql_maps.proofs.Reading.{answer_of}
-use Rattle.sql_maps.proofs.RowsById.{at_id, found_no_id, found_one_id, free_id, inserted_id, passes_id}
+use Rattle.sql_maps.proofs.RowsById.{at_id, found_one_id, free_id, inserted_id, passes_id}
 use Rattle.sql_maps.proofs.RowsById.{removed_id, replaced_id, same_put}
 use Rattle.sql_maps.proofs.Statements.{Ran, written}
 use Rattle.sql_maps.proofs.Steps.{Wrote, delete_wrote, insert_wrote, update_wrote}

@@ -1,6 +1,6 @@
 -- What a query shows of the first rows in the order of one column.
 use Rattle.std.proofs.Common.{◌≡◌, ℕ, pos, ◌<◌, ◌+◌, List, [], ◌∷◌, map, take, length, get_or, arith, refl, sym, ap}
-use Rattle.std.proofs.Common.{subst, ◌∙◌, false, inl, inr, Equal}
+use Rattle.std.proofs.Common.{subst, ◌∙◌, inl, inr, Equal}
 use Rattle.std.proofs.lemmas.List.{get_or-map, length-map}
 use Rattle.std.proofs.lemmas.List.Sorted.{IsPermutation-map, IsPermutation-sym}
 use Rattle.std.specs.Cmp.{tied_itself}
@@ -10,7 +10,7 @@ use Rattle.sqlite.specs.declared.types.Value.{Value}
 use Rattle.sqlite.specs.declared.types.Value.TheVariants.{Int}
 use Rattle.sqlite.specs.Order.{Row, column, value_cmp}
 use Rattle.sqlite.specs.Program.{overlay}
-use Rattle.sqlite.specs.Query.{IsAnswer, Output, as_count, limited, output, output_cmp}
+use Rattle.sqlite.specs.Query.{IsAnswer, Output, as_count, limited, output}
 use Rattle.sqlite.specs.Term.{Term}
 use Rattle.sqlite.specs.Tree.{Trees, rowid}
 use Rattle.sqlite_catalog.proofs.LayoutLemmas.{ascending_filter}

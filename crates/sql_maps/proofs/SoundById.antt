@@ -1,7 +1,7 @@
 -- What a sound database says of a table whose key is its rowid: a UNIQUE key comes once, and each row has a
 -- value for each column.
-use Rattle.std.proofs.Common.{◌≡◌, ℕ, ℤ, suc, ◌+◌, ◌<◌, List, [], ◌∷◌, length, map, drop, inl, true, false, Option, Some}
-use Rattle.std.proofs.Common.{None, refl, sym, ap, subst, ◌∙◌, arith, slice_get, ◌==◌}
+use Rattle.std.proofs.Common.{◌≡◌, ℕ, ℤ, suc, ◌+◌, ◌<◌, List, [], ◌∷◌, length, map, drop, true, false, Option, Some}
+use Rattle.std.proofs.Common.{None, refl, sym, ap, subst, ◌∙◌, arith, ◌==◌}
 use Rattle.std.proofs.lemmas.Bool.{and_from, and_parts}
 use Rattle.std.proofs.lemmas.Bool.Decides.{nat_tests}
 use Rattle.std.proofs.lemmas.List.Sorted.{IsPermutation-map}
@@ -29,7 +29,7 @@ use Rattle.sqlite_schema.specs.declared.schema.Column.{Column}
 use Rattle.sqlite_schema.specs.declared.schema.Constraint.TheVariants.{Datatype, NotNull}
 use Rattle.sqlite_value.specs.declared.keys.Key.{Key}
 use Rattle.sql_maps.specs.Rows.{AreRowsById}
-use Rattle.sql_maps.specs.Schema.{Descriptor, below, table_of}
+use Rattle.sql_maps.specs.Schema.{below, table_of}
 use Rattle.sql_maps.specs.Texts.{IsQuery, sorted_of}
 use Rattle.sql_maps.proofs.Answers.{shown_as}
 use Rattle.sql_maps.proofs.ById.{ById}

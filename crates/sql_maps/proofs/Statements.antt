@@ -37,7 +37,7 @@ use Rattle.sql_maps.specs.Codes.{fit, row_of}
 use Rattle.sql_maps.specs.Rows.{AreRowsOf, put}
 use Rattle.sql_maps.specs.Schema.{Descriptor, table_of, columns_to, is_plain}
 use Rattle.sql_maps.specs.States.{Claim, StandsIn, Within, at_place}
-use Rattle.sql_maps.specs.Texts.{IsWrite, insert, upsert, insert_or_nothing, delete, met_update}
+use Rattle.sql_maps.specs.Texts.{IsWrite, insert, upsert, insert_or_nothing, update, delete, met_update}
 use Rattle.sql_maps.specs.Texts.{by_key, eq}
 use Rattle.sql_maps.proofs.Answers.{one_at, passing, shown_as, shows_none, shows_row}
 use Rattle.sql_maps.proofs.ByKey.{at_key, eq_itself, passes_key, row_at, inserted, put_again, removed}
@@ -46,7 +46,8 @@ use Rattle.sql_maps.proofs.Keys.{Keyed, cast_row_fits, cast_row_new, coding, hit
 use Rattle.sql_maps.proofs.KeyTests.{equal_is, int_eq, and_true}
 use Rattle.sql_maps.proofs.Plain.{claim_at, claimed, frame}
 use Rattle.sql_maps.proofs.Unique.{one_at_key}
-use Rattle.sql_maps.proofs.Steps.{Resolves, Tried, Wrote, clause_of, delete_wrote, insert_wrote, upsert_wrote}
+use Rattle.sql_maps.proofs.Steps.{Resolves, Tried, Wrote, clause_of, delete_wrote, insert_wrote, update_wrote}
+use Rattle.sql_maps.proofs.Steps.{upsert_wrote}
 
 -- a claim that is told in other words
 pub retold : (s : Schema) (claims others : List Claim) (base : Database) (st : State)
@@ -162,68 +163,99 @@ module _ {s : Schema} (fine : is_plain s ≡ true) {claims : List Claim} {base :
               (removed (coding t.codes) are_rows k at.2 at.0 at.3)
         ]
 
+    -- the row of the key was written again, with another value
+    changed : (k : K) (x y : X) (n : ℤ) → Has (db t.table.tree) (Int n ∷ row_of key value k y)
+        → IsDatabase new.now → (rows : List Row) → rows ≡ (Int n ∷ Int n ∷ row_of key value k x) ∷ []
+        → Wrote s t.table.tree (ids_of rows) (map (λ r. cast_row (table_of t.table) (drop 1 r)) rows) db
+        new.now → IsPut k (Some x)
+    changed k x y n there sound rows all wrote =
+        let now = subst (λ r. Wrote s t.table.tree (n ∷ []) (r ∷ []) db new.now)
+        (cast_row_fits t.table n (row_of key value k x) (t.codes.fit k x))
+        (subst (λ l. Wrote s t.table.tree (ids_of l)
+        (map (λ r. cast_row (table_of t.table) (drop 1 r)) l) db new.now) all wrote) in
+        put_rows k (Some x) sound (n ∷ []) _ now (replaced (coding t.codes) are_rows k x y n there now.fresh)
+
     abbrev fresh : K → X → Row
     fresh k x = Int (next_rowid (db t.table.tree)) ∷ row_of key value k x
 
-    -- INSERT .. ON CONFLICT (key): a new row has the value `first`
-    put_in : (k : K) (x first : X) (width : ℕ) (terms : List Term) (update : Option Query)
+    -- INSERT .. ON CONFLICT (key)
+    put_in : (k : K) (x : X) (width : ℕ) (terms : List Term) (update : Option Query)
         → IsWrite s text (InsertOr t.place Abort (Values terms width) (clause_of (Some columns) update ∷ []))
-        → value_rows params width (length terms / width) terms ≡ (Null ∷ row_of key value k first) ∷ []
-        → (held k ≡ None → first ≡ x)
+        → value_rows params width (length terms / width) terms ≡ (Null ∷ row_of key value k x) ∷ []
         → ((n : ℤ) (y : X) → held k ≡ Some y → Has (db t.table.tree) (Int n ∷ row_of key value k y)
         → (rows : List Row)
-        → Resolves update (params ++ Int n ∷ shown (table_of t.table) (fresh k first)) rows db
+        → Resolves update (params ++ Int n ∷ shown (table_of t.table) (fresh k x)) rows db
         → IsDatabase new.now
         → Wrote s t.table.tree (ids_of rows) (map (λ r. cast_row (table_of t.table) (drop 1 r)) rows) db
         new.now → IsPut k (Some x))
         → IsPut k (Some x)
-    put_in k x first width terms update it one starts resolves =
+    put_in k x width terms update it one resolves =
         let did = upsert_wrote s fine t.table text params old new run.count t.place t.here
         run.within.stands.schema run.ran.0 (Some columns) update terms width _ it one in
-        let stored = λ (m : ℤ) (y : X). cast_row_fits t.table m (row_of key value k y) (t.codes.fit k y) in
+        let fits = t.codes.fit k x in
         elim (subst (λ r. Tried s t.table (Some columns) update params r db new.now)
-        (ap (with_rowid Chosen (db t.table.tree))
-        (cast_row_new t.table (row_of key value k first) (t.codes.fit k first))) did.0)
+        (ap (with_rowid Chosen (db t.table.tree)) (cast_row_new t.table (row_of key value k x) fits)) did.0)
         as (λ _. IsPut k (Some x)) [
           | inl it ↦
               let none : held k ≡ None = elim (held k) as (λ o. held k ≡ o → held k ≡ None) [
                 | None ↦ λ e. e
                 | Some y ↦ λ e. let row = row_at (coding t.codes) are_rows k y e in
-                    absurd (it.1 _ row.1 (meets t k first _ row.0 k y ∙ eq_itself (coding t.codes) k))
+                    absurd (it.1 _ row.1 (meets t k x _ row.0 k y ∙ eq_itself (coding t.codes) k))
               ] refl in
               let now = subst (λ r. Wrote s t.table.tree [] (r ∷ []) db new.now)
-              (stored _ first ∙ ap (fresh k) (starts none)) it.0 in
+              (cast_row_fits t.table _ (row_of key value k x) fits) it.0 in
               put_rows k (Some x) did.1 [] _ now
               (inserted (coding t.codes) are_rows k x _ none now.fresh)
           | inr it ↦
               let was = passes_key (coding t.codes) are_rows
-              (conflicts (Some columns) s.indexes (table_of t.table) (fresh k first)) k (meets t k first _)
+              (conflicts (Some columns) s.indexes (table_of t.table) (fresh k x)) k (meets t k x _)
               it.0 it.1 it.2 in
               resolves (id_in (rowid it.0)) was.0 was.1 (subst (Has (db t.table.tree)) was.2 it.1) it.3
-              (subst (λ v. Resolves update (params ++ v ∷ shown (table_of t.table) (fresh k first)) it.3 db)
+              (subst (λ v. Resolves update (params ++ v ∷ shown (table_of t.table) (fresh k x)) it.3 db)
               (ap rowid was.2) it.4) did.1 it.5
         ]
 
-    -- DO UPDATE: a row that is there gets `x`
-    pub upsert_in : (k : K) (x first : X) (width : ℕ) (terms : List Term) (at : ℕ) (set : List Term)
+    -- DO UPDATE: a row that is there gets the value too
+    pub upsert_in : (k : K) (x : X) (width : ℕ) (terms : List Term) (at : ℕ) (set : List Term)
         → IsWrite s text (upsert t.place t.table.tree (suc t.more) width terms at set)
-        → value_rows params width (length terms / width) terms ≡ (Null ∷ row_of key value k first) ∷ []
-        → (held k ≡ None → first ≡ x)
-        → ((m : ℤ) → column (params ++ Int m ∷ shown (table_of t.table) (fresh k first)) at ≡ Int m)
+        → value_rows params width (length terms / width) terms ≡ (Null ∷ row_of key value k x) ∷ []
+        → ((m : ℤ) → column (params ++ Int m ∷ shown (table_of t.table) (fresh k x)) at ≡ Int m)
         → ((m : ℤ) (y : X) → held k ≡ Some y
-        → shown_as (params ++ Int m ∷ shown (table_of t.table) (fresh k first)) (col 1 0 ∷ col 1 0 ∷ set)
+        → shown_as (params ++ Int m ∷ shown (table_of t.table) (fresh k x)) (col 1 0 ∷ col 1 0 ∷ set)
         (Int m ∷ row_of key value k y) ≡ Int m ∷ Int m ∷ row_of key value k x) → IsPut k (Some x)
-    upsert_in k x first width terms at set it one starts stands shows =
-        put_in k x first width terms (Some (met_update t.table.tree at set)) it one starts
+    upsert_in k x width terms at set it one stands shows =
+        put_in k x width terms (Some (met_update t.table.tree at set)) it one
         (λ n y is there rows answer sound wrote.
-        let all : rows ≡ (Int n ∷ Int n ∷ row_of key value k x) ∷ [] =
-        shows_row db answer (Int n ∷ row_of key value k y) (row_with are_rows _ at n _ (stands n) there)
-        ∙ ap (λ r. r ∷ []) (shows n y is) in
-        let now = subst (λ r. Wrote s t.table.tree (n ∷ []) (r ∷ []) db new.now)
-        (cast_row_fits t.table n (row_of key value k x) (t.codes.fit k x))
-        (subst (λ l. Wrote s t.table.tree (ids_of l)
-        (map (λ r. cast_row (table_of t.table) (drop 1 r)) l) db new.now) all wrote) in
-        put_rows k (Some x) sound (n ∷ []) _ now (replaced (coding t.codes) are_rows k x y n there now.fresh))
+        changed k x y n there sound rows (shows_row db answer (Int n ∷ row_of key value k y)
+        (row_with are_rows _ at n _ (stands n) there) ∙ ap (λ r. r ∷ []) (shows n y is)) wrote)
+
+    -- UPDATE .. WHERE key: the row of the key gets the value, or there is none, and nothing changes
+    pub change_in : (k : K) (x : X) (set : List Term)
+        → IsWrite s text (update t.place t.table.tree (by_key (suc t.more)) set) → params ≡ key k ++ []
+        → ((m : ℤ) (y : X) → held k ≡ Some y
+        → shown_as params (col 1 0 ∷ col 1 0 ∷ set) (Int m ∷ row_of key value k y)
+        ≡ Int m ∷ Int m ∷ row_of key value k x)
+        → ((held k ≡ None) × (run.count ≡ 0)
+        × Within s (at_place claims t.place (λ rows. AreRowsOf (row_of key value) rows held)) base new)
+        ⊎ ((y : X) × (held k ≡ Some y) × (run.count ≡ 1) × IsPut k (Some x))
+    change_in k x set it given shows =
+        let did = update_wrote s fine t.table text params old new run.count t.place t.here
+        run.within.stands.schema run.ran.0 _ it in
+        elim (at_key (coding t.codes) are_rows (λ r. list_all (holds (params ∷ r ∷ []))
+        (by_key (suc t.more))) k (hits t.codes k params given)) [
+          | inl none ↦
+              let all : did.0 ≡ [] = shows_none db did.1 none.1 in
+              inl (
+                none.0,
+                did.4 ∙ ap length all,
+                written did.3 t.table t.place t.here [] [] (λ rows. AreRowsOf (row_of key value) rows held)
+                    (subst (λ l. Wrote s t.table.tree (ids_of l)
+                    (map (λ r. cast_row (table_of t.table) (drop 1 r)) l) db new.now) all did.2) are_rows,
+              )
+          | inr at ↦
+              let all = shows_row db did.1 _ at.4 ∙ ap (λ r. r ∷ []) (shows at.2 at.0 at.1) in
+              inr (at.0, at.1, did.4 ∙ ap length all, changed k x at.0 at.2 at.3 did.3 did.0 all did.2)
+        ]
 
     -- INSERT: a new row with a key that wasn't there
     pub insert_in : (k : K) (x : X) (width : ℕ) (terms : List Term)
@@ -267,7 +299,7 @@ module _ {s : Schema} (fine : is_plain s ≡ true) {claims : List Claim} {base :
         → value_rows params width (length terms / width) terms ≡ (Null ∷ row_of key value k x) ∷ []
         → held k ≡ Some x ⊎ (held k ≡ None) → IsPut k (Some x)
     keep_in k x width terms it one either =
-        put_in k x x width terms None it one (λ none. refl) (λ n y is there rows none sound wrote.
+        put_in k x width terms None it one (λ n y is there rows none sound wrote.
         let same : held k ≡ Some x =
         elim either [ inl same ↦ same | inr none ↦ let clash = sym is ∙ none in cc ] in
         put_rows k (Some x) sound [] []

@@ -1,8 +1,9 @@
 -- What an INSERT, an upsert, an UPDATE and a DELETE of one table come to, whatever its columns.
 use Rattle.std.proofs.Common.{◌≡◌, ◌≢◌, ◌⊎◌, inl, inr, ℕ, ℤ, List, [], ◌∷◌, ◌++◌, drop, length, ◌/◌, map}
 use Rattle.std.proofs.Common.{true, slice_get, Option, Some, None, option_map, Ok, Err, Result, refl, sym, ap}
-use Rattle.std.proofs.Common.{subst, ◌∙◌, append-nil}
+use Rattle.std.proofs.Common.{subst, ◌∙◌, append-nil, unwrap_or}
 use Rattle.std.specs.List.{AllByRecursion}
+use Rattle.std.proofs.lemmas.List.{length-map}
 use Rattle.sqlite.specs.Cast.{cast_row}
 use Rattle.sqlite.specs.Command.TheVariants.{Insert, InsertOr, Update, Delete}
 use Rattle.sqlite.specs.Does.{Tally, OnRows, OnTable, WritesRows, AtPlace}
@@ -111,15 +112,23 @@ module _ (s : Schema) (plain : is_plain s ≡ true) (d : Descriptor) where
 
     concluded : (command : Command) → IsWrite s text command
         → (Runs old new None command (statement_of text (understood s text)) params count
-        → (tally : Tally) × IsOnRows command tally old.now × IsDatabase new.now)
+        → (tally : Tally) × IsOnRows command tally old.now × IsDatabase new.now
+        × (count ≡ unwrap_or tally.rows 0))
         → (w : Written) × WritesRows task db command (Ok w) × (new.now ≡ under w.trees) × IsDatabase new.now
+        × (count ≡ length w.rows)
     concluded command it on =
         let w = on (runs_as text params old new s has command it.is it.plain count ran) in
         let done =
         went (subst
         (λ o. AtPlace (λ t. OnRows (task_of t) (mode_of old) None command db) o (Ok (w.0, new.now))) here
         (subst (λ x. IsOnRows command w.0 (record old.now { schema = x })) has w.1)) in
-        (done.0, done.1, ap (λ (p : Tally × Database). p.1) (same_value (went (went done.2).2).2), w.2)
+        let told = same_value (went (went done.2).2).2 in (
+          done.0,
+          done.1,
+          ap (λ (p : Tally × Database). p.1) told,
+          w.2,
+          w.3 ∙ ap (λ (p : Tally × Database). unwrap_or p.0.rows 0) told,
+        )
 
     abbrev trees_of : Written → Database
     trees_of w = under w.trees
@@ -129,7 +138,7 @@ module _ (s : Schema) (plain : is_plain s ≡ true) (d : Descriptor) where
         × Wrote s d.tree [] (numbered Chosen (db d.tree) (map (cast_row (table_of d)) rows)) db new.now
         × IsDatabase new.now
     insert_wrote from it =
-        let done = concluded (Insert at from) it (λ w. (w.tally, w.changed, w.sound)) in
+        let done = concluded (Insert at from) it (λ w. (w.tally, w.changed, w.sound, w.counted)) in
         let rows = went done.1 in
         let edit = went (went rows.2).2 in
         let end = went edit.2 in (
@@ -146,7 +155,7 @@ module _ (s : Schema) (plain : is_plain s ≡ true) (d : Descriptor) where
         × Wrote s d.tree (ids_of rows) [] db new.now × IsDatabase new.now
     delete_wrote body it =
         let done = concluded (Delete at (record { lets = []; body = body })) it
-        (λ w. (w.tally, w.changed, w.sound)) in
+        (λ w. (w.tally, w.changed, w.sound, w.counted)) in
         let rows = went done.1 in
         let edit = went rows.2 in (
           rows.0,
@@ -156,23 +165,26 @@ module _ (s : Schema) (plain : is_plain s ≡ true) (d : Descriptor) where
           done.3,
         )
 
-    -- an update of the rows that pass, whose rowids it shows first
+    -- an update of the rows that pass, whose rowids it shows first: it changed as many as passed
     pub update_wrote : (body : Query) → IsWrite s text (Update at (record { lets = []; body = body }))
         → (rows : List Row) × IsAnswer body (overlay db []) params rows
         × Wrote s d.tree (ids_of rows) (map (λ r. cast_row (table_of d) (drop 1 r)) rows) db new.now
-        × IsDatabase new.now
+        × IsDatabase new.now × (count ≡ length rows)
     update_wrote body it =
         let done = concluded (Update at (record { lets = []; body = body })) it
-        (λ w. (w.tally, w.changed, w.sound)) in
+        (λ w. (w.tally, w.changed, w.sound, w.counted)) in
         let rows = went done.1 in
-        let edit = went rows.2 in (
+        let edit = went rows.2 in
+        let news = map (λ r. cast_row (table_of d) (drop 1 r)) rows.0 in
+        let are = given (without_all (db d.tree) (ids_of rows.0)) news in (
           rows.0,
           rows.1.answer Null,
-          subst (λ news. Wrote s d.tree (ids_of rows.0) news db new.now)
-              (given (without_all (db d.tree) (ids_of rows.0)) (map (λ r. cast_row (table_of d) (drop 1 r)) rows.0))
+          subst (λ news. Wrote s d.tree (ids_of rows.0) news db new.now) are
               (edited (mode_of old).keys db edit.0 new.now (ids_of rows.0) Given 1 rows.0
               (done.2 ∙ ap trees_of (same_value edit.2)) edit.1),
           done.3,
+          done.4 ∙ ap (λ (w : Written). length w.rows) (same_value edit.2) ∙ ap length are
+              ∙ length-map rows.0 (λ r. cast_row (table_of d) (drop 1 r)),
         )
 
     puts : (row : Row) (one : Written) → Puts task row db (Ok one)
@@ -241,7 +253,7 @@ module _ (s : Schema) (plain : is_plain s ≡ true) (d : Descriptor) where
     upsert_wrote target update terms width source it one =
         let clauses = clause_of target update ∷ [] in
         let done = concluded (InsertOr at Abort (Values terms width) clauses) it
-        (λ w. (w.tally, w.changed, w.sound)) in
+        (λ w. (w.tally, w.changed, w.sound, w.counted)) in
         let rows = went done.1 in
         let counter = went rows.2 in
         let tries = went counter.2 in

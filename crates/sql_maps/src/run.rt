@@ -30,6 +30,22 @@ pub fn rows_of<S: Alter>(
     conn.query_all(sql, params)
 }
 
+/// One statement further in a transaction, and how many rows it changed.
+pub fn change<S: Alter>(
+    tx: &mut Transaction<'_, S>,
+    sql: &str,
+    params: &[ValueRef<'_>],
+) -> Result<usize, Error>
+    ensures same_reference { tx.new.conn.ghost_name ≡ tx.old.conn.ghost_name }
+    ensures steps { Steps (state S.Store tx.old.conn.now) (state S.Store tx.new.conn.now) }
+    ensures ran { HasCleanDisk (state S.Store tx.new.conn.now)
+        → IfOk result (λ count. IsTrue (state S.Store tx.old.conn.now).in_transaction
+        → ExecutesInside 0 sql.now (bound params.now) (state S.Store tx.old.conn.now)
+        (state S.Store tx.new.conn.now) (Ok count)) }
+{
+    tx.execute(sql, params)
+}
+
 /// One statement further in a transaction.
 pub fn step<S: Alter>(
     tx: &mut Transaction<'_, S>,
@@ -44,7 +60,7 @@ pub fn step<S: Alter>(
         × ExecutesInside 0 sql.now (bound params.now) (state S.Store tx.old.conn.now)
         (state S.Store tx.new.conn.now) (Ok count)) }
 {
-    tx.execute(sql, params)?;
+    change(tx, sql, params)?;
     Ok(())
 }
 

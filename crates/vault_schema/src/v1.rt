@@ -72,9 +72,12 @@ pub const FIND_RIGHT: &str =
 pub const PUT_MERCHANT: &str =
     "INSERT INTO merchants VALUES (?1, ?2, ?3, ?4) ON CONFLICT (name) DO UPDATE SET single_life = ?2, multi_life = ?3, moment = ?4";
 
-/// Raises a count of a merchant by one, whether or not it was there.
+/// Raises a count of a merchant by one, where it has a row.
 pub const RAISE_COUNT: &str =
-    "INSERT INTO counts VALUES (?1, ?2, 1) ON CONFLICT (merchant, kind) DO UPDATE SET total = total + 1";
+    "UPDATE counts SET total = total + 1 WHERE merchant = ?1 AND kind = ?2";
+
+/// Begins a count of a merchant at one.
+pub const ADD_COUNT: &str = "INSERT INTO counts VALUES (?1, ?2, 1)";
 
 /// Writes a new record.
 pub const ADD_RECORD: &str = "INSERT INTO records VALUES (?1, ?2, ?3, ?4, ?5)";

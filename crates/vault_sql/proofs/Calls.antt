@@ -1,7 +1,7 @@
 -- The one clause of a call, from what the functions that run a text say.
 use Rattle.std.proofs.Common.{◌≡◌, ◌∙◌, ℕ, List, Ok, Err, Result, IfOk, OnOk, sym, IsTrue, is_ok, true}
 use Rattle.std.proofs.Common.{false, true≢false, ◌<◌, ◌^◌}
-use Rattle.std.proofs.Common.{◌∷◌, ◌++◌, [], suc, ℤ, arith, Option, IsErr, Ordering, subst}
+use Rattle.std.proofs.Common.{◌∷◌, ◌++◌, [], suc, ℤ, arith, Option, IsErr, Ordering, subst, refl}
 use Rattle.sqlite.specs.Effect.{Database}
 use Rattle.sqlite.specs.Order.{Row}
 use Rattle.sqlite.specs.State.{State, HasCleanDisk, ExecutesInside, IsUnchanged, Shown, Shows}
@@ -213,6 +213,19 @@ turns {E} {result} {old} {new} {sql} {params} {Can} {After} steps ran lemma = re
         let it = did w.inside in
         lemma t base can (record { within = w; count = it.0; ran = it.1; limit = steps.limit })
 
+-- and so where it tells how many rows it changed
+pub turns_telling : {R E : Type 0} {y : R} {old new : State} {sql : List ℕ} {params : Row} {count : ℕ}
+    {Can : Tables → Type 0} {After : R → Tables → Tables → Type 0} → Steps old new
+    → (HasCleanDisk new → IsTrue old.in_transaction → ExecutesInside 0 sql params old new (Ok count))
+    → ((t : Tables) (base : Database) → Can t → (run : Ran vault_schema (claims t) base old new sql params)
+    → run.count ≡ count → (after : Tables) × After y t after × HasTables new base after)
+    → Turns (let it : Result R E = Ok y in it) old new Can After
+turns_telling {count = count} steps ran lemma = record {
+  steps = steps;
+  done = λ clean base t w can.
+      lemma t base can (record { within = w; count = count; ran = ran clean w.inside; limit = steps.limit }) refl;
+}
+
 -- what the rows of a query show of the tables is told, and they stay
 pub tells_inside : {R E : Type 0} {result : Result R E} {old new : State} {sql : List ℕ} {body : Query}
     {Is : Tables → R → Type 0} → IsQuery vault_schema sql body → Steps old new
@@ -279,6 +292,11 @@ makes_then {second = second} {b = b} {f = f} one two can next = record {
 }
 
 -- ---- one after another on the tables
+
+pub on_if : {X E : Type 0} {P : X → Type 0} {A : Type 0} (r : Result X E) → IfOk r P → ((x : X) → P x → A)
+    → OnOk r A
+on_if (Ok x) h f = f x h
+on_if (Err e) h f = tt
 
 -- what a step made is said in other words
 pub turns_as : {R R' E E' : Type 0} {x : R} {y : R'} {a b : State} {Can First : Tables → Type 0}

@@ -7,6 +7,7 @@ pub mod Lookups
 pub mod Making
 pub mod Owing
 pub mod Pointed
+pub mod Raised
 pub mod ShownCards
 pub mod Statements
 pub mod WrittenEntry

@@ -8,7 +8,7 @@ use Rattle.sqlite.specs.declared.types.Value.TheVariants.{Int, Text}
 use Rattle.sqlite_sql.specs.declared.ops.ArithOp.TheVariants.{Add}
 use Rattle.sqlite_sql.specs.declared.ops.BinaryOp.TheVariants.{Arith}
 use Rattle.sql_maps.specs.Rows.{put}
-use Rattle.sql_maps.proofs.Statements.{Ran, insert_in, keep_in, plus_one, take_in, upsert_in}
+use Rattle.sql_maps.proofs.Statements.{Ran, change_in, insert_in, keep_in, plus_one, take_in, upsert_in}
 use Rattle.vault_core.specs.Keys.{Bytes, bytes_cmp, entry_cmp, record_cmp, right_cmp}
 use Rattle.vault_core.specs.declared.right.Right.{Right}
 use Rattle.vault_core.specs.declared.row.Record.{Record}
@@ -22,9 +22,10 @@ use Rattle.vault_schema.specs.declared.v2.TheConstants.{ADD_ENTRY, PUT_ENTRY, AD
 use Rattle.vault_schema.specs.Version1.Rows.{lives_columns, numbered_key, count_row, entry_key}
 use Rattle.vault_schema.specs.Version1.Rows.{record_columns, right_key}
 use Rattle.vault_schema.specs.declared.v1.Lives.{Lives}
-use Rattle.vault_schema.specs.declared.v1.TheConstants.{PUT_MERCHANT, RAISE_COUNT, ADD_RECORD}
+use Rattle.vault_schema.specs.declared.v1.TheConstants.{PUT_MERCHANT, RAISE_COUNT, ADD_COUNT, ADD_RECORD}
 use Rattle.vault_schema.specs.declared.v1.TheConstants.{GIVE_RIGHT, TAKE_RIGHT}
-use Rattle.vault_schema.proofs.Version1.Texts.{put_merchant_is, raise_is, add_record_is, give_is, take_is}
+use Rattle.vault_schema.proofs.Version1.Texts.{put_merchant_is, raise_is, add_count_is, add_record_is}
+use Rattle.vault_schema.proofs.Version1.Texts.{give_is, take_is}
 use Rattle.vault_schema.proofs.Version2.Codes.{merchant_table, count_table, record_table, right_table}
 use Rattle.vault_schema.proofs.Version2.Codes.{card_table, pointing_table}
 use Rattle.vault_schema.proofs.Version2.Texts.{add_entry_is, put_entry_is, add_card_is, set_uses_is, drop_card_is}
@@ -37,16 +38,17 @@ module _ {t : Tables} {base : Database} {old new : State} where
   pub merchant_put : (m : Bytes) (x : Lives)
       → Ran vault_schema (claims t) base old new PUT_MERCHANT.now (Text m ∷ lives_columns x)
       → HasTables new base (record t { merchants = put bytes_cmp t.merchants m (Some x) })
-  merchant_put m x run = upsert_in refl run merchant_table t.merchants (λ are. are) m x x 5 _ 4 _
-      (put_merchant_is tables2 indexes2) refl (λ none. refl) (λ n. refl) (λ n y is. refl)
+  merchant_put m x run = upsert_in refl run merchant_table t.merchants (λ are. are) m x 5 _ 4 _
+      (put_merchant_is tables2 indexes2) refl (λ n. refl) (λ n y is. refl)
 
   pub count_raised : (at : Bytes × ℕ) → HasRoomAt t.counts at
-      → Ran vault_schema (claims t) base old new RAISE_COUNT.now (Text at.0 ∷ Int (pos at.1) ∷ [])
-      → HasTables new base (record t { counts = raise_at t.counts at })
+      → (run : Ran vault_schema (claims t) base old new RAISE_COUNT.now (Text at.0 ∷ Int (pos at.1) ∷ []))
+      → ((t.counts at ≡ None) × (run.count ≡ 0) × HasTables new base t)
+      ⊎ ((y : ℕ) × (t.counts at ≡ Some y) × (run.count ≡ 1)
+      × HasTables new base (record t { counts = raise_at t.counts at }))
   count_raised at room run =
-      upsert_in refl run count_table t.counts (λ are. are) at (unwrap_or (t.counts at) 0 + 1) 1 4 _ 2 _
-      (raise_is tables2 indexes2) refl (λ none. ap (λ (o : Option ℕ). unwrap_or o 0 + 1) (sym none))
-      (λ n. refl) raised
+      change_in refl run count_table t.counts (λ are. are) at (unwrap_or (t.counts at) 0 + 1) _
+      (raise_is tables2 indexes2) refl raised
     where
       raised : (n : ℤ) (y : ℕ) → t.counts at ≡ Some y
           → Int n ∷ Int n ∷ Text at.0 ∷ Int (pos at.1) ∷ binary (Arith Add) (Int (pos y)) (Int (pos 1)) ∷ []
@@ -56,11 +58,19 @@ module _ {t : Tables} {base : Database} {old new : State} where
           (plus_one y (subst (λ (o : Option ℕ). unwrap_or o 0 + 1 < 2 ^ 63) is room))
           ∙ ap (λ (o : Option ℕ). Int n ∷ Int n ∷ count_row at (unwrap_or o 0 + 1)) (sym is)
 
+  pub count_added : (at : Bytes × ℕ) → t.counts at ≡ None
+      → Ran vault_schema (claims t) base old new ADD_COUNT.now (Text at.0 ∷ Int (pos at.1) ∷ [])
+      → HasTables new base (record t { counts = raise_at t.counts at })
+  count_added at none run =
+      subst (λ (o : Option ℕ). HasTables new base (record t { counts = put record_cmp t.counts at (Some (unwrap_or o 0 + 1)) }))
+      (sym none)
+      (insert_in refl run count_table t.counts (λ are. are) at 1 4 _ (add_count_is tables2 indexes2) refl).1
+
   pub pointing_put : (at : Bytes × Bytes) (x : Pointing)
       → Ran vault_schema (claims t) base old new PUT_ENTRY.now (entry_key at ++ pointing_columns x)
       → HasTables new base (record t { pointing = put entry_cmp t.pointing at (Some x) })
-  pointing_put at x run = upsert_in refl run pointing_table t.pointing (λ are. are) at x x 8 _ 7 _
-      (put_entry_is [] []) refl (λ none. refl) (λ n. refl) (λ n y is. refl)
+  pointing_put at x run = upsert_in refl run pointing_table t.pointing (λ are. are) at x 8 _ 7 _
+      (put_entry_is [] []) refl (λ n. refl) (λ n y is. refl)
 
   pub pointing_added : (at : Bytes × Bytes) (x : Pointing)
       → Ran vault_schema (claims t) base old new ADD_ENTRY.now (entry_key at ++ pointing_columns x)

@@ -1,5 +1,5 @@
 -- An entry is written: its number's card is used once more, and the card that it had once less.
-use Rattle.std.proofs.Common.{◌≡◌, ◌∙◌, ℤ, Option, Some, refl, sym, ap, subst, Result, Ok, Err, IfOk, OnOk}
+use Rattle.std.proofs.Common.{◌≡◌, ◌∙◌, ℤ, Option, Some, refl, sym, ap, subst, Result, Ok}
 use Rattle.std.proofs.Common.{None, arith, option_and_then}
 use Rattle.sqlite.specs.State.{State, HasCleanDisk}
 use Rattle.sql_maps.specs.Rows.{put}
@@ -15,6 +15,7 @@ use Rattle.vault_schema.proofs.Version2.Joining.{pointed}
 use Rattle.vault_sql.specs.Calls.{HasTables, Makes, TellsInside, Turns}
 use Rattle.vault_sql.specs.Cards.{OwesNoMore, OwesNumber, pointed_at}
 use Rattle.vault_sql.specs.Stands.{tables_of}
+use Rattle.vault_sql.proofs.Calls.{on_if}
 
 module _ (h : Lookups) (cards : ℤ → Option Card) (pointing : Bytes × Bytes → Option Pointing)
     (key : Bytes × Bytes) (e : Entry) (card was : Option ℤ) (one two three : Tables)
@@ -60,10 +61,6 @@ module _ (h : Lookups) (cards : ℤ → Option Card) (pointing : Bytes × Bytes 
       let there = subst (λ k. AreJoined (owed_to was) k now entries) (sym cards_are) owing in
       let before = subst (λ q. AreJoined (owed_to was) two.cards q entries) (sym pointing_are) there in
       subst (λ q. AreJoined nothing_owed three.cards q entries) pointing_are (left.joined entries before)
-
-on_if : {X E : Type 0} {P : X → Type 0} {A : Type 0} (r : Result X E) → IfOk r P → ((x : X) → P x → A) → OnOk r A
-on_if (Ok x) h f = f x h
-on_if (Err e) h f = tt
 
 -- the four calls, one after the other
 pub entry_written : {E₁ E₂ E₃ E₄ : Type 0} {last : Result (Unit {0}) E₄} {a b c d f : State}

@@ -1,5 +1,6 @@
 -- What changes make of the lookups.
-use Rattle.std.specs.Prelude.{◌<◌, ◌^◌, ◌+◌, ℕ, Bool, Option, Some, None, unwrap_or, if◌then◌else◌}
+use Rattle.std.specs.Prelude.{◌≡◌, ◌↔◌, ◌<◌, ◌^◌, ◌+◌, ℕ, Bool, Option, Some, None, IsSome, IsTrue, unwrap_or}
+use Rattle.std.specs.Prelude.{if◌then◌else◌}
 use Rattle.vault_core.specs.Keys.{Bytes, bytes_cmp, entry_cmp, record_cmp, right_cmp}
 use Rattle.vault_core.specs.Numbers.{count_number}
 use Rattle.vault_core.specs.declared.changes.Changes.{Changes}
@@ -11,6 +12,7 @@ use Rattle.vault_core.specs.declared.row.Record.{Record}
 use Rattle.vault_schema.specs.declared.v1.Lives.{Lives}
 use Rattle.sql_maps.specs.Rows.{put}
 use Rattle.vault_schema.specs.Version1.Claims.{Lookups}
+use Rattle.vault_schema.specs.Version2.Claims.{Lookups as Tables}
 
 -- the row of lives that change
 abbrev pub lives_of : core.Lives → Lives
@@ -67,3 +69,8 @@ abbrev pub HasRoom : (Bytes × ℕ → Option ℕ) → Option core.Lives → Opt
 HasRoom held None count = Unit {0}
 HasRoom held (Some x) None = Unit {0}
 HasRoom held (Some x) (Some count) = HasRoomAt held (x.merchant, count_number count)
+
+-- a count that has a row has gone up by one, and one that has none was left without
+pub record IsRaised (has : Bool) (old new : Tables) (key : Bytes × ℕ) : Type 0 where
+  pub told : IsTrue has ↔ IsSome (old.counts key)
+  pub after : new ≡ (if has then record old { counts = raise_at old.counts key } else old)

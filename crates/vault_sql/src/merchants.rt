@@ -1,30 +1,30 @@
 //! The rows of merchants and their counts.
 ghost use Rattle.std.specs.FinMap as map;
-ghost use Rattle.std.specs.Prelude.{◌≡◌, ◌↔◌, ◌<◌, ◌^◌, [], ◌∷◌, Some, IfOk, IsTrue, option_map};
+ghost use Rattle.std.specs.Prelude.{◌≡◌, ◌↔◌, ◌<◌, ◌^◌, [], ◌∷◌, None, Some, IfOk, IsTrue, option_map};
 ghost use Rattle.sqlite.specs.Held.{state};
 ghost use Rattle.vault_core.specs.Numbers.{count_number};
 ghost use Rattle.vault_core.specs.Sound.{Sound};
 ghost use Rattle.vault_core.specs.Vault.{merchant_at};
 ghost use Rattle.vault_core.specs.Window.{moment_at, row_at};
 ghost use Rattle.vault_core.specs.Keys.{bytes_cmp};
-ghost use Rattle.vault_sql.specs.Calls.{Makes, Tells, TellsInside};
+ghost use Rattle.vault_sql.specs.Calls.{Makes, Tells, TellsInside, Turns};
 ghost use Rattle.vault_schema.specs.Version1.Rows.{lives_columns, number_column};
 ghost use Rattle.vault_sql.specs.Shown.{IsTotalOf, ShowsCounts, ShowsLives};
 ghost use Rattle.vault_sql.specs.Stands.{lives_in};
 ghost use Rattle.sql_maps.specs.Rows.{one_of, put};
-ghost use Rattle.vault_sql.specs.Written.{HasRoomAt, raise_at};
+ghost use Rattle.vault_sql.specs.Written.{HasRoomAt, IsRaised, raise_at};
 
 use crate::columns::moment_in;
 use crate::fault::StoreFault;
 use crate::text::merchant_text;
-use sql_maps::run::{rows_in, rows_of, step};
+use sql_maps::run::{change, rows_in, rows_of, step};
 use sqlite::{Alter, Connection, Error, Row, Transaction, params};
 use vault_core::changes::Count;
 use vault_core::moment::Moment;
 use vault_core::name::MerchantId;
 use vault_core::row::MerchantRow;
 use vault_schema::v1::{
-    COUNT_MERCHANTS, FIND_COUNTS, FIND_LIVES, Lives, PUT_MERCHANT, RAISE_COUNT,
+    ADD_COUNT, COUNT_MERCHANTS, FIND_COUNTS, FIND_LIVES, Lives, PUT_MERCHANT, RAISE_COUNT,
 };
 
 /// The row of a merchant's lives.
@@ -200,12 +200,35 @@ fn put_merchant<S: Alter>(tx: &mut Transaction<'_, S>, m: &str, x: &Lives) -> Re
     )
 }
 
-/// Raises a count of a merchant by one.
+/// Raises a count of a merchant by one where it has a row, and tells whether it has.
+fn raise_row<S: Alter>(tx: &mut Transaction<'_, S>, m: &str, kind: u8) -> Result<bool, Error>
+    ensures same_reference { tx.new.conn.ghost_name ≡ tx.old.conn.ghost_name }
+    ensures done { Turns result (state S.Store tx.old.conn.now) (state S.Store tx.new.conn.now)
+        (λ t. HasRoomAt t.counts (m.now, kind)) (λ has t new. IsRaised has t new (m.now, kind)) }
+{
+    let changed = change(tx, RAISE_COUNT, params![m, kind as i64])?;
+    Ok(changed > 0)
+}
+
+/// Begins a count of a merchant, which has no row, at one.
+fn add_count<S: Alter>(tx: &mut Transaction<'_, S>, m: &str, kind: u8) -> Result<(), Error>
+    ensures same_reference { tx.new.conn.ghost_name ≡ tx.old.conn.ghost_name }
+    ensures done { Turns result (state S.Store tx.old.conn.now) (state S.Store tx.new.conn.now)
+        (λ t. t.counts (m.now, kind) ≡ None)
+        (λ it t new. new ≡ record t { counts = raise_at t.counts (m.now, kind) }) }
+{
+    step(tx, ADD_COUNT, params![m, kind as i64])
+}
+
+/// Raises a count of a merchant by one. It has a row but for the first time.
 pub(crate) fn raise<S: Alter>(tx: &mut Transaction<'_, S>, m: &str, kind: u8) -> Result<(), Error>
     ensures same_reference { tx.new.conn.ghost_name ≡ tx.old.conn.ghost_name }
     ensures done { Makes result (state S.Store tx.old.conn.now) (state S.Store tx.new.conn.now)
         (λ h. HasRoomAt h.counts (m.now, kind))
         (λ h. record h { counts = raise_at h.counts (m.now, kind) }) }
 {
-    step(tx, RAISE_COUNT, params![m, kind as i64])
+    if raise_row(tx, m, kind)? {
+        return Ok(());
+    }
+    add_count(tx, m, kind)
 }

@@ -10,7 +10,7 @@ use Rattle.sqlite_sql.specs.declared.ops.ArithOp.TheVariants.{Add}
 use Rattle.sqlite_sql.specs.declared.ops.BinaryOp.TheVariants.{Arith}
 use Rattle.sql_maps.specs.Schema.{grown}
 use Rattle.sql_maps.specs.Texts.{IsQuery, IsWrite, query_of, sorted_of, ordered_by, counting_of, by_key}
-use Rattle.sql_maps.specs.Texts.{insert, upsert, insert_or_nothing, delete}
+use Rattle.sql_maps.specs.Texts.{insert, upsert, insert_or_nothing, update, delete}
 use Rattle.sql_maps.proofs.Full.{all_columns}
 use Rattle.vault_schema.specs.Versioned.{versioned}
 use Rattle.vault_schema.specs.Version1.Tables.{v1}
@@ -18,7 +18,7 @@ use Rattle.vault_schema.specs.declared.v1.TheConstants.{READ_VERSIONS, READ_MERC
 use Rattle.vault_schema.specs.declared.v1.TheConstants.{READ_ENTRIES, READ_ENTRY_IDS, READ_RECORDS}
 use Rattle.vault_schema.specs.declared.v1.TheConstants.{READ_RIGHTS, FIND_LIVES, FIND_COUNTS, COUNT_MERCHANTS}
 use Rattle.vault_schema.specs.declared.v1.TheConstants.{FIND_RECORD, FIND_RIGHT, PUT_MERCHANT}
-use Rattle.vault_schema.specs.declared.v1.TheConstants.{RAISE_COUNT, ADD_RECORD, GIVE_RIGHT}
+use Rattle.vault_schema.specs.declared.v1.TheConstants.{RAISE_COUNT, ADD_COUNT, ADD_RECORD, GIVE_RIGHT}
 use Rattle.vault_schema.specs.declared.v1.TheConstants.{TAKE_RIGHT}
 
 -- the columns of a merchant after an update
@@ -93,10 +93,14 @@ module _ (ts : List Table) (is : List Index) where
   unfolding understood everything
   put_merchant_is = record { is = refl; plain = (refl, refl) }
 
-  pub raise_is : IsWrite (grown v1 ts is) RAISE_COUNT.now
-      (upsert 2 3 2 4 (lit Null ∷ col 0 0 ∷ col 0 1 ∷ lit (Int (pos 1)) ∷ []) 2 count_set)
+  pub raise_is : IsWrite (grown v1 ts is) RAISE_COUNT.now (update 2 3 (by_key 2) count_set)
   unfolding understood everything
   raise_is = record { is = refl; plain = (refl, refl) }
+
+  pub add_count_is : IsWrite (grown v1 ts is) ADD_COUNT.now
+      (insert 2 4 (lit Null ∷ col 0 0 ∷ col 0 1 ∷ lit (Int (pos 1)) ∷ []))
+  unfolding understood everything
+  add_count_is = record { is = refl; plain = (refl, refl) }
 
   pub add_record_is : IsWrite (grown v1 ts is) ADD_RECORD.now
       (insert 4 6 (lit Null ∷ col 0 0 ∷ col 0 1 ∷ col 0 2 ∷ col 0 3 ∷ col 0 4 ∷ []))

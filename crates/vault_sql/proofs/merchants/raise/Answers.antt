@@ -1,16 +1,10 @@
-use Rattle.std.proofs.Common.{arith, refl}
-use Rattle.sql_maps.proofs.Calls.{small}
-use Rattle.vault_sql.proofs.Calls.{makes}
-use Rattle.vault_sql.proofs.Statements.{count_raised}
+use Rattle.vault_sql.proofs.Raised.{raised_anew, raised_at_once}
 use Rattle.vault_sql.proofs.merchants.raise.Goals as goal
+
+pub returns-then-branch-clause-done : goal.returns-then-branch-clause-done
+returns-then-branch-clause-done g c =
+    raised_at_once (c.args.m.now, c.args.kind) c.in_ok-raise_row.ensures.done c.if-branch.true
 
 pub returns-clause-done : goal.returns-clause-done
 returns-clause-done g c =
-    makes c.step.ensures.steps c.step.ensures.ran (λ h. refl) (λ h cards pointing base can run.
-    count_raised (c.args.m.now, c.args.kind) can
-    (rw (
-      c.params-to_sql.ensures,
-      c.params-to_sql-2.ensures,
-      small c.args.kind
-          (omega (arith, c.ranges.kind)),
-    ) at run))
+    raised_anew (c.args.m.now, c.args.kind) c.in_ok-raise_row.ensures.done c.if-branch.false c.add_count.ensures.done
