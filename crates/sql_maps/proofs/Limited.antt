@@ -1,5 +1,6 @@
 -- What a query shows of the first rows in the order of one column.
-use Rattle.std.proofs.Common.{◌≡◌, ℕ, pos, ◌<◌, ◌+◌, List, [], ◌∷◌, map, take, length, get_or, arith, refl, sym, ap}
+use Rattle.std.proofs.Common.{◌≡◌, ℕ, pos, ◌<◌, ◌+◌, List, [], ◌∷◌, map, take, length, get_or, arith, refl}
+use Rattle.std.proofs.Common.{sym, ap}
 use Rattle.std.proofs.Common.{subst, ◌∙◌, inl, inr, Equal}
 use Rattle.std.proofs.lemmas.List.{get_or-map, length-map}
 use Rattle.std.proofs.lemmas.List.Sorted.{IsPermutation-map, IsPermutation-sym}
@@ -23,7 +24,8 @@ use Rattle.sql_maps.proofs.Rising.{Rises, Untied, same_rising, sorted_rises, unt
 use Rattle.sql_maps.specs.Rows.{IsApart}
 use Rattle.sql_maps.specs.Texts.{first_of}
 
-pub mapped_twice : {X Y Z : Type 0} (f : Y → Z) (g : X → Y) (xs : List X) → map f (map g xs) ≡ map (λ x. f (g x)) xs
+pub mapped_twice : {X Y Z : Type 0} (f : Y → Z) (g : X → Y) (xs : List X)
+    → map f (map g xs) ≡ map (λ x. f (g x)) xs
 mapped_twice f g [] = refl
 mapped_twice f g (x ∷ xs) = ap (λ l. f (g x) ∷ l) (mapped_twice f g xs)
 
@@ -88,8 +90,10 @@ module _ (db : Trees) {params : Row} {tree place many : ℕ} {tests : List Term}
       let e : Output = (alone d, alone d) in
       let next : k + 1 < length a.ordered = subst (λ n. k + 1 < n) (length-map a.ordered key) low in
       let this : k < length a.ordered = omega (arith, next) in
-      (λ i. is_lt (value_cmp (get_or-map key a.ordered (k + 1) e d next i) (get_or-map key a.ordered k e d this i)))
-      ∙ sym (ap is_lt (then-Equal (value_cmp (key (get_or a.ordered (k + 1) e)) (key (get_or a.ordered k e)))))
+      (λ i. is_lt (value_cmp (get_or-map key a.ordered (k + 1) e d next i)
+      (get_or-map key a.ordered k e d this i)))
+      ∙ sym (ap is_lt (then-Equal (value_cmp (key (get_or a.ordered (k + 1) e))
+      (key (get_or a.ordered k e)))))
       ∙ a.sorted k e from next
 
   -- they are the first of any list that rises and has what passes
@@ -99,7 +103,8 @@ module _ (db : Trees) {params : Row} {tree place many : ℕ} {tests : List Term}
       → ((v : Value) → Has list v → (r : Row) × Has passed r × (v ≡ cell r))
       → ((r : Row) → Has passed r → Has list (cell r)) → rows ≡ take n (map alone list)
   first_rows n is apart one list rises from there =
-      let up = sorted_rises value_cmp_total cells ascends (untied_permuted value_cmp_total (map cell passed) cells
+      let up = sorted_rises value_cmp_total cells ascends
+      (untied_permuted value_cmp_total (map cell passed) cells
       permuted (untied_map cell passed (ascending_filter _ _ (db tree) apart) one)) in
       let same : cells ≡ list = same_rising value_cmp_total cells list up rises
       (λ v h. let at = has_mapped key a.ordered v h in let row = form at.0 at.1 in

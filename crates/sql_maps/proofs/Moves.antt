@@ -39,7 +39,8 @@ none_left (id ∷ ids) rows each = none_left ids (without_rowid id rows) (λ r h
     let kept = has_filtered (λ r. not (has_rowid id r)) rows r h in
     let it = each r kept.0 in
     elim it.1 [
-      | inl same ↦ absurd (true≢false (sym kept.1 ∙ ap (λ v. not (is_eq (value_cmp v (Int id)))) (it.2 ∙ ap Int same)
+      | inl same ↦ absurd (true≢false (sym kept.1
+          ∙ ap (λ v. not (is_eq (value_cmp v (Int id)))) (it.2 ∙ ap Int same)
           ∙ ap (λ o. not (is_eq o)) (tied_itself value_cmp_total (Int id))))
       | inr later ↦ (it.0, later, it.2)
     ])
@@ -60,7 +61,8 @@ module _ {s : Schema} (fine : is_plain s ≡ true) {claims : List Claim} {base :
   empty_in it said =
       let did = delete_wrote s fine d text params old new run.count place here run.within.stands.schema
       run.ran.0 _ it in
-      written fine run did.3 d place here (ids_of did.0) [] IsEmpty did.2 (none_left (ids_of did.0) (db d.tree) (λ r h. (
+      written fine run did.3 d place here (ids_of did.0) [] IsEmpty did.2
+      (none_left (ids_of did.0) (db d.tree) (λ r h. (
         id_in (rowid r),
         mapped_has (λ x. id_in (rowid x)) did.0 (rowid r ∷ []) (has_permuted _ did.0 _ (answers db did.1)
             (mapped_has (shown_as params (col 1 0 ∷ [])) (passing params [] (db d.tree)) r
@@ -73,7 +75,8 @@ module _ {s : Schema} (fine : is_plain s ≡ true) {claims : List Claim} {base :
       → (id : ℤ) (was now : Row) → (claim_at claims place (db d.tree) → db d.tree ≡ (Int id ∷ was) ∷ [])
       → list_all (holds (params ∷ (Int id ∷ was) ∷ [])) tests ≡ true
       → shown_as params (col 1 0 ∷ col 1 0 ∷ set) (Int id ∷ was) ≡ Int id ∷ Int id ∷ now
-      → fit d.columns now ≡ true → Within s (at_place claims place (λ rows. rows ≡ (Int id ∷ now) ∷ [])) base new
+      → fit d.columns now ≡ true → Within s (at_place claims place (λ rows. rows ≡ (Int id ∷ now) ∷ [])) base
+      new
   change_one tests set it id was now said passes shows fits =
       let did = update_wrote s fine d text params old new run.count place here run.within.stands.schema
       run.ran.0 _ it in

@@ -136,7 +136,8 @@ module _ {s : Schema} {claims : List Claim} (old new : State) (it : Stands s cla
         → ((q p : K) (y x : X) → held q ≡ Some y → good q y ≡ true → held p ≡ Some x → good p x ≡ true
         → value_cmp (cell q y) (cell p x) ≡ Equal → q ≡ p)
         → (list : List Value) → Rises value_cmp_total list
-        → ((v : Value) → Has list v → (q : K) × (y : X) × (held q ≡ Some y) × (good q y ≡ true) × (v ≡ cell q y))
+        → ((v : Value) → Has list v → (q : K) × (y : X) × (held q ≡ Some y) × (good q y ≡ true)
+        × (v ≡ cell q y))
         → ((q : K) (y : X) → held q ≡ Some y → good q y ≡ true → Has list (cell q y))
         → rows ≡ take n (map alone list)
     shown_first n is one list rises from there =

@@ -27,7 +27,8 @@ module _ {X : Type 0} {cmp : X → X → Ordering} (total : IsTotalOrder cmp) wh
       absurd (never_both y x (all_has _ ys x up'.0 later) (all_has _ xs y up.0 sooner))
 
   -- what is in the one list behind its first is behind the first of the other
-  behind : (x y : X) (xs ys : List X) → Rises (x ∷ xs) → x ≡ y → (r : X) → Has xs r → Has (y ∷ ys) r → Has ys r
+  behind : (x y : X) (xs ys : List X) → Rises (x ∷ xs) → x ≡ y → (r : X) → Has xs r → Has (y ∷ ys) r
+      → Has ys r
   behind x y xs ys up same r there (inl first) =
       absurd (let low = all_has _ xs r up.0 there in
       let tie = tied_itself total x in

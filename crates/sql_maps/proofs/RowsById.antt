@@ -33,7 +33,8 @@ left_there false o x h = (refl, h)
 
 now_there : {X : Type 0} (m n : ℤ) (x : X) (o : Option X) (y : X)
     → cond (eq_by_cmp int_cmp m n) (Some x) o ≡ Some y → ((m ≡ n) × (x ≡ y)) ⊎ (o ≡ Some y)
-now_there m n x o y h = elim (eq_by_cmp int_cmp m n) as (λ b. eq_by_cmp int_cmp m n ≡ b → cond b (Some x) o ≡ Some y
+now_there m n x o y h = elim (eq_by_cmp int_cmp m n) as (λ b. eq_by_cmp int_cmp m n ≡ b
+    → cond b (Some x) o ≡ Some y
     → ((m ≡ n) × (x ≡ y)) ⊎ (o ≡ Some y)) [
       | true ↦ λ e same. inl (same_id m n e, cc)
       | false ↦ λ e same. inr same
@@ -109,7 +110,8 @@ module _ {X : Type 0} {value : X → Row} {rows : List Row} {held : ℤ → Opti
     sound = λ r h.
         let kept = has_filtered (λ r. not (has_rowid n r)) rows r h in
         let it = are.sound r kept.0 in
-        let other = not-true _ (sym (ap not (hits_id it.0 n it.1)) ∙ ap (λ r. not (has_rowid n r)) (sym it.2) ∙ kept.1) in
+        let other = not-true _ (sym (ap not (hits_id it.0 n it.1)) ∙ ap (λ r. not (has_rowid n r)) (sym it.2)
+        ∙ kept.1) in
         (it.0, it.1, it.2, ap (λ b. cond b None (held it.0)) other ∙ it.3);
     complete = λ m x h.
         let it = left_there (eq_by_cmp int_cmp m n) (held m) x h in
@@ -131,7 +133,8 @@ module _ {X : Type 0} {value : X → Row} {rows : List Row} {held : ℤ → Opti
           (it.0, it.1, it.2, grind (arith, exact, none, is))
     ];
     complete = λ m y h. elim (now_there m n x (held m) y h) [
-      | inl same ↦ subst (Has (put_row new rows)) (λ i. Int (sym same.0 i) ∷ value (same.1 i)) (has_put new rows)
+      | inl same ↦ subst (Has (put_row new rows)) (λ i. Int (sym same.0 i) ∷ value (same.1 i))
+          (has_put new rows)
       | inr was ↦ put_all_keeps (new ∷ []) rows (Int m ∷ value y) fresh (are.complete m y was)
     ];
   }

@@ -1,6 +1,7 @@
 -- What a sound database says of a table whose key is its rowid: a UNIQUE key comes once, and each row has a
 -- value for each column.
-use Rattle.std.proofs.Common.{◌≡◌, ℕ, ℤ, suc, ◌+◌, ◌<◌, List, [], ◌∷◌, length, map, drop, true, false, Option, Some}
+use Rattle.std.proofs.Common.{◌≡◌, ℕ, ℤ, suc, ◌+◌, ◌<◌, List, [], ◌∷◌, length, map, drop, true, false, Option}
+use Rattle.std.proofs.Common.{Some}
 use Rattle.std.proofs.Common.{None, refl, sym, ap, subst, ◌∙◌, arith, ◌==◌}
 use Rattle.std.proofs.lemmas.Bool.{and_from, and_parts}
 use Rattle.std.proofs.lemmas.Bool.Decides.{nat_tests}
@@ -41,13 +42,19 @@ use Rattle.sql_maps.proofs.Unique.{one_at_key}
 
 -- two rows have the same texts at these places
 abbrev pub HaveTexts : List ℕ → Row → Row → Type 0
-HaveTexts places a b = AllByRecursion (λ i. (t : List ℕ) × (column a i ≡ Text t) × (column b i ≡ Text t)) places
+HaveTexts places a b = AllByRecursion (λ i. (t : List ℕ) × (column a i ≡ Text t)
+    × (column b i ≡ Text t)) places
 
 same_texts : (places : List ℕ) (a b : Row) → HaveTexts places a b → same_at places a b ≡ true
 same_texts [] a b have = refl
 same_texts (i ∷ places) a b have =
     let it = have.0 in
-    let same : equal Binary (column a i) (column b i) ≡ true = rw (it.1, it.2, text_eq it.0 it.0, tied_itself nat_list_cmp_total it.0) refl in
+    let same : equal Binary (column a i) (column b i) ≡ true = rw (
+      it.1,
+      it.2,
+      text_eq it.0 it.0,
+      tied_itself nat_list_cmp_total it.0,
+    ) refl in
     and_from _ _ same (same_texts places a b have.1)
 
 -- two ids whose rows have the same texts at a UNIQUE key are one
@@ -128,7 +135,8 @@ module _ {s : Schema} {X : Type 0} {value : X → Row} (t : ById s value) where
   reads_ids old new has sound text rows order means shown first some always =
       subst (λ l. IsPermutation l (map with_null rows))
       (mapped_twice with_null (shown_as [] (id_columns (length others))) tree ∙ map_same _ tree back)
-      (IsPermutation-map with_null _ rows (reads_all s old new has text rows t.table.tree _ order means shown))
+      (IsPermutation-map with_null _ rows
+      (reads_all s old new has text rows t.table.tree _ order means shown))
     where
       tree : List Row
       tree = old.now.trees t.table.tree

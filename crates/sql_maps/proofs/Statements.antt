@@ -285,10 +285,13 @@ module _ {s : Schema} (fine : is_plain s ≡ true) {claims : List Claim} {base :
               let was = row_at (coding t.codes) are_rows k y e in
               let still = subst (λ l. Has l (Int was.0 ∷ row_of key value k y)) (sym now.is)
               (put_all_keeps (fresh k x ∷ []) (db t.table.tree) _ now.fresh was.1) in
-              let added = subst (λ l. Has l (fresh k x)) (sym now.is) (has_put (fresh k x) (db t.table.tree)) in
-              let same = one_at_key s new.now now.schema sound t.table t.place t.here columns t.guarded _ _ _ _
+              let added = subst (λ l. Has l (fresh k x)) (sym now.is)
+              (has_put (fresh k x) (db t.table.tree)) in
+              let same = one_at_key s new.now now.schema sound t.table t.place t.here columns t.guarded _ _ _
+              _
               still added (same_keys t k x _ _ k y ∙ eq_itself (coding t.codes) k) in
-              absurd (all_has _ (db t.table.tree) _ (fresh_apart (fresh k x) (db t.table.tree) now.fresh) was.1
+              absurd (all_has _ (db t.table.tree) _ (fresh_apart (fresh k x) (db t.table.tree) now.fresh)
+              was.1
               (ap (λ i. value_cmp (rowid (fresh k x)) (Int i)) same
               ∙ tied_itself value_cmp_total (rowid (fresh k x))))
         ] refl

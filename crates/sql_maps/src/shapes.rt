@@ -14,8 +14,8 @@ pub enum ColumnShape<'a> {
     Optional(&'a str, Kind),
 }
 
-/// A STRICT table: `rowid` is the column that is the rowid, `primary` has the columns of the key, and `uniques`
-/// those of each unique key.
+/// A STRICT table: `rowid` is the column that is the rowid, `primary` has the columns of the key, and
+/// `uniques` those of each unique key.
 pub struct TableShape<'a> {
     pub name: &'a str,
     pub tree: u32,

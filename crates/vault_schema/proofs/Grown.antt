@@ -16,7 +16,8 @@ still_here (z ∷ xs) ys zero x h = h
 still_here (z ∷ xs) ys (suc i) x h = still_here xs ys i x h
 
 -- no index behind guards the key
-abbrev pub keyed_in_grown : {K X : Type 0} {s : Schema} {cmp : K → K → Ordering} {key : K → Row} {value : X → Row}
+abbrev pub keyed_in_grown : {K X : Type 0} {s : Schema} {cmp : K → K → Ordering} {key : K → Row} {value : X
+    → Row}
     (t : Keyed s cmp key value) (tables : List Table) (indexes : List Index)
     → guards_of indexes (table_of t.table) (columns_to (suc t.more)) ≡ []
     → Keyed (grown s tables indexes) cmp key value

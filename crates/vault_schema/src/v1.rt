@@ -1,5 +1,5 @@
-//! Schema 1: the texts that make its tables, and those that read and write them, but for those of its entries,
-//! which are only read whole: schema 2 replaced them.
+//! Schema 1: the texts that make its tables, and those that read and write them, but for those of its
+//! entries, which are only read whole: schema 2 replaced them.
 pub mod shape;
 
 use vault_core::moment::Moment;
@@ -28,27 +28,34 @@ pub const CREATE_VAULT: &str =
     "CREATE TABLE vault (id INTEGER PRIMARY KEY, version INTEGER NOT NULL) STRICT";
 
 /// Makes the table of merchants.
-pub const CREATE_MERCHANTS: &str =
-    "CREATE TABLE merchants (name TEXT NOT NULL PRIMARY KEY, single_life INTEGER NOT NULL, multi_life INTEGER NOT NULL, moment INTEGER NOT NULL) STRICT";
+pub const CREATE_MERCHANTS: &str = "\
+    CREATE TABLE merchants (name TEXT NOT NULL PRIMARY KEY, single_life INTEGER NOT NULL, \
+    multi_life INTEGER NOT NULL, moment INTEGER NOT NULL) STRICT";
 
 /// Makes the table of counts.
-pub const CREATE_COUNTS: &str =
-    "CREATE TABLE counts (merchant TEXT NOT NULL, kind INTEGER NOT NULL, total INTEGER NOT NULL, PRIMARY KEY (merchant, kind)) STRICT";
+pub const CREATE_COUNTS: &str = "\
+    CREATE TABLE counts (merchant TEXT NOT NULL, kind INTEGER NOT NULL, \
+    total INTEGER NOT NULL, PRIMARY KEY (merchant, kind)) STRICT";
 
 /// Makes the table of entries.
-pub const CREATE_ENTRIES: &str =
-    "CREATE TABLE entries (merchant TEXT NOT NULL, token TEXT NOT NULL, number TEXT, usage INTEGER NOT NULL, birth INTEGER NOT NULL, expires INTEGER NOT NULL, revoked INTEGER, PRIMARY KEY (merchant, token)) STRICT";
+pub const CREATE_ENTRIES: &str = "\
+    CREATE TABLE entries (merchant TEXT NOT NULL, token TEXT NOT NULL, number TEXT, \
+    usage INTEGER NOT NULL, birth INTEGER NOT NULL, expires INTEGER NOT NULL, revoked INTEGER, \
+    PRIMARY KEY (merchant, token)) STRICT";
 
 /// Makes the index of entries by number.
 pub const CREATE_ENTRIES_NUMBER: &str = "CREATE INDEX entries_number ON entries (merchant, number)";
 
 /// Makes the table of records.
-pub const CREATE_RECORDS: &str =
-    "CREATE TABLE records (caller TEXT NOT NULL, request INTEGER NOT NULL, merchant TEXT NOT NULL, token TEXT NOT NULL, usage INTEGER NOT NULL, PRIMARY KEY (caller, request)) STRICT";
+pub const CREATE_RECORDS: &str = "\
+    CREATE TABLE records (caller TEXT NOT NULL, request INTEGER NOT NULL, \
+    merchant TEXT NOT NULL, token TEXT NOT NULL, usage INTEGER NOT NULL, \
+    PRIMARY KEY (caller, request)) STRICT";
 
 /// Makes the table of rights.
-pub const CREATE_RIGHTS: &str =
-    "CREATE TABLE rights (caller TEXT NOT NULL, merchant TEXT NOT NULL, what INTEGER NOT NULL, PRIMARY KEY (caller, merchant, what)) STRICT";
+pub const CREATE_RIGHTS: &str = "\
+    CREATE TABLE rights (caller TEXT NOT NULL, merchant TEXT NOT NULL, what INTEGER NOT NULL, \
+    PRIMARY KEY (caller, merchant, what)) STRICT";
 
 /// The lives of a merchant.
 pub const FIND_LIVES: &str =
@@ -69,8 +76,9 @@ pub const FIND_RIGHT: &str =
     "SELECT what FROM rights WHERE caller = ?1 AND merchant = ?2 AND what = ?3";
 
 /// Writes the lives and the moment of a merchant, whether or not it was there.
-pub const PUT_MERCHANT: &str =
-    "INSERT INTO merchants VALUES (?1, ?2, ?3, ?4) ON CONFLICT (name) DO UPDATE SET single_life = ?2, multi_life = ?3, moment = ?4";
+pub const PUT_MERCHANT: &str = "\
+    INSERT INTO merchants VALUES (?1, ?2, ?3, ?4) \
+    ON CONFLICT (name) DO UPDATE SET single_life = ?2, multi_life = ?3, moment = ?4";
 
 /// Raises a count of a merchant by one, where it has a row.
 pub const RAISE_COUNT: &str =
@@ -100,8 +108,9 @@ pub const READ_MERCHANTS: &str =
 pub const READ_COUNTS: &str = "SELECT rowid, merchant, kind, total FROM counts ORDER BY rowid";
 
 /// The whole of `entries`, by its rowid.
-pub const READ_ENTRIES: &str =
-    "SELECT rowid, merchant, token, number, usage, birth, expires, revoked FROM entries ORDER BY rowid";
+pub const READ_ENTRIES: &str = "\
+    SELECT rowid, merchant, token, number, usage, birth, expires, revoked FROM entries \
+    ORDER BY rowid";
 
 /// The rowids of `entries`, in their order.
 pub const READ_ENTRY_IDS: &str = "SELECT rowid FROM entries ORDER BY rowid";

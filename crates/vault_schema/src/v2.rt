@@ -1,4 +1,5 @@
-//! Schema 2: that of version 1, and behind it cards, each once a merchant, and the entries that point at them.
+//! Schema 2: that of version 1, and behind it cards, each once a merchant, and the entries that point at
+//! them.
 pub mod shape;
 
 use vault_core::moment::Moment;
@@ -39,12 +40,15 @@ pub const NAMES: [&str; 10] = [
 ];
 
 /// Makes the table of cards.
-pub const CREATE_CARDS: &str =
-    "CREATE TABLE cards2 (id INTEGER PRIMARY KEY, merchant TEXT NOT NULL, number TEXT NOT NULL, uses INTEGER NOT NULL, UNIQUE (merchant, number)) STRICT";
+pub const CREATE_CARDS: &str = "\
+    CREATE TABLE cards2 (id INTEGER PRIMARY KEY, merchant TEXT NOT NULL, number TEXT NOT NULL, \
+    uses INTEGER NOT NULL, UNIQUE (merchant, number)) STRICT";
 
 /// Makes the table of entries.
-pub const CREATE_ENTRIES: &str =
-    "CREATE TABLE entries2 (merchant TEXT NOT NULL, token TEXT NOT NULL, card INTEGER, usage INTEGER NOT NULL, birth INTEGER NOT NULL, expires INTEGER NOT NULL, revoked INTEGER, PRIMARY KEY (merchant, token)) STRICT";
+pub const CREATE_ENTRIES: &str = "\
+    CREATE TABLE entries2 (merchant TEXT NOT NULL, token TEXT NOT NULL, card INTEGER, \
+    usage INTEGER NOT NULL, birth INTEGER NOT NULL, expires INTEGER NOT NULL, revoked INTEGER, \
+    PRIMARY KEY (merchant, token)) STRICT";
 
 /// Makes the index of entries by card.
 pub const CREATE_ENTRIES_CARD: &str = "CREATE INDEX entries2_card ON entries2 (merchant, card)";
@@ -81,23 +85,29 @@ pub const FIND_ENTRY: &str =
     "SELECT card, usage, birth, expires, revoked FROM entries2 WHERE merchant = ?1 AND token = ?2";
 
 /// The multi-use token of a card that is live at a moment.
-pub const FIND_CURRENT: &str =
-    "SELECT token FROM entries2 WHERE merchant = ?1 AND card = ?2 AND usage = 2 AND revoked IS NULL AND expires > ?3";
+pub const FIND_CURRENT: &str = "\
+    SELECT token FROM entries2 \
+    WHERE merchant = ?1 AND card = ?2 AND usage = 2 AND revoked IS NULL AND expires > ?3";
 
 /// So many of the tokens of a merchant that are dead at a moment, in order.
-pub const FIND_DEAD: &str =
-    "SELECT token FROM entries2 WHERE merchant = ?1 AND card IS NOT NULL AND (revoked IS NOT NULL OR expires <= ?2) ORDER BY token LIMIT ?3";
+pub const FIND_DEAD: &str = "\
+    SELECT token FROM entries2 \
+    WHERE merchant = ?1 AND card IS NOT NULL AND (revoked IS NOT NULL OR expires <= ?2) \
+    ORDER BY token LIMIT ?3";
 
 /// Writes a new entry.
 pub const ADD_ENTRY: &str = "INSERT INTO entries2 VALUES (?1, ?2, ?3, ?4, ?5, ?6, ?7)";
 
 /// Writes an entry, whether or not it was there.
-pub const PUT_ENTRY: &str =
-    "INSERT INTO entries2 VALUES (?1, ?2, ?3, ?4, ?5, ?6, ?7) ON CONFLICT (merchant, token) DO UPDATE SET card = ?3, usage = ?4, birth = ?5, expires = ?6, revoked = ?7";
+pub const PUT_ENTRY: &str = "\
+    INSERT INTO entries2 VALUES (?1, ?2, ?3, ?4, ?5, ?6, ?7) \
+    ON CONFLICT (merchant, token) \
+    DO UPDATE SET card = ?3, usage = ?4, birth = ?5, expires = ?6, revoked = ?7";
 
 /// The whole of `cards2`, by its id.
 pub const READ_CARDS: &str = "SELECT id, merchant, number, uses FROM cards2 ORDER BY id";
 
 /// The whole of `entries2`, by its rowid.
-pub const READ_ENTRIES: &str =
-    "SELECT rowid, merchant, token, card, usage, birth, expires, revoked FROM entries2 ORDER BY rowid";
+pub const READ_ENTRIES: &str = "\
+    SELECT rowid, merchant, token, card, usage, birth, expires, revoked FROM entries2 \
+    ORDER BY rowid";

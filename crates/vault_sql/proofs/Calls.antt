@@ -123,11 +123,12 @@ pub tells_tables : {R E : Type 0} {result : Result R E} {old new : State} {sql :
     → (HasCleanDisk new → IfOk result (λ rows. Shown sql params old new (items rows)))
     → ((t : Tables) (rows : R) → maps.Stands vault_schema (claims t) old.now
     → Shown sql params old new (items rows) → Is t rows) → TellsTables result old new Is
-tells_tables {result = result} {old = old} {new = new} {sql = sql} means reads items params told lemma = record {
-  reads = reads vault_schema means.plain;
-  told = λ clean. calls.if_ok result (λ rows. Shown sql params old new (items rows)) _ (told clean)
-      (λ rows shown t it. lemma t rows it shown);
-}
+tells_tables {result = result} {old = old} {new = new} {sql = sql} means reads items params told
+    lemma = record {
+      reads = reads vault_schema means.plain;
+      told = λ clean. calls.if_ok result (λ rows. Shown sql params old new (items rows)) _ (told clean)
+          (λ rows shown t it. lemma t rows it shown);
+    }
 
 -- and so what they show of a vault
 pub tells_of : {R E : Type 0} {result : Result R E} {old new : State} {Is : Tables → R → Type 0}
@@ -137,9 +138,11 @@ pub tells_of : {R E : Type 0} {result : Result R E} {old new : State} {Is : Tabl
     → Is (tables_of (lookups_of V) cards pointing) x → Of V x) → Tells result old new Of
 tells_of {result = result} {old = old} {Is = Is} it of = record {
   reads = it.reads;
-  told = λ clean. calls.if_ok result (λ x. (t : Tables) → maps.Stands vault_schema (claims t) old.now → Is t x) _
+  told = λ clean. calls.if_ok result (λ x. (t : Tables) → maps.Stands vault_schema (claims t) old.now
+      → Is t x) _
       (it.told clean) (λ x so V h.
-      of V h.stands.cards h.stands.pointing x h.stands.joined (so (held_tables old V h) (as_held old V h).stands));
+      of V h.stands.cards h.stands.pointing x h.stands.joined
+      (so (held_tables old V h) (as_held old V h).stands));
 }
 
 -- what its rows show of a vault is told
@@ -223,7 +226,8 @@ pub turns_telling : {R E : Type 0} {y : R} {old new : State} {sql : List ℕ} {p
 turns_telling {count = count} steps ran lemma = record {
   steps = steps;
   done = λ clean base t w can.
-      lemma t base can (record { within = w; count = count; ran = ran clean w.inside; limit = steps.limit }) refl;
+      lemma t base can (record { within = w; count = count; ran = ran clean w.inside; limit = steps.limit })
+      refl;
 }
 
 -- what the rows of a query show of the tables is told, and they stay

@@ -145,7 +145,8 @@ module _ (V : Vault) (t : Tables) (are : AreJoined nothing_owed t.cards t.pointi
 
     reusable_is : (usage revoked later : Bool) (o : Option Bytes) → o ≡ Some pan
         → (usage && (revoked && (later && true))) ≡ true
-        → (usage && option_map_or (λ number. same number pan) o false && (is_some o && revoked && later)) ≡ true
+        → (usage && option_map_or (λ number. same number pan) o false &&
+        (is_some o && revoked && later)) ≡ true
     reusable_is usage revoked later o is all =
         let itself : same pan pan ≡ true = texts_ties pan pan ∙ ap is_eq (tied_itself bytes_total pan) in
         rw is (grind (arith, itself))
@@ -164,7 +165,8 @@ module _ (V : Vault) (t : Tables) (are : AreJoined nothing_owed t.cards t.pointi
         card.1 ∙ ap (λ n. Some n) (int_cmp-IsAntisymmetric card.0 id (equal_is _ card.2)) in (
           key,
           ap (map.get V.entries) (sym key) ∙ entry_there are q y is,
-          reusable_is (same_use y.usage Multi) (is_none y.revoked) (nat_lt at y.expires) _ (its_number y here) rest.1,
+          reusable_is (same_use y.usage Multi) (is_none y.revoked) (nat_lt at y.expires) _
+              (its_number y here) rest.1,
         )
 
     good_is : (usage revoked later : Bool) (o : Option Bytes) (number : Bool)
@@ -208,5 +210,6 @@ module _ (V : Vault) (t : Tables) (are : AreJoined nothing_owed t.cards t.pointi
               (λ q y is good.
               let its = owned q y is good in
               its.0 ∙ ap (λ token. (m, token))
-              (one_live V sound m pan at now q.1 held.0 (joined t.cards y) held.1 its.1 its.2 there.0 there.1))
+              (one_live V sound m pan at now q.1 held.0 (joined t.cards y) held.1 its.1 its.2 there.0
+              there.1))
         ] refl

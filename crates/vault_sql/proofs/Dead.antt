@@ -161,7 +161,8 @@ rising_tokens m test [] sorted own = tt
 rising_tokens m test (e ∷ es) sorted own =
     let parts = and_parts _ _ (true-T _ sorted) in
     let rest = rising_tokens m test es (subst T (sym parts.1) tt) (λ x h. own x (inr h)) in
-    elim (test e) as (λ b. Rises value_cmp_total (map token_value (cond b (e ∷ filter test es) (filter test es)))) [
+    elim (test e) as (λ b. Rises value_cmp_total
+    (map token_value (cond b (e ∷ filter test es) (filter test es)))) [
       | true ↦ (
         all_from _ (map token_value (filter test es)) (λ v h.
             let it = has_mapped token_value (filter test es) v h in
@@ -298,13 +299,15 @@ module _ (V : Vault) (m : Bytes) where
       let all = sound.made_few m in
       let kept = fewer_kept (λ e. is_dead e.1 (moment_at V m now)) own in
       let counted = map.len-entries (entries_of V m) in
-      let listed = length-map (filter (λ (e : (Bytes × Bytes) × Entry). is_dead e.1 (moment_at V m now)) own) (λ e. e.0.1) in
+      let listed = length-map (filter (λ (e : (Bytes × Bytes) × Entry). is_dead e.1 (moment_at V m now)) own)
+      (λ e. e.0.1) in
       omega (arith, all, kept, counted, listed)
 
   -- no more than these are dead, so more can't be shown
   pub all_dead : Sound V → (now limit many : ℕ) → many ≡ min 1000000 limit
       → take many (dead_tokens V m now) ≡ take limit (dead_tokens V m now)
-  all_dead sound now limit many is = take_enough 1000000 limit many (dead_tokens V m now) (few_dead sound now) is
+  all_dead sound now limit many is = take_enough 1000000 limit many (dead_tokens V m now)
+      (few_dead sound now) is
 
 -- ---- tokens that are read from rows
 

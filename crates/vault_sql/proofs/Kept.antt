@@ -44,5 +44,10 @@ told_makes {b = b} look step = record {
   done = λ clean base h w can.
       let before : HasCleanDisk b = omega (arith, step.steps.clean, clean) in
       let seen = look.told before base (tables_of h w.cards w.pointing) w.has in
-      step.done clean base h (record { cards = w.cards; pointing = w.pointing; has = seen.1; joined = w.joined }) can;
+      step.done clean base h (record {
+        cards = w.cards;
+        pointing = w.pointing;
+        has = seen.1;
+        joined = w.joined;
+      }) can;
 }

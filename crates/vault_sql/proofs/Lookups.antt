@@ -46,7 +46,8 @@ module _ (old new : State) (V : Vault) (cards : ℤ → Option Card) (pointing :
     pub shows_counts : (m : Bytes) → Shown FIND_COUNTS.now (Text m ∷ []) old new rows → ShowsCounts rows V m
     shows_counts m shown =
         let it = shown_are old new it _ _ rows shown count_table (lookups_of V).counts (λ are. are)
-        _ _ _ (counts_is tables2 indexes2) (λ q y. is_eq (bytes_cmp q.0 m)) passes (λ q y. count_columns q.1 y)
+        _ _ _ (counts_is tables2 indexes2) (λ q y. is_eq (bytes_cmp q.0 m)) passes
+        (λ q y. count_columns q.1 y)
         (λ n q y. refl) in
         record {
           sound = λ r there.
@@ -65,7 +66,8 @@ module _ (old new : State) (V : Vault) (cards : ℤ → Option Card) (pointing :
     pub shows_how_many : Shown COUNT_MERCHANTS.now [] old new rows → Sound V
         → rows ≡ number_column (map.len V.merchants) ∷ []
     shows_how_many shown sound =
-        how_many old new it.schema 1 (how_many_is tables2 indexes2) shown merchant_coding lives_in V.merchants it.rows.1.0
+        how_many old new it.schema 1 (how_many_is tables2 indexes2) shown merchant_coding lives_in V.merchants
+        it.rows.1.0
         (omega (arith, sound.few))
 
 -- ---- the row of a merchant, put together from its own table and its counts
@@ -143,7 +145,11 @@ same_lives o x y same tests is = (
 -- where no row is shown, there are no lives
 pub no_lives : (o : Option Lives) (y : Lives) (rows : List Row) → rows ≡ one_of lives_columns o
     → None ≡ slice_get rows 0 → IsTrue false ↔ (o ≡ Some y)
-no_lives None y rows is first = (λ says. absurd (true≢false (sym says)), λ there. absurd (let clash : None ≡ Some y = there in cc))
+no_lives None y rows is first = (
+  λ says. absurd (true≢false (sym says)),
+  λ there.
+      absurd (let clash : None ≡ Some y = there in cc),
+)
 no_lives (Some x) y rows is first =
     let some : None ≡ Some (lives_columns x) = first ∙ ap (λ l. slice_get l 0) is in absurd cc
 
@@ -153,7 +159,8 @@ pub no_row : (V : Vault) (m : Bytes) (found : Option Lives) → found ≡ option
 no_row V m found is none = grind arith
 
 -- the moment of a command is that of the merchant's lives or later
-pub moment_some : (V : Vault) (m : Bytes) (now : ℕ) (x : Lives) → Some x ≡ option_map lives_in (merchant_at V m)
+pub moment_some : (V : Vault) (m : Bytes) (now : ℕ) (x : Lives)
+    → Some x ≡ option_map lives_in (merchant_at V m)
     → max x.moment now ≡ moment_at V m now
 moment_some V m now x is = go (merchant_at V m) is
   where

@@ -178,7 +178,8 @@ version_put result {old = old} {new = new} steps ran before clean =
       pointing = no_pointing;
       has = retold vault_schema (IsVersion 2 ∷ empties 7)
           (claims (tables_of (lookups_of empty_vault) no_cards no_pointing)) base new emptied
-          (insert_first refl (record { within = ready; count = did.0; ran = did.1; limit = steps.limit }) vault 0
+          (insert_first refl (record { within = ready; count = did.0; ran = did.1; limit = steps.limit })
+          vault 0
           refl 3 _ (put_version_is [] []) (pos 1) (Null ∷ Int (pos 2) ∷ []) ready.stands.rows.0 refl refl);
       joined = none_joined;
     })

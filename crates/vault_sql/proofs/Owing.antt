@@ -43,18 +43,21 @@ module _ (t new : Tables) (id : ℤ) (v : Option Card)
         number = same;
       },
     );
-    owed = λ entries it. subst (λ k. AreJoined (owed_to (Some id)) k t.pointing entries) cards_are (so entries it);
+    owed = λ entries it. subst (λ k. AreJoined (owed_to (Some id)) k t.pointing entries) cards_are
+        (so entries it);
   }
 
 -- a card keeps others of its uses
-pub less_used : (t new : Tables) (id : ℤ) (uses : ℕ) (c : Card) → t.cards id ≡ Some c → c.uses ≡ uses → 1 < uses
+pub less_used : (t new : Tables) (id : ℤ) (uses : ℕ) (c : Card) → t.cards id ≡ Some c → c.uses ≡ uses
+    → 1 < uses
     → new ≡ record t { cards = put int_cmp t.cards id (Some (record c { uses = uses - 1 })) }
     → OwesNothing t new id
 less_used t new id uses c is many some e = owes_nothing t new id _ e (λ entries it.
     lowered id it c is (uses - 1) (omega (arith, many, some)) (omega (arith, some)))
 
 -- it was used once
-pub not_used : (t new : Tables) (id : ℤ) (uses : ℕ) (c : Card) → t.cards id ≡ Some c → c.uses ≡ uses → uses ≤ 1
+pub not_used : (t new : Tables) (id : ℤ) (uses : ℕ) (c : Card) → t.cards id ≡ Some c → c.uses ≡ uses
+    → uses ≤ 1
     → new ≡ record t { cards = put int_cmp t.cards id None } → OwesNothing t new id
 not_used t new id uses c is many few e = owes_nothing t new id None e (λ entries it.
     let some = (it.used id c is).3 in
@@ -64,7 +67,8 @@ not_used t new id uses c is many few e = owes_nothing t new id None e (λ entrie
 pub more_used : (t new : Tables) (id : ℤ) (c : Card) (m pan : Bytes) → IsCardOf t.cards id c m pan
     → new ≡ record t { cards = put int_cmp t.cards id (Some (record c { uses = c.uses + 1 })) }
     → OwesUse t new id m pan
-more_used t new id c m pan of e = owes_use t new id _ e (record c { uses = c.uses + 1 }) refl of.merchant of.number
+more_used t new id c m pan of e = owes_use t new id _ e (record c { uses = c.uses + 1 }) refl of.merchant
+    of.number
     (λ entries it. raised it id c of.there)
 
 -- a card is new
@@ -83,7 +87,8 @@ pub uses_shown : (o : Option Card) (rows : List Row) (row : Row) (uses : ℕ) �
 uses_shown None rows row uses is first at =
     let none : Some row ≡ None = first ∙ ap (λ l. slice_get l 0) is in absurd cc
 uses_shown (Some c) rows row uses is first at =
-    let same : row ≡ uses_column c = (let e : Some row ≡ Some (uses_column c) = first ∙ ap (λ l. slice_get l 0) is in cc) in
+    let same : row ≡ uses_column c = (let e : Some row ≡ Some (uses_column c) = first
+    ∙ ap (λ l. slice_get l 0) is in cc) in
     let value : Int (pos uses) ≡ Int (pos c.uses) = sym at ∙ ap (λ r. column r 0) same in
     (c, refl, cc)
 
@@ -125,7 +130,8 @@ made_shown t new rows row n m pan none added shows first at =
     let one : it.0 ≡ added.0 = elim (id_is added.0 it.0) [
       | inl same ↦ same
       | inr far ↦ absurd (none it.0 it.1 (record {
-        there = sym (ap (λ (k : ℤ → Option Card). k it.0) cards ∙ put_far t.cards added.0 (Some (card_made m pan)) it.0 far)
+        there = sym (ap (λ (k : ℤ → Option Card). k it.0) cards
+            ∙ put_far t.cards added.0 (Some (card_made m pan)) it.0 far)
             ∙ it.2.there;
         merchant = it.2.merchant;
         number = it.2.number;

@@ -1,6 +1,7 @@
 -- A count goes up by an update of its row, or by its first row.
 use Rattle.std.proofs.Common.{arith, ◌≡◌, ◌↔◌, ◌∙◌, ◌+◌, inl, inr, ℕ, pos, [], ◌∷◌, Bool, true, false, nat_lt}
-use Rattle.std.proofs.Common.{Option, Some, None, IsSome, IsTrue, Ok, Result, refl, sym, ap, subst, if◌then◌else◌}
+use Rattle.std.proofs.Common.{Option, Some, None, IsSome, IsTrue, Ok, Result, refl, sym, ap, subst}
+use Rattle.std.proofs.Common.{if◌then◌else◌}
 use Rattle.sqlite.specs.State.{State, HasCleanDisk, ExecutesInside}
 use Rattle.sqlite.specs.declared.types.Value.TheVariants.{Int, Text}
 use Rattle.sql_maps.proofs.Calls as calls

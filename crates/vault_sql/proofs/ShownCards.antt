@@ -38,12 +38,14 @@ module _ {t : Tables} (old new : State) (it : Stands vault_schema (claims t) old
   pub shows_card : (m number : Bytes) → Shown FIND_CARD.now (Text m ∷ Text number ∷ []) old new rows
       → ShowsCard rows t.cards m number
   shows_card m number shown =
-      elim (shown_once old new it _ _ rows shown card_table t.cards (λ are. are) card_tests _ [] (card_is [] [])
+      elim (shown_once old new it _ _ rows shown card_table t.cards (λ are. are) card_tests _ []
+      (card_is [] [])
       (is_wanted m number)
       (λ id c. rw (text_eq c.merchant m, text_eq c.number number)
       (ap (λ b. is_eq (bytes_cmp c.merchant m) && b) (and_true _))) card_shown (λ id c. refl)
       (λ n k x y is fits and passes.
-      unique_id card_table old.now it.schema it.sound it.rows.1.1.1.1.1.1.0 (2 ∷ 3 ∷ []) guarded n k x y is and
+      unique_id card_table old.now it.schema it.sound it.rows.1.1.1.1.1.1.0
+      (2 ∷ 3 ∷ []) guarded n k x y is and
       (let a = and_parts _ _ fits in let b = and_parts _ _ passes in (
         (m, ap Text (exact x.merchant m a.0), ap Text (exact y.merchant m b.0)),
         ((number, ap Text (exact x.number number a.1), ap Text (exact y.number number b.1)), tt),

@@ -28,8 +28,8 @@ use Rattle.vault_schema.proofs.Version1.Texts.{put_merchant_is, raise_is, add_co
 use Rattle.vault_schema.proofs.Version1.Texts.{give_is, take_is}
 use Rattle.vault_schema.proofs.Version2.Codes.{merchant_table, count_table, record_table, right_table}
 use Rattle.vault_schema.proofs.Version2.Codes.{card_table, pointing_table}
-use Rattle.vault_schema.proofs.Version2.Texts.{add_entry_is, put_entry_is, add_card_is, set_uses_is, drop_card_is}
-use Rattle.vault_schema.proofs.Version2.Texts.{uses_set}
+use Rattle.vault_schema.proofs.Version2.Texts.{add_entry_is, put_entry_is, add_card_is, set_uses_is}
+use Rattle.vault_schema.proofs.Version2.Texts.{drop_card_is, uses_set}
 use Rattle.vault_sql.specs.Calls.{HasTables}
 use Rattle.vault_sql.specs.Schema.{vault_schema}
 use Rattle.vault_sql.specs.Written.{raise_at, HasRoomAt}
@@ -62,7 +62,8 @@ module _ {t : Tables} {base : Database} {old new : State} where
       → Ran vault_schema (claims t) base old new ADD_COUNT.now (Text at.0 ∷ Int (pos at.1) ∷ [])
       → HasTables new base (record t { counts = raise_at t.counts at })
   count_added at none run =
-      subst (λ (o : Option ℕ). HasTables new base (record t { counts = put record_cmp t.counts at (Some (unwrap_or o 0 + 1)) }))
+      subst (λ (o : Option ℕ). HasTables new base
+      (record t { counts = put record_cmp t.counts at (Some (unwrap_or o 0 + 1)) }))
       (sym none)
       (insert_in refl run count_table t.counts (λ are. are) at 1 4 _ (add_count_is tables2 indexes2) refl).1
 
@@ -74,7 +75,8 @@ module _ {t : Tables} {base : Database} {old new : State} where
 
   pub pointing_added : (at : Bytes × Bytes) (x : Pointing)
       → Ran vault_schema (claims t) base old new ADD_ENTRY.now (entry_key at ++ pointing_columns x)
-      → (t.pointing at ≡ None) × HasTables new base (record t { pointing = put entry_cmp t.pointing at (Some x) })
+      → (t.pointing at ≡ None)
+      × HasTables new base (record t { pointing = put entry_cmp t.pointing at (Some x) })
   pointing_added at x run =
       insert_in refl run pointing_table t.pointing (λ are. are) at x 8 _ (add_entry_is [] []) refl
 
@@ -82,7 +84,8 @@ module _ {t : Tables} {base : Database} {old new : State} where
       → Ran vault_schema (claims t) base old new ADD_RECORD.now (numbered_key at ++ record_columns x)
       → HasTables new base (record t { records = put record_cmp t.records at (Some x) })
   record_added at x run =
-      (insert_in refl run record_table t.records (λ are. are) at x 6 _ (add_record_is tables2 indexes2) refl).1
+      (insert_in refl run record_table t.records (λ are. are) at x 6 _ (add_record_is tables2 indexes2)
+      refl).1
 
   pub right_given : (at : Bytes × (Bytes × Right))
       → Ran vault_schema (claims t) base old new GIVE_RIGHT.now (right_key at)

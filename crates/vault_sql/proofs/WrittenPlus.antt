@@ -33,7 +33,8 @@ use Rattle.sql_maps.proofs.KeyTests.{equal_is, then_eq}
 -- what a merchant's table has at a key, with the change
 found_plus : (merchants : map.FinMap bytes_cmp Merchant) (count : Option Count) (x : core.Lives) (q : Bytes)
     → map.get (with_merchant merchants count (Some x)) q
-    ≡ cond (eq_by_cmp bytes_cmp q x.merchant) (Some (merchant_with_count count (merchant_with x (map.get merchants q))))
+    ≡ cond (eq_by_cmp bytes_cmp q x.merchant)
+    (Some (merchant_with_count count (merchant_with x (map.get merchants q))))
     (map.get merchants q)
 found_plus merchants count x q =
     let same : is_eq (bytes_cmp q x.merchant) ≡ true → q ≡ x.merchant =

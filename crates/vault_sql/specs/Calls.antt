@@ -49,7 +49,8 @@ pub record Turns {R E : Type 0} (result : Result R E) (old new : State) (Can : T
       → (after : Tables) × After x t after × HasTables new base after)
 
 -- inside a transaction it only reads, and what it answers is so of what the tables have
-pub record TellsInside {R E : Type 0} (result : Result R E) (old new : State) (Is : Tables → R → Type 0) : Type 0
+pub record TellsInside {R E : Type 0} (result : Result R E) (old new : State)
+    (Is : Tables → R → Type 0) : Type 0
   where
     pub steps : Steps old new
     pub told : HasCleanDisk new
@@ -57,7 +58,8 @@ pub record TellsInside {R E : Type 0} (result : Result R E) (old new : State) (I
         → Is t x × HasTables new base t)
 
 -- it only reads, and what it answers is so of what the tables have
-pub record TellsTables {R E : Type 0} (result : Result R E) (old new : State) (Is : Tables → R → Type 0) : Type 0
+pub record TellsTables {R E : Type 0} (result : Result R E) (old new : State)
+    (Is : Tables → R → Type 0) : Type 0
   where
     pub reads : Reads vault_schema result old new
     pub told : HasCleanDisk new

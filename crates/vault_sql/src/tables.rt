@@ -72,7 +72,8 @@ impl<S: Alter> Tables for SqlTables<S> {
     ghost use Rattle.std.proofs.Common.{inl, inr};
     ghost use Rattle.vault_sql.specs.Left.{left_alone};
 
-    ghost holds = { λ t V. (t.failed ≡ false) × (HasCleanDisk (state S.Store t.conn) → Holds (state S.Store t.conn) V) };
+    ghost holds = { λ t V. (t.failed ≡ false)
+        × (HasCleanDisk (state S.Store t.conn) → Holds (state S.Store t.conn) V) };
 
     ghost leaves = { λ t V W. LeavesEither (state S.Store t.conn) V W };
 
@@ -86,7 +87,8 @@ impl<S: Alter> Tables for SqlTables<S> {
 
     ghost unfailed = { λ t V held. held.0 };
 
-    ghost settled = { λ t V held honest. left_alone _ V (held.1 honest) (λ db. S.Store.settled t.conn.store db (held.1 honest).is_open) };
+    ghost settled = { λ t V held honest. left_alone _ V (held.1 honest)
+        (λ db. S.Store.settled t.conn.store db (held.1 honest).is_open) };
 
     ghost widened = { λ t V W left db is. elim (left db is) [ inl held ↦ inl held | inr held ↦ inl held ] };
 

@@ -1,6 +1,7 @@
 -- What a use more, an entry that is written, and a use less make of cards and the entries that point at them.
 use Rattle.std.proofs.Common.{◌≡◌, ◌⊎◌, inl, inr, ℕ, ℤ, suc, ◌+◌, ◌≤◌, Bool, true, false, cond, Option}
-use Rattle.std.proofs.Common.{Some, None, option_map, option_and_then, refl, sym, ap, subst, ◌∙◌, arith, int_cmp}
+use Rattle.std.proofs.Common.{Some, None, option_map, option_and_then, refl, sym, ap, subst, ◌∙◌, arith}
+use Rattle.std.proofs.Common.{int_cmp}
 use Rattle.std.proofs.Common.{true≢false, Ordering}
 use Rattle.std.specs.Cmp.{int_cmp_total, tied_itself, IsTotalOrder}
 use Rattle.std.specs.FinMap.{int_cmp-IsAntisymmetric}
@@ -114,7 +115,8 @@ module _ {cards : ℤ → Option Card} {pointing : Bytes × Bytes → Option Poi
     once = λ a b c d ca cb m number. elim (at_id a) [
       | inl ea ↦ elim (at_id b) [
         | inl eb ↦ ea ∙ sym eb
-        | inr far ↦ absurd (by.alone b c d far (sym here ∙ ap now (sym ea) ∙ ca) (sym (beside b far) ∙ cb) m number)
+        | inr far ↦ absurd (by.alone b c d far (sym here ∙ ap now (sym ea) ∙ ca) (sym (beside b far)
+            ∙ cb) m number)
       ]
       | inr fara ↦ elim (at_id b) [
         | inl eb ↦ absurd (by.alone a d c fara (sym here ∙ ap now (sym eb) ∙ cb) (sym (beside a fara) ∙ ca)
@@ -152,7 +154,8 @@ module _ {cards : ℤ → Option Card} {pointing : Bytes × Bytes → Option Poi
       numbers key (Some n) at = elim (at_id n) [
         | inl e ↦
             let a = by.agrees key (at ∙ ap (λ x. Some x) e) in
-            ap (λ x. option_map number_of (cards x)) e ∙ a.3 ∙ ap (option_map number_of) (sym (ap now e ∙ here ∙ a.1))
+            ap (λ x. option_map number_of (cards x)) e ∙ a.3
+            ∙ ap (option_map number_of) (sym (ap now e ∙ here ∙ a.1))
         | inr far ↦ ap (option_map number_of) (sym (beside n far))
       ]
 
@@ -161,13 +164,20 @@ module _ {cards : ℤ → Option Card} {pointing : Bytes × Bytes → Option Poi
       kept key None is = refl
       kept key (Some e) is =
           let number = numbers key e.card (ap (option_and_then (λ (p : Pointing). p.card)) is) in
-          λ i. Some (record { number = number i; usage = e.usage; birth = e.birth; expires = e.expires; revoked = e.revoked })
+          λ i. Some (record {
+            number = number i;
+            usage = e.usage;
+            birth = e.birth;
+            expires = e.expires;
+            revoked = e.revoked;
+          })
 
   -- ---- one use more, owed
 
   -- of a card that is there
   pub raised : AreJoined nothing_owed cards pointing entries → (id : ℤ) (c : Card) → cards id ≡ Some c
-      → AreJoined (owed_to (Some id)) (put int_cmp cards id (Some (record c { uses = c.uses + 1 }))) pointing entries
+      → AreJoined (owed_to (Some id)) (put int_cmp cards id (Some (record c { uses = c.uses + 1 }))) pointing
+      entries
   raised it id c is = recarded it id (Some (record c { uses = c.uses + 1 })) (record {
     agrees = λ key at.
         let own = it.owned key id at in
@@ -195,17 +205,20 @@ module _ {cards : ℤ → Option Card} {pointing : Bytes × Bytes → Option Poi
       → ((n : ℤ) (d : Card) → cards n ≡ Some d → d.merchant ≡ m → d.number ≡ number → ⊥)
       → AreJoined (owed_to (Some id))
       (put int_cmp cards id (Some (record { merchant = m; number = number; uses = 1 }))) pointing entries
-  added it id none m number new = recarded it id (Some (record { merchant = m; number = number; uses = 1 })) (record {
-    agrees = λ key at. absurd (nobody key at);
-    alone = λ n x d far e other own same.
-        let one = some_card _ _ e in
-        new n d other (sym (ap (λ (y : Card). y.merchant) one ∙ own)) (sym (ap (λ (y : Card). y.number) one ∙ same));
-    counted = λ d e.
-        let uses = ap (λ (y : Card). y.uses) (some_card _ _ e) in
-        let owes = owed_at id in
-        (0, none_are nobody, omega (arith, uses, owes), omega (arith, uses));
-    others = λ n far. owed_beside id n far;
-  })
+  added it id none m number new = recarded it id (Some (record { merchant = m; number = number; uses = 1 }))
+      (record {
+        agrees = λ key at. absurd (nobody key at);
+        alone = λ n x d far e other own same.
+            let one = some_card _ _ e in
+            new n d other (sym (ap (λ (y : Card). y.merchant) one ∙ own))
+            (sym (ap (λ (y : Card). y.number) one
+            ∙ same));
+        counted = λ d e.
+            let uses = ap (λ (y : Card). y.uses) (some_card _ _ e) in
+            let owes = owed_at id in
+            (0, none_are nobody, omega (arith, uses, owes), omega (arith, uses));
+        others = λ n far. owed_beside id n far;
+      })
     where
       nobody : (key : Bytes × Bytes) → card_of pointing key ≡ Some id → ⊥
       nobody key at = let own = it.owned key id at in let both : None ≡ Some own.0 = sym none ∙ own.1 in cc
@@ -233,7 +246,8 @@ module _ {cards : ℤ → Option Card} {pointing : Bytes × Bytes → Option Poi
       now = put entry_cmp pointing key (Some e)
 
       written : (b : Bool) {q : Bytes × Bytes} → entries q ≡ option_map (joined cards) (pointing q)
-          → cond b (Some (joined cards e)) (entries q) ≡ option_map (joined cards) (cond b (Some e) (pointing q))
+          → cond b (Some (joined cards e)) (entries q) ≡ option_map (joined cards)
+          (cond b (Some e) (pointing q))
       written true is = refl
       written false is = is
 
@@ -244,7 +258,8 @@ module _ {cards : ℤ → Option Card} {pointing : Bytes × Bytes → Option Poi
       card_in = option_and_then (λ (p : Pointing). p.card)
 
       here : (q : Bytes × Bytes) → q ≡ key → card_of now q ≡ card
-      here q same = ap (λ k. card_in (now k)) same ∙ ap card_in (put_at entry_total key_exact pointing key (Some e))
+      here q same = ap (λ k. card_in (now k)) same
+          ∙ ap card_in (put_at entry_total key_exact pointing key (Some e))
           ∙ points
 
       beside : (q : Bytes × Bytes) → (q ≡ key → ⊥) → card_of now q ≡ card_of pointing q
@@ -254,7 +269,8 @@ module _ {cards : ℤ → Option Card} {pointing : Bytes × Bytes → Option Poi
       was q same = ap (card_of pointing) same
 
       counted : (id : ℤ) (c : Card)
-          → (many : ℕ) × AreMany (λ q. card_of pointing q ≡ Some id) many × (c.uses ≡ many + owed_to card id) × (1 ≤ c.uses)
+          → (many : ℕ) × AreMany (λ q. card_of pointing q ≡ Some id) many × (c.uses ≡ many + owed_to card id)
+          × (1 ≤ c.uses)
           → (card ≡ Some id) × (owed_to card id ≡ 1) ⊎ (card ≡ Some id → ⊥) × (owed_to card id ≡ 0)
           → (card_of pointing key ≡ Some id) × (owed_to (card_of pointing key) id ≡ 1)
           ⊎ (card_of pointing key ≡ Some id → ⊥) × (owed_to (card_of pointing key) id ≡ 0)
@@ -288,8 +304,16 @@ module _ {cards : ℤ → Option Card} {pointing : Bytes × Bytes → Option Poi
       counted id c (many, are, uses, some) (inr (isnt, owes)) (inr (before, owed)) = (
         many,
         as_many are
-            (λ q at. elim (at_key q) [ inl same ↦ absurd (before (sym (was q same) ∙ at)) | inr far ↦ beside q far ∙ at ])
-            (λ q at. elim (at_key q) [ inl same ↦ absurd (isnt (sym (here q same) ∙ at)) | inr far ↦ sym (beside q far) ∙ at ]),
+            (λ q at. elim (at_key q) [
+              | inl same ↦ absurd (before (sym (was q same) ∙ at))
+              | inr far ↦ beside q
+                  far ∙ at
+            ])
+            (λ q at. elim (at_key q) [
+              | inl same ↦ absurd (isnt (sym (here q same) ∙ at))
+              | inr far ↦ sym
+                  (beside q far) ∙ at
+            ]),
         omega (arith, uses, owes, owed),
         some,
       )
@@ -297,7 +321,8 @@ module _ {cards : ℤ → Option Card} {pointing : Bytes × Bytes → Option Poi
   -- ---- one use less, which was owed
 
   -- of a card that keeps others
-  pub lowered : (id : ℤ) → AreJoined (owed_to (Some id)) cards pointing entries → (c : Card) → cards id ≡ Some c
+  pub lowered : (id : ℤ) → AreJoined (owed_to (Some id)) cards pointing entries → (c : Card)
+      → cards id ≡ Some c
       → (fewer : ℕ) → c.uses ≡ suc fewer → 1 ≤ fewer
       → AreJoined nothing_owed (put int_cmp cards id (Some (record c { uses = fewer }))) pointing entries
   lowered id it c is fewer less some = recarded it id (Some (record c { uses = fewer })) (record {
@@ -323,7 +348,8 @@ module _ {cards : ℤ → Option Card} {pointing : Bytes × Bytes → Option Poi
   })
 
   -- of a card that goes
-  pub dropped : (id : ℤ) → AreJoined (owed_to (Some id)) cards pointing entries → (c : Card) → cards id ≡ Some c
+  pub dropped : (id : ℤ) → AreJoined (owed_to (Some id)) cards pointing entries → (c : Card)
+      → cards id ≡ Some c
       → c.uses ≡ 1 → AreJoined nothing_owed (put int_cmp cards id None) pointing entries
   dropped id it c is last = recarded it id None (record {
     agrees = λ key at. absurd (nobody key at);

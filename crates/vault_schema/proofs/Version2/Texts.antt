@@ -19,7 +19,8 @@ use Rattle.vault_schema.specs.Version2.Tables.{v2}
 use Rattle.vault_schema.specs.declared.v2.TheConstants.{PUT_VERSION, SET_VERSION, EMPTY_ENTRIES, FIND_CARD}
 use Rattle.vault_schema.specs.declared.v2.TheConstants.{FIND_NUMBER, FIND_USES, ADD_CARD, SET_USES}
 use Rattle.vault_schema.specs.declared.v2.TheConstants.{DROP_CARD, FIND_ENTRY, FIND_CURRENT}
-use Rattle.vault_schema.specs.declared.v2.TheConstants.{FIND_DEAD, ADD_ENTRY, PUT_ENTRY, READ_CARDS, READ_ENTRIES}
+use Rattle.vault_schema.specs.declared.v2.TheConstants.{FIND_DEAD, ADD_ENTRY, PUT_ENTRY, READ_CARDS}
+use Rattle.vault_schema.specs.declared.v2.TheConstants.{READ_ENTRIES}
 
 -- the card with the merchant and the number that the parameters say
 abbrev pub card_tests : List Term

@@ -39,9 +39,9 @@ pub record AreMany {X : Type 0} (Is : X → Type 0) (many : ℕ) : Type 0 where
   pub sound : (x : X) → Has these x → Is x
   pub complete : (x : X) → Is x → Has these x
 
--- The entries are those that point, each with the number of its card. A card that is pointed at is there, and of
--- the entry's merchant; a merchant's number has one card; and its uses are the entries that point at it, and
--- those that are owed to it, 1 or more.
+-- The entries are those that point, each with the number of its card. A card that is pointed at is there, and
+-- of the entry's merchant; a merchant's number has one card; and its uses are the entries that point at it,
+-- and those that are owed to it, 1 or more.
 pub record AreJoined (owed : ℤ → ℕ) (cards : ℤ → Option Card) (pointing : Bytes × Bytes → Option Pointing)
     (entries : Bytes × Bytes → Option Entry) : Type 0 where
   pub same : (key : Bytes × Bytes) → entries key ≡ option_map (joined cards) (pointing key)
@@ -50,7 +50,8 @@ pub record AreJoined (owed : ℤ → ℕ) (cards : ℤ → Option Card) (pointin
   pub once : (a b : ℤ) (c d : Card) → cards a ≡ Some c → cards b ≡ Some d → c.merchant ≡ d.merchant
       → c.number ≡ d.number → a ≡ b
   pub used : (id : ℤ) (c : Card) → cards id ≡ Some c
-      → (many : ℕ) × AreMany (λ key. card_of pointing key ≡ Some id) many × (c.uses ≡ many + owed id) × (1 ≤ c.uses)
+      → (many : ℕ) × AreMany (λ key. card_of pointing key ≡ Some id) many × (c.uses ≡ many + owed id)
+      × (1 ≤ c.uses)
 
 -- nothing is owed to a card
 abbrev pub nothing_owed : ℤ → ℕ

@@ -13,7 +13,10 @@ returns-clause-done g c =
       record t { cards = put int_cmp t.cards c.args.id (Some (record can.0 { uses = c.args.uses })) },
       λ d there.
           let same : can.0 ≡ d = (let both : Some can.0 ≡ Some d = sym can.1 ∙ there in cc) in
-          ap (λ (x : Card). record t { cards = put int_cmp t.cards c.args.id (Some (record x { uses = c.args.uses })) })
+          ap (λ (x : Card). record t {
+            cards = put int_cmp t.cards c.args.id
+                (Some (record x { uses = c.args.uses }));
+          })
           same,
       card_used c.args.id can.0 can.1 c.args.uses
           (rw (small _ c.requires, to_z-of_z w64 c.args.id c.ranges.id) at

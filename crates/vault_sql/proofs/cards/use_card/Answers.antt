@@ -7,11 +7,13 @@ returns-in-Some-clause-done g c =
     let first = rw (c.deref.ensures.value) at c.in-Some.ensures.value in
     turns_told c.in_ok-rows.ensures.told c.use_again.ensures.done
     (λ t can told.
-    let it = card_first c.in_ok-rows.rows.items t.cards c.args.m.now c.args.number.now c.in-Some.row.now told first
+    let it = card_first c.in_ok-rows.rows.items t.cards c.args.m.now c.args.number.now c.in-Some.row.now told
+    first
     in
     (it.0, it.1, it.2.there, it.3))
     (λ id t new can told used.
-    let it = card_first c.in_ok-rows.rows.items t.cards c.args.m.now c.args.number.now c.in-Some.row.now told first
+    let it = card_first c.in_ok-rows.rows.items t.cards c.args.m.now c.args.number.now c.in-Some.row.now told
+    first
     in
     let made = used it.0 it.1 it.2.there it.3 in
     rw (made.0) (more_used t new it.0 it.1 c.args.m.now c.args.number.now it.2 made.1))

@@ -10,7 +10,8 @@ pub returns : goal.returns
 returns g c =
     tells (dead_is [] []) c.rows_of.ensures.reads (λ rows. rows.items) _ c.rows_of.ensures.told
     (λ V cards pointing rows joined it shown. λ now is.
-    shows_dead V c.args.m.now (tables_of (lookups_of V) cards pointing) joined c.args.at _ _ it c.args.many now is
+    shows_dead V c.args.m.now (tables_of (lookups_of V) cards pointing) joined c.args.at _ _ it c.args.many
+    now is
     rows.items
     (rw (
       c.params-to_sql.ensures,

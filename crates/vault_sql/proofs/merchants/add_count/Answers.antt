@@ -10,6 +10,10 @@ returns-clause-done g c =
       _,
       refl,
       count_added (c.args.m.now, c.args.kind) none
-          (rw (c.params-to_sql.ensures, c.params-to_sql-2.ensures, small c.args.kind (omega (arith, c.ranges.kind))) at
+          (rw (
+            c.params-to_sql.ensures,
+            c.params-to_sql-2.ensures,
+            small c.args.kind (omega (arith, c.ranges.kind)),
+          ) at
           run),
     ))

@@ -9,7 +9,8 @@ use Rattle.vault_sql.proofs.merchants.lives_rows.Goals as goal
 pub returns : goal.returns
 returns g c =
     tells_of
-    (looks_up merchant_table (λ h. h.merchants) (λ h rows are. are) (lives_is tables2 indexes2) c.rows_of.ensures.reads
+    (looks_up merchant_table (λ h. h.merchants) (λ h rows are. are)
+    (lives_is tables2 indexes2) c.rows_of.ensures.reads
     (λ rows. rows.items) _ c.rows_of.ensures.told c.args.m.now
     (rw (c.params-to_sql.ensures) refl) lives_columns (λ n x. refl))
     (λ V cards pointing rows joined shown. shown)

@@ -9,7 +9,8 @@ use Rattle.vault_sql.proofs.merchants.lives_rows_in.Goals as goal
 
 pub returns-clause-told : goal.returns-clause-told
 returns-clause-told g c =
-    tells_inside (lives_is tables2 indexes2) c.rows_in.ensures.steps (λ rows. rows.items) _ c.rows_in.ensures.told
+    tells_inside (lives_is tables2 indexes2) c.rows_in.ensures.steps
+    (λ rows. rows.items) _ c.rows_in.ensures.told
     c.rows_in.ensures.kept (λ t rows it shown.
     look_up _ _ it _ _ rows.items shown merchant_table t.merchants (λ are. are) _ (lives_is tables2 indexes2)
     c.args.m.now (rw (c.params-to_sql.ensures) refl) lives_columns (λ n x. refl))

@@ -7,4 +7,5 @@ returns-then-branch-clause-done g c =
 
 pub returns-clause-done : goal.returns-clause-done
 returns-clause-done g c =
-    raised_anew (c.args.m.now, c.args.kind) c.in_ok-raise_row.ensures.done c.if-branch.false c.add_count.ensures.done
+    raised_anew (c.args.m.now, c.args.kind) c.in_ok-raise_row.ensures.done c.if-branch.false
+    c.add_count.ensures.done

@@ -6,5 +6,6 @@ use Rattle.vault_sql.proofs.merchants.raise_row.Goals as goal
 pub returns-clause-done : goal.returns-clause-done
 returns-clause-done g c =
     row_raised (c.args.m.now, c.args.kind) c.in_ok-changed.changed c.in_ok-changed.ensures.steps
-    (rw (c.params-to_sql.ensures, c.params-to_sql-2.ensures, small c.args.kind (omega (arith, c.ranges.kind))) at
+    (rw (c.params-to_sql.ensures, c.params-to_sql-2.ensures, small c.args.kind (omega (arith, c.ranges.kind)))
+    at
     c.in_ok-changed.ensures.ran)

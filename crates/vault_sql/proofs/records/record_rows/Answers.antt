@@ -10,7 +10,8 @@ use Rattle.vault_sql.proofs.records.record_rows.Goals as goal
 pub returns : goal.returns
 returns g c =
     tells_of
-    (looks_up record_table (λ h. h.records) (λ h rows are. are) (record_is tables2 indexes2) c.rows_of.ensures.reads
+    (looks_up record_table (λ h. h.records) (λ h rows are. are)
+    (record_is tables2 indexes2) c.rows_of.ensures.reads
     (λ rows. rows.items) _ c.rows_of.ensures.told (c.args.caller.now, c.args.request)
     (rw (c.params-to_sql.ensures, c.params-to_sql-2.ensures, small _ c.requires) refl) record_columns
     (λ n x. refl))

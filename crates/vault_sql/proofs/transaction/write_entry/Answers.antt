@@ -6,4 +6,5 @@ returns-in-Some-Made-clause-done g c =
 
 pub returns-in_default-clause-done : goal.returns-in_default-clause-done
 returns-in_default-clause-done g c =
-    rw (c.in-Some.is) (rw (c.merchant_text-in_default.ensures, c.as_str-in_default.ensures) at c.put_entry.ensures.done)
+    rw (c.in-Some.is) (rw (c.merchant_text-in_default.ensures, c.as_str-in_default.ensures)
+    at c.put_entry.ensures.done)
