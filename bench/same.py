@@ -19,17 +19,25 @@ RIGHT = "SELECT what FROM rights WHERE caller = ?1 AND merchant = ?2 AND what = 
 RECORD = "SELECT merchant, token, usage FROM records WHERE caller = ?1 AND request = ?2"
 ENTRY = "SELECT card, usage, birth, expires, revoked FROM entries2 WHERE merchant = ?1 AND token = ?2"
 CARD = "SELECT id, uses FROM cards2 WHERE merchant = ?1 AND number = ?2"
-PUT_MERCHANT = "INSERT INTO merchants VALUES (?1, ?2, ?3, ?4) ON CONFLICT (name) DO UPDATE SET single_life = ?2, multi_life = ?3, moment = ?4"
-RAISE = "INSERT INTO counts VALUES (?1, ?2, 1) ON CONFLICT (merchant, kind) DO UPDATE SET total = total + 1"
+PUT_MERCHANT = (
+    "INSERT INTO merchants VALUES (?1, ?2, ?3, ?4) ON CONFLICT (name)"
+    " DO UPDATE SET single_life = ?2, multi_life = ?3, moment = ?4"
+)
+RAISE = "UPDATE counts SET total = total + 1 WHERE merchant = ?1 AND kind = ?2"
+ADD_COUNT = "INSERT INTO counts VALUES (?1, ?2, 1)"
 ADD_CARD = "INSERT INTO cards2 VALUES (NULL, ?1, ?2, 1)"
 SET_USES = "UPDATE cards2 SET uses = ?2 WHERE id = ?1"
 ADD_ENTRY = "INSERT INTO entries2 VALUES (?1, ?2, ?3, ?4, ?5, ?6, ?7)"
-PUT_ENTRY = "INSERT INTO entries2 VALUES (?1, ?2, ?3, ?4, ?5, ?6, ?7) ON CONFLICT (merchant, token) DO UPDATE SET card = ?3, usage = ?4, birth = ?5, expires = ?6, revoked = ?7"
+PUT_ENTRY = (
+    "INSERT INTO entries2 VALUES (?1, ?2, ?3, ?4, ?5, ?6, ?7) ON CONFLICT (merchant, token)"
+    " DO UPDATE SET card = ?3, usage = ?4, birth = ?5, expires = ?6, revoked = ?7"
+)
 ADD_RECORD = "INSERT INTO records VALUES (?1, ?2, ?3, ?4, ?5)"
 
 CALLER = "till-1"
 MERCHANT = "shop1"
 NUMBER = "4111111111111111"
+MADE = 1
 
 
 def passes(digits):
@@ -88,12 +96,18 @@ def put_merchant(conn, lives):
         conn.execute(PUT_MERCHANT, (MERCHANT, *lives))
 
 
+def raise_count(conn, kind):
+    """A count that is raised by one, and begins at one where it has no row."""
+    if conn.execute(RAISE, (MERCHANT, kind)).rowcount == 0:
+        conn.execute(ADD_COUNT, (MERCHANT, kind))
+
+
 def write(conn, number, token, lives):
     """What one Tokenize writes, in one transaction."""
     single_life, multi_life, moment = lives
     conn.execute("BEGIN")
     put_merchant(conn, lives)
-    conn.execute(RAISE, (MERCHANT, 1))
+    raise_count(conn, MADE)
     add_entry(conn, token, NUMBER, (1, moment, moment + single_life, None))
     conn.execute(ADD_RECORD, (CALLER, number, MERCHANT, token, 1))
     conn.execute("COMMIT")
@@ -112,10 +126,11 @@ def microseconds(start):
 
 def time_tokens(file, many):
     conn = opened(file)
-    made = dict(conn.execute(COUNTS, (MERCHANT,)).fetchall())[1]
+    made = dict(conn.execute(COUNTS, (MERCHANT,)).fetchall()).get(MADE, 0)
     start = time.perf_counter()
     tokenize_many(conn, made + 1, many)
     spent = microseconds(start)
+    conn.close()
     print(f"{many} commands in {spent} microseconds, {many * 1000000 // spent} a second")
 
 

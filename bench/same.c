@@ -1,0 +1,211 @@
+// The statements of single-use Tokenize commands, run by libsqlite3 in the order that the vault runs them.
+//
+// same FILE N takes a file that the program vault_bench made, times N commands after those that it holds, and
+// prints the line that the program prints.
+#define _POSIX_C_SOURCE 200809L
+
+#include "statements.h"
+#include <string.h>
+#include <time.h>
+
+static const char CALLER[] = "till-1";
+static const char MERCHANT[] = "shop1";
+static const char NUMBER[] = "4111111111111111";
+
+enum { MADE = 1, SINGLE = 1, TOKENIZE = 1, DIGITS = 11 };
+
+// A token: the drawn digits, one more, and the card's last four.
+enum { TOKEN = DIGITS + 1 + 4 };
+
+// The lives of a merchant, and its moment.
+struct lives {
+    int64_t single_life, multi_life, moment;
+};
+
+// Whether digits pass the card check.
+static bool passes(const char *digits)
+{
+    int total = 0;
+    size_t length = strlen(digits);
+    for (size_t place = 0; place < length; place++) {
+        int value = (digits[length - 1 - place] - '0') * (1 + (int)(place % 2));
+        total += value > 9 ? value - 9 : value;
+    }
+    return total % 10 == 0;
+}
+
+// The first good candidate: the number's digits backwards, one more digit, and the card's last four.
+static void token_for(int64_t number, char token[TOKEN + 1])
+{
+    for (int place = 0; place < DIGITS; place++) {
+        token[place] = (char)('0' + number % 10);
+        number /= 10;
+    }
+    token[DIGITS] = '0';
+    memcpy(token + DIGITS + 1, NUMBER + strlen(NUMBER) - 4, 5);
+    if (passes(token))
+        token[DIGITS] = '1';
+}
+
+// The merchant's lives, which are there.
+static struct lives find_lives(void)
+{
+    put_text(FIND_LIVES, 1, MERCHANT);
+    need(next_row(FIND_LIVES), "no merchant");
+    struct lives found = {number_in(FIND_LIVES, 0), number_in(FIND_LIVES, 1), number_in(FIND_LIVES, 2)};
+    need(!next_row(FIND_LIVES), "two merchants");
+    return found;
+}
+
+// How many tokens were made for the merchant.
+static int64_t find_made(void)
+{
+    int64_t made = 0;
+    put_text(FIND_COUNTS, 1, MERCHANT);
+    while (next_row(FIND_COUNTS))
+        if (number_in(FIND_COUNTS, 0) == MADE)
+            made = number_in(FIND_COUNTS, 1);
+    return made;
+}
+
+// What one Tokenize reads, each row fetched.
+static struct lives read_all(int64_t request, const char *token)
+{
+    struct lives found = find_lives();
+    find_made();
+    put_text(FIND_RIGHT, 1, CALLER);
+    put_text(FIND_RIGHT, 2, MERCHANT);
+    put_number(FIND_RIGHT, 3, TOKENIZE);
+    need(next_row(FIND_RIGHT) && !next_row(FIND_RIGHT), "no right");
+    put_text(FIND_RECORD, 1, CALLER);
+    put_number(FIND_RECORD, 2, request);
+    run(FIND_RECORD);
+    put_text(FIND_ENTRY, 1, MERCHANT);
+    put_text(FIND_ENTRY, 2, token);
+    run(FIND_ENTRY);
+    return found;
+}
+
+// Writes the merchant's lives and its moment where it has others.
+static void set_lives(const struct lives *lives)
+{
+    struct lives now = find_lives();
+    if (now.single_life == lives->single_life && now.multi_life == lives->multi_life && now.moment == lives->moment)
+        return;
+    put_text(PUT_MERCHANT, 1, MERCHANT);
+    put_number(PUT_MERCHANT, 2, lives->single_life);
+    put_number(PUT_MERCHANT, 3, lives->multi_life);
+    put_number(PUT_MERCHANT, 4, lives->moment);
+    run(PUT_MERCHANT);
+}
+
+// Raises a count, and adds it where there is none.
+static void raise_count(int kind)
+{
+    put_text(RAISE_COUNT, 1, MERCHANT);
+    put_number(RAISE_COUNT, 2, kind);
+    run(RAISE_COUNT);
+    if (sqlite3_changes(conn) > 0)
+        return;
+    put_text(ADD_COUNT, 1, MERCHANT);
+    put_number(ADD_COUNT, 2, kind);
+    run(ADD_COUNT);
+}
+
+// The id of the number's card, or 0 where there is none; and its uses.
+static int64_t find_card(int64_t *uses)
+{
+    int64_t found = 0;
+    put_text(FIND_CARD, 1, MERCHANT);
+    put_text(FIND_CARD, 2, NUMBER);
+    while (next_row(FIND_CARD)) {
+        found = number_in(FIND_CARD, 0);
+        *uses = number_in(FIND_CARD, 1);
+    }
+    return found;
+}
+
+// The id of the number's card, which is used once more.
+static int64_t use_card(void)
+{
+    int64_t uses = 0, card = find_card(&uses);
+    if (card != 0) {
+        put_number(SET_USES, 1, card);
+        put_number(SET_USES, 2, uses + 1);
+        run(SET_USES);
+        return card;
+    }
+    put_text(ADD_CARD, 1, MERCHANT);
+    put_text(ADD_CARD, 2, NUMBER);
+    run(ADD_CARD);
+    return find_card(&uses);
+}
+
+// A new entry, of a card, that lives from the merchant's moment on; its `revoked` was never bound, so it's NULL.
+static void add_entry(const char *token, int64_t card, const struct lives *lives)
+{
+    put_text(ADD_ENTRY, 1, MERCHANT);
+    put_text(ADD_ENTRY, 2, token);
+    put_number(ADD_ENTRY, 3, card);
+    put_number(ADD_ENTRY, 4, SINGLE);
+    put_number(ADD_ENTRY, 5, lives->moment);
+    put_number(ADD_ENTRY, 6, lives->moment + lives->single_life);
+    run(ADD_ENTRY);
+}
+
+static void add_record(int64_t request, const char *token)
+{
+    put_text(ADD_RECORD, 1, CALLER);
+    put_number(ADD_RECORD, 2, request);
+    put_text(ADD_RECORD, 3, MERCHANT);
+    put_text(ADD_RECORD, 4, token);
+    put_number(ADD_RECORD, 5, SINGLE);
+    run(ADD_RECORD);
+}
+
+// One Tokenize: what it reads, and what it writes in one transaction.
+static void tokenize(int64_t request)
+{
+    char token[TOKEN + 1];
+    token_for(request, token);
+    struct lives lives = read_all(request, token);
+    run(BEGIN);
+    set_lives(&lives);
+    raise_count(MADE);
+    add_entry(token, use_card(), &lives);
+    add_record(request, token);
+    run(COMMIT);
+}
+
+// The microseconds of a clock that only goes on.
+static int64_t microseconds(void)
+{
+    struct timespec now;
+    need(clock_gettime(CLOCK_MONOTONIC, &now) == 0, "no clock");
+    return (int64_t)now.tv_sec * 1000000 + now.tv_nsec / 1000;
+}
+
+// The microseconds that so many commands take, at least one.
+static int64_t time_tokens(int64_t many)
+{
+    int64_t first = find_made() + 1;
+    int64_t start = microseconds();
+    for (int64_t number = first; number < first + many; number++)
+        tokenize(number);
+    int64_t spent = microseconds() - start;
+    return spent > 0 ? spent : 1;
+}
+
+int main(int words, char **word)
+{
+    need(words == 3, "FILE N are asked for");
+    char *end;
+    long many = strtol(word[2], &end, 10);
+    need(*word[2] != '\0' && *end == '\0' && many >= 0 && many <= 1000000, "N is 0 to 1000000");
+    open_file(word[1]);
+    int64_t spent = time_tokens(many);
+    close_file();
+    int64_t rate = many * INT64_C(1000000) / spent;
+    int said = printf("%ld commands in %lld microseconds, %lld a second\n", many, (long long)spent, (long long)rate);
+    return said < 0 || fflush(stdout) != 0;
+}
