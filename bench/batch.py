@@ -17,7 +17,8 @@ import tempfile
 import time
 
 sys.dont_write_bytecode = True
-import pipe  # noqa: E402, without leaving a folder of its bytecode here
+import figures  # noqa: E402, without leaving a folder of its bytecode here
+import pipe  # noqa: E402
 import same  # noqa: E402
 
 HEADER = ["request", "number", "use"]
@@ -116,12 +117,12 @@ def main(program):
             openings.append(1000 * opening)
             theirs.append(time_python(program, folder, asked, many))
             ratios.append(ours[-1] / theirs[-1])
-            disk.append(pipe.time_disk(folder, many))
+            disk.append(figures.time_disk(folder, many))
             loads.append(os.getloadavg()[0])
     print("| Rows | Vault, a second | Python, a second | Ratio | Syncs, a second | Opening, ms | Load |")
     print("|---|---|---|---|---|---|---|")
     digits = ((ours, 0), (theirs, 0), (ratios, 2), (disk, 0), (openings, 1), (loads, 1))
-    print(f"| {many} | {' | '.join(pipe.middle(figures, places) for figures, places in digits)} |")
+    print(f"| {many} | {' | '.join(figures.middle(found, places) for found, places in digits)} |")
 
 
 if __name__ == "__main__":

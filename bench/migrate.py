@@ -19,7 +19,8 @@ import tempfile
 import time
 
 sys.dont_write_bytecode = True
-import pipe  # noqa: E402, without leaving a folder of its bytecode here
+import figures  # noqa: E402, without leaving a folder of its bytecode here
+import pipe  # noqa: E402
 import same  # noqa: E402
 
 TABLES = """
@@ -128,7 +129,7 @@ def main(program):
             all_rounds = [time_round(program, folder / "base.db", folder, many) for _ in range(rounds)]
         ours, theirs, our_peaks, their_peaks = zip(*all_rounds)
         ratios = [ours[i] / theirs[i] for i in range(rounds)]
-        cells = [pipe.middle(ours, 2), pipe.middle(theirs, 2), pipe.middle(ratios, 2)]
+        cells = [figures.middle(ours, 2), figures.middle(theirs, 2), figures.middle(ratios, 2)]
         cells += [f"{max(our_peaks):.1f}", f"{max(their_peaks):.1f}"]
         print(f"| {many} | {' | '.join(cells)} |", flush=True)
 

@@ -1,7 +1,7 @@
 // The statements of single-use Tokenize commands, run by libsqlite3 in the order that the vault runs them.
 //
-// same FILE N takes a file that the program vault_bench made, times N commands after those that it holds, and
-// prints the line that the program prints.
+// same FILE N takes a file that the program vault_bench made, times N commands after those that it holds,
+// and prints the line that the program prints.
 #define _POSIX_C_SOURCE 200809L
 
 #include "statements.h"
@@ -90,7 +90,8 @@ static struct lives read_all(int64_t request, const char *token)
 static void set_lives(const struct lives *lives)
 {
     struct lives now = find_lives();
-    if (now.single_life == lives->single_life && now.multi_life == lives->multi_life && now.moment == lives->moment)
+    if (now.single_life == lives->single_life && now.multi_life == lives->multi_life
+        && now.moment == lives->moment)
         return;
     put_text(PUT_MERCHANT, 1, MERCHANT);
     put_number(PUT_MERCHANT, 2, lives->single_life);
@@ -141,7 +142,7 @@ static int64_t use_card(void)
     return find_card(&uses);
 }
 
-// A new entry, of a card, that lives from the merchant's moment on; its `revoked` was never bound, so it's NULL.
+// A new entry, of a card, that lives from the merchant's moment on. What is never bound is NULL: `revoked`.
 static void add_entry(const char *token, int64_t card, const struct lives *lives)
 {
     put_text(ADD_ENTRY, 1, MERCHANT);
@@ -206,6 +207,7 @@ int main(int words, char **word)
     int64_t spent = time_tokens(many);
     close_file();
     int64_t rate = many * INT64_C(1000000) / spent;
-    int said = printf("%ld commands in %lld microseconds, %lld a second\n", many, (long long)spent, (long long)rate);
+    int said = printf("%ld commands in %lld microseconds, %lld a second\n", many, (long long)spent,
+                      (long long)rate);
     return said < 0 || fflush(stdout) != 0;
 }

@@ -1,11 +1,12 @@
 #!/usr/bin/env python3
-"""The statements of single-use Tokenize commands, run by Python's sqlite3 in the order that the vault runs them.
+"""The statements of single-use Tokenize commands, run by Python's sqlite3 in the order that the vault runs
+them.
 
-same.py FILE N takes a file that the program vault_bench made, times N commands after those that it holds, and
-prints the line that the program prints.
+same.py FILE N takes a file that the program vault_bench made, times N commands after those that it holds,
+and prints the line that the program prints.
 
-same.py check FILE times PRAGMA integrity_check of such a file, and prints the line that the program prints, and
-the peak of its own memory in KiB.
+same.py check FILE times PRAGMA integrity_check of such a file, and prints the line that the program prints,
+and the peak of its own memory in KiB.
 """
 
 import resource

@@ -1,5 +1,5 @@
-// The statements of single-use Tokenize commands over one file, and how libsqlite3 runs them: each is prepared
-// once, and each code that the library gives is looked at.
+// The statements of single-use Tokenize commands over one file, and how libsqlite3 runs them: each is
+// prepared once, and each code that the library gives is looked at.
 #include <sqlite3.h>
 #include <stdbool.h>
 #include <stdint.h>
@@ -34,7 +34,8 @@ static const char *const texts[TEXTS] = {
     [FIND_COUNTS] = "SELECT kind, total FROM counts WHERE merchant = ?1",
     [FIND_RIGHT] = "SELECT what FROM rights WHERE caller = ?1 AND merchant = ?2 AND what = ?3",
     [FIND_RECORD] = "SELECT merchant, token, usage FROM records WHERE caller = ?1 AND request = ?2",
-    [FIND_ENTRY] = "SELECT card, usage, birth, expires, revoked FROM entries2 WHERE merchant = ?1 AND token = ?2",
+    [FIND_ENTRY] = "SELECT card, usage, birth, expires, revoked FROM entries2 "
+                   "WHERE merchant = ?1 AND token = ?2",
     [FIND_CARD] = "SELECT id, uses FROM cards2 WHERE merchant = ?1 AND number = ?2",
     [PUT_MERCHANT] = "INSERT INTO merchants VALUES (?1, ?2, ?3, ?4) ON CONFLICT (name) "
                      "DO UPDATE SET single_life = ?2, multi_life = ?3, moment = ?4",
@@ -87,7 +88,7 @@ static int64_t number_in(enum text which, int column)
     return sqlite3_column_int64(statements[which], column);
 }
 
-// Goes on to the next row, and says whether there is one; behind the last one the statement may be run again.
+// Goes on to the next row, and says whether there is one; behind the last one the statement may run again.
 static bool next_row(enum text which)
 {
     int code = sqlite3_step(statements[which]);
@@ -134,8 +135,8 @@ static void open_file(const char *path)
     snprintf(text, sizeof text, "PRAGMA wal_autocheckpoint = %d", (int)(LOG_BYTES / page));
     pragma(text);
     for (int which = 0; which < TEXTS; which++) {
-        int code = sqlite3_prepare_v3(conn, texts[which], -1, SQLITE_PREPARE_PERSISTENT, &statements[which], NULL);
-        want(code, SQLITE_OK);
+        sqlite3_stmt **made = &statements[which];
+        want(sqlite3_prepare_v3(conn, texts[which], -1, SQLITE_PREPARE_PERSISTENT, made, NULL), SQLITE_OK);
     }
 }
 

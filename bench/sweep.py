@@ -15,7 +15,8 @@ import tempfile
 import time
 
 sys.dont_write_bytecode = True
-import pipe  # noqa: E402, without leaving a folder of its bytecode here
+import figures  # noqa: E402, without leaving a folder of its bytecode here
+import pipe  # noqa: E402
 import same  # noqa: E402
 
 FIND_DEAD = "SELECT token FROM entries2 WHERE merchant = ?1 AND card IS NOT NULL AND (revoked IS NOT NULL OR expires <= ?2) ORDER BY token LIMIT ?3"
@@ -128,7 +129,7 @@ def time_round(program, folder, dead):
     os.sync()
     spent, lists = sweep_python(theirs, dead)
     assert_sound(program, theirs, dead)
-    return swept, spent, lists, opening, pipe.time_disk(folder, min(dead, 1000))
+    return swept, spent, lists, opening, figures.time_disk(folder, min(dead, 1000))
 
 
 def print_line(dead, rounds):
@@ -139,8 +140,8 @@ def print_line(dead, rounds):
     listing = [100 * lists / spent for _, spent, lists, _, _ in rounds]
     disk = [syncs for _, _, _, _, syncs in rounds]
     openings = [opening for _, _, _, opening, _ in rounds]
-    cells = [pipe.middle(ours), pipe.middle(theirs), pipe.middle(ratios, 2), pipe.middle(listing, 1)]
-    cells += [pipe.middle(disk), pipe.middle(openings, 2)]
+    cells = [figures.middle(ours), figures.middle(theirs), figures.middle(ratios, 2), figures.middle(listing, 1)]
+    cells += [figures.middle(disk), figures.middle(openings, 2)]
     print(f"| {dead} of {2 * dead} | {' | '.join(cells)} |", flush=True)
 
 

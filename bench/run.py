@@ -1,0 +1,199 @@
+#!/usr/bin/env python3
+"""Times single-use tokens over a file, and a file's whole check, by the vault, by Python's sqlite3 and by C
+over libsqlite3: run.sh builds what it wants, and calls it.
+
+N is how many commands are timed, BEFORE how many entries stand before them, CHECKED how many entries a file
+has that is checked, COUNTED how many commands are counted by valgrind and strace (0: none), and ROUNDS how
+often each side is timed, in turn with the others and on a copy of the same file. PROGRAM, VAULT and SAME are
+the built programs.
+"""
+
+import os
+import pathlib
+import sys
+import tempfile
+
+sys.dont_write_bytecode = True
+import figures  # noqa: E402, without leaving a folder of its bytecode here
+import traces  # noqa: E402
+from sides import Sides  # noqa: E402
+
+DISK = ("Syncs, a second", "Load")
+RATES = ("alone", "whole", "python", "peer")
+NAMES = {"alone": "Vault, alone", "whole": "Vault, whole way", "python": "Python", "peer": "C"}
+
+
+def number(name, otherwise):
+    """A setting that is a number."""
+    return int(os.environ.get(name) or otherwise)
+
+
+def numbers(name, otherwise):
+    """A setting that is some numbers, or none."""
+    return [int(word) for word in os.environ.get(name, otherwise).split()]
+
+
+def machine(sides):
+    """What the disk gives and how busy the machine is."""
+    return {"syncs": figures.time_disk(sides.folder, 1000), "load": figures.load()}
+
+
+def machine_cells(rounds):
+    """The last two cells of each line."""
+    return [figures.middle([it["syncs"] for it in rounds]), figures.middle([it["load"] for it in rounds], 1)]
+
+
+def say(*words):
+    """How far the measure is, beside the tables."""
+    print(*words, file=sys.stderr, flush=True)
+
+
+def token_round(sides, entries, many):
+    """One round of all sides over a file with so many entries."""
+    found = machine(sides)
+    found["alone"] = sides.alone(entries, many)
+    found["python"] = sides.python(entries, many)
+    found["peer"] = sides.peer_rate(entries, many)
+    found["whole"], found["opening"], found["peak"] = sides.whole_way(entries, many)
+    return found
+
+
+def quotient(one, other):
+    """One figure in parts of another one, or none where either is none."""
+    return None if one is None or other is None else one / other
+
+
+def print_rates(rounds):
+    columns = [f"{NAMES[side]}, a second" for side in RATES]
+    figures.print_head("Tokens", "Entries before", *columns, *DISK)
+    for entries, found in rounds.items():
+        cells = [figures.middle_or_none(it[side] for it in found) for side in RATES]
+        figures.print_line(entries, *cells, *machine_cells(found))
+
+
+def print_shares(rounds):
+    """The vault's rates in parts of the others', each of one round."""
+    pairs = [(ours, theirs) for ours in RATES[:2] for theirs in RATES[2:]]
+    columns = [f"{NAMES[ours]} / {NAMES[theirs]}" for ours, theirs in pairs]
+    figures.print_head("Rates as parts of the others', by round", "Entries before", *columns, *DISK)
+    for entries, found in rounds.items():
+        shares = [[quotient(it[ours], it[theirs]) for it in found] for ours, theirs in pairs]
+        cells = [figures.middle_or_none(share, 2) for share in shares]
+        figures.print_line(entries, *cells, *machine_cells(found))
+
+
+def print_openings(rounds):
+    figures.print_head("The opening in a pipe", "Entries", "Seconds", "Peak, MiB", *DISK)
+    for entries, found in rounds.items():
+        seconds, peaks = ([it[name] for it in found] for name in ("opening", "peak"))
+        figures.print_line(entries, figures.middle(seconds, 3), f"{max(peaks):.1f}", *machine_cells(found))
+
+
+def print_growth(rounds):
+    """What a token costs over the greatest file, in parts of what it costs over the smallest, by round."""
+    least, most = min(rounds), max(rounds)
+    if least == most:
+        return
+    title = f"The cost of a token with {most} entries before, in parts of that with {least}, by round"
+    figures.print_head(title, *(NAMES[side] for side in RATES), *DISK)
+    pairs = list(zip(rounds[least], rounds[most]))
+    costs = [[quotient(few[side], many[side]) for few, many in pairs] for side in RATES]
+    cells = [figures.middle_or_none(cost, 2) for cost in costs]
+    figures.print_line(*cells, *machine_cells(rounds[least] + rounds[most]))
+
+
+def time_tokens(sides, before, many, how_often):
+    """All sides in turn, over each file in each round."""
+    rounds = {entries: [] for entries in before}
+    for place in range(how_often):
+        for entries in before:
+            say(f"round {place + 1} of {how_often}: {many} tokens after {entries}")
+            rounds[entries].append(token_round(sides, entries, many))
+    for show in (print_rates, print_shares, print_openings, print_growth):
+        show(rounds)
+
+
+def commands(sides, entries, many):
+    """The words for so many commands after others, on a new copy of their file, by the vault and by C."""
+    yield sides.bench, sides.copy(entries), "unknown", 0, many
+    if sides.peer:
+        yield sides.peer, sides.copy(entries), many
+
+
+def counted(sides, count, entries, many):
+    """What each side counts for these commands and for none, where there is such a side."""
+    some, none = ([count(words, sides.folder) for words in commands(sides, entries, n)] for n in (many, 0))
+    return list(zip(some, none))
+
+
+def print_instructions(sides, before, many):
+    """Machine instructions a command, and how they grow."""
+    if not traces.has("valgrind"):
+        print("\nvalgrind isn't there: no instructions are counted")
+        return
+    figures.print_head("Instructions a token", "Entries before", "Vault", "C", *DISK)
+    ours = {}
+    for entries in before:
+        say(f"instructions of {many} tokens after {entries}")
+        found = machine(sides)
+        each = [(some - none) / many for some, none in counted(sides, traces.instructions, entries, many)]
+        ours[entries] = each[0]
+        cells = [f"{it:,.0f}" for it in each] + ["-"] * (2 - len(each))
+        figures.print_line(entries, *cells, *machine_cells([found]))
+    if len(ours) > 1:
+        least, most = min(ours), max(ours)
+        growth = ours[most] / ours[least]
+        print(f"\nThe vault's with {most} entries, in parts of those with {least}: {growth:.2f}")
+
+
+def print_writes(sides, before, many):
+    """Bytes written and syncs a command."""
+    if not traces.has("strace"):
+        print("\nstrace isn't there: no writes and syncs are counted")
+        return
+    columns = ("Vault, KiB", "Vault, syncs", "C, KiB", "C, syncs")
+    figures.print_head("Written and synced a token", "Entries before", *columns, *DISK)
+    for entries in before:
+        say(f"writes and syncs of {many} tokens after {entries}")
+        found, cells = machine(sides), []
+        for (size, syncs), (no_size, no_syncs) in counted(sides, traces.written, entries, many):
+            cells += [f"{(size - no_size) / many / 1024:.1f}", f"{(syncs - no_syncs) / many:.3f}"]
+        figures.print_line(entries, *cells, *["-"] * (4 - len(cells)), *machine_cells([found]))
+
+
+def time_checks(sides, checked, how_often):
+    """The whole check of each file, by both sides in turn."""
+    columns = ("`vault check`, s", "Its check alone, s", "Python, s", "`vault check`, MiB", "Python, MiB")
+    figures.print_head("The check", "Entries", *columns, *DISK)
+    for entries in checked:
+        rounds = []
+        for place in range(how_often):
+            say(f"round {place + 1} of {how_often}: the check of {entries}")
+            rounds.append(machine(sides))
+            ours, theirs = sides.check(entries), sides.python_check(entries)
+            rounds[-1]["figures"] = (ours[0], ours[2], theirs[0], ours[1], theirs[1])
+        *seconds, our_peaks, their_peaks = zip(*(it["figures"] for it in rounds))
+        cells = [figures.middle(it, 3) for it in seconds]
+        cells += [f"{max(it):.1f}" for it in (our_peaks, their_peaks)]
+        figures.print_line(entries, *cells, *machine_cells(rounds))
+
+
+def main():
+    many, how_often, count = number("N", 2000), number("ROUNDS", 5), int(os.environ.get("COUNTED", 400) or 0)
+    before, checked = numbers("BEFORE", "1000 100000"), numbers("CHECKED", "10000 100000")
+    programs = (os.path.abspath(os.environ[name]) for name in ("PROGRAM", "VAULT"))
+    peer = os.environ.get("SAME")
+    print(f"{os.cpu_count()} cores, {how_often} rounds, {many} tokens a side; {count} are counted")
+    with tempfile.TemporaryDirectory() as name:
+        sides = Sides(*programs, peer and os.path.abspath(peer), pathlib.Path(name))
+        if before:
+            time_tokens(sides, before, many, how_often)
+        if before and count:
+            print_instructions(sides, before, count)
+            print_writes(sides, before, count)
+        if checked:
+            time_checks(sides, checked, how_often)
+
+
+if __name__ == "__main__":
+    main()

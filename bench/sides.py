@@ -1,0 +1,125 @@
+"""The sides that take turns, each over a copy of a file that the vault made; the program finds each copy
+sound afterwards, with as many tokens as were asked for."""
+
+import os
+import pathlib
+import re
+import shutil
+import subprocess
+import sys
+import tempfile
+import time
+
+import pipe
+
+HERE = pathlib.Path(__file__).resolve().parent
+MOST_MESSAGES = 1000
+
+
+def told(*words):
+    """What a process says on standard output; it must end well."""
+    return subprocess.run([str(word) for word in words], stdout=subprocess.PIPE, check=True).stdout.decode()
+
+
+def timed(words, asked, answers):
+    """The seconds of a process, and its peak memory in MiB. A small program between this one and it says the
+    peak, since what a process took before it became the program counts too; it takes about a millisecond."""
+    with tempfile.NamedTemporaryFile() as peak, open(asked) as given, open(answers, "w") as taken:
+        watch = ["/usr/bin/time", "-f", "%M", "-o", peak.name]
+        start = time.perf_counter()
+        subprocess.run([*watch, *(str(word) for word in words)], stdin=given, stdout=taken, check=True)
+        spent = time.perf_counter() - start
+        return spent, int(peak.read()) / 1024
+
+
+def parts(many):
+    """How many messages each pipe has, none more than it may."""
+    whole, rest = divmod(many, MOST_MESSAGES)
+    return [MOST_MESSAGES] * whole + [rest] * (rest > 0)
+
+
+class Sides:
+    """The programs and the folder of one measure. Where there is no C peer, its path is empty."""
+
+    def __init__(self, bench, vault, peer, folder):
+        self.bench, self.vault, self.peer, self.folder = bench, vault, peer, folder
+
+    def made(self, entries):
+        """The file with so many entries, which is made once."""
+        path = self.folder / f"made{entries}.db"
+        if not path.exists():
+            told(self.bench, path, "unknown", entries, 0)
+        return path
+
+    def copy(self, entries):
+        """A copy of that file, settled on the disk."""
+        made, path = self.made(entries), self.folder / "timed.db"
+        for old in self.folder.glob("timed.db*"):
+            old.unlink()
+        shutil.copy(made, path)
+        if os.path.exists(f"{made}-wal"):
+            shutil.copy(f"{made}-wal", f"{path}-wal")
+        os.sync()
+        return path
+
+    def assert_sound(self, path, entries):
+        assert told(self.vault, "check", path) == f"sound 1 {entries} {entries}\n", f"not {entries} tokens"
+
+    def rate(self, words, path, entries, many):
+        """The rate that the line of a side says, which must have made its tokens."""
+        said = told(*words)
+        spent = re.fullmatch(rf"{many} commands in (\d+) microseconds, \d+ a second\n", said)
+        self.assert_sound(path, entries + many)
+        return many * 1000000 / max(1, int(spent[1]))
+
+    def alone(self, entries, many):
+        """The commands a second of the vault, with no message."""
+        path = self.copy(entries)
+        return self.rate((self.bench, path, "unknown", 0, many), path, entries, many)
+
+    def python(self, entries, many):
+        """The same statements by Python's sqlite3."""
+        path = self.copy(entries)
+        return self.rate((sys.executable, HERE / "same.py", path, many), path, entries, many)
+
+    def peer_rate(self, entries, many):
+        """The same statements by C over libsqlite3, or none."""
+        if not self.peer:
+            return None
+        path = self.copy(entries)
+        return self.rate((self.peer, path, many), path, entries, many)
+
+    def opening(self, path):
+        """The seconds and the peak of a pipe of no message."""
+        return timed((self.vault, "pipe", path), os.devnull, os.devnull)
+
+    def whole_way(self, entries, many):
+        """The messages a second without the opening, or none where that took longer than all; and the seconds
+        and the peak of the opening of the file as it was made. Before each pipe comes one of no message over
+        the same file, whose time is taken off."""
+        path, asked, answers = self.copy(entries), self.folder / "asked", self.folder / "answers"
+        first, spent, openings = entries + 1, 0, []
+        for messages in parts(many):
+            pipe.write_messages(asked, first, messages)
+            os.sync()
+            openings.append(self.opening(path))
+            spent += timed((self.vault, "pipe", path), asked, answers)[0] - openings[-1][0]
+            assert answers.read_text().count('"token":"') == messages
+            first += messages
+        self.assert_sound(path, entries + many)
+        return many / spent if spent > 0 else None, *openings[0]
+
+    def check(self, entries):
+        """The seconds and the peak of `vault check`, and the seconds of the check alone."""
+        path = self.copy(entries)
+        found = timed((self.vault, "check", path), os.devnull, self.folder / "answers")
+        assert (self.folder / "answers").read_text() == f"sound 1 {entries} {entries}\n"
+        said = told(self.bench, "check", self.copy(entries))
+        alone = re.fullmatch(rf"{entries} entries in (\d+) microseconds\n", said)
+        return *found, int(alone[1]) / 1000000
+
+    def python_check(self, entries):
+        """The seconds of PRAGMA integrity_check on an open file, and the peak of Python's process."""
+        said = told(sys.executable, HERE / "same.py", "check", self.copy(entries))
+        spent, peak = re.fullmatch(rf"{entries} entries in (\d+) microseconds, (\d+) KiB\n", said).groups()
+        return int(spent) / 1000000, int(peak) / 1024

@@ -1,0 +1,41 @@
+"""What one command takes by what watches a process from outside: machine instructions by valgrind, and bytes
+written and syncs by strace. Each is the difference of many commands and none over copies of one file."""
+
+import re
+import shutil
+import subprocess
+
+WRITES = ("write", "pwrite64", "writev", "pwritev", "pwritev2")
+SYNCS = ("fsync", "fdatasync", "sync_file_range", "msync")
+CALL = re.compile(r"^(?:\d+ +)?(?:<\.\.\. )?(\w+)[( ].* = (\d+)$")
+
+
+def has(tool):
+    """Whether this machine has a tool."""
+    return shutil.which(tool) is not None
+
+
+def watched(tool, words, kept):
+    """What a tool kept of a process, which must have ended well."""
+    kept.unlink(missing_ok=True)
+    ran = subprocess.run([*tool, *(str(word) for word in words)], capture_output=True)
+    if ran.returncode:
+        raise SystemExit(f"{tool[0]} ended with {ran.returncode}: {ran.stderr.decode()[-500:]}")
+    return kept.read_text()
+
+
+def instructions(words, folder):
+    """How many machine instructions a process takes."""
+    kept = folder / "instructions"
+    tool = ("valgrind", "--quiet", "--tool=callgrind", f"--callgrind-out-file={kept}")
+    found = re.search(r"^(?:summary|totals): (\d+)", watched(tool, words, kept), re.MULTILINE)
+    return int(found[1])
+
+
+def written(words, folder):
+    """How many bytes a process writes, and how often it syncs."""
+    kept = folder / "calls"
+    tool = ("strace", "-f", "-qq", "-s", "0", "-e", f"trace={','.join(WRITES + SYNCS)}", "-o", str(kept))
+    calls = [found.groups() for found in map(CALL.match, watched(tool, words, kept).splitlines()) if found]
+    size = sum(int(answer) for name, answer in calls if name in WRITES)
+    return size, sum(name in SYNCS for name, _ in calls)
