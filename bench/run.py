@@ -161,6 +161,15 @@ def print_writes(sides, before, many):
         figures.print_line(entries, *cells, *["-"] * (4 - len(cells)), *machine_cells([found]))
 
 
+def print_traces(sides, before, many):
+    """What the tools count; where one gives up, a line says so and the measure goes on."""
+    for show in (print_instructions, print_writes):
+        try:
+            show(sides, before, many)
+        except traces.Unwatched as why:
+            print(f"\n{why}", flush=True)
+
+
 def time_checks(sides, checked, how_often):
     """The whole check of each file, by both sides in turn."""
     columns = ("`vault check`, s", "Its check alone, s", "Python, s", "`vault check`, MiB", "Python, MiB")
@@ -189,8 +198,7 @@ def main():
         if before:
             time_tokens(sides, before, many, how_often)
         if before and count:
-            print_instructions(sides, before, count)
-            print_writes(sides, before, count)
+            print_traces(sides, before, count)
         if checked:
             time_checks(sides, checked, how_often)
 

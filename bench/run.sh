@@ -1,13 +1,14 @@
 #!/bin/sh
 # Times single-use tokens over a file, and a file's whole check, by the vault, by Python's sqlite3 and by C
-# over libsqlite3: builds what run.py wants, and calls it. PROGRAM is vault_bench and VAULT the vault's program
-# where they are built already. N, BEFORE, CHECKED, COUNTED and ROUNDS are run.py's.
+# over libsqlite3: builds what run.py wants, and calls it. PROGRAM is vault_bench and VAULT the vault's
+# program where they are built already. N, BEFORE, CHECKED, COUNTED and ROUNDS are run.py's.
 set -eu
 here=$(cd "$(dirname "$0")" && pwd)
 program=${PROGRAM:-}
 vault=${VAULT:-}
 same=
-crates='sql_maps vault_pan vault_core vault_rules vault_store vault_schema vault_sql vault_recover vault_blank'
+crates='sql_maps vault_pan vault_core vault_rules vault_store vault_schema vault_sql vault_recover'
+crates="$crates vault_blank"
 
 for tool in python3 /usr/bin/time; do
     command -v "$tool" > /dev/null || { echo "$tool is missing" >&2; exit 1; }

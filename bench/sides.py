@@ -94,9 +94,9 @@ class Sides:
         return timed((self.vault, "pipe", path), os.devnull, os.devnull)
 
     def whole_way(self, entries, many):
-        """The messages a second without the opening, or none where that took longer than all; and the seconds
-        and the peak of the opening of the file as it was made. Before each pipe comes one of no message over
-        the same file, whose time is taken off."""
+        """The messages a second without the opening, or none where that took longer than all; and the
+        seconds and the peak of the opening of the file as it was made. Before each pipe comes one of no
+        message over the same file, whose time is taken off."""
         path, asked, answers = self.copy(entries), self.folder / "asked", self.folder / "answers"
         first, spent, openings = entries + 1, 0, []
         for messages in parts(many):

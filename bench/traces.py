@@ -4,10 +4,15 @@ written and syncs by strace. Each is the difference of many commands and none ov
 import re
 import shutil
 import subprocess
+import sys
 
 WRITES = ("write", "pwrite64", "writev", "pwritev", "pwritev2")
 SYNCS = ("fsync", "fdatasync", "sync_file_range", "msync")
 CALL = re.compile(r"^(?:\d+ +)?(?:<\.\.\. )?(\w+)[( ].* = (\d+)$")
+
+
+class Unwatched(Exception):
+    """A tool gave up, or what it watched did."""
 
 
 def has(tool):
@@ -20,7 +25,8 @@ def watched(tool, words, kept):
     kept.unlink(missing_ok=True)
     ran = subprocess.run([*tool, *(str(word) for word in words)], capture_output=True)
     if ran.returncode:
-        raise SystemExit(f"{tool[0]} ended with {ran.returncode}: {ran.stderr.decode()[-500:]}")
+        print(ran.stderr.decode()[-1000:], file=sys.stderr)
+        raise Unwatched(f"{tool[0]} ended with {ran.returncode}: the rest of its counts is left out")
     return kept.read_text()
 
 
