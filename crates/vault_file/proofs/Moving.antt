@@ -43,8 +43,10 @@ module _ {D : Type 0} {g : Ghosts D} (image : Image) (first last : Held (FileSto
   -- a migration that is done
   pub moves_from : (HasCleanDisk (file_state last)
       → (V : Vault) → HoldsOlder (file_state first) V → Holds (file_state last) V)
-      → (HasCleanDisk (file_state last) → (V : Vault) → Holds (file_state first) V → Holds (file_state last) V)
-      → (HasCleanDisk (file_state last) → IsReady (file_state first) → (file_state first).now.schema ≡ no_schema
+      → (HasCleanDisk (file_state last) → (V : Vault) → Holds (file_state first) V
+      → Holds (file_state last) V)
+      → (HasCleanDisk (file_state last) → IsReady (file_state first)
+      → (file_state first).now.schema ≡ no_schema
       → Holds (file_state last) empty_vault)
       → (HasCleanDisk (file_state last) → IsOlds (file_state first).now → HoldsSound (file_state last))
       → (HasCleanDisk (file_state first) → (V : Vault) → Keeps image V → Holds (file_state first) V)

@@ -21,7 +21,8 @@ use Rattle.vault_sql.specs.Holds.{Holds}
 
 module _ {D : Type 0} {g : Ghosts D} where
   -- A connection was opened over files with these bytes, and this one comes from moving what is there to the
-  -- newest schema. A vault that the bytes keep, in schema 1, in the newest one, or in either, as a migration that
+  -- newest schema. A vault that the bytes keep, in schema 1, in the newest one, or in either, as a migration
+  -- that
   -- was stopped leaves it, is held in the newest one; without a table, the empty vault.
   pub record MovesFrom (image : Image) (conn : Held (FileStore D g)) : Type 0 where
     pub first : Held (FileStore D g)
@@ -34,7 +35,8 @@ module _ {D : Type 0} {g : Ghosts D} where
         → ∥ Holds (file_state conn) empty_vault ∥₁
     pub sound : HasCleanDisk (file_state conn) → IsOlds (file_state first).now → HoldsSound (file_state conn)
 
-  -- what a crash leaves of files with these bytes, which kept a vault in schema 1, after this refusal: that vault
+  -- what a crash leaves of files with these bytes, which kept a vault in schema 1, after this refusal: that
+  -- vault
   -- in schema 1 or in the newest one, and in schema 1 alone after any refusal but 33
   pub record LeavesOld (image : Image) (refusal : NotOpened) (conn : Held (FileStore D g)) : Type 0 where
     pub step : HasCleanDisk (file_state conn)

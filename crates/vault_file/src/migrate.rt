@@ -18,9 +18,9 @@ use vault_migrate::migrate::migrate;
 use vault_migrate::reopen::close_moved;
 use vault_recover::fault::OpenFault;
 
-/// Moves the file at a path to the newest schema, and answers its version, 2. The connection is given back, and
-/// with a refusal where there is one. The file keeps its mode; one that isn't there is made, as `open_from`
-/// makes it, and gets the tables of the empty vault.
+/// Moves the file at a path to the newest schema, and answers its version, 2. The connection is given back,
+/// and with a refusal where there is one. The file keeps its mode; one that isn't there is made, as
+/// `open_from` makes it, and gets the tables of the empty vault.
 ///
 /// Refused by 30 to 33 as `vault_migrate::migrate` refuses, by 34 as `open_from` refuses.
 pub fn migrate_from<S: Start>(

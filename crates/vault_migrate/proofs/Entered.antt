@@ -1,5 +1,6 @@
 -- Entries written one after the other, where they are all of a vault's.
-use Rattle.std.proofs.Common.{◌≡◌, ◌⊎◌, inl, inr, List, [], ◌∷◌, ◌++◌, Option, Some, None, refl, sym, ap, subst, ◌∙◌}
+use Rattle.std.proofs.Common.{◌≡◌, ◌⊎◌, inl, inr, List, [], ◌∷◌, ◌++◌, Option, Some, None, refl, sym, ap}
+use Rattle.std.proofs.Common.{subst, ◌∙◌}
 use Rattle.std.proofs.Common.{arith, length, get_or, ◌<◌, ◌+◌, ℕ, true, take, Ok, Result}
 use Rattle.std.proofs.lemmas.List.{take_more}
 use Rattle.std.specs.FinMap as map
@@ -95,7 +96,8 @@ none_written st = record {
 -- and one more
 pub more_written : {R E : Type 0} {result : Result R E} {a b c : State} (xs : List (Bytes × Bytes × Entry))
     (x : Bytes × Bytes × Entry) → AreWritten a b xs
-    → Makes result b c (λ h. Unit {0}) (λ h. record h { entries = put entry_cmp h.entries (x.0, x.1) (Some x.2) })
+    → Makes result b c (λ h. Unit {0})
+    (λ h. record h { entries = put entry_cmp h.entries (x.0, x.1) (Some x.2) })
     → Makes result a c (λ h. Unit {0}) (with_entries (xs ++ x ∷ []))
 more_written {result = result} {a = a} {c = c} xs x one two =
     subst (λ after. Makes result a c (λ h. Unit {0}) after)
@@ -106,7 +108,8 @@ more_written {result = result} {a = a} {c = c} xs x one two =
 pub turned : {a b c : State} (xs : List (Bytes × Bytes × Entry)) (n : ℕ) (x : Bytes × Bytes × Entry)
     → n < length xs → x ≡ get_or xs n x → AreWritten a b (take n xs)
     → (let done : Result (Unit {0}) StoreFault = Ok tt in
-    Makes done b c (λ h. Unit {0}) (λ h. record h { entries = put entry_cmp h.entries (x.0, x.1) (Some x.2) }))
+    Makes done b c (λ h. Unit {0}) (λ h.
+    record h { entries = put entry_cmp h.entries (x.0, x.1) (Some x.2) }))
     → AreWritten a c (take (n + 1) xs)
 turned {a} {b} {c} xs n x inside is one two =
     subst (AreWritten a c) (sym (take_more xs n x inside ∙ ap (λ y. take n xs ++ y ∷ []) (sym is)))

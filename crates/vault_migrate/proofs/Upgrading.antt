@@ -41,7 +41,8 @@ use Rattle.vault_migrate.specs.Older.{AreOlder, HoldsOlder, without_entries}
 
 -- a transaction that saw a vault in schema 1 has come as far as this
 abbrev pub Reached : State → State → Schema → (Lookups → List Claim) → Type 0
-Reached first st s said = HasCleanDisk st → (base : Database) (h : Lookups) → Within v1 (one.claims h) base first
+Reached first st s said = HasCleanDisk st → (base : Database) (h : Lookups)
+    → Within v1 (one.claims h) base first
     → Within s (said h) base st
 
 -- a table more, which is empty
@@ -147,7 +148,8 @@ none_joined = record {
 }
 
 -- all tables of schema 2 are there
-pub at_v2 : {first st : State} → Reached first st (indexed with_entries (table_of two.entries) card_index) with_tables
+pub at_v2 : {first st : State} → Reached first st (indexed with_entries (table_of two.entries) card_index)
+    with_tables
     → Reached first st v2 with_tables
 at_v2 {first} {st} it = subst (λ s. Reached first st s with_tables) all_made it
 
@@ -167,7 +169,8 @@ all_ready result {new = new} steps ran before clean = on_ok result (ran clean) (
     })
 
 -- the last commit is the vault in schema 1
-pub last_older : (s : State) (V : Vault) (db : Trees) → HoldsOlder s V → db ≡ s.committed.trees → AreOlder db V
+pub last_older : (s : State) (V : Vault) (db : Trees) → HoldsOlder s V → db ≡ s.committed.trees
+    → AreOlder db V
 last_older s V db held is =
     let same : s.now.trees ≡ db = ap (λ (d : Database). d.trees) held.settled ∙ sym is in
     record {

@@ -41,7 +41,8 @@ pub record AreEntriesOf (entries : List (Bytes × Bytes × Entry)) (V : Vault) :
   pub complete : (m token : Bytes) (e : Entry) → entry_at V m token ≡ Some e → Has entries (m, token, e)
 
 -- the entries with these written one after the other
-abbrev pub with_all : List (Bytes × Bytes × Entry) → (Bytes × Bytes → Option Entry) → Bytes × Bytes → Option Entry
+abbrev pub with_all : List (Bytes × Bytes × Entry) → (Bytes × Bytes → Option Entry) → Bytes × Bytes
+    → Option Entry
 with_all [] held = held
 with_all (x ∷ xs) held = with_all xs (put entry_cmp held (x.0, x.1) (Some x.2))
 

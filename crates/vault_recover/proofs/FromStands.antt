@@ -143,7 +143,8 @@ module _ (db : Trees) (V : Vault) (rows : Rows) (claimed : AreShared db V rows) 
 
   made_counted : (name : Bytes) → total_of rows.counts.items name (pos 1) ≡ pos (made_count V name)
   made_counted name = elim (unless_zero (made_count V name))
-      as (λ o. unless_zero (made_count V name) ≡ o → total_of rows.counts.items name (pos 1) ≡ pos (made_count V name)) [
+      as (λ o. unless_zero (made_count V name) ≡ o
+      → total_of rows.counts.items name (pos 1) ≡ pos (made_count V name)) [
         | None ↦ λ none. count_cases rows.counts.items name (pos 1) (λ z. z ≡ pos (made_count V name))
             (ap pos (sym (none_unless (made_count V name) none)))
             (λ c at. (count_is c at.there).1

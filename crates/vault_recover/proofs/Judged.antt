@@ -130,7 +130,8 @@ module _ (db : Database) (it : StandsSound db) where
   -- the rows of a database that stands for a sound vault break no rule
   pub never_broken : (rule : ℕ) → IsLeastBroken db rule → ⊥
   never_broken rule least =
-      let keys = apart_keys db it.schema least.is least.rows least.are (apart_of db.trees least.rows least.are (
+      let keys = apart_keys db it.schema least.is least.rows least.are
+      (apart_of db.trees least.rows least.are (
         claimed.merchants.apart,
         claimed.counts.apart,
         claimed.cards.apart,
@@ -146,7 +147,8 @@ module _ (db : Database) (it : StandsSound db) where
   pub never_other : (n : ℤ) → IsOtherVersion db n → ⊥
   never_other n other =
       let v = version_of 2 db.trees claimed.version other.versions other.are in
-      let same : is_other (pos 2) v.0 ≡ false = (λ i. int_eq (v.2 i) (pos 1) && not (int_eq (v.3 i) (pos 2))) in
+      let same : is_other (pos 2) v.0 ≡ false = (λ i. int_eq (v.2 i) (pos 1) && not (int_eq (v.3 i) (pos 2)))
+      in
       let none : other_version other.versions ≡ None =
       ap other_version v.1
       ∙ ap (λ b. option_map (λ (v : RawVersion). v.version) (cond b (Some v.0) None)) same in

@@ -100,7 +100,8 @@ module _ (V W : Vault) (merchants : (m : Bytes) → (lookups_of V).merchants m �
         let r = codes.record_coding in
         let all_records = map.same_map r.total r.exact _ _ records in
         let g = codes.right_coding in
-        let all_rights = set.same_set g.total g.exact V.rights W.rights (λ key. same_right _ _ (rights key)) in
+        let all_rights = set.same_set g.total g.exact V.rights W.rights
+        (λ key. same_right _ _ (rights key)) in
         λ i. record {
           merchants = all_merchants i;
           entries = all_entries i;

@@ -173,5 +173,6 @@ module _ (rows : Rows) (apart : HasKeysApart rows) (keep : (r : ℕ) → keeps r
     pointing = pointing_in rows.entries.items;
     rows = as_claims db.trees _ (they_claim db raws up ours sound v one id version);
     joined =
-        rows_joined rows apart (rows_show rows apart keep) (numbers_apart db _ raws.cards up.cards ours sound);
+        rows_joined rows apart (rows_show rows apart keep)
+        (numbers_apart db _ raws.cards up.cards ours sound);
   }

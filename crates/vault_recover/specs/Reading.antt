@@ -77,7 +77,8 @@ abbrev pub ShowsStrange : {R : Type 0} → List ℕ → (R → Row) → State �
 ShowsStrange text values st = (rows : List Row) × Begins text [] st rows × IsStrange (map values) rows
 
 module _ {S : Type 0} (g : Ghosts S) {R : Type 0} (text : List ℕ) (values : R → Row) where
-  -- Why the rows of a query of this database aren't read, though memory is there: at some row the query failed,
+  -- Why the rows of a query of this database aren't read, though memory is there: at some row the query
+  -- failed,
   -- or what it shows is strange.
   pub record IsUnread (db : Database) (new : Held S) : Type 0 where
     pub at : Held S

@@ -21,36 +21,45 @@ use crate::version::version_or;
 use sqlite::{Alter, Connection};
 use std::alloc::Global;
 
-/// Checks a file whole, and says how much the vault in it holds. It writes nothing: a file without any table is
-/// the empty vault, and stays as it is.
+/// Checks a file whole, and says how much the vault in it holds. It writes nothing: a file without any
+/// table is the empty vault, and stays as it is.
 ///
-/// Refused by 30 with the version that the file says, where it isn't 2 and its table stands first, whatever else
-/// there is; or with 0 where some of a vault's names are there and one is missing, or others stand beside them;
-/// by 31 with the least rule that the rows break; by 32 where memory ran out; by 33 where the database failed,
-/// the tables are another program's alone, or a vault's tables stand in another order or form than this program
-/// makes them. After 30 and 31 the connection sees what it saw.
+/// Refused by 30 with the version that the file says, where it isn't 2 and its table stands first, whatever
+/// else there is; or with 0 where some of a vault's names are there and one is missing, or others stand
+/// beside them; by 31 with the least rule that the rows break; by 32 where memory ran out; by 33 where the
+/// database failed, the tables are another program's alone, or a vault's tables stand in another order or
+/// form than this program makes them. After 30 and 31 the connection sees what it saw.
 pub fn check<S: Alter>(alloc: Global, conn: &mut Connection<S>) -> Result<Sizes, OpenFault>
-    ensures sound { HasCleanDisk (state S.Store conn.new) → IfOk result (λ sizes. IsFull (state S.Store conn.old).now
-        → ((state S.Store conn.old).now.schema ≡ no_schema) × (sizes ≡ sizes_of empty_vault) ⊎ IsSoundOf (state S.Store conn.old).now sizes) }
-    ensures damaged { HasCleanDisk (state S.Store conn.new) → IfErr result (λ e. (rule : ℕ) → e ≡ OpenFault.Damaged rule
+    ensures sound { HasCleanDisk (state S.Store conn.new)
+        → IfOk result (λ sizes. IsFull (state S.Store conn.old).now
+        → ((state S.Store conn.old).now.schema ≡ no_schema) × (sizes ≡ sizes_of empty_vault)
+        ⊎ IsSoundOf (state S.Store conn.old).now sizes) }
+    ensures damaged { HasCleanDisk (state S.Store conn.new) → IfErr result (λ e. (rule : ℕ)
+        → e ≡ OpenFault.Damaged rule
         → IsFull (state S.Store conn.old).now → IsLeastBroken (state S.Store conn.old).now rule) }
-    ensures wrong { HasCleanDisk (state S.Store conn.new) → IfErr result (λ e. (n : ℤ) → e ≡ OpenFault.WrongSchema n
+    ensures wrong { HasCleanDisk (state S.Store conn.new) → IfErr result (λ e. (n : ℤ)
+        → e ≡ OpenFault.WrongSchema n
         → IsWrong (state S.Store conn.old).now n) }
-    ensures unread { HasCleanDisk (state S.Store conn.new) → IfErr result (λ e. e ≡ OpenFault.Store → IsOurs (state S.Store conn.old).now
+    ensures unread { HasCleanDisk (state S.Store conn.new) → IfErr result (λ e. e ≡ OpenFault.Store
+        → IsOurs (state S.Store conn.old).now
         → IsUnreadFile S.Store (state S.Store conn.old).now conn.new) }
     ensures never { HasCleanDisk (state S.Store conn.new)
         → IfErr result (λ e. IsFit (state S.Store conn.old).now → IsNoRefusal e) }
-    ensures mixed { IsForeign (state S.Store conn.old).now.schema → ¬ HasVersion (state S.Store conn.old).now.schema
+    ensures mixed { IsForeign (state S.Store conn.old).now.schema
+        → ¬ HasVersion (state S.Store conn.old).now.schema
         → IsMixed (state S.Store conn.old).now.schema vault_names
         → result ≡ Err (OpenFault.WrongSchema (pos 0)) }
-    ensures strange { IsForeign (state S.Store conn.old).now.schema → ¬ HasVersion (state S.Store conn.old).now.schema
+    ensures strange { IsForeign (state S.Store conn.old).now.schema
+        → ¬ HasVersion (state S.Store conn.old).now.schema
         → ¬ IsMixed (state S.Store conn.old).now.schema vault_names
         → result ≡ Err OpenFault.Store }
-    ensures kept { HasCleanDisk (state S.Store conn.new) → OnOk result ((state S.Store conn.old).now.schema ≡ vault_schema
+    ensures kept { HasCleanDisk (state S.Store conn.new)
+        → OnOk result ((state S.Store conn.old).now.schema ≡ vault_schema
         → IsUnchanged (state S.Store conn.old) (state S.Store conn.new)) }
     ensures foreign { IsForeign (state S.Store conn.old).now.schema → IsErrAnd result IsNoDamage }
     ensures sees { HasCleanDisk (state S.Store conn.new) → IfErr result (λ e. IsJudged e
-        → HasVersion (state S.Store conn.old).now.schema → IsUnchanged (state S.Store conn.old) (state S.Store conn.new)) }
+        → HasVersion (state S.Store conn.old).now.schema
+        → IsUnchanged (state S.Store conn.old) (state S.Store conn.new)) }
     ensures untouched { ¬ HasVersion (state S.Store conn.old).now.schema → conn.new ≡ conn.old }
     ensures quiet { IsQuietWhere (HasVersion (state S.Store conn.old).now.schema) (state S.Store conn.old)
         (state S.Store conn.new) }

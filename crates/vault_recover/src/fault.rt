@@ -8,8 +8,8 @@ use std::alloc::{AllocError, AllocFailed};
 /// Why no vault is opened.
 #[derive(Clone, Copy, Debug, PartialEq, Eq)]
 pub enum OpenFault {
-    /// 30: the version that the file says, which isn't this program's; 0 where a table is missing or a name is
-    /// taken.
+    /// 30: the version that the file says, which isn't this program's; 0 where a table is missing or a name
+    /// is taken.
     WrongSchema(i64),
     /// 31: the least rule that the rows break.
     Damaged(u8),

@@ -36,8 +36,8 @@ fn answered<S: Alter>(
     (answer, vault.into_tables().into_connection())
 }
 
-/// Answers one command more, and ends the vault. Whoever opens what a crash leaves then finds, with an answer, the
-/// vault after the command; after 20 the vault before it; after 21 one of the two.
+/// Answers one command more, and ends the vault. Whoever opens what a crash leaves then finds, with an
+/// answer, the vault after the command; after 20 the vault before it; after 21 one of the two.
 pub fn apply_last<D: Disk + Drop>(
     vault: Vault<SqlTables<FileStore<D>>>,
     c: &Command,

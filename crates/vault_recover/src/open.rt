@@ -40,17 +40,21 @@ fn ready<S: Alter>(alloc: Global, conn: &mut Connection<S>) -> Result<(), OpenFa
         → IfErr result (λ e. IsFit (state S.Store conn.old).now → IsNoRefusal e) }
     ensures left { HasCleanDisk (state S.Store conn.new)
         → LeavesFound (state S.Store conn.old) (state S.Store conn.new) }
-    ensures mixed { IsForeign (state S.Store conn.old).now.schema → ¬ HasVersion (state S.Store conn.old).now.schema
+    ensures mixed { IsForeign (state S.Store conn.old).now.schema
+        → ¬ HasVersion (state S.Store conn.old).now.schema
         → IsMixed (state S.Store conn.old).now.schema vault_names
         → (result ≡ Err (OpenFault.WrongSchema (pos 0))) × (conn.new ≡ conn.old) }
-    ensures strange { IsForeign (state S.Store conn.old).now.schema → ¬ HasVersion (state S.Store conn.old).now.schema
+    ensures strange { IsForeign (state S.Store conn.old).now.schema
+        → ¬ HasVersion (state S.Store conn.old).now.schema
         → ¬ IsMixed (state S.Store conn.old).now.schema vault_names
         → (result ≡ Err OpenFault.Store) × (conn.new ≡ conn.old) }
     ensures foreign { IsForeign (state S.Store conn.old).now.schema → IsErrAnd result IsNoDamage }
     ensures sees { HasCleanDisk (state S.Store conn.new) → IfErr result (λ e. IsJudged e
-        → HasVersion (state S.Store conn.old).now.schema → IsUnchanged (state S.Store conn.old) (state S.Store conn.new)) }
+        → HasVersion (state S.Store conn.old).now.schema
+        → IsUnchanged (state S.Store conn.old) (state S.Store conn.new)) }
     ensures quiet { ¬ ((state S.Store conn.old).now.schema ≡ no_schema)
-        → IsQuietWhere (HasVersion (state S.Store conn.old).now.schema) (state S.Store conn.old) (state S.Store conn.new) }
+        → IsQuietWhere (HasVersion (state S.Store conn.old).now.schema) (state S.Store conn.old)
+        (state S.Store conn.new) }
     ensures idle { conn.new.in_transaction ≡ false }
 {
     let _settled = conn.is_autocommit();
@@ -68,15 +72,15 @@ fn ready<S: Alter>(alloc: Global, conn: &mut Connection<S>) -> Result<(), OpenFa
     }
 }
 
-/// Opens the vault in a file; a refusal hands the connection back. A file without any table gets the tables of
-/// the empty vault in one transaction. A file with a vault's tables is checked whole and not written.
+/// Opens the vault in a file; a refusal hands the connection back. A file without any table gets the tables
+/// of the empty vault in one transaction. A file with a vault's tables is checked whole and not written.
 ///
-/// Refused by 30 with the version that the file says, where it isn't 2 and its table stands first, whatever else
-/// there is; or with 0 where some of a vault's names are there and one is missing, or others stand beside them;
-/// by 31 with the least rule that the rows break; by 32 where memory ran out; by 33 where the database failed,
-/// the tables are another program's alone, or a vault's tables stand in another order or form than this program
-/// makes them. A refused file is as it was; but after 33 one without any table may have those of the empty vault.
-/// After 30 and 31 the connection sees what it saw.
+/// Refused by 30 with the version that the file says, where it isn't 2 and its table stands first, whatever
+/// else there is; or with 0 where some of a vault's names are there and one is missing, or others stand
+/// beside them; by 31 with the least rule that the rows break; by 32 where memory ran out; by 33 where the
+/// database failed, the tables are another program's alone, or a vault's tables stand in another order or
+/// form than this program makes them. A refused file is as it was; but after 33 one without any table may
+/// have those of the empty vault. After 30 and 31 the connection sees what it saw.
 pub fn open<S: Alter>(
     alloc: Global,
     conn: Connection<S>,
@@ -109,7 +113,8 @@ pub fn open<S: Alter>(
     ensures sees { IfErr result (λ e. HasCleanDisk (state S.Store e.1) → IsJudged e.0
         → HasVersion (state S.Store conn).now.schema → IsUnchanged (state S.Store conn) (state S.Store e.1)) }
     ensures quiet { IfErr result (λ e. ¬ ((state S.Store conn).now.schema ≡ no_schema)
-        → IsQuietWhere (HasVersion (state S.Store conn).now.schema) (state S.Store conn) (state S.Store e.1)) }
+        → IsQuietWhere (HasVersion (state S.Store conn).now.schema) (state S.Store conn)
+        (state S.Store e.1)) }
     ensures idle { IfErr result (λ e. e.1.in_transaction ≡ false) }
 {
     let mut conn = conn;

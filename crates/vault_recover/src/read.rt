@@ -46,7 +46,8 @@ pub fn version_rows<S: Alter>(
     ensures kept { HasCleanDisk (state S.Store conn.new) → HasVersion (state S.Store conn.old).now.schema
         → OnOk result (IsUnchanged (state S.Store conn.old) (state S.Store conn.new)) }
     ensures refused { HasCleanDisk (state S.Store conn.new) → HasVersion (state S.Store conn.old).now.schema
-        → IfErr result (λ e. e ≡ ReadFault.Store → IsUnread S.Store READ_VERSIONS.now version_values (state S.Store conn.old).now conn.new) }
+        → IfErr result (λ e. e ≡ ReadFault.Store
+        → IsUnread S.Store READ_VERSIONS.now version_values (state S.Store conn.old).now conn.new) }
     ensures quiet { IsQuietWhere (HasVersion (state S.Store conn.old).now.schema) (state S.Store conn.old)
         (state S.Store conn.new) }
 {

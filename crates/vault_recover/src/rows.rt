@@ -22,8 +22,10 @@ pub(crate) fn rows<S: Alter>(
     ensures versions { IfOk result (λ rows. rows.versions ≡ versions) }
     ensures told { HasCleanDisk (state S.Store conn.new) → (state S.Store conn.old).now.schema ≡ vault_schema
         → IfOk result (AreAll (state S.Store conn.old).now) }
-    ensures refused { HasCleanDisk (state S.Store conn.new) → (state S.Store conn.old).now.schema ≡ vault_schema
-        → IfErr result (λ e. e ≡ ReadFault.Store → IsUnreadOne S.Store (state S.Store conn.old).now conn.new) }
+    ensures refused { HasCleanDisk (state S.Store conn.new)
+        → (state S.Store conn.old).now.schema ≡ vault_schema
+        → IfErr result (λ e. e ≡ ReadFault.Store
+        → IsUnreadOne S.Store (state S.Store conn.old).now conn.new) }
     ensures reads { Reads vault_schema result (state S.Store conn.old) (state S.Store conn.new) }
 {
     let merchants = read::merchants(alloc, conn)?;

@@ -26,12 +26,16 @@ pub(crate) fn verdict<S: Alter>(alloc: Global, conn: &mut Connection<S>) -> Resu
     ensures damaged { HasCleanDisk (state S.Store conn.new)
         → IfErr result (λ e. (rule : ℕ) → e ≡ OpenFault.Damaged rule → IsOurs (state S.Store conn.old).now
         → IsLeastBroken (state S.Store conn.old).now rule) }
-    ensures versioned { HasCleanDisk (state S.Store conn.new) → IfErr result (λ e. (n : ℤ) → e ≡ OpenFault.WrongSchema n
-        → (state S.Store conn.old).now.schema ≡ vault_schema → IsOtherVersion (state S.Store conn.old).now n) }
-    ensures unread { HasCleanDisk (state S.Store conn.new) → IfErr result (λ e. e ≡ OpenFault.Store → IsOurs (state S.Store conn.old).now
+    ensures versioned { HasCleanDisk (state S.Store conn.new) → IfErr result (λ e. (n : ℤ)
+        → e ≡ OpenFault.WrongSchema n
+        → (state S.Store conn.old).now.schema ≡ vault_schema
+        → IsOtherVersion (state S.Store conn.old).now n) }
+    ensures unread { HasCleanDisk (state S.Store conn.new) → IfErr result (λ e. e ≡ OpenFault.Store
+        → IsOurs (state S.Store conn.old).now
         → IsUnreadFile S.Store (state S.Store conn.old).now conn.new) }
     ensures sees { HasCleanDisk (state S.Store conn.new) → IfErr result (λ e. IsJudged e
-        → (state S.Store conn.old).now.schema ≡ vault_schema → IsUnchanged (state S.Store conn.old) (state S.Store conn.new)) }
+        → (state S.Store conn.old).now.schema ≡ vault_schema
+        → IsUnchanged (state S.Store conn.old) (state S.Store conn.new)) }
     ensures quiet { IsQuiet (state S.Store conn.old) (state S.Store conn.new) }
 {
     let versions = version_rows(alloc, conn)?;

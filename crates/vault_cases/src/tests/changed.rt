@@ -69,11 +69,13 @@ const FORMS: [(&str, &str); 13] = [
     ("DROP INDEX entries2_card", "30 0"),
     ("UPDATE vault SET version = -1", "30 -1"),
     (
-        "DROP TABLE counts; CREATE TABLE counts (merchant TEXT NOT NULL, kind INTEGER NOT NULL, total INTEGER NOT NULL, PRIMARY KEY (merchant, kind)) STRICT",
+        "DROP TABLE counts; CREATE TABLE counts (merchant TEXT NOT NULL, kind INTEGER NOT NULL, \
+         total INTEGER NOT NULL, PRIMARY KEY (merchant, kind)) STRICT",
         "33",
     ),
     (
-        "DROP TABLE rights; CREATE TABLE RIGHTS (caller TEXT NOT NULL, merchant TEXT NOT NULL, what INTEGER NOT NULL, PRIMARY KEY (caller, merchant, what)) STRICT",
+        "DROP TABLE rights; CREATE TABLE RIGHTS (caller TEXT NOT NULL, merchant TEXT NOT NULL, \
+         what INTEGER NOT NULL, PRIMARY KEY (caller, merchant, what)) STRICT",
         "33",
     ),
 ];

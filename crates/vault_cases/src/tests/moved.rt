@@ -11,7 +11,8 @@ use vault_schema::v1::{
     CREATE_RIGHTS, CREATE_VAULT,
 };
 
-/// The rows of two merchants: a number under two tokens of the one and a token of the other, and a purged entry.
+/// The rows of two merchants: a number under two tokens of the one and a token of the other, and a purged
+/// entry.
 const ROWS: &str = "INSERT INTO vault VALUES (1, 1);
 INSERT INTO merchants VALUES ('shop1', 60, 0, 1000), ('shop2', 60, 0, 1000);
 INSERT INTO counts VALUES ('shop1', 1, 3), ('shop2', 1, 1);

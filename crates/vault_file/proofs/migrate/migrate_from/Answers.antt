@@ -48,7 +48,8 @@ returns-in-Err-clause-never g c clean V sound keeps =
     never_kept (image_at g.S.Start) c.in-Some.conn
     c.in-Some.ensures.opened c.in-Some.ensures.again
     c.migrate.new.conn c.in-Err.fault
-    (λ clean fit. c.in-Err.ensures.never clean (inr fit)) (λ some. c.migrate.ensures.clean) clean V sound keeps
+    (λ clean fit. c.in-Err.ensures.never clean (inr fit)) (λ some. c.migrate.ensures.clean) clean V sound
+    keeps
 
 pub returns-in-Err-clause-left : goal.returns-in-Err-clause-left
 returns-in-Err-clause-left g c =

@@ -10,7 +10,8 @@ pub returns-in-Ok-clause-moved : goal.returns-in-Ok-clause-moved
 returns-in-Ok-clause-moved g c clean V h =
     let mid = state g.S.Store c.old_entries.new.conn in
     let early : HasCleanDisk mid = omega (arith, c.upgrade.ensures.clean, clean) in
-    let it = moves_from (state g.S.Store c.args.conn.now) mid V c.in_ok-olders.olders.items c.deref-2.result.now h
+    let it = moves_from (state g.S.Store c.args.conn.now) mid V c.in_ok-olders.olders.items
+    c.deref-2.result.now h
     (c.in_ok-olders.ensures.kept early) c.old_entries.ensures.quiet.limit (c.in_ok-olders.ensures.told early)
     (ap (map old_columns) (sym c.deref.ensures.value) ∙ c.in_ok-entries.ensures.rows
     ∙ ap (map typed_columns) (sym c.deref-2.ensures.value)) in
@@ -26,7 +27,8 @@ pub returns-in-Ok-clause-crash : goal.returns-in-Ok-clause-crash
 returns-in-Ok-clause-crash g c clean V h =
     let mid = state g.S.Store c.old_entries.new.conn in
     let early : HasCleanDisk mid = omega (arith, c.upgrade.ensures.clean, clean) in
-    let it = moves_from (state g.S.Store c.args.conn.now) mid V c.in_ok-olders.olders.items c.deref-2.result.now h
+    let it = moves_from (state g.S.Store c.args.conn.now) mid V c.in_ok-olders.olders.items
+    c.deref-2.result.now h
     (c.in_ok-olders.ensures.kept early) c.old_entries.ensures.quiet.limit (c.in_ok-olders.ensures.told early)
     (ap (map old_columns) (sym c.deref.ensures.value) ∙ c.in_ok-entries.ensures.rows
     ∙ ap (map typed_columns) (sym c.deref-2.ensures.value)) in
@@ -36,7 +38,8 @@ pub returns-clause-crash : goal.returns-clause-crash
 returns-clause-crash g c clean V h =
     let mid = state g.S.Store c.old_entries.new.conn in
     let early : HasCleanDisk mid = omega (arith, c.upgrade.ensures.clean, clean) in
-    let it = moves_from (state g.S.Store c.args.conn.now) mid V c.in_ok-olders.olders.items c.deref-2.result.now h
+    let it = moves_from (state g.S.Store c.args.conn.now) mid V c.in_ok-olders.olders.items
+    c.deref-2.result.now h
     (c.in_ok-olders.ensures.kept early) c.old_entries.ensures.quiet.limit (c.in_ok-olders.ensures.told early)
     (ap (map old_columns) (sym c.deref.ensures.value) ∙ c.in_ok-entries.ensures.rows
     ∙ ap (map typed_columns) (sym c.deref-2.ensures.value)) in

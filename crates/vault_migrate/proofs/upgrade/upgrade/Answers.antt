@@ -25,10 +25,12 @@ ready g c late V h are =
     let old = state g.S.Store c.args.conn.now in
     let before : HasCleanDisk (state g.S.Store c.step_up.new.tx.conn.now) =
     omega (arith, c.commit.ensures.survives.clean) in
-    let first : Within v1 (claims (lookups_of V)) old.committed (state g.S.Store c.transaction-tx.result.conn.now) =
+    let first : Within v1 (claims (lookups_of V)) old.committed
+    (state g.S.Store c.transaction-tx.result.conn.now) =
     rw c.transaction-tx.ensures.begun (begun v1 (claims (lookups_of V)) old h) in
     let h' = lookups_of V in
-    subst (λ (e : _). IsWithin (state g.S.Store c.step_up.new.tx.conn.now) old.committed (record h' { entries = e }))
+    subst (λ (e : _). IsWithin (state g.S.Store c.step_up.new.tx.conn.now) old.committed
+    (record h' { entries = e }))
     (all_entered V c.args.entries.now are)
     (c.in_ok-step_up.ensures.done before old.committed h' first)
 

@@ -10,7 +10,8 @@ returns-in-Ok-answer g c =
     let old = g.W.Write.contents c.args.output.now.inner in
     let new = g.W.Write.contents c.answer.new.output.inner in
     let written : c.format.result.now ≡ codes "2" =
-    c.format.ensures.text ∙ ap (λ (z : ℤ). signed_decimal (to_z w64 (of_z w64 z))) c.in-Ok.ensures.version in (
+    c.format.ensures.text
+    ∙ ap (λ (z : ℤ). signed_decimal (to_z w64 (of_z w64 z))) c.in-Ok.ensures.version in (
       c.in-Ok-answer.ensures.handed_on,
       (
         refl,
