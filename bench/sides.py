@@ -93,21 +93,31 @@ class Sides:
         """The seconds and the peak of a pipe of no message."""
         return timed((self.vault, "pipe", path), os.devnull, os.devnull)
 
+    def answering(self, path, asked):
+        """The seconds from a pipe's first answer to its last, and how many answers lie between."""
+        with open(asked) as given:
+            words = [str(self.vault), "pipe", str(path)]
+            with subprocess.Popen(words, stdin=given, stdout=subprocess.PIPE, bufsize=0) as ran:
+                told = ran.stdout.read(65536)
+                start, first = time.perf_counter(), told.count(b'"token":"')
+                while more := ran.stdout.read(65536):
+                    told, last = told + more, time.perf_counter()
+        assert ran.returncode == 0
+        return last - start, told.count(b'"token":"') - first
+
     def whole_way(self, entries, many):
-        """The messages a second without the opening, or none where that took longer than all; and the
-        seconds and the peak of the opening of the file as it was made. Before each pipe comes one of no
-        message over the same file, whose time is taken off."""
-        path, asked, answers = self.copy(entries), self.folder / "asked", self.folder / "answers"
-        first, spent, openings = entries + 1, 0, []
+        """The messages a second between the first answer and the last of each pipe; and the seconds and the
+        peak of the opening of the file as it was made."""
+        path, asked = self.copy(entries), self.folder / "asked"
+        opening = self.opening(path)
+        first, spent, answered = entries + 1, 0, 0
         for messages in parts(many):
             pipe.write_messages(asked, first, messages)
             os.sync()
-            openings.append(self.opening(path))
-            spent += timed((self.vault, "pipe", path), asked, answers)[0] - openings[-1][0]
-            assert answers.read_text().count('"token":"') == messages
-            first += messages
+            seconds, answers = self.answering(path, asked)
+            spent, answered, first = spent + seconds, answered + answers, first + messages
         self.assert_sound(path, entries + many)
-        return many / spent if spent > 0 else None, *openings[0]
+        return answered / spent, *opening
 
     def check(self, entries):
         """The seconds and the peak of `vault check`, and the seconds of the check alone."""
