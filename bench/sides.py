@@ -99,15 +99,16 @@ class Sides:
             words = [str(self.vault), "pipe", str(path)]
             with subprocess.Popen(words, stdin=given, stdout=subprocess.PIPE, bufsize=0) as ran:
                 told = ran.stdout.read(65536)
-                start, first = time.perf_counter(), told.count(b'"token":"')
+                start = last = time.perf_counter()
+                first = told.count(b'"token":"')
                 while more := ran.stdout.read(65536):
                     told, last = told + more, time.perf_counter()
         assert ran.returncode == 0
         return last - start, told.count(b'"token":"') - first
 
     def whole_way(self, entries, many):
-        """The messages a second between the first answer and the last of each pipe; and the seconds and the
-        peak of the opening of the file as it was made."""
+        """The messages a second between the first answer and the last of each pipe, or none where all were
+        read at once; and the seconds and the peak of the opening of the file as it was made."""
         path, asked = self.copy(entries), self.folder / "asked"
         opening = self.opening(path)
         first, spent, answered = entries + 1, 0, 0
@@ -117,7 +118,7 @@ class Sides:
             seconds, answers = self.answering(path, asked)
             spent, answered, first = spent + seconds, answered + answers, first + messages
         self.assert_sound(path, entries + many)
-        return answered / spent, *opening
+        return answered / spent if spent > 0 else None, *opening
 
     def check(self, entries):
         """The seconds and the peak of `vault check`, and the seconds of the check alone."""
