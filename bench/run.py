@@ -3,7 +3,8 @@
 over libsqlite3: run.sh builds what it wants, and calls it.
 
 N is how many commands are timed, BEFORE how many entries stand before them, CHECKED how many entries a file
-has that is checked, COUNTED how many commands are counted by valgrind and strace (0: none), and ROUNDS how
+has that is checked, COUNTED how many commands are counted by valgrind and strace (0: none; 1000 at most, as
+many as a pipe answers), and ROUNDS how
 often each side is timed, in turn with the others and on a copy of the same file. PROGRAM, VAULT and SAME are
 the built programs.
 """
@@ -113,17 +114,20 @@ def time_tokens(sides, before, many, how_often):
         show(rounds)
 
 
-def commands(sides, entries, many):
-    """The words for so many commands after others, on a new copy of their file, by the vault and by C."""
-    yield sides.bench, sides.copy(entries), "unknown", 0, many
-    if sides.peer:
-        yield sides.peer, sides.copy(entries), many
+def command(sides, side, entries, many):
+    """The words of a side for so many commands after others, on a copy of their file, and what it reads."""
+    path = sides.copy(entries)
+    if side == "whole":
+        return (sides.vault, "pipe", path), sides.messages(entries + 1, many)
+    words = (sides.bench, path, "unknown", 0, many) if side == "alone" else (sides.peer, path, many)
+    return words, os.devnull
 
 
-def counted(sides, count, entries, many):
-    """What each side counts for these commands and for none, where there is such a side."""
-    some, none = ([count(words, sides.folder) for words in commands(sides, entries, n)] for n in (many, 0))
-    return list(zip(some, none))
+def counted(sides, count, side, entries, many):
+    """What a side counts for these commands and for none, or none where there is no such side."""
+    if side == "peer" and not sides.peer:
+        return None
+    return [count(*command(sides, side, entries, n), sides.folder) for n in (many, 0)]
 
 
 def print_instructions(sides, before, many):
@@ -131,19 +135,21 @@ def print_instructions(sides, before, many):
     if not traces.has("valgrind"):
         print("\nvalgrind isn't there: no instructions are counted")
         return
-    figures.print_head("Instructions a token", "Entries before", "Vault", "C", *DISK)
+    shown = ("alone", "whole", "peer")
+    figures.print_head("Instructions a token", "Entries before", *(NAMES[side] for side in shown), *DISK)
     ours = {}
     for entries in before:
         say(f"instructions of {many} tokens after {entries}")
         found = machine(sides)
-        each = [(some - none) / many for some, none in counted(sides, traces.instructions, entries, many)]
+        pairs = [counted(sides, traces.instructions, side, entries, many) for side in shown]
+        each = [None if pair is None else (pair[0] - pair[1]) / many for pair in pairs]
         ours[entries] = each[0]
-        cells = [f"{it:,.0f}" for it in each] + ["-"] * (2 - len(each))
+        cells = ["-" if it is None else f"{it:,.0f}" for it in each]
         figures.print_line(entries, *cells, *machine_cells([found]))
     if len(ours) > 1:
         least, most = min(ours), max(ours)
         growth = ours[most] / ours[least]
-        print(f"\nThe vault's with {most} entries, in parts of those with {least}: {growth:.2f}")
+        print(f"\nThe vault's alone with {most} entries, in parts of those with {least}: {growth:.2f}")
 
 
 def print_writes(sides, before, many):
@@ -156,9 +162,13 @@ def print_writes(sides, before, many):
     for entries in before:
         say(f"writes and syncs of {many} tokens after {entries}")
         found, cells = machine(sides), []
-        for (size, syncs), (no_size, no_syncs) in counted(sides, traces.written, entries, many):
-            cells += [f"{(size - no_size) / many / 1024:.1f}", f"{(syncs - no_syncs) / many:.3f}"]
-        figures.print_line(entries, *cells, *["-"] * (4 - len(cells)), *machine_cells([found]))
+        for pair in (counted(sides, traces.written, side, entries, many) for side in ("alone", "peer")):
+            if pair is None:
+                cells += ["-", "-"]
+                continue
+            size, syncs = ((some - none) / many for some, none in zip(*pair))
+            cells += [f"{size / 1024:.1f}", f"{syncs:.3f}"]
+        figures.print_line(entries, *cells, *machine_cells([found]))
 
 
 def print_traces(sides, before, many):

@@ -14,6 +14,10 @@ import pipe
 
 HERE = pathlib.Path(__file__).resolve().parent
 MOST_MESSAGES = 1000
+# How long the answers aren't looked at, in seconds, and where they lie: in memory, if the machine has such a
+# folder, since a file on the vault's own disk would have a part in its syncs.
+LOOK = 0.0002
+MEMORY = "/dev/shm" if os.path.isdir("/dev/shm") else None
 
 
 def told(*words):
@@ -30,6 +34,23 @@ def timed(words, asked, answers):
         subprocess.run([*watch, *(str(word) for word in words)], stdin=given, stdout=taken, check=True)
         spent = time.perf_counter() - start
         return spent, int(peak.read()) / 1024
+
+
+def growth(ran, file):
+    """How many bytes a file has when it is first seen with some, and the seconds from then until it is last
+    seen to grow, while a process runs that writes it. It is only looked at, so nothing waits for a reader."""
+    first = size = 0
+    start = last = time.perf_counter()
+    runs = True
+    while runs:
+        runs = ran.poll() is None
+        found = os.fstat(file.fileno()).st_size
+        if found > size:
+            size, last = found, time.perf_counter()
+            if first == 0:
+                first, start = size, last
+        time.sleep(LOOK)
+    return first, last - start
 
 
 def parts(many):
@@ -89,33 +110,35 @@ class Sides:
         path = self.copy(entries)
         return self.rate((self.peer, path, many), path, entries, many)
 
+    def messages(self, first, many):
+        """A file of so many messages, from this request number on, settled on the disk."""
+        asked = self.folder / "asked"
+        pipe.write_messages(asked, first, many)
+        os.sync()
+        return asked
+
     def opening(self, path):
         """The seconds and the peak of a pipe of no message."""
         return timed((self.vault, "pipe", path), os.devnull, os.devnull)
 
     def answering(self, path, asked):
         """The seconds from a pipe's first answer to its last, and how many answers lie between."""
-        with open(asked) as given:
-            words = [str(self.vault), "pipe", str(path)]
-            with subprocess.Popen(words, stdin=given, stdout=subprocess.PIPE, bufsize=0) as ran:
-                told = ran.stdout.read(65536)
-                start = last = time.perf_counter()
-                first = told.count(b'"token":"')
-                while more := ran.stdout.read(65536):
-                    told, last = told + more, time.perf_counter()
-        assert ran.returncode == 0
-        return last - start, told.count(b'"token":"') - first
+        words = [str(self.vault), "pipe", str(path)]
+        with open(asked) as given, tempfile.TemporaryFile(dir=MEMORY) as taken:
+            with subprocess.Popen(words, stdin=given, stdout=taken) as ran:
+                first, spent = growth(ran, taken)
+            assert ran.returncode == 0
+            taken.seek(first)
+            return spent, taken.read().count(b'"token":"')
 
     def whole_way(self, entries, many):
         """The messages a second between the first answer and the last of each pipe, or none where all were
-        read at once; and the seconds and the peak of the opening of the file as it was made."""
-        path, asked = self.copy(entries), self.folder / "asked"
+        seen at once; and the seconds and the peak of the opening of the file as it was made."""
+        path = self.copy(entries)
         opening = self.opening(path)
         first, spent, answered = entries + 1, 0, 0
         for messages in parts(many):
-            pipe.write_messages(asked, first, messages)
-            os.sync()
-            seconds, answers = self.answering(path, asked)
+            seconds, answers = self.answering(path, self.messages(first, messages))
             spent, answered, first = spent + seconds, answered + answers, first + messages
         self.assert_sound(path, entries + many)
         return answered / spent if spent > 0 else None, *opening

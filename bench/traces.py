@@ -20,28 +20,30 @@ def has(tool):
     return shutil.which(tool) is not None
 
 
-def watched(tool, words, kept):
-    """What a tool kept of a process, which must have ended well."""
+def watched(tool, words, asked, kept):
+    """What a tool kept of a process that reads a file, and must have ended well."""
     kept.unlink(missing_ok=True)
-    ran = subprocess.run([*tool, *(str(word) for word in words)], capture_output=True)
+    with open(asked) as given:
+        ran = subprocess.run([*tool, *(str(word) for word in words)], stdin=given, capture_output=True)
     if ran.returncode:
         print(ran.stderr.decode()[-1000:], file=sys.stderr)
         raise Unwatched(f"{tool[0]} ended with {ran.returncode}: the rest of its counts is left out")
     return kept.read_text()
 
 
-def instructions(words, folder):
+def instructions(words, asked, folder):
     """How many machine instructions a process takes."""
     kept = folder / "instructions"
     tool = ("valgrind", "--quiet", "--tool=callgrind", f"--callgrind-out-file={kept}")
-    found = re.search(r"^(?:summary|totals): (\d+)", watched(tool, words, kept), re.MULTILINE)
+    found = re.search(r"^(?:summary|totals): (\d+)", watched(tool, words, asked, kept), re.MULTILINE)
     return int(found[1])
 
 
-def written(words, folder):
+def written(words, asked, folder):
     """How many bytes a process writes, and how often it syncs."""
     kept = folder / "calls"
     tool = ("strace", "-f", "-qq", "-s", "0", "-e", f"trace={','.join(WRITES + SYNCS)}", "-o", str(kept))
-    calls = [found.groups() for found in map(CALL.match, watched(tool, words, kept).splitlines()) if found]
+    lines = watched(tool, words, asked, kept).splitlines()
+    calls = [found.groups() for found in map(CALL.match, lines) if found]
     size = sum(int(answer) for name, answer in calls if name in WRITES)
     return size, sum(name in SYNCS for name, _ in calls)
