@@ -20,6 +20,7 @@ import traces  # noqa: E402
 from sides import Sides  # noqa: E402
 
 DISK = ("Syncs, a second", "Load")
+STOLEN = "Taken by the host, %"
 RATES = ("alone", "whole", "python", "peer")
 NAMES = {"alone": "Vault, alone", "whole": "Vault, whole way", "python": "Python", "peer": "C"}
 
@@ -44,6 +45,11 @@ def machine_cells(rounds):
     return [figures.middle([it["syncs"] for it in rounds]), figures.middle([it["load"] for it in rounds], 1)]
 
 
+def timed_cells(rounds):
+    """The same, and the greatest share of a round's sides that the host took."""
+    return [*machine_cells(rounds), figures.middle([it["stolen"] for it in rounds], 2)]
+
+
 def say(*words):
     """How far the measure is, beside the tables."""
     print(*words, file=sys.stderr, flush=True)
@@ -52,10 +58,12 @@ def say(*words):
 def token_round(sides, entries, many):
     """One round of all sides over a file with so many entries."""
     found = machine(sides)
-    found["alone"] = sides.alone(entries, many)
-    found["python"] = sides.python(entries, many)
-    found["peer"] = sides.peer_rate(entries, many)
-    found["whole"], found["opening"], found["peak"] = sides.whole_way(entries, many)
+    shares = {}
+    for name, side in (("alone", sides.alone), ("python", sides.python), ("peer", sides.peer_rate)):
+        found[name], shares[name] = figures.undisturbed(side, entries, many)
+    whole, shares["whole"] = figures.undisturbed(sides.whole_way, entries, many)
+    found["whole"], found["opening"], found["peak"] = whole
+    found["stolen"] = max(shares.values())
     return found
 
 
@@ -66,28 +74,28 @@ def quotient(one, other):
 
 def print_rates(rounds):
     columns = [f"{NAMES[side]}, a second" for side in RATES]
-    figures.print_head("Tokens", "Entries before", *columns, *DISK)
+    figures.print_head("Tokens", "Entries before", *columns, *DISK, STOLEN)
     for entries, found in rounds.items():
         cells = [figures.middle_or_none(it[side] for it in found) for side in RATES]
-        figures.print_line(entries, *cells, *machine_cells(found))
+        figures.print_line(entries, *cells, *timed_cells(found))
 
 
 def print_shares(rounds):
     """The vault's rates in parts of the others', each of one round."""
     pairs = [(ours, theirs) for ours in RATES[:2] for theirs in RATES[2:]]
     columns = [f"{NAMES[ours]} / {NAMES[theirs]}" for ours, theirs in pairs]
-    figures.print_head("Rates as parts of the others', by round", "Entries before", *columns, *DISK)
+    figures.print_head("Rates as parts of the others', by round", "Entries before", *columns, *DISK, STOLEN)
     for entries, found in rounds.items():
         shares = [[quotient(it[ours], it[theirs]) for it in found] for ours, theirs in pairs]
         cells = [figures.middle_or_none(share, 2) for share in shares]
-        figures.print_line(entries, *cells, *machine_cells(found))
+        figures.print_line(entries, *cells, *timed_cells(found))
 
 
 def print_openings(rounds):
-    figures.print_head("The opening in a pipe", "Entries", "Seconds", "Peak, MiB", *DISK)
+    figures.print_head("The opening in a pipe", "Entries", "Seconds", "Peak, MiB", *DISK, STOLEN)
     for entries, found in rounds.items():
         seconds, peaks = ([it[name] for it in found] for name in ("opening", "peak"))
-        figures.print_line(entries, figures.middle(seconds, 3), f"{max(peaks):.1f}", *machine_cells(found))
+        figures.print_line(entries, figures.middle(seconds, 3), f"{max(peaks):.1f}", *timed_cells(found))
 
 
 def print_growth(rounds):
@@ -96,11 +104,11 @@ def print_growth(rounds):
     if least == most:
         return
     title = f"The cost of a token with {most} entries before, in parts of that with {least}, by round"
-    figures.print_head(title, *(NAMES[side] for side in RATES), *DISK)
+    figures.print_head(title, *(NAMES[side] for side in RATES), *DISK, STOLEN)
     pairs = list(zip(rounds[least], rounds[most]))
     costs = [[quotient(few[side], many[side]) for few, many in pairs] for side in RATES]
     cells = [figures.middle_or_none(cost, 2) for cost in costs]
-    figures.print_line(*cells, *machine_cells(rounds[least] + rounds[most]))
+    figures.print_line(*cells, *timed_cells(rounds[least] + rounds[most]))
 
 
 def time_tokens(sides, before, many, how_often):

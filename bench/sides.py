@@ -16,7 +16,7 @@ HERE = pathlib.Path(__file__).resolve().parent
 MOST_MESSAGES = 1000
 # How long the answers aren't looked at, in seconds, and where they lie: in memory, if the machine has such a
 # folder, since a file on the vault's own disk would have a part in its syncs.
-LOOK = 0.0002
+LOOK = 0.002
 MEMORY = "/dev/shm" if os.path.isdir("/dev/shm") else None
 
 
