@@ -116,8 +116,10 @@ def time_tokens(sides, before, many, how_often):
     rounds = {entries: [] for entries in before}
     for place in range(how_often):
         for entries in before:
-            say(f"round {place + 1} of {how_often}: {many} tokens after {entries}")
-            rounds[entries].append(token_round(sides, entries, many))
+            found = token_round(sides, entries, many)
+            rounds[entries].append(found)
+            rates = ", ".join(f"{NAMES[side]} {found[side] or 0:.0f}" for side in RATES)
+            say(f"round {place + 1} of {how_often}, tokens a second after {entries}: {rates}")
     for show in (print_rates, print_shares, print_openings, print_growth):
         show(rounds)
 
