@@ -1,11 +1,13 @@
 #!/usr/bin/env python3
-"""Times how a file of schema 1 moves to the newest schema, by the program and by Python's sqlite3 with the same
-statements, each on a copy of the same file, in turn.
+"""Times how a file of schema 1 moves to the newest schema, by the program and by Python's sqlite3 with the
+same statements, each on a copy of the same file, in turn.
 
-migrate.py [PROGRAM] times the built program, which is crates/vault_cli/out/vault_cli if it is left out. ENTRIES
-says how many entries a file has, one line each (1000 10000 100000), and ROUNDS how many rounds there are (5).
+migrate.py [PROGRAM] times the built program, which is crates/vault_cli/out/vault_cli if it is left out.
+ENTRIES says how many entries a file has, one line each (1000 10000 100000), and ROUNDS how many rounds there
+are (5).
 
-migrate.py move FILE moves a file by Python alone, and prints its seconds and the peak of its own memory in KiB.
+migrate.py move FILE moves a file by Python alone, and prints its seconds and the peak of its own memory in
+KiB.
 """
 
 import os
@@ -13,7 +15,6 @@ import pathlib
 import resource
 import shutil
 import sqlite3
-import subprocess
 import sys
 import tempfile
 import time
@@ -22,21 +23,31 @@ sys.dont_write_bytecode = True
 import figures  # noqa: E402, without leaving a folder of its bytecode here
 import pipe  # noqa: E402
 import same  # noqa: E402
+from sides import timed, told  # noqa: E402
 
 TABLES = """
 CREATE TABLE vault (id INTEGER PRIMARY KEY, version INTEGER NOT NULL) STRICT;
-CREATE TABLE merchants (name TEXT NOT NULL PRIMARY KEY, single_life INTEGER NOT NULL, multi_life INTEGER NOT NULL, moment INTEGER NOT NULL) STRICT;
-CREATE TABLE counts (merchant TEXT NOT NULL, kind INTEGER NOT NULL, total INTEGER NOT NULL, PRIMARY KEY (merchant, kind)) STRICT;
-CREATE TABLE entries (merchant TEXT NOT NULL, token TEXT NOT NULL, number TEXT, usage INTEGER NOT NULL, birth INTEGER NOT NULL, expires INTEGER NOT NULL, revoked INTEGER, PRIMARY KEY (merchant, token)) STRICT;
+CREATE TABLE merchants (name TEXT NOT NULL PRIMARY KEY, single_life INTEGER NOT NULL, \
+multi_life INTEGER NOT NULL, moment INTEGER NOT NULL) STRICT;
+CREATE TABLE counts (merchant TEXT NOT NULL, kind INTEGER NOT NULL, total INTEGER NOT NULL, \
+PRIMARY KEY (merchant, kind)) STRICT;
+CREATE TABLE entries (merchant TEXT NOT NULL, token TEXT NOT NULL, number TEXT, \
+usage INTEGER NOT NULL, birth INTEGER NOT NULL, expires INTEGER NOT NULL, revoked INTEGER, \
+PRIMARY KEY (merchant, token)) STRICT;
 CREATE INDEX entries_number ON entries (merchant, number);
-CREATE TABLE records (caller TEXT NOT NULL, request INTEGER NOT NULL, merchant TEXT NOT NULL, token TEXT NOT NULL, usage INTEGER NOT NULL, PRIMARY KEY (caller, request)) STRICT;
-CREATE TABLE rights (caller TEXT NOT NULL, merchant TEXT NOT NULL, what INTEGER NOT NULL, PRIMARY KEY (caller, merchant, what)) STRICT;
+CREATE TABLE records (caller TEXT NOT NULL, request INTEGER NOT NULL, merchant TEXT NOT NULL, \
+token TEXT NOT NULL, usage INTEGER NOT NULL, PRIMARY KEY (caller, request)) STRICT;
+CREATE TABLE rights (caller TEXT NOT NULL, merchant TEXT NOT NULL, what INTEGER NOT NULL, \
+PRIMARY KEY (caller, merchant, what)) STRICT;
 INSERT INTO vault VALUES (1, 1);
 INSERT INTO merchants VALUES ('shop1', 60, 0, 1000);
 """
 NEWER = """
-CREATE TABLE cards2 (id INTEGER PRIMARY KEY, merchant TEXT NOT NULL, number TEXT NOT NULL, uses INTEGER NOT NULL, UNIQUE (merchant, number)) STRICT;
-CREATE TABLE entries2 (merchant TEXT NOT NULL, token TEXT NOT NULL, card INTEGER, usage INTEGER NOT NULL, birth INTEGER NOT NULL, expires INTEGER NOT NULL, revoked INTEGER, PRIMARY KEY (merchant, token)) STRICT;
+CREATE TABLE cards2 (id INTEGER PRIMARY KEY, merchant TEXT NOT NULL, number TEXT NOT NULL, \
+uses INTEGER NOT NULL, UNIQUE (merchant, number)) STRICT;
+CREATE TABLE entries2 (merchant TEXT NOT NULL, token TEXT NOT NULL, card INTEGER, \
+usage INTEGER NOT NULL, birth INTEGER NOT NULL, expires INTEGER NOT NULL, revoked INTEGER, \
+PRIMARY KEY (merchant, token)) STRICT;
 CREATE INDEX entries2_card ON entries2 (merchant, card);
 DELETE FROM entries;
 UPDATE vault SET version = 2 WHERE id = 1;
@@ -89,33 +100,21 @@ def move(path):
     print(spent, resource.getrusage(resource.RUSAGE_SELF).ru_maxrss)
 
 
-def timed(*words):
-    """The seconds of a process, its peak memory in KiB, and what it says."""
-    start = time.perf_counter()
-    process = subprocess.Popen(words, stdout=subprocess.PIPE)
-    said = process.stdout.read().decode()
-    _, status, usage = os.wait4(process.pid, 0)
-    process.returncode = os.waitstatus_to_exitcode(status)
-    assert process.returncode == 0, said
-    return time.perf_counter() - start, usage.ru_maxrss, said
-
-
 def time_round(program, base, folder, many):
-    """Seconds and peaks of both sides, each on a copy of the file; the program finds both sound afterwards."""
+    """Seconds and peaks of both sides, each on a copy of the file, which the program finds sound afterwards."""
     ours, theirs = folder / "ours.db", folder / "theirs.db"
     for path in (ours, theirs):
         for old in folder.glob(path.name + "*"):
             old.unlink()
         shutil.copy(base, path)
     os.sync()
-    spent, peak, said = timed(program, "migrate", str(ours))
-    assert said == "schema 2\n"
+    spent, peak = timed((program, "migrate", ours), os.devnull, folder / "answers")
+    assert (folder / "answers").read_text() == "schema 2\n"
     os.sync()
-    _, _, said = timed(sys.executable, __file__, "move", str(theirs))
-    python_spent, python_peak = said.split()
+    python_spent, python_peak = told(sys.executable, __file__, "move", theirs).split()
     for path in (ours, theirs):
-        assert timed(program, "check", str(path))[2] == f"sound 1 {many} {many}\n"
-    return spent, float(python_spent), peak / 1024, int(python_peak) / 1024
+        assert told(program, "check", path) == f"sound 1 {many} {many}\n"
+    return spent, float(python_spent), peak, int(python_peak) / 1024
 
 
 def main(program):

@@ -9,7 +9,6 @@ how many rounds there are (3), each side in turn in each.
 
 import os
 import pathlib
-import subprocess
 import sys
 import tempfile
 import time
@@ -18,8 +17,12 @@ sys.dont_write_bytecode = True
 import figures  # noqa: E402, without leaving a folder of its bytecode here
 import pipe  # noqa: E402
 import same  # noqa: E402
+from sides import told  # noqa: E402
 
-FIND_DEAD = "SELECT token FROM entries2 WHERE merchant = ?1 AND card IS NOT NULL AND (revoked IS NOT NULL OR expires <= ?2) ORDER BY token LIMIT ?3"
+FIND_DEAD = (
+    "SELECT token FROM entries2 WHERE merchant = ?1 AND card IS NOT NULL"
+    " AND (revoked IS NOT NULL OR expires <= ?2) ORDER BY token LIMIT ?3"
+)
 NUMBER_OF = "SELECT number FROM cards2 WHERE id = ?1"
 USES = "SELECT uses FROM cards2 WHERE id = ?1"
 LIST = 1000
@@ -31,13 +34,9 @@ BORN_DEAD, BORN_LIVE = 1000, 1050
 NOW = BORN_DEAD + LIFE
 
 
-def told(program, *words):
-    """What the program says on standard output."""
-    return subprocess.run([program, *words], stdout=subprocess.PIPE, check=True).stdout.decode()
-
-
 def rows_of(dead):
-    """The rows of a merchant's entries, every other one dead, all of the card with the id 1, and of their records."""
+    """The rows of a merchant's entries, every other one dead, all of the card with the id 1, and of their
+    records."""
     for number in range(1, 2 * dead + 1):
         token, birth = same.token_for(number), BORN_DEAD if number % 2 else BORN_LIVE
         entry = (same.MERCHANT, token, 1, 1, birth, birth + LIFE, None)
@@ -140,7 +139,8 @@ def print_line(dead, rounds):
     listing = [100 * lists / spent for _, spent, lists, _, _ in rounds]
     disk = [syncs for _, _, _, _, syncs in rounds]
     openings = [opening for _, _, _, opening, _ in rounds]
-    cells = [figures.middle(ours), figures.middle(theirs), figures.middle(ratios, 2), figures.middle(listing, 1)]
+    cells = [figures.middle(ours), figures.middle(theirs), figures.middle(ratios, 2)]
+    cells.append(figures.middle(listing, 1))
     cells += [figures.middle(disk), figures.middle(openings, 2)]
     print(f"| {dead} of {2 * dead} | {' | '.join(cells)} |", flush=True)
 
