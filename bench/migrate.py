@@ -101,7 +101,8 @@ def move(path):
 
 
 def time_round(program, base, folder, many):
-    """Seconds and peaks of both sides, each on a copy of the file, which the program finds sound afterwards."""
+    """Seconds and peaks of both sides, each on a copy of the file; the program finds both copies sound
+    afterwards."""
     ours, theirs = folder / "ours.db", folder / "theirs.db"
     for path in (ours, theirs):
         for old in folder.glob(path.name + "*"):
