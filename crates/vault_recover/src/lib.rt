@@ -2,6 +2,7 @@
 #![tactic(auto)]
 
 mod apart;
+mod cached;
 pub mod check;
 mod columns;
 pub mod fault;

@@ -17,6 +17,7 @@ ghost use Rattle.vault_recover.specs.Crashed.{Keeps, KeepsEither, KeepsFirst};
 ghost use Rattle.vault_recover.specs.Crashed.{Reopens, ReopensEither, ReopensFirst};
 ghost use Rattle.vault_sql.specs.Holds.{AreOurs, Holds, LeavesEither, LeavesFirst};
 
+use crate::cached::keep_both_in_pages;
 use crate::options::options_for;
 use sqlite::{Connection, FileFrom, FileStore, Files, Options, Start};
 use sqlite_disk::Disk;
@@ -89,6 +90,8 @@ fn connect<S: Start>(
     let Ok(files) = sqlite_std_file::open(rt, path, start) else {
         return None;
     };
+    // Whether this is done changes speed alone: what can't be read the database tells itself.
+    let _kept = keep_both_in_pages(rt, path);
     match Connection::open_files_with(rt.alloc(), files, options, false) {
         Ok(mut opened) => {
             opened.set_clock(rt);
