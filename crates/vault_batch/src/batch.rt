@@ -179,6 +179,3 @@ pub fn batch<R: Read, W: Write, T: Tables, S: Source>(
         Err(fault) => Err(fault),
     }
 }
-
-#[cfg(test)]
-mod tests;

@@ -5,5 +5,3 @@ pub mod lock;
 pub mod make;
 mod names;
 pub mod page;
-#[cfg(test)]
-mod tests;

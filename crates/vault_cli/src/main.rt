@@ -1,16 +1,9 @@
 //! The program `vault`: tokens in place of card numbers.
 #![tactic(auto)]
 
-mod asker;
-mod commands;
-pub mod ending;
-mod on_file;
-mod report;
-pub mod run;
-
-use run::{no_words, run};
 use std::process::ExitCode;
 use std::{env, io};
+use vault_app::run::{no_words, run};
 use vault_wire::watched::Watched;
 
 /// The words that the program was started with.

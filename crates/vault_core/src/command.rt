@@ -86,7 +86,7 @@ pub enum Command {
 }
 
 /// The parts of a Tokenize.
-#[derive(Clone, Copy, Debug)]
+#[derive(Clone, Copy)]
 pub struct TokenRequest {
     pub caller: Caller,
     pub merchant: MerchantId,
@@ -98,7 +98,7 @@ pub struct TokenRequest {
 }
 
 /// The parts of a command on one token, with the right that it asks for.
-#[derive(Clone, Copy, Debug)]
+#[derive(Clone, Copy)]
 pub struct TokenCommand {
     pub caller: Caller,
     pub merchant: MerchantId,

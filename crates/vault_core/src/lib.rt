@@ -14,7 +14,5 @@ pub mod request;
 pub mod right;
 pub mod row;
 pub mod source;
-#[cfg(test)]
-mod tests;
 pub mod usage;
 pub mod window;

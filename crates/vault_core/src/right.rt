@@ -22,14 +22,20 @@ impl Right {
         ensures word { IfSome result (λ right. text.now ≡ right_word right) }
         ensures none { IfNone result ((right : Right) → ¬ (text.now ≡ right_word right)) }
     {
-        match text {
-            b"tokenize" => Some(Right::Tokenize),
-            b"detokenize" => Some(Right::Detokenize),
-            b"view" => Some(Right::View),
-            b"revoke" => Some(Right::Revoke),
-            b"purge" => Some(Right::Purge),
-            b"audit" => Some(Right::Audit),
-            _ => None,
+        if text == b"tokenize".as_slice() {
+            Some(Right::Tokenize)
+        } else if text == b"detokenize".as_slice() {
+            Some(Right::Detokenize)
+        } else if text == b"view".as_slice() {
+            Some(Right::View)
+        } else if text == b"revoke".as_slice() {
+            Some(Right::Revoke)
+        } else if text == b"purge".as_slice() {
+            Some(Right::Purge)
+        } else if text == b"audit".as_slice() {
+            Some(Right::Audit)
+        } else {
+            None
         }
     }
 

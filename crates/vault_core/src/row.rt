@@ -36,7 +36,7 @@ pub struct Entry {
 }
 
 /// What became of an entry by a moment.
-#[derive(Clone, Copy, Debug, PartialEq, Eq)]
+#[derive(Clone, Copy, PartialEq, Eq)]
 pub enum EntryState {
     /// It has its number, and is live, revoked or expired.
     Kept { number: Pan, state: State },

@@ -47,7 +47,7 @@ pub trait Source {
 }
 
 /// Gives one moment and one set of digits a number of times.
-#[derive(Clone, Copy, Debug)]
+#[derive(Clone, Copy)]
 pub struct FixedSource {
     now: Moment,
     digits: Digits,

@@ -36,10 +36,12 @@ impl Use {
         ensures word { IfOk result (λ usage. text.now ≡ use_word usage) }
         ensures none { OnErr result ((usage : Use) → ¬ (text.now ≡ use_word usage)) }
     {
-        match text {
-            b"single" => Ok(Use::Single),
-            b"multi" => Ok(Use::Multi),
-            _ => Err(BadUse),
+        if text == b"single".as_slice() {
+            Ok(Use::Single)
+        } else if text == b"multi".as_slice() {
+            Ok(Use::Multi)
+        } else {
+            Err(BadUse)
         }
     }
 

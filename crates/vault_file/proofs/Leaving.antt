@@ -15,8 +15,8 @@ use Rattle.vault_core.specs.Vault.{Vault, empty_vault}
 use Rattle.vault_file.specs.Found.{LeavesFrom}
 use Rattle.vault_recover.specs.Crashed.{AreBlank, HoldsEither, HoldsFirst, IsBlank, IsOpenOf}
 use Rattle.vault_recover.specs.Crashed.{Keeps, KeepsEither, KeepsFirst}
-use Rattle.vault_recover.specs.Opened.{LeavesFound}
-use Rattle.vault_sql.specs.Holds.{Holds, LeavesEither, LeavesFirst}
+use Rattle.vault_verdict.specs.Opened.{LeavesFound}
+use Rattle.vault_schema.specs.Holds.{Holds, LeavesEither, LeavesFirst}
 
 -- what leaves one vault leaves one of two
 first_of : (s : State) (V W : Vault) → LeavesEither s V V → LeavesEither s V W

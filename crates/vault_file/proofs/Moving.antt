@@ -22,11 +22,11 @@ use Rattle.vault_migrate.specs.Moved.{IsMovable, LeavesOlder}
 use Rattle.vault_migrate.specs.Older.{HoldsOlder, LeavesStep}
 use Rattle.vault_migrate.specs.Reopened.{KeepsOlder}
 use Rattle.vault_recover.specs.Crashed.{AreBlank, HoldsFirst, IsOpenOf, Keeps, KeepsFirst}
-use Rattle.vault_recover.specs.Opened.{HoldsSound, IsNoRefusal}
-use Rattle.vault_recover.specs.declared.fault.OpenFault.{OpenFault}
-use Rattle.vault_recover.specs.declared.fault.OpenFault.TheVariants.{Store}
-use Rattle.vault_sql.specs.Holds.{Holds}
-use Rattle.vault_sql.specs.Making.{IsReady}
+use Rattle.vault_verdict.specs.Opened.{HoldsSound, IsNoRefusal}
+use Rattle.vault_verdict.specs.declared.fault.OpenFault.{OpenFault}
+use Rattle.vault_verdict.specs.declared.fault.OpenFault.TheVariants.{Store}
+use Rattle.vault_schema.specs.Holds.{Holds}
+use Rattle.vault_schema.specs.Making.{IsReady}
 
 module _ {D : Type 0} {g : Ghosts D} (image : Image) (first last : Held (FileStore D g))
     (found : HasCleanDisk (file_state first) → IsOpenOf image first)

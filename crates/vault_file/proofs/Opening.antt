@@ -18,13 +18,13 @@ use Rattle.vault_file.specs.declared.fault.NotOpened.{NotOpened}
 use Rattle.vault_file.specs.declared.fault.NotOpened.TheVariants.{Refused, Fault}
 use Rattle.vault_recover.specs.Crashed.{AreBlank, HoldsEither, HoldsFirst, IsOpenOf}
 use Rattle.vault_recover.specs.Crashed.{Keeps, KeepsEither, KeepsFirst}
-use Rattle.vault_recover.specs.Opened.{IsFit, IsNoRefusal, Opens, StandsSound}
-use Rattle.vault_recover.specs.declared.fault.OpenFault.{OpenFault}
-use Rattle.vault_recover.specs.declared.fault.OpenFault.TheVariants.{WrongSchema, Damaged, Memory, Store}
-use Rattle.vault_recover.proofs.Judged.{ours_of}
-use Rattle.vault_sql.specs.Holds.{Holds}
+use Rattle.vault_verdict.specs.Opened.{IsFit, IsNoRefusal, Opens, StandsSound}
+use Rattle.vault_verdict.specs.declared.fault.OpenFault.{OpenFault}
+use Rattle.vault_verdict.specs.declared.fault.OpenFault.TheVariants.{WrongSchema, Damaged, Memory, Store}
+use Rattle.vault_verdict.proofs.Judged.{ours_of}
+use Rattle.vault_schema.specs.Holds.{Holds}
 use Rattle.sql_maps.specs.Schema.{no_schema}
-use Rattle.vault_sql.specs.Stands.{Stands}
+use Rattle.vault_schema.specs.Stands.{Stands}
 
 -- what is there isn't missing
 pub there : {X : Type 0} (x : X) → Some x ≡ None → ⊥

@@ -14,10 +14,10 @@ use Rattle.vault_file.specs.Faults.{number_of}
 use Rattle.vault_file.specs.declared.fault.NotOpened.{NotOpened}
 use Rattle.vault_recover.specs.Crashed.{AreBlank, HoldsEither, IsOpenOf}
 use Rattle.vault_recover.specs.Crashed.{Keeps, KeepsEither, KeepsFirst, MayFind}
-use Rattle.vault_recover.specs.Opened.{IsSoundOf, Opens}
-use Rattle.vault_recover.specs.Sizes.{sizes_of}
-use Rattle.vault_recover.specs.declared.sizes.Sizes.{Sizes}
-use Rattle.vault_sql.specs.Holds.{Holds, LeavesEither, LeavesFirst}
+use Rattle.vault_verdict.specs.Opened.{IsSoundOf, Opens}
+use Rattle.vault_verdict.specs.Sizes.{sizes_of}
+use Rattle.vault_verdict.specs.declared.sizes.Sizes.{Sizes}
+use Rattle.vault_schema.specs.Holds.{Holds, LeavesEither, LeavesFirst}
 use Rattle.sql_maps.specs.Schema.{no_schema}
 
 -- no file's name: nothing at all, `:memory:`, and what begins with `file:`

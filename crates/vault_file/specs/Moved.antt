@@ -15,9 +15,9 @@ use Rattle.vault_migrate.specs.Moved.{LeavesOlder}
 use Rattle.vault_migrate.specs.Older.{LeavesStep}
 use Rattle.vault_migrate.specs.Reopened.{KeepsOlder, KeepsStep}
 use Rattle.vault_recover.specs.Crashed.{AreBlank, IsOpenOf, Keeps, KeepsFirst}
-use Rattle.vault_recover.specs.Opened.{HoldsSound}
-use Rattle.vault_recover.specs.declared.fault.OpenFault.TheVariants.{Store}
-use Rattle.vault_sql.specs.Holds.{Holds}
+use Rattle.vault_verdict.specs.Opened.{HoldsSound}
+use Rattle.vault_verdict.specs.declared.fault.OpenFault.TheVariants.{Store}
+use Rattle.vault_schema.specs.Holds.{Holds}
 
 module _ {D : Type 0} {g : Ghosts D} where
   -- A connection was opened over files with these bytes, and this one comes from moving what is there to the

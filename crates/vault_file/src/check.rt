@@ -7,17 +7,17 @@ ghost use Rattle.vault_core.specs.Sound.{Sound};
 ghost use Rattle.vault_core.specs.Vault.{Vault as Content};
 ghost use Rattle.vault_file.specs.Found.{HasSizes, HoldsSuch, IsNoPath, IsNoVerdict};
 ghost use Rattle.vault_recover.specs.Crashed.{Keeps};
-ghost use Rattle.vault_recover.specs.Opened.{IsLeastBroken, IsWrong};
-ghost use Rattle.vault_recover.specs.Reading.{IsFull};
-ghost use Rattle.vault_sql.specs.Holds.{Holds};
+ghost use Rattle.vault_verdict.specs.Opened.{IsLeastBroken, IsWrong};
+ghost use Rattle.vault_verdict.specs.Reading.{IsFull};
+ghost use Rattle.vault_schema.specs.Holds.{Holds};
 
 use crate::fault::NotOpened;
 use crate::make::open_private;
 use sqlite::{Connection, FileFrom, FileStore, Start, Unknown};
-use vault_recover::check::check;
-use vault_recover::fault::OpenFault;
+use vault_verdict::check::check;
+use vault_verdict::fault::OpenFault;
 use vault_recover::reopen::close;
-use vault_recover::sizes::Sizes;
+use vault_verdict::sizes::Sizes;
 
 /// Checks the file at a path whole, and says how much the vault in it holds. The connection is given back,
 /// and with a refusal where there is one. The vault is not written. A file that isn't there is made, as

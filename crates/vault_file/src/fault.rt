@@ -3,7 +3,7 @@ ghost use Rattle.std.specs.Prelude.{◌≡◌};
 ghost use Rattle.vault_file.specs.Faults.{detail_of, number_of};
 
 use std::fmt;
-use vault_recover::fault::OpenFault;
+use vault_verdict::fault::OpenFault;
 
 /// Why no vault is opened from the file at a path.
 #[derive(Clone, Copy, Debug, PartialEq, Eq, Drop)]

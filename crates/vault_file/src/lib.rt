@@ -6,5 +6,3 @@ pub mod fault;
 mod make;
 pub mod migrate;
 pub mod open;
-#[cfg(test)]
-mod tests;

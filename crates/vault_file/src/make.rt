@@ -8,7 +8,7 @@ ghost use Rattle.vault_core.specs.Vault.{Vault};
 ghost use Rattle.vault_file.specs.Found.{IsNoPath};
 ghost use Rattle.vault_recover.specs.Crashed.{AreBlank, HoldsEither, HoldsFirst, IsOpenOf};
 ghost use Rattle.vault_recover.specs.Crashed.{Keeps, KeepsEither, KeepsFirst};
-ghost use Rattle.vault_sql.specs.Holds.{Holds};
+ghost use Rattle.vault_schema.specs.Holds.{Holds};
 
 use sqlite::{Connection, FileFrom, FileStore, Start};
 use vault_blank::make::make_blank;

@@ -16,7 +16,7 @@ use crate::make::open_private;
 use sqlite::{Connection, FileFrom, FileStore, Start, Unknown};
 use vault_migrate::migrate::migrate;
 use vault_migrate::reopen::close_moved;
-use vault_recover::fault::OpenFault;
+use vault_verdict::fault::OpenFault;
 
 /// Moves the file at a path to the newest schema, and answers its version, 2. The connection is given back,
 /// and with a refusal where there is one. The file keeps its mode; one that isn't there is made, as

@@ -36,7 +36,7 @@ use vault_wire::send::send;
 use vault_wire::watched::Watched;
 
 /// What a message comes to.
-#[derive(Clone, Copy, Debug, Drop)]
+#[derive(Clone, Copy, Drop)]
 enum Outcome {
     /// The vault's reply to its command.
     Replied(Reply),

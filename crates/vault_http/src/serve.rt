@@ -192,6 +192,3 @@ pub fn serve<R: Read, W: Write, T: Tables, S: Source>(
     };
     serve_by(alloc, &routes, reader, writer, vault, source)
 }
-
-#[cfg(test)]
-mod tests;

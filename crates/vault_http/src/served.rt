@@ -3,7 +3,7 @@
 use vault_wire::fault::WireFault;
 
 /// How a connection ended that was served to its end.
-#[derive(Clone, Copy, PartialEq, Eq, Debug, Drop)]
+#[derive(Clone, Copy, PartialEq, Eq, Drop)]
 pub struct Served {
     /// How many messages were answered.
     pub messages: u64,

@@ -12,7 +12,7 @@ use vault_store::tables::Tables;
 use vault_store::vault::{Fault, Vault};
 
 /// What a vault replies to a command of the words.
-#[derive(Clone, Copy, Debug, PartialEq, Eq, Drop)]
+#[derive(Clone, Copy, PartialEq, Eq, Drop)]
 pub enum Verdict {
     /// It is done.
     Done,

@@ -22,7 +22,7 @@ const PAGE: usize = 1000;
 const MOST_PAGES: u64 = MOST_TOKENS + 1;
 
 /// How a sweep ends that isn't stopped.
-#[derive(Clone, Copy, Debug, PartialEq, Eq, Drop)]
+#[derive(Clone, Copy, PartialEq, Eq, Drop)]
 pub enum Swept {
     /// So many numbers were purged, and no dead token has its number.
     Purged(u64),
@@ -90,6 +90,3 @@ pub fn sweep<T: Tables>(vault: &mut Vault<T>, asker: &Asker, now: Moment) -> Res
     }
     Err(Fault::Store)
 }
-
-#[cfg(test)]
-mod tests;

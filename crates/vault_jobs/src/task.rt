@@ -34,7 +34,7 @@ use vault_store::vault::Vault;
 use vault_wire::watched::Watched;
 
 /// What is done with a vault.
-#[derive(Clone, Copy, Debug)]
+#[derive(Clone, Copy)]
 pub enum Task<'a> {
     /// Carries out one command.
     Change(Command),
@@ -51,7 +51,7 @@ pub enum Task<'a> {
 }
 
 /// How a task ends that isn't stopped.
-#[derive(Clone, Copy, Debug, PartialEq, Eq, Drop)]
+#[derive(Clone, Copy, PartialEq, Eq, Drop)]
 pub enum Outcome {
     /// It is done.
     Done,

@@ -26,7 +26,7 @@ use vault_store::vault::{Fault, Vault};
 use vault_wire::watched::Watched;
 
 /// What a trial is asked with.
-#[derive(Clone, Copy, Debug)]
+#[derive(Clone, Copy)]
 pub struct Trial {
     pub caller: Caller,
     pub merchant: MerchantId,
@@ -58,7 +58,7 @@ fn change(vault: &mut Vault<MemTables>, command: &Command) -> Result<(), AllocEr
 }
 
 /// The vault of a trial: its merchant is set and its caller gets all rights.
-fn trial_vault(alloc: Global, trial: &Trial) -> Result<Vault<MemTables>, AllocError>
+pub fn trial_vault(alloc: Global, trial: &Trial) -> Result<Vault<MemTables>, AllocError>
     requires { IsLife trial.now.life }
     ensures holds { IfOk result (λ vault. Contains IsHeld vault
         (trial_vault_lem trial.now.caller trial.now.merchant trial.now.life trial.now.made)) }
@@ -131,6 +131,3 @@ pub fn serve_trial<H: AllocGlobal + Clock + RandomSource, R: Read, W: Write>(
     let mut pairs = source(rt, trial.moment, trial.digits)?;
     pipe(alloc, input, output, &mut vault, &mut pairs)
 }
-
-#[cfg(test)]
-mod tests;

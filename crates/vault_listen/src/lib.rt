@@ -3,6 +3,6 @@
 
 pub mod connection;
 pub mod fault;
-mod linger;
+pub mod linger;
 pub mod refusal;
 pub mod service;

@@ -12,7 +12,7 @@ const PIECE: usize = 4096;
 const PIECES: usize = 16;
 
 /// Reads and throws away at most 16 pieces, up to the end of the input or to the reader's first error.
-fn discard<R: Read>(reader: &mut R)
+pub fn discard<R: Read>(reader: &mut R)
     ensures bounded { (bytes : List ℕ) × (length bytes ≤ 65536)
         × Consumes (R.remaining reader.old) (R.remaining reader.new) bytes }
 {
@@ -37,6 +37,3 @@ pub(crate) fn linger(stream: &TcpStream) {
         discard(&mut reader);
     }
 }
-
-#[cfg(test)]
-mod tests;

@@ -50,7 +50,7 @@ fn store_failed(ended: Result<Served, ServeFault>) -> bool
 }
 
 /// Lets reads and writes wait so long, and no longer.
-fn limit_waits(stream: &TcpStream, patience: Duration) -> io::Result<()> {
+pub fn limit_waits(stream: &TcpStream, patience: Duration) -> io::Result<()> {
     stream.set_read_timeout(Some(patience))?;
     stream.set_write_timeout(Some(patience))
 }
@@ -96,7 +96,7 @@ fn serve_stream<C: Clock, G: Rng, T: Tables>(
 }
 
 /// Serves connections as `serve_on` does, where a peer may be silent so long.
-fn serve_within<L: OpenListener<Stream = TcpStream>, C: Clock, G: Rng, T: Tables>(
+pub fn serve_within<L: OpenListener<Stream = TcpStream>, C: Clock, G: Rng, T: Tables>(
     alloc: Global,
     clock: &C,
     generator: &mut G,
@@ -170,6 +170,3 @@ pub fn serve_on<L: OpenListener<Stream = TcpStream>, C: Clock, G: Rng, T: Tables
         vault,
     )
 }
-
-#[cfg(test)]
-mod tests;

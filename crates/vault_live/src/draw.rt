@@ -25,6 +25,3 @@ pub fn drawn<G: Rng>(generator: &mut G) -> Digits {
         None => unreachable!(),
     }
 }
-
-#[cfg(test)]
-mod tests;

@@ -130,6 +130,3 @@ impl<'c, C: Clock, G: Rng> Source for LiveSource<'c, C, G> {
       λ all. (q m d (p m d f).0).1 ((p m d f).1 all),
     ) };
 }
-
-#[cfg(test)]
-mod tests;

@@ -15,9 +15,9 @@ use Rattle.vault_core.specs.Vault.{Vault, entry_at}
 use Rattle.vault_core.specs.declared.row.Entry.{Entry}
 use Rattle.vault_schema.proofs.Version2.Joining.{put_at, put_beside, is_at}
 use Rattle.vault_schema.specs.Version1.Claims.{Lookups}
-use Rattle.vault_sql.proofs.Calls.{makes_then}
-use Rattle.vault_sql.specs.Calls.{Makes}
-use Rattle.vault_sql.specs.declared.fault.StoreFault.{StoreFault}
+use Rattle.vault_rows.proofs.Calls.{makes_then}
+use Rattle.vault_rows.specs.Calls.{Makes}
+use Rattle.vault_rows.specs.declared.fault.StoreFault.{StoreFault}
 use Rattle.vault_migrate.specs.Older.{AreEntriesOf, with_all}
 
 -- one more of them

@@ -9,16 +9,16 @@ use Rattle.sql_maps.specs.States as maps
 use Rattle.vault_core.specs.Keys.{Bytes}
 use Rattle.vault_core.specs.Vault.{Vault, entry_at}
 use Rattle.vault_core.specs.declared.row.Entry.{Entry}
-use Rattle.vault_recover.proofs.InTree.{in_items, in_tree}
-use Rattle.vault_recover.specs.Raw.{old_entry_values}
-use Rattle.vault_recover.specs.Reading.{IsOldFull}
-use Rattle.vault_recover.specs.declared.replaced.OldEntry.{OldEntry}
+use Rattle.vault_verdict.proofs.InTree.{in_items, in_tree}
+use Rattle.vault_verdict.specs.Raw.{old_entry_values}
+use Rattle.vault_verdict.specs.Reading.{IsOldFull}
+use Rattle.vault_verdict.specs.declared.replaced.OldEntry.{OldEntry}
 use Rattle.vault_schema.proofs.Version1.AsClaims.{as_fields}
 use Rattle.vault_schema.proofs.Version1.Codes.{entry_codes}
 use Rattle.vault_schema.specs.Version1.Claims.{StandsFor, claims}
 use Rattle.vault_schema.specs.Version1.Rows.{entry_row}
 use Rattle.vault_schema.specs.Version1.Tables.{v1}
-use Rattle.vault_sql.specs.Stands.{lookups_of}
+use Rattle.vault_schema.specs.Stands.{lookups_of}
 use Rattle.vault_migrate.specs.Judged.{AreOlders}
 use Rattle.vault_migrate.specs.Made.{old_columns, typed_columns}
 use Rattle.vault_migrate.specs.Older.{AreEntriesOf}

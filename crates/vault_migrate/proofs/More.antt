@@ -7,8 +7,8 @@ use Rattle.std.specs.List.{cons_option, filter_map}
 use Rattle.sqlite.specs.Order.{Row}
 use Rattle.vault_core.specs.Keys.{Bytes}
 use Rattle.vault_core.specs.declared.row.Entry.{Entry}
-use Rattle.vault_recover.specs.Raw.{card_values}
-use Rattle.vault_recover.specs.declared.replaced.OldEntry.{OldEntry}
+use Rattle.vault_verdict.specs.Raw.{card_values}
+use Rattle.vault_verdict.specs.declared.replaced.OldEntry.{OldEntry}
 use Rattle.vault_rules.specs.declared.rows.RawCard.{RawCard}
 use Rattle.vault_migrate.specs.Made.{as_card, old_columns, typed_columns}
 

@@ -18,22 +18,22 @@ use Rattle.vault_migrate.specs.Judged.{AreOlders, IsOlds}
 use Rattle.vault_migrate.specs.Made.{old_columns, typed_columns}
 use Rattle.vault_migrate.specs.Moved.{IsMovable, LeavesOlder, StandsOld}
 use Rattle.vault_migrate.specs.Older.{AreEntriesOf, HoldsOlder, LeavesStep}
-use Rattle.vault_recover.proofs.Results.{if_err}
-use Rattle.vault_recover.proofs.Versioned.{has_version}
-use Rattle.vault_recover.specs.Opened.{IsFit, IsNoRefusal, LeavesFound}
-use Rattle.vault_recover.specs.Reading.{IsQuietWhere}
-use Rattle.vault_recover.specs.declared.fault.OpenFault.{OpenFault}
-use Rattle.vault_recover.specs.declared.replaced.OldEntry.{OldEntry}
+use Rattle.vault_verdict.proofs.Results.{if_err}
+use Rattle.vault_verdict.proofs.Versioned.{has_version}
+use Rattle.vault_verdict.specs.Opened.{IsFit, IsNoRefusal, LeavesFound}
+use Rattle.vault_verdict.specs.Reading.{IsQuietWhere}
+use Rattle.vault_verdict.specs.declared.fault.OpenFault.{OpenFault}
+use Rattle.vault_verdict.specs.declared.replaced.OldEntry.{OldEntry}
 use Rattle.vault_schema.specs.Version1.Claims.{claims}
 use Rattle.vault_schema.specs.Version1.Tables.{v1}
 use Rattle.vault_schema.specs.Versioned.{HasVersion}
-use Rattle.vault_sql.specs.Holds.{Holds}
-use Rattle.vault_sql.specs.Left.{left_after}
-use Rattle.vault_sql.specs.Schema.{vault_schema}
-use Rattle.vault_sql.specs.Stands.{lookups_of}
+use Rattle.vault_schema.specs.Holds.{Holds}
+use Rattle.vault_schema.specs.Left.{left_after}
+use Rattle.vault_schema.specs.Schema.{newest_schema}
+use Rattle.vault_schema.specs.Stands.{lookups_of}
 
 -- the schemas differ in how many tables they have
-one_length : v1 ≡ vault_schema → ⊥
+one_length : v1 ≡ newest_schema → ⊥
 one_length same = let many = ap (λ (s : Schema). length s.tables) same in omega (arith, many)
 
 no_length : v1 ≡ no_schema → ⊥

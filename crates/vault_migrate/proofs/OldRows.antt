@@ -15,11 +15,11 @@ use Rattle.sqlite_rules.specs.Lists.{Has}
 use Rattle.sqlite_value.proofs.OrderLemmas.{value_cmp_total}
 use Rattle.sql_maps.specs.Rows.{IsApart}
 use Rattle.vault_core.specs.Keys.{Bytes}
-use Rattle.vault_recover.proofs.InTree.{keys_by_rowid}
-use Rattle.vault_recover.proofs.Joining.{card_there}
-use Rattle.vault_recover.proofs.Pointers.{one_number, pointing_are}
-use Rattle.vault_recover.specs.Raw.{card_values, entry_values, int_value, old_entry_values}
-use Rattle.vault_recover.specs.declared.replaced.OldEntry.{OldEntry}
+use Rattle.vault_verdict.proofs.InTree.{keys_by_rowid}
+use Rattle.vault_verdict.proofs.Joining.{card_there}
+use Rattle.vault_verdict.proofs.Pointers.{one_number, pointing_are}
+use Rattle.vault_verdict.specs.Raw.{card_values, entry_values, int_value, old_entry_values}
+use Rattle.vault_verdict.specs.declared.replaced.OldEntry.{OldEntry}
 use Rattle.vault_rules.proofs.Keyed.{find-some, keys_once}
 use Rattle.vault_rules.proofs.Numbers.{int_same}
 use Rattle.vault_rules.specs.Lookups.{card_of, number_of, used_by}

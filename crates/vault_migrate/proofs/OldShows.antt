@@ -15,18 +15,18 @@ use Rattle.vault_core.specs.Numbers.{use_number}
 use Rattle.vault_core.specs.Sound.{Sound}
 use Rattle.vault_core.specs.Vault.{Vault, entry_at}
 use Rattle.vault_core.specs.declared.row.Entry.{Entry}
-use Rattle.vault_recover.proofs.FromStands.{AreShared, ArePairs, AreThere, shows_of, version_of}
-use Rattle.vault_recover.proofs.InTree.{in_items, in_tree}
-use Rattle.vault_recover.proofs.Permuted.{apart_permuted}
-use Rattle.vault_recover.proofs.Table.{Table, keys_apart}
-use Rattle.vault_recover.proofs.Tables.{counts_in, entry_back, merchants_in, records_in, rights_in, same_text}
-use Rattle.vault_recover.specs.Opened.{IsNoRefusal}
-use Rattle.vault_recover.specs.Raw.{count_values, int_value, maybe_text_value, merchant_values}
-use Rattle.vault_recover.specs.Raw.{old_entry_values, record_values, right_values}
-use Rattle.vault_recover.specs.Versions.{is_other, other_than}
-use Rattle.vault_recover.specs.declared.fault.OpenFault.{OpenFault}
-use Rattle.vault_recover.specs.declared.fault.OpenFault.TheVariants.{WrongSchema, Damaged}
-use Rattle.vault_recover.specs.declared.replaced.OldEntry.{OldEntry}
+use Rattle.vault_verdict.proofs.FromStands.{AreShared, ArePairs, AreThere, shows_of, version_of}
+use Rattle.vault_verdict.proofs.InTree.{in_items, in_tree}
+use Rattle.vault_verdict.proofs.Permuted.{apart_permuted}
+use Rattle.vault_verdict.proofs.Table.{Table, keys_apart}
+use Rattle.vault_verdict.proofs.Tables.{counts_in, entry_back, merchants_in, records_in, rights_in, same_text}
+use Rattle.vault_verdict.specs.Opened.{IsNoRefusal}
+use Rattle.vault_verdict.specs.Raw.{count_values, int_value, maybe_text_value, merchant_values}
+use Rattle.vault_verdict.specs.Raw.{old_entry_values, record_values, right_values}
+use Rattle.vault_verdict.specs.Versions.{is_other, other_than}
+use Rattle.vault_verdict.specs.declared.fault.OpenFault.{OpenFault}
+use Rattle.vault_verdict.specs.declared.fault.OpenFault.TheVariants.{WrongSchema, Damaged}
+use Rattle.vault_verdict.specs.declared.replaced.OldEntry.{OldEntry}
 use Rattle.vault_rules.proofs.AllKept.{all_kept}
 use Rattle.vault_rules.specs.Showing.{Shows, ShowsEntry}
 use Rattle.vault_rules.specs.VaultOf.{AreKeysApart, HasKeysApart}
@@ -37,7 +37,7 @@ use Rattle.vault_schema.proofs.Version1.Codes.{entry_table}
 use Rattle.vault_schema.specs.Version1.Claims.{StandsFor, claims}
 use Rattle.vault_schema.specs.Version1.Rows.{entry_row, number_or_null, text_or_null}
 use Rattle.vault_schema.specs.Version1.Tables.{v1}
-use Rattle.vault_sql.specs.Stands.{lookups_of}
+use Rattle.vault_schema.specs.Stands.{lookups_of}
 use Rattle.vault_migrate.proofs.Entries.{old_full}
 use Rattle.vault_migrate.proofs.OldRows.{card_made, cards_shown, entries_apart, ids_apart}
 use Rattle.vault_migrate.proofs.OldRows.{number_made, old_key, old_of, row_of}

@@ -16,14 +16,14 @@ use Rattle.sql_maps.specs.Rows.{IsApart}
 use Rattle.sql_maps.specs.Schema.{table_of}
 use Rattle.vault_core.specs.Keys.{Bytes}
 use Rattle.vault_core.specs.declared.row.Entry.{Entry}
-use Rattle.vault_recover.proofs.Judged.{version_is}
-use Rattle.vault_recover.proofs.Stood.{counts_stand, merchants_stand, records_stand, rights_stand}
-use Rattle.vault_recover.proofs.Table.{stand_for}
-use Rattle.vault_recover.proofs.VersionRows.{version_in}
-use Rattle.vault_recover.specs.Apart.{AreApart}
-use Rattle.vault_recover.specs.Raw.{int_value, maybe_text_value, old_entry_values}
-use Rattle.vault_recover.specs.Versions.{other_than}
-use Rattle.vault_recover.specs.declared.replaced.OldEntry.{OldEntry}
+use Rattle.vault_verdict.proofs.Judged.{version_is}
+use Rattle.vault_verdict.proofs.Stood.{counts_stand, merchants_stand, records_stand, rights_stand}
+use Rattle.vault_verdict.proofs.Table.{stand_for}
+use Rattle.vault_verdict.proofs.VersionRows.{version_in}
+use Rattle.vault_verdict.specs.Apart.{AreApart}
+use Rattle.vault_verdict.specs.Raw.{int_value, maybe_text_value, old_entry_values}
+use Rattle.vault_verdict.specs.Versions.{other_than}
+use Rattle.vault_verdict.specs.declared.replaced.OldEntry.{OldEntry}
 use Rattle.vault_rules.proofs.RowsShow.{rows_show}
 use Rattle.vault_rules.proofs.VaultSound.{vault_is_sound}
 use Rattle.vault_rules.specs.Rules.{keeps}
@@ -34,7 +34,7 @@ use Rattle.vault_schema.proofs.Version1.AsClaims.{as_claims}
 use Rattle.vault_schema.specs.Version1.Claims.{StandsFor}
 use Rattle.vault_schema.specs.Version1.Rows.{entry_row, number_or_null, text_or_null}
 use Rattle.vault_schema.specs.Version1.Tables.{v1, vault}
-use Rattle.vault_sql.specs.Stands.{lookups_of}
+use Rattle.vault_schema.specs.Stands.{lookups_of}
 use Rattle.vault_migrate.proofs.OldRows.{number_made, old_key, old_of, row_of}
 use Rattle.vault_migrate.proofs.OldShows.{keys_in, old_table}
 use Rattle.vault_migrate.specs.Judged.{AreOldRaws}

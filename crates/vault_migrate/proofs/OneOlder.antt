@@ -3,10 +3,10 @@ use Rattle.std.proofs.Common.{◌≡◌}
 use Rattle.sqlite.specs.Tree.{Trees}
 use Rattle.vault_core.specs.Vault.{Vault}
 use Rattle.vault_migrate.specs.Older.{StandOlder}
-use Rattle.vault_recover.proofs.OneVault.{same_lookups, same_vault}
+use Rattle.vault_verdict.proofs.OneVault.{same_lookups, same_vault}
 use Rattle.vault_schema.proofs.Version1.AsClaims.{as_fields}
 use Rattle.vault_schema.proofs.Version1.Codes as codes
-use Rattle.vault_sql.specs.Stands.{lookups_of}
+use Rattle.vault_schema.specs.Stands.{lookups_of}
 
 pub one_older : (db : Trees) (V W : Vault) → StandOlder db V → StandOlder db W → V ≡ W
 one_older db V W one other =

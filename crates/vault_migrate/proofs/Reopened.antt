@@ -14,14 +14,14 @@ use Rattle.vault_migrate.specs.Reopened.{HoldsStep, KeepsOlder, KeepsStep, Reope
 use Rattle.vault_recover.proofs.Reopened.{fine, held_again, now_trees, one_schema, reopens_such}
 use Rattle.vault_recover.specs.Crashed.{IsOpenOf}
 use Rattle.vault_schema.specs.Version1.Tables.{v1}
-use Rattle.vault_sql.specs.Schema.{vault_schema}
+use Rattle.vault_schema.specs.Schema.{newest_schema}
 
 -- where each state that a crash leaves stands for the vault, in schema 1 or in this one
 pub reopens_step : {D : Type 0} {g : Ghosts D} (it : FileStore D g) → IsTrue (files.view it).is_numbered
     → (V : Vault) → ((db : Trees) → files.recovers it db → AreStep V db) → ReopensStep it V
 reopens_step it numbered V each =
     reopens_such it numbered (AreStep V)
-    (λ db was. elim (each db was) [ inl older ↦ (v1, older.sound) | inr ours ↦ (vault_schema, ours.sound) ])
+    (λ db was. elim (each db was) [ inl older ↦ (v1, older.sound) | inr ours ↦ (newest_schema, ours.sound) ])
     each
 
 module _ {D : Type 0} {g : Ghosts D} (image : Image) (c : Held (FileStore D g)) (is : IsOpenOf image c)

@@ -33,8 +33,8 @@ use Rattle.vault_schema.specs.declared.v2.Pointing.{Pointing}
 use Rattle.vault_schema.specs.declared.v2.TheConstants.{EMPTY_ENTRIES, SET_VERSION}
 use Rattle.vault_schema.proofs.Version2.Making.{all_made, card_index, with_entries}
 use Rattle.vault_schema.proofs.Version2.Texts.{empty_entries_is, set_version_is}
-use Rattle.vault_sql.specs.Calls.{IsWithin}
-use Rattle.vault_sql.specs.Stands.{lookups_of, tables_of}
+use Rattle.vault_rows.specs.Calls.{IsWithin}
+use Rattle.vault_schema.specs.Stands.{lookups_of, tables_of}
 use Rattle.sqlite_catalog.specs.Listing.{IsSound}
 use Rattle.vault_core.specs.Vault.{Vault}
 use Rattle.vault_migrate.specs.Older.{AreOlder, HoldsOlder, without_entries}

@@ -3,12 +3,12 @@ use Rattle.std.specs.Prelude.{◌≡◌, ℕ, ℤ, pos, List, map, Some, None}
 use Rattle.std.specs.List.Sorted.{IsPermutation}
 use Rattle.sqlite.specs.Effect.{Database, IsDatabase}
 use Rattle.sqlite.specs.Tree.{Trees}
-use Rattle.vault_recover.specs.Opened.{AreVersions}
-use Rattle.vault_recover.specs.Raw.{merchant_values, count_values, old_entry_values, record_values}
-use Rattle.vault_recover.specs.Raw.{right_values}
-use Rattle.vault_recover.specs.Reading.{AreTable, IsAny, IsOldFull}
-use Rattle.vault_recover.specs.Versions.{other_than}
-use Rattle.vault_recover.specs.declared.replaced.OldEntry.{OldEntry}
+use Rattle.vault_verdict.specs.Opened.{AreVersions}
+use Rattle.vault_verdict.specs.Raw.{merchant_values, count_values, old_entry_values, record_values}
+use Rattle.vault_verdict.specs.Raw.{right_values}
+use Rattle.vault_verdict.specs.Reading.{AreTable, IsAny, IsOldFull}
+use Rattle.vault_verdict.specs.Versions.{other_than}
+use Rattle.vault_verdict.specs.declared.replaced.OldEntry.{OldEntry}
 use Rattle.vault_rules.specs.Rules.{IsLeastBroken}
 use Rattle.vault_rules.specs.declared.rows.RawVersion.{RawVersion}
 use Rattle.vault_rules.specs.declared.rows.Rows.{Rows}

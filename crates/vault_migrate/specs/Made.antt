@@ -5,8 +5,8 @@ use Rattle.sqlite.specs.Order.{Row}
 use Rattle.sqlite.specs.declared.types.Value.TheVariants.{Int, Text}
 use Rattle.vault_core.specs.Keys.{Bytes}
 use Rattle.vault_core.specs.declared.row.Entry.{Entry}
-use Rattle.vault_recover.specs.Raw.{card_values, entry_values, int_value, old_entry_values}
-use Rattle.vault_recover.specs.declared.replaced.OldEntry.{OldEntry}
+use Rattle.vault_verdict.specs.Raw.{card_values, entry_values, int_value, old_entry_values}
+use Rattle.vault_verdict.specs.declared.replaced.OldEntry.{OldEntry}
 use Rattle.vault_rules.specs.declared.rows.Rows.{Rows}
 use Rattle.vault_schema.specs.Version1.Rows.{entry_row}
 

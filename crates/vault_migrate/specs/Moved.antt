@@ -6,11 +6,11 @@ use Rattle.sqlite.specs.Tree.{Trees}
 use Rattle.sql_maps.specs.States as maps
 use Rattle.vault_core.specs.Sound.{Sound}
 use Rattle.vault_core.specs.Vault.{Vault}
-use Rattle.vault_recover.specs.Opened.{IsFit, IsLeastBroken, IsWrong, LeavesFound}
-use Rattle.vault_recover.specs.Reading.{IsFull}
+use Rattle.vault_verdict.specs.Opened.{IsFit, IsLeastBroken, IsWrong, LeavesFound}
+use Rattle.vault_verdict.specs.Reading.{IsFull}
 use Rattle.vault_schema.specs.Version1.Claims.{claims}
 use Rattle.vault_schema.specs.Version1.Tables.{v1}
-use Rattle.vault_sql.specs.Stands.{lookups_of}
+use Rattle.vault_schema.specs.Stands.{lookups_of}
 use Rattle.vault_migrate.specs.Judged.{IsOldBroken, IsOldVersion, IsOlds}
 use Rattle.vault_migrate.specs.Older.{AreOlder, HoldsOlder, LeavesStep}
 

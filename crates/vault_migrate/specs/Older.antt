@@ -11,8 +11,8 @@ use Rattle.vault_core.specs.Vault.{Vault, entry_at}
 use Rattle.vault_core.specs.declared.row.Entry.{Entry}
 use Rattle.vault_schema.specs.Version1.Claims.{Lookups, claims}
 use Rattle.vault_schema.specs.Version1.Tables.{v1}
-use Rattle.vault_sql.specs.Holds.{AreOurs}
-use Rattle.vault_sql.specs.Stands.{lookups_of}
+use Rattle.vault_schema.specs.Holds.{AreOurs}
+use Rattle.vault_schema.specs.Stands.{lookups_of}
 
 -- the connection is outside a transaction, and what it sees stands for the vault in schema 1
 abbrev pub HoldsOlder : State → Vault → Type 0

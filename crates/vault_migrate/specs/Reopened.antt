@@ -8,7 +8,7 @@ use Rattle.sqlite_wal.specs.Recovery.{Image}
 use Rattle.vault_core.specs.Vault.{Vault}
 use Rattle.vault_migrate.specs.Older.{AreOlder, AreStep, HoldsOlder}
 use Rattle.vault_recover.specs.Crashed.{KeepsSuch, MayFind, ReopensSuch}
-use Rattle.vault_sql.specs.Holds.{Holds}
+use Rattle.vault_schema.specs.Holds.{Holds}
 
 -- whoever opens files with these bytes, on whatever disk, finds the vault in schema 1
 abbrev pub KeepsOlder : Image → Vault → Type 0

@@ -2,12 +2,12 @@
 ghost use Rattle.std.specs.Prelude.{◌≡◌, IfOk, map, option_map};
 ghost use Rattle.std.specs.List.{filter_map};
 ghost use Rattle.vault_migrate.specs.Made.{as_card, as_entry, own_card};
-ghost use Rattle.vault_recover.specs.Raw.{card_values, entry_values};
+ghost use Rattle.vault_verdict.specs.Raw.{card_values, entry_values};
 
 use std::alloc::{AllocError, Global};
-use vault_recover::fault::ReadFault;
-use vault_recover::replaced::OldEntry;
 use vault_rules::rows::{RawCard, RawEntry};
+use vault_verdict::fault::ReadFault;
+use vault_verdict::replaced::OldEntry;
 
 /// The id of an entry's own card, where it has a number.
 fn own_card(older: &OldEntry) -> Option<i64>

@@ -9,23 +9,23 @@ ghost use Rattle.vault_migrate.specs.Judged.{IsOldBroken, IsOldVersion, IsOlds};
 ghost use Rattle.vault_migrate.specs.Moved.{FindsBroken, FindsVersion, IsMovable, LeavesMoved};
 ghost use Rattle.vault_migrate.specs.Moved.{LeavesOlder};
 ghost use Rattle.vault_migrate.specs.Older.{HoldsOlder, LeavesStep};
-ghost use Rattle.vault_recover.specs.Opened.{HoldsSound, IsFit, IsLeastBroken, IsNoRefusal};
-ghost use Rattle.vault_recover.specs.Opened.{IsWrong, LeavesFound};
-ghost use Rattle.vault_recover.specs.Reading.{IsFull};
+ghost use Rattle.vault_verdict.specs.Opened.{HoldsSound, IsFit, IsLeastBroken, IsNoRefusal};
+ghost use Rattle.vault_verdict.specs.Opened.{IsWrong, LeavesFound};
+ghost use Rattle.vault_verdict.specs.Reading.{IsFull};
 ghost use Rattle.vault_schema.specs.Version1.Tables.{v1};
-ghost use Rattle.vault_sql.specs.Holds.{Holds, LeavesEither};
-ghost use Rattle.vault_sql.specs.Making.{IsReady};
-ghost use Rattle.vault_sql.specs.Schema.{vault_schema};
+ghost use Rattle.vault_schema.specs.Holds.{Holds, LeavesEither};
+ghost use Rattle.vault_schema.specs.Making.{IsReady};
+ghost use Rattle.vault_schema.specs.Schema.{newest_schema};
 
 use crate::typed::typed_entries;
 use crate::upgrade::upgrade;
 use crate::verdict::old_entries;
 use sqlite::{Alter, Connection};
 use std::alloc::Global;
-use vault_recover::check::check;
-use vault_recover::fault::OpenFault;
 use vault_schema::v1::shape::is_v1;
 use vault_sql::schema::{SchemaFault, make_schema};
+use vault_verdict::check::check;
+use vault_verdict::fault::OpenFault;
 
 /// The version of the newest schema.
 const VERSION: i64 = 2;
@@ -72,7 +72,7 @@ fn make_or_check<S: Alter>(alloc: Global, conn: &mut Connection<S>) -> Result<i6
     ensures kept { HasCleanDisk (state S.Store conn.new) → OnOk result
         ((V : Vault) → Holds (state S.Store conn.old) V → Holds (state S.Store conn.new) V) }
     ensures same { HasCleanDisk (state S.Store conn.new) → OnOk result (
-        (state S.Store conn.old).now.schema ≡ vault_schema
+        (state S.Store conn.old).now.schema ≡ newest_schema
         → IsUnchanged (state S.Store conn.old) (state S.Store conn.new)) }
     ensures blank { HasCleanDisk (state S.Store conn.new) → OnOk result (IsReady (state S.Store conn.old)
         → (state S.Store conn.old).now.schema ≡ no_schema → Holds (state S.Store conn.new) empty_vault) }
@@ -123,7 +123,7 @@ pub fn migrate<S: Alter>(alloc: Global, conn: &mut Connection<S>) -> Result<i64,
     ensures kept { HasCleanDisk (state S.Store conn.new) → OnOk result
         ((V : Vault) → Holds (state S.Store conn.old) V → Holds (state S.Store conn.new) V) }
     ensures same { HasCleanDisk (state S.Store conn.new) → OnOk result (
-        (state S.Store conn.old).now.schema ≡ vault_schema
+        (state S.Store conn.old).now.schema ≡ newest_schema
         → IsUnchanged (state S.Store conn.old) (state S.Store conn.new)) }
     ensures blank { HasCleanDisk (state S.Store conn.new) → OnOk result (IsReady (state S.Store conn.old)
         → (state S.Store conn.old).now.schema ≡ no_schema → Holds (state S.Store conn.new) empty_vault) }

@@ -1,17 +1,17 @@
 //! The tables of schema 1, each read by one query.
-ghost use Rattle.vault_recover.specs.Raw.{merchant_values, count_values, old_entry_values, record_values};
-ghost use Rattle.vault_recover.specs.Raw.{right_values};
-ghost use Rattle.vault_recover.specs.Reading.{IsAny, IsOldFull, ReadsTable};
+ghost use Rattle.vault_verdict.specs.Raw.{merchant_values, count_values, old_entry_values, record_values};
+ghost use Rattle.vault_verdict.specs.Raw.{right_values};
+ghost use Rattle.vault_verdict.specs.Reading.{IsAny, IsOldFull, ReadsTable};
 ghost use Rattle.vault_schema.specs.declared.v1.TheConstants.{READ_COUNTS, READ_ENTRIES, READ_MERCHANTS};
 ghost use Rattle.vault_schema.specs.declared.v1.TheConstants.{READ_RECORDS, READ_RIGHTS};
 ghost use Rattle.vault_schema.specs.Version1.Tables.{v1};
 
 use sqlite::{Alter, Connection};
 use std::alloc::Global;
-use vault_recover::fault::ReadFault;
-use vault_recover::read;
-use vault_recover::replaced::OldEntry;
 use vault_rules::rows::{RawCount, RawMerchant, RawRecord, RawRight};
+use vault_verdict::fault::ReadFault;
+use vault_verdict::read;
+use vault_verdict::replaced::OldEntry;
 
 /// The rows of `merchants`.
 pub(crate) fn merchants<S: Alter>(

@@ -9,9 +9,9 @@ ghost use Rattle.vault_schema.specs.Version1.Tables.{v1};
 use crate::{made, read};
 use sqlite::{Alter, Connection};
 use std::alloc::Global;
-use vault_recover::fault::ReadFault;
-use vault_recover::replaced::OldEntry;
 use vault_rules::rows::{RawVersion, Rows};
+use vault_verdict::fault::ReadFault;
+use vault_verdict::replaced::OldEntry;
 
 /// The rows of `entries`, and with them the rows of all tables as those of schema 2, beside those of `vault`,
 /// which are given.

@@ -5,7 +5,7 @@ ghost use Rattle.std.specs.Prelude.{string_bytes};
 ghost use Rattle.vault_core.specs.Name.{IsName};
 ghost use Rattle.vault_core.specs.Numbers.{use_number};
 ghost use Rattle.vault_migrate.specs.Made.{old_columns, typed_columns};
-ghost use Rattle.vault_recover.specs.Raw.{int_value, maybe_text_value, old_entry_values};
+ghost use Rattle.vault_verdict.specs.Raw.{int_value, maybe_text_value, old_entry_values};
 ghost use Rattle.vault_pan.specs.CardText.{IsToken};
 ghost use Rattle.vault_schema.specs.Version1.Rows.{entry_columns, number_or_null, text_or_null};
 
@@ -16,8 +16,8 @@ use vault_core::row::Entry;
 use vault_core::usage::Use;
 use vault_pan::pan::Pan;
 use vault_pan::token::Token;
-use vault_recover::fault::ReadFault;
-use vault_recover::replaced::OldEntry;
+use vault_verdict::fault::ReadFault;
+use vault_verdict::replaced::OldEntry;
 
 /// The name of a merchant.
 fn merchant_of(text: &str) -> Result<MerchantId, ReadFault>

@@ -8,8 +8,8 @@ ghost use Rattle.sql_maps.specs.States.{Steps, Within};
 ghost use Rattle.vault_core.specs.Vault.{Vault};
 ghost use Rattle.vault_schema.specs.Version1.Claims.{claims};
 ghost use Rattle.vault_schema.specs.Version1.Tables.{v1};
-ghost use Rattle.vault_sql.specs.Calls.{IsWithin, Makes};
-ghost use Rattle.vault_sql.specs.Holds.{Holds};
+ghost use Rattle.vault_rows.specs.Calls.{IsWithin, Makes};
+ghost use Rattle.vault_schema.specs.Holds.{Holds};
 ghost use Rattle.vault_migrate.specs.Older.{AreEntriesOf, HoldsOlder, LeavesStep, with_all, without_entries};
 
 use sql_maps::run::step;
@@ -17,12 +17,12 @@ use sqlite::{Alter, Connection, Error, Transaction};
 use vault_core::name::MerchantId;
 use vault_core::row::Entry;
 use vault_pan::token::Token;
+use vault_rows::fault::StoreFault;
+use vault_rows::pointing::add_entry;
+use vault_rows::text::merchant_text;
 use vault_schema::v2::{
     CREATE_CARDS, CREATE_ENTRIES, CREATE_ENTRIES_CARD, EMPTY_ENTRIES, SET_VERSION,
 };
-use vault_sql::fault::StoreFault;
-use vault_sql::pointing::add_entry;
-use vault_sql::text::merchant_text;
 
 /// Makes the tables that come with this schema, takes the entries away and says this version.
 fn make_room<S: Alter>(tx: &mut Transaction<'_, S>) -> Result<(), Error>

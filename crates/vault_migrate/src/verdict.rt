@@ -4,16 +4,16 @@ ghost use Rattle.sqlite.specs.Held.{state};
 ghost use Rattle.sqlite.specs.State.{HasCleanDisk, IsUnchanged};
 ghost use Rattle.vault_migrate.specs.Judged.{AreOlders, IsOldBroken, IsOldVersion, IsOlds};
 ghost use Rattle.vault_migrate.specs.Moved.{StandsOld};
-ghost use Rattle.vault_recover.specs.Reading.{IsQuietWhere};
+ghost use Rattle.vault_verdict.specs.Reading.{IsQuietWhere};
 ghost use Rattle.vault_schema.specs.Version1.Tables.{v1};
 
 use crate::rows::rows;
 use sqlite::{Alter, Connection};
 use std::alloc::Global;
-use vault_recover::fault::OpenFault;
-use vault_recover::judge::{judge, other_than};
-use vault_recover::read::version_rows;
-use vault_recover::replaced::OldEntry;
+use vault_verdict::fault::OpenFault;
+use vault_verdict::judge::{judge, other_than};
+use vault_verdict::read::version_rows;
+use vault_verdict::replaced::OldEntry;
 
 /// The version of the schema that is read here.
 const VERSION: i64 = 1;

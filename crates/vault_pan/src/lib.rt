@@ -14,7 +14,5 @@ pub mod mask;
 pub mod pan;
 pub mod refusal;
 pub mod short;
-#[cfg(test)]
-mod tests;
 mod text;
 pub mod token;

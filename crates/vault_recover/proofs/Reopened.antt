@@ -17,9 +17,9 @@ use Rattle.sqlite_trees.specs.Props.{Trees-set}
 use Rattle.sqlite_trees.specs.Tree.{Trees}
 use Rattle.sqlite_wal.specs.Recovery.{Image}
 use Rattle.vault_core.specs.Vault.{Vault, empty_vault}
-use Rattle.vault_sql.specs.Holds.{AreEither, AreFirst, AreOurs, Holds}
-use Rattle.vault_sql.specs.Schema.{vault_schema}
-use Rattle.vault_sql.specs.Stands.{Stands}
+use Rattle.vault_schema.specs.Holds.{AreEither, AreFirst, AreOurs, Holds}
+use Rattle.vault_schema.specs.Schema.{newest_schema}
+use Rattle.vault_schema.specs.Stands.{Stands}
 use Rattle.vault_recover.specs.Crashed.{AreBlank, HoldsEither, HoldsFirst, IsBlank, IsOpenOf}
 use Rattle.vault_recover.specs.Crashed.{KeepsEither, KeepsFirst}
 use Rattle.vault_recover.specs.Crashed.{Reopens, ReopensEither, ReopensFirst, ReopensSuch}
@@ -31,7 +31,7 @@ module _ {D : Type 0} {g : Ghosts D} (it : FileStore D g)
       → ((db : Trees) → files.recovers it db → db ≡ t) → Reopens it V
   reopens V t ours alone left may found finds =
       let all : AreDatabases (files.recovers it) = λ db was.
-      (vault_schema, (subst (λ u. AreOurs u V) (sym (alone db was)) ours).sound) in
+      (newest_schema, (subst (λ u. AreOurs u V) (sym (alone db was)) ours).sound) in
       let same : found ≡ t = ∥∥₁_elim (opens_again it numbered all left may) (Trees-set _ _)
       (λ db. finds db.0 db.2 ∙ alone db.0 db.1) in
       subst (λ u. AreOurs u V) (sym same) ours
@@ -47,7 +47,7 @@ module _ {D : Type 0} {g : Ghosts D} (it : FileStore D g)
   pub reopens_either : (V W : Vault) → ((db : Trees) → files.recovers it db → AreEither V W db)
       → ReopensEither it V W
   reopens_either V W each = reopens_such (AreEither V W)
-      (λ db was. (vault_schema, elim (each db was) [ inl one ↦ one.sound | inr other ↦ other.sound ])) each
+      (λ db was. (newest_schema, elim (each db was) [ inl one ↦ one.sound | inr other ↦ other.sound ])) each
 
   -- what was there before there was a table, or that of the empty vault
   pub reopens_first : (before : Trees) → AreBlank before
@@ -57,7 +57,7 @@ module _ {D : Type 0} {g : Ghosts D} (it : FileStore D g)
     where
       sound : (db : Trees) → AreFirst before db → (schema : Schema) × IsSound schema db
       sound db (inl same) = (no_schema, subst AreBlank (sym same) blank)
-      sound db (inr empty) = (vault_schema, empty.sound)
+      sound db (inr empty) = (newest_schema, empty.sound)
 
 module _ {D : Type 0} {g : Ghosts D} (image : Image) (c : Held (FileStore D g)) (is : IsOpenOf image c)
     (unlimited : (file_state c).step_limit ≡ None) where
@@ -78,7 +78,7 @@ module _ {D : Type 0} {g : Ghosts D} (image : Image) (c : Held (FileStore D g)) 
     is_open = is.opened.0.is_open;
     autocommit = is.opened.0.autocommit;
     unlimited = unlimited;
-    schema = one_schema vault_schema ours.sound;
+    schema = one_schema newest_schema ours.sound;
     sound = fine;
     settled = is.opened.0.clean;
     stands = subst (λ (t : Trees). Stands t V) (sym now_trees) ours.stands;

@@ -13,8 +13,8 @@ use Rattle.sqlite_trees.specs.declared.store.Store as store
 use Rattle.sqlite_wal.specs.Recovery.{Image}
 use Rattle.sql_maps.specs.Schema.{no_schema}
 use Rattle.vault_core.specs.Vault.{Vault, empty_vault}
-use Rattle.vault_sql.specs.Holds.{AreEither, AreFirst, AreOurs, Holds}
-use Rattle.vault_sql.specs.Making.{IsReady}
+use Rattle.vault_schema.specs.Holds.{AreEither, AreFirst, AreOurs, Holds}
+use Rattle.vault_schema.specs.Making.{IsReady}
 use Rattle.vault_sql.specs.declared.tables.SqlTables.{SqlTables}
 
 -- an open of files with these bytes may find these trees: they are those of each database that the bytes hold

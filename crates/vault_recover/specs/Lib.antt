@@ -1,10 +1,1 @@
-pub mod Apart
 pub mod Crashed
-pub mod Faults
-pub mod Laws
-pub mod Names
-pub mod Opened
-pub mod Raw
-pub mod Reading
-pub mod Sizes
-pub mod Versions

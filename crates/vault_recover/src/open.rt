@@ -2,24 +2,24 @@
 ghost use Rattle.std.specs.Prelude.{◌≡◌, ℤ, ℕ, pos, false, None, Err, IfOk, IfErr, IsErrAnd, OnOk};
 ghost use Rattle.sqlite.specs.Held.{state};
 ghost use Rattle.sqlite.specs.State.{HasCleanDisk, IsUnchanged};
-ghost use Rattle.vault_recover.specs.Faults.{IsJudged};
-ghost use Rattle.vault_recover.specs.Names.{IsForeign, IsMixed, vault_names};
-ghost use Rattle.vault_recover.specs.Opened.{IsFit, IsLeastBroken, IsNoDamage, IsNoRefusal, IsWrong};
-ghost use Rattle.vault_recover.specs.Opened.{LeavesFound, Opens};
-ghost use Rattle.vault_recover.specs.Reading.{IsFull, IsOurs, IsQuietWhere, IsUnreadFile};
+ghost use Rattle.vault_verdict.specs.Faults.{IsJudged};
+ghost use Rattle.vault_verdict.specs.Names.{IsForeign, IsMixed, vault_names};
+ghost use Rattle.vault_verdict.specs.Opened.{IsFit, IsLeastBroken, IsNoDamage, IsNoRefusal, IsWrong};
+ghost use Rattle.vault_verdict.specs.Opened.{LeavesFound, Opens};
+ghost use Rattle.vault_verdict.specs.Reading.{IsFull, IsOurs, IsQuietWhere, IsUnreadFile};
 ghost use Rattle.sql_maps.specs.Schema.{no_schema};
 ghost use Rattle.vault_schema.specs.Versioned.{HasVersion};
 ghost use Rattle.vault_store.specs.Applied.{is_broken, tables_of};
 
-use crate::fault::OpenFault;
-use crate::names::{Holder, holder_in};
-use crate::verdict::verdict;
-use crate::version::version_or;
 use sqlite::{Alter, Connection};
 use std::alloc::Global;
 use vault_sql::schema::make_schema;
 use vault_sql::tables::SqlTables;
 use vault_store::vault::Vault;
+use vault_verdict::fault::OpenFault;
+use vault_verdict::names::{Holder, holder_in};
+use vault_verdict::verdict::verdict;
+use vault_verdict::version::version_or;
 
 /// Makes the tables of the empty vault where there is no table, and else checks those that are there.
 fn ready<S: Alter>(alloc: Global, conn: &mut Connection<S>) -> Result<(), OpenFault>

@@ -15,7 +15,7 @@ ghost use Rattle.vault_core.specs.Vault.{Vault};
 ghost use Rattle.vault_recover.specs.Crashed.{AreBlank, HoldsEither, HoldsFirst, IsOpenOf};
 ghost use Rattle.vault_recover.specs.Crashed.{Keeps, KeepsEither, KeepsFirst};
 ghost use Rattle.vault_recover.specs.Crashed.{Reopens, ReopensEither, ReopensFirst};
-ghost use Rattle.vault_sql.specs.Holds.{AreOurs, Holds, LeavesEither, LeavesFirst};
+ghost use Rattle.vault_schema.specs.Holds.{AreOurs, Holds, LeavesEither, LeavesFirst};
 
 use crate::cached::keep_both_in_pages;
 use crate::options::options_for;

@@ -7,5 +7,3 @@
 pub mod fault;
 mod items;
 pub mod read;
-#[cfg(test)]
-mod tests;

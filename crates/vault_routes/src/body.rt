@@ -77,34 +77,3 @@ impl TokenBody {
         })
     }
 }
-
-#[cfg(test)]
-mod tests {
-    use super::*;
-    use std::test::Fail;
-
-    #[test]
-    fn two_texts_are_read(rt: HostRuntime) -> Result<(), Fail> {
-        let bytes = b"{\"number\":\"4111111111111111\",\"use\":\"single\"}";
-        let body = TokenBody::read(rt.alloc(), bytes)?;
-        assert_eq!(rt; body.number.as_str(), "4111111111111111");
-        assert_eq!(rt; body.usage.as_str(), "single");
-        Ok(())
-    }
-
-    #[test]
-    fn all_else_is_refused(rt: HostRuntime) {
-        let bodies: [&[u8]; 6] = [
-            b"{\"number\":\"4111111111111111\",\"use\":\"single\",\"x\":\"y\"}",
-            b"{\"number\":4111111111111111,\"use\":\"single\"}",
-            b"{\"number\":\"4111111111111111\"}",
-            &[b'['; 200],
-            b"{\"number\":\"\xff\",\"use\":\"single\"}",
-            b"",
-        ];
-        for bytes in bodies {
-            let refused = matches!(TokenBody::read(rt.alloc(), bytes), Err(BodyFault::NotAsked));
-            assert!(rt; refused, "{bytes:?} is read");
-        }
-    }
-}

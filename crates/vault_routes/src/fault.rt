@@ -11,7 +11,7 @@ use vault_pan::pan::PanFault;
 use vault_pan::token::BadToken;
 
 /// Why a message gives no command.
-#[derive(Clone, Copy, Debug, Drop, PartialEq, Eq)]
+#[derive(Clone, Copy, Drop, PartialEq, Eq)]
 pub enum HttpFault {
     /// 56: the target names nothing.
     NoRoute,

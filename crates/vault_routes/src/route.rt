@@ -10,7 +10,7 @@ use matchit::{InsertError, Router};
 use std::alloc::{AllocError, Global};
 
 /// What a target names, with the texts that it names it by.
-#[derive(Clone, Copy, Debug, PartialEq, Eq)]
+#[derive(Clone, Copy, PartialEq, Eq)]
 pub struct Route<'t> {
     /// The place that the target's template stands for.
     pub place: Place,
@@ -77,49 +77,3 @@ impl Routes {
 pub fn names_its_target()
     ensures { NamesItsTarget }
 {}
-
-#[cfg(test)]
-mod tests {
-    use super::*;
-
-    #[test]
-    fn a_whole_target_has_a_route(rt: HostRuntime) {
-        let routes = Routes::new(rt.alloc()).expect(&rt, "memory");
-        for (target, place, token) in [
-            ("/v1/merchants/shop1/tokens", Place::Tokens, ""),
-            ("/v1/merchants/shop1/tokens/12", Place::Token, "12"),
-            ("/v1/merchants/shop1/tokens/12/number", Place::Number, "12"),
-            ("/v1/merchants/shop1/tokens/12/revoke", Place::Revoke, "12"),
-            ("/v1/merchants/shop1/tokens/number", Place::Token, "number"),
-            ("/v1/merchants/shop1/audit", Place::Audit, ""),
-        ] {
-            let route = routes.find(target).expect(&rt, "a route");
-            assert_eq!(rt; route.place, place);
-            assert_eq!(rt; route.merchant, "shop1");
-            assert_eq!(rt; route.token, token);
-        }
-        names_its_target();
-    }
-
-    #[test]
-    fn all_else_has_none(rt: HostRuntime) {
-        let routes = Routes::new(rt.alloc()).expect(&rt, "memory");
-        for target in [
-            "/v1/merchants//tokens",
-            "/v1/merchants/shop1",
-            "/v1/merchants/shop1/tokens?x=1",
-            "/v1/merchants/shop1/tokens/12?x=1",
-            "/v1/merchants/shop1/tokens/",
-            "/v1/merchants/shop1/tokens//number",
-            "/v1/merchants/shop1/tokens/12/",
-            "/v1/merchants/shop1/tokens/12/numbers",
-            "/v1/merchants/shop1/tokens/12/number/",
-            "/v1/merchants/shop1/audit/",
-            "/v1/merchants/a/b/tokens",
-            "/v2/merchants/shop1/tokens",
-            "*",
-        ] {
-            assert!(rt; routes.find(target).is_none(), "{target} has a route");
-        }
-    }
-}

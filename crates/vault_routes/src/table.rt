@@ -3,7 +3,7 @@ ghost use Rattle.std.specs.Prelude.{◌≡◌};
 ghost use Rattle.vault_routes.specs.Table.{action_at, methods_of, template_text};
 
 /// What a message asks for of one token.
-#[derive(Clone, Copy, Debug, PartialEq, Eq)]
+#[derive(Clone, Copy, PartialEq, Eq)]
 pub enum TokenAction {
     View,
     Detokenize,
@@ -12,7 +12,7 @@ pub enum TokenAction {
 }
 
 /// What a message asks for at a place.
-#[derive(Clone, Copy, Debug, PartialEq, Eq)]
+#[derive(Clone, Copy, PartialEq, Eq)]
 pub enum Action {
     Tokenize,
     OnToken(TokenAction),
@@ -20,7 +20,7 @@ pub enum Action {
 }
 
 /// What the template of a target stands for.
-#[derive(Clone, Copy, Debug, PartialEq, Eq)]
+#[derive(Clone, Copy, PartialEq, Eq)]
 pub enum Place {
     /// The tokens of a merchant.
     Tokens,

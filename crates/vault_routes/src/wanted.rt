@@ -170,6 +170,3 @@ pub fn command_of(
         }),
     }
 }
-
-#[cfg(test)]
-mod tests;

@@ -96,7 +96,9 @@ module _ (rows : Rows) (apart : HasKeysApart rows) (keep : (r : ℕ) → keeps r
                 let given = ap (λ (o : Option Merchant). option_map_or (λ (x : Merchant). x.given) o 0) at in
                 inr (merchant, at, inl (two, more 2 two ∙ given))
             | inr three ↦
-                let denied = ap (λ (o : Option Merchant). option_map_or (λ (x : Merchant). x.denied) o 0) at in
+                let denied =
+                ap (λ (o : Option Merchant). option_map_or (λ (x : Merchant). x.denied) o 0) at
+                in
                 inr (merchant, at, inr (three, more 3 three ∙ denied))
           ]
         ];

@@ -5,6 +5,4 @@ pub mod index;
 pub mod least;
 pub mod rows;
 pub mod rules;
-#[cfg(test)]
-mod tests;
 pub mod texts;

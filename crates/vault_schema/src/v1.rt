@@ -5,7 +5,7 @@ pub mod shape;
 use vault_core::moment::Moment;
 
 /// A merchant as its own table has it, without its counts.
-#[derive(Clone, Copy, Debug, PartialEq, Eq)]
+#[derive(Clone, Copy, PartialEq, Eq)]
 pub struct Lives {
     pub single_life: u64,
     pub multi_life: u64,

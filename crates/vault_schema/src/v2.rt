@@ -8,7 +8,7 @@ use vault_core::usage::Use;
 use vault_pan::pan::Pan;
 
 /// A card of a merchant, and how many entries point at it.
-#[derive(Clone, Copy, Debug)]
+#[derive(Clone, Copy)]
 pub struct Card {
     pub merchant: MerchantId,
     pub number: Pan,
@@ -16,7 +16,7 @@ pub struct Card {
 }
 
 /// An entry as its own table has it: it points at a card by its id, unless it is purged.
-#[derive(Clone, Copy, Debug)]
+#[derive(Clone, Copy)]
 pub struct Pointing {
     pub card: Option<i64>,
     pub usage: Use,

@@ -1,14 +1,2 @@
-pub mod Calls
-pub mod Current
-pub mod Dead
-pub mod JoinedEntries
-pub mod Kept
-pub mod Lookups
 pub mod Making
-pub mod Owing
-pub mod Pointed
-pub mod Raised
-pub mod ShownCards
-pub mod Statements
-pub mod WrittenEntry
 pub mod WrittenPlus

@@ -1,12 +1,12 @@
 -- What making the schema leads to: the empty vault.
-use Rattle.std.proofs.Common.{◌≡◌, ◌++◌, ℕ, ℤ, zero, suc, pos, List, [], ◌∷◌, Option, Some, None, Ok, true}
+use Rattle.std.proofs.Common.{◌≡◌, ℕ, ℤ, suc, pos, List, [], ◌∷◌, Option, Some, None, Ok, true}
 use Rattle.std.proofs.Common.{cond}
 use Rattle.std.proofs.Common.{option_map, refl, sym, ap, subst, ◌∙◌, arith, IsTrue, Result, OnOk}
 use Rattle.std.proofs.lemmas.Bool.Decides.{nat_tests}
 use Rattle.sqlite.specs.State.{HasCleanDisk, State, ExecutesInside}
 use Rattle.sqlite.specs.Change.{indexed, created}
 use Rattle.sqlite_schema.specs.declared.schema.Index.{Index}
-use Rattle.sql_maps.specs.States.{Steps, Claim, IsEmpty, StandsIn, Within}
+use Rattle.sql_maps.specs.States.{Steps, IsEmpty, StandsIn, Within}
 use Rattle.sql_maps.specs.Texts.{MakesIndex, MakesTable}
 use Rattle.sql_maps.proofs.Calls.{on_ok}
 use Rattle.std.specs.FinMap as map
@@ -41,10 +41,10 @@ use Rattle.vault_schema.proofs.Version1.Making as version1
 use Rattle.vault_schema.proofs.Version1.Making.{six, treeless}
 use Rattle.vault_schema.proofs.Version2.Making.{all_made, card_index, with_entries}
 use Rattle.vault_schema.proofs.Version2.Texts.{put_version_is}
-use Rattle.vault_sql.specs.Calls.{IsWithin}
-use Rattle.vault_sql.specs.Making.{IsBegun, IsReady}
-use Rattle.vault_sql.specs.Schema.{vault_schema}
-use Rattle.vault_sql.specs.Stands.{count_at, lives_in, lookups_of, tables_of, unless_zero}
+use Rattle.vault_rows.specs.Calls.{IsWithin}
+use Rattle.vault_schema.specs.Making.{IsRowless, IsBegun, IsReady, empties}
+use Rattle.vault_schema.specs.Schema.{newest_schema}
+use Rattle.vault_schema.specs.Stands.{count_at, lives_in, lookups_of, tables_of, unless_zero}
 
 -- ---- the tables, one after the other
 
@@ -53,26 +53,26 @@ pub begun_blank : (s : State) → IsReady s → s.now.schema ≡ no_schema
     → IsBegun (record s { in_transaction = true }) s.committed
 begun_blank s is blank = assumption
 
--- of so many tables, none has a row
-abbrev empties : ℕ → List Claim
-empties zero = []
-empties (suc n) = empties n ++ IsEmpty ∷ []
+-- a transaction that was begun so has come as far as this
+abbrev pub Reached : (Database → Type 0) → State → Schema → ℕ → Type 0
+Reached Begun st s n = HasCleanDisk st → (base : Database) → Begun base → IsRowless s n st base
 
--- a transaction that was begun has come as far as this
-abbrev Reached : State → State → Schema → ℕ → Type 0
-Reached first st s n = HasCleanDisk st → (base : Database) → IsBegun first base → Within s (empties n) base st
+-- it has come as far as it was begun
+pub as_begun : (s : Schema) (n : ℕ) (st : State) → Reached (IsRowless s n st) st s n
+as_begun s n st = λ clean base b. b
 
 module _ {old new : State} {sql : List ℕ} (steps : Steps old new)
     (ran : HasCleanDisk new → IsTrue old.in_transaction
     → (count : ℕ) × ExecutesInside 0 sql [] old new (Ok count)) where
-  pub first_made : {t : Table} → MakesTable no_schema sql t → Reached old new (created no_schema t) 1
+  pub first_made : {t : Table} → MakesTable no_schema sql t
+      → Reached (IsBegun old) new (created no_schema t) 1
   first_made it clean base b = let did = ran clean b.inside in
       makes_table no_schema [] base old new (record { is_open = b.is_open; unlimited = b.unlimited })
       b.committed b.schema tt sql did.0 did.1 steps.limit _ it IsEmpty refl
 
   -- one more table
-  pub table_made : {first : State} {s : Schema} {t : Table} (n : ℕ) → MakesTable s sql t
-      → Reached first old s n → Reached first new (created s t) (suc n)
+  pub table_made : {Begun : Database → Type 0} {s : Schema} {t : Table} (n : ℕ) → MakesTable s sql t
+      → Reached Begun old s n → Reached Begun new (created s t) (suc n)
   table_made {s = s} n it before clean base b =
       let w = before (omega (arith, steps.clean, clean)) base b in
       let did = ran clean w.inside in
@@ -80,8 +80,8 @@ module _ {old new : State} {sql : List ℕ} (steps : Steps old new)
       steps.limit _ it IsEmpty refl
 
   -- one more index
-  pub index_made : {first : State} {s : Schema} {at : ℕ} {t : Table} {i : Index} (n : ℕ)
-      → MakesIndex s sql at t i → Reached first old s n → Reached first new (indexed s t i) n
+  pub index_made : {Begun : Database → Type 0} {s : Schema} {at : ℕ} {t : Table} {i : Index} (n : ℕ)
+      → MakesIndex s sql at t i → Reached Begun old s n → Reached Begun new (indexed s t i) n
   index_made {s = s} n it before clean base b =
       let w = before (omega (arith, steps.clean, clean)) base b in
       let did = ran clean w.inside in
@@ -89,10 +89,10 @@ module _ {old new : State} {sql : List ℕ} (steps : Steps old new)
       steps.limit _ _ _ it
 
 -- all tables of schema 1
-pub first_schema : (first st : State) → Reached first st (created six (treeless rights)) 6
-    → Reached first st v1 6
-first_schema first st made clean base b =
-    subst (λ s. Within s (empties 6) base st) version1.all_made (made clean base b)
+pub first_schema : (Begun : Database → Type 0) (st : State)
+    → Reached Begun st (created six (treeless rights)) 6 → Reached Begun st v1 6
+first_schema Begun st made clean base b =
+    subst (λ s. IsRowless s 6 st base) version1.all_made (made clean base b)
 
 -- ---- the empty vault
 
@@ -134,8 +134,8 @@ no_ids rows is = subst (λ l. AreRowsById card_columns l no_cards) (sym is) (rec
 })
 
 -- tables without rows stand for the empty vault
-emptied : (db : Trees) → StandsIn vault_schema.tables (IsVersion 2 ∷ empties 7) db
-    → StandsIn vault_schema.tables (claims (tables_of (lookups_of empty_vault) no_cards no_pointing)) db
+emptied : (db : Trees) → StandsIn newest_schema.tables (IsVersion 2 ∷ empties 7) db
+    → StandsIn newest_schema.tables (claims (tables_of (lookups_of empty_vault) no_cards no_pointing)) db
 emptied db s = (
   s.0,
   (
@@ -162,21 +162,22 @@ emptied db s = (
 )
 
 -- the version stands in its table, and all others are empty
-pub version_put : {R E : Type 0} (result : Result R E) {first old new : State} → Steps old new
+pub version_put : {R E : Type 0} (result : Result R E) {Begun : Database → Type 0} {old new : State}
+    → Steps old new
     → (HasCleanDisk new → OnOk result (IsTrue old.in_transaction
     → (count : ℕ) × ExecutesInside 0 PUT_VERSION.now [] old new (Ok count)))
-    → Reached first old (indexed with_entries (table_of entries) card_index) 8 → HasCleanDisk new
-    → OnOk result ((base : Database) → IsBegun first base → IsWithin new base (lookups_of empty_vault))
+    → Reached Begun old (indexed with_entries (table_of entries) card_index) 8 → HasCleanDisk new
+    → OnOk result ((base : Database) → Begun base → IsWithin new base (lookups_of empty_vault))
 version_put result {old = old} {new = new} steps ran before clean =
     on_ok result (ran clean) (λ ran base b.
     let made = before (omega (arith, steps.clean, clean)) base b in
-    let ready : Within vault_schema (empties 8) base old =
+    let ready : Within newest_schema (empties 8) base old =
     subst (λ s. Within s (empties 8) base old) all_made made in
     let did = ran made.inside in
     record {
       cards = no_cards;
       pointing = no_pointing;
-      has = retold vault_schema (IsVersion 2 ∷ empties 7)
+      has = retold newest_schema (IsVersion 2 ∷ empties 7)
           (claims (tables_of (lookups_of empty_vault) no_cards no_pointing)) base new emptied
           (insert_first refl (record { within = ready; count = did.0; ran = did.1; limit = steps.limit })
           vault 0

@@ -1,10 +1,1 @@
-pub mod Calls
-pub mod Cards
-pub mod Holds
-pub mod Left
-pub mod Making
-pub mod Schema
-pub mod Shown
-pub mod Stands
 pub mod Storable
-pub mod Written

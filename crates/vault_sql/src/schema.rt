@@ -6,10 +6,11 @@ ghost use Rattle.sqlite.specs.View.{doubt};
 ghost use Rattle.sql_maps.specs.Schema.{no_schema};
 ghost use Rattle.sql_maps.specs.States.{Steps};
 ghost use Rattle.vault_core.specs.Vault.{empty_vault};
-ghost use Rattle.vault_sql.specs.Calls.{IsWithin};
-ghost use Rattle.vault_sql.specs.Holds.{Holds, LeavesFirst};
-ghost use Rattle.vault_sql.specs.Making.{IsBegun, IsReady};
-ghost use Rattle.vault_sql.specs.Stands.{lookups_of};
+ghost use Rattle.vault_rows.specs.Calls.{IsWithin};
+ghost use Rattle.vault_schema.specs.Holds.{Holds, LeavesFirst};
+ghost use Rattle.vault_schema.specs.Making.{IsRowless, IsBegun, IsReady};
+ghost use Rattle.vault_schema.specs.Version1.Tables.{v1 as first_schema};
+ghost use Rattle.vault_schema.specs.Stands.{lookups_of};
 
 use sql_maps::run::step;
 use sqlite::{Alter, Connection, Error, Transaction};
@@ -32,13 +33,13 @@ fn is_blank(schema: &Schema) -> bool
     schema.tables.is_empty() && schema.indexes.is_empty() && schema.views.is_empty()
 }
 
-/// Makes all tables and writes the version, inside a transaction.
-fn create_tables<S: Alter>(tx: &mut Transaction<'_, S>) -> Result<(), Error>
+/// Makes the tables of schema 1, inside a transaction.
+fn create_first<S: Alter>(tx: &mut Transaction<'_, S>) -> Result<(), Error>
     ensures same_reference { tx.new.conn.ghost_name ≡ tx.old.conn.ghost_name }
     ensures steps { Steps (state S.Store tx.old.conn.now) (state S.Store tx.new.conn.now) }
     ensures done { HasCleanDisk (state S.Store tx.new.conn.now)
         → OnOk result ((base : _) → IsBegun (state S.Store tx.old.conn.now) base
-        → IsWithin (state S.Store tx.new.conn.now) base (lookups_of empty_vault)) }
+        → IsRowless first_schema 6 (state S.Store tx.new.conn.now) base) }
 {
     step(tx, v1::CREATE_VAULT, &[])?;
     step(tx, v1::CREATE_MERCHANTS, &[])?;
@@ -47,10 +48,33 @@ fn create_tables<S: Alter>(tx: &mut Transaction<'_, S>) -> Result<(), Error>
     step(tx, v1::CREATE_ENTRIES_NUMBER, &[])?;
     step(tx, v1::CREATE_RECORDS, &[])?;
     step(tx, v1::CREATE_RIGHTS, &[])?;
+    Ok(())
+}
+
+/// Makes the tables that schema 2 has besides and writes the version, inside a transaction.
+fn create_second<S: Alter>(tx: &mut Transaction<'_, S>) -> Result<(), Error>
+    ensures same_reference { tx.new.conn.ghost_name ≡ tx.old.conn.ghost_name }
+    ensures steps { Steps (state S.Store tx.old.conn.now) (state S.Store tx.new.conn.now) }
+    ensures done { HasCleanDisk (state S.Store tx.new.conn.now)
+        → OnOk result ((base : _) → IsRowless first_schema 6 (state S.Store tx.old.conn.now) base
+        → IsWithin (state S.Store tx.new.conn.now) base (lookups_of empty_vault)) }
+{
     step(tx, v2::CREATE_CARDS, &[])?;
     step(tx, v2::CREATE_ENTRIES, &[])?;
     step(tx, v2::CREATE_ENTRIES_CARD, &[])?;
     step(tx, v2::PUT_VERSION, &[])
+}
+
+/// Makes all tables and writes the version, inside a transaction.
+fn create_tables<S: Alter>(tx: &mut Transaction<'_, S>) -> Result<(), Error>
+    ensures same_reference { tx.new.conn.ghost_name ≡ tx.old.conn.ghost_name }
+    ensures steps { Steps (state S.Store tx.old.conn.now) (state S.Store tx.new.conn.now) }
+    ensures done { HasCleanDisk (state S.Store tx.new.conn.now)
+        → OnOk result ((base : _) → IsBegun (state S.Store tx.old.conn.now) base
+        → IsWithin (state S.Store tx.new.conn.now) base (lookups_of empty_vault)) }
+{
+    create_first(tx)?;
+    create_second(tx)
 }
 
 /// Makes all tables of the empty vault in one transaction.

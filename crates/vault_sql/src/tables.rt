@@ -1,10 +1,6 @@
 //! Tables in a database.
 ghost use Rattle.std.specs.Prelude.{◌≡◌, true, false, Err};
 
-use crate::entries::{current, dead, entry, tokens_of};
-use crate::merchants::{how_many, merchant};
-use crate::records::recorded;
-use crate::rights::has;
 use crate::transaction::{are_storable, write};
 use sqlite::{Alter, Connection};
 use std::alloc::Global;
@@ -16,6 +12,10 @@ use vault_core::right::Right;
 use vault_core::row::{Entry, MerchantRow, Record};
 use vault_pan::pan::Pan;
 use vault_pan::token::Token;
+use vault_rows::entries::{current, dead, entry, tokens_of};
+use vault_rows::merchants::{how_many, merchant};
+use vault_rows::records::recorded;
+use vault_rows::rights::has;
 use vault_store::tables::{Tables, TablesFault};
 
 /// Tables in a database, which fail from the first call on that the database refused.
@@ -68,9 +68,9 @@ impl<S: Alter> Tables for SqlTables<S> {
     ghost use Rattle.std.specs.Prelude.{◌≡◌, true, false};
     ghost use Rattle.sqlite.specs.Held.{state};
     ghost use Rattle.sqlite.specs.State.{HasCleanDisk};
-    ghost use Rattle.vault_sql.specs.Holds.{Holds, LeavesEither};
+    ghost use Rattle.vault_schema.specs.Holds.{Holds, LeavesEither};
     ghost use Rattle.std.proofs.Common.{inl, inr};
-    ghost use Rattle.vault_sql.specs.Left.{left_alone};
+    ghost use Rattle.vault_schema.specs.Left.{left_alone};
 
     ghost holds = { λ t V. (t.failed ≡ false)
         × (HasCleanDisk (state S.Store t.conn) → Holds (state S.Store t.conn) V) };
@@ -96,7 +96,7 @@ impl<S: Alter> Tables for SqlTables<S> {
         self.failed
     }
 
-    #[tactic(auto, using(crate::proofs::Calls::left_by, crate::proofs::Calls::still_held))]
+    #[tactic(auto, using(vault_rows::proofs::Calls::left_by, vault_rows::proofs::Calls::still_held))]
     fn merchant(&mut self, m: MerchantId) -> Result<Option<MerchantRow>, TablesFault> {
         if self.failed {
             return Err(TablesFault::Store);
@@ -107,7 +107,7 @@ impl<S: Alter> Tables for SqlTables<S> {
         }
     }
 
-    #[tactic(auto, using(crate::proofs::Calls::left_by, crate::proofs::Calls::still_held))]
+    #[tactic(auto, using(vault_rows::proofs::Calls::left_by, vault_rows::proofs::Calls::still_held))]
     fn merchants(&mut self) -> Result<u64, TablesFault> {
         if self.failed {
             return Err(TablesFault::Store);
@@ -118,7 +118,7 @@ impl<S: Alter> Tables for SqlTables<S> {
         }
     }
 
-    #[tactic(auto, using(crate::proofs::Calls::left_by, crate::proofs::Calls::still_held))]
+    #[tactic(auto, using(vault_rows::proofs::Calls::left_by, vault_rows::proofs::Calls::still_held))]
     fn right(&mut self, c: Caller, m: MerchantId, r: Right) -> Result<bool, TablesFault> {
         if self.failed {
             return Err(TablesFault::Store);
@@ -129,7 +129,7 @@ impl<S: Alter> Tables for SqlTables<S> {
         }
     }
 
-    #[tactic(auto, using(crate::proofs::Calls::left_by, crate::proofs::Calls::still_held))]
+    #[tactic(auto, using(vault_rows::proofs::Calls::left_by, vault_rows::proofs::Calls::still_held))]
     fn recorded(&mut self, c: Caller, n: RequestNo) -> Result<Option<Record>, TablesFault> {
         if self.failed {
             return Err(TablesFault::Store);
@@ -140,7 +140,7 @@ impl<S: Alter> Tables for SqlTables<S> {
         }
     }
 
-    #[tactic(auto, using(crate::proofs::Calls::left_by, crate::proofs::Calls::still_held))]
+    #[tactic(auto, using(vault_rows::proofs::Calls::left_by, vault_rows::proofs::Calls::still_held))]
     fn entry(&mut self, m: MerchantId, t: Token) -> Result<Option<Entry>, TablesFault> {
         if self.failed {
             return Err(TablesFault::Store);
@@ -151,7 +151,7 @@ impl<S: Alter> Tables for SqlTables<S> {
         }
     }
 
-    #[tactic(auto, using(crate::proofs::Calls::left_by, crate::proofs::Calls::still_held))]
+    #[tactic(auto, using(vault_rows::proofs::Calls::left_by, vault_rows::proofs::Calls::still_held))]
     fn current(&mut self, m: MerchantId, p: Pan, at: Moment) -> Result<Option<Token>, TablesFault> {
         if self.failed {
             return Err(TablesFault::Store);
@@ -162,7 +162,7 @@ impl<S: Alter> Tables for SqlTables<S> {
         }
     }
 
-    #[tactic(auto, using(crate::proofs::Calls::left_by, crate::proofs::Calls::still_held))]
+    #[tactic(auto, using(vault_rows::proofs::Calls::left_by, vault_rows::proofs::Calls::still_held))]
     fn dead(
         &mut self,
         m: MerchantId,

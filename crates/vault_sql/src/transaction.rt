@@ -8,19 +8,13 @@ ghost use Rattle.vault_core.specs.Vault.{Vault};
 ghost use Rattle.sqlite.specs.State.{HasCleanDisk};
 ghost use Rattle.sqlite.specs.View.{doubt};
 ghost use Rattle.sql_maps.specs.Rows.{put};
-ghost use Rattle.vault_sql.specs.Calls.{Makes};
-ghost use Rattle.vault_sql.specs.Holds.{Holds, LeavesEither};
+ghost use Rattle.vault_rows.specs.Calls.{Makes};
+ghost use Rattle.vault_schema.specs.Holds.{Holds, LeavesEither};
 ghost use Rattle.vault_sql.specs.Storable.{AreStorable, IsStorableEntry, IsStorableLives};
-ghost use Rattle.vault_sql.specs.Written.{HasRoom, put_entry as put_entry_lem};
-ghost use Rattle.vault_sql.specs.Written.{put_lives, put_record as put_record_lem, put_right};
-ghost use Rattle.vault_sql.specs.Written.{raise as raise_lem};
+ghost use Rattle.vault_rows.specs.Written.{HasRoom, put_entry as put_entry_lem};
+ghost use Rattle.vault_rows.specs.Written.{put_lives, put_record as put_record_lem, put_right};
+ghost use Rattle.vault_rows.specs.Written.{raise as raise_lem};
 
-use crate::fault::StoreFault;
-use crate::merchants::{raise, set_lives};
-use crate::pointing::{add_entry, put_entry};
-use crate::records::add_record;
-use crate::rights::{give, take};
-use crate::text::{caller_text, merchant_text};
 use sqlite::{Alter, Connection, Error, Transaction};
 use vault_core::changes::{self, Changes, Count};
 use vault_core::name::{Caller, MerchantId};
@@ -28,6 +22,12 @@ use vault_core::request::RequestNo;
 use vault_core::right::Right;
 use vault_core::row::{Entry, Record};
 use vault_pan::token::Token;
+use vault_rows::fault::StoreFault;
+use vault_rows::merchants::{raise, set_lives};
+use vault_rows::pointing::{add_entry, put_entry};
+use vault_rows::records::add_record;
+use vault_rows::rights::{give, take};
+use vault_rows::text::{caller_text, merchant_text};
 use vault_schema::v1::Lives;
 
 /// The greatest number that a column holds.

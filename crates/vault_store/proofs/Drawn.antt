@@ -15,7 +15,8 @@ unfoldable pub chosen_from : Vault → Bytes → Bytes → Bytes → ℕ → Opt
 chosen_from V m pan digits k =
     find (is_good V m) (map (λ j. candidate_digits digits j pan) (range_with_len k (20 - k)))
 
-pub chosen-all : (V : Vault) (m pan digits : Bytes) → chosen_token V m pan digits ≡ chosen_from V m pan digits 0
+pub chosen-all : (V : Vault) (m pan digits : Bytes)
+    → chosen_token V m pan digits ≡ chosen_from V m pan digits 0
 unfolding chosen_token chosen_from
 chosen-all V m pan digits = refl
 

@@ -6,7 +6,8 @@ use Rattle.std.specs.BTreeMap as rows
 use Rattle.std.specs.FinMap as map
 use Rattle.std.specs.Cmp.{eq_by_cmp_equiv, tied_itself}
 use Rattle.std.specs.Ordering.{eq_by_cmp, is_eq}
-use Rattle.vault_core.specs.Changes.{Fit, plus, with_merchant, merchant_with, merchant_with_count, is_made, made_raised}
+use Rattle.vault_core.specs.Changes.{Fit, plus, with_merchant, merchant_with, merchant_with_count, is_made}
+use Rattle.vault_core.specs.Changes.{made_raised}
 use Rattle.vault_core.specs.Keys.{Bytes, bytes_cmp}
 use Rattle.vault_core.specs.Sound.{Sound}
 use Rattle.vault_core.specs.Vault.{Vault, Merchant, merchant_at, made_count}
@@ -34,7 +35,8 @@ counted n merchant = record {
 -- the row of the merchant whose lives change
 counted-raised : (count : Option Count) (x : Lives) (o : Option Merchant) (n k : ℕ) → (o ≡ None → n ≡ 0)
     → k ≡ n + cond (is_made count) 1 0
-    → counted k (merchant_with_count count (merchant_with x o)) ≡ row_raised count (row_with x (option_map (counted n) o))
+    → counted k (merchant_with_count count (merchant_with x o))
+    ≡ row_raised count (row_with x (option_map (counted n) o))
 counted-raised None x None n k none more =
     let zero = none refl in
     let is : k ≡ 0 = omega arith in
@@ -102,7 +104,8 @@ module _ (V : Vault) (sound : Sound V) (ch : Changes) (fit : Fit V ch) (x : Live
   looked_up : (q : Bytes)
       → merchant_at (plus V ch) q
       ≡ map.get
-      (map.insert V.merchants x.merchant (merchant_with_count ch.count (merchant_with x (merchant_at V x.merchant)))) q
+      (map.insert V.merchants x.merchant
+      (merchant_with_count ch.count (merchant_with x (merchant_at V x.merchant)))) q
   looked_up q = ap (λ lives. map.get (with_merchant V.merchants ch.count lives) q) is
 
   made_is : (q : Bytes)
@@ -146,7 +149,8 @@ module _ (V : Vault) (sound : Sound V) (ch : Changes) (fit : Fit V ch) (x : Live
     many =
         len
         ∙ ap (λ b. rows.btree_map_len old + cond b 0 1)
-        (ap is_some (h.at x.merchant) ∙ is_some-map (counted (made_count V x.merchant)) (merchant_at V x.merchant))
+        (ap is_some (h.at x.merchant)
+        ∙ is_some-map (counted (made_count V x.merchant)) (merchant_at V x.merchant))
         ∙ more (merchant_at V x.merchant)
         ∙ sym (ap (λ lives. map.len (with_merchant V.merchants ch.count lives)) is
         ∙ map.len-insert bytes_total V.merchants x.merchant _);

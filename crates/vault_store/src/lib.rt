@@ -3,7 +3,5 @@
 
 pub mod memory;
 pub mod tables;
-#[cfg(test)]
-mod tests;
 pub mod vault;
 pub mod window;

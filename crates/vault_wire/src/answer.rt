@@ -74,6 +74,3 @@ pub fn answer_text(
     bytes.extend_from_slice(body)?;
     Ok(bytes)
 }
-
-#[cfg(test)]
-mod tests;

@@ -92,6 +92,3 @@ impl<W: Write> Write for Watched<W> {
         flushed
     }
 }
-
-#[cfg(test)]
-mod tests;

@@ -11,7 +11,7 @@ use Rattle.clap.specs.declared.error.Error.{Error}
 use Rattle.clap.specs.declared.error.kind.ErrorKind.{ErrorKind}
 use Rattle.clap.specs.declared.parser.matches.ArgMatches.{ArgMatches}
 use Rattle.clap.specs.declared.parser.matches.ArgMatches.TheViews.{out-ArgMatches, out-SubCommand}
-use Rattle.vault_words.specs.Commands.{AsksBatch, AsksPipe, AsksTrial, vault_app}
+use Rattle.vault_words.specs.Commands.{AsksBatch, AsksPipe, AsksTrial, program_app}
 use Rattle.vault_words.specs.Jobs.{Asks, AsksBy, Explains, StandsFor}
 use Rattle.vault_words.specs.Values.{Finds}
 use Rattle.vault_words.specs.declared.commands.batch.BatchJob.{BatchJob}
@@ -110,16 +110,16 @@ no_batch name rows is never (Check job) h = differ name (codes "batch") (codes "
 no_batch name rows is never (Migrate job) h = differ name (codes "batch") (codes "migrate") refl refl is h.0
 
 -- the program's commands are plain enough for clap to say all of a parse
-is_plain : is_simple_and_free vault_app ≡ true
+is_plain : is_simple_and_free program_app ≡ true
 is_plain = refl
 
-is_simple_app : is_simple vault_app ≡ true
+is_simple_app : is_simple program_app ≡ true
 is_simple_app = refl
 
 -- a parse that succeeds
-pub parsed : (a : App) (words : List Text) (m : ArgMatches) → a ≡ vault_app
+pub parsed : (a : App) (words : List Text) (m : ArgMatches) → a ≡ program_app
     → (is_simple_and_free a ≡ true → fault_of a words ≡ []) → HasMatchesOf a words m
-    → (fault_of vault_app words ≡ []) × (subcommand_rows_of m ≡ subcommand_of vault_app words)
+    → (fault_of program_app words ≡ []) × (subcommand_rows_of m ≡ subcommand_of program_app words)
 parsed a words m same kinds has =
     let plain : is_simple_and_free a ≡ true = rw same is_plain in
     let simple : is_simple a ≡ true = rw same is_simple_app in
@@ -127,11 +127,11 @@ parsed a words m same kinds has =
     (here ∙ kinds plain, (has simple).1 ∙ ap (λ (x : App). subcommand_of x words) same)
 
 -- a parse that fails
-refused : (words : List Text) (e : Error) (fault : JobFault) → HasKind (fault_of vault_app words) e
-    → StandsFor (kind_of e) fault → Explains vault_app words fault
+refused : (words : List Text) (e : Error) (fault : JobFault) → HasKind (fault_of program_app words) e
+    → StandsFor (kind_of e) fault → Explains program_app words fault
 refused words e (Help text) (inl h) stands = absurd (cc)
 refused words e (Help text) (inr h) stands =
-    subst (λ (k : ErrorKind). IsAmong k (fault_of vault_app words)) stands h
+    subst (λ (k : ErrorKind). IsAmong k (fault_of program_app words)) stands h
 refused words e BadWords (inl h) stands = absurd (stands.1 h)
 refused words e BadWords (inr h) stands = (
   λ is. elim (subst (IsAmong (kind_of e)) is h) [ inl k ↦ stands.0 k | inr never ↦ never ],
@@ -139,18 +139,18 @@ refused words e BadWords (inr h) stands = (
 )
 refused words e Memory h stands = tt
 
-pub explained : (a : App) (words : List Text) (e : Error) (fault : JobFault) → a ≡ vault_app
+pub explained : (a : App) (words : List Text) (e : Error) (fault : JobFault) → a ≡ program_app
     → (is_simple_and_free a ≡ true → HasKind (fault_of a words) e) → StandsFor (kind_of e) fault
-    → Explains vault_app words fault
+    → Explains program_app words fault
 explained a words e fault same kinds stands =
     let plain : is_simple_and_free a ≡ true = rw same is_plain in
     let has = subst (λ (x : App). HasKind (fault_of x words) e) same (kinds plain) in
     refused words e fault has stands
 
 -- a parse that succeeds, of words that ask for no job
-pub unasked : (words : List Text) (met : Option Met) → fault_of vault_app words ≡ []
-    → met ≡ subcommand_of vault_app words → ((job : Job) → ¬ (AsksBy met job))
-    → Explains vault_app words BadWords
+pub unasked : (words : List Text) (met : Option Met) → fault_of program_app words ≡ []
+    → met ≡ subcommand_of program_app words → ((job : Job) → ¬ (AsksBy met job))
+    → Explains program_app words BadWords
 unasked words met none is nothing = (
   λ help. absurd (cc (none, help)),
   λ job asked. nothing job (subst (λ (m : Option Met). AsksBy m job) (sym is) asked.asks),

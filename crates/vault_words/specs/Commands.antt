@@ -143,8 +143,8 @@ root_app =
     record named { top = record named.top { subcommand_required = true } }
 
 -- the program
-abbrev pub vault_app : App
-vault_app = with_subcommands root_app
+abbrev pub program_app : App
+program_app = with_subcommands root_app
     (trial_app ∷ merchant_app ∷ right_app (codes "grant") ∷ right_app (codes "withdraw")
     ∷ rights_app ∷ pipe_app ∷ batch_app ∷ serve_app ∷ sweep_app ∷ check_app
     ∷ migrate_app ∷ [])

@@ -1,7 +1,7 @@
 //! The job that words ask for.
 ghost use Rattle.std.specs.Prelude.{MatchResult, map};
 ghost use Rattle.clap.specs.Words.{found_of, kind_of, rows_of, subcommand_rows_of};
-ghost use Rattle.vault_words.specs.Commands.{vault_app};
+ghost use Rattle.vault_words.specs.Commands.{program_app};
 ghost use Rattle.vault_words.specs.Jobs.{Asks, AsksBy, Explains, IsAsked, StandsFor};
 ghost use Rattle.vault_words.specs.Values.{Finds};
 
@@ -81,8 +81,8 @@ fn fault_of(alloc: Global, error: &Error) -> JobFault
 /// The job that words ask for. The first of them is the program's name, as in `env::args`.
 pub fn job<'a, S: AsStr>(alloc: Global, words: &'a [S]) -> Result<Job<'a>, JobFault>
     ensures { MatchResult result
-        (IsAsked vault_app (map S.text words.now))
-        (Explains vault_app (map S.text words.now)) }
+        (IsAsked program_app (map S.text words.now))
+        (Explains program_app (map S.text words.now)) }
 {
     let Ok(tree) = tree(alloc) else {
         return Err(JobFault::Memory);
@@ -95,6 +95,3 @@ pub fn job<'a, S: AsStr>(alloc: Global, words: &'a [S]) -> Result<Job<'a>, JobFa
         Err(error) => Err(fault_of(alloc, &error)),
     }
 }
-
-#[cfg(test)]
-mod tests;

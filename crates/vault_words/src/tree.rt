@@ -1,7 +1,7 @@
 //! The tree of the program's commands.
 ghost use Rattle.std.specs.Prelude.{IfOk};
 ghost use Rattle.clap.specs.Words.{App, with_subcommand};
-ghost use Rattle.vault_words.specs.Commands.{root_app, vault_app};
+ghost use Rattle.vault_words.specs.Commands.{root_app, program_app};
 ghost use Rattle.vault_words.specs.Rules.{IsApp};
 
 use crate::args::command;
@@ -40,7 +40,7 @@ fn with<'a>(
 
 /// The program's command, of which each word of its own is a subcommand.
 pub(crate) fn tree<'a>(alloc: Global) -> Result<Command<'a>, AllocError>
-    ensures { IfOk result (λ c. IsApp c vault_app) }
+    ensures { IfOk result (λ c. IsApp c program_app) }
 {
     let tree = with(Ok(root(alloc)), trial(alloc));
     let tree = with(tree, merchant(alloc));

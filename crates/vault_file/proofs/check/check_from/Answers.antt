@@ -4,7 +4,7 @@ use Rattle.sqlite_wal.specs.Files.{image_at}
 use Rattle.vault_file.proofs.Opening.{found_damaged, found_in, found_wrong, never_kept}
 use Rattle.vault_file.proofs.Opening.{same_fault, still_held, there}
 use Rattle.vault_file.proofs.check.check_from.Goals as goal
-use Rattle.vault_recover.specs.declared.fault.OpenFault.TheVariants.{WrongSchema, Damaged}
+use Rattle.vault_verdict.specs.declared.fault.OpenFault.TheVariants.{WrongSchema, Damaged}
 
 pub returns-in-Ok-clause-sizes : goal.returns-in-Ok-clause-sizes
 returns-in-Ok-clause-sizes g c clean = (

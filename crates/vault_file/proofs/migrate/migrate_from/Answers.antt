@@ -5,7 +5,7 @@ use Rattle.vault_file.proofs.Leaving.{leaves_from}
 use Rattle.vault_file.proofs.Moving.{leaves_old, moves_from, never_older, was_clean}
 use Rattle.vault_file.proofs.Opening.{found_in, never_kept, same_fault, there}
 use Rattle.vault_file.proofs.migrate.migrate_from.Goals as goal
-use Rattle.vault_recover.specs.declared.fault.OpenFault.TheVariants.{WrongSchema, Damaged}
+use Rattle.vault_verdict.specs.declared.fault.OpenFault.TheVariants.{WrongSchema, Damaged}
 
 pub returns-in-Ok-clause-moved : goal.returns-in-Ok-clause-moved
 returns-in-Ok-clause-moved g c =

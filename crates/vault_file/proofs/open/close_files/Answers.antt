@@ -5,7 +5,7 @@ use Rattle.sqlite.specs.View.{IsClean}
 use Rattle.sqlite_store.specs.FileStore.{view}
 use Rattle.vault_core.specs.Vault.{Vault}
 use Rattle.vault_recover.specs.Crashed.{AreHeld, Reopens, ReopensEither}
-use Rattle.vault_sql.specs.Holds.{Holds, LeavesEither}
+use Rattle.vault_schema.specs.Holds.{Holds, LeavesEither}
 use Rattle.vault_store.specs.Applied.{Contains, tables_of}
 use Rattle.vault_file.proofs.open.close_files.Given.{Over}
 use Rattle.vault_file.proofs.open.close_files.Goals as goal

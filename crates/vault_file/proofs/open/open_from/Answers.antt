@@ -3,7 +3,7 @@ use Rattle.sqlite_wal.specs.Files.{image_at}
 use Rattle.vault_file.proofs.Leaving.{leaves_from}
 use Rattle.vault_file.proofs.Opening.{found_damaged, found_wrong, never_kept, opens_from, same_fault, there}
 use Rattle.vault_file.proofs.open.open_from.Goals as goal
-use Rattle.vault_recover.specs.declared.fault.OpenFault.TheVariants.{WrongSchema, Damaged}
+use Rattle.vault_verdict.specs.declared.fault.OpenFault.TheVariants.{WrongSchema, Damaged}
 use Rattle.vault_store.specs.Applied.{tables_of}
 
 pub returns-in-Ok-clause-found : goal.returns-in-Ok-clause-found

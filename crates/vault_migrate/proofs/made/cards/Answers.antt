@@ -1,7 +1,7 @@
 use Rattle.std.proofs.Common.{◌≡◌, ◌<◌, ap, arith, length, map, sym, take, ◌∙◌}
 use Rattle.std.proofs.Math.Seq.{take-length}
 use Rattle.std.specs.List.{filter_map}
-use Rattle.vault_recover.specs.Raw.{card_values}
+use Rattle.vault_verdict.specs.Raw.{card_values}
 use Rattle.vault_migrate.specs.Made.{as_card}
 use Rattle.vault_migrate.proofs.More.{card_more, none_more}
 use Rattle.vault_migrate.proofs.made.cards.Goals.{in-Some+in_ok-push, in_default}

@@ -1,6 +1,6 @@
 use Rattle.std.proofs.Common.{◌≡◌, map, take}
 use Rattle.std.specs.List.{filter_map}
-use Rattle.vault_recover.specs.Raw.{card_values}
+use Rattle.vault_verdict.specs.Raw.{card_values}
 use Rattle.vault_migrate.specs.Made.{as_card}
 use Rattle.vault_migrate.proofs.made.cards.Given as goal
 

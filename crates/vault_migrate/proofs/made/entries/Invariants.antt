@@ -1,5 +1,5 @@
 use Rattle.std.proofs.Common.{◌≡◌, map, take}
-use Rattle.vault_recover.specs.Raw.{entry_values}
+use Rattle.vault_verdict.specs.Raw.{entry_values}
 use Rattle.vault_migrate.specs.Made.{as_entry}
 use Rattle.vault_migrate.proofs.made.entries.Given as goal
 

@@ -3,7 +3,7 @@ use Rattle.sqlite.specs.Held.{state}
 use Rattle.vault_migrate.proofs.Moving.{newest_refusal, older_refusal}
 use Rattle.vault_migrate.proofs.OldShows.{no_refusal}
 use Rattle.vault_migrate.proofs.migrate.migrate.Goals as goal
-use Rattle.vault_recover.proofs.Results.{if_err, on_ok}
+use Rattle.vault_verdict.proofs.Results.{if_err, on_ok}
 use Rattle.vault_schema.specs.Version1.Tables.{v1}
 
 pub returns-then-is_v1-clause-never : goal.returns-then-is_v1-clause-never

@@ -4,7 +4,7 @@ use Rattle.sqlite.specs.State.{HasCleanDisk}
 use Rattle.vault_migrate.proofs.Moving.{holds_old, moves_from}
 use Rattle.vault_migrate.proofs.migrate.move_up.Goals as goal
 use Rattle.vault_migrate.specs.Made.{old_columns, typed_columns}
-use Rattle.vault_sql.specs.Left.{left_alone}
+use Rattle.vault_schema.specs.Left.{left_alone}
 
 pub returns-in-Ok-clause-moved : goal.returns-in-Ok-clause-moved
 returns-in-Ok-clause-moved g c clean V h =

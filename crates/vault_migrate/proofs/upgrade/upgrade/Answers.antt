@@ -6,10 +6,10 @@ use Rattle.sql_maps.proofs.Calls.{begun, on_ok}
 use Rattle.vault_core.specs.Vault.{Vault}
 use Rattle.vault_schema.specs.Version1.Claims.{claims}
 use Rattle.vault_schema.specs.Version1.Tables.{v1}
-use Rattle.vault_sql.specs.Calls.{IsWithin}
-use Rattle.vault_sql.specs.Holds.{Holds}
-use Rattle.vault_sql.specs.Stands.{lookups_of}
-use Rattle.vault_sql.proofs.Calls.{as_ok, held_after, ours}
+use Rattle.vault_rows.specs.Calls.{IsWithin}
+use Rattle.vault_schema.specs.Holds.{Holds}
+use Rattle.vault_schema.specs.Stands.{lookups_of}
+use Rattle.vault_rows.proofs.Calls.{as_ok, held_after, ours}
 use Rattle.vault_migrate.proofs.Entered.{all_entered}
 use Rattle.vault_migrate.proofs.Upgrading.{last_older}
 use Rattle.vault_migrate.specs.Older.{AreEntriesOf, HoldsOlder, LeavesStep}

@@ -4,7 +4,7 @@ use Rattle.sqlite.specs.State.{HasCleanDisk}
 use Rattle.vault_migrate.proofs.Judging.{are_read, has_version, still_all}
 use Rattle.vault_migrate.proofs.Moving.{passed_as}
 use Rattle.vault_migrate.proofs.OldStands.{stands_old}
-use Rattle.vault_recover.specs.Versions.{other_than}
+use Rattle.vault_verdict.specs.Versions.{other_than}
 use Rattle.vault_migrate.proofs.verdict.old_entries.Goals as goal
 
 pub returns-in_err-judge-clause-damaged : goal.returns-in_err-judge-clause-damaged

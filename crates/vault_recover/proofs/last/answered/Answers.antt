@@ -1,12 +1,12 @@
 use Rattle.std.proofs.Common.{◌≡◌, sym, ap, subst, ◌∙◌}
 use Rattle.sqlite.specs.Held.{state}
 use Rattle.sqlite.specs.State.{HasCleanDisk}
-use Rattle.vault_sql.specs.Holds.{LeavesEither}
+use Rattle.vault_schema.specs.Holds.{LeavesEither}
 use Rattle.vault_store.specs.Applied.{tables_of}
 use Rattle.vault_recover.proofs.last.answered.Given.{Over}
 use Rattle.vault_recover.proofs.last.answered.Goals as goal
 use Rattle.vault_recover.proofs.LeftBy.{left_by}
-use Rattle.vault_recover.proofs.Results.{if_ok}
+use Rattle.vault_verdict.proofs.Results.{if_ok}
 
 same : (g : Over) (c : goal.After-into_connection g)
     → c.into_connection.result ≡ (tables_of c.apply-answer.new.self).conn

@@ -1,5 +1,5 @@
 use Rattle.std.proofs.Common.{◌∙◌, sym, Err}
-use Rattle.vault_recover.proofs.Results.{one_fault}
+use Rattle.vault_verdict.proofs.Results.{one_fault}
 use Rattle.vault_recover.proofs.open.open.Goals as goal
 
 pub returns-in-Ok-clause-strange : goal.returns-in-Ok-clause-strange

@@ -1,9 +1,9 @@
 use Rattle.std.proofs.Common.{Err}
 use Rattle.sqlite.specs.Held.{state}
-use Rattle.vault_recover.proofs.Holders.{held_by}
-use Rattle.vault_recover.proofs.Judged.{no_refusal}
-use Rattle.vault_recover.proofs.Opening.{opens_vault}
-use Rattle.vault_recover.proofs.Versioned.{wrong_mixed, wrong_other}
+use Rattle.vault_verdict.proofs.Holders.{held_by}
+use Rattle.vault_verdict.proofs.Judged.{no_refusal}
+use Rattle.vault_verdict.proofs.Opening.{opens_vault}
+use Rattle.vault_verdict.proofs.Versioned.{wrong_mixed, wrong_other}
 use Rattle.vault_recover.proofs.open.ready.Goals as goal
 
 pub returns-in-Ok-verdict-clause-opens : goal.returns-in-Ok-verdict-clause-opens

@@ -3,7 +3,7 @@ use Rattle.sqlite.specs.Files.{file_state}
 use Rattle.sqlite.specs.View.{IsClean}
 use Rattle.sqlite_store.specs.FileStore.{view}
 use Rattle.sqlite_store.specs.Laws.{settled_at}
-use Rattle.vault_sql.specs.Left.{last_commit}
+use Rattle.vault_schema.specs.Left.{last_commit}
 use Rattle.vault_recover.proofs.Reopened.{reopens, reopens_either, reopens_first}
 use Rattle.vault_recover.proofs.reopen.close.Given.{Over}
 use Rattle.vault_recover.proofs.reopen.close.Goals as goal

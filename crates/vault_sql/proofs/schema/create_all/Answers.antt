@@ -4,11 +4,11 @@ use Rattle.sqlite.specs.State.{HasCleanDisk}
 use Rattle.sql_maps.specs.Schema.{no_schema}
 use Rattle.sql_maps.proofs.Calls.{on_ok}
 use Rattle.vault_core.specs.Vault.{empty_vault}
-use Rattle.vault_sql.specs.Calls.{IsWithin}
-use Rattle.vault_sql.specs.Holds.{Holds}
-use Rattle.vault_sql.specs.Making.{IsBegun, IsReady}
-use Rattle.vault_sql.specs.Stands.{lookups_of}
-use Rattle.vault_sql.proofs.Calls.{held_after, ours}
+use Rattle.vault_rows.specs.Calls.{IsWithin}
+use Rattle.vault_schema.specs.Holds.{Holds}
+use Rattle.vault_schema.specs.Making.{IsBegun, IsReady}
+use Rattle.vault_schema.specs.Stands.{lookups_of}
+use Rattle.vault_rows.proofs.Calls.{held_after, ours}
 use Rattle.vault_sql.proofs.Making.{begun_blank}
 use Rattle.vault_sql.proofs.schema.create_all.Given.{Over}
 use Rattle.vault_sql.proofs.schema.create_all.Goals as goal

@@ -1,29 +1,13 @@
-use Rattle.vault_schema.proofs.Version1.Making.{makes_vault, makes_merchants, makes_counts, makes_entries}
-use Rattle.vault_schema.proofs.Version1.Making.{makes_entries_number, makes_records, makes_rights}
-use Rattle.vault_schema.proofs.Version2.Making as second
-use Rattle.vault_sql.proofs.Making.{first_made, first_schema, index_made, table_made, version_put}
+use Rattle.std.proofs.Common.{arith}
+use Rattle.sqlite.specs.Held.{state}
+use Rattle.sqlite.specs.State.{HasCleanDisk}
+use Rattle.sql_maps.proofs.Calls.{on_ok}
 use Rattle.vault_sql.proofs.schema.create_tables.Goals as goal
 
+-- the tables of schema 1, and over them those that schema 2 has besides
 pub returns-clause-done : goal.returns-clause-done
-returns-clause-done g c =
-    let vault = first_made c.in_ok-step.ensures.steps c.in_ok-step.ensures.ran makes_vault in
-    let merchants = table_made c.in_ok-step-2.ensures.steps c.in_ok-step-2.ensures.ran 1 makes_merchants vault
-    in
-    let counts = table_made c.in_ok-step-3.ensures.steps c.in_ok-step-3.ensures.ran 2 makes_counts merchants
-    in
-    let entries = table_made c.in_ok-step-4.ensures.steps c.in_ok-step-4.ensures.ran 3 makes_entries counts in
-    let number = index_made c.in_ok-step-5.ensures.steps c.in_ok-step-5.ensures.ran 4 makes_entries_number
-    entries
-    in
-    let records = table_made c.in_ok-step-6.ensures.steps c.in_ok-step-6.ensures.ran 4 makes_records number in
-    let rights = table_made c.in_ok-step-7.ensures.steps c.in_ok-step-7.ensures.ran 5 makes_rights records in
-    let cards = table_made c.in_ok-step-8.ensures.steps c.in_ok-step-8.ensures.ran 6 second.makes_cards
-    (first_schema _ _ rights)
-    in
-    let pointing = table_made c.in_ok-step-9.ensures.steps c.in_ok-step-9.ensures.ran 7 second.makes_entries
-    cards
-    in
-    let card = index_made c.in_ok-step-10.ensures.steps c.in_ok-step-10.ensures.ran 8
-    second.makes_entries_card pointing
-    in
-    version_put c.step-11.result c.step-11.ensures.steps c.step-11.ensures.ran card
+returns-clause-done g c clean =
+    let before : HasCleanDisk (state g.S.Store c.create_first.new.tx.conn.now) =
+    omega (arith, c.create_second.ensures.steps.clean, clean) in
+    on_ok c.create_second.result (c.create_second.ensures.done clean)
+    (λ second base begun. second base (c.in_ok-create_first.ensures.done before base begun))

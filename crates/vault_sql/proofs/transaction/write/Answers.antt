@@ -6,11 +6,11 @@ use Rattle.vault_core.specs.Changes.{Fit, plus}
 use Rattle.vault_core.specs.Sound.{Sound}
 use Rattle.vault_core.specs.Vault.{Vault}
 use Rattle.vault_schema.specs.Version1.Claims.{Lookups}
-use Rattle.vault_sql.specs.Calls.{IsWithin}
-use Rattle.vault_sql.specs.Holds.{Holds, LeavesEither}
-use Rattle.vault_sql.specs.Stands.{lookups_of}
-use Rattle.vault_sql.proofs.Calls.{as_ok, begun_over, held_after, ours}
-use Rattle.vault_sql.specs.Left.{last_commit}
+use Rattle.vault_rows.specs.Calls.{IsWithin}
+use Rattle.vault_schema.specs.Holds.{Holds, LeavesEither}
+use Rattle.vault_schema.specs.Stands.{lookups_of}
+use Rattle.vault_rows.proofs.Calls.{as_ok, begun_over, held_after, ours}
+use Rattle.vault_schema.specs.Left.{last_commit}
 use Rattle.vault_sql.proofs.WrittenPlus.{has_room, written_plus}
 use Rattle.vault_sql.proofs.transaction.write.Given.{Over}
 use Rattle.vault_sql.proofs.transaction.write.Goals as goal

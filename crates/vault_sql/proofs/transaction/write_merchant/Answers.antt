@@ -1,4 +1,4 @@
-use Rattle.vault_sql.proofs.Calls.{makes_then}
+use Rattle.vault_rows.proofs.Calls.{makes_then}
 use Rattle.vault_sql.proofs.transaction.write_merchant.Goals as goal
 
 pub returns-clause-done : goal.returns-clause-done

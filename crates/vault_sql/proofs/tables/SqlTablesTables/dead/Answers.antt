@@ -1,5 +1,5 @@
 use Rattle.std.proofs.Common.{arith}
-use Rattle.vault_sql.proofs.Dead.{tokens_read}
+use Rattle.vault_rows.proofs.Dead.{tokens_read}
 use Rattle.vault_sql.proofs.tables.SqlTablesTables.dead.Goals as goal
 
 pub returns-in-Ok-tokens_of-clause-told : goal.returns-in-Ok-tokens_of-clause-told

@@ -1,0 +1,51 @@
+-- How a job ends, and what the program says of it.
+use Rattle.std.specs.Prelude.{ℕ, ℤ, ◌++◌, List, [], Option, Some, None, codes, decimal}
+use Rattle.std.specs.Fmt.{signed_decimal}
+use Rattle.vault_file.specs.Faults as file
+use Rattle.vault_file.specs.declared.fault.NotOpened.{NotOpened as FileFault}
+use Rattle.vault_jobs.specs.Causes.{number_of}
+use Rattle.vault_app.specs.declared.ending.Ending.{Ending}
+use Rattle.vault_app.specs.declared.ending.Ending.TheVariants.{Done, Refused, SomeRefused, BadWords}
+use Rattle.vault_app.specs.declared.ending.Ending.TheVariants.{NotOpened, Stopped}
+
+-- the exit status
+abbrev pub status_of : Ending → ℕ
+status_of Done = 0
+status_of (Refused n) = 1
+status_of SomeRefused = 1
+status_of BadWords = 2
+status_of (NotOpened f) = 3
+status_of (Stopped s) = 4
+
+-- the line of a refusal, on the output
+abbrev pub refusal_line : ℕ → List ℕ
+refusal_line n = codes "refused " ++ decimal n ++ codes "\n"
+
+-- the lines on the errors: the words ask for no job
+abbrev pub bad_words_line : List ℕ
+bad_words_line = codes "vault: bad words\n"
+
+-- the version or the rule that goes with a refusal of a file
+abbrev pub detail_text : Option ℤ → List ℕ
+detail_text None = []
+detail_text (Some m) = codes " " ++ signed_decimal m
+
+-- a file isn't opened
+abbrev pub not_opened_line : FileFault → List ℕ
+not_opened_line f =
+    codes "vault: file not opened " ++ decimal (file.number_of f) ++ detail_text (file.detail_of f)
+    ++ codes "\n"
+
+-- the program stopped by the fault of this number
+abbrev pub stop_line : ℕ → List ℕ
+stop_line n = codes "vault: stopped " ++ decimal n ++ codes "\n"
+
+-- A refusal is said on the output, and what else stands in the way of a job on the errors; the other stream
+-- stays as it was, and at the end of a job, and of a batch with refused rows, both do.
+abbrev pub Says : Ending → Type 0 → Type 0 → (List ℕ → Type 0) → (List ℕ → Type 0) → Type 0
+Says Done same_output same_errors output errors = same_output × same_errors
+Says (Refused n) same_output same_errors output errors = output (refusal_line n) × same_errors
+Says SomeRefused same_output same_errors output errors = same_output × same_errors
+Says BadWords same_output same_errors output errors = same_output × errors bad_words_line
+Says (NotOpened f) same_output same_errors output errors = same_output × errors (not_opened_line f)
+Says (Stopped s) same_output same_errors output errors = same_output × errors (stop_line (number_of s))

@@ -1,0 +1,31 @@
+-- The list of a rights file.
+use Rattle.std.specs.Prelude.{◌≡◌, ◌≢◌, ℕ, List}
+use Rattle.toml.specs.Data.{Members}
+use Rattle.vault_rights.specs.Faults.{IsDocument, IsFault, number_of}
+use Rattle.vault_rights.specs.Named.{IsListOf, Names, Row}
+use Rattle.vault_rights.specs.Proper.{IsProper}
+use Rattle.vault_rights.specs.declared.fault.RightsFault.{RightsFault}
+use Rattle.vault_jobs.specs.declared.stop.Stop.TheVariants as stop
+use Rattle.vault_jobs.specs.declared.stop.Unread.{Unread}
+use Rattle.vault_app.specs.declared.ending.Ending.{Ending}
+use Rattle.vault_app.specs.declared.ending.Ending.TheVariants.{Done, Refused, SomeRefused, BadWords}
+use Rattle.vault_app.specs.declared.ending.Ending.TheVariants.{NotOpened, Stopped}
+
+-- the rows are the rights that a text's document names, in order and each once
+abbrev pub IsListed : List Row → Type 0
+IsListed rows = (text : List ℕ) × (document : Members)
+    × IsDocument text document × IsProper document × IsListOf (Names document) rows
+
+-- a text names no rights by a fault of this number, which isn't want of memory
+abbrev pub IsRefusedText : ℕ → Type 0
+IsRefusedText n = (text : List ℕ) × (fault : RightsFault)
+    × IsFault text fault × (n ≡ number_of fault) × (n ≢ 74)
+
+-- a job ends without a list: its text is refused, or it isn't read
+abbrev pub IsUnlisted : Ending → Type 0
+IsUnlisted Done = ⊥
+IsUnlisted (Refused n) = IsRefusedText n
+IsUnlisted SomeRefused = ⊥
+IsUnlisted BadWords = ⊥
+IsUnlisted (NotOpened f) = ⊥
+IsUnlisted (Stopped s) = (unread : Unread) × (s ≡ stop.Rights unread)

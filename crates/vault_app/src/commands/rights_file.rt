@@ -1,0 +1,59 @@
+//! `rights`: the rights that a file lists.
+ghost use Rattle.std.specs.Prelude.{◌≡◌, IfErr, IfOk};
+ghost use Rattle.vault_wire.specs.Watching.{inner_of};
+ghost use Rattle.vault_words.specs.declared.jobs.Job.{Job};
+ghost use Rattle.vault_jobs.specs.Streams.{Streams, streams};
+ghost use Rattle.vault_app.specs.Ran.{Ends};
+ghost use Rattle.vault_app.specs.Rights.{IsListed, IsUnlisted};
+
+use crate::ending::Ending;
+use crate::on_file::do_on_file;
+use std::fs;
+use std::io::{Read, Write};
+use vault_core::name::{Caller, MerchantId};
+use vault_core::right::Right;
+use vault_jobs::clock::moment;
+use vault_jobs::stop::{Stop, Unread};
+use vault_jobs::task::Task;
+use vault_rights::fault::RightsFault;
+use vault_rights::read::read_rights;
+use vault_wire::watched::Watched;
+use vault_words::commands::rights_file::RightsFileJob;
+
+/// The rights that a file lists, or how the job ends without them: refused by 70 to 73, or stopped by 74 or,
+/// where the file can't be read, by 80.
+fn read(rt: &HostRuntime, path: &str) -> Result<Vec<(Caller, MerchantId, Right)>, Ending>
+    ensures listed { IfOk result (λ rows. IsListed rows.items) }
+    ensures unlisted { IfErr result IsUnlisted }
+{
+    let Ok(text) = fs::read(rt, path) else {
+        return Err(Ending::Stopped(Stop::Rights(Unread::File)));
+    };
+    match read_rights(rt.alloc(), &text) {
+        Ok(rows) => Ok(rows),
+        Err(RightsFault::Memory) => Err(Ending::Stopped(Stop::Rights(Unread::Memory))),
+        Err(fault) => Err(Ending::Refused(fault.number())),
+    }
+}
+
+/// Gives the rights that a file lists, in the vault of another file, up to the first that is refused: by 7
+/// where its merchant isn't known. The vault's file isn't touched where the list isn't read.
+pub(crate) fn rights<R: Read, W: Write>(
+    rt: &HostRuntime,
+    job: &RightsFileJob<'_>,
+    input: &mut Watched<R>,
+    output: &mut Watched<W>,
+) -> Ending
+    ensures { let s : Streams = streams R.remaining input.old input.new W.contents output.old output.new in
+        Ends (Job.Rights job.entry.now) result (input.new ≡ input.old) (output.new ≡ output.old) s }
+{
+    let rows = match read(rt, job.rights) {
+        Ok(rows) => rows,
+        Err(ending) => return ending,
+    };
+    let now = match moment(rt, job.now) {
+        Ok(now) => now,
+        Err(stop) => return Ending::Stopped(stop),
+    };
+    do_on_file(rt, job.file, &Task::Give(&rows, now), input, output)
+}

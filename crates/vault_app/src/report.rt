@@ -1,0 +1,81 @@
+//! What the program says of an ending.
+ghost use Rattle.std.specs.Prelude.{◌≡◌, ◌++◌, codes, decimal};
+ghost use Rattle.vault_wire.specs.Watching.{inner_of, is_stopped};
+ghost use Rattle.vault_app.specs.Ending.{Says, not_opened_line, status_of};
+ghost use Rattle.vault_jobs.specs.Told.{Tells};
+
+use crate::ending::Ending;
+use itoa::Buffer;
+use std::io::Write;
+use vault_file::fault::NotOpened;
+use vault_jobs::told::tell;
+use vault_wire::watched::Watched;
+
+/// Writes a line that ends with a number.
+fn tell_numbered<W: Write>(writer: &mut Watched<W>, before: &str, number: u8)
+    ensures { Tells (W.contents (inner_of writer.old)) (W.contents (inner_of writer.new))
+        (is_stopped writer.new) (before.now ++ decimal number ++ codes "\n") }
+{
+    let mut digits = Buffer::new();
+    tell(writer, &[before, digits.format(number), "\n"]);
+}
+
+/// Writes a line that ends with a number and what goes with it.
+fn tell_both<W: Write>(writer: &mut Watched<W>, before: &str, number: u8, detail: &str)
+    ensures { Tells (W.contents (inner_of writer.old)) (W.contents (inner_of writer.new))
+        (is_stopped writer.new)
+        (before.now ++ decimal number ++ (codes " " ++ detail.now) ++ codes "\n") }
+{
+    let mut digits = Buffer::new();
+    tell(writer, &[before, digits.format(number), " ", detail, "\n"]);
+}
+
+/// Says that a file isn't opened.
+fn tell_not_opened<E: Write>(errors: &mut Watched<E>, fault: &NotOpened)
+    ensures { Tells (E.contents (inner_of errors.old)) (E.contents (inner_of errors.new))
+        (is_stopped errors.new) (not_opened_line fault.now) }
+{
+    match fault.detail() {
+        None => tell_numbered(errors, "vault: file not opened ", fault.number()),
+        Some(detail) => {
+            let mut digits = Buffer::new();
+            let text = digits.format(detail);
+            tell_both(errors, "vault: file not opened ", fault.number(), text);
+        }
+    }
+}
+
+/// Says how a job ended, and answers the exit status. A line that can't be written changes no status.
+pub(crate) fn report<W: Write, E: Write>(
+    ending: &Ending,
+    output: &mut Watched<W>,
+    errors: &mut Watched<E>,
+) -> u8
+    ensures status { result ≡ status_of ending.now }
+    ensures said { Says ending.now (output.new ≡ output.old) (errors.new ≡ errors.old)
+        (Tells (W.contents (inner_of output.old)) (W.contents (inner_of output.new))
+        (is_stopped output.new))
+        (Tells (E.contents (inner_of errors.old)) (E.contents (inner_of errors.new))
+        (is_stopped errors.new)) }
+{
+    match ending {
+        Ending::Done => 0,
+        Ending::Refused(number) => {
+            tell_numbered(output, "refused ", *number);
+            1
+        }
+        Ending::SomeRefused => 1,
+        Ending::BadWords => {
+            tell(errors, &["vault: bad words\n"]);
+            2
+        }
+        Ending::NotOpened(fault) => {
+            tell_not_opened(errors, fault);
+            3
+        }
+        Ending::Stopped(stop) => {
+            tell_numbered(errors, "vault: stopped ", stop.number());
+            4
+        }
+    }
+}

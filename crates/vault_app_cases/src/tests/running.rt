@@ -1,0 +1,119 @@
+//! Runs of the program, and what they end with.
+use std::alloc::Global;
+use std::fs;
+use std::io::{Read, Write};
+use vault_app::run::run;
+use vault_wire::watched::Watched;
+
+/// The answer to the worked message.
+pub const FIRST_TOKEN: &str =
+    "HTTP/1.1 200 OK\r\nContent-Type: application/json\r\nContent-Length: 43\r\n\r\n\
+     {\"expires\":1060,\"token\":\"0000000000001111\"}";
+
+/// The worked message.
+pub const ASKED: &str = "POST /v1/merchants/shop1/tokens HTTP/1.1\r\nHost: vault\r\n\
+     X-Vault-Caller: till-1\r\nX-Vault-Request: 7\r\nContent-Length: 44\r\n\r\n\
+     {\"number\":\"4111111111111111\",\"use\":\"single\"}";
+
+/// What a run of the program gave.
+#[derive(Drop)]
+pub struct Ran {
+    pub status: u8,
+    pub output: Vec<u8>,
+    pub errors: Vec<u8>,
+}
+
+impl Ran {
+    /// Whether the program ended with this status and these texts.
+    pub fn is(&self, status: u8, output: &str, errors: &str) -> bool {
+        self.status == status
+            && self.output.as_slice() == output.as_bytes()
+            && self.errors.as_slice() == errors.as_bytes()
+    }
+}
+
+/// Runs the program, and answers its status alone: it has no clause, so that no caller's proof carries those
+/// of `run`.
+pub fn status_of<R: Read, W: Write, E: Write>(
+    rt: &HostRuntime,
+    words: &[&str],
+    input: &mut Watched<R>,
+    output: &mut Watched<W>,
+    errors: &mut Watched<E>,
+) -> u8 {
+    run(rt, words, input, output, errors)
+}
+
+/// The words of a line, with a space between two, with this file in place of `FILE`, and with a space in the
+/// name `shop_1`.
+fn words_of<'a>(alloc: Global, line: &'a str, file: &'a str) -> Vec<&'a str> {
+    let mut words = Vec::new(alloc);
+    for word in line.split(' ') {
+        let _ = words.push(match word {
+            "FILE" => file,
+            "shop_1" => "shop 1",
+            word => word,
+        });
+    }
+    words
+}
+
+/// Runs the program on the words of a line, with this file in place of `FILE`, and on bytes.
+pub fn run_on(rt: &HostRuntime, line: &str, file: &str, input: &[u8]) -> Ran {
+    let words = words_of(rt.alloc(), line, file);
+    let mut output = Vec::new(rt.alloc());
+    let mut errors = Vec::new(rt.alloc());
+    let mut reader = Watched::new(input);
+    let mut writer = Watched::new(&mut output);
+    let mut teller = Watched::new(&mut errors);
+    let status = status_of(rt, &words, &mut reader, &mut writer, &mut teller);
+    Ran {
+        status,
+        output,
+        errors,
+    }
+}
+
+/// A run of the program: its words, its input, its status, its output, and its errors.
+pub type Step = (&'static str, &'static str, u8, &'static str, &'static str);
+
+/// Whether each run on this file ends as it says; one that doesn't is printed.
+pub fn end_so(rt: &HostRuntime, file: &str, steps: &[Step]) -> bool {
+    for (line, input, status, output, errors) in steps {
+        let ran = run_on(rt, line, file, input.as_bytes());
+        if !ran.is(*status, output, errors) {
+            let status = ran.status;
+            let _ = println!(rt; "{line}: {status}");
+            return false;
+        }
+    }
+    true
+}
+
+/// Whether a folder is there and empty.
+pub fn is_folder_made(rt: &HostRuntime, folder: &str) -> bool {
+    let _ = fs::remove_dir_all(rt, folder);
+    fs::create_dir(rt, folder).is_ok()
+}
+
+/// Whether there is nothing by this name.
+pub fn is_missing(rt: &HostRuntime, file: &str) -> bool {
+    fs::symlink_metadata(rt, file).is_err()
+}
+
+/// The answer with this status line, these fields after the length, and this body; nothing for want of
+/// memory.
+pub fn answer(alloc: Global, status: &str, fields: &str, body: &str) -> String {
+    let size = body.len();
+    let text = format!(in alloc;
+        "HTTP/1.1 {status}\r\nContent-Type: application/json\r\nContent-Length: {size}\r\n{fields}\r\n{body}"
+    );
+    text.unwrap_or(String::new(alloc))
+}
+
+/// Runs `trial` with these digits.
+pub fn trial(rt: &HostRuntime, digits: &str, input: &[u8]) -> Ran {
+    let alloc = rt.alloc();
+    let line = format!(in alloc; "vault trial --now 1000 --digits {digits} till-1 shop1 60");
+    run_on(rt, line.unwrap_or(String::new(alloc)).as_str(), "", input)
+}

@@ -1,0 +1,153 @@
+//! What is decided at a desk, in words.
+use super::desk::Desk;
+use std::alloc::Global;
+use vault_core::changes::{Changes, Count};
+use vault_core::decide::decide;
+use vault_core::row::{Entry, EntryState};
+use vault_core::window::Window;
+use vault_script::command::{asked, moment, word};
+use vault_script::told::reply_told;
+
+/// The text of bytes.
+fn text_of<'a>(bytes: &'a [u8]) -> &'a str {
+    std::str::from_utf8(bytes).unwrap_or("no text")
+}
+
+/// A part of changes, where it is there.
+fn part(is_there: bool, part: &'static str) -> &'static str {
+    if is_there { part } else { "" }
+}
+
+/// The parts that changes have, each behind a space.
+fn parts_told(alloc: Global, changes: &Changes) -> Option<String> {
+    if changes.is_none() {
+        return String::from_str(alloc, " nothing").ok();
+    }
+    let count = match changes.count {
+        Some(Count::Made) => " made",
+        Some(Count::Given) => " given",
+        Some(Count::Denied) => " denied",
+        None => "",
+    };
+    let lives = part(changes.lives.is_some(), " lives");
+    let entry = part(changes.entry.is_some(), " entry");
+    let recorded = part(changes.recorded.is_some(), " recorded");
+    let right = part(changes.right.is_some(), " right");
+    format!(in alloc; "{lives}{count}{entry}{recorded}{right}").ok()
+}
+
+/// A command: the reply, and which parts change.
+fn decided_told(alloc: Global, desk: &mut Desk, line: &str) -> Option<String> {
+    let command = asked(line)?;
+    if !command.proper() {
+        return None;
+    }
+    let (reply, changes) = decide(&desk.window, &command);
+    desk.changes = changes;
+    let (reply, parts) = (reply_told(alloc, &reply), parts_told(alloc, &changes)?);
+    format!(in alloc; "{reply};{parts}").ok()
+}
+
+/// `lives`: the merchant's lives and its moment from now on.
+fn lives_told(alloc: Global, changes: &Changes) -> Option<String> {
+    let lives = changes.lives?;
+    let (shop, moment) = (text_of(lives.merchant.bytes()), lives.moment.seconds());
+    let (single, multi) = (lives.single_life, lives.multi_life);
+    format!(in alloc; "{shop} {single} {multi} {moment}").ok()
+}
+
+/// An entry in words.
+fn entry_words(alloc: Global, entry: &Entry) -> Option<String> {
+    let number = match &entry.number {
+        Some(number) => number.as_str(),
+        None => "-",
+    };
+    let (usage, birth) = (entry.usage.word(), entry.birth.seconds());
+    let expires = entry.expires;
+    match entry.revoked {
+        Some(revoked) => {
+            let revoked = revoked.seconds();
+            format!(in alloc; "{number} {usage} {birth} {expires} {revoked}").ok()
+        }
+        None => format!(in alloc; "{number} {usage} {birth} {expires} -").ok(),
+    }
+}
+
+/// `entry`: the entry that changes write.
+fn entry_told(alloc: Global, changes: &Changes) -> Option<String> {
+    match &changes.entry {
+        Some((shop, token, entry)) => {
+            let (shop, token) = (text_of(shop.bytes()), token.as_str());
+            let words = entry_words(alloc, entry)?;
+            format!(in alloc; "{shop} {token} {words}").ok()
+        }
+        None => None,
+    }
+}
+
+/// `recorded`: the record that changes write.
+fn recorded_told(alloc: Global, changes: &Changes) -> Option<String> {
+    let (caller, request, record) = changes.recorded?;
+    let (caller, request) = (text_of(caller.bytes()), request.get());
+    let (shop, token) = (text_of(record.merchant.bytes()), record.token.as_str());
+    let usage = record.usage.word();
+    format!(in alloc; "{caller} {request} {shop} {token} {usage}").ok()
+}
+
+/// `right`: the right that changes give, or take away.
+fn right_told(alloc: Global, changes: &Changes) -> Option<String> {
+    let (caller, shop, right, is_there) = changes.right?;
+    let (caller, shop) = (text_of(caller.bytes()), text_of(shop.bytes()));
+    format!(in alloc; "{caller} {shop} {right:?} {is_there}").ok()
+}
+
+/// `state SECONDS`: the state of the named entry.
+fn state_told(alloc: Global, window: &Window, line: &str) -> Option<String> {
+    match window.named?.state(moment(line, 1)?) {
+        EntryState::Kept { state, .. } => String::from_str(alloc, state.word()).ok(),
+        EntryState::Purged => String::from_str(alloc, "purged").ok(),
+    }
+}
+
+/// `parts COMMAND`: those that a command on one token has, or `none`.
+fn token_command_told(alloc: Global, line: &str) -> Option<String> {
+    let Some(parts) = asked(line.strip_prefix("parts ")?)?.token_command() else {
+        return String::from_str(alloc, "none").ok();
+    };
+    let (caller, shop) = (
+        text_of(parts.caller.bytes()),
+        text_of(parts.merchant.bytes()),
+    );
+    let (token, right) = (parts.token.as_str(), parts.right);
+    let seconds = parts.moment.seconds();
+    format!(in alloc; "{caller} {shop} {token} {right:?} {seconds}").ok()
+}
+
+/// `printed COMMAND`: whether it, the window, the reply and the changes show a number's length, a token, and
+/// a number's first digits.
+fn printed_told(alloc: Global, desk: &Desk, line: &str) -> Option<String> {
+    let command = asked(line.strip_prefix("printed ")?)?;
+    if !command.proper() {
+        return None;
+    }
+    let (window, (reply, changes)) = (desk.window, decide(&desk.window, &command));
+    let shown = format!(in alloc; "{command:?} {reply:?} {changes:?} {window:?}").ok()?;
+    let length = shown.contains("Pan(16 digits)");
+    let token = shown.contains("Token(0000000000001111)");
+    let number = shown.contains("411111");
+    format!(in alloc; "{length} {token} {number}").ok()
+}
+
+/// The answer to a question.
+pub fn told(alloc: Global, desk: &mut Desk, line: &str) -> Option<String> {
+    match word(line, 0)? {
+        "lives" => lives_told(alloc, &desk.changes),
+        "entry" => entry_told(alloc, &desk.changes),
+        "recorded" => recorded_told(alloc, &desk.changes),
+        "right" => right_told(alloc, &desk.changes),
+        "state" => state_told(alloc, &desk.window, line),
+        "parts" => token_command_told(alloc, line),
+        "printed" => printed_told(alloc, desk, line),
+        _ => decided_told(alloc, desk, line),
+    }
+}

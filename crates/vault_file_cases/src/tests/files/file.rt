@@ -1,0 +1,169 @@
+//! What is done with the file at a path, in words.
+use crate::tests::over::changed;
+use sqlite::{Alter, Connection};
+use std::alloc::Global;
+use std::fs;
+use std::os::unix::fs::{PermissionsExt, symlink};
+use vault_file::check::check_file;
+use vault_file::fault::NotOpened;
+use vault_file::migrate::migrate_file;
+use vault_file::open::{close_vault, open_vault};
+use vault_script::case::answer_told;
+use vault_script::told::text;
+
+/// `done`, or `not done`.
+pub fn told(alloc: Global, is_done: bool) -> String {
+    text(alloc, if is_done { "done" } else { "not done" })
+}
+
+/// A refusal in words.
+pub fn refusal(alloc: Global, fault: NotOpened) -> String {
+    fault.to_string(alloc).unwrap_or(String::new(alloc))
+}
+
+/// What opening a file and closing it again says.
+pub fn opened(rt: &HostRuntime, path: &str) -> String {
+    match open_vault(rt, path) {
+        Ok(vault) => {
+            close_vault(vault);
+            text(rt.alloc(), "opened")
+        }
+        Err(fault) => refusal(rt.alloc(), fault),
+    }
+}
+
+/// What checking a file says: how many merchants, entries and records there are, or why it isn't opened.
+pub fn checked(rt: &HostRuntime, path: &str) -> String {
+    let alloc = rt.alloc();
+    match check_file(rt, path) {
+        Ok(sizes) => {
+            let (merchants, entries, records) = (sizes.merchants, sizes.entries, sizes.records);
+            let told = format!(in alloc; "{merchants} {entries} {records}");
+            told.unwrap_or(String::new(alloc))
+        }
+        Err(fault) => refusal(alloc, fault),
+    }
+}
+
+/// What moving a file to the newest schema says: its version, or why it isn't opened.
+pub fn migrated(rt: &HostRuntime, path: &str) -> String {
+    let alloc = rt.alloc();
+    match migrate_file(rt, path) {
+        Ok(version) => {
+            let told = format!(in alloc; "schema {version}");
+            told.unwrap_or(String::new(alloc))
+        }
+        Err(fault) => refusal(alloc, fault),
+    }
+}
+
+/// Whether opening a file, checking it and moving it to the newest schema are refused by 34.
+pub fn is_refused(rt: &HostRuntime, path: &str) -> bool {
+    opened(rt, path).as_str() == "34"
+        && checked(rt, path).as_str() == "34"
+        && migrated(rt, path).as_str() == "34"
+}
+
+/// Whether they are while the file is open.
+pub fn is_busy(rt: &HostRuntime, path: &str) -> bool {
+    match open_vault(rt, path) {
+        Ok(vault) => {
+            let is_refused = is_refused(rt, path);
+            close_vault(vault);
+            is_refused
+        }
+        Err(_) => false,
+    }
+}
+
+/// What the vault in a file answers to a line.
+pub fn answered(rt: &HostRuntime, path: &str, line: &str) -> String {
+    match open_vault(rt, path) {
+        Ok(mut vault) => {
+            let told = answer_told(rt.alloc(), &mut vault, line);
+            close_vault(vault);
+            told
+        }
+        Err(fault) => refusal(rt.alloc(), fault),
+    }
+}
+
+/// Runs statements of SQL over a connection, and ends it.
+fn changed_last<S: Alter + Drop>(alloc: Global, conn: Connection<S>, sql: &str) -> String {
+    let mut conn = conn;
+    changed(alloc, &mut conn, sql)
+}
+
+/// Runs statements of SQL in the database at a path.
+pub fn changed_in(rt: &HostRuntime, path: &str, sql: &str) -> String {
+    match Connection::open(rt, path) {
+        Ok(conn) => changed_last(rt.alloc(), conn, sql),
+        Err(_) => text(rt.alloc(), "not opened"),
+    }
+}
+
+/// Makes an empty folder, and tells whether that was done.
+pub fn is_folder_made(rt: &HostRuntime, path: &str) -> bool {
+    let _ = fs::remove_dir_all(rt, path);
+    fs::create_dir(rt, path).is_ok()
+}
+
+/// Lets a file's owner read and write it and its group read it, and tells whether that was done.
+pub fn is_mode_set(rt: &HostRuntime, path: &str) -> bool {
+    fs::set_permissions(rt, path, fs::Permissions::from_mode(0o640)).is_ok()
+}
+
+/// Who may do what with a file.
+pub fn mode(rt: &HostRuntime, path: &str) -> String {
+    let alloc = rt.alloc();
+    match fs::metadata(rt, path) {
+        Ok(found) => {
+            let mode = found.permissions().mode() & 0o777;
+            format!(in alloc; "{mode:o}").unwrap_or(String::new(alloc))
+        }
+        Err(_) => text(alloc, "not there"),
+    }
+}
+
+/// What stands at a path: `link`, `file`, or `nothing`.
+pub fn there(rt: &HostRuntime, path: &str) -> &'static str {
+    match fs::symlink_metadata(rt, path) {
+        Ok(found) => if found.is_symlink() { "link" } else { "file" },
+        Err(_) => "nothing",
+    }
+}
+
+/// Makes a link that leads nowhere, and tells whether that was done.
+pub fn is_linked(rt: &HostRuntime, path: &str) -> bool {
+    symlink(rt, "nowhere", path).is_ok()
+}
+
+/// Writes this text to a file, or none, and tells whether that was done.
+pub fn is_written(rt: &HostRuntime, path: &str, bytes: &[u8]) -> bool {
+    fs::write(rt, path, bytes).is_ok()
+}
+
+/// Whether a file holds these bytes.
+pub fn holds(rt: &HostRuntime, path: &str, bytes: &[u8]) -> bool {
+    match fs::read(rt, path) {
+        Ok(found) => found.as_slice() == bytes,
+        Err(_) => false,
+    }
+}
+
+/// The bytes of a page, as the bytes of a file say them.
+fn page_bytes(bytes: &[u8]) -> Option<u16> {
+    Some(u16::from_be_bytes([*bytes.get(16)?, *bytes.get(17)?]))
+}
+
+/// The bytes of a page, as a file says them.
+pub fn pages(rt: &HostRuntime, path: &str) -> String {
+    let alloc = rt.alloc();
+    match fs::read(rt, path) {
+        Ok(bytes) => match page_bytes(bytes.as_slice()) {
+            Some(size) => format!(in alloc; "{size}").unwrap_or(String::new(alloc)),
+            None => text(alloc, "no header"),
+        },
+        Err(_) => text(alloc, "not read"),
+    }
+}

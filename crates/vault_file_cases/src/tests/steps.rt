@@ -1,0 +1,78 @@
+//! Databases in memory: opened, asked and ended. A connection is made and ended here alone.
+use super::over::{Step, done_over};
+use sqlite::{Connection, FileStore, Files, Options};
+use sqlite_disk::{Disk, Memory};
+use std::alloc::Global;
+use vault_script::told::text;
+
+/// The files that a connection ends with.
+fn ended<D: Disk + Drop>(conn: Connection<FileStore<D>>) -> Files<D> {
+    match conn.close_files() {
+        Ok(files) => files,
+        Err((_, store)) => store.close(),
+    }
+}
+
+/// Does a step over files, and gives them again.
+pub fn done<D: Disk + Drop>(alloc: Global, files: Files<D>, step: Step<'_>) -> (String, Files<D>) {
+    if !files.may_be_used() {
+        return (text(alloc, "not connected"), files);
+    }
+    match Connection::open_files(alloc, files, Options::new(9)) {
+        Ok(conn) => {
+            let (told, conn) = done_over(alloc, conn, step);
+            (told, ended(conn))
+        }
+        Err((_, left)) => (text(alloc, "not connected"), left.into_files()),
+    }
+}
+
+/// Does steps over files in turn, and gives the files again; what each step tells ends with `; `.
+pub fn all_done<D: Disk + Drop>(
+    alloc: Global,
+    files: Files<D>,
+    steps: &[Step<'_>],
+) -> (String, Files<D>) {
+    let mut files = files;
+    let mut all = String::new(alloc);
+    for step in steps {
+        let (told, left) = done(alloc, files, *step);
+        files = left;
+        let _ = all.push_str(told.as_str());
+        let _ = all.push_str("; ");
+    }
+    (all, files)
+}
+
+/// Files without a byte.
+pub fn no_files(alloc: Global) -> Files<Memory> {
+    Files {
+        log: Memory::new(alloc),
+        db: Memory::new(alloc),
+    }
+}
+
+/// Whether this was told; what was told in its place is printed.
+pub fn is_told(rt: &HostRuntime, told: &str, wanted: &str) -> bool {
+    if told == wanted {
+        return true;
+    }
+    let _ = println!(rt; "{told}");
+    false
+}
+
+/// Whether steps over files tell this.
+pub fn tell<D: Disk + Drop>(
+    rt: &HostRuntime,
+    files: Files<D>,
+    steps: &[Step<'_>],
+    wanted: &str,
+) -> bool {
+    let (told, _files) = all_done(rt.alloc(), files, steps);
+    is_told(rt, told.as_str(), wanted)
+}
+
+/// Whether steps over files without a byte tell this.
+pub fn are_told(rt: &HostRuntime, steps: &[Step<'_>], wanted: &str) -> bool {
+    tell(rt, no_files(rt.alloc()), steps, wanted)
+}

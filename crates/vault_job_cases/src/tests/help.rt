@@ -1,0 +1,193 @@
+//! What help says.
+use super::words::words_of;
+use std::alloc::Global;
+use vault_words::job::job;
+use vault_words::jobs::JobFault;
+
+/// `vault help`
+const PROGRAM: &str = "\
+Keeps card numbers, and gives tokens for them
+
+Usage: vault <COMMAND>
+
+Commands:
+  trial     Answers messages from standard input by a vault in memory
+  merchant  Sets how long a merchant's tokens live
+  grant     Gives a caller a right at a merchant
+  withdraw  Takes a right at a merchant from a caller
+  rights    Grants what a rights file lists
+  pipe      Answers messages from standard input by the vault in FILE
+  batch     Answers a CSV batch on standard input with tokens
+  serve     Answers messages of connections by the vault in FILE
+  sweep     Purges the card numbers of a merchant's dead tokens
+  check     Checks that FILE holds a sound vault
+  migrate   Moves FILE to the newest schema
+  help      Print this message or the help of the given subcommand(s)
+
+Options:
+  -h, --help  Print help
+";
+
+/// `vault help rights`
+const RIGHTS: &str = "\
+Grants what a rights file lists
+
+Usage: vault rights [OPTIONS] <FILE> <RIGHTS>
+
+Arguments:
+  <FILE>    The vault's file; it is made if it isn't there
+  <RIGHTS>  The rights file, in TOML
+
+Options:
+      --now <T>  The moment, in seconds since 1970, in place of the clock's
+  -h, --help     Print help
+
+A rights file has a table for each caller, and in it for each merchant the
+words of the rights that the caller gets there:
+
+  [till-1]
+  shop1 = [\"tokenize\", \"view\"]
+
+The words are tokenize, detokenize, view, revoke, purge and audit.
+";
+
+/// `vault help batch`
+const BATCH: &str = "\
+Answers a CSV batch on standard input with tokens
+
+Usage: vault batch [OPTIONS] <FILE> <CALLER> <MERCHANT>
+
+Arguments:
+  <FILE>      The vault's file; it is made if it isn't there
+  <CALLER>    The caller who asks for the tokens
+  <MERCHANT>  The merchant for which the tokens are
+
+Options:
+      --now <T>     The moment, in seconds since 1970, in place of the clock's
+      --digits <D>  1 to 300 digits, repeated up to 300, in place of drawn ones
+  -h, --help        Print help
+
+The first line is `request,number,use`, and each row after it is a request
+number, a card number, and single or multi. The answer's first line is
+`request,answer,detail`. A row is answered by its request number, the token
+and the moment at which it expires, in seconds since 1970; or by its request
+number, `refused` and the number of the refusal.
+";
+
+/// `vault help serve`
+const SERVE: &str = "\
+Answers messages of connections by the vault in FILE
+
+Usage: vault serve [OPTIONS] --connections <N> <FILE>
+
+Arguments:
+  <FILE>  The vault's file; it is made if it isn't there
+
+Options:
+      --connections <N>  Ends after this many connections, 1 to 1000000
+      --port <P>         The port, 0 to 65535; 0, any free one, if left out
+  -h, --help             Print help
+
+It listens on 127.0.0.1 alone. The line `listening P` on standard output says
+that it does, and P is its port. Connections are served one after the other,
+and one whose peer sends or takes nothing for 5 seconds is ended.
+";
+
+/// `vault help sweep`
+const SWEEP: &str = "\
+Purges the card numbers of a merchant's dead tokens
+
+Usage: vault sweep [OPTIONS] <FILE> <CALLER> <MERCHANT>
+
+Arguments:
+  <FILE>      The vault's file; it is made if it isn't there
+  <CALLER>    The caller who purges
+  <MERCHANT>  The merchant whose tokens they are
+
+Options:
+      --now <T>  The moment, in seconds since 1970, in place of the clock's
+  -h, --help     Print help
+
+A token is dead once it is revoked or has expired. Its card number is purged
+for good, and the token stays taken. All are purged at one moment, to the
+first that is refused. The line `purged N` on standard output says how many
+were purged.
+";
+
+/// Words that ask for help, and the text that they get.
+const TEXTS: [(&str, &str); 12] = [
+    ("vault --help", PROGRAM),
+    ("vault -h", PROGRAM),
+    ("vault help", PROGRAM),
+    ("vault rights -h", RIGHTS),
+    ("vault help rights", RIGHTS),
+    ("vault batch v.db --help", BATCH),
+    ("vault help batch", BATCH),
+    ("vault serve --help", SERVE),
+    ("vault serve v.db -h", SERVE),
+    ("vault help serve", SERVE),
+    ("vault sweep --help", SWEEP),
+    ("vault help sweep", SWEEP),
+];
+
+/// All commands' helps.
+const HELPS: [&str; 12] = [
+    "vault help",
+    "vault help trial",
+    "vault help merchant",
+    "vault help grant",
+    "vault help withdraw",
+    "vault help rights",
+    "vault help pipe",
+    "vault help batch",
+    "vault help serve",
+    "vault help sweep",
+    "vault help check",
+    "vault help migrate",
+];
+
+/// The help that the words of a line ask for.
+fn help(alloc: Global, line: &str) -> Option<String> {
+    let words = words_of(alloc, line, "");
+    match job(alloc, &words) {
+        Err(JobFault::Help(text)) => Some(text),
+        _ => None,
+    }
+}
+
+/// Whether the words of a line ask for this help.
+fn says(alloc: Global, line: &str, wanted: &str) -> bool {
+    match help(alloc, line) {
+        Some(text) => text.as_str() == wanted,
+        None => false,
+    }
+}
+
+#[test]
+fn help_is_the_text_of_the_command(rt: HostRuntime) {
+    for (line, wanted) in TEXTS {
+        assert!(rt; says(rt.alloc(), line, wanted), "{line}");
+    }
+}
+
+/// Whether a text has at most 24 lines, of at most 80 columns.
+fn fits(text: &str) -> bool {
+    let height = text.lines().count();
+    let width = text.lines().map(|line| line.chars().count()).max();
+    height <= 24 && width <= Some(80)
+}
+
+/// Whether the help that the words of a line ask for fits.
+fn is_small(alloc: Global, line: &str) -> bool {
+    match help(alloc, line) {
+        Some(text) => fits(text.as_str()),
+        None => false,
+    }
+}
+
+#[test]
+fn help_fits_24_lines_of_80_columns(rt: HostRuntime) {
+    for line in HELPS {
+        assert!(rt; is_small(rt.alloc(), line), "{line}");
+    }
+}

@@ -1,0 +1,77 @@
+//! A source over clocks and generators of the tests' own.
+use super::clocks::StandingClock;
+use rand::SeedableRng;
+use rand::rngs::StdRng;
+use std::alloc::Global;
+use vault_core::moment::Moment;
+use vault_core::source::Source;
+use vault_live::live::LiveSource;
+use vault_pan::draw::{Digits, candidate};
+use vault_pan::pan::Pan;
+use vault_pan::token::Token;
+
+/// The moment and the first candidate of a source's next pair, where it gives one.
+fn next_of<S: Source>(source: &mut S) -> Option<(u64, Option<Token>)> {
+    let (now, digits) = source.next().ok()?;
+    let number = Pan::read(b"4111111111111111").ok()?;
+    Some((now.seconds(), candidate(&digits, 0, &number)))
+}
+
+/// Whether a source of two pairs gives the clock's second twice with other digits, and then none.
+fn gives_two<S: Source>(source: &mut S) -> bool {
+    let two = source.left() == 2;
+    let (first, second) = (next_of(source), next_of(source));
+    let seconds = first.map(|pair| pair.0) == Some(1000) && second.map(|pair| pair.0) == Some(1000);
+    let is_calm = !source.refused() && source.left() == 0;
+    two && seconds && first != second && is_calm && next_of(source).is_none() && source.refused()
+}
+
+#[test]
+fn it_gives_the_clocks_second_so_many_times(rt: HostRuntime) {
+    let clock = StandingClock::at(1000);
+    let mut source = LiveSource::new(rt.alloc(), &clock, StdRng::seed_from_u64(7), 2);
+    assert!(rt; gives_two(&mut source));
+}
+
+/// Whether a source over this clock gives no pair and says so.
+fn gives_none(alloc: Global, clock: &StandingClock) -> bool {
+    let mut source = LiveSource::new(alloc, clock, StdRng::seed_from_u64(7), 2);
+    next_of(&mut source).is_none() && source.refused()
+}
+
+#[test]
+fn a_clock_outside_the_moments_gives_no_pair(rt: HostRuntime) {
+    assert!(rt; gives_none(rt.alloc(), &StandingClock::unread(1000, 9)));
+    assert!(rt; gives_none(rt.alloc(), &StandingClock::at(253402300800)));
+    assert!(rt; !gives_none(rt.alloc(), &StandingClock::at(253402300799)));
+}
+
+/// The second pair of a source with this moment and with digits that are all this one, where there are some.
+fn given(
+    alloc: Global,
+    clock: &StandingClock,
+    seconds: Option<u64>,
+    digit: Option<u8>,
+) -> Option<(u64, Option<Token>)> {
+    let moment = seconds.and_then(|seconds| Moment::new(seconds).ok());
+    let digits = digit.and_then(|digit| Digits::new(&[digit; 300]));
+    let generator = StdRng::seed_from_u64(7);
+    let mut source = LiveSource::fixed(alloc, clock, generator, 2, moment, digits);
+    let _ = next_of(&mut source)?;
+    next_of(&mut source)
+}
+
+/// Whether what is fixed stands in the second pair, and what isn't is the clock's and the generator's.
+fn is_fixed(alloc: Global) -> bool {
+    let token = Token::read(b"0000000000001111").ok();
+    let clock = StandingClock::at(1000);
+    let unread = StandingClock::unread(1000, 9);
+    given(alloc, &clock, Some(7), Some(0)) == Some((7, token))
+        && given(alloc, &clock, None, Some(0)) == Some((1000, token))
+        && given(alloc, &unread, Some(7), None).is_some_and(|pair| pair.0 == 7 && pair.1 != token)
+}
+
+#[test]
+fn what_is_fixed_stands_in_each_pair(rt: HostRuntime) {
+    assert!(rt; is_fixed(rt.alloc()));
+}

@@ -1,0 +1,166 @@
+//! Connections over loopback: each peer has sent its bytes before the first is accepted.
+mod ends;
+mod fakes;
+mod peers;
+
+use super::clocks::StandingClock;
+use rand::SeedableRng;
+use rand::rngs::StdRng;
+use std::alloc::Global;
+use std::io;
+use std::io::{Write, read_to_string};
+use std::net::{Net, OpenListener, Shutdown, TcpListener, TcpStream};
+use std::time::Duration;
+use vault_listen::fault::ListenFault;
+use vault_listen::service::{PATIENCE, serve_on, serve_within};
+use vault_script::case::wrong;
+use vault_store::memory::MemTables;
+use vault_store::tables::Tables;
+use vault_store::vault::Vault;
+
+/// The worked message: a request for a single-use token.
+const ASKED: &str = "POST /v1/merchants/shop1/tokens HTTP/1.1\r\nHost: vault\r\n\
+    X-Vault-Caller: till-1\r\nX-Vault-Request: 7\r\nContent-Length: 44\r\n\r\n\
+    {\"number\":\"4111111111111111\",\"use\":\"single\"}";
+
+/// Its answer, where it repeats a request that drew digits 0 at the moment 1000.
+const ANSWERED: &str =
+    "HTTP/1.1 200 OK\r\nContent-Type: application/json\r\nContent-Length: 43\r\n\r\n\
+    {\"expires\":1060,\"token\":\"0000000000001111\"}";
+
+/// A shop with a single life of 60, where `till-1` has all rights and made the worked request at 1000.
+const SHOP: &str = "open till-1 shop1 60 0 1000 = done
+tokenize till-1 shop1 7 single 4111111111111111 0 1000 = 0000000000001111 1060";
+
+/// The vault of that shop; an empty one where a line isn't answered so.
+fn shop(alloc: Global) -> Vault<MemTables> {
+    let mut vault = Vault::new(MemTables::new(alloc));
+    if wrong(alloc, &mut vault, SHOP).as_str() == "answered" {
+        vault
+    } else {
+        Vault::new(MemTables::new(alloc))
+    }
+}
+
+/// A listener on a port of loopback that the system picks.
+fn listen<H: Net<Listener = TcpListener, Stream = TcpStream>>(rt: &H) -> io::Result<TcpListener> {
+    TcpListener::bind(rt, "127.0.0.1:0")
+}
+
+/// A peer that has sent these bytes and sends no more.
+fn peer<H: Net<Stream = TcpStream>>(
+    rt: &H,
+    listener: &TcpListener,
+    bytes: &[u8],
+) -> io::Result<TcpStream> {
+    let stream = open_peer(rt, listener, bytes)?;
+    stream.shutdown(Shutdown::Write)?;
+    Ok(stream)
+}
+
+/// A peer that has sent these bytes and may send more.
+fn open_peer<H: Net<Stream = TcpStream>>(
+    rt: &H,
+    listener: &TcpListener,
+    bytes: &[u8],
+) -> io::Result<TcpStream> {
+    let mut stream = TcpStream::connect(rt, listener.local_addr()?)?;
+    stream.write_all(bytes)?;
+    Ok(stream)
+}
+
+/// Whether all that a peer is sent, up to the end of its connection, is this.
+fn is_told(alloc: Global, peer: TcpStream, wanted: &str) -> bool {
+    match read_to_string(alloc, peer) {
+        Ok(text) => text.as_str() == wanted,
+        Err(_) => false,
+    }
+}
+
+/// Serves so many connections at a moment, where a peer may be silent for 200 milliseconds.
+fn serve_at<L: OpenListener<Stream = TcpStream>, T: Tables>(
+    alloc: Global,
+    listener: &L,
+    connections: u64,
+    moment: u64,
+    vault: &mut Vault<T>,
+) -> Result<(), ListenFault> {
+    let mut generator = StdRng::seed_from_u64(7);
+    let patience = Duration::from_millis(200);
+    serve_within(
+        alloc,
+        &StandingClock::at(moment),
+        &mut generator,
+        listener,
+        connections,
+        patience,
+        vault,
+    )
+}
+
+/// Whether so many connections of the shop are served to their end at the moment 1000.
+fn is_served(alloc: Global, listener: &TcpListener, connections: u64) -> bool {
+    let mut vault = shop(alloc);
+    serve_at(alloc, listener, connections, 1000, &mut vault) == Ok(())
+}
+
+/// Whether the service, with its own patience, answers the worked message byte for byte.
+fn is_answered<H: Net<Listener = TcpListener, Stream = TcpStream> + AllocGlobal>(
+    rt: &H,
+) -> io::Result<bool> {
+    let listener = listen(rt)?;
+    let asked = peer(rt, &listener, ASKED.as_bytes())?;
+    let mut vault = shop(rt.alloc());
+    let mut generator = StdRng::seed_from_u64(7);
+    let clock = StandingClock::at(1000);
+    let ended = serve_on(rt.alloc(), &clock, &mut generator, &listener, 1, &mut vault);
+    Ok(ended == Ok(()) && is_told(rt.alloc(), asked, ANSWERED) && PATIENCE == 5)
+}
+
+#[test]
+fn the_worked_message_is_answered_byte_for_byte(rt: HostRuntime) {
+    assert!(rt; is_answered(&rt).unwrap_or(false));
+}
+
+/// The token of an answer that gives one, where it expires at this moment.
+fn token<'a>(answer: &'a str, expires: &str) -> Option<&'a str> {
+    let (head, body) = answer.split_once("\r\n\r\n")?;
+    let rest = body.strip_prefix("{\"expires\":")?.strip_prefix(expires)?;
+    let token = rest.strip_prefix(",\"token\":\"")?.strip_suffix("\"}")?;
+    if head.starts_with("HTTP/1.1 200 OK\r\n") {
+        Some(token)
+    } else {
+        None
+    }
+}
+
+/// Whether two answers give two tokens of the worked number, which expire at 2060.
+fn are_two_tokens(first: &str, second: &str) -> bool {
+    match (token(first, "2060"), token(second, "2060")) {
+        (Some(one), Some(other)) => {
+            one.len() == 16 && one.ends_with("1111") && other.ends_with("1111") && one != other
+        }
+        _ => false,
+    }
+}
+
+/// Whether two requests on two connections draw their own tokens at 2000, the clock's moment.
+fn draw_their_own<H: Net<Listener = TcpListener, Stream = TcpStream> + AllocGlobal>(
+    rt: &H,
+) -> io::Result<bool> {
+    let listener = listen(rt)?;
+    let first = ASKED.replace(rt.alloc(), "Request: 7", "Request: 8")?;
+    let second = ASKED.replace(rt.alloc(), "Request: 7", "Request: 9")?;
+    let first = peer(rt, &listener, first.as_bytes())?;
+    let second = peer(rt, &listener, second.as_bytes())?;
+    let mut vault = shop(rt.alloc());
+    let ended = serve_at(rt.alloc(), &listener, 2, 2000, &mut vault);
+    let first = read_to_string(rt.alloc(), first)?;
+    let second = read_to_string(rt.alloc(), second)?;
+    Ok(ended == Ok(()) && are_two_tokens(first.as_str(), second.as_str()))
+}
+
+#[test]
+fn each_request_draws_its_own_token_at_the_clocks_moment(rt: HostRuntime) {
+    assert!(rt; draw_their_own(&rt).unwrap_or(false));
+}

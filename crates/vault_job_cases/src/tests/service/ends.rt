@@ -1,0 +1,122 @@
+//! What ends the service, and what ends one connection alone.
+use super::fakes::{Failing, Stuck};
+use super::{ANSWERED, ASKED, is_told, listen, peer, serve_at, shop};
+use crate::tests::clocks::StandingClock;
+use rand::SeedableRng;
+use rand::rngs::StdRng;
+use std::alloc::Global;
+use std::io;
+use std::io::ErrorKind;
+use std::net::{Net, TcpListener, TcpStream};
+use vault_listen::fault::ListenFault;
+use vault_listen::service::serve_on;
+use vault_store::vault::Vault;
+
+/// Connections that are lost before they are accepted.
+const LOST: [ErrorKind; 5] = [
+    ErrorKind::ConnectionAborted,
+    ErrorKind::ConnectionReset,
+    ErrorKind::HostUnreachable,
+    ErrorKind::NetworkDown,
+    ErrorKind::NetworkUnreachable,
+];
+
+/// Whether lost connections count as ones that were served, and the next is served still.
+fn count_as_ones<H: Net<Listener = TcpListener, Stream = TcpStream> + AllocGlobal>(
+    rt: &H,
+) -> io::Result<bool> {
+    let listener = listen(rt)?;
+    let asked = peer(rt, &listener, ASKED.as_bytes())?;
+    let failing = Failing::new(&listener, &LOST);
+    let mut vault = shop(rt.alloc());
+    let all_lost = serve_at(rt.alloc(), &failing, 5, 1000, &mut vault) == Ok(());
+    let accepts = failing.accepts();
+    let served = serve_at(rt.alloc(), &failing, 1, 1000, &mut vault) == Ok(());
+    Ok(all_lost && accepts == 5 && served && is_told(rt.alloc(), asked, ANSWERED))
+}
+
+#[test]
+fn a_connection_that_is_lost_before_it_is_accepted_counts_as_one(rt: HostRuntime) {
+    assert!(rt; count_as_ones(&rt).unwrap_or(false));
+}
+
+/// Whether the service ends with 80 where its second accept fails so.
+fn ends_with_80(alloc: Global, listener: &TcpListener, kind: ErrorKind) -> bool {
+    let kinds = [ErrorKind::ConnectionAborted, kind];
+    let failing = Failing::new(listener, &kinds);
+    let mut vault = shop(alloc);
+    let ended = serve_at(alloc, &failing, 9, 1000, &mut vault);
+    ended == Err(ListenFault::Accept) && failing.accepts() == 2
+}
+
+#[test]
+fn a_listener_that_fails_ends_the_service_with_80(rt: HostRuntime) {
+    let listener = listen(&rt).expect(&rt, "a listener");
+    for kind in [
+        ErrorKind::Other,
+        ErrorKind::InvalidInput,
+        ErrorKind::WouldBlock,
+        ErrorKind::PermissionDenied,
+    ] {
+        assert!(rt; ends_with_80(rt.alloc(), &listener, kind), "{kind:?}");
+    }
+    assert!(rt; ListenFault::Accept.number() == 80 && ListenFault::Store.number() == 63);
+}
+
+/// Whether a store that fails ends the service with 63: what was answered before went out, and no further
+/// connection is accepted.
+fn ends_with_63<H: Net<Listener = TcpListener, Stream = TcpStream> + AllocGlobal>(
+    rt: &H,
+) -> io::Result<bool> {
+    let alloc = rt.alloc();
+    let listener = listen(rt)?;
+    let repeat = peer(rt, &listener, ASKED.as_bytes())?;
+    let request = ASKED.replace(alloc, "Request: 7", "Request: 8")?;
+    let twice = format!(in alloc; "{ASKED}{request}")?;
+    let stuck = peer(rt, &listener, twice.as_bytes())?;
+    let after = peer(rt, &listener, ASKED.as_bytes())?;
+    let failing = Failing::new(&listener, &[]);
+    let mut vault = Vault::new(Stuck::new(shop(alloc).into_tables()));
+    let ended = serve_at(alloc, &failing, 9, 1000, &mut vault);
+    let is_stopped = ended == Err(ListenFault::Store) && vault.broken() && failing.accepts() == 2;
+    drop(after);
+    Ok(is_stopped && is_told(alloc, repeat, ANSWERED) && is_told(alloc, stuck, ANSWERED))
+}
+
+#[test]
+fn a_store_that_fails_ends_the_service_with_63(rt: HostRuntime) {
+    assert!(rt; ends_with_63(&rt).unwrap_or(false));
+}
+
+/// Whether a connection ends alone and without an answer where the clock can't be read.
+fn ends_alone<H: Net<Listener = TcpListener, Stream = TcpStream> + AllocGlobal>(
+    rt: &H,
+) -> io::Result<bool> {
+    let listener = listen(rt)?;
+    let first = peer(rt, &listener, ASKED.as_bytes())?;
+    let second = peer(rt, &listener, ASKED.as_bytes())?;
+    let mut vault = shop(rt.alloc());
+    let mut generator = StdRng::seed_from_u64(7);
+    let clock = StandingClock::unread(1000, 1);
+    let ended = serve_on(rt.alloc(), &clock, &mut generator, &listener, 2, &mut vault);
+    let are_told = is_told(rt.alloc(), first, "") && is_told(rt.alloc(), second, ANSWERED);
+    Ok(ended == Ok(()) && are_told)
+}
+
+#[test]
+fn a_clock_that_cant_be_read_ends_the_connection_alone(rt: HostRuntime) {
+    assert!(rt; ends_alone(&rt).unwrap_or(false));
+}
+
+/// Whether a service of no connections accepts none.
+fn accepts_none(alloc: Global, listener: &TcpListener) -> bool {
+    let failing = Failing::new(listener, &[]);
+    let mut vault = shop(alloc);
+    serve_at(alloc, &failing, 0, 1000, &mut vault) == Ok(()) && failing.accepts() == 0
+}
+
+#[test]
+fn no_connection_is_accepted_beyond_the_last(rt: HostRuntime) {
+    let listener = listen(&rt).expect(&rt, "a listener");
+    assert!(rt; accepts_none(rt.alloc(), &listener));
+}

@@ -1,0 +1,133 @@
+//! A listener whose accepts fail as they are told to, and tables that can't be written.
+ghost use Rattle.std.proofs.Common.{inl, inr};
+ghost use Rattle.std.specs.Prelude.{◌≡◌, ◌⊎◌, false, true};
+ghost use Rattle.vault_store.specs.Held.{IsHeld};
+
+use std::cell::Cell;
+use std::io;
+use std::io::{Error, ErrorKind};
+use std::net::{OpenListener, SocketAddr, TcpListener, TcpStream};
+use vault_core::changes::Changes;
+use vault_core::moment::Moment;
+use vault_core::name::{Caller, MerchantId};
+use vault_core::request::RequestNo;
+use vault_core::right::Right;
+use vault_core::row::{Entry, MerchantRow, Record};
+use vault_pan::pan::Pan;
+use vault_pan::token::Token;
+use vault_store::memory::MemTables;
+use vault_store::tables::{Tables, TablesFault};
+
+/// A listener whose first accepts fail with these kinds, and that counts its accepts.
+#[derive(Drop)]
+pub(super) struct Failing<'a> {
+    listener: &'a TcpListener,
+    kinds: &'a [ErrorKind],
+    accepts: Cell<usize>,
+}
+
+impl<'a> Failing<'a> {
+    pub(super) fn new(listener: &'a TcpListener, kinds: &'a [ErrorKind]) -> Failing<'a> {
+        Failing {
+            listener,
+            kinds,
+            accepts: Cell::new(0),
+        }
+    }
+
+    /// How often it was asked for a connection.
+    pub(super) fn accepts(&self) -> usize {
+        self.accepts.get()
+    }
+}
+
+impl<'a> OpenListener for Failing<'a> {
+    type Stream = TcpStream;
+
+    fn accept(&self) -> io::Result<(TcpStream, SocketAddr)> {
+        let before = self.accepts.get();
+        self.accepts.set(before.saturating_add(1));
+        match self.kinds.get(before) {
+            Some(kind) => Err(Error::from(*kind)),
+            None => self.listener.accept(),
+        }
+    }
+}
+
+/// Tables in memory, of which every write is answered a Store fault and changes nothing.
+#[derive(Drop)]
+pub(super) struct Stuck {
+    tables: MemTables,
+    failed: bool,
+}
+
+impl Stuck {
+    pub(super) fn new(tables: MemTables) -> Stuck {
+        Stuck {
+            tables,
+            failed: false,
+        }
+    }
+}
+
+impl Tables for Stuck {
+    ghost holds = { λ t V. (t.failed ≡ false) × IsHeld t.tables V };
+
+    ghost leaves = { λ t V W. IsHeld t.tables V ⊎ IsHeld t.tables W };
+
+    ghost is_honest = { λ _. Unit {0} };
+
+    ghost may_refuse = { false };
+
+    ghost may_fail = { true };
+
+    ghost has_failed = { λ t. t.failed };
+
+    ghost unfailed = { λ t V held. held.0 };
+
+    ghost settled = { λ t V held honest. inl held.1 };
+
+    ghost widened = { λ t V W left. elim left [ inl held ↦ inl held | inr held ↦ inl held ] };
+
+    fn failed(&self) -> bool {
+        self.failed
+    }
+
+    fn merchant(&mut self, m: MerchantId) -> Result<Option<MerchantRow>, TablesFault> {
+        self.tables.merchant(m)
+    }
+
+    fn merchants(&mut self) -> Result<u64, TablesFault> {
+        self.tables.merchants()
+    }
+
+    fn right(&mut self, c: Caller, m: MerchantId, r: Right) -> Result<bool, TablesFault> {
+        self.tables.right(c, m, r)
+    }
+
+    fn recorded(&mut self, c: Caller, n: RequestNo) -> Result<Option<Record>, TablesFault> {
+        self.tables.recorded(c, n)
+    }
+
+    fn entry(&mut self, m: MerchantId, t: Token) -> Result<Option<Entry>, TablesFault> {
+        self.tables.entry(m, t)
+    }
+
+    fn current(&mut self, m: MerchantId, p: Pan, at: Moment) -> Result<Option<Token>, TablesFault> {
+        self.tables.current(m, p, at)
+    }
+
+    fn dead(
+        &mut self,
+        m: MerchantId,
+        now: Moment,
+        limit: usize,
+    ) -> Result<Vec<Token>, TablesFault> {
+        self.tables.dead(m, now, limit)
+    }
+
+    fn write(&mut self, _ch: &Changes) -> Result<(), TablesFault> {
+        self.failed = true;
+        Err(TablesFault::Store)
+    }
+}

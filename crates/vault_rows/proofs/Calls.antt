@@ -1,0 +1,440 @@
+-- The one clause of a call, from what the functions that run a text say.
+use Rattle.std.proofs.Common.{◌≡◌, ◌∙◌, ℕ, List, Ok, Err, Result, IfOk, OnOk, sym, IsTrue, is_ok, true}
+use Rattle.std.proofs.Common.{false, true≢false, ◌<◌, ◌^◌}
+use Rattle.std.proofs.Common.{◌∷◌, ◌++◌, [], suc, ℤ, arith, Option, IsErr, Ordering, subst, refl}
+use Rattle.sqlite.specs.Effect.{Database}
+use Rattle.sqlite.specs.Order.{Row}
+use Rattle.sqlite.specs.State.{State, HasCleanDisk, ExecutesInside, IsUnchanged, Shown, Shows}
+use Rattle.sqlite.specs.Tree.{Trees}
+use Rattle.sqlite.specs.Values.{bound_value}
+use Rattle.sqlite.specs.Listing.{understood}
+use Rattle.sqlite.specs.Query.{Query}
+use Rattle.sqlite.specs.Schema.{Schema}
+use Rattle.sqlite.specs.Term.{Term}
+use Rattle.sqlite.specs.declared.types.Value.TheVariants.{Int}
+use Rattle.sqlite.proofs.Callers.{IsPlain}
+use Rattle.sql_maps.specs.Codes.{row_of}
+use Rattle.sql_maps.specs.Rows.{AreRowsOf, one_of}
+use Rattle.sql_maps.specs.Texts.{IsQuery, by_key, query_of}
+use Rattle.sql_maps.proofs.Answers.{shown_as}
+use Rattle.sql_maps.proofs.Keys.{Keyed}
+use Rattle.sql_maps.proofs.Plain.{claim_at}
+use Rattle.sql_maps.proofs.Reading.{look_up}
+use Rattle.sql_maps.specs.States.{Reads, Steps}
+use Rattle.sql_maps.specs.States as maps
+use Rattle.sql_maps.proofs.Calls as calls
+use Rattle.sql_maps.proofs.Statements.{Ran}
+use Rattle.vault_core.specs.Keys.{Bytes}
+use Rattle.vault_core.specs.Numbers.{right_number}
+use Rattle.vault_core.specs.Vault.{Vault}
+use Rattle.vault_core.specs.declared.right.Right.{Right}
+use Rattle.vault_core.specs.declared.usage.Use.{Use}
+use Rattle.std.specs.FinMap as map
+use Rattle.vault_schema.specs.Version1.Claims.{Lookups}
+use Rattle.vault_schema.specs.Version2.Claims.{Lookups as Tables, claims}
+use Rattle.vault_schema.specs.Version2.Rows.{id_or_null}
+use Rattle.vault_schema.specs.Version2.Joined.{AreJoined, nothing_owed}
+use Rattle.vault_schema.specs.declared.v2.Card.{Card}
+use Rattle.vault_schema.specs.declared.v2.Pointing.{Pointing}
+use Rattle.vault_core.specs.Numbers.{use_number}
+use Rattle.vault_schema.specs.Version1.Rows.{number_or_null}
+use Rattle.vault_rows.specs.Calls.{HasTables, IsWithin, Makes, Tells, TellsInside, TellsTables, Turns}
+use Rattle.vault_schema.specs.Holds.{AreOurs, Holds, LeavesEither}
+use Rattle.vault_schema.specs.Left.{left_after}
+use Rattle.vault_schema.specs.Schema.{newest_schema}
+use Rattle.vault_schema.specs.Stands.{Stands, lookups_of, tables_of}
+use Rattle.sqlite_catalog.specs.Listing.{IsSound}
+
+-- ---- parameters
+
+pub small_right : (right : Right) → right_number right < 2 ^ 63
+small_right right = grind arith
+
+pub small_use : (usage : Use) → use_number usage < 2 ^ 63
+small_use usage = grind arith
+
+pub number_bound : (o : Option ℕ) → bound_value (number_or_null o) ≡ number_or_null o
+number_bound o = grind arith
+
+pub id_bound : (o : Option ℤ) → bound_value (id_or_null o) ≡ id_or_null o
+id_bound o = grind arith
+
+-- ---- a vault that is held, as claims on the tables
+
+-- what the tables have
+abbrev pub held_tables : (st : State) (V : Vault) → Holds st V → Tables
+held_tables st V h = tables_of (lookups_of V) h.stands.cards h.stands.pointing
+
+pub as_held : (st : State) (V : Vault) (h : Holds st V)
+    → maps.Holds newest_schema (claims (held_tables st V h)) st
+as_held st V h = record {
+  free = record { is_open = h.is_open; unlimited = h.unlimited };
+  autocommit = h.autocommit;
+  settled = h.settled;
+  stands = record { schema = h.schema; sound = h.sound; rows = h.stands.rows };
+}
+
+pub as_vault : (st : State) (V : Vault) (cards : ℤ → Option Card)
+    (pointing : Bytes × Bytes → Option Pointing) → AreJoined nothing_owed cards pointing (map.get V.entries)
+    → maps.Holds newest_schema (claims (tables_of (lookups_of V) cards pointing)) st → Holds st V
+as_vault st V cards pointing joined h = record {
+  is_open = h.free.is_open;
+  autocommit = h.autocommit;
+  unlimited = h.free.unlimited;
+  schema = h.stands.schema;
+  sound = h.stands.sound;
+  settled = h.settled;
+  stands = record { cards = cards; pointing = pointing; rows = h.stands.rows; joined = joined };
+}
+
+-- a transaction that was just begun
+pub begun_over : (st : State) (V : Vault) → Holds st V
+    → IsWithin (record st { in_transaction = true }) st.committed (lookups_of V)
+begun_over st V h = record {
+  cards = h.stands.cards;
+  pointing = h.stands.pointing;
+  has = calls.begun newest_schema (claims (held_tables st V h)) st (as_held st V h);
+  joined = h.stands.joined;
+}
+
+-- and one that is committed
+pub held_after : {mid new : State} {base : Database} (V : Vault) → IsWithin mid base (lookups_of V)
+    → Shows mid new mid.now mid.now false → new.step_limit ≡ mid.step_limit → Holds new V
+held_after {new = new} V w shows limit =
+    as_vault new V w.cards w.pointing w.joined (calls.committed w.has shows limit)
+
+-- what a commit of the transaction writes
+pub ours : {st : State} {base : Database} (V : Vault) → IsWithin st base (lookups_of V) → (db : Trees)
+    → db ≡ st.now.trees → AreOurs db V
+ours {st} V w db is = record {
+  sound = subst (λ (t : Trees). IsSound newest_schema t) (sym is)
+      (subst (λ schema. IsSound schema st.now.trees) w.has.stands.schema w.has.stands.sound);
+  stands = subst (λ (t : Trees). Stands t V) (sym is)
+      (record { cards = w.cards; pointing = w.pointing; rows = w.has.stands.rows; joined = w.joined });
+}
+
+-- ---- a query
+
+-- what its rows show of the tables is told
+pub tells_tables : {R E : Type 0} {result : Result R E} {old new : State} {sql : List ℕ} {body : Query}
+    {Is : Tables → R → Type 0} → IsQuery newest_schema sql body
+    → ((s : Schema) → IsPlain (understood s sql) → Reads s result old new)
+    → (items : R → List Row) (params : Row)
+    → (HasCleanDisk new → IfOk result (λ rows. Shown sql params old new (items rows)))
+    → ((t : Tables) (rows : R) → maps.Stands newest_schema (claims t) old.now
+    → Shown sql params old new (items rows) → Is t rows) → TellsTables result old new Is
+tells_tables {result = result} {old = old} {new = new} {sql = sql} means reads items params told
+    lemma = record {
+      reads = reads newest_schema means.plain;
+      told = λ clean. calls.if_ok result (λ rows. Shown sql params old new (items rows)) _ (told clean)
+          (λ rows shown t it. lemma t rows it shown);
+    }
+
+-- and so what they show of a vault
+pub tells_of : {R E : Type 0} {result : Result R E} {old new : State} {Is : Tables → R → Type 0}
+    {Of : Vault → R → Type 0} → TellsTables result old new Is
+    → ((V : Vault) (cards : ℤ → Option Card) (pointing : Bytes × Bytes → Option Pointing) (x : R)
+    → AreJoined nothing_owed cards pointing (map.get V.entries)
+    → Is (tables_of (lookups_of V) cards pointing) x → Of V x) → Tells result old new Of
+tells_of {result = result} {old = old} {Is = Is} it of = record {
+  reads = it.reads;
+  told = λ clean. calls.if_ok result (λ x. (t : Tables) → maps.Stands newest_schema (claims t) old.now
+      → Is t x) _
+      (it.told clean) (λ x so V h.
+      of V h.stands.cards h.stands.pointing x h.stands.joined
+      (so (held_tables old V h) (as_held old V h).stands));
+}
+
+-- what its rows show of a vault is told
+pub tells : {R E : Type 0} {result : Result R E} {old new : State} {sql : List ℕ} {body : Query}
+    {Is : Vault → R → Type 0} → IsQuery newest_schema sql body
+    → ((s : Schema) → IsPlain (understood s sql) → Reads s result old new)
+    → (items : R → List Row) (params : Row)
+    → (HasCleanDisk new → IfOk result (λ rows. Shown sql params old new (items rows)))
+    → ((V : Vault) (cards : ℤ → Option Card) (pointing : Bytes × Bytes → Option Pointing) (rows : R)
+    → AreJoined nothing_owed cards pointing (map.get V.entries)
+    → maps.Stands newest_schema (claims (tables_of (lookups_of V) cards pointing)) old.now
+    → Shown sql params old new (items rows) → Is V rows) → Tells result old new Is
+tells {result = result} {old = old} {new = new} {sql = sql} means reads items params told lemma = record {
+  reads = reads newest_schema means.plain;
+  told = λ clean. calls.if_ok result (λ rows. Shown sql params old new (items rows)) _ (told clean)
+      (λ rows shown V h.
+      lemma V h.stands.cards h.stands.pointing rows h.stands.joined (as_held old V h).stands shown);
+}
+
+-- a look-up by key tells what is at the key
+pub looks_up : {R E K X : Type 0} {result : Result R E} {old new : State} {sql : List ℕ} {project : List Term}
+    {cmp : K → K → Ordering} {key : K → Row} {value : X → Row} (t : Keyed newest_schema cmp key value)
+    (held : Tables → K → Option X)
+    (said : (h : Tables) (rows : List Row) → claim_at (claims h) t.place rows
+    → AreRowsOf (row_of key value) rows (held h))
+    → IsQuery newest_schema sql (query_of t.table.tree (by_key (suc t.more)) project)
+    → ((s : Schema) → IsPlain (understood s sql) → Reads s result old new)
+    → (items : R → List Row) (params : Row)
+    → (HasCleanDisk new → IfOk result (λ rows. Shown sql params old new (items rows)))
+    → (k : K) → params ≡ key k ++ [] → (show : X → Row)
+    → ((m : ℤ) (x : X) → shown_as params project (Int m ∷ row_of key value k x) ≡ show x)
+    → TellsTables result old new (λ h rows. items rows ≡ one_of show (held h k))
+looks_up {old = old} {new = new} t held said means reads items params told k given show shows =
+    tells_tables means reads items params told (λ h rows it shown.
+    look_up old new it _ params (items rows) shown t (held h) (said h _) _ means k given show shows)
+
+-- a call that reads leaves each vault as it was, where the connection holds one
+pub still_held : {R E : Type 0} {x : R} {old new : State} {P : Type 0}
+    → Reads newest_schema (let it : Result R E = Ok x in it) old new → (V : Vault)
+    → P × (HasCleanDisk old → Holds old V) → P × (HasCleanDisk new → Holds new V)
+still_held {old = old} {new = new} reads V h = (
+  h.0,
+  λ clean.
+      let held = h.1 (omega (arith, reads.clean, clean)) in
+      as_vault new V held.stands.cards held.stands.pointing held.stands.joined
+      (calls.holds_on newest_schema (claims (held_tables old V held)) old new (reads.kept clean held.schema)
+      reads.limit (as_held old V held)),
+)
+
+-- a statement
+
+-- what it makes of the tables is done
+pub turns : {E : Type 0} {result : Result (Unit {0}) E} {old new : State} {sql : List ℕ} {params : Row}
+    {Can : Tables → Type 0} {After : Unit {0} → Tables → Tables → Type 0} → Steps old new
+    → (HasCleanDisk new
+    → OnOk result
+    (IsTrue old.in_transaction → (count : ℕ) × ExecutesInside 0 sql params old new (Ok count)))
+    → ((t : Tables) (base : Database) → Can t → Ran newest_schema (claims t) base old new sql params
+    → (after : Tables) × After tt t after × HasTables new base after) → Turns result old new Can After
+turns {E} {result} {old} {new} {sql} {params} {Can} {After} steps ran lemma = record {
+  steps = steps;
+  done = λ clean. go result (ran clean);
+}
+  where
+    go : (r : Result (Unit {0}) E)
+        → OnOk r (IsTrue old.in_transaction → (count : ℕ) × ExecutesInside 0 sql params old new (Ok count))
+        → IfOk r (λ x. (base : Database) (t : Tables) → HasTables old base t → Can t
+        → (after : Tables) × After x t after × HasTables new base after)
+    go (Err e) did = tt
+    go (Ok x) did = λ base t w can.
+        let it = did w.inside in
+        lemma t base can (record { within = w; count = it.0; ran = it.1; limit = steps.limit })
+
+-- and so where it tells how many rows it changed
+pub turns_telling : {R E : Type 0} {y : R} {old new : State} {sql : List ℕ} {params : Row} {count : ℕ}
+    {Can : Tables → Type 0} {After : R → Tables → Tables → Type 0} → Steps old new
+    → (HasCleanDisk new → IsTrue old.in_transaction → ExecutesInside 0 sql params old new (Ok count))
+    → ((t : Tables) (base : Database) → Can t → (run : Ran newest_schema (claims t) base old new sql params)
+    → run.count ≡ count → (after : Tables) × After y t after × HasTables new base after)
+    → Turns (let it : Result R E = Ok y in it) old new Can After
+turns_telling {count = count} steps ran lemma = record {
+  steps = steps;
+  done = λ clean base t w can.
+      lemma t base can (record { within = w; count = count; ran = ran clean w.inside; limit = steps.limit })
+      refl;
+}
+
+-- what the rows of a query show of the tables is told, and they stay
+pub tells_inside : {R E : Type 0} {result : Result R E} {old new : State} {sql : List ℕ} {body : Query}
+    {Is : Tables → R → Type 0} → IsQuery newest_schema sql body → Steps old new
+    → (items : R → List Row) (params : Row)
+    → (HasCleanDisk new → IfOk result (λ rows. Shown sql params old new (items rows)))
+    → (HasCleanDisk new → (s : Schema) → IsPlain (understood s sql) → old.now.schema ≡ s
+    → OnOk result (IsUnchanged old new))
+    → ((t : Tables) (rows : R) → maps.Stands newest_schema (claims t) old.now
+    → Shown sql params old new (items rows) → Is t rows) → TellsInside result old new Is
+tells_inside {R} {E} {result} {old} {new} {sql} {Is = Is} means steps items params told kept lemma = record {
+  steps = steps;
+  told = λ clean. go result (told clean) (kept clean newest_schema means.plain);
+}
+  where
+    go : (r : Result R E) → IfOk r (λ rows. Shown sql params old new (items rows))
+        → (old.now.schema ≡ newest_schema → OnOk r (IsUnchanged old new))
+        → IfOk r (λ x. (base : Database) (t : Tables) → HasTables old base t → Is t x × HasTables new base t)
+    go (Err e) shown same = tt
+    go (Ok rows) shown same = λ base t w.
+        let still = same w.stands.schema in (
+          lemma t rows w.stands shown,
+          record {
+            free = record { is_open = still.0.is_open; unlimited = steps.limit ∙ w.free.unlimited };
+            inside = still.0.mode ∙ w.inside;
+            committed = still.0.committed_is ∙ w.committed;
+            stands = subst (maps.Stands newest_schema (claims t)) (sym still.0.now_is) w.stands;
+          },
+        )
+
+-- and so what it makes of lookups, where the entries stay
+pub makes : {R E : Type 0} {result : Result R E} {old new : State} {sql : List ℕ} {params : Row}
+    {Can : Lookups → Type 0} {after : Lookups → Lookups} → Steps old new
+    → (HasCleanDisk new
+    → OnOk result
+    (IsTrue old.in_transaction → (count : ℕ) × ExecutesInside 0 sql params old new (Ok count)))
+    → ((h : Lookups) → (after h).entries ≡ h.entries)
+    → ((h : Lookups) (cards : ℤ → Option Card) (pointing : Bytes × Bytes → Option Pointing) (base : Database)
+    → Can h → Ran newest_schema (claims (tables_of h cards pointing)) base old new sql params
+    → HasTables new base (tables_of (after h) cards pointing))
+    → Makes result old new Can after
+makes {result = result} steps ran keeps lemma = record {
+  steps = steps;
+  done = λ clean. calls.on_ok result (ran clean) (λ did base h w can.
+      let it = did w.has.inside in record {
+        cards = w.cards;
+        pointing = w.pointing;
+        has = lemma h w.cards w.pointing base can
+            (record { within = w.has; count = it.0; ran = it.1; limit = steps.limit });
+        joined = subst (AreJoined nothing_owed w.cards w.pointing) (sym (keeps h)) w.joined;
+      });
+}
+
+-- one step after another
+pub makes_then : {R E R' E' : Type 0} {x : R} {second : Result R' E'} {a b c : State}
+    {Can First Next : Lookups → Type 0} {f f' : Lookups → Lookups}
+    → Makes (let it : Result R E = Ok x in it) a b First f → Makes second b c Next f'
+    → ((h : Lookups) → Can h → First h) → ((h : Lookups) → Can h → Next (f h))
+    → Makes second a c Can (λ h. f' (f h))
+makes_then {second = second} {b = b} {f = f} one two can next = record {
+  steps = calls.steps_then one.steps two.steps;
+  done = λ clean. calls.on_ok second (two.done clean) (λ did base h w ok.
+      let before : HasCleanDisk b = omega (arith, two.steps.clean, clean) in
+      did base (f h) (one.done before base h w (can h ok)) (next h ok));
+}
+
+-- ---- one after another on the tables
+
+pub on_if : {X E : Type 0} {P : X → Type 0} {A : Type 0} (r : Result X E) → IfOk r P → ((x : X) → P x → A)
+    → OnOk r A
+on_if (Ok x) h f = f x h
+on_if (Err e) h f = tt
+
+-- what a step made is said in other words
+pub turns_as : {R R' E E' : Type 0} {x : R} {y : R'} {a b : State} {Can First : Tables → Type 0}
+    {Mid : R → Tables → Tables → Type 0} {After : R' → Tables → Tables → Type 0}
+    → Turns (let it : Result R E = Ok x in it) a b First Mid → ((t : Tables) → Can t → First t)
+    → ((t new : Tables) → Can t → Mid x t new → After y t new)
+    → Turns (let it : Result R' E' = Ok y in it) a b Can After
+turns_as one first after = record {
+  steps = one.steps;
+  done = λ clean base t w can. let it = one.done clean base t w (first t can) in
+      (it.0, after t it.0 can it.1, it.2);
+}
+
+pub turns_so : {R E : Type 0} {result : Result R E} {a b : State} {Can : Tables → Type 0}
+    {Mid After : R → Tables → Tables → Type 0} → Turns result a b Can Mid
+    → ((x : R) (t new : Tables) → Mid x t new → After x t new) → Turns result a b Can After
+turns_so {result = result} one so = record {
+  steps = one.steps;
+  done = λ clean. calls.if_ok result _ _ (one.done clean) (λ x did base t w can.
+      let it = did base t w can in (it.0, so x t it.0 it.1, it.2));
+}
+
+-- what a query inside a transaction told is answered in other words
+pub told_so : {R R' E E' : Type 0} {x : R} {y : R'} {a b : State} {Is : Tables → R → Type 0}
+    {So : Tables → R' → Type 0} → TellsInside (let it : Result R E = Ok x in it) a b Is
+    → ((t : Tables) → Is t x → So t y) → TellsInside (let it : Result R' E' = Ok y in it) a b So
+told_so one so = record {
+  steps = one.steps;
+  told = λ clean base t w. let it = one.told clean base t w in (so t it.0, it.1);
+}
+
+-- a query after a step, which tells more of it
+pub turns_seen : {R R' R'' E E' E'' : Type 0} {x : R} {z : R'} {y : R''} {a b c : State}
+    {Can First : Tables → Type 0} {Mid : R → Tables → Tables → Type 0} {Is : Tables → R' → Type 0}
+    {After : R'' → Tables → Tables → Type 0}
+    → Turns (let it : Result R E = Ok x in it) a b First Mid
+    → TellsInside (let it : Result R' E' = Ok z in it) b c Is → ((t : Tables) → Can t → First t)
+    → ((t new : Tables) → Can t → Mid x t new → Is new z → After y t new)
+    → Turns (let it : Result R'' E'' = Ok y in it) a c Can After
+turns_seen one two first after = record {
+  steps = calls.steps_then one.steps two.steps;
+  done = λ clean base t w can.
+      let mid = one.done (omega (arith, two.steps.clean, clean)) base t w (first t can) in
+      let seen = two.told clean base mid.0 mid.2 in
+      (mid.0, after t mid.0 can mid.1 seen.0, seen.1);
+}
+
+module _ {R R' E E' : Type 0} {x : R} {second : Result R' E'} {a b c : State} {Can Next : Tables → Type 0}
+    {After After' : R' → Tables → Tables → Type 0} where
+  -- a step after a query
+  pub turns_told : {Is : Tables → R → Type 0} → TellsInside (let it : Result R E = Ok x in it) a b Is
+      → Turns second b c Next After' → ((t : Tables) → Can t → Is t x → Next t)
+      → ((y : R') (t new : Tables) → Can t → Is t x → After' y t new → After y t new)
+      → Turns second a c Can After
+  turns_told one two next after = record {
+    steps = calls.steps_then one.steps two.steps;
+    done = λ clean. calls.if_ok second _ _ (two.done clean) (λ y did base t w can.
+        let told = one.told (omega (arith, two.steps.clean, clean)) base t w in
+        let end = did base t told.1 (next t can told.0) in
+        (end.0, after y t end.0 can told.0 end.1, end.2));
+  }
+
+-- ---- several queries
+
+-- where the one answer is Ok, the other is
+pub as_ok : {X Y E F : Type 0} (A : Type 0) (r : Result X E) (q : Result Y F) → is_ok q ≡ is_ok r → OnOk r A
+    → OnOk q A
+as_ok A r (Err e) same h = tt
+as_ok A (Ok x) (Ok y) same h = h
+as_ok A (Err e) (Ok y) same h = absurd (true≢false same)
+
+on_err : {R E : Type 0} (r : Result R E) (A : Type 0) → IsErr r → OnOk r A
+on_err (Err e) A failed = tt
+on_err (Ok x) A failed = absurd (true≢false (sym failed))
+
+if_err : {R E : Type 0} (r : Result R E) (P : R → Type 0) → IsErr r → IfOk r P
+if_err (Err e) P failed = tt
+if_err (Ok x) P failed = absurd (true≢false (sym failed))
+
+-- where a later query fails, all that was done is that some was read
+pub fails_then : {R E R' E' R'' E'' : Type 0} {x : R} {second : Result R' E'} {third : Result R'' E''}
+    {a b c : State} {Is : Vault → R'' → Type 0}
+    → Reads newest_schema (let it : Result R E = Ok x in it) a b → Reads newest_schema second b c
+    → IsErr third
+    → Tells third a c Is
+fails_then {third = third} one two failed =
+    let both = calls.reads_then one one.kept two in record {
+      reads = record {
+        clean = both.clean;
+        mode = both.mode;
+        limit = both.limit;
+        left = both.left;
+        kept = λ clean known. on_err third _ failed;
+      };
+      told = λ clean. if_err third _ failed;
+    }
+
+-- what a crash leaves of a connection that only read
+pub left_by : {R E P : Type 0} {result : Result R E} {old new : State} → Reads newest_schema result old new
+    → ((db : Trees) → IsTrue old.is_open → old.may_leave db → db ≡ old.committed.trees) → HasCleanDisk new
+    → (V : Vault) → P × (HasCleanDisk old → Holds old V) → LeavesEither new V V
+left_by {old = old} {new = new} reads alone clean V h =
+    let held = h.1 (omega (arith, reads.clean, clean)) in
+    left_after old new V held (λ db. alone db held.is_open) (reads.left clean held.schema)
+
+-- what was read is answered in other words
+pub reads_as : {R E R' E' : Type 0} {x : R} {y : R'} {old new : State}
+    → Reads newest_schema (let it : Result R E = Ok x in it) old new
+    → Reads newest_schema (let it : Result R' E' = Ok y in it) old new
+reads_as it = assumption it
+
+-- what the answer of a query tells
+pub answers : {R E R' E' : Type 0} {x : R} {y : R'} {old new : State} {Is : Vault → R → Type 0}
+    {Is' : Vault → R' → Type 0} → Tells (let it : Result R E = Ok x in it) old new Is
+    → ((V : Vault) → Is V x → Is' V y) → Tells (let it : Result R' E' = Ok y in it) old new Is'
+answers tells so = record { reads = reads_as tells.reads; told = λ clean V h. so V (tells.told clean V h) }
+
+-- two queries of the tables, one after the other
+pub tables_then : {R E R' E' : Type 0} {x : R} {second : Result R' E'} {a b c : State}
+    {Is : Tables → R → Type 0} {Is' So : Tables → R' → Type 0}
+    → TellsTables (let it : Result R E = Ok x in it) a b Is → TellsTables second b c Is'
+    → ((t : Tables) (y : R') → Is t x → Is' t y → So t y) → TellsTables second a c So
+tables_then {second = second} {b = b} one two so = record {
+  reads = calls.reads_then one.reads one.reads.kept two.reads;
+  told = λ clean. calls.if_ok second _ _ (two.told clean) (λ y did t st.
+      let before : HasCleanDisk b = omega (arith, two.reads.clean, clean) in
+      let still = one.reads.kept before st.schema in
+      so t y (one.told before t st)
+      (did t (subst (maps.Stands newest_schema (claims t)) (sym still.0.now_is) st)));
+}
+
+-- what the answer of a query tells of the tables
+pub tables_so : {R E R' E' : Type 0} {x : R} {y : R'} {old new : State} {Is : Tables → R → Type 0}
+    {So : Tables → R' → Type 0} → TellsTables (let it : Result R E = Ok x in it) old new Is
+    → ((t : Tables) → Is t x → So t y) → TellsTables (let it : Result R' E' = Ok y in it) old new So
+tables_so tells so =
+    record { reads = reads_as tells.reads; told = λ clean t st. so t (tells.told clean t st) }

@@ -1,0 +1,53 @@
+-- A write that a look spares, and one that comes after a look.
+use Rattle.std.proofs.Common.{◌≡◌, ◌↔◌, Bool, IsTrue, Option, Some, Ok, Result, arith, subst, sym}
+use Rattle.sqlite.specs.State.{State, HasCleanDisk}
+use Rattle.sql_maps.proofs.ByKey.{put_again}
+use Rattle.sql_maps.proofs.Calls as calls
+use Rattle.sql_maps.specs.Rows.{put}
+use Rattle.vault_core.specs.Keys.{Bytes, bytes_cmp}
+use Rattle.vault_schema.proofs.Version1.Codes.{merchant_coding}
+use Rattle.vault_schema.specs.Version1.Claims.{Lookups}
+use Rattle.vault_schema.specs.Version2.Claims.{Lookups as Tables}
+use Rattle.vault_schema.specs.declared.v1.Lives.{Lives}
+use Rattle.vault_rows.specs.Calls.{HasTables, Makes, TellsInside}
+use Rattle.vault_schema.specs.Stands.{tables_of}
+
+-- lives that a merchant has are put again, and nothing changes
+pub lives_kept : {E F : Type 0} {has : Bool} {old new : State} (m : Bytes) (x : Lives)
+    → TellsInside (let it : Result Bool E = Ok has in it) old new
+    (λ t has. IsTrue has ↔ (t.merchants m ≡ Some x)) → IsTrue has
+    → Makes (let it : Result (Unit {0}) F = Ok tt in it) old new (λ _. Unit {0})
+    (λ h. record h { merchants = put bytes_cmp h.merchants m (Some x) })
+lives_kept {new = new} m x told says = record {
+  steps = told.steps;
+  done = λ clean base h w can.
+      let seen = told.told clean base (tables_of h w.cards w.pointing) w.has in
+      let same : h.merchants ≡ put bytes_cmp h.merchants m (Some x) =
+      λ i k. sym (put_again merchant_coding w.has.stands.rows.1.0 m (Some x) (seen.0.0 says) k) i in
+      record {
+        cards = w.cards;
+        pointing = w.pointing;
+        has = subst (λ (held : Bytes → Option Lives). HasTables new base
+            (tables_of (record h { merchants = held }) w.cards w.pointing)) same seen.1;
+        joined = w.joined;
+      };
+}
+
+-- a step after a look
+pub told_makes : {R R' R'' E E' E'' : Type 0} {x : R} {y : R'} {z : R''} {a b c : State}
+    {Is : Tables → R → Type 0} {Can : Lookups → Type 0} {after : Lookups → Lookups}
+    → TellsInside (let it : Result R E = Ok x in it) a b Is
+    → Makes (let it : Result R' E' = Ok y in it) b c Can after
+    → Makes (let it : Result R'' E'' = Ok z in it) a c Can after
+told_makes {b = b} look step = record {
+  steps = calls.steps_then look.steps step.steps;
+  done = λ clean base h w can.
+      let before : HasCleanDisk b = omega (arith, step.steps.clean, clean) in
+      let seen = look.told before base (tables_of h w.cards w.pointing) w.has in
+      step.done clean base h (record {
+        cards = w.cards;
+        pointing = w.pointing;
+        has = seen.1;
+        joined = w.joined;
+      }) can;
+}

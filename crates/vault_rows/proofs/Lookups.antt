@@ -1,0 +1,179 @@
+-- What each query shows of a vault: exactly what it has, or nothing.
+use Rattle.std.proofs.Common.{◌≡◌, ◌↔◌, ℕ, ℤ, List, [], ◌∷◌, is_eq, Bool, IsTrue, false}
+use Rattle.std.proofs.Common.{◌==◌, ◌&&◌, subst, true, true≢false}
+use Rattle.std.proofs.Common.{Option, Some, None, option_map, refl, sym, ap, ◌∙◌, arith, inl}
+use Rattle.std.proofs.Common.{inr, max, slice_get}
+use Rattle.std.proofs.lemmas.Bool.Decides.{nat_tests}
+use Rattle.std.specs.FinMap as map
+use Rattle.std.specs.List.{list_all}
+use Rattle.std.specs.Option.{option_map_or}
+use Rattle.sqlite.specs.Term.{holds}
+use Rattle.sqlite.specs.declared.types.Value.TheVariants.{Int, Text}
+use Rattle.std.specs.Cmp.{tied_itself}
+use Rattle.vault_core.proofs.Maps.{bytes_exact, bytes_total}
+use Rattle.vault_core.specs.Keys.{Bytes, bytes_cmp}
+use Rattle.vault_core.specs.Sound.{Sound}
+use Rattle.vault_core.specs.Vault.{Vault, Merchant, merchant_at, made_count, time_at}
+use Rattle.vault_core.specs.Window.{moment_at, row_at, row_of}
+use Rattle.sqlite.specs.Order.{Row, column}
+use Rattle.sqlite.specs.State.{State, Shown}
+use Rattle.sql_maps.specs.Rows.{one_of}
+use Rattle.sql_maps.specs.States.{Stands}
+use Rattle.sql_maps.specs.Texts.{by_key}
+use Rattle.sql_maps.proofs.KeyTests.{text_eq, and_true, equal_is}
+use Rattle.sql_maps.proofs.Reading.{how_many, shown_are}
+use Rattle.vault_schema.specs.Version2.Claims.{claims}
+use Rattle.vault_schema.specs.Version2.Tables.{tables2, indexes2}
+use Rattle.vault_schema.specs.declared.v2.Card.{Card}
+use Rattle.vault_schema.specs.declared.v2.Pointing.{Pointing}
+use Rattle.vault_schema.specs.Version1.Rows.{number_column}
+use Rattle.vault_schema.specs.Version1.Rows.{count_row, lives_columns}
+use Rattle.vault_schema.specs.declared.v1.TheConstants.{FIND_COUNTS, COUNT_MERCHANTS}
+use Rattle.vault_schema.proofs.Version1.Codes.{merchant_coding}
+use Rattle.vault_schema.proofs.Version2.Codes.{count_table}
+use Rattle.vault_schema.proofs.Version1.Texts.{counts_is, how_many_is}
+use Rattle.vault_schema.specs.Schema.{newest_schema}
+use Rattle.vault_rows.specs.Shown.{count_columns, ShowsCounts, IsTotalOf, ShowsLives}
+use Rattle.vault_schema.specs.Stands.{lives_in, count_at, unless_zero, lookups_of, tables_of}
+use Rattle.vault_core.proofs.Finds.{some_same}
+use Rattle.vault_core.specs.declared.row.MerchantRow.{MerchantRow}
+use Rattle.vault_schema.specs.declared.v1.Lives.{Lives}
+
+-- the rows of a query of this vault
+module _ (old new : State) (V : Vault) (cards : ℤ → Option Card) (pointing : Bytes × Bytes → Option Pointing)
+    (it : Stands newest_schema (claims (tables_of (lookups_of V) cards pointing)) old.now) (rows : List Row)
+  where
+    pub shows_counts : (m : Bytes) → Shown FIND_COUNTS.now (Text m ∷ []) old new rows → ShowsCounts rows V m
+    shows_counts m shown =
+        let it = shown_are old new it _ _ rows shown count_table (lookups_of V).counts (λ are. are)
+        _ _ _ (counts_is tables2 indexes2) (λ q y. is_eq (bytes_cmp q.0 m)) passes
+        (λ q y. count_columns q.1 y)
+        (λ n q y. refl) in
+        record {
+          sound = λ r there.
+              let row = it.0 r there in
+              let same : row.0.0 ≡ m = bytes_exact row.0.0 m (equal_is _ row.3) in
+              (row.0.1, row.1, row.4, ap (λ k. unless_zero (count_at V k row.0.1)) (sym same) ∙ row.2);
+          complete = λ kind total is. it.1 (m, kind) total is (ap is_eq (tied_itself bytes_total m));
+        }
+      where
+        -- each count of the merchant passes, whatever its kind
+        passes : (n : ℤ) (q : Bytes × ℕ) (y : ℕ)
+            → list_all (holds ((Text m ∷ []) ∷ (Int n ∷ count_row q y) ∷ [])) (by_key 1) ≡ is_eq
+            (bytes_cmp q.0 m)
+        passes n q y = rw (text_eq q.0 m) (and_true _)
+
+    pub shows_how_many : Shown COUNT_MERCHANTS.now [] old new rows → Sound V
+        → rows ≡ number_column (map.len V.merchants) ∷ []
+    shows_how_many shown sound =
+        how_many old new it.schema 1 (how_many_is tables2 indexes2) shown merchant_coding lives_in V.merchants
+        it.rows.1.0
+        (omega (arith, sound.few))
+
+-- ---- the row of a merchant, put together from its own table and its counts
+
+-- a count that is shown is the count, and one that isn't is 0
+shown_or_zero : (n : ℕ) → ((total : ℕ) → unless_zero n ≡ Some total → total ≡ n)
+    × (((total : ℕ) → unless_zero n ≡ Some total → ⊥) → 0 ≡ n)
+shown_or_zero n =
+    (λ total is. grind (arith, nat_tests), λ none. let some = none n in grind (arith, nat_tests, some))
+
+-- the total of a kind among the rows of a merchant's counts is its count of that kind
+pub total_is : (V : Vault) (m : Bytes) (rows : List Row) (kind total : ℕ) → ShowsCounts rows V m
+    → IsTotalOf kind rows total → total ≡ count_at V m kind
+total_is V m rows kind total shows (inl it) =
+    let row = shows.sound it.0 it.1 in
+    let same_kind : row.0 ≡ kind = (let e = sym (ap (λ r. column r 0) row.2) ∙ it.2 in cc) in
+    let same_total : row.1 ≡ total = (let e = sym (ap (λ r. column r 1) row.2) ∙ it.3 in cc) in
+    (shown_or_zero (count_at V m kind)).0 total
+    (sym (ap (λ k. unless_zero (count_at V m k)) same_kind) ∙ row.3 ∙ ap (λ n. Some n) same_total)
+total_is V m rows kind total shows (inr none) =
+    none.0 ∙ (shown_or_zero (count_at V m kind)).1 (λ n is. none.1 _ (shows.complete kind n is) refl)
+
+abbrev row_with : Lives → ℕ → ℕ → ℕ → MerchantRow
+row_with x made_count given denied = record {
+  single_life = x.single_life;
+  multi_life = x.multi_life;
+  moment = x.moment;
+  made = made_count;
+  given = given;
+  denied = denied;
+}
+
+pub row_is : (V : Vault) (m : Bytes) (x : Lives) → Some x ≡ option_map lives_in (merchant_at V m)
+    → (one two three : ℕ)
+    → one ≡ count_at V m 1 → two ≡ count_at V m 2 → three ≡ count_at V m 3
+    → Some (row_with x one two three) ≡ row_at V m
+row_is V m x is one two three e f g = go (merchant_at V m) refl
+  where
+    go : (o : Option Merchant) → merchant_at V m ≡ o → Some (row_with x one two three) ≡ row_at V m
+    go None none = let clash = is ∙ ap (option_map lives_in) none in cc
+    go (Some merchant) known =
+        let same : x ≡ lives_in merchant = some_same (is ∙ ap (option_map lives_in) known) in
+        let given : two ≡ merchant.given = f
+        ∙ ap (λ (o : Option Merchant). option_map_or (λ (y : Merchant). y.given) o 0) known in
+        let denied : three ≡ merchant.denied = g
+        ∙ ap (λ (o : Option Merchant). option_map_or (λ (y : Merchant). y.denied) o 0) known in
+        (λ i. Some (row_with (same i) (e i) (given i) (denied i))) ∙ sym (ap (option_map (row_of V m)) known)
+
+-- the lives that the one row of a query shows are those that are there
+pub lives_shown : (o : Option Lives) (rows : List Row) (row : Row) (x : Lives) → rows ≡ one_of lives_columns o
+    → Some row ≡ slice_get rows 0 → ShowsLives row x → Some x ≡ o
+lives_shown o rows row x is first shows = grind arith
+
+abbrev are_same : Lives → Lives → Bool
+are_same x y = x.single_life == y.single_life && (x.multi_life == y.multi_life && x.moment == y.moment)
+
+same_are : (x y : Lives) → are_same x y ≡ true → x ≡ y
+same_are x y is =
+    let single : x.single_life ≡ y.single_life = grind (arith, nat_tests, is) in
+    let multi : x.multi_life ≡ y.multi_life = grind (arith, nat_tests, is) in
+    let moment : x.moment ≡ y.moment = grind (arith, nat_tests, is) in
+    λ i. record { single_life = single i; multi_life = multi i; moment = moment i }
+
+are_itself : (x : Lives) → are_same x x ≡ true
+are_itself x = grind (arith, nat_tests)
+
+-- lives that are compared with those that are there
+pub same_lives : (o : Option Lives) (x y : Lives) (same : Bool) → same ≡ are_same x y → Some x ≡ o
+    → IsTrue same ↔ (o ≡ Some y)
+same_lives o x y same tests is = (
+  λ says. sym is ∙ ap Some (same_are x y (sym tests ∙ says)),
+  λ there. tests ∙ subst (λ z. are_same x z ≡ true) (some_same (is ∙ there)) (are_itself x),
+)
+
+-- where no row is shown, there are no lives
+pub no_lives : (o : Option Lives) (y : Lives) (rows : List Row) → rows ≡ one_of lives_columns o
+    → None ≡ slice_get rows 0 → IsTrue false ↔ (o ≡ Some y)
+no_lives None y rows is first = (
+  λ says. absurd (true≢false (sym says)),
+  λ there.
+      absurd (let clash : None ≡ Some y = there in cc),
+)
+no_lives (Some x) y rows is first =
+    let some : None ≡ Some (lives_columns x) = first ∙ ap (λ l. slice_get l 0) is in absurd cc
+
+-- where no lives are there, there is no row
+pub no_row : (V : Vault) (m : Bytes) (found : Option Lives) → found ≡ option_map lives_in (merchant_at V m)
+    → found ≡ None → None ≡ row_at V m
+no_row V m found is none = grind arith
+
+-- the moment of a command is that of the merchant's lives or later
+pub moment_some : (V : Vault) (m : Bytes) (now : ℕ) (x : Lives)
+    → Some x ≡ option_map lives_in (merchant_at V m)
+    → max x.moment now ≡ moment_at V m now
+moment_some V m now x is = go (merchant_at V m) is
+  where
+    go : (o : Option Merchant) → Some x ≡ option_map lives_in o
+        → max x.moment now ≡ option_map_or (λ (merchant : Merchant). time_at merchant now) o now
+    go None is = cc
+    go (Some merchant) is = ap (λ (lives : Lives). max lives.moment now) (some_same is)
+
+pub moment_none : (V : Vault) (m : Bytes) (now : ℕ) → None ≡ option_map lives_in (merchant_at V m)
+    → now ≡ moment_at V m now
+moment_none V m now is = go (merchant_at V m) is
+  where
+    go : (o : Option Merchant) → None ≡ option_map lives_in o
+        → now ≡ option_map_or (λ (merchant : Merchant). time_at merchant now) o now
+    go None is = refl
+    go (Some merchant) is = cc

@@ -1,0 +1,4 @@
+pub mod Calls
+pub mod Cards
+pub mod Shown
+pub mod Written

@@ -1,0 +1,233 @@
+//! The rows of entries.
+ghost use Rattle.std.specs.Prelude.{◌≡◌, ◌<◌, ◌^◌, ℕ, ℤ, Some, IfOk, option_map, map, take};
+ghost use Rattle.sqlite.specs.Held.{state};
+ghost use Rattle.sqlite.specs.Order.{column};
+ghost use Rattle.sqlite.specs.declared.types.Value.TheVariants.{Int, Text};
+ghost use Rattle.sql_maps.specs.Rows.{one_of};
+ghost use Rattle.vault_core.specs.Dead.{dead_tokens};
+ghost use Rattle.vault_core.specs.Keys.{Bytes};
+ghost use Rattle.vault_core.specs.Repeats.{current as current_lem};
+ghost use Rattle.vault_core.specs.Sound.{Sound};
+ghost use Rattle.vault_core.specs.Vault.{Vault, entry_at};
+ghost use Rattle.vault_core.specs.Window.{moment_at};
+ghost use Rattle.vault_schema.specs.Version2.Joined.{number_of};
+ghost use Rattle.vault_schema.specs.Version2.Rows.{pointing_columns};
+ghost use Rattle.vault_rows.specs.Calls.{Tells, TellsTables};
+ghost use Rattle.vault_rows.specs.Cards.{HasCard, numbered};
+ghost use Rattle.vault_rows.specs.Shown.{ShowsPointing, text_column};
+
+use crate::cards::{card_rows, number_at};
+use crate::columns::{card_in, moment_in, moment_or_null_in, token_in, usage_in};
+use crate::fault::StoreFault;
+use crate::merchants::moment;
+use crate::text::merchant_text;
+use sql_maps::run::rows_of;
+use sqlite::{Alter, Connection, Error, Row, params};
+use std::alloc::{AllocError, Global};
+use vault_core::limit::MOST_TOKENS;
+use vault_core::moment::Moment;
+use vault_core::name::MerchantId;
+use vault_core::row::Entry;
+use vault_pan::pan::Pan;
+use vault_pan::token::Token;
+use vault_schema::v2::{FIND_CURRENT, FIND_DEAD, FIND_ENTRY, Pointing};
+use vault_store::tables::TablesFault;
+
+/// The row of an entry, which points at a card.
+fn pointing_rows<S: Alter>(
+    conn: &mut Connection<S>,
+    m: &str,
+    token: &str,
+) -> Result<Vec<Row>, Error>
+    ensures { TellsTables result (state S.Store conn.old) (state S.Store conn.new)
+        (λ t rows. rows.items ≡ one_of pointing_columns (t.pointing (m.now, token.now))) }
+{
+    rows_of(conn, FIND_ENTRY, params![m, token])
+}
+
+/// The entry that a row shows.
+fn pointing_of(row: &Row) -> Result<Pointing, StoreFault>
+    ensures { IfOk result (ShowsPointing row.now) }
+{
+    let card = card_in(row, 0)?;
+    let usage = usage_in(row, 1)?;
+    let birth = moment_in(row, 2)?;
+    let expires: u64 = row.get(3)?;
+    let revoked = moment_or_null_in(row, 4)?;
+    Ok(Pointing {
+        card,
+        usage,
+        birth,
+        expires,
+        revoked,
+    })
+}
+
+/// The entry of a merchant's token, which points at a card.
+fn pointing_at<S: Alter>(
+    conn: &mut Connection<S>,
+    m: &str,
+    token: &str,
+) -> Result<Option<Pointing>, StoreFault>
+    ensures { TellsTables result (state S.Store conn.old) (state S.Store conn.new)
+        (λ t found. found ≡ t.pointing (m.now, token.now)) }
+{
+    let rows = pointing_rows(conn, m, token)?;
+    match rows.first() {
+        Some(row) => Ok(Some(pointing_of(row)?)),
+        None => Ok(None),
+    }
+}
+
+/// The card that an entry points at.
+fn card_in_entry(found: &Pointing) -> Option<i64>
+    ensures { result ≡ found.now.card }
+{
+    found.card
+}
+
+/// An entry with the number of its card.
+fn entry_with(number: Option<Pan>, found: &Pointing) -> Entry
+    ensures { result ≡ numbered number found.now }
+{
+    Entry {
+        number,
+        usage: found.usage,
+        birth: found.birth,
+        expires: found.expires,
+        revoked: found.revoked,
+    }
+}
+
+/// An entry with the number of the card with this id.
+fn entry_of<S: Alter>(
+    conn: &mut Connection<S>,
+    id: i64,
+    found: &Pointing,
+) -> Result<Option<Entry>, StoreFault>
+    ensures { TellsTables result (state S.Store conn.old) (state S.Store conn.new)
+        (λ t entry. entry ≡ Some (numbered (number_of t.cards id) found.now)) }
+{
+    let number = number_at(conn, id)?;
+    Ok(Some(entry_with(number, found)))
+}
+
+/// What a merchant's token stands for.
+pub fn entry<S: Alter>(
+    conn: &mut Connection<S>,
+    m: &MerchantId,
+    token: &Token,
+) -> Result<Option<Entry>, StoreFault>
+    ensures { Tells result (state S.Store conn.old) (state S.Store conn.new)
+        (λ V found. found ≡ entry_at V m.now token.now) }
+{
+    let Some(found) = pointing_at(conn, merchant_text(m), token.as_str())? else {
+        return Ok(None);
+    };
+    match card_in_entry(&found) {
+        Some(id) => entry_of(conn, id, &found),
+        None => Ok(Some(entry_with(None, &found))),
+    }
+}
+
+/// The live multi-use token of a card's number.
+fn current_rows<S: Alter>(
+    conn: &mut Connection<S>,
+    m: &str,
+    id: i64,
+    at: u64,
+) -> Result<Vec<Row>, Error>
+    requires { at < 2 ^ 63 }
+    ensures { TellsTables result (state S.Store conn.old) (state S.Store conn.new)
+        (λ t rows. (V : Vault) (pan : Bytes) → HasCard t V id m.now pan → Sound V
+        → moment_at V m.now at ≡ at
+        → rows.items ≡ one_of text_column (option_map (λ held. held.0) (current_lem V m.now pan at))) }
+{
+    rows_of(conn, FIND_CURRENT, params![m, id, at as i64])
+}
+
+/// The multi-use token of the number of a card whose row this is, which is live at a moment that isn't before
+/// the merchant's.
+fn current_of<S: Alter>(
+    conn: &mut Connection<S>,
+    m: &str,
+    row: &Row,
+    at: u64,
+) -> Result<Option<Token>, StoreFault>
+    requires { at < 2 ^ 63 }
+    ensures { TellsTables result (state S.Store conn.old) (state S.Store conn.new)
+        (λ t found. (V : Vault) (pan : Bytes) (id : ℤ) → column row.now 0 ≡ Int id
+        → HasCard t V id m.now pan → Sound V → moment_at V m.now at ≡ at
+        → found ≡ option_map (λ held. held.0) (current_lem V m.now pan at)) }
+{
+    let id: i64 = row.get(0)?;
+    let rows = current_rows(conn, m, id, at)?;
+    match rows.first() {
+        Some(row) => Ok(Some(token_in(row, 0)?)),
+        None => Ok(None),
+    }
+}
+
+/// The multi-use token of a card number that is live at a moment, which isn't before the merchant's.
+pub fn current<S: Alter>(
+    conn: &mut Connection<S>,
+    m: &MerchantId,
+    number: &Pan,
+    at: Moment,
+) -> Result<Option<Token>, StoreFault>
+    ensures { Tells result (state S.Store conn.old) (state S.Store conn.new)
+        (λ V found. Sound V → moment_at V m.now at ≡ at
+        → found ≡ option_map (λ held. held.0) (current_lem V m.now number.now at)) }
+{
+    let rows = card_rows(conn, merchant_text(m), number.as_str())?;
+    match rows.first() {
+        Some(row) => current_of(conn, merchant_text(m), row, at.seconds()),
+        None => Ok(None),
+    }
+}
+
+/// The first of a merchant's tokens that are dead at a moment, in order.
+fn dead_rows<S: Alter>(
+    conn: &mut Connection<S>,
+    m: &str,
+    at: u64,
+    many: u64,
+) -> Result<Vec<Row>, Error>
+    requires at { at < 2 ^ 63 }
+    requires many { many < 2 ^ 63 }
+    ensures { Tells result (state S.Store conn.old) (state S.Store conn.new)
+        (λ V rows. (now : ℕ) → moment_at V m.now now ≡ at
+        → rows.items ≡ map text_column (take many (dead_tokens V m.now now))) }
+{
+    rows_of(conn, FIND_DEAD, params![m, at as i64, many as i64])
+}
+
+/// The rows of the first `limit` tokens of a merchant that are dead at the later of its moment and `now`,
+/// in order.
+pub fn dead<S: Alter>(
+    conn: &mut Connection<S>,
+    m: &MerchantId,
+    now: Moment,
+    limit: usize,
+) -> Result<Vec<Row>, StoreFault>
+    ensures { Tells result (state S.Store conn.old) (state S.Store conn.new)
+        (λ V rows. Sound V → rows.items ≡ map text_column (take limit (dead_tokens V m.now now))) }
+{
+    let at = moment(conn, m, now)?;
+    let many = MOST_TOKENS.min(limit as u64);
+    Ok(dead_rows(conn, merchant_text(m), at.seconds(), many)?)
+}
+
+/// The tokens that rows show.
+pub fn tokens_of(alloc: Global, rows: &[Row]) -> Result<Vec<Token>, TablesFault>
+    ensures { IfOk result (λ tokens. map (λ row. column row 0) rows.now ≡ map Text tokens.items) }
+{
+    let mut tokens = Vec::new(alloc);
+    for row in rows {
+        let token = token_in(row, 0)?;
+        if let Err(refused) = tokens.push(token) {
+            return Err(AllocError::from(refused).into());
+        }
+    }
+    Ok(tokens)
+}

@@ -1,0 +1,13 @@
+//! The rows of a vault's tables in SQLite: what one statement reads or writes of each table.
+#![tactic(auto)]
+
+mod cards;
+mod columns;
+pub mod entries;
+pub mod fault;
+pub mod merchants;
+mod parameters;
+pub mod pointing;
+pub mod records;
+pub mod rights;
+pub mod text;

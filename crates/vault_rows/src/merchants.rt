@@ -1,0 +1,234 @@
+//! The rows of merchants and their counts.
+ghost use Rattle.std.specs.FinMap as map;
+ghost use Rattle.std.specs.Prelude.{◌≡◌, ◌↔◌, ◌<◌, ◌^◌, [], ◌∷◌, None, Some, IfOk, IsTrue, option_map};
+ghost use Rattle.sqlite.specs.Held.{state};
+ghost use Rattle.vault_core.specs.Numbers.{count_number};
+ghost use Rattle.vault_core.specs.Sound.{Sound};
+ghost use Rattle.vault_core.specs.Vault.{merchant_at};
+ghost use Rattle.vault_core.specs.Window.{moment_at, row_at};
+ghost use Rattle.vault_core.specs.Keys.{bytes_cmp};
+ghost use Rattle.vault_rows.specs.Calls.{Makes, Tells, TellsInside, Turns};
+ghost use Rattle.vault_schema.specs.Version1.Rows.{lives_columns, number_column};
+ghost use Rattle.vault_rows.specs.Shown.{IsTotalOf, ShowsCounts, ShowsLives};
+ghost use Rattle.vault_schema.specs.Stands.{lives_in};
+ghost use Rattle.sql_maps.specs.Rows.{one_of, put};
+ghost use Rattle.vault_rows.specs.Written.{HasRoomAt, IsRaised, raise_at};
+
+use crate::columns::moment_in;
+use crate::fault::StoreFault;
+use crate::text::merchant_text;
+use sql_maps::run::{change, rows_in, rows_of, step};
+use sqlite::{Alter, Connection, Error, Row, Transaction, params};
+use vault_core::changes::Count;
+use vault_core::moment::Moment;
+use vault_core::name::MerchantId;
+use vault_core::row::MerchantRow;
+use vault_schema::v1::{
+    ADD_COUNT, COUNT_MERCHANTS, FIND_COUNTS, FIND_LIVES, Lives, PUT_MERCHANT, RAISE_COUNT,
+};
+
+/// The row of a merchant's lives.
+fn lives_rows<S: Alter>(conn: &mut Connection<S>, m: &str) -> Result<Vec<Row>, Error>
+    ensures { Tells result (state S.Store conn.old) (state S.Store conn.new)
+        (λ V rows. rows.items ≡ one_of lives_columns (option_map lives_in (merchant_at V m.now))) }
+{
+    rows_of(conn, FIND_LIVES, params![m])
+}
+
+/// The lives that a row shows.
+fn lives_of(row: &Row) -> Result<Lives, StoreFault>
+    ensures { IfOk result (ShowsLives row.now) }
+{
+    let single_life: u64 = row.get(0)?;
+    let multi_life: u64 = row.get(1)?;
+    let moment = moment_in(row, 2)?;
+    Ok(Lives {
+        single_life,
+        multi_life,
+        moment,
+    })
+}
+
+/// The lives of a merchant.
+fn lives_at<S: Alter>(conn: &mut Connection<S>, m: &MerchantId) -> Result<Option<Lives>, StoreFault>
+    ensures { Tells result (state S.Store conn.old) (state S.Store conn.new)
+        (λ V found. found ≡ option_map lives_in (merchant_at V m.now)) }
+{
+    let rows = lives_rows(conn, merchant_text(m))?;
+    match rows.first() {
+        Some(row) => Ok(Some(lives_of(row)?)),
+        None => Ok(None),
+    }
+}
+
+/// The later one of a merchant's moment and `now`, which is `now` where there is no merchant.
+pub fn moment<S: Alter>(
+    conn: &mut Connection<S>,
+    m: &MerchantId,
+    now: Moment,
+) -> Result<Moment, StoreFault>
+    ensures { Tells result (state S.Store conn.old) (state S.Store conn.new)
+        (λ V found. found ≡ moment_at V m.now now) }
+{
+    match lives_at(conn, m)? {
+        Some(lives) => Ok(lives.moment.later(now)),
+        None => Ok(now),
+    }
+}
+
+/// The rows of a merchant's counts.
+fn count_rows<S: Alter>(conn: &mut Connection<S>, m: &str) -> Result<Vec<Row>, Error>
+    ensures { Tells result (state S.Store conn.old) (state S.Store conn.new)
+        (λ V rows. ShowsCounts rows.items V m.now) }
+{
+    rows_of(conn, FIND_COUNTS, params![m])
+}
+
+/// The total that rows of counts show of this kind.
+fn total_of(rows: &[Row], kind: Count) -> Result<u64, StoreFault>
+    ensures { IfOk result (IsTotalOf (count_number kind) rows.now) }
+{
+    let number = kind.number() as u64;
+    for row in rows {
+        let found: u64 = row.get(0)?;
+        if found == number {
+            return Ok(row.get(1)?);
+        }
+    }
+    Ok(0)
+}
+
+/// The row of a merchant.
+pub fn merchant<S: Alter>(
+    conn: &mut Connection<S>,
+    m: &MerchantId,
+) -> Result<Option<MerchantRow>, StoreFault>
+    ensures { Tells result (state S.Store conn.old) (state S.Store conn.new)
+        (λ V found. found ≡ row_at V m.now) }
+{
+    let Some(lives) = lives_at(conn, m)? else {
+        return Ok(None);
+    };
+    let counts = count_rows(conn, merchant_text(m))?;
+    let made = total_of(&counts, Count::Made)?;
+    let given = total_of(&counts, Count::Given)?;
+    let denied = total_of(&counts, Count::Denied)?;
+    Ok(Some(MerchantRow {
+        single_life: lives.single_life,
+        multi_life: lives.multi_life,
+        moment: lives.moment,
+        made,
+        given,
+        denied,
+    }))
+}
+
+/// The row of the number of merchants.
+fn how_many_rows<S: Alter>(conn: &mut Connection<S>) -> Result<Vec<Row>, Error>
+    ensures { Tells result (state S.Store conn.old) (state S.Store conn.new)
+        (λ V rows. Sound V → rows.items ≡ number_column (map.len V.merchants) ∷ []) }
+{
+    rows_of(conn, COUNT_MERCHANTS, &[])
+}
+
+/// How many merchants there are.
+pub fn how_many<S: Alter>(conn: &mut Connection<S>) -> Result<u64, StoreFault>
+    ensures { Tells result (state S.Store conn.old) (state S.Store conn.new)
+        (λ V found. Sound V → found ≡ map.len V.merchants) }
+{
+    let rows = how_many_rows(conn)?;
+    match rows.first() {
+        Some(row) => Ok(row.get(0)?),
+        None => Err(StoreFault),
+    }
+}
+
+/// The row of a merchant's lives, inside a transaction.
+fn lives_rows_in<S: Alter>(tx: &mut Transaction<'_, S>, m: &str) -> Result<Vec<Row>, Error>
+    ensures same_reference { tx.new.conn.ghost_name ≡ tx.old.conn.ghost_name }
+    ensures told { TellsInside result (state S.Store tx.old.conn.now) (state S.Store tx.new.conn.now)
+        (λ t rows. rows.items ≡ one_of lives_columns (t.merchants m.now)) }
+{
+    rows_in(tx, FIND_LIVES, params![m])
+}
+
+/// Whether a merchant has these lives and this moment, inside a transaction.
+fn has_lives<S: Alter>(tx: &mut Transaction<'_, S>, m: &str, x: &Lives) -> Result<bool, StoreFault>
+    ensures same_reference { tx.new.conn.ghost_name ≡ tx.old.conn.ghost_name }
+    ensures told { TellsInside result (state S.Store tx.old.conn.now) (state S.Store tx.new.conn.now)
+        (λ t has. IsTrue has ↔ (t.merchants m.now ≡ Some x.now)) }
+{
+    let rows = lives_rows_in(tx, m)?;
+    match rows.first() {
+        Some(row) => Ok(lives_of(row)? == *x),
+        None => Ok(false),
+    }
+}
+
+/// Writes the lives and the moment of a merchant where it has others or isn't there: a look costs less than a
+/// write, and within a second a merchant's moment stays.
+pub fn set_lives<S: Alter>(
+    tx: &mut Transaction<'_, S>,
+    m: &str,
+    x: &Lives,
+) -> Result<(), StoreFault>
+    requires single { x.now.single_life < 2 ^ 63 }
+    requires multi { x.now.multi_life < 2 ^ 63 }
+    ensures same_reference { tx.new.conn.ghost_name ≡ tx.old.conn.ghost_name }
+    ensures done { Makes result (state S.Store tx.old.conn.now) (state S.Store tx.new.conn.now)
+        (λ _. Unit {0}) (λ h. record h { merchants = put bytes_cmp h.merchants m.now (Some x.now) }) }
+{
+    if has_lives(tx, m, x)? {
+        return Ok(());
+    }
+    Ok(put_merchant(tx, m, x)?)
+}
+
+/// Writes the lives and the moment of a merchant, whether or not it was there.
+fn put_merchant<S: Alter>(tx: &mut Transaction<'_, S>, m: &str, x: &Lives) -> Result<(), Error>
+    requires single { x.now.single_life < 2 ^ 63 }
+    requires multi { x.now.multi_life < 2 ^ 63 }
+    ensures same_reference { tx.new.conn.ghost_name ≡ tx.old.conn.ghost_name }
+    ensures done { Makes result (state S.Store tx.old.conn.now) (state S.Store tx.new.conn.now)
+        (λ _. Unit {0}) (λ h. record h { merchants = put bytes_cmp h.merchants m.now (Some x.now) }) }
+{
+    let moment = x.moment.seconds();
+    step(
+        tx,
+        PUT_MERCHANT,
+        params![m, x.single_life as i64, x.multi_life as i64, moment as i64],
+    )
+}
+
+/// Raises a count of a merchant by one where it has a row, and tells whether it has.
+fn raise_row<S: Alter>(tx: &mut Transaction<'_, S>, m: &str, kind: u8) -> Result<bool, Error>
+    ensures same_reference { tx.new.conn.ghost_name ≡ tx.old.conn.ghost_name }
+    ensures done { Turns result (state S.Store tx.old.conn.now) (state S.Store tx.new.conn.now)
+        (λ t. HasRoomAt t.counts (m.now, kind)) (λ has t new. IsRaised has t new (m.now, kind)) }
+{
+    let changed = change(tx, RAISE_COUNT, params![m, kind as i64])?;
+    Ok(changed > 0)
+}
+
+/// Begins a count of a merchant, which has no row, at one.
+fn add_count<S: Alter>(tx: &mut Transaction<'_, S>, m: &str, kind: u8) -> Result<(), Error>
+    ensures same_reference { tx.new.conn.ghost_name ≡ tx.old.conn.ghost_name }
+    ensures done { Turns result (state S.Store tx.old.conn.now) (state S.Store tx.new.conn.now)
+        (λ t. t.counts (m.now, kind) ≡ None)
+        (λ it t new. new ≡ record t { counts = raise_at t.counts (m.now, kind) }) }
+{
+    step(tx, ADD_COUNT, params![m, kind as i64])
+}
+
+/// Raises a count of a merchant by one. It has a row but for the first time.
+pub fn raise<S: Alter>(tx: &mut Transaction<'_, S>, m: &str, kind: u8) -> Result<(), Error>
+    ensures same_reference { tx.new.conn.ghost_name ≡ tx.old.conn.ghost_name }
+    ensures done { Makes result (state S.Store tx.old.conn.now) (state S.Store tx.new.conn.now)
+        (λ h. HasRoomAt h.counts (m.now, kind))
+        (λ h. record h { counts = raise_at h.counts (m.now, kind) }) }
+{
+    if raise_row(tx, m, kind)? {
+        return Ok(());
+    }
+    add_count(tx, m, kind)
+}

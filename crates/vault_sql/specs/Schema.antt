@@ -1,7 +1,0 @@
--- The schema of a vault's database, of the newest version.
-use Rattle.sqlite.specs.Schema.{Schema}
-use Rattle.vault_schema.specs.Version2.Tables.{v2}
-
--- all tables and indexes, with their trees
-abbrev pub vault_schema : Schema
-vault_schema = v2

@@ -1,0 +1,78 @@
+-- What holds of a result, from what holds of it.
+use Rattle.std.proofs.Common.{◌≡◌, ◌≢◌, ◌∙◌, refl, sym, ℕ, ℤ, Ok, Err, Result, IfOk, IfErr, IsErrAnd, OnOk}
+use Rattle.sqlite.specs.Schema.{Schema}
+use Rattle.sqlite.specs.State.{State}
+use Rattle.sql_maps.specs.States.{Reads}
+use Rattle.vault_verdict.specs.Faults.{IsJudged, failure}
+use Rattle.vault_verdict.specs.Reading.{IsQuietWhere}
+use Rattle.vault_verdict.specs.declared.fault.OpenFault.{OpenFault}
+use Rattle.vault_verdict.specs.declared.fault.OpenFault.TheVariants.{WrongSchema, Damaged, Store}
+use Rattle.vault_verdict.specs.declared.fault.ReadFault.{ReadFault}
+use Rattle.vault_verdict.specs.declared.fault.ReadFault.TheVariants as read
+
+pub if_ok : {A E : Type 0} {P Q : A → Type 0} (r : Result A E) → ((a : A) → P a → Q a) → IfOk r P → IfOk r Q
+if_ok (Ok a) f h = f a h
+if_ok (Err e) f h = tt
+
+pub if_err : {A E : Type 0} {P Q : E → Type 0} (r : Result A E) → ((e : E) → P e → Q e) → IfErr r P
+    → IfErr r Q
+if_err (Ok a) f h = tt
+if_err (Err e) f h = f e h
+
+pub on_ok : {A E P : Type 0} (r : Result A E) → P → OnOk r P
+on_ok (Ok a) h = h
+on_ok (Err e) h = tt
+
+pub same_rule : (a b : ℕ) → Damaged a ≡ Damaged b → a ≡ b
+same_rule a b e = cc
+
+pub same_version : (a b : ℤ) → WrongSchema a ≡ WrongSchema b → a ≡ b
+same_version a b e = cc
+
+-- a result has one fault
+pub one_fault : {A : Type 0} (r : Result A OpenFault) (e f : OpenFault) → r ≡ Err e → r ≡ Err f → e ≡ f
+one_fault r e f a b = let same = sym a ∙ b in cc
+
+-- a reading that failed says nothing of the schema or the rows
+pub undamaged : (fault : ReadFault) (rule : ℕ) → failure fault ≢ Damaged rule
+undamaged read.Memory rule e = cc
+undamaged read.Store rule e = cc
+
+pub unversioned : (fault : ReadFault) (n : ℤ) → failure fault ≢ WrongSchema n
+unversioned read.Memory n e = cc
+unversioned read.Store n e = cc
+
+pub unjudged : (fault : ReadFault) → IsJudged (failure fault) → ⊥
+unjudged read.Memory e = e
+unjudged read.Store e = e
+
+pub unread : (fault : ReadFault) → failure fault ≡ Store → fault ≡ read.Store
+unread read.Memory e = absurd cc
+unread read.Store e = refl
+
+pub if_so : {A E P Q : Type 0} (r : Result A E) → (P → Q) → OnOk r P → OnOk r Q
+if_so (Ok a) f h = f h
+if_so (Err e) f h = h
+
+-- a query is quiet where its schema is the one that it reads
+pub quiet_where : {R E P : Type 0} {s : Schema} (result : Result R E) (old new : State)
+    → (P → old.now.schema ≡ s) → Reads s result old new → IsQuietWhere P old new
+quiet_where result old new is reads = record {
+  clean = reads.clean;
+  mode = reads.mode;
+  limit = reads.limit;
+  left = λ clean p. reads.left clean (is p);
+}
+
+-- a reading's fault that `?` passes on says the same of it
+pub passed_on : {A P : Type 0} (r : Result A OpenFault) (fault : ReadFault)
+    → IsErrAnd r (λ e. e ≡ failure fault)
+    → (fault ≡ read.Store → P) → IfErr r (λ e. e ≡ Store → P)
+passed_on (Ok a) fault same none = tt
+passed_on (Err e) fault same none = λ store. none (unread fault (sym same ∙ store))
+
+-- a fault that `?` passes on says the same of it
+pub passed : {A P : Type 0} (r : Result A ReadFault) (fault : ReadFault) → IsErrAnd r (λ e. e ≡ fault)
+    → (fault ≡ read.Store → P) → IfErr r (λ e. e ≡ read.Store → P)
+passed (Ok a) fault same none = tt
+passed (Err e) fault same none = λ store. none (sym same ∙ store)

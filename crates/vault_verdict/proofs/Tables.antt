@@ -1,0 +1,141 @@
+-- The tables of a vault, those of schema 1 in each schema that begins with it.
+use Rattle.std.proofs.Common.{◌≡◌, ℕ, ℤ, true, List, [], ◌∷◌, refl, ap, ◌∙◌, is_eq, arith, string_bytes}
+use Rattle.std.proofs.lemmas.Cmp.{tied_itself}
+use Rattle.std.specs.Cmp.{int_cmp_total}
+use Rattle.sqlite.specs.Collation.TheVariants.{Binary}
+use Rattle.sqlite.specs.Order.{Row}
+use Rattle.sqlite.specs.declared.types.Value.TheVariants.{Int, Text}
+use Rattle.sqlite.specs.Table.{Table as SqlTable}
+use Rattle.sqlite_schema.specs.Rules.{equal}
+use Rattle.sqlite_schema.specs.declared.schema.Index.{Index}
+use Rattle.sql_maps.proofs.KeyTests.{text_eq, int_eq}
+use Rattle.sql_maps.specs.Schema.{Descriptor, columns_to, guards_of, table_of}
+use Rattle.vault_core.proofs.Maps.{bytes_total}
+use Rattle.vault_core.specs.Keys.{Bytes}
+use Rattle.vault_core.specs.declared.right.Right.{Right}
+use Rattle.vault_verdict.proofs.Table.{Table}
+use Rattle.vault_verdict.specs.Raw as raw
+use Rattle.vault_rules.specs.VaultOf.{count_key, entry_key, request_key, number_key, natural, right_of}
+use Rattle.vault_rules.specs.declared.rows.RawMerchant.{RawMerchant}
+use Rattle.vault_rules.specs.declared.rows.RawCount.{RawCount}
+use Rattle.vault_rules.specs.declared.rows.RawEntry.{RawEntry}
+use Rattle.vault_rules.specs.declared.rows.RawRecord.{RawRecord}
+use Rattle.vault_rules.specs.declared.rows.RawRight.{RawRight}
+use Rattle.vault_schema.proofs.Grown.{keyed_in_grown}
+use Rattle.vault_schema.proofs.Version1.Codes as codes
+use Rattle.vault_schema.proofs.Version2.Codes as newer
+use Rattle.vault_schema.specs.Version1.Rows as row
+use Rattle.vault_schema.specs.Version1.Tables as v1
+use Rattle.vault_schema.specs.Version2.Tables.{tables2, indexes2}
+
+-- a value that isn't NULL is equal to itself
+pub same_text : (t : Bytes) → equal Binary (Text t) (Text t) ≡ true
+same_text t = text_eq t t ∙ ap is_eq (tied_itself bytes_total t)
+
+pub same_int : (n : ℤ) → equal Binary (Int n) (Int n) ≡ true
+same_int n = int_eq n n ∙ ap is_eq (tied_itself int_cmp_total n)
+
+-- a text and a number
+abbrev numbered : Bytes × ℤ → Row
+numbered q = Text q.0 ∷ Int q.1 ∷ []
+
+abbrev number_of : Bytes × ℤ → Bytes × ℕ
+number_of q = (q.0, natural q.1)
+
+-- two texts and a number
+abbrev whose : Bytes × (Bytes × ℤ) → Row
+whose q = Text q.0 ∷ Text q.1.0 ∷ Int q.1.1 ∷ []
+
+abbrev right_in : Bytes × (Bytes × ℤ) → Bytes × (Bytes × Right)
+right_in q = (q.0, (q.1.0, right_of q.1.1))
+
+-- the columns of a key tell it
+pub name_back : (q k : Bytes) → Text q ∷ [] ≡ row.merchant_key k → q ≡ k
+name_back q k e = grind arith
+
+pub number_back : (q : Bytes × ℤ) (k : Bytes × ℕ) → numbered q ≡ row.numbered_key k → number_of q ≡ k
+number_back q k e = grind arith
+
+pub entry_back : (q k : Bytes × Bytes) → Text q.0 ∷ Text q.1 ∷ [] ≡ row.entry_key k → q ≡ k
+entry_back q k e = grind arith
+
+pub right_back : (q : Bytes × (Bytes × ℤ)) (k : Bytes × (Bytes × Right)) → whose q ≡ row.right_key k
+    → right_in q ≡ k
+right_back q k e = grind arith
+
+module _ (tables : List SqlTable) (indexes : List Index) where
+  -- no index behind those of schema 1 guards the key
+  abbrev pub IsFree : Descriptor → ℕ → Type 0
+  IsFree d n = guards_of indexes (table_of d) (columns_to n) ≡ []
+
+  abbrev pub merchants_in : (free : IsFree v1.merchants 1)
+      → Table (keyed_in_grown codes.merchant_table tables indexes free) RawMerchant Bytes
+  merchants_in free = record {
+    values = raw.merchant_values;
+    shown = λ m. string_bytes m.name;
+    shows = λ q. Text q ∷ [];
+    key_of = λ q. q;
+    whole = λ m. refl;
+    fits = λ q. (refl, rw (same_text q) refl);
+    back = name_back;
+  }
+
+  abbrev pub counts_in : (free : IsFree v1.counts 2)
+      → Table (keyed_in_grown codes.count_table tables indexes free) RawCount (Bytes × ℤ)
+  counts_in free = record {
+    values = raw.count_values;
+    shown = count_key;
+    shows = numbered;
+    key_of = number_of;
+    whole = λ c. refl;
+    fits = λ q. (refl, rw (same_text q.0, same_int q.1) refl);
+    back = number_back;
+  }
+
+  abbrev pub records_in : (free : IsFree v1.records 2)
+      → Table (keyed_in_grown codes.record_table tables indexes free) RawRecord (Bytes × ℤ)
+  records_in free = record {
+    values = raw.record_values;
+    shown = request_key;
+    shows = numbered;
+    key_of = number_of;
+    whole = λ r. refl;
+    fits = λ q. (refl, rw (same_text q.0, same_int q.1) refl);
+    back = number_back;
+  }
+
+  abbrev pub rights_in : (free : IsFree v1.rights 3)
+      → Table (keyed_in_grown codes.right_table tables indexes free) RawRight (Bytes × (Bytes × ℤ))
+  rights_in free = record {
+    values = raw.right_values;
+    shown = number_key;
+    shows = whose;
+    key_of = right_in;
+    whole = λ r. refl;
+    fits = λ q. (refl, rw (same_text q.0, same_text q.1.0, same_int q.1.1) refl);
+    back = right_back;
+  }
+
+-- those of schema 2
+abbrev pub merchants : Table newer.merchant_table RawMerchant Bytes
+merchants = merchants_in tables2 indexes2 refl
+
+abbrev pub counts : Table newer.count_table RawCount (Bytes × ℤ)
+counts = counts_in tables2 indexes2 refl
+
+abbrev pub records : Table newer.record_table RawRecord (Bytes × ℤ)
+records = records_in tables2 indexes2 refl
+
+abbrev pub rights : Table newer.right_table RawRight (Bytes × (Bytes × ℤ))
+rights = rights_in tables2 indexes2 refl
+
+abbrev pub entries : Table newer.pointing_table RawEntry (Bytes × Bytes)
+entries = record {
+  values = raw.entry_values;
+  shown = entry_key;
+  shows = λ q. Text q.0 ∷ Text q.1 ∷ [];
+  key_of = λ q. q;
+  whole = λ e. refl;
+  fits = λ q. (refl, rw (same_text q.0, same_text q.1) refl);
+  back = entry_back;
+}

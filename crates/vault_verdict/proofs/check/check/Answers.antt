@@ -1,0 +1,35 @@
+use Rattle.std.proofs.Common.{inl}
+use Rattle.sqlite.specs.Held.{state}
+use Rattle.vault_verdict.proofs.Holders.{held_by, no_sizes}
+use Rattle.vault_verdict.proofs.Judged.{no_refusal}
+use Rattle.vault_verdict.proofs.Results.{if_err}
+use Rattle.vault_verdict.proofs.Versioned.{wrong_mixed, wrong_other}
+use Rattle.vault_verdict.proofs.check.check.Goals as goal
+
+pub returns-in-Nobody-clause-sound : goal.returns-in-Nobody-clause-sound
+returns-in-Nobody-clause-sound g c clean full =
+    inl (held_by _ _ _ _ c.in-Nobody.is c.schema.ensures.value c.holder_in.ensures, no_sizes)
+
+pub returns-in-Vault-clause-damaged : goal.returns-in-Vault-clause-damaged
+returns-in-Vault-clause-damaged g c clean =
+    let vault = held_by _ _ _ _ c.in-Vault.is c.schema.ensures.value c.holder_in.ensures in
+    if_err c.verdict.result
+    (λ fault broken rule same full. broken rule same (record { schema = vault; full = full }))
+    (c.verdict.ensures.damaged clean)
+
+pub returns-in-Vault-clause-never : goal.returns-in-Vault-clause-never
+returns-in-Vault-clause-never g c clean =
+    no_refusal (state g.S.Store c.args.conn.now).now
+    (held_by _ _ _ _ c.in-Vault.is c.schema.ensures.value c.holder_in.ensures)
+    c.verdict.result (c.verdict.ensures.damaged clean) (c.verdict.ensures.versioned clean)
+
+pub returns-in-Mixed-clause-wrong : goal.returns-in-Mixed-clause-wrong
+returns-in-Mixed-clause-wrong g c clean =
+    wrong_mixed (state g.S.Store c.args.conn.now).now c.version_or.result
+    (held_by _ _ _ _ c.in-Mixed.is c.schema.ensures.value c.holder_in.ensures).1
+    (c.version_or.ensures.told clean)
+
+pub returns-in-Other-clause-wrong : goal.returns-in-Other-clause-wrong
+returns-in-Other-clause-wrong g c clean =
+    wrong_other (state g.S.Store c.args.conn.now).now c.version_or-in-Other.result
+    (c.version_or-in-Other.ensures.told clean)

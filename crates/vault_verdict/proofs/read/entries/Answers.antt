@@ -1,0 +1,16 @@
+use Rattle.std.proofs.Common.{[], refl}
+use Rattle.sqlite.specs.Held.{state}
+use Rattle.sql_maps.proofs.Reading.{reads_long}
+use Rattle.vault_schema.specs.Version2.Tables.{entries}
+use Rattle.vault_schema.proofs.Version2.Texts.{read_entries_is}
+use Rattle.vault_verdict.proofs.Readings.{reads_table}
+use Rattle.vault_verdict.proofs.read.entries.Goals as goal
+use Rattle.vault_schema.specs.Schema.{newest_schema}
+
+pub returns : goal.returns
+returns g c =
+    let means = read_entries_is [] [] in
+    reads_table g.S.Store c.args.conn.now c.shown.new.conn _ means (λ m. refl) c.shown.result
+    (c.shown.ensures newest_schema means.plain)
+    (λ raws has sound full shown. reads_long newest_schema (state g.S.Store c.args.conn.now)
+    (state g.S.Store c.shown.new.conn) has sound _ _ entries 7 refl _ means shown refl full)

@@ -1,0 +1,9 @@
+pub mod Apart
+pub mod Faults
+pub mod Laws
+pub mod Names
+pub mod Opened
+pub mod Raw
+pub mod Reading
+pub mod Sizes
+pub mod Versions

@@ -1,0 +1,121 @@
+-- What an open finds.
+use Rattle.std.specs.Prelude.{◌≡◌, ◌≢◌, ◌⊎◌, ℕ, ℤ, pos, List, length, map, Some, None, IsTrue}
+use Rattle.std.specs.List.Sorted.{IsPermutation}
+use Rattle.sqlite.specs.Effect.{Database, IsDatabase}
+use Rattle.sqlite.specs.State.{State}
+use Rattle.sqlite.specs.Tree.{Trees}
+use Rattle.vault_core.specs.Sound.{Sound}
+use Rattle.vault_core.specs.Vault.{Vault, empty_vault}
+use Rattle.vault_verdict.specs.Names.{IsMixed, vault_names}
+use Rattle.vault_verdict.specs.Raw.{version_values, merchant_values, count_values, card_row, entry_values}
+use Rattle.vault_verdict.specs.Raw.{record_values, right_values}
+use Rattle.vault_verdict.specs.Reading.{IsOurs, shown_by, version_columns}
+use Rattle.vault_verdict.specs.Sizes.{sizes_of}
+use Rattle.vault_verdict.specs.Versions.{other_version}
+use Rattle.vault_verdict.specs.declared.fault.OpenFault.{OpenFault}
+use Rattle.vault_verdict.specs.declared.fault.OpenFault.TheVariants.{WrongSchema, Damaged}
+use Rattle.vault_verdict.specs.declared.sizes.Sizes.{Sizes}
+use Rattle.vault_rules.specs.Rules as rules
+use Rattle.vault_rules.specs.declared.rows.RawVersion.{RawVersion}
+use Rattle.vault_rules.specs.declared.rows.Rows.{Rows}
+use Rattle.vault_schema.specs.Versioned.{HasVersion}
+use Rattle.vault_schema.specs.Holds.{Holds, LeavesEither, LeavesFirst}
+use Rattle.vault_schema.specs.Making.{IsReady}
+use Rattle.sql_maps.specs.Schema.{no_schema}
+use Rattle.vault_schema.specs.Schema.{newest_schema}
+use Rattle.vault_schema.specs.Stands.{Stands}
+
+-- the rows of `vault` as they stand, in some order
+abbrev pub AreVersions : Trees → List RawVersion → Type 0
+AreVersions db versions = IsPermutation (map (shown_by version_columns) (db 0)) (map version_values versions)
+
+-- the rows of all tables, each in some order; of the table that schema 2 replaced, how many
+pub record AreRaws (db : Trees) (rows : Rows) : Type 0 where
+  pub versions : AreVersions db rows.versions.items
+  pub merchants : IsPermutation (db 1) (map merchant_values rows.merchants.items)
+  pub counts : IsPermutation (db 3) (map count_values rows.counts.items)
+  pub cards : IsPermutation (db 12) (map card_row rows.cards.items)
+  pub entries : IsPermutation (db 14) (map entry_values rows.entries.items)
+  pub records : IsPermutation (db 8) (map record_values rows.records.items)
+  pub rights : IsPermutation (db 10) (map right_values rows.rights.items)
+  pub replaced : rows.replaced ≡ length (db 5)
+
+-- the version is 2, and the rows break this rule and none below it
+pub record IsLeastBroken (db : Database) (rule : ℕ) : Type 0 where
+  pub rows : Rows
+  pub is : IsDatabase db
+  pub are : AreRaws db.trees rows
+  pub version : other_version rows.versions.items ≡ None
+  pub least : rules.IsLeastBroken rows rule
+
+-- the database has a version: the row of `vault` with the id 1 says this one, which isn't 2
+pub record IsOtherVersion (db : Database) (n : ℤ) : Type 0 where
+  pub first : HasVersion db.schema
+  pub versions : List RawVersion
+  pub are : AreVersions db.trees versions
+  pub says : other_version versions ≡ Some n
+
+-- the row of `vault` with the id 1 says the version 2, or there is no such row
+pub record IsThisVersion (db : Database) : Type 0 where
+  pub versions : List RawVersion
+  pub are : AreVersions db.trees versions
+  pub says : other_version versions ≡ None
+
+-- another version is told nowhere
+abbrev pub SaysNoOther : Database → Type 0
+SaysNoOther db = HasVersion db.schema → IsThisVersion db
+
+-- the database stands for a sound vault
+pub record StandsSound (db : Database) : Type 0 where
+  pub schema : db.schema ≡ newest_schema
+  pub vault : Vault
+  pub sound : Sound vault
+  pub stands : Stands db.trees vault
+
+-- and that vault has these sizes
+pub record IsSoundOf (db : Database) (sizes : Sizes) : Type 0 where
+  pub is : IsDatabase db
+  pub it : StandsSound db
+  pub sizes_are : sizes ≡ sizes_of it.vault
+
+-- the connection holds a sound vault
+pub record HoldsSound (s : State) : Type 0 where
+  pub vault : Vault
+  pub sound : Sound vault
+  pub holds : Holds s vault
+
+-- another version, wherever one is told; else 0, where some of a vault's names are taken and not all, or
+-- not alone
+abbrev pub IsWrong : Database → ℤ → Type 0
+IsWrong db n = IsOtherVersion db n ⊎ ((n ≡ pos 0) × IsMixed db.schema vault_names × SaysNoOther db)
+
+-- a refusal by another version, or this one where no other is told
+abbrev pub TellsVersion : Database → OpenFault → OpenFault → Type 0
+TellsVersion db refusal e =
+    ((n : ℤ) × (e ≡ WrongSchema n) × IsOtherVersion db n) ⊎ ((e ≡ refusal) × SaysNoOther db)
+
+-- the database stands for a sound vault, or has no table, index or view
+abbrev pub IsFit : Database → Type 0
+IsFit db = StandsSound db ⊎ (db.schema ≡ no_schema)
+
+-- what may be answered to a database in another schema: no damage
+abbrev pub IsNoDamage : OpenFault → Type 0
+IsNoDamage e = (rule : ℕ) → e ≢ Damaged rule
+
+-- what may be answered to a database that is fit: neither a wrong schema nor damage
+abbrev pub IsNoRefusal : OpenFault → Type 0
+IsNoRefusal e = ((n : ℤ) → e ≢ WrongSchema n) × IsNoDamage e
+
+-- A vault's tables hold a sound vault and are as they were, so a vault that they stand for is held; without a
+-- table they hold the empty vault.
+pub record Opens (old new : State) : Type 0 where
+  pub whose : (old.now.schema ≡ no_schema) ⊎ (old.now.schema ≡ newest_schema)
+  pub ours : IsOurs old.now → HoldsSound new × (new.now ≡ old.now)
+  pub same : IsOurs old.now → (V : Vault) → Stands old.now.trees V → Holds new V
+  pub blank : IsTrue old.is_open → old.now.schema ≡ no_schema → Holds new empty_vault
+
+-- What a crash may leave now: where a vault was held, that vault; where there was no table, what was
+-- committed or the empty vault.
+pub record LeavesFound (old new : State) : Type 0 where
+  pub held : (V : Vault) → Holds old V → LeavesEither new V V
+  pub blank : IsReady old → old.now.schema ≡ no_schema → LeavesFirst new old.committed.trees

@@ -1,0 +1,84 @@
+-- The rows of the tables as lists of values.
+use Rattle.std.specs.Prelude.{◌≢◌, ℤ, [], ◌∷◌, Option, Some, None, option_map, string_bytes}
+use Rattle.std.specs.declared.alloc.Global.{Global}
+use Rattle.std.specs.declared.string.String.{String}
+use Rattle.sqlite.specs.declared.types.Value.{Value}
+use Rattle.sqlite.specs.declared.types.Value.TheVariants.{Null, Int, Text}
+use Rattle.sqlite.specs.Order.{Row}
+use Rattle.vault_schema.specs.Version1.Rows.{text_or_null}
+use Rattle.vault_rules.specs.declared.rows.RawVersion.{RawVersion}
+use Rattle.vault_rules.specs.declared.rows.RawMerchant.{RawMerchant}
+use Rattle.vault_verdict.specs.declared.replaced.EntryId.{EntryId}
+use Rattle.vault_verdict.specs.declared.replaced.OldEntry.{OldEntry}
+use Rattle.vault_rules.specs.declared.rows.RawCount.{RawCount}
+use Rattle.vault_rules.specs.declared.rows.RawCard.{RawCard}
+use Rattle.vault_rules.specs.declared.rows.RawEntry.{RawEntry}
+use Rattle.vault_rules.specs.declared.rows.RawRecord.{RawRecord}
+use Rattle.vault_rules.specs.declared.rows.RawRight.{RawRight}
+
+-- a whole number, or NULL
+abbrev pub int_value : Option ℤ → Value
+int_value None = Null
+int_value (Some n) = Int n
+
+-- a text
+abbrev pub text_value : String Global → Value
+text_value text = Text (string_bytes text)
+
+-- a text, or NULL
+abbrev pub maybe_text_value : Option (String Global) → Value
+maybe_text_value text = text_or_null (option_map (λ it. string_bytes it) text)
+
+-- what no raw row shows, or no list of them
+abbrev pub IsStrange : {R T : Type 0} → (R → T) → T → Type 0
+IsStrange {R} values shown = (raw : R) → shown ≢ values raw
+
+-- its id, which the database keeps as the rowid, and the version
+abbrev pub version_values : RawVersion → Row
+version_values v = Int v.id ∷ Int v.version ∷ []
+
+-- a row of `merchants`, with its rowid in front
+abbrev pub merchant_values : RawMerchant → Row
+merchant_values m =
+    Int m.rowid ∷ Text (string_bytes m.name) ∷ Int m.single_life ∷ Int m.multi_life ∷ Int m.moment ∷ []
+
+-- of `counts`
+abbrev pub count_values : RawCount → Row
+count_values c = Int c.rowid ∷ Text (string_bytes c.merchant) ∷ Int c.kind ∷ Int c.total ∷ []
+
+-- of `cards2`, as a query shows it
+abbrev pub card_values : RawCard → Row
+card_values c =
+    Int c.id ∷ Text (string_bytes c.merchant) ∷ Text (string_bytes c.number) ∷ Int c.uses ∷ []
+
+-- and as it stands: the database keeps the id as the rowid, and NULL in its column
+abbrev pub card_row : RawCard → Row
+card_row c =
+    Int c.id ∷ Null ∷ Text (string_bytes c.merchant) ∷ Text (string_bytes c.number) ∷ Int c.uses ∷ []
+
+-- of `entries2`
+abbrev pub entry_values : RawEntry → Row
+entry_values e =
+    Int e.rowid ∷ Text (string_bytes e.merchant) ∷ Text (string_bytes e.token) ∷ int_value e.card
+    ∷ Int e.usage ∷ Int e.birth ∷ Int e.expires ∷ int_value e.revoked ∷ []
+
+-- of `entries`, the table of schema 1
+abbrev pub old_entry_values : OldEntry → Row
+old_entry_values e =
+    Int e.rowid ∷ Text (string_bytes e.merchant) ∷ Text (string_bytes e.token)
+    ∷ maybe_text_value e.number ∷ Int e.usage ∷ Int e.birth ∷ Int e.expires ∷ int_value e.revoked ∷ []
+
+-- of `entries`, its rowid alone
+abbrev pub entry_id_values : EntryId → Row
+entry_id_values e = Int e.rowid ∷ []
+
+-- of `records`
+abbrev pub record_values : RawRecord → Row
+record_values r =
+    Int r.rowid ∷ Text (string_bytes r.caller) ∷ Int r.request ∷ Text (string_bytes r.merchant)
+    ∷ Text (string_bytes r.token) ∷ Int r.usage ∷ []
+
+-- of `rights`
+abbrev pub right_values : RawRight → Row
+right_values r =
+    Int r.rowid ∷ Text (string_bytes r.caller) ∷ Text (string_bytes r.merchant) ∷ Int r.what ∷ []

@@ -1,0 +1,73 @@
+//! The whole check of a file.
+ghost use Rattle.std.specs.Prelude.{◌≡◌, ◌⊎◌, ℤ, ℕ, pos, Err, IfOk, IfErr, IsErrAnd, OnOk};
+ghost use Rattle.sqlite.specs.Held.{state};
+ghost use Rattle.sqlite.specs.State.{HasCleanDisk, IsUnchanged};
+ghost use Rattle.vault_core.specs.Vault.{empty_vault};
+ghost use Rattle.vault_verdict.specs.Faults.{IsJudged};
+ghost use Rattle.vault_verdict.specs.Names.{IsForeign, IsMixed, vault_names};
+ghost use Rattle.vault_verdict.specs.Opened.{IsFit, IsLeastBroken, IsNoDamage, IsNoRefusal, IsSoundOf};
+ghost use Rattle.vault_verdict.specs.Opened.{IsWrong};
+ghost use Rattle.vault_verdict.specs.Reading.{IsFull, IsOurs, IsQuietWhere, IsUnreadFile};
+ghost use Rattle.vault_verdict.specs.Sizes.{sizes_of};
+ghost use Rattle.sql_maps.specs.Schema.{no_schema};
+ghost use Rattle.vault_schema.specs.Versioned.{HasVersion};
+ghost use Rattle.vault_schema.specs.Schema.{newest_schema};
+
+use crate::fault::OpenFault;
+use crate::names::{Holder, holder_in};
+use crate::sizes::Sizes;
+use crate::verdict::verdict;
+use crate::version::version_or;
+use sqlite::{Alter, Connection};
+use std::alloc::Global;
+
+/// Checks a file whole, and says how much the vault in it holds. It writes nothing: a file without any
+/// table is the empty vault, and stays as it is.
+///
+/// Refused by 30 with the version that the file says, where it isn't 2 and its table stands first, whatever
+/// else there is; or with 0 where some of a vault's names are there and one is missing, or others stand
+/// beside them; by 31 with the least rule that the rows break; by 32 where memory ran out; by 33 where the
+/// database failed, the tables are another program's alone, or a vault's tables stand in another order or
+/// form than this program makes them. After 30 and 31 the connection sees what it saw.
+pub fn check<S: Alter>(alloc: Global, conn: &mut Connection<S>) -> Result<Sizes, OpenFault>
+    ensures sound { HasCleanDisk (state S.Store conn.new)
+        → IfOk result (λ sizes. IsFull (state S.Store conn.old).now
+        → ((state S.Store conn.old).now.schema ≡ no_schema) × (sizes ≡ sizes_of empty_vault)
+        ⊎ IsSoundOf (state S.Store conn.old).now sizes) }
+    ensures damaged { HasCleanDisk (state S.Store conn.new) → IfErr result (λ e. (rule : ℕ)
+        → e ≡ OpenFault.Damaged rule
+        → IsFull (state S.Store conn.old).now → IsLeastBroken (state S.Store conn.old).now rule) }
+    ensures wrong { HasCleanDisk (state S.Store conn.new) → IfErr result (λ e. (n : ℤ)
+        → e ≡ OpenFault.WrongSchema n
+        → IsWrong (state S.Store conn.old).now n) }
+    ensures unread { HasCleanDisk (state S.Store conn.new) → IfErr result (λ e. e ≡ OpenFault.Store
+        → IsOurs (state S.Store conn.old).now
+        → IsUnreadFile S.Store (state S.Store conn.old).now conn.new) }
+    ensures never { HasCleanDisk (state S.Store conn.new)
+        → IfErr result (λ e. IsFit (state S.Store conn.old).now → IsNoRefusal e) }
+    ensures mixed { IsForeign (state S.Store conn.old).now.schema
+        → ¬ HasVersion (state S.Store conn.old).now.schema
+        → IsMixed (state S.Store conn.old).now.schema vault_names
+        → result ≡ Err (OpenFault.WrongSchema (pos 0)) }
+    ensures strange { IsForeign (state S.Store conn.old).now.schema
+        → ¬ HasVersion (state S.Store conn.old).now.schema
+        → ¬ IsMixed (state S.Store conn.old).now.schema vault_names
+        → result ≡ Err OpenFault.Store }
+    ensures kept { HasCleanDisk (state S.Store conn.new)
+        → OnOk result ((state S.Store conn.old).now.schema ≡ newest_schema
+        → IsUnchanged (state S.Store conn.old) (state S.Store conn.new)) }
+    ensures foreign { IsForeign (state S.Store conn.old).now.schema → IsErrAnd result IsNoDamage }
+    ensures sees { HasCleanDisk (state S.Store conn.new) → IfErr result (λ e. IsJudged e
+        → HasVersion (state S.Store conn.old).now.schema
+        → IsUnchanged (state S.Store conn.old) (state S.Store conn.new)) }
+    ensures untouched { ¬ HasVersion (state S.Store conn.old).now.schema → conn.new ≡ conn.old }
+    ensures quiet { IsQuietWhere (HasVersion (state S.Store conn.old).now.schema) (state S.Store conn.old)
+        (state S.Store conn.new) }
+{
+    match holder_in(conn.schema()) {
+        Holder::Nobody => Ok(Sizes::NONE),
+        Holder::Vault => verdict(alloc, conn),
+        Holder::Mixed => Err(version_or(alloc, conn, OpenFault::WrongSchema(0))),
+        Holder::Other => Err(version_or(alloc, conn, OpenFault::Store)),
+    }
+}

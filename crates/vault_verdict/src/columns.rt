@@ -1,0 +1,108 @@
+//! The columns of a row as values of Rust.
+ghost use Rattle.std.specs.Prelude.{◌≡◌, ◌≢◌, ◌∷◌, [], refl, Some, None, string_bytes, IfErr, IfOk, OnOk};
+ghost use Rattle.std.proofs.Common.{inl, inr};
+ghost use Rattle.std.proofs.lemmas.Str.{IsUtf8-string_bytes};
+ghost use Rattle.sqlite.specs.Order.{Row as SqlRow};
+ghost use Rattle.sqlite.specs.declared.types.Value.{Value};
+ghost use Rattle.sqlite.specs.declared.types.Value.TheVariants.{Int};
+ghost use Rattle.vault_verdict.specs.Raw.{int_value, maybe_text_value, text_value};
+
+use crate::fault::ReadFault;
+use sqlite::Row;
+use sqlite::types::FromSql;
+use std::marker::Model;
+
+/// What a column of a table holds.
+pub(crate) trait Column: FromSql + Drop {
+    // The value that stands for it, which alone reads as it does, and can be read.
+    ghost shows: { Self → Value };
+
+    ghost alone: { (value : Value) (read : Self) → Self.FromSql.reads_as value read → value ≡ shows read };
+
+    ghost readable: { (read : Self) → Self.FromSql.is_readable (shows read) };
+}
+
+impl Column for i64 {
+    ghost shows = { Int };
+
+    ghost alone = { λ value read same. same };
+
+    ghost readable = { λ read. (read, refl) };
+}
+
+impl Column for String {
+    ghost shows = { text_value };
+
+    ghost alone = { λ value read same. same };
+
+    ghost readable = { λ read. (string_bytes read, refl, IsUtf8-string_bytes read) };
+}
+
+impl Column for Option<i64> {
+    ghost shows = { int_value };
+
+    ghost alone = { λ value. elim [ None ↦ λ same. same | Some number ↦ λ same. same.1 ] };
+
+    ghost readable = { elim [ None ↦ inl refl | Some number ↦ inr (number, refl) ] };
+}
+
+impl Column for Option<String> {
+    ghost shows = { maybe_text_value };
+
+    ghost alone = { λ value. elim [ None ↦ λ same. same | Some text ↦ λ same. same.1 ] };
+
+    ghost readable = { elim [
+      | None ↦ inl refl
+      | Some text ↦ inr (string_bytes text, refl, IsUtf8-string_bytes text)
+    ] };
+}
+
+/// The columns of a row that are still to be read.
+#[derive(Drop)]
+pub(crate) struct Columns<'a> {
+    row: &'a Row,
+    at: usize,
+}
+
+impl<'a> Model for Columns<'a> {
+    ghost use Rattle.std.specs.Prelude.{List, drop};
+    ghost use Rattle.sqlite.specs.declared.types.Value.{Value as SqlValue};
+
+    ghost Value = { List SqlValue };
+
+    ghost view = { λ columns. drop columns.at columns.row.now };
+}
+
+impl<'a> Columns<'a> {
+    /// All of them.
+    pub(crate) fn of(row: &'a Row) -> Columns<'a>
+        ensures { result ≡ row.now }
+    {
+        Columns { row, at: 0 }
+    }
+
+    /// Reads the first of them.
+    pub(crate) fn next<C: Column>(&mut self) -> Result<C, ReadFault>
+        ensures value { IfOk result (λ read. self.old ≡ C.shows read ∷ self.new) }
+        ensures refused { IfErr result (λ e. e ≡ ReadFault.Store
+            → (shown : C) (rest : SqlRow) → self.old ≢ C.shows shown ∷ rest) }
+    {
+        if self.at >= self.row.column_count() {
+            return Err(ReadFault::Store);
+        }
+        let read = self.row.get(self.at)?;
+        self.at += 1;
+        Ok(read)
+    }
+
+    /// Whether all were read.
+    pub(crate) fn end(&self) -> Result<(), ReadFault>
+        ensures none { OnOk result (self.now ≡ []) }
+        ensures refused { IfErr result (λ e. e ≡ ReadFault.Store → self.now ≢ []) }
+    {
+        if self.at < self.row.column_count() {
+            return Err(ReadFault::Store);
+        }
+        Ok(())
+    }
+}

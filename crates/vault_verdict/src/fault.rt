@@ -1,0 +1,106 @@
+//! Why a file isn't opened.
+ghost use Rattle.std.specs.Prelude.{◌≡◌};
+ghost use Rattle.vault_verdict.specs.Faults.{number_of};
+
+use sqlite::{Error, ErrorCode};
+use std::alloc::{AllocError, AllocFailed};
+
+/// Why no vault is opened.
+#[derive(Clone, Copy, Debug, PartialEq, Eq)]
+pub enum OpenFault {
+    /// 30: the version that the file says, which isn't this program's; 0 where a table is missing or a name
+    /// is taken.
+    WrongSchema(i64),
+    /// 31: the least rule that the rows break.
+    Damaged(u8),
+    /// 32: memory ran out.
+    Memory,
+    /// 33: the database failed, or holds what isn't a vault's.
+    Store,
+}
+
+impl OpenFault {
+    /// The number of the refusal.
+    pub fn number(&self) -> u8
+        ensures { result ≡ number_of self.now }
+    {
+        match self {
+            OpenFault::WrongSchema(_) => 30,
+            OpenFault::Damaged(_) => 31,
+            OpenFault::Memory => 32,
+            OpenFault::Store => 33,
+        }
+    }
+}
+
+impl From<AllocError> for OpenFault {
+    ghost use Rattle.std.specs.Prelude.{◌≡◌};
+    ghost use Rattle.vault_verdict.specs.declared.fault.OpenFault.TheVariants.{Memory};
+
+    ghost from_gives = { λ refused fault. fault ≡ Memory };
+
+    fn from(_refused: AllocError) -> OpenFault {
+        OpenFault::Memory
+    }
+}
+
+/// Why rows weren't read.
+#[derive(Clone, Copy, Debug, PartialEq, Eq)]
+pub enum ReadFault {
+    /// Memory ran out.
+    Memory,
+    /// The database failed, or a row has a value that isn't its column's.
+    Store,
+}
+
+impl From<Error> for ReadFault {
+    ghost use Rattle.std.specs.Prelude.{◌≡◌, ◌↔◌};
+    ghost use Rattle.sqlite.specs.declared.error.Error.TheVariants.{SqliteFailure};
+    ghost use Rattle.sqlite.specs.declared.error.ErrorCode.TheVariants.{OutOfMemory};
+    ghost use Rattle.vault_verdict.specs.declared.fault.ReadFault.TheVariants.{Memory};
+
+    ghost from_gives = { λ error fault. (fault ≡ Memory) ↔ (error ≡ SqliteFailure OutOfMemory) };
+
+    fn from(error: Error) -> ReadFault {
+        match error {
+            Error::SqliteFailure(ErrorCode::OutOfMemory) => ReadFault::Memory,
+            _ => ReadFault::Store,
+        }
+    }
+}
+
+impl From<AllocError> for ReadFault {
+    ghost use Rattle.std.specs.Prelude.{◌≡◌};
+    ghost use Rattle.vault_verdict.specs.declared.fault.ReadFault.TheVariants.{Memory};
+
+    ghost from_gives = { λ refused fault. fault ≡ Memory };
+
+    fn from(_refused: AllocError) -> ReadFault {
+        ReadFault::Memory
+    }
+}
+
+impl<T: Drop> From<AllocFailed<T>> for ReadFault {
+    ghost use Rattle.std.specs.Prelude.{◌≡◌};
+    ghost use Rattle.vault_verdict.specs.declared.fault.ReadFault.TheVariants.{Memory};
+
+    ghost from_gives = { λ refused fault. fault ≡ Memory };
+
+    fn from(_refused: AllocFailed<T>) -> ReadFault {
+        ReadFault::Memory
+    }
+}
+
+impl From<ReadFault> for OpenFault {
+    ghost use Rattle.std.specs.Prelude.{◌≡◌};
+    ghost use Rattle.vault_verdict.specs.Faults.{failure};
+
+    ghost from_gives = { λ read fault. fault ≡ failure read };
+
+    fn from(read: ReadFault) -> OpenFault {
+        match read {
+            ReadFault::Memory => OpenFault::Memory,
+            ReadFault::Store => OpenFault::Store,
+        }
+    }
+}

@@ -1,0 +1,61 @@
+//! Rows of the table that schema 2 replaced.
+ghost use Rattle.vault_verdict.specs.Raw.{entry_id_values, old_entry_values};
+
+use crate::columns::Columns;
+use crate::fault::ReadFault;
+use crate::raws::Raw;
+use sqlite::Row;
+
+/// A row of `entries`, the table of schema 1.
+#[derive(Drop)]
+pub struct OldEntry {
+    pub rowid: i64,
+    pub merchant: String,
+    pub token: String,
+    /// NULL where it is purged.
+    pub number: Option<String>,
+    pub usage: i64,
+    pub birth: i64,
+    pub expires: i64,
+    /// NULL where the token isn't revoked.
+    pub revoked: Option<i64>,
+}
+
+impl Raw for OldEntry {
+    ghost values = { old_entry_values };
+
+    fn read(row: &Row) -> Result<OldEntry, ReadFault> {
+        let mut columns = Columns::of(row);
+        let raw = OldEntry {
+            rowid: columns.next()?,
+            merchant: columns.next()?,
+            token: columns.next()?,
+            number: columns.next()?,
+            usage: columns.next()?,
+            birth: columns.next()?,
+            expires: columns.next()?,
+            revoked: columns.next()?,
+        };
+        columns.end()?;
+        Ok(raw)
+    }
+}
+
+/// The rowid alone of a row of `entries`.
+#[derive(Drop)]
+pub struct EntryId {
+    pub rowid: i64,
+}
+
+impl Raw for EntryId {
+    ghost values = { entry_id_values };
+
+    fn read(row: &Row) -> Result<EntryId, ReadFault> {
+        let mut columns = Columns::of(row);
+        let raw = EntryId {
+            rowid: columns.next()?,
+        };
+        columns.end()?;
+        Ok(raw)
+    }
+}

@@ -1,0 +1,53 @@
+//! The version that a database says, told before anything else of it.
+ghost use Rattle.std.specs.Prelude.{◌≡◌, ℤ, None, Some};
+ghost use Rattle.sqlite.specs.Held.{state};
+ghost use Rattle.sqlite.specs.State.{HasCleanDisk, IsUnchanged};
+ghost use Rattle.vault_verdict.specs.Faults.{IsJudged};
+ghost use Rattle.vault_verdict.specs.Opened.{IsNoDamage, TellsVersion};
+ghost use Rattle.vault_verdict.specs.Reading.{IsQuietWhere};
+ghost use Rattle.vault_verdict.specs.Versions.{other_version};
+ghost use Rattle.vault_schema.specs.Versioned.{HasVersion};
+
+use crate::fault::OpenFault;
+use crate::judge::other_version;
+use crate::read::version_rows;
+use sqlite::{Alter, Connection};
+use std::alloc::Global;
+use vault_rules::rows::RawVersion;
+use vault_schema::v1::shape::has_version;
+
+/// The refusal by another version that these rows say; else this one.
+fn told_by(versions: &[RawVersion], refusal: OpenFault) -> OpenFault
+    ensures other { (n : ℤ) → other_version versions.now ≡ Some n → result ≡ OpenFault.WrongSchema n }
+    ensures this { other_version versions.now ≡ None → result ≡ refusal }
+{
+    match other_version(versions) {
+        Some(version) => OpenFault::WrongSchema(version),
+        None => refusal,
+    }
+}
+
+/// The refusal of a database that isn't a vault's in this schema: another version that it says comes first.
+pub fn version_or<S: Alter>(
+    alloc: Global,
+    conn: &mut Connection<S>,
+    refusal: OpenFault,
+) -> OpenFault
+    ensures none { ¬ HasVersion (state S.Store conn.old).now.schema
+        → (result ≡ refusal) × (conn.new ≡ conn.old) }
+    ensures told { HasCleanDisk (state S.Store conn.new) → IsJudged result
+        → TellsVersion (state S.Store conn.old).now refusal result }
+    ensures undamaged { IsNoDamage refusal → IsNoDamage result }
+    ensures sees { HasCleanDisk (state S.Store conn.new) → HasVersion (state S.Store conn.old).now.schema
+        → IsJudged result → IsUnchanged (state S.Store conn.old) (state S.Store conn.new) }
+    ensures quiet { IsQuietWhere (HasVersion (state S.Store conn.old).now.schema) (state S.Store conn.old)
+        (state S.Store conn.new) }
+{
+    if !has_version(conn.schema()) {
+        return refusal;
+    }
+    match version_rows(alloc, conn) {
+        Ok(versions) => told_by(&versions, refusal),
+        Err(fault) => fault.into(),
+    }
+}

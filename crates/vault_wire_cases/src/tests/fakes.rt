@@ -1,0 +1,138 @@
+//! Readers that give a little at a time, writers that take a little, and either that fails.
+use std::cell::Cell;
+use std::io;
+use std::io::{Error, ErrorKind, Read, Write};
+
+/// Gives one byte at a call, and fails at the call `bad`, counted from 1; counts its calls.
+#[derive(Drop)]
+pub struct SlowReader<'a> {
+    pub bytes: &'a [u8],
+    pub calls: &'a Cell<usize>,
+    pub bad: usize,
+}
+
+impl<'a> Read for SlowReader<'a> {
+    fn read(&mut self, buf: &mut [u8]) -> io::Result<usize> {
+        self.calls.set(self.calls.get().saturating_add(1));
+        if self.calls.get() == self.bad {
+            return Err(Error::from(ErrorKind::BrokenPipe));
+        }
+        match (self.bytes, buf.first_mut()) {
+            ([byte, rest @ ..], Some(place)) => {
+                *place = *byte;
+                self.bytes = rest;
+                Ok(1)
+            }
+            _ => Ok(0),
+        }
+    }
+}
+
+/// How a write fails.
+#[derive(Clone, Copy)]
+pub enum WriteFailure {
+    /// By an error of the kind `BrokenPipe`.
+    Broken,
+    /// By an error of the kind `Interrupted`.
+    Interrupted,
+    /// By taking no byte.
+    TakesNone,
+}
+
+/// Takes one byte at a call, and fails at the call `bad`, counted from 1; counts its calls. A flush
+/// that fails is an error of the kind `BrokenPipe`.
+#[derive(Drop)]
+pub struct SlowWriter<'a> {
+    pub out: &'a mut Vec<u8>,
+    pub calls: &'a Cell<usize>,
+    pub bad: usize,
+    pub failure: WriteFailure,
+}
+
+impl<'a> Write for SlowWriter<'a> {
+    fn write(&mut self, buf: &[u8]) -> io::Result<usize> {
+        self.calls.set(self.calls.get().saturating_add(1));
+        if self.calls.get() == self.bad {
+            return match self.failure {
+                WriteFailure::Broken => Err(Error::from(ErrorKind::BrokenPipe)),
+                WriteFailure::Interrupted => Err(Error::from(ErrorKind::Interrupted)),
+                WriteFailure::TakesNone => Ok(0),
+            };
+        }
+        match buf {
+            [byte, ..] => {
+                self.out.push(*byte)?;
+                Ok(1)
+            }
+            [] => Ok(0),
+        }
+    }
+
+    fn flush(&mut self) -> io::Result<()> {
+        self.calls.set(self.calls.get().saturating_add(1));
+        if self.calls.get() == self.bad {
+            return Err(Error::from(ErrorKind::BrokenPipe));
+        }
+        Ok(())
+    }
+}
+
+/// Gives a piece of its text at a call, and counts in `late` the calls at which an answer to the pieces
+/// before is missing.
+#[derive(Drop)]
+pub struct PieceReader<'a> {
+    /// The rest of the piece that was begun.
+    pub rest: &'a [u8],
+    /// The pieces after it, each with the answer that is due after it.
+    pub pieces: &'a [(&'a str, &'a str)],
+    /// How many bytes are due once the piece that was begun is read.
+    pub due: usize,
+    /// How many bytes are out.
+    pub out: &'a Cell<usize>,
+    /// At how many calls bytes were missing.
+    pub late: &'a Cell<usize>,
+}
+
+impl<'a> PieceReader<'a> {
+    /// Begins the next piece, if there is one.
+    fn begin(&mut self) {
+        if self.out.get() != self.due {
+            self.late.set(self.late.get().saturating_add(1));
+        }
+        if let [(asked, answered), pieces @ ..] = self.pieces {
+            self.rest = asked.as_bytes();
+            self.due = self.due.saturating_add(answered.len());
+            self.pieces = pieces;
+        }
+    }
+}
+
+impl<'a> Read for PieceReader<'a> {
+    fn read(&mut self, buf: &mut [u8]) -> io::Result<usize> {
+        if self.rest.is_empty() {
+            self.begin();
+        }
+        let taken = self.rest.len().min(buf.len());
+        let (now, later) = self.rest.split_at(taken);
+        buf[..taken].copy_from_slice(now);
+        self.rest = later;
+        Ok(taken)
+    }
+}
+
+/// Counts the bytes that it takes.
+#[derive(Drop)]
+pub struct CountingWriter<'a> {
+    pub out: &'a Cell<usize>,
+}
+
+impl<'a> Write for CountingWriter<'a> {
+    fn write(&mut self, buf: &[u8]) -> io::Result<usize> {
+        self.out.set(self.out.get().saturating_add(buf.len()));
+        Ok(buf.len())
+    }
+
+    fn flush(&mut self) -> io::Result<()> {
+        Ok(())
+    }
+}
