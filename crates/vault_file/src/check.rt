@@ -14,9 +14,9 @@ ghost use Rattle.vault_schema.specs.Holds.{Holds};
 use crate::fault::NotOpened;
 use crate::make::open_private;
 use sqlite::{Connection, FileFrom, FileStore, Start, Unknown};
+use vault_recover::reopen::close;
 use vault_verdict::check::check;
 use vault_verdict::fault::OpenFault;
-use vault_recover::reopen::close;
 use vault_verdict::sizes::Sizes;
 
 /// Checks the file at a path whole, and says how much the vault in it holds. The connection is given back,

@@ -19,11 +19,11 @@ use crate::fault::NotOpened;
 use crate::make::open_private;
 use sqlite::{Connection, FileFrom, FileStore, Start, Unknown};
 use sqlite_disk::Disk;
-use vault_verdict::fault::OpenFault;
 use vault_recover::open::open;
 use vault_recover::reopen::close;
 use vault_sql::tables::SqlTables;
 use vault_store::vault::Vault;
+use vault_verdict::fault::OpenFault;
 
 /// The tables in a file that held what `S` says.
 pub type TablesFrom<S> = SqlTables<FileStore<FileFrom<S>>>;
