@@ -1,14 +1,18 @@
 -- The live multi-use token of a number.
 use Rattle.std.proofs.Common.{◌≡◌, inl, inr, ℕ, true, false, Some, None, Option, cond, option_map, sym, ◌∙◌}
-use Rattle.std.proofs.Common.{ap, refl, subst}
+use Rattle.std.proofs.Common.{◌≤◌, ap, arith, max, refl, subst}
+use Rattle.std.proofs.lemmas.Bool.Decides.{nat_tests}
 use Rattle.std.specs.FinMap as map
 use Rattle.std.specs.Cmp.{Equal-is, tied_itself}
 use Rattle.std.specs.Cmp.Lexicographic.{texts_ties, slice_cmp}
+use Rattle.std.specs.Option.{option_map_or}
 use Rattle.std.specs.Ordering.{nat_cmp, eq_by_cmp, is_eq}
 use Rattle.vault_pan.specs.CardText.{same}
 use Rattle.vault_core.specs.Keys.{Bytes, bytes_cmp}
 use Rattle.vault_core.specs.Repeats.{current, is_reusable}
-use Rattle.vault_core.specs.Vault.{Vault, entry_at, entries_of}
+use Rattle.vault_core.specs.Sound.{Sound}
+use Rattle.vault_core.specs.Vault.{Vault, Merchant, entry_at, entries_of, time_at}
+use Rattle.vault_core.specs.Window.{moment_at}
 use Rattle.vault_core.specs.declared.row.Entry.{Entry}
 use Rattle.vault_core.proofs.Finds.{find-none, find-passes, find-lookup, some_same, true-T}
 use Rattle.vault_core.proofs.Maps.{bytes_total, bytes_exact, entry_total, entry_exact, tied, get-retained}
@@ -80,3 +84,23 @@ current-some V m pan at held h =
     let own = own_entry V m e.0 e.1 listed in
     let P : Bytes × Entry → Type 0 = λ x. (entry_at V m x.0 ≡ Some x.1) × (is_reusable pan at x.1 ≡ true) in
     subst P found.2 (ap (λ (x : Bytes). entry_at V x e.0.1) own.0 ∙ own.1, passes)
+
+-- what can be given again at a moment could be at each earlier one
+earlier : (pan : Bytes) (a b : ℕ) (entry : Entry) → a ≤ b
+    → is_reusable pan b entry ≡ true → is_reusable pan a entry ≡ true
+earlier pan a b entry le h = grind (arith, nat_tests)
+
+module _ (V : Vault) (sound : Sound V) (m pan : Bytes) (at : ℕ) (now : moment_at V m at ≡ at) where
+  -- of one number at most one token is live
+  pub one_live : (token other : Bytes) (entry entry' : Entry)
+      → entry_at V m token ≡ Some entry → is_reusable pan at entry ≡ true
+      → entry_at V m other ≡ Some entry' → is_reusable pan at entry' ≡ true → token ≡ other
+  one_live token other entry entry' found live found' live' =
+      let known = sound.entries m token entry found in
+      let later : max known.0.moment at ≡ at =
+      sym (ap (λ (o : Option Merchant). option_map_or (λ merchant. time_at merchant at) o at) known.1)
+      ∙ now in
+      let le : known.0.moment ≤ at = omega (arith, later) in
+      sound.alone m pan token other entry entry' known.0 known.1
+      found (earlier pan known.0.moment at entry le live) found'
+      (earlier pan known.0.moment at entry' le live')

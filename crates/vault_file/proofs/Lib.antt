@@ -1,3 +1,4 @@
 pub mod Leaving
 pub mod Moving
 pub mod Opening
+pub mod Reopened

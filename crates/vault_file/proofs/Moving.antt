@@ -16,11 +16,11 @@ use Rattle.vault_file.proofs.Opening.{no_verdict}
 use Rattle.vault_file.specs.Found.{IsNoVerdict}
 use Rattle.vault_file.specs.Moved.{LeavesOld, MovesFrom}
 use Rattle.vault_file.specs.declared.fault.NotOpened.TheVariants.{Fault}
-use Rattle.vault_migrate.proofs.Reopened.{older_again, step_again}
+use Rattle.vault_file.proofs.Reopened.{older_again, step_again}
 use Rattle.vault_migrate.specs.Judged.{IsOlds}
 use Rattle.vault_migrate.specs.Moved.{IsMovable, LeavesOlder}
 use Rattle.vault_migrate.specs.Older.{HoldsOlder, LeavesStep}
-use Rattle.vault_migrate.specs.Reopened.{KeepsOlder}
+use Rattle.vault_file.specs.Reopened.{KeepsOlder}
 use Rattle.vault_recover.specs.Crashed.{AreBlank, HoldsFirst, IsOpenOf, Keeps, KeepsFirst}
 use Rattle.vault_verdict.specs.Opened.{HoldsSound, IsNoRefusal}
 use Rattle.vault_verdict.specs.declared.fault.OpenFault.{OpenFault}

@@ -8,12 +8,12 @@ use Rattle.sqlite_disk.specs.declared.Disk.{Ghosts}
 use Rattle.sqlite_store.specs.declared.store.FileStore.{FileStore}
 use Rattle.sqlite_wal.specs.Recovery.{Image}
 use Rattle.vault_core.specs.Vault.{Vault, empty_vault}
+use Rattle.vault_file.specs.Reopened.{KeepsOlder, KeepsStep}
 use Rattle.vault_file.specs.declared.fault.NotOpened.{NotOpened}
 use Rattle.vault_file.specs.declared.fault.NotOpened.TheVariants.{Fault}
 use Rattle.vault_migrate.specs.Judged.{IsOlds}
 use Rattle.vault_migrate.specs.Moved.{LeavesOlder}
 use Rattle.vault_migrate.specs.Older.{LeavesStep}
-use Rattle.vault_migrate.specs.Reopened.{KeepsOlder, KeepsStep}
 use Rattle.vault_recover.specs.Crashed.{AreBlank, IsOpenOf, Keeps, KeepsFirst}
 use Rattle.vault_verdict.specs.Opened.{HoldsSound}
 use Rattle.vault_verdict.specs.declared.fault.OpenFault.TheVariants.{Store}
@@ -22,8 +22,7 @@ use Rattle.vault_schema.specs.Holds.{Holds}
 module _ {D : Type 0} {g : Ghosts D} where
   -- A connection was opened over files with these bytes, and this one comes from moving what is there to the
   -- newest schema. A vault that the bytes keep, in schema 1, in the newest one, or in either, as a migration
-  -- that
-  -- was stopped leaves it, is held in the newest one; without a table, the empty vault.
+  -- that was stopped leaves it, is held in the newest one; without a table, the empty vault.
   pub record MovesFrom (image : Image) (conn : Held (FileStore D g)) : Type 0 where
     pub first : Held (FileStore D g)
     pub found : HasCleanDisk (file_state first) → IsOpenOf image first

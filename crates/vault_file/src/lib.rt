@@ -6,3 +6,4 @@ pub mod fault;
 mod make;
 pub mod migrate;
 pub mod open;
+pub mod reopen;

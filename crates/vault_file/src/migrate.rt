@@ -7,15 +7,15 @@ ghost use Rattle.vault_core.specs.Sound.{Sound};
 ghost use Rattle.vault_core.specs.Vault.{Vault as Content};
 ghost use Rattle.vault_file.specs.Found.{HoldsSuch, IsNoPath, IsNoVerdict, LeavesFrom};
 ghost use Rattle.vault_file.specs.Moved.{LeavesOld, MovesFrom};
+ghost use Rattle.vault_file.specs.Reopened.{KeepsOlder};
 ghost use Rattle.vault_migrate.specs.Moved.{FindsBroken, FindsVersion};
-ghost use Rattle.vault_migrate.specs.Reopened.{KeepsOlder};
 ghost use Rattle.vault_recover.specs.Crashed.{Keeps};
 
 use crate::fault::NotOpened;
 use crate::make::open_private;
+use crate::reopen::close_moved;
 use sqlite::{Connection, FileFrom, FileStore, Start, Unknown};
 use vault_migrate::migrate::migrate;
-use vault_migrate::reopen::close_moved;
 use vault_verdict::fault::OpenFault;
 
 /// Moves the file at a path to the newest schema, and answers its version, 2. The connection is given back,

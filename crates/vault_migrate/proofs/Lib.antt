@@ -8,5 +8,4 @@ mod OldRows
 mod OldShows
 mod OldStands
 mod OneOlder
-pub mod Reopened
 mod Upgrading

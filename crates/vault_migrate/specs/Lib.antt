@@ -3,4 +3,3 @@ pub mod Laws
 pub mod Made
 pub mod Moved
 pub mod Older
-pub mod Reopened

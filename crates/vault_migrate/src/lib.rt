@@ -5,7 +5,6 @@ pub mod laws;
 mod made;
 pub mod migrate;
 mod read;
-pub mod reopen;
 mod rows;
 mod typed;
 pub mod upgrade;

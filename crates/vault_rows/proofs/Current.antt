@@ -27,7 +27,7 @@ use Rattle.sql_maps.specs.States.{Stands}
 use Rattle.sql_maps.proofs.KeyTests.{equal_is, int_eq, number_eq, text_eq}
 use Rattle.sql_maps.proofs.Reading.{shown_none, shown_one}
 use Rattle.vault_pan.specs.CardText.{same}
-use Rattle.vault_core.proofs.CurrentLemmas.{current-none, current-some}
+use Rattle.vault_core.proofs.CurrentLemmas.{current-none, current-some, one_live}
 use Rattle.vault_core.proofs.Maps.{bytes_exact, bytes_total}
 use Rattle.vault_core.specs.Keys.{Bytes, bytes_cmp}
 use Rattle.vault_core.specs.Numbers.{use_number}
@@ -46,7 +46,6 @@ use Rattle.vault_schema.specs.Version2.Rows.{id_or_null, pointing_row}
 use Rattle.vault_schema.specs.declared.v2.Card.{Card}
 use Rattle.vault_schema.specs.declared.v2.Pointing.{Pointing}
 use Rattle.vault_schema.specs.declared.v2.TheConstants.{FIND_CURRENT}
-use Rattle.vault_store.proofs.LiveLemmas.{one_live}
 use Rattle.vault_rows.proofs.JoinedEntries.{entry_there, points_there}
 use Rattle.vault_rows.specs.Cards.{HasNoCard, IsCardOf}
 use Rattle.vault_schema.specs.Schema.{newest_schema}

@@ -26,7 +26,7 @@ pub(crate) fn merchant_in(row: &Row, at: usize) -> Result<MerchantId, StoreFault
 }
 
 /// A token.
-pub(crate) fn token_in(row: &Row, at: usize) -> Result<Token, StoreFault>
+pub fn token_in(row: &Row, at: usize) -> Result<Token, StoreFault>
     ensures { IfOk result (λ token. column row.now at ≡ Text token) }
 {
     let text: String = row.get(at)?;

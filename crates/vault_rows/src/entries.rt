@@ -2,7 +2,7 @@
 ghost use Rattle.std.specs.Prelude.{◌≡◌, ◌<◌, ◌^◌, ℕ, ℤ, Some, IfOk, option_map, map, take};
 ghost use Rattle.sqlite.specs.Held.{state};
 ghost use Rattle.sqlite.specs.Order.{column};
-ghost use Rattle.sqlite.specs.declared.types.Value.TheVariants.{Int, Text};
+ghost use Rattle.sqlite.specs.declared.types.Value.TheVariants.{Int};
 ghost use Rattle.sql_maps.specs.Rows.{one_of};
 ghost use Rattle.vault_core.specs.Dead.{dead_tokens};
 ghost use Rattle.vault_core.specs.Keys.{Bytes};
@@ -23,7 +23,6 @@ use crate::merchants::moment;
 use crate::text::merchant_text;
 use sql_maps::run::rows_of;
 use sqlite::{Alter, Connection, Error, Row, params};
-use std::alloc::{AllocError, Global};
 use vault_core::limit::MOST_TOKENS;
 use vault_core::moment::Moment;
 use vault_core::name::MerchantId;
@@ -31,7 +30,6 @@ use vault_core::row::Entry;
 use vault_pan::pan::Pan;
 use vault_pan::token::Token;
 use vault_schema::v2::{FIND_CURRENT, FIND_DEAD, FIND_ENTRY, Pointing};
-use vault_store::tables::TablesFault;
 
 /// The row of an entry, which points at a card.
 fn pointing_rows<S: Alter>(
@@ -216,18 +214,4 @@ pub fn dead<S: Alter>(
     let at = moment(conn, m, now)?;
     let many = MOST_TOKENS.min(limit as u64);
     Ok(dead_rows(conn, merchant_text(m), at.seconds(), many)?)
-}
-
-/// The tokens that rows show.
-pub fn tokens_of(alloc: Global, rows: &[Row]) -> Result<Vec<Token>, TablesFault>
-    ensures { IfOk result (λ tokens. map (λ row. column row 0) rows.now ≡ map Text tokens.items) }
-{
-    let mut tokens = Vec::new(alloc);
-    for row in rows {
-        let token = token_in(row, 0)?;
-        if let Err(refused) = tokens.push(token) {
-            return Err(AllocError::from(refused).into());
-        }
-    }
-    Ok(tokens)
 }

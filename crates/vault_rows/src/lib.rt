@@ -2,7 +2,7 @@
 #![tactic(auto)]
 
 mod cards;
-mod columns;
+pub mod columns;
 pub mod entries;
 pub mod fault;
 pub mod merchants;

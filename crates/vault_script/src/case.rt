@@ -93,12 +93,11 @@ pub fn answer_told<T: Tables>(alloc: Global, vault: &mut Vault<T>, line: &str) -
 /// Runs the lines of a case: `answered`, or the first one whose answer isn't the one that stands there.
 pub fn wrong<T: Tables>(alloc: Global, vault: &mut Vault<T>, lines: &str) -> String {
     for line in lines.lines() {
-        if let Some((question, wanted)) = line.split_once(" = ") {
-            let told = answer_told(alloc, vault, question);
-            if told.as_str() != wanted {
-                let wrong = format!(in alloc; "{line}: {told}");
-                return wrong.unwrap_or(String::new(alloc));
-            }
+        let (question, wanted) = line.split_once(" = ").unwrap_or((line, "an answer"));
+        let told = answer_told(alloc, vault, question);
+        if told.as_str() != wanted {
+            let wrong = format!(in alloc; "{line}: {told}");
+            return wrong.unwrap_or(String::new(alloc));
         }
     }
     text(alloc, "answered")

@@ -3,4 +3,5 @@
 
 pub mod schema;
 pub mod tables;
+mod tokens;
 mod transaction;

@@ -1,6 +1,7 @@
 //! Tables in a database.
 ghost use Rattle.std.specs.Prelude.{◌≡◌, true, false, Err};
 
+use crate::tokens::tokens_of;
 use crate::transaction::{are_storable, write};
 use sqlite::{Alter, Connection};
 use std::alloc::Global;
@@ -12,7 +13,7 @@ use vault_core::right::Right;
 use vault_core::row::{Entry, MerchantRow, Record};
 use vault_pan::pan::Pan;
 use vault_pan::token::Token;
-use vault_rows::entries::{current, dead, entry, tokens_of};
+use vault_rows::entries::{current, dead, entry};
 use vault_rows::merchants::{how_many, merchant};
 use vault_rows::records::recorded;
 use vault_rows::rights::has;

@@ -1,23 +1,21 @@
 -- The live multi-use token of a number is the one that a search finds.
-use Rattle.std.proofs.Common.{◌≡◌, ◌≤◌, ℕ, true, false, Option, Some, None, refl, sym, ap, ◌∙◌, arith, max}
+use Rattle.std.proofs.Common.{◌≡◌, ℕ, true, false, Option, Some, None, refl, sym, ap, ◌∙◌}
 use Rattle.std.specs.Prelude.{IfSome, IfNone, option_map}
-use Rattle.std.specs.Option.{option_map_or}
 use Rattle.std.specs.BTreeMap as rows
 use Rattle.std.specs.Cmp.{tied_itself}
 use Rattle.std.specs.Cmp.Lexicographic.{texts_ties}
 use Rattle.std.specs.List.{All}
 use Rattle.std.specs.Ordering.{is_eq}
-use Rattle.std.proofs.lemmas.Bool.Decides.{nat_tests}
 use Rattle.std.proofs.lemmas.List.Elements.{All-contains}
 use Rattle.std.proofs.lemmas.Map.Views.{Contains-from_lookup, tells_apart}
 use Rattle.vault_pan.specs.CardText.{same}
 use Rattle.vault_core.specs.Keys.{Bytes, bytes_cmp, entry_cmp}
 use Rattle.vault_core.specs.Repeats.{current, is_reusable}
 use Rattle.vault_core.specs.Sound.{Sound}
-use Rattle.vault_core.specs.Vault.{Vault, Merchant, entry_at, time_at}
+use Rattle.vault_core.specs.Vault.{Vault}
 use Rattle.vault_core.specs.Window.{moment_at}
 use Rattle.vault_core.specs.declared.row.Entry.{Entry}
-use Rattle.vault_core.proofs.CurrentLemmas.{current-some, current-none}
+use Rattle.vault_core.proofs.CurrentLemmas.{current-some, current-none, one_live}
 use Rattle.vault_core.proofs.Maps.{bytes_total, entry_exact}
 use Rattle.vault_store.specs.Live.{IsLiveToken}
 use Rattle.vault_store.specs.Shown.{Shows}
@@ -42,47 +40,30 @@ none_live entries m pan at token all live =
     All-contains (IsNotLive m pan at) entries.entries ((m, token), live.0) all
     (Contains-from_lookup (tells_apart entry_exact) (m, token) live.0 entries.entries live.1) refl live.2
 
--- what can be given again at a moment could be at each earlier one
-earlier : (pan : Bytes) (a b : ℕ) (entry : Entry) → a ≤ b
-    → is_reusable pan b entry ≡ true → is_reusable pan a entry ≡ true
-earlier pan a b entry le h = grind (arith, nat_tests)
+module _ (V : Vault) (sound : Sound V) (m pan : Bytes) (at : ℕ) (now : moment_at V m at ≡ at)
+    (entries : rows.BTreeMap (Bytes × Bytes) Entry) (shown : Shows entry_cmp entries V.entries) where
+  held : (token : Bytes) (o : Option (Bytes × Entry))
+      → current V m pan at ≡ o → IsLiveToken entries m pan at token
+      → Some token ≡ option_map (λ x. x.0) o
+  held token None is live =
+      let fails = current-none V m pan token at live.0 is (sym (shown.at (m, token)) ∙ live.1) in
+      let clash = sym live.2 ∙ fails in cc
+  held token (Some x) is live =
+      let there = current-some V m pan at x is in
+      ap Some
+      (one_live V sound m pan at now token x.0 live.0 x.1
+      (sym (shown.at (m, token)) ∙ live.1) live.2 there.0 there.1)
 
-module _ (V : Vault) (sound : Sound V) (m pan : Bytes) (at : ℕ) (now : moment_at V m at ≡ at) where
-  -- of one number at most one token is live
-  pub one_live : (token other : Bytes) (entry entry' : Entry)
-      → entry_at V m token ≡ Some entry → is_reusable pan at entry ≡ true
-      → entry_at V m other ≡ Some entry' → is_reusable pan at entry' ≡ true → token ≡ other
-  one_live token other entry entry' found live found' live' =
-      let known = sound.entries m token entry found in
-      let later : max known.0.moment at ≡ at =
-      sym (ap (λ (o : Option Merchant). option_map_or (λ merchant. time_at merchant at) o at) known.1)
-      ∙ now in
-      let le : known.0.moment ≤ at = omega (arith, later) in
-      sound.alone m pan token other entry entry' known.0 known.1
-      found (earlier pan known.0.moment at entry le live) found'
-      (earlier pan known.0.moment at entry' le live')
+  none : (o : Option (Bytes × Entry))
+      → current V m pan at ≡ o → ((token : Bytes) → ¬ (IsLiveToken entries m pan at token))
+      → None ≡ option_map (λ x. x.0) o
+  none None is never = refl
+  none (Some x) is never =
+      let there = current-some V m pan at x is in
+      absurd (never x.0 (x.1, shown.at (m, x.0) ∙ there.0, there.1))
 
-  module _ (entries : rows.BTreeMap (Bytes × Bytes) Entry) (shown : Shows entry_cmp entries V.entries) where
-    held : (token : Bytes) (o : Option (Bytes × Entry))
-        → current V m pan at ≡ o → IsLiveToken entries m pan at token
-        → Some token ≡ option_map (λ x. x.0) o
-    held token None is live =
-        let fails = current-none V m pan token at live.0 is (sym (shown.at (m, token)) ∙ live.1) in
-        let clash = sym live.2 ∙ fails in cc
-    held token (Some x) is live =
-        let there = current-some V m pan at x is in
-        ap Some (one_live token x.0 live.0 x.1 (sym (shown.at (m, token)) ∙ live.1) live.2 there.0 there.1)
-
-    none : (o : Option (Bytes × Entry))
-        → current V m pan at ≡ o → ((token : Bytes) → ¬ (IsLiveToken entries m pan at token))
-        → None ≡ option_map (λ x. x.0) o
-    none None is never = refl
-    none (Some x) is never =
-        let there = current-some V m pan at x is in
-        absurd (never x.0 (x.1, shown.at (m, x.0) ∙ there.0, there.1))
-
-    pub current-is : (found : Option Bytes) → IfSome found (IsLiveToken entries m pan at)
-        → IfNone found ((token : Bytes) → ¬ (IsLiveToken entries m pan at token))
-        → found ≡ option_map (λ x. x.0) (current V m pan at)
-    current-is None live never = none (current V m pan at) refl never
-    current-is (Some token) live never = held token (current V m pan at) refl live
+  pub current-is : (found : Option Bytes) → IfSome found (IsLiveToken entries m pan at)
+      → IfNone found ((token : Bytes) → ¬ (IsLiveToken entries m pan at token))
+      → found ≡ option_map (λ x. x.0) (current V m pan at)
+  current-is None live never = none (current V m pan at) refl never
+  current-is (Some token) live never = held token (current V m pan at) refl live

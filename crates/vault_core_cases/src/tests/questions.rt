@@ -17,12 +17,11 @@ fn answer(alloc: Global, question: &str) -> String {
 /// Asks the questions of lines: `answered`, or the first line that is answered otherwise.
 pub fn wrong(alloc: Global, lines: &str) -> String {
     for line in lines.lines() {
-        if let Some((question, wanted)) = line.split_once(" = ") {
-            let told = answer(alloc, question);
-            if told.as_str() != wanted {
-                let wrong = format!(in alloc; "{line}: {told}");
-                return wrong.unwrap_or(String::new(alloc));
-            }
+        let (question, wanted) = line.split_once(" = ").unwrap_or((line, "an answer"));
+        let told = answer(alloc, question);
+        if told.as_str() != wanted {
+            let wrong = format!(in alloc; "{line}: {told}");
+            return wrong.unwrap_or(String::new(alloc));
         }
     }
     text(alloc, "answered")

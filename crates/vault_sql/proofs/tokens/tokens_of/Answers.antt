@@ -1,7 +1,7 @@
 use Rattle.std.proofs.Common.{◌≡◌, ap, arith, map, sym, take, ◌∙◌}
 use Rattle.std.proofs.Math.Seq.{take-length}
 use Rattle.sqlite.specs.Order.{column}
-use Rattle.vault_rows.proofs.entries.tokens_of.Goals as goal
+use Rattle.vault_sql.proofs.tokens.tokens_of.Goals as goal
 
 pub returns : goal.returns
 returns c =

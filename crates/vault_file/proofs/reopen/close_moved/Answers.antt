@@ -1,6 +1,6 @@
 use Rattle.std.proofs.Common.{sym, ◌∙◌}
-use Rattle.vault_migrate.proofs.Reopened.{reopens_step}
-use Rattle.vault_migrate.proofs.reopen.close_moved.Goals as goal
+use Rattle.vault_file.proofs.Reopened.{reopens_step}
+use Rattle.vault_file.proofs.reopen.close_moved.Goals as goal
 
 pub returns-clause-step : goal.returns-clause-step
 returns-clause-step g c clean V each =

@@ -5,7 +5,7 @@ ghost use Rattle.sqlite.specs.View.{IsClean, doubt};
 ghost use Rattle.sqlite_store.specs.FileStore.{view};
 ghost use Rattle.vault_core.specs.Vault.{Vault};
 ghost use Rattle.vault_migrate.specs.Older.{LeavesStep};
-ghost use Rattle.vault_migrate.specs.Reopened.{ReopensStep};
+ghost use Rattle.vault_file.specs.Reopened.{ReopensStep};
 
 use sqlite::{Connection, FileStore};
 use sqlite_disk::Disk;

@@ -1,7 +1,7 @@
 use Rattle.std.proofs.Common.{◌≡◌, map, take}
 use Rattle.sqlite.specs.Order.{column}
 use Rattle.sqlite.specs.declared.types.Value.TheVariants.{Text}
-use Rattle.vault_rows.proofs.entries.tokens_of.Given as goal
+use Rattle.vault_sql.proofs.tokens.tokens_of.Given as goal
 
 -- the tokens so far are those of the rows so far
 abbrev pub invariant-loop-row : goal.invariant-loop-row

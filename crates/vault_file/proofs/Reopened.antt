@@ -10,7 +10,7 @@ use Rattle.sqlite_store.specs.declared.store.FileStore.{FileStore}
 use Rattle.sqlite_wal.specs.Recovery.{Image}
 use Rattle.vault_core.specs.Vault.{Vault}
 use Rattle.vault_migrate.specs.Older.{AreOlder, AreStep, HoldsOlder, StandOlder}
-use Rattle.vault_migrate.specs.Reopened.{HoldsStep, KeepsOlder, KeepsStep, ReopensStep}
+use Rattle.vault_file.specs.Reopened.{HoldsStep, KeepsOlder, KeepsStep, ReopensStep}
 use Rattle.vault_recover.proofs.Reopened.{fine, held_again, now_trees, one_schema, reopens_such}
 use Rattle.vault_recover.specs.Crashed.{IsOpenOf}
 use Rattle.vault_schema.specs.Version1.Tables.{v1}
