@@ -16,6 +16,7 @@ use Rattle.sqlite.proofs.Callers.{one_permutation}
 use Rattle.sqlite_value.proofs.OrderLemmas.{value_cmp_total}
 use Rattle.sql_maps.specs.Rows.{IsApart}
 use Rattle.sql_maps.specs.Texts.{sorted_of}
+use Rattle.sqlite_value.specs.declared.keys.Collation.{Collation}
 use Rattle.sqlite_value.specs.declared.keys.Key.{Key}
 
 -- the rows that pass, and what is shown of one
@@ -38,11 +39,12 @@ pub bare : (db : Trees) (tree : ℕ) → overlay db [] tree ≡ db tree
 bare db tree = none_beside _ (db tree)
 
 -- an answer is what is shown of the rows that pass, in some order
-pub answers : (db : Trees) {params : Row} {tree : ℕ} {tests project : List Term} {order : List (Term × Key)}
-    {rows : List Row} → IsAnswer (sorted_of tree tests project [] order) (overlay db []) params rows
+pub answers : (db : Trees) {params : Row} {tree : ℕ} {tests project : List Term}
+    {collations : List Collation} {order : List (Term × Key)} {rows : List Row}
+    → IsAnswer (sorted_of tree tests project collations order) (overlay db []) params rows
     → IsPermutation (map (shown_as params project) (passing params tests (db tree))) rows
-answers db {params} {tree} {tests} {project} {order} {rows} a =
-    let q = sorted_of tree tests project [] order in
+answers db {params} {tree} {tests} {project} {collations} {order} {rows} a =
+    let q = sorted_of tree tests project collations order in
     subst₂ IsPermutation
     (ap (map (λ (o : Output). o.1))
     (a.distinct ∙ ap (map (output q)) (a.grouped ∙ staged_are (λ r. params ∷ r ∷ []) _ (overlay db [] tree)))

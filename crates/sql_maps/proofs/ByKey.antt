@@ -30,7 +30,7 @@ pub record Coding {K X : Type 0} (cmp : K → K → Ordering) (encode : K → X 
   pub value : (a b : K) (y z : X) → encode a y ≡ encode b z → y ≡ z
 
 -- a row with its rowid in front
-whole : (r row : Row) → is_int (rowid r) ≡ true → drop 1 r ≡ row → r ≡ Int (id_in (rowid r)) ∷ row
+pub whole : (r row : Row) → is_int (rowid r) ≡ true → drop 1 r ≡ row → r ≡ Int (id_in (rowid r)) ∷ row
 whole [] row h e = absurd cc
 whole (v ∷ r) row h e = ap (λ w. w ∷ r) (int_is v h) ∙ ap (λ l. Int (id_in v) ∷ l) e
 

@@ -1,6 +1,6 @@
 -- The clauses of a call, from what the database answers.
 use Rattle.std.proofs.Common.{◌<◌, ◌^◌, to_z, w64, ℕ, pos, ◌≡◌, inl, inr, List, Ok, Err, Result, IfOk, OnOk}
-use Rattle.std.proofs.Common.{sym, ap, subst, ◌∙◌, arith, true, false}
+use Rattle.std.proofs.Common.{sym, ap, subst, ◌∙◌, arith, true, false, is_ok, true≢false}
 use Rattle.std.proofs.lemmas.Int.{to_z_pos}
 use Rattle.sqlite.specs.Clock.{timed}
 use Rattle.sqlite.specs.Effect.{Database, IsDatabase}
@@ -111,6 +111,13 @@ committed {s} {claims} w h limit = record {
 pub on_ok : {A B X E : Type 0} (r : Result X E) → OnOk r A → (A → B) → OnOk r B
 on_ok (Ok x) h f = f h
 on_ok (Err e) h f = tt
+
+-- where the one answer is Ok, the other is
+pub as_ok : {X Y E F : Type 0} (A : Type 0) (r : Result X E) (q : Result Y F) → is_ok q ≡ is_ok r → OnOk r A
+    → OnOk q A
+as_ok A r (Err e) same h = tt
+as_ok A (Ok x) (Ok y) same h = h
+as_ok A (Err e) (Ok y) same h = absurd (true≢false same)
 
 pub if_ok : {X E : Type 0} (r : Result X E) (P Q : X → Type 0) → IfOk r P → ((x : X) → P x → Q x) → IfOk r Q
 if_ok (Ok x) P Q h f = f x h

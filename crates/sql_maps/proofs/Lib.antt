@@ -1,7 +1,10 @@
 pub mod Answers
+pub mod Beside
 pub mod ById
 pub mod ByKey
 pub mod Calls
+pub mod Copies
+pub mod Determined
 pub mod Full
 pub mod HowMany
 pub mod KeyTests

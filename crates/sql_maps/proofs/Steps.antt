@@ -7,7 +7,7 @@ use Rattle.std.proofs.lemmas.List.{length-map}
 use Rattle.sqlite.specs.Cast.{cast_row}
 use Rattle.sqlite.specs.Command.TheVariants.{Insert, InsertOr, Update, Delete}
 use Rattle.sqlite.specs.Does.{Tally, OnRows, OnTable, WritesRows, AtPlace}
-use Rattle.sqlite.specs.Edit.{edit_of, put_all, without_all, with_rowid, are_fresh, numbered}
+use Rattle.sqlite.specs.Edit.{edit_of, put_all, without_all, with_rowid, are_fresh, have_rowids, numbered}
 use Rattle.sqlite.specs.Effect.{Database, IsDatabase, IsSource, value_rows}
 use Rattle.sqlite.specs.Listing.{understood}
 use Rattle.sqlite.specs.Order.{Row, column}
@@ -54,6 +54,7 @@ pub record Wrote (s : Schema) (tree : ℕ) (ids : List ℤ) (news : List Row) (o
     (new : Database) : Type 0
   where
     pub schema : new.schema ≡ s
+    pub keyed : have_rowids news ≡ true
     pub fresh : are_fresh (without_all (old tree) ids) news ≡ true
     pub is : new.trees tree ≡ put_all (without_all (old tree) ids) news
     pub beside : AllByRecursion (λ t. t.tree ≢ tree → new.trees t.tree ≡ old t.tree) s.tables
@@ -91,7 +92,7 @@ module _ (s : Schema) (plain : is_plain s ≡ true) (d : Descriptor) where
       let edit = edit_of db (table_of d) ids rowids from rows in
       let a = one_step s keys db next edit (no_works s plain keys 0 d.tree _ _) wrote in
       subst (Wrote s d.tree ids edit.news db) (sym is)
-      (record { schema = refl; fresh = a.fresh; is = a.rows; beside = a.tables })
+      (record { schema = refl; keyed = a.keyed; fresh = a.fresh; is = a.rows; beside = a.tables })
 
   module _ (text : List ℕ) (params : Row) (old new : State) (count : ℕ) (at : ℕ)
       (here : slice_get s.tables at ≡ Some (table_of d)) (has : old.now.schema ≡ s)
@@ -214,6 +215,7 @@ module _ (s : Schema) (plain : is_plain s ≡ true) (d : Descriptor) where
           refl,
           record {
             schema = refl;
+            keyed = refl;
             fresh = refl;
             is = ap (λ (b : Database). b.trees d.tree) same;
             beside = all_from _ s.tables (λ t h far. ap (λ (b : Database). b.trees t.tree) same);

@@ -11,7 +11,7 @@ use Rattle.sqlite.specs.Does.{lacks_sequence}
 use Rattle.sqlite.specs.Listing.{understood, reads_listing}
 use Rattle.sqlite.specs.Query.{Query, inner, end}
 use Rattle.sqlite.specs.Schema.{Schema}
-use Rattle.sqlite.specs.Source.TheVariants.{Values}
+use Rattle.sqlite.specs.Source.TheVariants.{Values, Query as FromQuery}
 use Rattle.sqlite.specs.Table.{Table}
 use Rattle.sqlite.specs.Term.{Term, lit, col, op2}
 use Rattle.sqlite.specs.declared.types.Value.TheVariants.{Null, Int}
@@ -80,6 +80,12 @@ by_id place = eq (col 1 0) (col 0 place) ∷ []
 -- an insert of one row, which fails where its key is there
 abbrev pub insert : ℕ → ℕ → List Term → Command
 insert place width terms = Insert place (Values terms width)
+
+-- an insert of what a query of the whole of another table shows
+abbrev pub insert_from : ℕ → ℕ → List Term → Command
+insert_from place tree project =
+    Insert place
+    (FromQuery (record { lets = []; body = sorted_of tree [] project (map (λ _. Binary) project) [] }))
 
 -- the update of the row that a new one met, whose rowid stands behind the parameters
 abbrev pub met_update : ℕ → ℕ → List Term → Query

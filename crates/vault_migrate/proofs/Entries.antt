@@ -21,7 +21,8 @@ use Rattle.vault_schema.specs.Version1.Tables.{v1}
 use Rattle.vault_schema.specs.Stands.{lookups_of}
 use Rattle.vault_migrate.specs.Judged.{AreOlders}
 use Rattle.vault_migrate.specs.Made.{old_columns, typed_columns}
-use Rattle.vault_migrate.specs.Older.{AreEntriesOf}
+use Rattle.vault_schema.proofs.Lifted.{lifted}
+use Rattle.vault_steps.specs.Entries.{AreEntriesOf}
 
 -- the columns of an entry tell its key and what it is
 key_told : (k l : Bytes × Bytes) (x y : Entry) → entry_row k x ≡ entry_row l y → k ≡ l
@@ -71,5 +72,5 @@ module _ (db : Database) (V : Vault) (stands : maps.StandsIn v1.tables (claims (
         let is : x.0 ≡ (m, token, e) = λ i. (first i, second i, value i) in
         subst (Has xs) is x.1
 
-    pub are_entries : AreEntriesOf xs V
+    pub are_entries : AreEntriesOf xs (lifted (lookups_of V))
     are_entries = record { sound = sound; complete = complete }

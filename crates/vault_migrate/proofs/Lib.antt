@@ -1,5 +1,4 @@
 mod Apart
-mod Entered
 mod Entries
 mod Judging
 mod More
@@ -8,4 +7,3 @@ mod OldRows
 mod OldShows
 mod OldStands
 mod OneOlder
-mod Upgrading

@@ -1,5 +1,5 @@
 -- What a move comes to.
-use Rattle.std.proofs.Common.{◌≡◌, ◌∙◌, List, length, map, ap, arith, inl, inr, not, sym, subst, false}
+use Rattle.std.proofs.Common.{◌≡◌, ◌⊎◌, ◌∙◌, List, length, map, ap, arith, inl, inr, not, sym, subst, false}
 use Rattle.std.proofs.Common.{Bool, None, IsTrue, Result, Ok}
 use Rattle.std.proofs.Common.{Err, IfErr, IsErrAnd}
 use Rattle.sqlite.specs.Effect.{Database}
@@ -13,11 +13,12 @@ use Rattle.vault_core.specs.Keys.{Bytes}
 use Rattle.vault_core.specs.Vault.{Vault}
 use Rattle.vault_core.specs.declared.row.Entry.{Entry}
 use Rattle.vault_migrate.proofs.Entries.{are_entries, old_full}
-use Rattle.vault_migrate.proofs.Upgrading.{last_older}
 use Rattle.vault_migrate.specs.Judged.{AreOlders, IsOlds}
 use Rattle.vault_migrate.specs.Made.{old_columns, typed_columns}
 use Rattle.vault_migrate.specs.Moved.{IsMovable, LeavesOlder, StandsOld}
-use Rattle.vault_migrate.specs.Older.{AreEntriesOf, HoldsOlder, LeavesStep}
+use Rattle.vault_migrate.specs.Older.{AreStep, HoldsOlder, LeavesStep}
+use Rattle.vault_schema.proofs.Lifted.{are_first, are_second, held_in_first, lifted}
+use Rattle.vault_schema.proofs.Versions.{last_commit}
 use Rattle.vault_verdict.proofs.Results.{if_err}
 use Rattle.vault_verdict.proofs.Versioned.{has_version}
 use Rattle.vault_verdict.specs.Opened.{IsFit, IsNoRefusal, LeavesFound}
@@ -31,6 +32,9 @@ use Rattle.vault_schema.specs.Holds.{Holds}
 use Rattle.vault_schema.specs.Left.{left_after}
 use Rattle.vault_schema.specs.Schema.{newest_schema}
 use Rattle.vault_schema.specs.Stands.{lookups_of}
+use Rattle.vault_schema.specs.Versions.{AreOf}
+use Rattle.vault_schema.specs.declared.version.Version.TheVariants.{One, Two}
+use Rattle.vault_steps.specs.Entries.{AreEntriesOf}
 
 -- the schemas differ in how many tables they have
 one_length : v1 ≡ newest_schema → ⊥
@@ -46,11 +50,20 @@ olds_of st V h = record { schema = h.stands.schema; full = old_full st.now V h.s
 -- where only the last commit may be left, what leaves no more leaves the vault in schema 1
 pub left_older : (old new : State) (V : Vault) → HoldsOlder old V
     → ((db : Trees) → old.may_leave db → db ≡ old.committed.trees) → LeavesNoMore old new → LeavesOlder new V
-left_older old new V h alone no_more db left = last_older old V db h (alone db (no_more db left))
+left_older old new V h alone no_more db left =
+    let last = last_commit One (lifted (lookups_of V)) old db (held_in_first V old h)
+    (alone db (no_more db left)) in
+    record { sound = last.sound; stands = are_first V db last }
 
 -- so it stands in one schema or the other
 pub left_step : (s : State) (V : Vault) → LeavesOlder s V → LeavesStep s V
 left_step s V older db left = inl (older db left)
+
+-- what a step from schema 1 may leave
+pub left_of_step : (V : Vault) (db : Trees)
+    → AreOf One (lifted (lookups_of V)) db ⊎ AreOf Two (lifted (lookups_of V)) db → AreStep V db
+left_of_step V db (inl first) = inl (record { sound = first.sound; stands = are_first V db first })
+left_of_step V db (inr second) = inr (are_second V db second)
 
 -- a vault that is held in schema 1 stays held where nothing changed
 pub still_older : (old new : State) (V : Vault) → HoldsOlder old V → IsUnchanged old new
@@ -61,7 +74,7 @@ still_older old new V h same limit = holds_on v1 (claims (lookups_of V)) old new
 pub moves_from : (old mid : State) (V : Vault) (olders : List OldEntry) (xs : List (Bytes × Bytes × Entry))
     → HoldsOlder old V → (old.now.schema ≡ v1 → IsUnchanged old mid) → mid.step_limit ≡ old.step_limit
     → (IsOlds old.now → AreOlders old.now olders) → map old_columns olders ≡ map typed_columns xs
-    → HoldsOlder mid V × AreEntriesOf xs V
+    → HoldsOlder mid V × AreEntriesOf xs (lifted (lookups_of V))
 moves_from old mid V olders xs h kept limit told same = (
   still_older old mid V h (kept h.stands.schema) limit,
   are_entries old.now V h.stands.rows olders xs (told (olds_of old V h)) same,

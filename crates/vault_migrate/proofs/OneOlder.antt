@@ -3,7 +3,8 @@ use Rattle.std.proofs.Common.{◌≡◌}
 use Rattle.sqlite.specs.Tree.{Trees}
 use Rattle.vault_core.specs.Vault.{Vault}
 use Rattle.vault_migrate.specs.Older.{StandOlder}
-use Rattle.vault_verdict.proofs.OneVault.{same_lookups, same_vault}
+use Rattle.sql_maps.proofs.Determined.{same_lookups}
+use Rattle.vault_verdict.proofs.OneVault.{same_vault}
 use Rattle.vault_schema.proofs.Version1.AsClaims.{as_fields}
 use Rattle.vault_schema.proofs.Version1.Codes as codes
 use Rattle.vault_schema.specs.Stands.{lookups_of}

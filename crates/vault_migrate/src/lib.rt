@@ -7,5 +7,4 @@ pub mod migrate;
 mod read;
 mod rows;
 mod typed;
-pub mod upgrade;
 mod verdict;

@@ -18,12 +18,13 @@ ghost use Rattle.vault_schema.specs.Making.{IsReady};
 ghost use Rattle.vault_schema.specs.Schema.{newest_schema};
 
 use crate::typed::typed_entries;
-use crate::upgrade::upgrade;
 use crate::verdict::old_entries;
 use sqlite::{Alter, Connection};
 use std::alloc::Global;
 use vault_schema::v1::shape::is_v1;
+use vault_schema::version::Version;
 use vault_sql::schema::{SchemaFault, make_schema};
+use vault_steps::upgrade::upgrade;
 use vault_verdict::check::check;
 use vault_verdict::fault::OpenFault;
 
@@ -57,7 +58,7 @@ fn move_up<S: Alter>(alloc: Global, conn: &mut Connection<S>) -> Result<i64, Ope
     let _settled = conn.is_autocommit();
     let olders = old_entries(alloc, conn)?;
     let entries = typed_entries(alloc, &olders)?;
-    match upgrade(conn, &entries) {
+    match upgrade(conn, Version::One, &entries) {
         Ok(()) => Ok(VERSION),
         Err(_) => Err(OpenFault::Store),
     }

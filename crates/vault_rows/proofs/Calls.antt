@@ -1,12 +1,11 @@
 -- The one clause of a call, from what the functions that run a text say.
-use Rattle.std.proofs.Common.{◌≡◌, ◌∙◌, ℕ, List, Ok, Err, Result, IfOk, OnOk, sym, IsTrue, is_ok, true}
+use Rattle.std.proofs.Common.{◌≡◌, ◌∙◌, ℕ, List, Ok, Err, Result, IfOk, OnOk, sym, IsTrue, true}
 use Rattle.std.proofs.Common.{false, true≢false, ◌<◌, ◌^◌}
 use Rattle.std.proofs.Common.{◌∷◌, ◌++◌, [], suc, ℤ, arith, Option, IsErr, Ordering, subst, refl}
 use Rattle.sqlite.specs.Effect.{Database}
 use Rattle.sqlite.specs.Order.{Row}
 use Rattle.sqlite.specs.State.{State, HasCleanDisk, ExecutesInside, IsUnchanged, Shown, Shows}
 use Rattle.sqlite.specs.Tree.{Trees}
-use Rattle.sqlite.specs.Values.{bound_value}
 use Rattle.sqlite.specs.Listing.{understood}
 use Rattle.sqlite.specs.Query.{Query}
 use Rattle.sqlite.specs.Schema.{Schema}
@@ -28,16 +27,12 @@ use Rattle.vault_core.specs.Keys.{Bytes}
 use Rattle.vault_core.specs.Numbers.{right_number}
 use Rattle.vault_core.specs.Vault.{Vault}
 use Rattle.vault_core.specs.declared.right.Right.{Right}
-use Rattle.vault_core.specs.declared.usage.Use.{Use}
 use Rattle.std.specs.FinMap as map
 use Rattle.vault_schema.specs.Version1.Claims.{Lookups}
 use Rattle.vault_schema.specs.Version2.Claims.{Lookups as Tables, claims}
-use Rattle.vault_schema.specs.Version2.Rows.{id_or_null}
 use Rattle.vault_schema.specs.Version2.Joined.{AreJoined, nothing_owed}
 use Rattle.vault_schema.specs.declared.v2.Card.{Card}
 use Rattle.vault_schema.specs.declared.v2.Pointing.{Pointing}
-use Rattle.vault_core.specs.Numbers.{use_number}
-use Rattle.vault_schema.specs.Version1.Rows.{number_or_null}
 use Rattle.vault_rows.specs.Calls.{HasTables, IsWithin, Makes, Tells, TellsInside, TellsTables, Turns}
 use Rattle.vault_schema.specs.Holds.{AreOurs, Holds, LeavesEither}
 use Rattle.vault_schema.specs.Left.{left_after}
@@ -49,15 +44,6 @@ use Rattle.sqlite_catalog.specs.Listing.{IsSound}
 
 pub small_right : (right : Right) → right_number right < 2 ^ 63
 small_right right = grind arith
-
-pub small_use : (usage : Use) → use_number usage < 2 ^ 63
-small_use usage = grind arith
-
-pub number_bound : (o : Option ℕ) → bound_value (number_or_null o) ≡ number_or_null o
-number_bound o = grind arith
-
-pub id_bound : (o : Option ℤ) → bound_value (id_or_null o) ≡ id_or_null o
-id_bound o = grind arith
 
 -- ---- a vault that is held, as claims on the tables
 
@@ -297,32 +283,6 @@ makes_then {second = second} {b = b} {f = f} one two can next = record {
 
 -- ---- one after another on the tables
 
-pub on_if : {X E : Type 0} {P : X → Type 0} {A : Type 0} (r : Result X E) → IfOk r P → ((x : X) → P x → A)
-    → OnOk r A
-on_if (Ok x) h f = f x h
-on_if (Err e) h f = tt
-
--- what a step made is said in other words
-pub turns_as : {R R' E E' : Type 0} {x : R} {y : R'} {a b : State} {Can First : Tables → Type 0}
-    {Mid : R → Tables → Tables → Type 0} {After : R' → Tables → Tables → Type 0}
-    → Turns (let it : Result R E = Ok x in it) a b First Mid → ((t : Tables) → Can t → First t)
-    → ((t new : Tables) → Can t → Mid x t new → After y t new)
-    → Turns (let it : Result R' E' = Ok y in it) a b Can After
-turns_as one first after = record {
-  steps = one.steps;
-  done = λ clean base t w can. let it = one.done clean base t w (first t can) in
-      (it.0, after t it.0 can it.1, it.2);
-}
-
-pub turns_so : {R E : Type 0} {result : Result R E} {a b : State} {Can : Tables → Type 0}
-    {Mid After : R → Tables → Tables → Type 0} → Turns result a b Can Mid
-    → ((x : R) (t new : Tables) → Mid x t new → After x t new) → Turns result a b Can After
-turns_so {result = result} one so = record {
-  steps = one.steps;
-  done = λ clean. calls.if_ok result _ _ (one.done clean) (λ x did base t w can.
-      let it = did base t w can in (it.0, so x t it.0 it.1, it.2));
-}
-
 -- what a query inside a transaction told is answered in other words
 pub told_so : {R R' E E' : Type 0} {x : R} {y : R'} {a b : State} {Is : Tables → R → Type 0}
     {So : Tables → R' → Type 0} → TellsInside (let it : Result R E = Ok x in it) a b Is
@@ -332,45 +292,7 @@ told_so one so = record {
   told = λ clean base t w. let it = one.told clean base t w in (so t it.0, it.1);
 }
 
--- a query after a step, which tells more of it
-pub turns_seen : {R R' R'' E E' E'' : Type 0} {x : R} {z : R'} {y : R''} {a b c : State}
-    {Can First : Tables → Type 0} {Mid : R → Tables → Tables → Type 0} {Is : Tables → R' → Type 0}
-    {After : R'' → Tables → Tables → Type 0}
-    → Turns (let it : Result R E = Ok x in it) a b First Mid
-    → TellsInside (let it : Result R' E' = Ok z in it) b c Is → ((t : Tables) → Can t → First t)
-    → ((t new : Tables) → Can t → Mid x t new → Is new z → After y t new)
-    → Turns (let it : Result R'' E'' = Ok y in it) a c Can After
-turns_seen one two first after = record {
-  steps = calls.steps_then one.steps two.steps;
-  done = λ clean base t w can.
-      let mid = one.done (omega (arith, two.steps.clean, clean)) base t w (first t can) in
-      let seen = two.told clean base mid.0 mid.2 in
-      (mid.0, after t mid.0 can mid.1 seen.0, seen.1);
-}
-
-module _ {R R' E E' : Type 0} {x : R} {second : Result R' E'} {a b c : State} {Can Next : Tables → Type 0}
-    {After After' : R' → Tables → Tables → Type 0} where
-  -- a step after a query
-  pub turns_told : {Is : Tables → R → Type 0} → TellsInside (let it : Result R E = Ok x in it) a b Is
-      → Turns second b c Next After' → ((t : Tables) → Can t → Is t x → Next t)
-      → ((y : R') (t new : Tables) → Can t → Is t x → After' y t new → After y t new)
-      → Turns second a c Can After
-  turns_told one two next after = record {
-    steps = calls.steps_then one.steps two.steps;
-    done = λ clean. calls.if_ok second _ _ (two.done clean) (λ y did base t w can.
-        let told = one.told (omega (arith, two.steps.clean, clean)) base t w in
-        let end = did base t told.1 (next t can told.0) in
-        (end.0, after y t end.0 can told.0 end.1, end.2));
-  }
-
 -- ---- several queries
-
--- where the one answer is Ok, the other is
-pub as_ok : {X Y E F : Type 0} (A : Type 0) (r : Result X E) (q : Result Y F) → is_ok q ≡ is_ok r → OnOk r A
-    → OnOk q A
-as_ok A r (Err e) same h = tt
-as_ok A (Ok x) (Ok y) same h = h
-as_ok A (Err e) (Ok y) same h = absurd (true≢false same)
 
 on_err : {R E : Type 0} (r : Result R E) (A : Type 0) → IsErr r → OnOk r A
 on_err (Err e) A failed = tt

@@ -47,7 +47,7 @@ use Rattle.vault_schema.specs.declared.v2.Card.{Card}
 use Rattle.vault_schema.specs.declared.v2.Pointing.{Pointing}
 use Rattle.vault_schema.specs.declared.v2.TheConstants.{FIND_CURRENT}
 use Rattle.vault_rows.proofs.JoinedEntries.{entry_there, points_there}
-use Rattle.vault_rows.specs.Cards.{HasNoCard, IsCardOf}
+use Rattle.vault_cards.specs.Cards.{HasNoCard, IsCardOf}
 use Rattle.vault_schema.specs.Schema.{newest_schema}
 use Rattle.vault_rows.specs.Shown.{text_column}
 

@@ -6,7 +6,7 @@ use Rattle.vault_core.specs.declared.row.Entry.{Entry}
 use Rattle.vault_schema.specs.Version2.Joined.{AreJoined, joined, nothing_owed, number_of}
 use Rattle.vault_schema.specs.declared.v2.Card.{Card}
 use Rattle.vault_schema.specs.declared.v2.Pointing.{Pointing}
-use Rattle.vault_rows.specs.Cards.{numbered}
+use Rattle.vault_cards.specs.Cards.{numbered}
 
 module _ {cards : ℤ → Option Card} {pointing : Bytes × Bytes → Option Pointing}
     {entries : Bytes × Bytes → Option Entry} (are : AreJoined nothing_owed cards pointing entries) where

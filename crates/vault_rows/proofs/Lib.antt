@@ -1,12 +1,11 @@
 pub mod Calls
 pub mod Current
 pub mod Dead
+pub mod InEach
 pub mod JoinedEntries
 pub mod Kept
 pub mod Lookups
-pub mod Owing
 pub mod Pointed
 pub mod Raised
 pub mod ShownCards
 pub mod Statements
-pub mod WrittenEntry

@@ -1,32 +1,16 @@
--- What the one row of a query shows of an entry, of its card or of a text.
-use Rattle.std.proofs.Common.{◌≡◌, ◌∙◌, ℤ, List, [], ◌∷◌, Option, Some, None, option_and_then, slice_get}
+-- What the one row of a query shows of an entry or of a text.
+use Rattle.std.proofs.Common.{◌≡◌, ◌∙◌, List, [], ◌∷◌, Option, Some, None, slice_get}
 use Rattle.std.proofs.Common.{refl}
 use Rattle.std.proofs.Common.{sym, ap}
 use Rattle.sqlite.specs.Order.{Row, column}
 use Rattle.sqlite.specs.declared.types.Value.TheVariants.{Text}
 use Rattle.sql_maps.specs.Rows.{one_of}
-use Rattle.vault_schema.specs.Version2.Rows.{id_or_null, pointing_columns}
+use Rattle.vault_schema.specs.Version2.Rows.{pointing_columns}
 use Rattle.vault_schema.specs.declared.v2.Pointing.{Pointing}
 use Rattle.vault_core.specs.Keys.{Bytes}
-use Rattle.vault_schema.proofs.Version2.Codes.{id_same, pointing_codes}
+use Rattle.vault_schema.proofs.Version2.Codes.{pointing_codes}
 use Rattle.vault_schema.specs.Version1.Rows.{text_or_null}
 use Rattle.vault_rows.specs.Shown.{ShowsPointing, text_column}
-
-pub card_told : (o : Option Pointing) (rows : List Row) (row : Row) (found : Option ℤ)
-    → rows ≡ one_of pointing_columns o → Some row ≡ slice_get rows 0 → column row 0 ≡ id_or_null found
-    → found ≡ option_and_then (λ (e : Pointing). e.card) o
-card_told None rows row found is first at =
-    let none : Some row ≡ None = first ∙ ap (λ l. slice_get l 0) is in absurd cc
-card_told (Some e) rows row found is first at =
-    let same : row ≡ pointing_columns e =
-    (let both : Some row ≡ Some (pointing_columns e) = first ∙ ap (λ l. slice_get l 0) is in cc) in
-    id_same found e.card (sym at ∙ ap (λ r. column r 0) same)
-
-pub none_told : (o : Option Pointing) (rows : List Row) → rows ≡ one_of pointing_columns o
-    → None ≡ slice_get rows 0 → None ≡ option_and_then (λ (e : Pointing). e.card) o
-none_told None rows is first = refl
-none_told (Some e) rows is first =
-    let some : None ≡ Some (pointing_columns e) = first ∙ ap (λ l. slice_get l 0) is in absurd cc
 
 -- the one row of an entry shows it
 pub pointing_shown : (o : Option Pointing) (rows : List Row) (row : Row) (e : Pointing)

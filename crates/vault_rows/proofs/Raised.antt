@@ -1,5 +1,5 @@
 -- A count goes up by an update of its row, or by its first row.
-use Rattle.std.proofs.Common.{arith, ◌≡◌, ◌↔◌, ◌∙◌, ◌+◌, inl, inr, ℕ, pos, [], ◌∷◌, Bool, true, false, nat_lt}
+use Rattle.std.proofs.Common.{arith, ◌≡◌, ◌↔◌, ◌∙◌, inl, inr, ℕ, pos, [], ◌∷◌, Bool, true, false, nat_lt}
 use Rattle.std.proofs.Common.{Option, Some, None, IsSome, IsTrue, Ok, Result, refl, sym, ap, subst}
 use Rattle.std.proofs.Common.{if◌then◌else◌}
 use Rattle.sqlite.specs.State.{State, HasCleanDisk, ExecutesInside}
@@ -12,7 +12,8 @@ use Rattle.vault_schema.specs.declared.v1.TheConstants.{RAISE_COUNT}
 use Rattle.vault_rows.specs.Calls.{HasTables, Makes, Turns}
 use Rattle.vault_schema.specs.Stands.{tables_of}
 use Rattle.vault_rows.specs.Written.{HasRoomAt, IsRaised, raise_at}
-use Rattle.vault_rows.proofs.Calls.{on_if, turns_telling}
+use Rattle.vault_cards.proofs.Calls.{on_if}
+use Rattle.vault_rows.proofs.Calls.{turns_telling}
 use Rattle.vault_rows.proofs.Statements.{count_raised}
 
 module _ (at : Bytes × ℕ) where

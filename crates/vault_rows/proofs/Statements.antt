@@ -1,6 +1,6 @@
 -- What each statement that writes makes of the lookups, inside a transaction.
 use Rattle.std.proofs.Common.{arith, ◌≡◌, ◌⊎◌, ℕ, ℤ, pos, [], ◌∷◌, Option, Some, None, refl, sym, ap, subst}
-use Rattle.std.proofs.Common.{◌∙◌, ◌+◌, ◌++◌, ◌<◌, ◌^◌, unwrap_or, int_cmp}
+use Rattle.std.proofs.Common.{◌∙◌, ◌+◌, ◌++◌, ◌<◌, ◌^◌, unwrap_or}
 use Rattle.sqlite.specs.Effect.{Database}
 use Rattle.sqlite.specs.Ops.{binary}
 use Rattle.sqlite.specs.State.{State}
@@ -9,17 +9,12 @@ use Rattle.sqlite_sql.specs.declared.ops.ArithOp.TheVariants.{Add}
 use Rattle.sqlite_sql.specs.declared.ops.BinaryOp.TheVariants.{Arith}
 use Rattle.sql_maps.specs.Rows.{put}
 use Rattle.sql_maps.proofs.Statements.{Ran, change_in, insert_in, keep_in, plus_one, take_in, upsert_in}
-use Rattle.vault_core.specs.Keys.{Bytes, bytes_cmp, entry_cmp, record_cmp, right_cmp}
+use Rattle.vault_core.specs.Keys.{Bytes, bytes_cmp, record_cmp, right_cmp}
 use Rattle.vault_core.specs.declared.right.Right.{Right}
 use Rattle.vault_core.specs.declared.row.Record.{Record}
-use Rattle.sql_maps.proofs.ById.{change_id, drop_id, insert_id}
 use Rattle.vault_schema.specs.Version2.Claims.{Lookups as Tables, claims}
-use Rattle.vault_schema.specs.Version2.Rows.{pointing_columns}
 use Rattle.vault_schema.specs.Version2.Tables.{tables2, indexes2}
-use Rattle.vault_schema.specs.declared.v2.Card.{Card}
-use Rattle.vault_schema.specs.declared.v2.Pointing.{Pointing}
-use Rattle.vault_schema.specs.declared.v2.TheConstants.{ADD_ENTRY, PUT_ENTRY, ADD_CARD, SET_USES, DROP_CARD}
-use Rattle.vault_schema.specs.Version1.Rows.{lives_columns, numbered_key, count_row, entry_key}
+use Rattle.vault_schema.specs.Version1.Rows.{lives_columns, numbered_key, count_row}
 use Rattle.vault_schema.specs.Version1.Rows.{record_columns, right_key}
 use Rattle.vault_schema.specs.declared.v1.Lives.{Lives}
 use Rattle.vault_schema.specs.declared.v1.TheConstants.{PUT_MERCHANT, RAISE_COUNT, ADD_COUNT, ADD_RECORD}
@@ -27,9 +22,6 @@ use Rattle.vault_schema.specs.declared.v1.TheConstants.{GIVE_RIGHT, TAKE_RIGHT}
 use Rattle.vault_schema.proofs.Version1.Texts.{put_merchant_is, raise_is, add_count_is, add_record_is}
 use Rattle.vault_schema.proofs.Version1.Texts.{give_is, take_is}
 use Rattle.vault_schema.proofs.Version2.Codes.{merchant_table, count_table, record_table, right_table}
-use Rattle.vault_schema.proofs.Version2.Codes.{card_table, pointing_table}
-use Rattle.vault_schema.proofs.Version2.Texts.{add_entry_is, put_entry_is, add_card_is, set_uses_is}
-use Rattle.vault_schema.proofs.Version2.Texts.{drop_card_is, uses_set}
 use Rattle.vault_rows.specs.Calls.{HasTables}
 use Rattle.vault_schema.specs.Schema.{newest_schema}
 use Rattle.vault_rows.specs.Written.{raise_at, HasRoomAt}
@@ -67,19 +59,6 @@ module _ {t : Tables} {base : Database} {old new : State} where
       (sym none)
       (insert_in refl run count_table t.counts (λ are. are) at 1 4 _ (add_count_is tables2 indexes2) refl).1
 
-  pub pointing_put : (at : Bytes × Bytes) (x : Pointing)
-      → Ran newest_schema (claims t) base old new PUT_ENTRY.now (entry_key at ++ pointing_columns x)
-      → HasTables new base (record t { pointing = put entry_cmp t.pointing at (Some x) })
-  pointing_put at x run = upsert_in refl run pointing_table t.pointing (λ are. are) at x 8 _ 7 _
-      (put_entry_is [] []) refl (λ n. refl) (λ n y is. refl)
-
-  pub pointing_added : (at : Bytes × Bytes) (x : Pointing)
-      → Ran newest_schema (claims t) base old new ADD_ENTRY.now (entry_key at ++ pointing_columns x)
-      → (t.pointing at ≡ None)
-      × HasTables new base (record t { pointing = put entry_cmp t.pointing at (Some x) })
-  pointing_added at x run =
-      insert_in refl run pointing_table t.pointing (λ are. are) at x 8 _ (add_entry_is [] []) refl
-
   pub record_added : (at : Bytes × ℕ) (x : Record)
       → Ran newest_schema (claims t) base old new ADD_RECORD.now (numbered_key at ++ record_columns x)
       → HasTables new base (record t { records = put record_cmp t.records at (Some x) })
@@ -102,25 +81,3 @@ module _ {t : Tables} {base : Database} {old new : State} where
       → HasTables new base (record t { rights = put right_cmp t.rights at None })
   right_taken at run =
       take_in refl run right_table t.rights (λ are. are) (take_is tables2 indexes2) at refl
-
-  -- ---- cards
-
-  pub card_added : (m number : Bytes)
-      → Ran newest_schema (claims t) base old new ADD_CARD.now (Text m ∷ Text number ∷ [])
-      → (id : ℤ) × (t.cards id ≡ None) × HasTables new base (record t {
-        cards = put int_cmp t.cards id (Some (record { merchant = m; number = number; uses = 1 }));
-      })
-  card_added m number run =
-      let it = insert_id refl run card_table t.cards (λ are. are)
-      (record { merchant = m; number = number; uses = 1 }) 5 _ (add_card_is [] []) refl in
-      (_, it.0, it.1)
-
-  pub card_used : (id : ℤ) (c : Card) → t.cards id ≡ Some c → (uses : ℕ)
-      → Ran newest_schema (claims t) base old new SET_USES.now (Int id ∷ Int (pos uses) ∷ [])
-      → HasTables new base (record t { cards = put int_cmp t.cards id (Some (record c { uses = uses })) })
-  card_used id c is uses run = change_id refl run card_table t.cards (λ are. are) 0 id refl uses_set
-      (set_uses_is [] []) c (record c { uses = uses }) is refl
-
-  pub card_dropped : (id : ℤ) → Ran newest_schema (claims t) base old new DROP_CARD.now (Int id ∷ [])
-      → HasTables new base (record t { cards = put int_cmp t.cards id None })
-  card_dropped id run = drop_id refl run card_table t.cards (λ are. are) 0 id refl (drop_card_is [] [])

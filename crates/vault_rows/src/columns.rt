@@ -4,10 +4,9 @@ ghost use Rattle.sqlite.specs.Order.{column};
 ghost use Rattle.sqlite.specs.declared.types.Value.TheVariants.{Int, Text};
 ghost use Rattle.vault_core.specs.Numbers.{use_number};
 ghost use Rattle.vault_schema.specs.Version1.Rows.{text_or_null, number_or_null};
-ghost use Rattle.vault_schema.specs.Version2.Rows.{id_or_null};
 
-use crate::fault::StoreFault;
 use sqlite::Row;
+use vault_cards::fault::StoreFault;
 use vault_core::moment::Moment;
 use vault_core::name::MerchantId;
 use vault_core::usage::Use;
@@ -85,15 +84,4 @@ pub(crate) fn moment_or_null_in(row: &Row, at: usize) -> Result<Option<Moment>, 
         Ok(moment) => Ok(Some(moment)),
         Err(_) => Err(StoreFault),
     }
-}
-
-/// The id of a card, or NULL.
-pub(crate) fn card_in(row: &Row, at: usize) -> Result<Option<i64>, StoreFault>
-    ensures { IfOk result (λ card. column row.now at ≡ id_or_null card) }
-{
-    let id: Option<i64> = row.get(at)?;
-    let Some(id) = id else {
-        return Ok(None);
-    };
-    Ok(Some(id))
 }

@@ -4,10 +4,6 @@
 mod cards;
 pub mod columns;
 pub mod entries;
-pub mod fault;
 pub mod merchants;
-mod parameters;
-pub mod pointing;
 pub mod records;
 pub mod rights;
-pub mod text;

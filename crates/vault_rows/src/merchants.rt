@@ -15,10 +15,10 @@ ghost use Rattle.sql_maps.specs.Rows.{one_of, put};
 ghost use Rattle.vault_rows.specs.Written.{HasRoomAt, IsRaised, raise_at};
 
 use crate::columns::moment_in;
-use crate::fault::StoreFault;
-use crate::text::merchant_text;
 use sql_maps::run::{change, rows_in, rows_of, step};
 use sqlite::{Alter, Connection, Error, Row, Transaction, params};
+use vault_cards::fault::StoreFault;
+use vault_cards::text::merchant_text;
 use vault_core::changes::Count;
 use vault_core::moment::Moment;
 use vault_core::name::MerchantId;

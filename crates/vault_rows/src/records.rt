@@ -9,10 +9,10 @@ ghost use Rattle.vault_rows.specs.Shown.{ShowsRecord};
 ghost use Rattle.sql_maps.specs.Rows.{one_of, put};
 
 use crate::columns::{merchant_in, token_in, usage_in};
-use crate::fault::StoreFault;
-use crate::text::{caller_text, merchant_text};
 use sql_maps::run::{rows_of, step};
 use sqlite::{Alter, Connection, Error, Row, Transaction, params};
+use vault_cards::fault::StoreFault;
+use vault_cards::text::{caller_text, merchant_text};
 use vault_core::name::Caller;
 use vault_core::request::RequestNo;
 use vault_core::row::Record;

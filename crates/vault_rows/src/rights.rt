@@ -8,10 +8,10 @@ ghost use Rattle.vault_rows.specs.Calls.{Makes, Tells};
 ghost use Rattle.vault_schema.specs.Version1.Rows.{number_column};
 ghost use Rattle.sql_maps.specs.Rows.{put};
 
-use crate::fault::StoreFault;
-use crate::text::{caller_text, merchant_text};
 use sql_maps::run::{rows_of, step};
 use sqlite::{Alter, Connection, Error, Row, Transaction, params};
+use vault_cards::fault::StoreFault;
+use vault_cards::text::{caller_text, merchant_text};
 use vault_core::name::{Caller, MerchantId};
 use vault_core::right::Right;
 use vault_schema::v1::{FIND_RIGHT, GIVE_RIGHT, TAKE_RIGHT};

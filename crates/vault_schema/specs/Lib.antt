@@ -5,4 +5,7 @@ pub mod Schema
 pub mod Stands
 pub mod Version1
 pub mod Version2
+pub mod Version3
+pub mod Version4
 pub mod Versioned
+pub mod Versions

@@ -16,22 +16,20 @@ ghost use Rattle.vault_rows.specs.Written.{put_lives, put_record as put_record_l
 ghost use Rattle.vault_rows.specs.Written.{raise as raise_lem};
 
 use sqlite::{Alter, Connection, Error, Transaction};
+use vault_cards::fault::StoreFault;
+use vault_cards::parameters::GREATEST;
+use vault_cards::pointing::{add_entry, put_entry};
+use vault_cards::text::{caller_text, merchant_text};
 use vault_core::changes::{self, Changes, Count};
 use vault_core::name::{Caller, MerchantId};
 use vault_core::request::RequestNo;
 use vault_core::right::Right;
 use vault_core::row::{Entry, Record};
 use vault_pan::token::Token;
-use vault_rows::fault::StoreFault;
 use vault_rows::merchants::{raise, set_lives};
-use vault_rows::pointing::{add_entry, put_entry};
 use vault_rows::records::add_record;
 use vault_rows::rights::{give, take};
-use vault_rows::text::{caller_text, merchant_text};
 use vault_schema::v1::Lives;
-
-/// The greatest number that a column holds.
-const GREATEST: u64 = 9223372036854775807;
 
 /// Whether columns hold the numbers of a merchant's lives.
 fn are_storable_lives(lives: &Option<changes::Lives>) -> bool

@@ -1,16 +1,9 @@
 -- What a value tells of what it was made from.
-use Rattle.std.proofs.Common.{◌≡◌, ◌<◌, ℕ, true, Bool, cond, Option, Some, None}
-use Rattle.std.proofs.Common.{refl, sym, arith}
+use Rattle.std.proofs.Common.{◌≡◌, ◌<◌, ℕ, true, Bool, cond, Some, None}
+use Rattle.std.proofs.Common.{arith}
 use Rattle.std.proofs.lemmas.Bool.Decides.{nat_tests}
 use Rattle.std.proofs.lemmas.Grind.{common_steps}
 use Rattle.vault_schema.specs.Stands.{unless_zero}
-
--- two that have the same are one
-pub both_ways : {X : Type 0} (a b : Option X) → ((x : X) → a ≡ Some x → b ≡ Some x)
-    → ((x : X) → b ≡ Some x → a ≡ Some x) → a ≡ b
-both_ways (Some x) b to from = sym (to x refl)
-both_ways None (Some y) to from = from y refl
-both_ways None None to from = refl
 
 pub given_back : (b : Bool) (x : Unit {0}) → cond b (Some tt) None ≡ Some x → b ≡ true
 given_back b x e = grind arith

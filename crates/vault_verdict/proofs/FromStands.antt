@@ -22,7 +22,8 @@ use Rattle.vault_core.specs.declared.row.Entry.{Entry}
 use Rattle.vault_core.specs.declared.usage.Use.{Use}
 use Rattle.vault_core.specs.declared.usage.Use.TheVariants.{Single, Multi}
 use Rattle.vault_verdict.proofs.AsClaims.{as_fields}
-use Rattle.vault_verdict.proofs.Backs.{both_ways, given_back, none_unless, some_unless}
+use Rattle.sql_maps.proofs.Determined.{both_ways}
+use Rattle.vault_verdict.proofs.Backs.{given_back, none_unless, some_unless}
 use Rattle.vault_verdict.proofs.ShownCards.{cards_shown, entry_pointing, entry_shown, pointing_of}
 use Rattle.vault_verdict.proofs.Table.{pair_of, row_at}
 use Rattle.vault_verdict.proofs.Tables as tables

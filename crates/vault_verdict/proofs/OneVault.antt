@@ -1,57 +1,20 @@
 -- The rows of a database tell each part of the vault that they stand for.
-use Rattle.std.proofs.Common.{◌≡◌, ℕ, ℤ, List, [], ◌∷◌, drop, Bool, cond, Option, Some, None, Ordering}
-use Rattle.std.proofs.Common.{option_map, sym, ap, ◌∙◌, arith}
+use Rattle.std.proofs.Common.{◌≡◌, ℕ, Bool, cond, Option, Some, None}
+use Rattle.std.proofs.Common.{option_map, sym, ◌∙◌, arith}
 use Rattle.std.specs.FinMap as map
 use Rattle.std.specs.FinSet as set
 use Rattle.std.specs.Option.{option_map_or}
-use Rattle.sqlite.specs.Order.{Row, column}
 use Rattle.sqlite.specs.Tree.{Trees}
-use Rattle.sqlite.specs.declared.types.Value.{Value}
-use Rattle.sqlite.specs.declared.types.Value.TheVariants.{Int, Text}
-use Rattle.sql_maps.proofs.ByKey.{Coding}
-use Rattle.sql_maps.specs.Rows.{AreRowsById, AreRowsOf}
 use Rattle.vault_core.specs.Keys.{Bytes}
 use Rattle.vault_core.specs.Vault.{Vault, Merchant, merchant_at}
 use Rattle.vault_core.specs.declared.right.Right.{Right}
 use Rattle.vault_verdict.proofs.AsClaims.{AreClaimed, as_fields}
-use Rattle.vault_verdict.proofs.Backs.{both_ways, same_count}
+use Rattle.sql_maps.proofs.Determined.{same_at_ids, same_lookups}
+use Rattle.vault_verdict.proofs.Backs.{same_count}
 use Rattle.vault_schema.proofs.Version1.Codes as codes
-use Rattle.vault_schema.proofs.Version1.Codes.{number_in}
-use Rattle.vault_schema.proofs.Version2.Codes.{pointing_coding}
+use Rattle.vault_schema.proofs.Version2.Codes.{card_back, pointing_coding}
 use Rattle.vault_schema.specs.Version2.Joined.{joined}
-use Rattle.vault_schema.specs.Version2.Rows.{card_columns}
-use Rattle.vault_schema.specs.declared.v2.Card.{Card}
 use Rattle.vault_schema.specs.Stands.{Stands, count_at, lives_in, lookups_of, tables_of}
-
-abbrev text_in : Value → Bytes
-text_in (Text t) = t
-text_in _ = []
-
-int_told : (m n : ℤ) (r s : Row) → Int m ∷ r ≡ Int n ∷ s → m ≡ n
-int_told m n r s e = cc
-
--- the columns of a card tell it
-card_back : (x y : Card) → card_columns x ≡ card_columns y → x ≡ y
-card_back x y e = λ i. record {
-  merchant = text_in (column (e i) 1);
-  number = text_in (column (e i) 2);
-  uses = number_in (column (e i) 3);
-}
-
--- rows tell what is found at each key
-module _ {K X : Type 0} {cmp : K → K → Ordering} {encode : K → X → Row} (coding : Coding cmp encode)
-    {rows : List Row} where
-  shared : {f g : K → Option X} → AreRowsOf encode rows f → AreRowsOf encode rows g
-      → (k : K) (x : X) → f k ≡ Some x → g k ≡ Some x
-  shared {g = g} one other k x here =
-      let row = one.complete k x here in
-      let it = other.sound row.0 row.1 in
-      let same = sym it.2 ∙ row.2 in
-      ap g (sym (coding.key it.0 k it.1 x same)) ∙ it.3 ∙ ap (λ y. Some y) (coding.value it.0 k it.1 x same)
-
-  pub same_lookups : {f g : K → Option X} → AreRowsOf encode rows f → AreRowsOf encode rows g
-      → (k : K) → f k ≡ g k
-  same_lookups one other k = both_ways _ _ (shared one other k) (shared other one k)
 
 -- a right is there where its row is
 abbrev given : Bool → Option (Unit {0})
@@ -65,18 +28,6 @@ same_merchant : (a b : Option Merchant) → option_map lives_in a ≡ option_map
     → option_map_or (λ (x : Merchant). x.given) a 0 ≡ option_map_or (λ (x : Merchant). x.given) b 0
     → option_map_or (λ (x : Merchant). x.denied) a 0 ≡ option_map_or (λ (x : Merchant). x.denied) b 0 → a ≡ b
 same_merchant a b lives given denied = grind arith
-
--- rows by their ids tell what is found at each id
-module _ {X : Type 0} {value : X → Row} (back : (x y : X) → value x ≡ value y → x ≡ y) {rows : List Row} where
-  shared_id : {f g : ℤ → Option X} → AreRowsById value rows f → AreRowsById value rows g
-      → (n : ℤ) (x : X) → f n ≡ Some x → g n ≡ Some x
-  shared_id {g = g} one other n x here =
-      let it = other.sound _ (one.complete n x here) in
-      let id : n ≡ it.0 = int_told n it.0 (value x) (value it.1) it.2 in
-      ap g id ∙ it.3 ∙ ap (λ y. Some y) (sym (back x it.1 (ap (drop 1) it.2)))
-
-  same_at_ids : {f g : ℤ → Option X} → AreRowsById value rows f → AreRowsById value rows g → f ≡ g
-  same_at_ids one other = λ i n. both_ways _ _ (shared_id one other n) (shared_id other one n) i
 
 -- two vaults with the same at each key are one
 module _ (V W : Vault) (merchants : (m : Bytes) → (lookups_of V).merchants m ≡ (lookups_of W).merchants m)

@@ -27,7 +27,7 @@ abbrev pub number_in : Value → ℕ
 number_in (Int (pos n)) = n
 number_in _ = 0
 
-abbrev text_in : Value → Bytes
+abbrev pub text_in : Value → Bytes
 text_in (Text t) = t
 text_in _ = []
 

@@ -12,11 +12,12 @@ use Rattle.vault_core.specs.Keys.{bytes_cmp, entry_cmp, record_cmp, right_cmp}
 use Rattle.vault_schema.proofs.Grown.{keyed_in_grown}
 use Rattle.vault_schema.proofs.Version1.Codes as v1
 use Rattle.vault_schema.proofs.Version1.Codes.{number_in, maybe_number, number_back, number_fits}
-use Rattle.vault_schema.proofs.Version1.Codes.{use_in, use_back, entry_codes}
+use Rattle.vault_schema.proofs.Version1.Codes.{text_in, use_in, use_back, entry_codes}
 use Rattle.vault_schema.specs.Version1.Rows.{merchant_key, lives_columns, numbered_key, number_column}
 use Rattle.vault_schema.specs.Version1.Rows.{entry_key, entry_columns, record_columns, right_key, no_columns}
 use Rattle.vault_schema.specs.Version2.Rows.{card_columns, id_or_null, pointing_columns, pointing_row}
 use Rattle.vault_schema.specs.Version2.Tables.{v2, cards, entries, tables2, indexes2}
+use Rattle.vault_schema.specs.declared.v2.Card.{Card}
 
 -- ---- an id and back
 
@@ -35,6 +36,16 @@ id_same a b e = sym (id_back a) ∙ ap maybe_id e ∙ id_back b
 id_fits : (o : Option ℤ) → fits Integer (id_or_null o) ≡ true
 id_fits None = refl
 id_fits (Some id) = refl
+
+-- ---- the cards
+
+-- the columns of a card tell it
+pub card_back : (x y : Card) → card_columns x ≡ card_columns y → x ≡ y
+card_back x y e = λ i. record {
+  merchant = text_in (column (e i) 1);
+  number = text_in (column (e i) 2);
+  uses = number_in (column (e i) 3);
+}
 
 -- ---- the entries
 

@@ -9,7 +9,7 @@ use sqlite_schema::schema::Kind::{Integer, Text};
 use sqlite_schema::schema::Schema;
 
 /// Cards by their id, which stands in the rowid.
-const CARDS: TableShape<'static> = TableShape {
+pub(crate) const CARDS: TableShape<'static> = TableShape {
     name: "cards2",
     tree: 12,
     columns: &[
@@ -24,7 +24,7 @@ const CARDS: TableShape<'static> = TableShape {
 };
 
 /// Entries by merchant and token.
-const ENTRIES: TableShape<'static> = TableShape {
+pub(crate) const ENTRIES: TableShape<'static> = TableShape {
     name: "entries2",
     tree: 14,
     columns: &[
@@ -42,7 +42,7 @@ const ENTRIES: TableShape<'static> = TableShape {
 };
 
 /// The key of cards beside their id.
-const CARDS_KEY: IndexShape<'static> = IndexShape {
+pub(crate) const CARDS_KEY: IndexShape<'static> = IndexShape {
     name: "sqlite_autoindex_cards2_1",
     tree: 13,
     table: 12,
@@ -51,7 +51,7 @@ const CARDS_KEY: IndexShape<'static> = IndexShape {
 };
 
 /// The key of entries.
-const ENTRIES_KEY: IndexShape<'static> = IndexShape {
+pub(crate) const ENTRIES_KEY: IndexShape<'static> = IndexShape {
     name: "sqlite_autoindex_entries2_1",
     tree: 15,
     table: 14,
@@ -60,7 +60,7 @@ const ENTRIES_KEY: IndexShape<'static> = IndexShape {
 };
 
 /// Entries by card.
-const ENTRIES_CARD: IndexShape<'static> = IndexShape {
+pub(crate) const ENTRIES_CARD: IndexShape<'static> = IndexShape {
     name: "entries2_card",
     tree: 16,
     table: 14,

@@ -1,10 +1,12 @@
 use Rattle.std.proofs.Common.{◌∙◌, arith, sym, ap, map}
 use Rattle.sqlite.specs.Held.{state}
 use Rattle.sqlite.specs.State.{HasCleanDisk}
-use Rattle.vault_migrate.proofs.Moving.{holds_old, moves_from}
+use Rattle.vault_migrate.proofs.Moving.{holds_old, left_of_step, moves_from}
 use Rattle.vault_migrate.proofs.migrate.move_up.Goals as goal
 use Rattle.vault_migrate.specs.Made.{old_columns, typed_columns}
+use Rattle.vault_schema.proofs.Lifted.{held_in_first, held_in_second, lifted}
 use Rattle.vault_schema.specs.Left.{left_alone}
+use Rattle.vault_schema.specs.Stands.{lookups_of}
 
 pub returns-in-Ok-clause-moved : goal.returns-in-Ok-clause-moved
 returns-in-Ok-clause-moved g c clean V h =
@@ -15,7 +17,8 @@ returns-in-Ok-clause-moved g c clean V h =
     (c.in_ok-olders.ensures.kept early) c.old_entries.ensures.quiet.limit (c.in_ok-olders.ensures.told early)
     (ap (map old_columns) (sym c.deref.ensures.value) ∙ c.in_ok-entries.ensures.rows
     ∙ ap (map typed_columns) (sym c.deref-2.ensures.value)) in
-    c.in-Ok.ensures.done clean V it.0 it.1
+    held_in_second V (state g.S.Store c.upgrade.new.conn)
+    (c.in-Ok.ensures.done clean (lifted (lookups_of V)) (held_in_first V mid it.0) it.1)
 
 pub returns-in-Ok-clause-whole : goal.returns-in-Ok-clause-whole
 returns-in-Ok-clause-whole g c clean V h =
@@ -32,7 +35,8 @@ returns-in-Ok-clause-crash g c clean V h =
     (c.in_ok-olders.ensures.kept early) c.old_entries.ensures.quiet.limit (c.in_ok-olders.ensures.told early)
     (ap (map old_columns) (sym c.deref.ensures.value) ∙ c.in_ok-entries.ensures.rows
     ∙ ap (map typed_columns) (sym c.deref-2.ensures.value)) in
-    c.in-Ok.ensures.crash clean V it.0 it.1
+    λ db left. left_of_step V db
+    (c.in-Ok.ensures.crash clean (lifted (lookups_of V)) (held_in_first V mid it.0) it.1 db left)
 
 pub returns-clause-crash : goal.returns-clause-crash
 returns-clause-crash g c clean V h =
@@ -43,7 +47,8 @@ returns-clause-crash g c clean V h =
     (c.in_ok-olders.ensures.kept early) c.old_entries.ensures.quiet.limit (c.in_ok-olders.ensures.told early)
     (ap (map old_columns) (sym c.deref.ensures.value) ∙ c.in_ok-entries.ensures.rows
     ∙ ap (map typed_columns) (sym c.deref-2.ensures.value)) in
-    c.upgrade.ensures.crash clean V it.0 it.1
+    λ db left. left_of_step V db
+    (c.upgrade.ensures.crash clean (lifted (lookups_of V)) (held_in_first V mid it.0) it.1 db left)
 
 pub returns-in-Ok-clause-sound : goal.returns-in-Ok-clause-sound
 returns-in-Ok-clause-sound g c clean ours =

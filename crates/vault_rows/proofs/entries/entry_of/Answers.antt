@@ -1,6 +1,6 @@
 use Rattle.std.proofs.Common.{ap, ◌∙◌, Some, w64}
 use Rattle.std.proofs.lemmas.Int.{to_z-of_z}
-use Rattle.vault_rows.specs.Cards.{numbered}
+use Rattle.vault_cards.specs.Cards.{numbered}
 use Rattle.vault_rows.proofs.Calls.{tables_so}
 use Rattle.vault_rows.proofs.entries.entry_of.Goals as goal
 

@@ -1,4 +1,3 @@
-use Rattle.std.proofs.Common.{sym, ◌∙◌, refl}
 use Rattle.vault_rows.proofs.Calls.{told_so}
 use Rattle.vault_rows.proofs.Lookups.{lives_shown, no_lives, same_lives}
 use Rattle.vault_rows.proofs.merchants.has_lives.Goals as goal

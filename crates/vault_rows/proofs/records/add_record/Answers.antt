@@ -1,6 +1,7 @@
 use Rattle.std.proofs.Common.{refl}
 use Rattle.sql_maps.proofs.Calls.{small}
-use Rattle.vault_rows.proofs.Calls.{makes, small_use}
+use Rattle.vault_cards.proofs.Calls.{small_use}
+use Rattle.vault_rows.proofs.Calls.{makes}
 use Rattle.vault_rows.proofs.Statements.{record_added}
 use Rattle.vault_rows.proofs.records.add_record.Goals as goal
 

@@ -1,7 +1,7 @@
 use Rattle.std.proofs.Common.{◌≡◌, subst, arith, rules, inl, inr, OnOk}
 use Rattle.sqlite.specs.Held.{state}
 use Rattle.sqlite.specs.State.{HasCleanDisk}
-use Rattle.sql_maps.proofs.Calls.{on_ok, steps_then}
+use Rattle.sql_maps.proofs.Calls.{as_ok, on_ok, steps_then}
 use Rattle.vault_core.specs.Changes.{Fit, plus}
 use Rattle.vault_core.specs.Sound.{Sound}
 use Rattle.vault_core.specs.Vault.{Vault}
@@ -9,7 +9,7 @@ use Rattle.vault_schema.specs.Version1.Claims.{Lookups}
 use Rattle.vault_rows.specs.Calls.{IsWithin}
 use Rattle.vault_schema.specs.Holds.{Holds, LeavesEither}
 use Rattle.vault_schema.specs.Stands.{lookups_of}
-use Rattle.vault_rows.proofs.Calls.{as_ok, begun_over, held_after, ours}
+use Rattle.vault_rows.proofs.Calls.{begun_over, held_after, ours}
 use Rattle.vault_schema.specs.Left.{last_commit}
 use Rattle.vault_sql.proofs.WrittenPlus.{has_room, written_plus}
 use Rattle.vault_sql.proofs.transaction.write.Given.{Over}

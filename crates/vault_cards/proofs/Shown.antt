@@ -1,0 +1,123 @@
+-- What queries show of cards and entries in a version that has them.
+use Rattle.std.proofs.Common.{◌≡◌, ◌&&◌, ℤ, pos, List, [], ◌∷◌, Option, inl, inr}
+use Rattle.std.proofs.Common.{is_eq, Bool, true, refl, ap}
+use Rattle.std.proofs.lemmas.Bool.{and_parts}
+use Rattle.std.specs.Cmp.{tied_itself}
+use Rattle.sqlite.specs.Order.{Row}
+use Rattle.sqlite.specs.Schema.{Schema}
+use Rattle.sqlite.specs.State.{State, Shown}
+use Rattle.sqlite.specs.declared.types.Value.TheVariants.{Int, Text}
+use Rattle.sqlite.specs.Term.{col}
+use Rattle.sql_maps.specs.Rows.{AreRowsById, one_of}
+use Rattle.sql_maps.specs.Schema.{table_of}
+use Rattle.sql_maps.specs.States.{Claim, Stands}
+use Rattle.sql_maps.specs.Texts.{IsQuery, query_of}
+use Rattle.sql_maps.proofs.ById.{ById, look_up_id, shown_once}
+use Rattle.sql_maps.proofs.Keys.{IsGuarded}
+use Rattle.sql_maps.proofs.KeyTests.{and_true, equal_is, text_eq}
+use Rattle.sql_maps.proofs.Plain.{claim_at}
+use Rattle.sql_maps.proofs.Reading.{look_up}
+use Rattle.sql_maps.proofs.SoundById.{unique_id}
+use Rattle.vault_core.proofs.Maps.{bytes_exact, bytes_total}
+use Rattle.vault_core.specs.Keys.{Bytes, bytes_cmp}
+use Rattle.vault_schema.specs.Version2.Rows.{card_columns, pointing_columns}
+use Rattle.vault_schema.specs.Versions.{Tables, claims_of, schema_of}
+use Rattle.vault_schema.specs.declared.v2.Card.{Card}
+use Rattle.vault_schema.specs.declared.v2.TheConstants.{FIND_CARD, FIND_ENTRY, FIND_USES}
+use Rattle.vault_schema.specs.declared.version.Version.{Version}
+use Rattle.vault_schema.specs.declared.version.Version.TheVariants.{One, Two, Three, Four}
+use Rattle.vault_schema.proofs.Version2.Codes as two
+use Rattle.vault_schema.proofs.Version2.Texts.{card_tests}
+use Rattle.vault_cards.specs.Cards.{ShowsCard, card_shown, uses_column}
+use Rattle.vault_cards.proofs.Places.{card_is_at, card_table_of, entry_is_at, pointing_in3, pointing_in4}
+use Rattle.vault_cards.proofs.Places.{uses_is_at}
+
+abbrev is_wanted : Bytes → Bytes → ℤ → Card → Bool
+is_wanted m number id c = is_eq (bytes_cmp c.merchant m) && is_eq (bytes_cmp c.number number)
+
+exact : (a b : Bytes) → is_eq (bytes_cmp a b) ≡ true → a ≡ b
+exact a b e = bytes_exact a b (equal_is _ e)
+
+-- in whatever schema has the table of cards, a merchant's number comes once
+pub one_card : {s : Schema} {claims : List Claim} (old new : State) (it : Stands s claims old.now)
+    (rows : List Row)
+    (cards : ℤ → Option Card) (table : ById s card_columns)
+    → ((claim_at claims table.place (old.now.trees table.table.tree))
+    → AreRowsById card_columns (old.now.trees table.table.tree) cards)
+    → AreRowsById card_columns (old.now.trees table.table.tree) cards
+    → IsGuarded s.indexes (table_of table.table) (2 ∷ 3 ∷ [])
+    → IsQuery s FIND_CARD.now (query_of table.table.tree card_tests (col 1 0 ∷ col 1 4 ∷ []))
+    → (m number : Bytes)
+    → Shown FIND_CARD.now (Text m ∷ Text number ∷ []) old new rows → ShowsCard rows cards m number
+one_card old new it rows cards table said are guarded means m number shown =
+    elim (shown_once old new it _ _ rows shown table cards said card_tests _ [] means
+    (is_wanted m number)
+    (λ id c. rw (text_eq c.merchant m, text_eq c.number number)
+    (ap (λ b. is_eq (bytes_cmp c.merchant m) && b) (and_true _))) card_shown (λ id c. refl)
+    (λ n k x y is fits and passes.
+    unique_id table old.now it.schema it.sound are
+    (2 ∷ 3 ∷ []) guarded n k x y is and
+    (let a = and_parts _ _ fits in let b = and_parts _ _ passes in (
+      (m, ap Text (exact x.merchant m a.0), ap Text (exact y.merchant m b.0)),
+      ((number, ap Text (exact x.number number a.1), ap Text (exact y.number number b.1)), tt),
+    )))) [
+      | inl none ↦ inl (none.0, λ id c is. none.1 id c is.there (itself c is.merchant is.number))
+      | inr one ↦
+          let both = and_parts _ _ one.3 in
+          inr (
+            one.0,
+            one.1,
+            record {
+              there = one.2;
+              merchant = exact one.1.merchant m both.0;
+              number = exact one.1.number number both.1;
+            },
+            one.4,
+          )
+    ]
+  where
+    itself : (c : Card) → c.merchant ≡ m → c.number ≡ number → is_wanted m number (pos 0) c ≡ true
+    itself c own same = rw (own, same, tied_itself bytes_total m, tied_itself bytes_total number) refl
+
+pub shows_card : (v : Version) (t : Tables) (old new : State)
+    (it : Stands (schema_of v) (claims_of v t) old.now) (rows : List Row) (m number : Bytes) → Shown FIND_CARD.now (Text m ∷ Text number ∷ []) old new rows
+    → ShowsCard rows t.cards m number
+shows_card One t old new it rows m number shown = absurd it.rows
+shows_card Two t old new it rows m number shown =
+    one_card old new it rows t.cards (card_table_of Two tt) (λ are. are) it.rows.1.1.1.1.1.1.0
+    (record { index = _; only = refl; order = refl; columns = refl }) (card_is_at Two tt) m number shown
+shows_card Three t old new it rows m number shown =
+    one_card old new it rows t.cards (card_table_of Three tt) (λ are. are) it.rows.1.1.1.1.1.1.0
+    (record { index = _; only = refl; order = refl; columns = refl }) (card_is_at Three tt) m number shown
+shows_card Four t old new it rows m number shown =
+    one_card old new it rows t.cards (card_table_of Four tt) (λ are. are) it.rows.1.1.1.1.1.1.0
+    (record { index = _; only = refl; order = refl; columns = refl }) (card_is_at Four tt) m number shown
+
+pub shows_uses : (v : Version) (t : Tables) (old new : State)
+    (it : Stands (schema_of v) (claims_of v t) old.now) (rows : List Row) (id : ℤ) → Shown FIND_USES.now (Int id ∷ []) old new rows
+    → rows ≡ one_of uses_column (t.cards id)
+shows_uses One t old new it rows id shown = absurd it.rows
+shows_uses Two t old new it rows id shown =
+    look_up_id old new it _ _ rows shown (card_table_of Two tt) t.cards (λ are. are) 0 _
+    (uses_is_at Two tt) id refl uses_column (λ c. refl)
+shows_uses Three t old new it rows id shown =
+    look_up_id old new it _ _ rows shown (card_table_of Three tt) t.cards (λ are. are) 0 _
+    (uses_is_at Three tt) id refl uses_column (λ c. refl)
+shows_uses Four t old new it rows id shown =
+    look_up_id old new it _ _ rows shown (card_table_of Four tt) t.cards (λ are. are) 0 _
+    (uses_is_at Four tt) id refl uses_column (λ c. refl)
+
+pub shows_pointing : (v : Version) (t : Tables) (old new : State)
+    (it : Stands (schema_of v) (claims_of v t) old.now) (rows : List Row) (key : Bytes × Bytes)
+    → Shown FIND_ENTRY.now (Text key.0 ∷ Text key.1 ∷ []) old new rows
+    → rows ≡ one_of pointing_columns (t.pointing key)
+shows_pointing One t old new it rows key shown = absurd it.rows
+shows_pointing Two t old new it rows key shown =
+    look_up old new it _ _ rows shown two.pointing_table t.pointing (λ are. are) _ (entry_is_at Two tt) key
+    refl pointing_columns (λ n x. refl)
+shows_pointing Three t old new it rows key shown =
+    look_up old new it _ _ rows shown pointing_in3 t.pointing (λ are. are) _ (entry_is_at Three tt) key refl
+    pointing_columns (λ n x. refl)
+shows_pointing Four t old new it rows key shown =
+    look_up old new it _ _ rows shown pointing_in4 t.pointing (λ are. are) _ (entry_is_at Four tt) key refl
+    pointing_columns (λ n x. refl)

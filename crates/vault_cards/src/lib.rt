@@ -1,0 +1,9 @@
+//! The entries of a vault and their cards, written in whatever version has them.
+#![tactic(auto)]
+
+mod cards;
+pub mod columns;
+pub mod fault;
+pub mod parameters;
+pub mod pointing;
+pub mod text;

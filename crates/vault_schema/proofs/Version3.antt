@@ -1,0 +1,4 @@
+-- Schema 3.
+pub mod Codes
+pub mod Making
+pub mod Texts

@@ -1,0 +1,4 @@
+-- Schema 4.
+pub mod Codes
+pub mod Making
+pub mod Texts

@@ -1,0 +1,3 @@
+-- Schema 3.
+pub mod Rows
+pub mod Tables

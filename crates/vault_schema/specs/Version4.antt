@@ -1,0 +1,3 @@
+-- Schema 4.
+pub mod Rows
+pub mod Tables

@@ -1,0 +1,61 @@
+//! The versions of a vault's schema, one after the other.
+ghost use Rattle.std.specs.Prelude.{◌≡◌, IfSome, IfNone};
+ghost use Rattle.vault_schema.specs.Versions.{next_of, number_of, schema_of};
+
+use crate::v1::shape::is_v1;
+use crate::v2::shape::is_v2;
+use crate::v3::shape::is_v3;
+use crate::v4::shape::is_v4;
+use sqlite_schema::schema::Schema;
+
+/// A version.
+#[derive(Clone, Copy, Debug, PartialEq, Eq)]
+pub enum Version {
+    One,
+    Two,
+    Three,
+    Four,
+}
+
+impl Version {
+    /// Its number.
+    pub fn number(self) -> i64
+        ensures { result ≡ number_of self }
+    {
+        match self {
+            Version::One => 1,
+            Version::Two => 2,
+            Version::Three => 3,
+            Version::Four => 4,
+        }
+    }
+
+    /// The one that follows; the newest one is its own next.
+    pub fn next(self) -> Version
+        ensures { result ≡ next_of self }
+    {
+        match self {
+            Version::One => Version::Two,
+            Version::Two => Version::Three,
+            Version::Three | Version::Four => Version::Four,
+        }
+    }
+
+    /// The version whose schema this is.
+    pub fn of(schema: &Schema) -> Option<Version>
+        ensures found { IfSome result (λ v. schema.now ≡ schema_of v) }
+        ensures none { IfNone result ((v : _) → ¬ (schema.now ≡ schema_of v)) }
+    {
+        if is_v4(schema) {
+            Some(Version::Four)
+        } else if is_v3(schema) {
+            Some(Version::Three)
+        } else if is_v2(schema) {
+            Some(Version::Two)
+        } else if is_v1(schema) {
+            Some(Version::One)
+        } else {
+            None
+        }
+    }
+}

@@ -1,0 +1,142 @@
+-- The step from schema 1 to schema 2, statement by statement.
+use Rattle.std.proofs.Common.{◌≡◌, ◌++◌, ℤ, pos, List, [], ◌∷◌, Option, None, refl}
+use Rattle.std.proofs.Common.{sym, subst}
+use Rattle.sqlite.specs.Effect.{Database}
+use Rattle.sqlite.specs.State.{State}
+use Rattle.sqlite.specs.Tree.{Trees}
+use Rattle.sqlite.specs.declared.types.Value.TheVariants.{Null, Int}
+use Rattle.sql_maps.specs.Rows.{AreRowsById}
+use Rattle.sql_maps.specs.States.{Claim, IsEmpty, StandsIn, Steps, Within, at_place}
+use Rattle.sql_maps.proofs.ByKey.{no_rows}
+use Rattle.sql_maps.proofs.KeyTests.{int_eq}
+use Rattle.sql_maps.proofs.Moves.{change_one, empty_in}
+use Rattle.sql_maps.proofs.Statements.{retold}
+use Rattle.vault_core.specs.Keys.{Bytes}
+use Rattle.vault_core.specs.declared.row.Entry.{Entry}
+use Rattle.vault_schema.specs.Version1.Tables as one
+use Rattle.vault_schema.specs.Version1.Tables.{v1}
+use Rattle.vault_schema.specs.Version2.Joined.{AreJoined, nothing_owed}
+use Rattle.vault_schema.specs.Version2.Rows.{card_columns, pointing_row}
+use Rattle.vault_schema.specs.Version2.Tables.{v2}
+use Rattle.vault_schema.specs.Versions.{Lookups, WithinOf, claims_of, first_claims, tables_of}
+use Rattle.vault_schema.specs.declared.v2.Card.{Card}
+use Rattle.vault_schema.specs.declared.v2.Pointing.{Pointing}
+use Rattle.vault_schema.specs.declared.v2.TheConstants.{CREATE_CARDS, CREATE_ENTRIES, CREATE_ENTRIES_CARD}
+use Rattle.vault_schema.specs.declared.v2.TheConstants.{EMPTY_ENTRIES, SET_VERSION}
+use Rattle.vault_schema.specs.declared.version.Version.TheVariants.{One, Two}
+use Rattle.vault_schema.proofs.Version2.Making.{all_made, makes_cards, makes_entries, makes_entries_card}
+use Rattle.vault_schema.proofs.Version2.Making.{with_cards, with_entries}
+use Rattle.vault_schema.proofs.Version2.Texts.{empty_entries_is, set_version_is}
+use Rattle.vault_cards.specs.Calls.{IsWithin}
+use Rattle.vault_steps.specs.Entries.{AreEntriesOf, with_all, without_entries}
+use Rattle.vault_steps.proofs.Entered.{all_entered}
+use Rattle.vault_steps.proofs.Inside.{Did, closed, index_in, ran_in, table_in}
+
+-- both tables are there, and then the entries are gone, and then the version is that of schema 2
+abbrev made : Lookups → List Claim
+made h = (first_claims h ++ IsEmpty ∷ []) ++ IsEmpty ∷ []
+
+abbrev emptied : Lookups → List Claim
+emptied h = at_place (made h) 3 IsEmpty
+
+abbrev versioned : Lookups → List Claim
+versioned h = at_place (emptied h) 0 (λ rows. rows ≡ (Int (pos 1) ∷ Null ∷ Int (pos 2) ∷ []) ∷ [])
+
+-- no cards, and no entries
+abbrev no_cards : ℤ → Option Card
+no_cards id = None
+
+abbrev none_point : Bytes × Bytes → Option Pointing
+none_point key = None
+
+-- then the tables are those of what is looked up without entries
+ready : (h : Lookups) (db : Trees) → StandsIn v2.tables (versioned h) db
+    → StandsIn v2.tables (claims_of Two (tables_of (without_entries h) no_cards none_point)) db
+ready h db s = (
+  s.0,
+  (
+    s.1.0,
+    (
+      s.1.1.0,
+      (
+        s.1.1.1.0,
+        (
+          s.1.1.1.1.0,
+          (
+            s.1.1.1.1.1.0,
+            (
+              subst (λ l. AreRowsById card_columns l no_cards) (sym s.1.1.1.1.1.1.0)
+                  (record { apart = tt; sound = λ r there. absurd there; complete = λ n x h. absurd cc }),
+              (no_rows pointing_row (db 14) _ s.1.1.1.1.1.1.1.0 (λ key. refl), tt),
+            ),
+          ),
+        ),
+      ),
+    ),
+  ),
+)
+
+none_joined : AreJoined nothing_owed no_cards none_point (λ key. None)
+none_joined = record {
+  same = λ key. refl;
+  owned = λ key id h. absurd cc;
+  once = λ a b c d h. absurd cc;
+  used = λ id c h. absurd cc;
+}
+
+module _ {h : Lookups} {base : Database} {a b c d e f : State} (w : WithinOf One h base a)
+    (one' : Steps a b) (two' : Steps b c) (three' : Steps c d) (four' : Steps d e) (five' : Steps e f)
+    (cards : Did CREATE_CARDS.now a b) (entries : Did CREATE_ENTRIES.now b c)
+    (index : Did CREATE_ENTRIES_CARD.now c d) (empty : Did EMPTY_ENTRIES.now d e)
+    (version : Did SET_VERSION.now e f) where
+  first : Within v1 (first_claims h) base a
+  first = record {
+    free = w.free;
+    inside = w.inside;
+    committed = w.committed;
+    stands = record { schema = w.is.schema; sound = w.is.sound; rows = w.is.stand.rows };
+  }
+
+  after_cards : Within with_cards (first_claims h ++ IsEmpty ∷ []) base b
+  after_cards = table_in refl makes_cards (ran_in one' cards first)
+
+  after_entries : Within with_entries (made h) base c
+  after_entries = table_in refl makes_entries (ran_in two' entries after_cards)
+
+  after_index : Within v2 (made h) base d
+  after_index = index_in all_made makes_entries_card (ran_in three' index after_entries)
+
+  after_empty : Within v2 (emptied h) base e
+  after_empty = empty_in refl (ran_in four' empty after_index) one.entries 3 refl (empty_entries_is [] [])
+      (λ said r there. said.keyed r there)
+
+  after_version : Within v2 (versioned h) base f
+  after_version =
+      change_one refl (ran_in five' version after_empty) one.vault 0 refl _ _ (set_version_is [] []) (pos 1)
+      (Null ∷ Int (pos 1) ∷ []) (Null ∷ Int (pos 2) ∷ []) (λ said. said) (rw (int_eq (pos 1) (pos 1)) refl)
+      refl refl
+
+  pub roomy : IsWithin Two f base (without_entries h)
+  roomy = record {
+    cards = no_cards;
+    pointing = none_point;
+    has = retold v2 (versioned h) (claims_of Two (tables_of (without_entries h) no_cards none_point)) base f
+        (ready h) after_version;
+    joined = none_joined;
+  }
+
+-- with all entries written it stands in schema 2
+pub carded : {h : Lookups} {base : Database} {first last : State} → WithinOf One h base first
+    → (xs : List (Bytes × Bytes × Entry)) → AreEntriesOf xs h
+    → IsWithin Two last base (record h { entries = with_all xs (without_entries h).entries })
+    → WithinOf Two h base last
+carded {h} {base} {first} {last} w xs are done =
+    let now : IsWithin Two last base h =
+    subst (λ (e : Bytes × Bytes → Option Entry). IsWithin Two last base (record h { entries = e }))
+    (all_entered h xs are) done in
+    closed Two (record {
+      cards = now.cards;
+      pointing = now.pointing;
+      rows = now.has.stands.rows;
+      joined = now.joined;
+    }) w.is.stand.defaults (claims_of Two (tables_of h now.cards now.pointing)) now.has

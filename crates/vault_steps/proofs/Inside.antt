@@ -1,0 +1,69 @@
+-- What is inside a transaction, said of the tables, and one statement further there.
+use Rattle.std.proofs.Common.{◌≡◌, ◌++◌, ℕ, List, [], ◌∷◌, Ok, IsTrue, subst}
+use Rattle.sqlite.specs.Change.{created, indexed}
+use Rattle.sqlite.specs.Effect.{Database}
+use Rattle.sqlite.specs.Schema.{Schema}
+use Rattle.sqlite.specs.State.{State, ExecutesInside}
+use Rattle.sqlite.specs.Table.{Table}
+use Rattle.sqlite_schema.specs.declared.schema.Index.{Index}
+use Rattle.sql_maps.specs.States.{Claim, IsEmpty, Steps, Within}
+use Rattle.sql_maps.specs.Texts.{MakesIndex, MakesTable}
+use Rattle.sql_maps.proofs.Making.{makes_index, makes_table}
+use Rattle.sql_maps.proofs.Statements.{Ran}
+use Rattle.vault_schema.specs.Versions.{HasDefaults, Lookups, StandJoined, StandRows, WithinOf, claims_of}
+use Rattle.vault_schema.specs.Versions.{schema_of, tables_of}
+use Rattle.vault_schema.specs.declared.version.Version.{Version}
+
+-- what stands with cards is said of the tables, and the other way round
+pub opened : (v : Version) {h : Lookups} {base : Database} {st : State} → WithinOf v h base st
+    → (j : StandJoined v st.now.trees h)
+    → Within (schema_of v) (claims_of v (tables_of h j.cards j.pointing)) base st
+opened v w j = record {
+  free = w.free;
+  inside = w.inside;
+  committed = w.committed;
+  stands = record { schema = w.is.schema; sound = w.is.sound; rows = j.rows };
+}
+
+pub closed : (v : Version) {h : Lookups} {base : Database} {new : State} → StandRows v new.now.trees h
+    → HasDefaults v h → (claims : List Claim) → Within (schema_of v) claims base new → WithinOf v h base new
+closed v rows defaults claims w = record {
+  free = w.free;
+  inside = w.inside;
+  committed = w.committed;
+  is = record {
+    schema = w.stands.schema;
+    sound = w.stands.sound;
+    stand = record { rows = rows; defaults = defaults };
+  };
+}
+
+-- what a statement of a step did
+abbrev pub Did : List ℕ → State → State → Type 0
+Did sql old new = IsTrue old.in_transaction → (count : ℕ) × ExecutesInside 0 sql [] old new (Ok count)
+
+-- a statement that ran, as the function that runs one says
+pub ran_in : {s : Schema} {claims : List Claim} {base : Database} {old new : State} {sql : List ℕ}
+    → Steps old new
+    → Did sql old new → Within s claims base old → Ran s claims base old new sql []
+ran_in steps ran w =
+    let did = ran w.inside in
+    record { within = w; count = did.0; ran = did.1; limit = steps.limit }
+
+-- a table more, which is empty
+pub table_in : {s next : Schema} {claims : List Claim} {base : Database} {old new : State} {sql : List ℕ}
+    {t : Table} → created s t ≡ next → MakesTable s sql t → Ran s claims base old new sql []
+    → Within next (claims ++ IsEmpty ∷ []) base new
+table_in {s} {next} {claims} {base} {old} {new} {sql} made it run =
+    subst (λ x. Within x (claims ++ IsEmpty ∷ []) base new) made
+    (makes_table s claims base old new run.within.free run.within.committed run.within.stands.schema
+    run.within.stands.rows sql run.count run.ran run.limit _ it IsEmpty (λ i. []))
+
+-- an index more
+pub index_in : {s next : Schema} {claims : List Claim} {base : Database} {old new : State} {sql : List ℕ}
+    {at : ℕ} {t : Table} {i : Index} → indexed s t i ≡ next → MakesIndex s sql at t i
+    → Ran s claims base old new sql [] → Within next claims base new
+index_in {s} {next} {claims} {base} {old} {new} {sql} made it run =
+    subst (λ x. Within x claims base new) made
+    (makes_index s claims base old new run.within.free run.within.committed run.within.stands.schema
+    run.within.stands.rows sql run.count run.ran run.limit _ _ _ it)

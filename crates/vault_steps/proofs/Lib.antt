@@ -1,0 +1,6 @@
+pub mod Carding
+pub mod Ending
+pub mod Entered
+pub mod Inside
+pub mod Leading
+pub mod OneStand

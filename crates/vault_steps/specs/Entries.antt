@@ -1,0 +1,31 @@
+-- The entries that a step writes anew.
+use Rattle.std.specs.Prelude.{◌≡◌, List, [], ◌∷◌, Option, Some, None}
+use Rattle.sqlite_rules.specs.Lists.{Has}
+use Rattle.sql_maps.specs.Rows.{put}
+use Rattle.vault_core.specs.Keys.{Bytes, entry_cmp}
+use Rattle.vault_core.specs.declared.row.Entry.{Entry}
+use Rattle.vault_schema.specs.Versions.{Lookups}
+use Rattle.vault_schema.specs.declared.version.Version.{Version}
+use Rattle.vault_schema.specs.declared.version.Version.TheVariants.{One, Two, Three, Four}
+
+-- these are the entries, each with its merchant and its token
+pub record AreEntriesOf (entries : List (Bytes × Bytes × Entry)) (h : Lookups) : Type 0 where
+  pub sound : (x : Bytes × Bytes × Entry) → Has entries x → h.entries (x.0, x.1) ≡ Some x.2
+  pub complete : (m token : Bytes) (e : Entry) → h.entries (m, token) ≡ Some e → Has entries (m, token, e)
+
+-- the entries with these written one after the other
+abbrev pub with_all : List (Bytes × Bytes × Entry) → (Bytes × Bytes → Option Entry) → Bytes × Bytes
+    → Option Entry
+with_all [] held = held
+with_all (x ∷ xs) held = with_all xs (put entry_cmp held (x.0, x.1) (Some x.2))
+
+-- what is looked up, without entries
+abbrev pub without_entries : Lookups → Lookups
+without_entries h = record h { entries = λ key. None }
+
+-- what the step from a version is given: the entries of schema 1, and else nothing
+abbrev pub AreFor : Version → List (Bytes × Bytes × Entry) → Lookups → Type 0
+AreFor One entries h = AreEntriesOf entries h
+AreFor Two entries h = Unit {0}
+AreFor Three entries h = Unit {0}
+AreFor Four entries h = Unit {0}
