@@ -52,7 +52,7 @@ def tokenize(conn, request, number):
     token = same.token_for(request)
     lives = same.read(conn, request, token)
     same.write(conn, request, token, lives)
-    single_life, _, moment = lives
+    single_life, _, moment, _ = lives
     return request, token, moment + single_life
 
 

@@ -42,7 +42,7 @@ PRIMARY KEY (caller, merchant, what)) STRICT;
 INSERT INTO vault VALUES (1, 1);
 INSERT INTO merchants VALUES ('shop1', 60, 0, 1000);
 """
-NEWER = """
+CARDS = """
 CREATE TABLE cards2 (id INTEGER PRIMARY KEY, merchant TEXT NOT NULL, number TEXT NOT NULL, \
 uses INTEGER NOT NULL, UNIQUE (merchant, number)) STRICT;
 CREATE TABLE entries2 (merchant TEXT NOT NULL, token TEXT NOT NULL, card INTEGER, \
@@ -51,6 +51,20 @@ PRIMARY KEY (merchant, token)) STRICT;
 CREATE INDEX entries2_card ON entries2 (merchant, card);
 DELETE FROM entries;
 UPDATE vault SET version = 2 WHERE id = 1;
+"""
+LEADS = """
+CREATE TABLE merchants3 (name TEXT NOT NULL PRIMARY KEY, single_life INTEGER NOT NULL, \
+multi_life INTEGER NOT NULL, moment INTEGER NOT NULL, lead_digits INTEGER NOT NULL) STRICT;
+INSERT INTO merchants3 SELECT name, single_life, multi_life, moment, 6 FROM merchants;
+DELETE FROM merchants;
+UPDATE vault SET version = 3 WHERE id = 1;
+"""
+ENDS = """
+CREATE TABLE rights4 (caller TEXT NOT NULL, merchant TEXT NOT NULL, what INTEGER NOT NULL, \
+ends INTEGER, PRIMARY KEY (caller, merchant, what)) STRICT;
+INSERT INTO rights4 SELECT caller, merchant, what, NULL FROM rights;
+DELETE FROM rights;
+UPDATE vault SET version = 4 WHERE id = 1;
 """
 READ = "SELECT rowid, merchant, token, number, usage, birth, expires, revoked FROM entries ORDER BY rowid"
 
@@ -83,18 +97,25 @@ def make_file(path, many):
     conn.close()
 
 
+def step(conn, statements, entries=()):
+    """One transaction: the statements of a step, and then new entries."""
+    conn.execute("BEGIN")
+    for statement in statements.strip().split(";\n"):
+        conn.execute(statement)
+    for token, number, *rest in entries:
+        same.add_entry(conn, token, number, rest)
+    conn.execute("COMMIT")
+
+
 def move(path):
-    """Moves a file by Python: the whole check of its pages, its rows, and then one transaction."""
+    """Moves a file by Python: the check of its pages, its rows, and then a transaction for each step."""
     start = time.perf_counter()
     conn = same.opened(path)
     assert conn.execute("PRAGMA integrity_check").fetchall() == [("ok",)]
     rows = conn.execute(READ).fetchall()
-    conn.execute("BEGIN")
-    for statement in NEWER.strip().split(";\n"):
-        conn.execute(statement)
-    for _, _, token, number, *rest in rows:
-        same.add_entry(conn, token, number, rest)
-    conn.execute("COMMIT")
+    step(conn, CARDS, (row[2:] for row in rows))
+    step(conn, LEADS)
+    step(conn, ENDS)
     conn.close()
     spent = time.perf_counter() - start
     print(spent, resource.getrusage(resource.RUSAGE_SELF).ru_maxrss)
@@ -110,7 +131,7 @@ def time_round(program, base, folder, many):
         shutil.copy(base, path)
     os.sync()
     spent, peak = timed((program, "migrate", ours), os.devnull, folder / "answers")
-    assert (folder / "answers").read_text() == "schema 2\n"
+    assert (folder / "answers").read_text() == "schema 4\n"
     os.sync()
     python_spent, python_peak = told(sys.executable, __file__, "move", theirs).split()
     for path in (ours, theirs):

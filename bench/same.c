@@ -17,9 +17,9 @@ enum { MADE = 1, SINGLE = 1, TOKENIZE = 1, DIGITS = 11 };
 // A token: the drawn digits, one more, and the card's last four.
 enum { TOKEN = DIGITS + 1 + 4 };
 
-// The lives of a merchant, and its moment.
+// The lives of a merchant, its moment and its lead.
 struct lives {
-    int64_t single_life, multi_life, moment;
+    int64_t single_life, multi_life, moment, lead_digits;
 };
 
 // Whether digits pass the card check.
@@ -52,7 +52,8 @@ static struct lives find_lives(void)
 {
     put_text(FIND_LIVES, 1, MERCHANT);
     need(next_row(FIND_LIVES), "no merchant");
-    struct lives found = {number_in(FIND_LIVES, 0), number_in(FIND_LIVES, 1), number_in(FIND_LIVES, 2)};
+    struct lives found = {number_in(FIND_LIVES, 0), number_in(FIND_LIVES, 1), number_in(FIND_LIVES, 2),
+                          number_in(FIND_LIVES, 3)};
     need(!next_row(FIND_LIVES), "two merchants");
     return found;
 }
@@ -76,7 +77,9 @@ static struct lives read_all(int64_t request, const char *token)
     put_text(FIND_RIGHT, 1, CALLER);
     put_text(FIND_RIGHT, 2, MERCHANT);
     put_number(FIND_RIGHT, 3, TOKENIZE);
-    need(next_row(FIND_RIGHT) && !next_row(FIND_RIGHT), "no right");
+    need(next_row(FIND_RIGHT), "no right");
+    need(sqlite3_column_type(statements[FIND_RIGHT], 0) == SQLITE_NULL, "a right with an end");
+    need(!next_row(FIND_RIGHT), "two rights");
     put_text(FIND_RECORD, 1, CALLER);
     put_number(FIND_RECORD, 2, request);
     run(FIND_RECORD);
@@ -86,17 +89,18 @@ static struct lives read_all(int64_t request, const char *token)
     return found;
 }
 
-// Writes the merchant's lives and its moment where it has others.
+// Writes the merchant's lives, its moment and its lead where it has others.
 static void set_lives(const struct lives *lives)
 {
     struct lives now = find_lives();
     if (now.single_life == lives->single_life && now.multi_life == lives->multi_life
-        && now.moment == lives->moment)
+        && now.moment == lives->moment && now.lead_digits == lives->lead_digits)
         return;
     put_text(PUT_MERCHANT, 1, MERCHANT);
     put_number(PUT_MERCHANT, 2, lives->single_life);
     put_number(PUT_MERCHANT, 3, lives->multi_life);
     put_number(PUT_MERCHANT, 4, lives->moment);
+    put_number(PUT_MERCHANT, 5, lives->lead_digits);
     run(PUT_MERCHANT);
 }
 

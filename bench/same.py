@@ -14,15 +14,15 @@ import sqlite3
 import sys
 import time
 
-LIVES = "SELECT single_life, multi_life, moment FROM merchants WHERE name = ?1"
+LIVES = "SELECT single_life, multi_life, moment, lead_digits FROM merchants3 WHERE name = ?1"
 COUNTS = "SELECT kind, total FROM counts WHERE merchant = ?1"
-RIGHT = "SELECT what FROM rights WHERE caller = ?1 AND merchant = ?2 AND what = ?3"
+RIGHT = "SELECT ends FROM rights4 WHERE caller = ?1 AND merchant = ?2 AND what = ?3"
 RECORD = "SELECT merchant, token, usage FROM records WHERE caller = ?1 AND request = ?2"
 ENTRY = "SELECT card, usage, birth, expires, revoked FROM entries2 WHERE merchant = ?1 AND token = ?2"
 CARD = "SELECT id, uses FROM cards2 WHERE merchant = ?1 AND number = ?2"
 PUT_MERCHANT = (
-    "INSERT INTO merchants VALUES (?1, ?2, ?3, ?4) ON CONFLICT (name)"
-    " DO UPDATE SET single_life = ?2, multi_life = ?3, moment = ?4"
+    "INSERT INTO merchants3 VALUES (?1, ?2, ?3, ?4, ?5) ON CONFLICT (name)"
+    " DO UPDATE SET single_life = ?2, multi_life = ?3, moment = ?4, lead_digits = ?5"
 )
 RAISE = "UPDATE counts SET total = total + 1 WHERE merchant = ?1 AND kind = ?2"
 ADD_COUNT = "INSERT INTO counts VALUES (?1, ?2, 1)"
@@ -70,13 +70,13 @@ def opened(file):
 
 
 def read(conn, number, token):
-    """What one Tokenize reads, each row fetched."""
-    single_life, multi_life, moment = conn.execute(LIVES, (MERCHANT,)).fetchall()[0]
+    """What one Tokenize reads, each row fetched: the merchant's lives, its moment and its lead."""
+    lives = conn.execute(LIVES, (MERCHANT,)).fetchall()[0]
     conn.execute(COUNTS, (MERCHANT,)).fetchall()
-    assert conn.execute(RIGHT, (CALLER, MERCHANT, 1)).fetchall()
+    assert conn.execute(RIGHT, (CALLER, MERCHANT, 1)).fetchall() == [(None,)]
     assert not conn.execute(RECORD, (CALLER, number)).fetchall()
     assert not conn.execute(ENTRY, (MERCHANT, token)).fetchall()
-    return single_life, multi_life, moment
+    return lives
 
 
 def add_entry(conn, token, number, rest):
@@ -92,7 +92,7 @@ def add_entry(conn, token, number, rest):
 
 
 def put_merchant(conn, lives):
-    """The merchant's lives and its moment, written where it has others."""
+    """The merchant's lives, its moment and its lead, written where it has others."""
     if conn.execute(LIVES, (MERCHANT,)).fetchall() != [lives]:
         conn.execute(PUT_MERCHANT, (MERCHANT, *lives))
 
@@ -105,7 +105,7 @@ def raise_count(conn, kind):
 
 def write(conn, number, token, lives):
     """What one Tokenize writes, in one transaction."""
-    single_life, multi_life, moment = lives
+    single_life, _, moment, _ = lives
     conn.execute("BEGIN")
     put_merchant(conn, lives)
     raise_count(conn, MADE)

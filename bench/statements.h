@@ -30,15 +30,15 @@ enum text {
 
 static const char *const texts[TEXTS] = {
     [BEGIN] = "BEGIN",
-    [FIND_LIVES] = "SELECT single_life, multi_life, moment FROM merchants WHERE name = ?1",
+    [FIND_LIVES] = "SELECT single_life, multi_life, moment, lead_digits FROM merchants3 WHERE name = ?1",
     [FIND_COUNTS] = "SELECT kind, total FROM counts WHERE merchant = ?1",
-    [FIND_RIGHT] = "SELECT what FROM rights WHERE caller = ?1 AND merchant = ?2 AND what = ?3",
+    [FIND_RIGHT] = "SELECT ends FROM rights4 WHERE caller = ?1 AND merchant = ?2 AND what = ?3",
     [FIND_RECORD] = "SELECT merchant, token, usage FROM records WHERE caller = ?1 AND request = ?2",
     [FIND_ENTRY] = "SELECT card, usage, birth, expires, revoked FROM entries2 "
                    "WHERE merchant = ?1 AND token = ?2",
     [FIND_CARD] = "SELECT id, uses FROM cards2 WHERE merchant = ?1 AND number = ?2",
-    [PUT_MERCHANT] = "INSERT INTO merchants VALUES (?1, ?2, ?3, ?4) ON CONFLICT (name) "
-                     "DO UPDATE SET single_life = ?2, multi_life = ?3, moment = ?4",
+    [PUT_MERCHANT] = "INSERT INTO merchants3 VALUES (?1, ?2, ?3, ?4, ?5) ON CONFLICT (name) "
+                     "DO UPDATE SET single_life = ?2, multi_life = ?3, moment = ?4, lead_digits = ?5",
     [RAISE_COUNT] = "UPDATE counts SET total = total + 1 WHERE merchant = ?1 AND kind = ?2",
     [ADD_COUNT] = "INSERT INTO counts VALUES (?1, ?2, 1)",
     [ADD_CARD] = "INSERT INTO cards2 VALUES (NULL, ?1, ?2, 1)",

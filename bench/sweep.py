@@ -75,13 +75,13 @@ def sweep(program, vault, merchant, purged):
 
 def purge(conn, token):
     """What one Purge reads, each row fetched, and what it writes, in one transaction."""
-    single_life, multi_life, moment = conn.execute(same.LIVES, (same.MERCHANT,)).fetchall()[0]
+    single_life, multi_life, moment, lead = conn.execute(same.LIVES, (same.MERCHANT,)).fetchall()[0]
     conn.execute(same.COUNTS, (same.MERCHANT,)).fetchall()
-    assert conn.execute(same.RIGHT, (CALLER, same.MERCHANT, PURGE)).fetchall()
+    assert conn.execute(same.RIGHT, (CALLER, same.MERCHANT, PURGE)).fetchall() == [(None,)]
     card, usage, birth, expires, revoked = conn.execute(same.ENTRY, (same.MERCHANT, token)).fetchall()[0]
     assert conn.execute(NUMBER_OF, (card,)).fetchall() and expires <= NOW
     conn.execute("BEGIN")
-    same.put_merchant(conn, (single_life, multi_life, max(moment, NOW)))
+    same.put_merchant(conn, (single_life, multi_life, max(moment, NOW), lead))
     conn.execute(same.ENTRY, (same.MERCHANT, token)).fetchall()
     conn.execute(same.PUT_ENTRY, (same.MERCHANT, token, None, usage, birth, expires, revoked))
     ((uses,),) = conn.execute(USES, (card,)).fetchall()
@@ -92,7 +92,7 @@ def purge(conn, token):
 
 def list_dead(conn):
     """The first tokens that are dead, with what a list reads."""
-    _, _, moment = conn.execute(same.LIVES, (same.MERCHANT,)).fetchall()[0]
+    _, _, moment, _ = conn.execute(same.LIVES, (same.MERCHANT,)).fetchall()[0]
     return conn.execute(FIND_DEAD, (same.MERCHANT, max(moment, NOW), LIST)).fetchall()
 
 

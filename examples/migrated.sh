@@ -1,6 +1,6 @@
 #!/bin/sh
-# Files of schema 1, as programs before made them: they are refused until they move to the newest schema, and
-# move whole or not at all. sh examples/migrated.sh [PROGRAM]
+# Files of schemas 1 to 3, as programs before made them: they are refused until they move to the newest
+# schema, and move whole or not at all. sh examples/migrated.sh [PROGRAM]
 set -eu
 . "$(dirname "$0")/shared/steps.sh"
 need sqlite3
@@ -41,20 +41,38 @@ changed() {
     told "$program" migrate changed.db
 }
 
+# The merchants of a file's cards, each with its uses.
+uses() {
+    sqlite3 -separator ' ' -newline ';' "$1" 'SELECT merchant, uses FROM cards2 ORDER BY merchant'
+}
+
+# The merchants of a file with their leads.
+leads() {
+    sqlite3 -separator ' ' -newline ';' "$1" 'SELECT name, lead_digits FROM merchants3 ORDER BY name'
+}
+
+# How many rights a file has, and how many of them have an end.
+ends() {
+    sqlite3 -separator ' ' "$1" 'SELECT count(*), count(ends) FROM rights4'
+}
+
 cp shops.db vault.db
 chmod 640 vault.db
 step "a file of schema 1 isn't sound as it is" 'vault: file not opened 30 1 (3)' "$(told "$program" check vault.db)"
 step "nor does a service open it" 'vault: file not opened 30 1 (3)' "$(told "$program" pipe vault.db)"
-step "it moves" 'schema 2 (0)' "$(told "$program" migrate vault.db)"
+step "it moves" 'schema 4 (0)' "$(told "$program" migrate vault.db)"
 step "with its mode" '640' "$(stat -c %a vault.db)"
 step "it is sound" 'sound 2 4 4 (0)' "$(told "$program" check vault.db)"
 step "each number stands once a merchant" 'shop1 4111111111111111 2;shop2 4111111111111111 1;' \
     "$(sqlite3 -separator ' ' -newline ';' vault.db 'SELECT merchant, number, uses FROM cards2 ORDER BY merchant')"
 step "the purged entry has no card" '2222222222221111' \
     "$(sqlite3 vault.db 'SELECT token FROM entries2 WHERE card IS NULL')"
-step "the old table is empty" '0' "$(sqlite3 vault.db 'SELECT count(*) FROM entries')"
+step "the old tables are empty" '0 0 0' "$(sqlite3 -separator ' ' vault.db \
+    'SELECT (SELECT count(*) FROM entries), (SELECT count(*) FROM merchants), (SELECT count(*) FROM rights)')"
+step "each merchant has the lead of six digits" 'shop1 6;shop2 6;' "$(leads vault.db)"
+step "and no right has an end" '2 0' "$(ends vault.db)"
 sqlite3 vault.db .dump > before
-step "it moves no further" 'schema 2 (0)' "$(told "$program" migrate vault.db)"
+step "it moves no further" 'schema 4 (0)' "$(told "$program" migrate vault.db)"
 sqlite3 vault.db .dump > after
 step "and nothing of it changes" 'same' "$(cmp -s before after && echo same || echo other)"
 "$program" pipe --now 1001 --digits 5 vault.db < "$here/first-token.http" > answer
@@ -82,16 +100,60 @@ step "a table is missing" 'vault: file not opened 30 1 (3)' "$(changed 'DROP TAB
 step "tables in another order" 'vault: file not opened 30 1 (3)' "$(changed 'VACUUM')"
 step "its rows are brought back, and moved" 'sound 2 4 4 (0)' \
     "$(told sh "$here/rebuild.sh" changed.db rebuilt.db "$program")"
-step "with each number once a merchant" 'shop1 2;shop2 1;' \
-    "$(sqlite3 -separator ' ' -newline ';' rebuilt.db 'SELECT merchant, uses FROM cards2 ORDER BY merchant')"
+step "with each number once a merchant" 'shop1 2;shop2 1;' "$(uses rebuilt.db)"
 step "another program's file" 'vault: file not opened 33 (3)' \
     "$(sqlite3 other.db 'CREATE TABLE notes (line TEXT)' && told "$program" migrate other.db)"
 step "a folder" 'vault: file not opened 34 (3)' "$(told "$program" migrate .)"
-step "a file that isn't there is made in the newest schema" 'schema 2 (0)' "$(told "$program" migrate new.db)"
+step "a file that isn't there is made in the newest schema" 'schema 4 (0)' "$(told "$program" migrate new.db)"
 step "for its owner alone" '600' "$(stat -c %a new.db)"
 step "as the empty vault" 'sound 0 0 0 (0)' "$(told "$program" check new.db)"
 
-# A move that is killed at some moment: the file is in one schema or the other, whole, and goes on from there.
+# The same shops as programs of schemas 2 and 3 left them.
+cp shops.db shops2.db
+sqlite3 -bail shops2.db <<END
+CREATE TABLE cards2 (id INTEGER PRIMARY KEY, merchant TEXT NOT NULL, number TEXT NOT NULL, \
+uses INTEGER NOT NULL, UNIQUE (merchant, number)) STRICT;
+CREATE TABLE entries2 (merchant TEXT NOT NULL, token TEXT NOT NULL, card INTEGER, \
+usage INTEGER NOT NULL, birth INTEGER NOT NULL, expires INTEGER NOT NULL, revoked INTEGER, \
+PRIMARY KEY (merchant, token)) STRICT;
+CREATE INDEX entries2_card ON entries2 (merchant, card);
+INSERT INTO cards2 SELECT NULL, merchant, number, count(*) FROM entries
+WHERE number IS NOT NULL GROUP BY merchant, number;
+INSERT INTO entries2 SELECT e.merchant, token, c.id, usage, birth, expires, revoked
+FROM entries e LEFT JOIN cards2 c ON c.merchant = e.merchant AND c.number = e.number;
+DELETE FROM entries;
+UPDATE vault SET version = 2;
+END
+cp shops2.db shops3.db
+sqlite3 -bail shops3.db <<END
+CREATE TABLE merchants3 (name TEXT NOT NULL PRIMARY KEY, single_life INTEGER NOT NULL, \
+multi_life INTEGER NOT NULL, moment INTEGER NOT NULL, lead_digits INTEGER NOT NULL) STRICT;
+INSERT INTO merchants3 SELECT name, single_life, multi_life, moment, CASE name WHEN 'shop1' THEN 8 ELSE 6 END
+FROM merchants;
+DELETE FROM merchants;
+UPDATE vault SET version = 3;
+END
+for version in 2 3; do
+    rm -f vault.db vault.db-*
+    cp "shops$version.db" vault.db
+    step "a file of schema $version isn't opened" "vault: file not opened 30 $version (3)" \
+        "$(told "$program" check vault.db)"
+    step "it moves" 'schema 4 (0)' "$(told "$program" migrate vault.db)"
+    step "it is sound" 'sound 2 4 4 (0)' "$(told "$program" check vault.db)"
+    step "each number still stands once a merchant" 'shop1 2;shop2 1;' "$(uses vault.db)"
+    lead=$([ "$version" = 2 ] && echo 6 || echo 8)
+    step "its merchants have their leads" "shop1 $lead;shop2 6;" "$(leads vault.db)"
+    step "and no right has an end" '2 0' "$(ends vault.db)"
+    cp "shops$version.db" "vacuumed$version.db"
+    sqlite3 "vacuumed$version.db" VACUUM
+    step "vacuumed, it doesn't move" "vault: file not opened 30 $version (3)" \
+        "$(told "$program" migrate "vacuumed$version.db")"
+    step "but its rows are brought back" 'sound 2 4 4 (0)' \
+        "$(told sh "$here/rebuild.sh" "vacuumed$version.db" "rebuilt$version.db" "$program")"
+    step "with their leads" "shop1 $lead;shop2 6;" "$(leads "rebuilt$version.db")"
+done
+
+# A move that is killed at some moment: the file is in one schema or another, whole, and goes on from there.
 make_older large.db
 sqlite3 -bail large.db <<'END'
 INSERT INTO merchants VALUES ('shop1', 60, 0, 1000);
@@ -109,11 +171,11 @@ for wait in 0.05 0.1 0.2 0.4 0.8; do
     kill -9 $! 2> /dev/null || true
     wait $! 2> /dev/null || true
     case $(told "$program" check killed.db) in
-    'vault: file not opened 30 1 (3)' | 'sound 1 2000 0 (0)') found=whole ;;
+    'vault: file not opened 30 '[123]' (3)' | 'sound 1 2000 0 (0)') found=whole ;;
     *) found=broken ;;
     esac
     step "killed after $wait seconds" 'whole' "$found"
-    step "it goes on" 'schema 2 (0)' "$(told "$program" migrate killed.db)"
+    step "it goes on" 'schema 4 (0)' "$(told "$program" migrate killed.db)"
     step "and is sound" 'sound 1 2000 0 (0)' "$(told "$program" check killed.db)"
 done
 end

@@ -1,8 +1,8 @@
 #!/bin/sh
 # Copies the rows of a vault into a new file, in which the program makes the tables. It brings back a file whose
 # tables stand in another order than the program makes them, which `check` refuses by 33: one that was vacuumed,
-# or restored from a dump. One of schema 1, which `check` and `migrate` refuse by 30 with 1, comes back in the
-# newest schema. sh examples/rebuild.sh OLD NEW [PROGRAM]
+# or restored from a dump. One of schema 1, 2 or 3, which `check` and `migrate` refuse by 30 with its version,
+# comes back in the newest schema, 4. sh examples/rebuild.sh OLD NEW [PROGRAM]
 #
 # OLD keeps its rows, and no other program may have it open. NEW may not be there yet. It ends as `check NEW` does.
 set -eu
@@ -19,30 +19,44 @@ quoted=$(printf '%s' "$old" | sed "s/'/''/g")
 version=$(sqlite3 "$old" 'SELECT version FROM vault WHERE id = 1')
 case $version in
 1) # each number becomes a card of its merchant
-    tables="INSERT INTO main.vault SELECT id, CASE id WHEN 1 THEN 2 ELSE version END FROM old.vault;
-INSERT INTO main.cards2 SELECT NULL, merchant, number, count(*) FROM old.entries
+    entries="INSERT INTO main.cards2 SELECT NULL, merchant, number, count(*) FROM old.entries
 WHERE number IS NOT NULL GROUP BY merchant, number;
 INSERT INTO main.entries2 SELECT e.merchant, token, c.id, usage, birth, expires, revoked
 FROM old.entries e LEFT JOIN main.cards2 c ON c.merchant = e.merchant AND c.number = e.number;" ;;
-2)
-    tables="INSERT INTO main.vault SELECT * FROM old.vault;
-INSERT INTO main.entries SELECT * FROM old.entries;
+2 | 3 | 4)
+    entries="INSERT INTO main.entries SELECT * FROM old.entries;
 INSERT INTO main.cards2 SELECT * FROM old.cards2;
 INSERT INTO main.entries2 SELECT * FROM old.entries2;" ;;
 *)
-    echo "rebuild: OLD has the version $version, and only 1 and 2 are known here" >&2
+    echo "rebuild: OLD has the version $version, and only 1 to 4 are known here" >&2
     exit 1 ;;
+esac
+case $version in
+1 | 2) # each merchant has the lead of six digits
+    merchants="INSERT INTO main.merchants3
+SELECT name, single_life, multi_life, moment, 6 FROM old.merchants;" ;;
+*)
+    merchants="INSERT INTO main.merchants SELECT * FROM old.merchants;
+INSERT INTO main.merchants3 SELECT * FROM old.merchants3;" ;;
+esac
+case $version in
+4)
+    rights="INSERT INTO main.rights SELECT * FROM old.rights;
+INSERT INTO main.rights4 SELECT * FROM old.rights4;" ;;
+*) # no right has an end
+    rights="INSERT INTO main.rights4 SELECT caller, merchant, what, NULL FROM old.rights;" ;;
 esac
 "$program" pipe "$new" < /dev/null
 sqlite3 -bail "$new" > /dev/null <<END
 ATTACH '$quoted' AS old;
 BEGIN;
 DELETE FROM main.vault;
-INSERT INTO main.merchants SELECT * FROM old.merchants;
+INSERT INTO main.vault SELECT id, CASE id WHEN 1 THEN 4 ELSE version END FROM old.vault;
+$merchants
 INSERT INTO main.counts SELECT * FROM old.counts;
-$tables
+$entries
 INSERT INTO main.records SELECT * FROM old.records;
-INSERT INTO main.rights SELECT * FROM old.rights;
+$rights
 COMMIT;
 END
 "$program" check "$new"

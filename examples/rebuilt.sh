@@ -38,29 +38,30 @@ step "a batch that is sent again has the same lines" 'same' "$(cmp -s lines.csv 
 step "what is there isn't overwritten" 'rebuild: *(1)' \
     "$(told sh "$here/rebuild.sh" changed.db second.db "$program")"
 step "a table in another form" 'vault: file not opened 33 (3)' \
-    "$(changed 'DROP TABLE rights; CREATE TABLE rights (caller TEXT, merchant TEXT, what INTEGER, PRIMARY KEY (caller, merchant, what))')"
+    "$(changed 'DROP TABLE rights4; CREATE TABLE rights4 (caller TEXT, merchant TEXT, what INTEGER,
+ends INTEGER, PRIMARY KEY (caller, merchant, what))')"
 
 # Names that are missing, and others beside them
 step "a table more" 'vault: file not opened 30 0 (3)' "$(changed 'CREATE TABLE notes (line TEXT)')"
 step "an index more" 'vault: file not opened 30 0 (3)' "$(changed 'CREATE INDEX by_token ON records (token)')"
 step "a view more" 'vault: file not opened 30 0 (3)' "$(changed 'CREATE VIEW tokens AS SELECT token FROM entries2')"
-step "a table is missing" 'vault: file not opened 30 0 (3)' "$(changed 'DROP TABLE rights')"
+step "a table is missing" 'vault: file not opened 30 0 (3)' "$(changed 'DROP TABLE rights4')"
 step "an index is missing" 'vault: file not opened 30 0 (3)' "$(changed 'DROP INDEX entries2_card')"
 step "another program's file" 'vault: file not opened 33 (3)' \
     "$(sqlite3 other.db 'CREATE TABLE notes (line TEXT)' && told "$program" check other.db)"
 
 # Versions
-for version in 1 9 -1; do
+for version in 1 2 3 9 -1; do
     step "version $version" "vault: file not opened 30 $version (3)" \
         "$(changed "UPDATE vault SET version = $version")"
 done
 step "version 9, and a table is missing" 'vault: file not opened 30 9 (3)' \
-    "$(changed 'UPDATE vault SET version = 9; DROP TABLE rights')"
-step "version 3, and a table more" 'vault: file not opened 30 3 (3)' \
-    "$(changed 'UPDATE vault SET version = 3; CREATE TABLE notes (line TEXT)')"
-step "version 3, vacuumed" 'vault: file not opened 30 3 (3)' \
-    "$(changed 'UPDATE vault SET version = 3; VACUUM')"
+    "$(changed 'UPDATE vault SET version = 9; DROP TABLE rights4')"
+step "version 5, and a table more" 'vault: file not opened 30 5 (3)' \
+    "$(changed 'UPDATE vault SET version = 5; CREATE TABLE notes (line TEXT)')"
+step "version 5, vacuumed" 'vault: file not opened 30 5 (3)' \
+    "$(changed 'UPDATE vault SET version = 5; VACUUM')"
 step "no version, and a table is missing" 'vault: file not opened 30 0 (3)' \
-    "$(changed 'DELETE FROM vault; DROP TABLE rights')"
+    "$(changed 'DELETE FROM vault; DROP TABLE rights4')"
 step "no version" 'vault: file not opened 31 1 (3)' "$(changed 'DELETE FROM vault')"
 end

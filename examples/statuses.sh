@@ -19,13 +19,21 @@ mode() {
 
 # 0
 step "0: a file that isn't there is made" 'sound 0 0 0 (0)' "$(told "$program" check new.db)"
-step "0: it is in the newest schema" 'schema 2 (0)' "$(told "$program" migrate new.db)"
+step "0: it is in the newest schema" 'schema 4 (0)' "$(told "$program" migrate new.db)"
 step "0: help" 'Keeps card numbers*' "$(told "$program" help)"
 step "0: a merchant" 'done (0)' "$(told "$program" merchant shop.db shop1 86400 0)"
 step "0: a right" 'done (0)' "$(told "$program" grant shop.db till-1 shop1 tokenize)"
+step "0: a merchant whose masks show eight digits" 'done (0)' \
+    "$(told "$program" merchant --lead 8 shop.db shop1 86400 0)"
+step "0: a right with an end" 'done (0)' \
+    "$(told "$program" grant --until 253402300799 shop.db till-1 shop1 audit)"
+step "0: a right whose end has passed" 'done (0)' \
+    "$(told "$program" grant --until 0 shop.db till-1 shop1 audit)"
 step "0: a right is taken away" 'done (0)' "$(told "$program" withdraw shop.db till-1 shop1 view)"
 printf '[till-1]\nshop1 = ["view", "tokenize", "view"]\n[back]\nshop1 = ["purge"]\n' > rights.toml
+printf '[till-2]\nshop1 = ["view", { right = "tokenize", until = 253402300799 }]\n' > ends.toml
 step "0: the rights of a file" 'granted 3 (0)' "$(told "$program" rights shop.db rights.toml)"
+step "0: and those of a file with an end" 'granted 2 (0)' "$(told "$program" rights shop.db ends.toml)"
 step "0: a sweep where nothing is dead" 'purged 0 (0)' "$(told "$program" sweep shop.db back shop1)"
 step "0: nothing is asked in a pipe" ' (0)' "$(told "$program" pipe shop.db < /dev/null)"
 
@@ -34,6 +42,16 @@ step "1: a bad name" 'refused 4 (1)' "$(told "$program" merchant none.db Shop1 6
 step "1: a word that is no right" 'refused 71 (1)' "$(told "$program" grant none.db till-1 shop1 sell)"
 echo '[till-1' > text.toml
 step "1: a rights file that is none" 'refused 70 (1)' "$(told "$program" rights none.db text.toml)"
+printf '[till-1]\nshop1 = [{ right = "sell", until = -1 }]\n' > word.toml
+step "1: a rights file with a word that is no right" 'refused 71 (1)' \
+    "$(told "$program" rights none.db word.toml)"
+printf '[Till-1]\nshop1 = ["view"]\n' > name.toml
+step "1: a rights file with a bad name" 'refused 72 (1)' "$(told "$program" rights none.db name.toml)"
+printf '[till-1]\nshop1 = [{ right = "view" }]\n' > shape.toml
+step "1: a rights file with a table without an end" 'refused 73 (1)' \
+    "$(told "$program" rights none.db shape.toml)"
+printf '[till-1]\nshop1 = [{ right = "view", until = 253402300800 }]\n' > end.toml
+step "1: a rights file with a bad end" 'refused 75 (1)' "$(told "$program" rights none.db end.toml)"
 step "1: and no file is made" 'none' "$([ -e none.db ] && echo made || echo none)"
 step "1: a bad name of a sweep" 'refused 4 (1)' "$(told "$program" sweep none.db Back shop1)"
 step "1: a merchant that isn't known" 'refused 7 (1)' "$(told "$program" grant shop.db till-1 shop2 view)"
@@ -43,6 +61,9 @@ step "2: no word" 'vault: bad words (2)' "$(told "$program")"
 step "2: a word that is none" 'vault: bad words (2)' "$(told "$program" trail)"
 step "2: connections are missing" 'vault: bad words (2)' "$(told "$program" serve shop.db)"
 step "2: no file to move" 'vault: bad words (2)' "$(told "$program" migrate)"
+step "2: a lead that is none" 'vault: bad words (2)' "$(told "$program" merchant --lead 7 shop.db shop1 60 0)"
+step "2: an end that is none" 'vault: bad words (2)' \
+    "$(told "$program" grant --until 253402300800 shop.db till-1 shop1 view)"
 step "2: a port that is none" 'vault: bad words (2)' \
     "$(told "$program" serve --connections 1 --port 65536 shop.db)"
 

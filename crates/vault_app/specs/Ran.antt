@@ -52,9 +52,9 @@ abbrev pub sound_line : Sizes → List ℕ
 sound_line sizes = codes "sound " ++ decimal sizes.merchants ++ codes " " ++ decimal sizes.entries
     ++ codes " " ++ decimal sizes.records ++ codes "\n"
 
--- the line of a file that is in the newest schema: the version of that is 2
+-- the line of a file that is in the newest schema: the version of that is 4
 abbrev pub schema_line : List ℕ
-schema_line = codes "schema 2\n"
+schema_line = codes "schema 4\n"
 
 -- what a job that is done read and wrote
 abbrev pub IsDone : Job → Type 0 → Streams → Type 0
@@ -106,7 +106,7 @@ IsMisnamed j n = (n ≡ 4) × ¬ (AreNames j) ⊎ (n ≡ 71) × (AreNames j × �
 abbrev pub IsRefused : Job → ℕ → Type 0
 IsRefused (Trial j) n = (n ≡ 4) × ¬ (IsName j.caller.now × IsName j.merchant.now)
 IsRefused (Merchant j) n = (n ≡ 4) × ¬ (IsName j.name.now) ⊎ IsName j.name.now
-IsRefused (Grant j) n = IsMisnamed j n ⊎ AreNames j × IsRight j
+IsRefused (Grant j) n = IsMisnamed j.given n ⊎ AreNames j.given × IsRight j.given
 IsRefused (Withdraw j) n = IsMisnamed j n ⊎ AreNames j × IsRight j
 IsRefused (Rights j) n = IsRefusedText n ⊎ ((rows : List Row) × IsListed rows)
 IsRefused (Pipe j) n = ⊥
@@ -121,7 +121,7 @@ IsRefused (Migrate j) n = ⊥
 abbrev pub IsOnFile : Job → Type 0
 IsOnFile (Trial j) = ⊥
 IsOnFile (Merchant j) = IsName j.name.now
-IsOnFile (Grant j) = AreNames j × IsRight j
+IsOnFile (Grant j) = AreNames j.given × IsRight j.given
 IsOnFile (Withdraw j) = AreNames j × IsRight j
 IsOnFile (Rights j) = (rows : List Row) × IsListed rows
 IsOnFile (Pipe j) = Unit {0}

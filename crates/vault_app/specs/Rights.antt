@@ -11,7 +11,7 @@ use Rattle.vault_app.specs.declared.ending.Ending.{Ending}
 use Rattle.vault_app.specs.declared.ending.Ending.TheVariants.{Done, Refused, SomeRefused, BadWords}
 use Rattle.vault_app.specs.declared.ending.Ending.TheVariants.{NotOpened, Stopped}
 
--- the rows are the rights that a text's document names, in order and each once
+-- the rows are the rights that a text's document names, in order and each once, with the latest of its ends
 abbrev pub IsListed : List Row → Type 0
 IsListed rows = (text : List ℕ) × (document : Members)
     × IsDocument text document × IsProper document × IsListOf (Names document) rows

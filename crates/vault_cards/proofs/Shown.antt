@@ -80,7 +80,8 @@ one_card old new it rows cards table said are guarded means m number shown =
     itself c own same = rw (own, same, tied_itself bytes_total m, tied_itself bytes_total number) refl
 
 pub shows_card : (v : Version) (t : Tables) (old new : State)
-    (it : Stands (schema_of v) (claims_of v t) old.now) (rows : List Row) (m number : Bytes) → Shown FIND_CARD.now (Text m ∷ Text number ∷ []) old new rows
+    (it : Stands (schema_of v) (claims_of v t) old.now) (rows : List Row) (m number : Bytes)
+    → Shown FIND_CARD.now (Text m ∷ Text number ∷ []) old new rows
     → ShowsCard rows t.cards m number
 shows_card One t old new it rows m number shown = absurd it.rows
 shows_card Two t old new it rows m number shown =
@@ -94,7 +95,8 @@ shows_card Four t old new it rows m number shown =
     (record { index = _; only = refl; order = refl; columns = refl }) (card_is_at Four tt) m number shown
 
 pub shows_uses : (v : Version) (t : Tables) (old new : State)
-    (it : Stands (schema_of v) (claims_of v t) old.now) (rows : List Row) (id : ℤ) → Shown FIND_USES.now (Int id ∷ []) old new rows
+    (it : Stands (schema_of v) (claims_of v t) old.now) (rows : List Row) (id : ℤ)
+    → Shown FIND_USES.now (Int id ∷ []) old new rows
     → rows ≡ one_of uses_column (t.cards id)
 shows_uses One t old new it rows id shown = absurd it.rows
 shows_uses Two t old new it rows id shown =

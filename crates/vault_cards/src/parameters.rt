@@ -11,7 +11,7 @@ use vault_core::moment::Moment;
 pub const GREATEST: u64 = 9223372036854775807;
 
 /// A moment, or NULL where there is none.
-pub(crate) fn moment_value<'a>(moment: Option<Moment>) -> ValueRef<'a>
+pub fn moment_value<'a>(moment: Option<Moment>) -> ValueRef<'a>
     ensures { owned result ≡ number_or_null moment }
 {
     match moment {

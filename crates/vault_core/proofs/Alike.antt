@@ -3,6 +3,7 @@ use Rattle.std.proofs.Common.{◌≡◌, ◌==◌, ℕ, Option, Some, None, not,
 use Rattle.std.specs.Option.{option_map_or}
 use Rattle.std.specs.FinMap as map
 use Rattle.vault_core.specs.Isolation.{AgreeAt}
+use Rattle.vault_pan.specs.declared.lead.Lead.{Lead}
 use Rattle.vault_core.specs.Keys.{Bytes}
 use Rattle.vault_core.specs.Merchants.{set_from, set_to, new_merchant, granting, withdrawal}
 use Rattle.vault_core.specs.Outcome.{Outcome, plain_reply, plain_refusal, of_merchant, of_token, on_token}
@@ -89,29 +90,30 @@ module _ (m : Bytes) (writer : Option Bytes) (V W : Vault) (agree : AgreeAt m V 
       ap-at : {A : Type 0} (f : Vault → Bytes → A) → f V m ≡ f W m → f V t.merchant ≡ f W t.merchant
       ap-at {A = A} f same = subst (λ (x : Bytes). f V x ≡ f W x) (sym named) same
 
-  pub alike-set : (single multi now : ℕ) (o o' : Option Merchant) → o ≡ o'
+  pub alike-set : (single multi : ℕ) (lead : Lead) (now : ℕ) (o o' : Option Merchant) → o ≡ o'
       → (o ≡ None → nat_lt (map.len V.merchants) MOST_MERCHANTS ≡ nat_lt (map.len W.merchants) MOST_MERCHANTS)
-      → Both (set_from V m single multi now o) (set_from W m single multi now o')
-  alike-set single multi now o o' same room =
-      subst (λ (x : Option Merchant). Both (set_from V m single multi now o)
-      (set_from W m single multi now x)) same (go o room)
+      → Both (set_from V m single multi lead now o) (set_from W m single multi lead now o')
+  alike-set single multi lead now o o' same room =
+      subst (λ (x : Option Merchant). Both (set_from V m single multi lead now o)
+      (set_from W m single multi lead now x)) same (go o room)
     where
       go : (x : Option Merchant)
           → (x ≡ None → nat_lt (map.len V.merchants) MOST_MERCHANTS
           ≡ nat_lt (map.len W.merchants) MOST_MERCHANTS)
-          → Both (set_from V m single multi now x) (set_from W m single multi now x)
+          → Both (set_from V m single multi lead now x) (set_from W m single multi lead now x)
       go (Some old) room = alike-row _ _
       go None room =
           both_by_test Both V W (λ U. nat_lt (map.len U.merchants) MOST_MERCHANTS) (room refl)
-          (λ U. set_to U m (new_merchant single multi now)) (λ U. plain_refusal U too_many_merchants)
+          (λ U. set_to U m (new_merchant single multi lead now)) (λ U. plain_refusal U too_many_merchants)
           (alike-row _ _) (alike-refused too_many_merchants)
 
-  pub alike-grant : (caller : Bytes) (right : Right) (now : ℕ) (known : Merchant)
-      → Both (granting V caller m right now known) (granting W caller m right now known)
-  alike-grant caller right now known = record {
+  pub alike-grant : (caller : Bytes) (right : Right) (until : Option ℕ) (now : ℕ) (known : Merchant)
+      → Both (granting V caller m right until now known) (granting W caller m right until now known)
+  alike-grant caller right until now known = record {
     reply = refl;
     after = and_then (set_row m writer V W (record known { moment = time_at known now }))
-        (give_right m writer (moved_vault V m known now) (moved_vault W m known now) caller right);
+        (give_right m writer (moved_vault V m known now) (moved_vault W m known now) caller right
+        (record { ends = until }));
   }
 
   pub alike-withdraw : (caller : Bytes) (right : Right) (now : ℕ) (known : Merchant)

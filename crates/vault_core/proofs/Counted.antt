@@ -7,6 +7,7 @@ use Rattle.std.specs.Cmp.{eq_by_cmp_equiv}
 use Rattle.std.specs.Cmp.Lexicographic.{texts_ties}
 use Rattle.vault_pan.specs.CardText.{same}
 use Rattle.vault_core.specs.Draw.{chosen_token}
+use Rattle.vault_pan.specs.declared.lead.Lead.{Lead}
 use Rattle.vault_core.specs.Keys.{Bytes, bytes_cmp}
 use Rattle.vault_core.specs.Merchants.{granting, withdrawal, set_from, set_to, new_merchant}
 use Rattle.vault_core.specs.Named.{token_command, merchant_of, denies}
@@ -157,19 +158,26 @@ follows-tokenize V m a =
     offered : Merchant → Outcome
     offered known = cond (life_asked a known == 0) (plain_refusal V wrong_use) (given_one known)
 
-follows-set : (V : Vault) (m q : Bytes) (single multi now : ℕ) (o : Option Merchant) → merchant_at V q ≡ o
-    → Follows (SetMerchant q single multi now) V m (set_from V q single multi now o)
-follows-set V m q single multi now None e =
-    by_test (Follows (SetMerchant q single multi now) V m) (nat_lt (map.len V.merchants) MOST_MERCHANTS)
-    (set_to V q (new_merchant single multi now)) (plain_refusal V too_many_merchants)
-    (λ _. sets (SetMerchant q single multi now) V m (set_to V q (new_merchant single multi now))
-    (new_merchant single multi now) refl
+follows-set : (V : Vault) (m q : Bytes) (single multi : ℕ) (lead : Lead) (now : ℕ) (o : Option Merchant)
+    → merchant_at V q ≡ o
+    → Follows (SetMerchant q single multi lead now) V m (set_from V q single multi lead now o)
+follows-set V m q single multi lead now None e =
+    by_test (Follows (SetMerchant q single multi lead now) V m) (nat_lt (map.len V.merchants) MOST_MERCHANTS)
+    (set_to V q (new_merchant single multi lead now)) (plain_refusal V too_many_merchants)
+    (λ _. sets (SetMerchant q single multi lead now) V m (set_to V q (new_merchant single multi lead now))
+    (new_merchant single multi lead now) refl
     (sym (ap (λ (y : Option Merchant). option_map_or (λ (z : Merchant). z.given) y 0 + 0) e))
     (sym (ap (λ (y : Option Merchant). option_map_or (λ (z : Merchant). z.denied) y 0 + 0) e)))
-    (λ _. calm (SetMerchant q single multi now) V m (Refused too_many_merchants) refl refl)
-follows-set V m q single multi now (Some known) e =
-    keeps (SetMerchant q single multi now) V m (set_from V q single multi now (Some known)) known
-    (record known { single_life = single; multi_life = multi; moment = time_at known now }) e refl refl
+    (λ _. calm (SetMerchant q single multi lead now) V m (Refused too_many_merchants) refl refl)
+follows-set V m q single multi lead now (Some known) e =
+    keeps (SetMerchant q single multi lead now) V m (set_from V q single multi lead now (Some known)) known
+    (record known {
+      single_life = single;
+      multi_life = multi;
+      lead = lead;
+      moment =
+          time_at known now;
+    }) e refl refl
     refl refl refl
 
 -- one more than a merchant has
@@ -212,14 +220,17 @@ follows-detokenize V m caller q token now =
     c = Detokenize caller q token now
 
 -- one command
-follows : (V : Vault) (m : Bytes) (c : Command) → Follows c V m (outcome V c)
-follows V m (SetMerchant q single multi now) = follows-set V m q single multi now (merchant_at V q) refl
-follows V m (Grant caller q right now) =
-    by_option (Follows (Grant caller q right now) V m) (merchant_at V q) (granting V caller q right now)
+pub follows : (V : Vault) (m : Bytes) (c : Command) → Follows c V m (outcome V c)
+follows V m (SetMerchant q single multi lead now) = follows-set V m q single multi lead now
+    (merchant_at V q) refl
+follows V m (Grant caller q right until now) =
+    by_option (Follows (Grant caller q right until now) V m) (merchant_at V q)
+    (granting V caller q right until now)
     (plain_refusal V no_merchant)
-    (λ known is. keeps (Grant caller q right now) V m (granting V caller q right now known) known _ is refl
+    (λ known is. keeps (Grant caller q right until now) V m
+    (granting V caller q right until now known) known _ is refl
     refl refl refl refl)
-    (λ _. calm (Grant caller q right now) V m (Refused no_merchant) refl refl)
+    (λ _. calm (Grant caller q right until now) V m (Refused no_merchant) refl refl)
 follows V m (Withdraw caller q right now) =
     by_option (Follows (Withdraw caller q right now) V m) (merchant_at V q)
     (withdrawal V caller q right now) (plain_refusal V no_merchant)

@@ -1,7 +1,6 @@
 -- The empty vault is sound.
 use Rattle.std.proofs.Common.{◌≡◌, Option, Some, None, Bool, true, false, cond, refl, arith, sym, ap, ◌∙◌}
 use Rattle.std.specs.FinMap as map
-use Rattle.std.specs.FinSet as set
 use Rattle.std.specs.Ordering.{eq_by_cmp}
 use Rattle.vault_core.specs.Keys.{Bytes, bytes_cmp, entry_cmp, record_cmp, right_cmp}
 use Rattle.vault_core.specs.Sound.{Sound}
@@ -11,9 +10,6 @@ use Rattle.vault_core.proofs.Maps.{entry_total, entry_exact, get-retained}
 
 none_some : {X : Type 0} (o : Option X) (x : X) → o ≡ None → o ≡ Some x → ⊥
 none_some o x a b = let clash = sym a ∙ b in cc
-
-false_true : (b : Bool) → b ≡ false → b ≡ true → ⊥
-false_true b a c = let clash = sym a ∙ c in cc
 
 cond_none : {X : Type 0} (b : Bool) (o : Option X) → o ≡ None → cond b o None ≡ o
 cond_none true o h = refl
@@ -40,5 +36,6 @@ sound-empty = record {
       (none_some (merchant_at empty_vault m) merchant (map.get-empty bytes_cmp m) h);
   records = λ caller request r h. absurd (none_some (record_at empty_vault caller request) r
       (map.get-empty record_cmp (caller, request)) h);
-  rights = λ caller m right h. absurd (false_true _ (set.contains-empty right_cmp (caller, (m, right))) h);
+  rights = λ caller m right g h. absurd (none_some (map.get empty_vault.rights (caller, (m, right))) g
+      (map.get-empty right_cmp (caller, (m, right))) h);
 }

@@ -30,7 +30,7 @@ writer_of c = None
 
 -- a new merchant is refused in both vaults or in neither
 abbrev pub HaveSameRoom : Command → Vault → Vault → Type 0
-HaveSameRoom (SetMerchant m single multi now) V W =
+HaveSameRoom (SetMerchant m single multi lead now) V W =
     merchant_at V m ≡ None
     → nat_lt (map.len V.merchants) MOST_MERCHANTS ≡ nat_lt (map.len W.merchants) MOST_MERCHANTS
 HaveSameRoom c V W = Unit {0}
@@ -43,11 +43,11 @@ AgreeForWriter c V W = (caller : Bytes) → writer_of c ≡ Some caller → Agre
 pub alike : (V W : Vault) (c : Command) → AgreeAt (merchant_of c) V W → AgreeForWriter c V W
     → HaveSameRoom c V W
     → Alike (merchant_of c) (writer_of c) V W (outcome V c) (outcome W c)
-alike V W (SetMerchant m single multi now) agree records room =
-    alike-set m None V W agree single multi now (merchant_at V m) (merchant_at W m) agree.merchant room
-alike V W (Grant caller m right now) agree records room =
-    alike-of_merchant m None V W agree (λ U. granting U caller m right now)
-    (alike-grant m None V W agree caller right now)
+alike V W (SetMerchant m single multi lead now) agree records room =
+    alike-set m None V W agree single multi lead now (merchant_at V m) (merchant_at W m) agree.merchant room
+alike V W (Grant caller m right until now) agree records room =
+    alike-of_merchant m None V W agree (λ U. granting U caller m right until now)
+    (alike-grant m None V W agree caller right until now)
 alike V W (Withdraw caller m right now) agree records room =
     alike-of_merchant m None V W agree (λ U. withdrawal U caller m right now)
     (alike-withdraw m None V W agree caller right now)
@@ -83,7 +83,7 @@ writer-is_caller c writer caller e f = absurd (cc)
 
 -- whoever sets merchants is no caller, so a caller's command finds the same room
 caller-room : (V W : Vault) (c : Command) (caller : Bytes) → caller_of c ≡ Some caller → HaveSameRoom c V W
-caller-room V W (SetMerchant m single multi now) caller e = absurd (cc)
+caller-room V W (SetMerchant m single multi lead now) caller e = absurd (cc)
 caller-room V W c caller e = tt
 
 pub steps_isolated : StepsAreIsolated

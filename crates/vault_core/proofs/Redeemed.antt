@@ -10,7 +10,7 @@ use Rattle.vault_core.specs.Redeem.{denial, redemption, detokenize}
 use Rattle.vault_core.specs.Refusals.{no_merchant, no_right, no_token}
 use Rattle.vault_core.specs.Vault.{Vault, Merchant, merchant_at, entry_at, entitled, time_at, is_live}
 use Rattle.vault_core.specs.Vault.{kept_state, state_of}
-use Rattle.vault_core.specs.Window.{row_at, row_of}
+use Rattle.vault_core.specs.Window.{moment_at, row_at, row_of}
 use Rattle.vault_core.specs.declared.command.TokenCommand.{TokenCommand}
 use Rattle.vault_core.specs.declared.reply.State.{State}
 use Rattle.vault_core.specs.declared.reply.State.TheVariants.{Live, Expired, Revoked}
@@ -28,6 +28,12 @@ known_row V m row = go (merchant_at V m)
         → (known : Merchant) × (o ≡ Some known) × (row ≡ row_of V m known)
     go None h = cc
     go (Some known) h = (known, refl, sym (some_same h))
+
+-- the moment of a command at a merchant that is known
+pub moment_known : (V : Vault) (m : Bytes) (known : Merchant) (now : ℕ) → merchant_at V m ≡ Some known
+    → moment_at V m now ≡ time_at known now
+moment_known V m known now is =
+    ap (λ (o : Option Merchant). option_map_or (λ merchant. time_at merchant now) o now) is
 
 -- an entry that has a number and is live is in that state
 pub live-state : (entry : Entry) (at : ℕ) (number : Bytes) → entry.number ≡ Some number

@@ -68,7 +68,7 @@ pub record Keeps (old new : Vault) : Type 0 where
   pub entries : (m token : Bytes) (e : Entry) → entry_at old m token ≡ Some e
       → KeptEntry token e (entry_at new m token)
 
-keeps-refl : (V : Vault) → Keeps V V
+pub keeps-refl : (V : Vault) → Keeps V V
 keeps-refl V = record {
   records = λ caller request r e. e;
   entries = λ m token e' e. same-entry token e' (entry_at V m token) e;
@@ -112,13 +112,13 @@ keeps-entry V merchants m token old new here expires numbers = record {
 
 -- what the vault has of a request that was answered
 pub record Remembers (V : Vault) (a : TokenRequest) (token : Bytes) (expires : ℕ) : Type 0 where
-  held : Record
-  entry : Entry
-  record_is : record_at V a.caller a.request ≡ Some held
-  entry_is : entry_at V held.merchant held.token ≡ Some entry
-  repeat : is_repeat a.merchant a.usage a.pan held entry ≡ true
-  token_is : held.token ≡ token
-  expires_is : entry.expires ≡ expires
+  pub held : Record
+  pub entry : Entry
+  pub record_is : record_at V a.caller a.request ≡ Some held
+  pub entry_is : entry_at V held.merchant held.token ≡ Some entry
+  pub repeat : is_repeat a.merchant a.usage a.pan held entry ≡ true
+  pub token_is : held.token ≡ token
+  pub expires_is : entry.expires ≡ expires
 
 both-true : (a b c : Bool) → a ≡ true → b ≡ true → c ≡ true → (a && b && c) ≡ true
 both-true a b c p q r = ap (λ x. x && b && c) p ∙ ap (λ x. x && c) q ∙ r
@@ -177,9 +177,9 @@ chosen-none : (V : Vault) (a : TokenRequest) (token : Bytes)
 chosen-none V a token drew = none_is _ (second_so _ _ (chosen-is_good V a.merchant a.pan a.digits token drew))
 
 -- an outcome keeps what the vault held, and an answer with a token is remembered
-record IsFaithful (V : Vault) (a : TokenRequest) (o : Outcome) : Type 0 where
-  keeps : Keeps V o.after
-  remembers : (token : Bytes) (expires : ℕ) → o.reply ≡ Token token expires
+pub record IsFaithful (V : Vault) (a : TokenRequest) (o : Outcome) : Type 0 where
+  pub keeps : Keeps V o.after
+  pub remembers : (token : Bytes) (expires : ℕ) → o.reply ≡ Token token expires
       → Remembers o.after a token expires
 
 refusal : (V : Vault) (a : TokenRequest) (n : ℕ) → IsFaithful V a (plain_reply V (Refused n))
@@ -197,7 +197,7 @@ number-again : (pan token : Bytes) (o : Option Bytes)
 number-again pan token None h = cc
 number-again pan token (Some number) h = h
 
-token-same : (t t' : Bytes) (x x' : ℕ) → ◌≡◌ {A = Reply} (Token t x) (Token t' x') → (t ≡ t') × (x ≡ x')
+pub token-same : (t t' : Bytes) (x x' : ℕ) → ◌≡◌ {A = Reply} (Token t x) (Token t' x') → (t ≡ t') × (x ≡ x')
 token-same t t' x x' h = (cc, cc)
 
 faithful-again : (V : Vault) (a : TokenRequest) (known : Merchant) → record_at V a.caller a.request ≡ None
@@ -252,7 +252,7 @@ faithful-new V a known none token drew =
           };
     }
 
-faithful-tokenize : (V : Vault) → Sound V → (a : TokenRequest) → IsFaithful V a (tokenize V a)
+pub faithful-tokenize : (V : Vault) → Sound V → (a : TokenRequest) → IsFaithful V a (tokenize V a)
 faithful-tokenize V s a =
     by_option (IsFaithful V a) (record_at V a.caller a.request) (earlier_request V a)
     (of_merchant V a.merchant (new_request V a))
@@ -314,16 +314,17 @@ KeepsAfter V o = Keeps V o.after
 
 -- a command keeps records and entries
 pub keeps-after : (V : Vault) → Sound V → (c : Command) → Keeps V (after V c)
-keeps-after V s (SetMerchant m single multi now) = set-keeps (merchant_at V m)
+keeps-after V s (SetMerchant m single multi lead now) = set-keeps (merchant_at V m)
   where
-    set-keeps : (o : Option Merchant) → Keeps V (set_from V m single multi now o).after
+    set-keeps : (o : Option Merchant) → Keeps V (set_from V m single multi lead now o).after
     set-keeps None =
         by_test (KeepsAfter V) (nat_lt (map.len V.merchants) MOST_MERCHANTS)
-        (set_to V m (new_merchant single multi now)) (plain_refusal V too_many_merchants)
+        (set_to V m (new_merchant single multi lead now)) (plain_refusal V too_many_merchants)
         (λ _. keeps-row V _) (λ _. keeps-refl V)
     set-keeps (Some known) = keeps-row V _
-keeps-after V s (Grant caller m right now) =
-    by_option (KeepsAfter V) (merchant_at V m) (granting V caller m right now) (plain_refusal V no_merchant)
+keeps-after V s (Grant caller m right until now) =
+    by_option (KeepsAfter V) (merchant_at V m) (granting V caller m right until now)
+    (plain_refusal V no_merchant)
     (λ known e. record {
       records = λ caller request r e. e;
       entries = λ m t e' e. same-entry t e' (entry_at V m t) e;

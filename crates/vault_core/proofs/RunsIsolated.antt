@@ -43,14 +43,14 @@ fewer-room v w le h = grind (arith, nat_tests)
 -- where a merchant isn't refused in a vault, it isn't in one with no more merchants
 same-room : (V W : Vault) (c : Command) → map.len W.merchants ≤ map.len V.merchants
     → reply V c ≢ Refused too_many_merchants → HaveSameRoom c V W
-same-room V W (SetMerchant m single multi now) le room =
+same-room V W (SetMerchant m single multi lead now) le room =
     λ none. go none (nat_lt (map.len V.merchants) MOST_MERCHANTS) refl
   where
     refusal : merchant_at V m ≡ None → nat_lt (map.len V.merchants) MOST_MERCHANTS ≡ false
-        → reply V (SetMerchant m single multi now) ≡ Refused too_many_merchants
+        → reply V (SetMerchant m single multi lead now) ≡ Refused too_many_merchants
     refusal none full =
-        ap (λ o. (set_from V m single multi now o).reply) none
-        ∙ ap (λ b. (cond b (set_to V m (new_merchant single multi now))
+        ap (λ o. (set_from V m single multi lead now o).reply) none
+        ∙ ap (λ b. (cond b (set_to V m (new_merchant single multi lead now))
         (plain_refusal V too_many_merchants)).reply) full
 
     go : merchant_at V m ≡ None → (b : Bool) → nat_lt (map.len V.merchants) MOST_MERCHANTS ≡ b
@@ -61,7 +61,7 @@ same-room V W c le room = tt
 
 -- one vault finds the same room as itself
 own-room : (V : Vault) (c : Command) → HaveSameRoom c V V
-own-room V (SetMerchant m single multi now) = λ none. refl
+own-room V (SetMerchant m single multi lead now) = λ none. refl
 own-room V c = tt
 
 each_later : (c : Command) (cs : List Command) → EachAtOneMerchant (c ∷ cs) → EachAtOneMerchant cs

@@ -5,11 +5,13 @@ use Rattle.vault_core.specs.Sound.{Sound}
 use Rattle.vault_core.specs.Repeats.{current, reusable}
 use Rattle.vault_core.specs.Vault.{Vault, Merchant, merchant_at}
 use Rattle.std.specs.Option.{option_map_or}
-use Rattle.vault_core.specs.Vault.{time_at}
+use Rattle.vault_core.specs.Vault.{entitled, time_at}
 use Rattle.vault_core.specs.Window.{ShowsRequest, ShowsMerchant, row_of}
 use Rattle.vault_core.specs.declared.command.TokenRequest.{TokenRequest}
+use Rattle.vault_core.specs.declared.right.Right.TheVariants as right
 use Rattle.vault_core.specs.declared.row.MerchantRow.{MerchantRow}
 use Rattle.vault_core.specs.declared.window.Window.{Window}
+use Rattle.vault_core.proofs.Redeemed.{moment_known}
 use Rattle.vault_core.proofs.StaysSound.{life-bounds}
 
 pub shows_merchant : (V : Vault) → Sound V → (a : TokenRequest) (w : Window) (row : MerchantRow)
@@ -28,9 +30,11 @@ shows_merchant V s a w row shows is = go (merchant_at V a.merchant) refl
             known_as = h;
             single = cc;
             multi = cc;
+            lead = cc;
             moment = cc;
             made_is = cc;
-            right = shows.right;
+            right = shows.right ∙ ap (entitled V a.caller a.merchant right.Tokenize)
+                (moment_known V a.merchant known a.moment h);
             held = shows.held ∙ ap (λ (o : Option Merchant). reusable a.usage
                 (current V a.merchant a.pan
                 (option_map_or (λ merchant. time_at merchant a.moment) o a.moment))) h;

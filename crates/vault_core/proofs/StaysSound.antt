@@ -1,7 +1,7 @@
 -- Every command leaves a sound vault sound.
 use Rattle.std.proofs.Common.{◌≡◌, ℕ, ◌+◌, ◌<◌, ◌≤◌, Bool, true, false, cond, Option, Some, None, [], ◌∷◌}
 use Rattle.std.proofs.Common.{not, is_none, refl, sym, ap, ◌∙◌, subst, arith, nat_lt, ◌==◌, zero, suc, lit≤}
-use Rattle.std.specs.Prelude.{map}
+use Rattle.std.specs.Prelude.{map, IfSome}
 use Rattle.std.specs.Option.{option_map_or}
 use Rattle.std.specs.FinMap as map
 use Rattle.std.specs.Cmp.{first_so, second_so}
@@ -12,6 +12,7 @@ use Rattle.vault_pan.specs.Luhn.{passes_check}
 use Rattle.vault_pan.specs.Draw.{IsDrawing, candidate_digits}
 use Rattle.vault_pan.proofs.DrawLemmas.{candidate_digits-fits, candidate_digits-IsNumber}
 use Rattle.vault_core.specs.Draw.{chosen_token, candidates, is_good}
+use Rattle.vault_pan.specs.declared.lead.Lead.{Lead}
 use Rattle.vault_core.specs.Keys.{Bytes}
 use Rattle.vault_core.specs.Laws.{StaysSound}
 use Rattle.vault_core.specs.Merchants.{granting, set_from, set_to, new_merchant}
@@ -54,12 +55,12 @@ use Rattle.vault_core.proofs.Steps.{sound-merchant, sound-right, sound-record, s
 abbrev SoundAfter : Outcome → Type 0
 SoundAfter o = Sound o.after
 
-sound-grant : (V : Vault) → Sound V → (caller m : Bytes) (right : Right) (now : ℕ)
-    → IsName caller → IsMoment now → Sound (after V (Grant caller m right now))
-sound-grant V s caller m right now name moment =
-    by_option SoundAfter (merchant_at V m) (granting V caller m right now) (plain_refusal V no_merchant)
+sound-grant : (V : Vault) → Sound V → (caller m : Bytes) (right : Right) (until : Option ℕ) (now : ℕ)
+    → IsName caller → IfSome until IsMoment → IsMoment now → Sound (after V (Grant caller m right until now))
+sound-grant V s caller m right until now name end moment =
+    by_option SoundAfter (merchant_at V m) (granting V caller m right until now) (plain_refusal V no_merchant)
     (λ known e. sound-right (moved_vault V m known now) (sound-moved V s m known now e moment) caller m right
-    (record known { moment = time_at known now }) name
+    (record { ends = until }) (record known { moment = time_at known now }) name end
     (get-insert_same bytes_total bytes_exact V.merchants m _))
     (λ none. s)
 
@@ -70,17 +71,17 @@ at_most false n = omega arith
 below-true : (a b : ℕ) → nat_lt a b ≡ true → a < b
 below-true a b h = grind (arith, nat_tests)
 
-sound-set : (V : Vault) → Sound V → (m : Bytes) (single multi now : ℕ)
+sound-set : (V : Vault) → Sound V → (m : Bytes) (single multi : ℕ) (lead : Lead) (now : ℕ)
     → IsName m → IsLife single → IsLife multi → IsMoment now → (o : Option Merchant) → merchant_at V m ≡ o
-    → SoundAfter (set_from V m single multi now o)
-sound-set V s m single multi now name life life' moment None e =
+    → SoundAfter (set_from V m single multi lead now o)
+sound-set V s m single multi lead now name life life' moment None e =
     by_test SoundAfter (nat_lt (map.len V.merchants) MOST_MERCHANTS)
-    (set_to V m (new_merchant single multi now)) (plain_refusal V too_many_merchants)
+    (set_to V m (new_merchant single multi lead now)) (plain_refusal V too_many_merchants)
     (λ few.
     let below = below-true _ _ few in
-    let count = map.len-insert bytes_total V.merchants m (new_merchant single multi now) in
+    let count = map.len-insert bytes_total V.merchants m (new_merchant single multi lead now) in
     let most = at_most (map.contains_key V.merchants m) (map.len V.merchants) in
-    sound-merchant V s m (new_merchant single multi now)
+    sound-merchant V s m (new_merchant single multi lead now)
     (record {
       name = name;
       single = life;
@@ -92,11 +93,11 @@ sound-set V s m single multi now name life life' moment None e =
     (λ old at. let clash = sym e ∙ at in cc)
     (omega (arith, count, most, below)))
     (λ many. s)
-sound-set V s m single multi now name life life' moment (Some known) e =
+sound-set V s m single multi lead now name life life' moment (Some known) e =
     let old = s.merchants m known e in
     let before = old.moment in
     known-set V s m known
-    (record known { single_life = single; multi_life = multi; moment = time_at known now }) e
+    (record known { single_life = single; multi_life = multi; lead = lead; moment = time_at known now }) e
     (record {
       name = old.name;
       single = life;
@@ -260,9 +261,9 @@ sound-tokenize V s a p =
     offered known = cond (life_asked a known == 0) (plain_refusal V wrong_use) (given known)
 
 pub sound-after : (V : Vault) → Sound V → (c : Command) → IsProper c → Sound (after V c)
-sound-after V s (SetMerchant m single multi now) p =
-    sound-set V s m single multi now p.0 p.1 p.2 p.3 (merchant_at V m) refl
-sound-after V s (Grant caller m right now) p = sound-grant V s caller m right now p.0 p.2
+sound-after V s (SetMerchant m single multi lead now) p =
+    sound-set V s m single multi lead now p.0 p.1 p.2 p.3 (merchant_at V m) refl
+sound-after V s (Grant caller m right until now) p = sound-grant V s caller m right until now p.0 p.2 p.3
 sound-after V s (Withdraw caller m right now) p = sound-withdraw V s caller m right now p.2
 sound-after V s (Tokenize caller m request usage pan digits now) p =
     sound-tokenize V s (token_request caller m request usage pan digits now) p

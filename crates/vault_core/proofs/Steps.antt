@@ -1,19 +1,21 @@
 -- What keeps a vault sound.
-use Rattle.std.proofs.Common.{◌≡◌, ℕ, ◌<◌, ◌≤◌, true, Option, Some, None, inl, inr, refl, sym, ap, ◌∙◌}
-use Rattle.std.proofs.Common.{subst, arith, ◌||◌}
+use Rattle.std.proofs.Common.{◌≡◌, ℕ, ◌<◌, ◌≤◌, Bool, true, false, cond, Option, Some, None, inl, inr, refl}
+use Rattle.std.proofs.Common.{sym, ap}
+use Rattle.std.proofs.Common.{◌∙◌, subst, arith}
 use Rattle.std.specs.FinMap as map
-use Rattle.std.specs.FinSet as set
 use Rattle.std.specs.Ordering.{eq_by_cmp, is_eq}
 use Rattle.std.specs.Cmp.{tied_itself, second_so}
 use Rattle.std.proofs.lemmas.Bool.Decides.{nat_tests}
-use Rattle.vault_core.specs.Keys.{Bytes, bytes_cmp}
+use Rattle.vault_core.specs.Keys.{Bytes, bytes_cmp, right_cmp}
 use Rattle.vault_core.specs.Name.{IsName}
 use Rattle.vault_core.specs.Repeats.{is_reusable}
-use Rattle.vault_core.specs.Scalar.{IsRequest}
+use Rattle.std.specs.Prelude.{IfSome}
+use Rattle.vault_core.specs.Scalar.{IsMoment, IsRequest}
 use Rattle.vault_core.specs.Sound.{Sound, IsSoundMerchant, IsSoundEntry, IsNumber, IsRevocation, IsEntryOf}
-use Rattle.vault_core.specs.Vault.{Vault, Merchant, merchant_at, entry_at, has_right, made_count}
+use Rattle.vault_core.specs.Vault.{Vault, Merchant, merchant_at, entry_at, made_count}
 use Rattle.vault_core.specs.declared.limit.TheConstants.{MOST_MERCHANTS, MOST_TOKENS}
 use Rattle.vault_core.specs.declared.row.Entry.{Entry}
+use Rattle.vault_core.specs.declared.row.GrantRow.{GrantRow}
 use Rattle.vault_core.specs.declared.row.Record.{Record}
 use Rattle.vault_core.specs.declared.right.Right.{Right}
 use Rattle.vault_core.proofs.Maps.{bytes_total, bytes_exact, entry_total, entry_exact, record_total}
@@ -84,20 +86,22 @@ sound-merchant V s m new fine later room = record {
       s.alone q pan token other entry entry' old.0 old.1 e1 (earlier pan _ _ entry le r1) e2
       (earlier pan _ _ entry' le r2);
   records = s.records;
-  rights = λ caller q right e.
-      let old = s.rights caller q right e in
+  rights = λ caller q right g e.
+      let old = s.rights caller q right g e in
       elim (tied bytes_exact q m) [
         | inl same ↦ (
           old.0,
           new,
           ap (map.get (map.insert V.merchants m new)) same
               ∙ get-insert_same bytes_total bytes_exact V.merchants m new,
+          old.3,
         )
         | inr apart ↦ (
           old.0,
           old.1,
           get-insert_other bytes_total bytes_exact V.merchants m new q apart
               ∙ old.2,
+          old.3,
         )
       ];
 }
@@ -112,33 +116,36 @@ sound-merchant V s m new fine later room = record {
         ]
 
 -- a right is given at a merchant that is known
-pub sound-right : (V : Vault) → Sound V → (caller m : Bytes) (right : Right) (known : Merchant)
-    → IsName caller → merchant_at V m ≡ Some known
-    → Sound (record V { rights = set.insert V.rights (caller, (m, right)) })
-sound-right V s caller m right known name is = record {
+pub sound-right : (V : Vault) → Sound V → (caller m : Bytes) (right : Right) (g : GrantRow) (known : Merchant)
+    → IsName caller → IfSome g.ends IsMoment → merchant_at V m ≡ Some known
+    → Sound (record V { rights = map.insert V.rights (caller, (m, right)) g })
+sound-right V s caller m right g known name end is = record {
   few = s.few;
   merchants = s.merchants;
   made_few = s.made_few;
   entries = s.entries;
   alone = s.alone;
   records = s.records;
-  rights = λ caller' q right' e.
-      elim (tied right_exact (caller', (q, right')) (caller, (m, right))) [
-        | inl same ↦ (
-          subst IsName (sym (ap (λ (k : Bytes × (Bytes × Right)). k.0) same)) name,
+  rights = λ caller' q right' g' e.
+      elim (get-insert_cases right_total right_exact V.rights (caller, (m, right)) g (caller', (q, right')) g'
+      e) [
+        | inl at ↦ (
+          subst IsName (sym (ap (λ (k : Bytes × (Bytes × Right)). k.0) at.0)) name,
           known,
-          ap (map.get V.merchants) (ap (λ (k : Bytes × (Bytes × Right)). k.1.0) same) ∙ is,
+          ap (map.get V.merchants) (ap (λ (k : Bytes × (Bytes × Right)). k.1.0) at.0) ∙ is,
+          subst (λ (x : GrantRow). IfSome x.ends IsMoment) (sym at.1) end,
         )
-        | inr apart ↦
-            s.rights caller' q right'
-            (sym (set.contains-insert right_total V.rights (caller, (m, right)) (caller', (q, right'))
-            ∙ ap (λ b. b || has_right V caller' q right') apart) ∙ e)
+        | inr was ↦ s.rights caller' q right' g' was.1
       ];
 }
 
+kept : (b : Bool) (o : Option GrantRow) (g : GrantRow) → cond b None o ≡ Some g → o ≡ Some g
+kept true o g e = absurd cc
+kept false o g e = e
+
 -- a right is taken away
 pub sound-unright : (V : Vault) → Sound V → (caller m : Bytes) (right : Right)
-    → Sound (record V { rights = set.remove V.rights (caller, (m, right)) })
+    → Sound (record V { rights = map.remove V.rights (caller, (m, right)) })
 sound-unright V s caller m right = record {
   few = s.few;
   merchants = s.merchants;
@@ -146,10 +153,10 @@ sound-unright V s caller m right = record {
   entries = s.entries;
   alone = s.alone;
   records = s.records;
-  rights = λ caller' q right' e.
-      s.rights caller' q right'
-      (second_so _ _ (sym (set.contains-remove right_total V.rights (caller, (m, right))
-      (caller', (q, right'))) ∙ e));
+  rights = λ caller' q right' g e.
+      s.rights caller' q right' g
+      (kept (eq_by_cmp right_cmp (caller', (q, right')) (caller, (m, right))) _ g
+      (sym (map.get-remove right_total V.rights (caller, (m, right)) (caller', (q, right'))) ∙ e));
 }
 
 -- a request is recorded with an entry that is there

@@ -1,15 +1,16 @@
 -- Two vaults that change together at one merchant: what they agree on they still agree on, and nothing else
 -- changes.
-use Rattle.std.proofs.Common.{◌≡◌, ◌≢◌, ℕ, ◌+◌, ◌≤◌, Bool, true, false, cond, not, ◌&&◌, ◌||◌, Option, Some}
-use Rattle.std.proofs.Common.{is_some, refl, sym, ap, ◌∙◌, arith}
+use Rattle.std.proofs.Common.{◌≡◌, ◌≢◌, ℕ, ◌+◌, ◌≤◌, Bool, true, false, cond, Option, Some}
+use Rattle.std.proofs.Common.{None, is_some, refl, sym, ap, ◌∙◌, arith}
 use Rattle.std.specs.FinMap as map
-use Rattle.std.specs.FinSet as set
+use Rattle.std.specs.Option.{option_map_or}
 use Rattle.std.specs.Ordering.{eq_by_cmp}
 use Rattle.vault_core.specs.Isolation.{AgreeAt, AgreeFor}
 use Rattle.vault_core.specs.Keys.{Bytes, right_cmp}
-use Rattle.vault_core.specs.Vault.{Vault, Merchant, has_right}
+use Rattle.vault_core.specs.Vault.{Vault, Merchant, lasts}
 use Rattle.vault_core.specs.declared.right.Right.{Right}
 use Rattle.vault_core.specs.declared.row.Entry.{Entry}
+use Rattle.vault_core.specs.declared.row.GrantRow.{GrantRow}
 use Rattle.vault_core.specs.declared.row.Record.{Record}
 use Rattle.vault_core.proofs.Agree.{agree-refl, agree-trans}
 use Rattle.vault_core.proofs.Maps.{bytes_total, bytes_exact, entry_total, entry_exact, record_total}
@@ -46,6 +47,16 @@ and_then s t = record {
   unwritten = λ other apart request. s.unwritten other apart request ∙ t.unwritten other apart request;
   grows = omega (arith, s.grows, t.grows);
 }
+
+-- whether a right that is found is there at a moment
+abbrev has_at : ℕ → Option GrantRow → Bool
+has_at at found = option_map_or (λ g. lasts g at) found false
+
+-- the same change of two that are there at the same moments
+same_at : (at : ℕ) (b : Bool) (x o p : Option GrantRow) → has_at at o ≡ has_at at p
+    → has_at at (cond b x o) ≡ has_at at (cond b x p)
+same_at at true x o p e = refl
+same_at at false x o p e = e
 
 -- a right at another merchant
 other_right : (caller : Bytes) (right : Right) (m other : Bytes) → other ≢ m → (c : Bytes) (r : Right)
@@ -117,27 +128,27 @@ module _ (m : Bytes) (writer : Option Bytes) (V W : Vault) where
   }
 
   -- a right at the merchant is given
-  pub give_right : (caller : Bytes) (right : Right)
+  pub give_right : (caller : Bytes) (right : Right) (g : GrantRow)
       → Together m writer V W
-      (record V { rights = set.insert V.rights (caller, (m, right)) })
-      (record W { rights = set.insert W.rights (caller, (m, right)) })
-  give_right caller right = record {
+      (record V { rights = map.insert V.rights (caller, (m, right)) g })
+      (record W { rights = map.insert W.rights (caller, (m, right)) g })
+  give_right caller right g = record {
     rows = λ a. record {
       merchant = a.merchant;
       entries = a.entries;
       rights = λ c r at.
-          set.contains-insert right_total V.rights (caller, (m, right)) (c, (m, r))
-          ∙ ap (λ b. eq_by_cmp right_cmp (c, (m, r)) (caller, (m, right)) || b) (a.rights c r at)
-          ∙ sym (set.contains-insert right_total W.rights (caller, (m, right)) (c, (m, r)));
+          ap (has_at at) (map.get-insert right_total V.rights (caller, (m, right)) g (c, (m, r)))
+          ∙ same_at at (eq_by_cmp right_cmp (c, (m, r)) (caller, (m, right))) (Some g) _ _ (a.rights c r at)
+          ∙ sym (ap (has_at at) (map.get-insert right_total W.rights (caller, (m, right)) g (c, (m, r))));
     };
     records = λ caller a. a;
     fewer = λ a le. le;
     others = λ other apart. record {
       merchant = refl;
       entries = λ token. refl;
-      rights = λ c r at.
-          sym (set.contains-insert right_total V.rights (caller, (m, right)) (c, (other, r))
-          ∙ ap (λ b. b || has_right V c other r) (other_right caller right m other apart c r));
+      rights = λ c r at. sym (ap (has_at at)
+          (get-insert_other right_total right_exact V.rights (caller, (m, right)) g (c, (other, r))
+          (other_right caller right m other apart c r)));
     };
     unwritten = λ other apart request. refl;
     grows = omega arith;
@@ -146,25 +157,26 @@ module _ (m : Bytes) (writer : Option Bytes) (V W : Vault) where
   -- a right at the merchant is taken away
   pub take_right : (caller : Bytes) (right : Right)
       → Together m writer V W
-      (record V { rights = set.remove V.rights (caller, (m, right)) })
-      (record W { rights = set.remove W.rights (caller, (m, right)) })
+      (record V { rights = map.remove V.rights (caller, (m, right)) })
+      (record W { rights = map.remove W.rights (caller, (m, right)) })
   take_right caller right = record {
     rows = λ a. record {
       merchant = a.merchant;
       entries = a.entries;
       rights = λ c r at.
-          set.contains-remove right_total V.rights (caller, (m, right)) (c, (m, r))
-          ∙ ap (λ b. not (eq_by_cmp right_cmp (c, (m, r)) (caller, (m, right))) && b) (a.rights c r at)
-          ∙ sym (set.contains-remove right_total W.rights (caller, (m, right)) (c, (m, r)));
+          ap (has_at at) (map.get-remove right_total V.rights (caller, (m, right)) (c, (m, r)))
+          ∙ same_at at (eq_by_cmp right_cmp (c, (m, r)) (caller, (m, right))) None _ _ (a.rights c r at)
+          ∙ sym (ap (has_at at) (map.get-remove right_total W.rights (caller, (m, right)) (c, (m, r))));
     };
     records = λ caller a. a;
     fewer = λ a le. le;
     others = λ other apart. record {
       merchant = refl;
       entries = λ token. refl;
-      rights = λ c r at.
-          sym (set.contains-remove right_total V.rights (caller, (m, right)) (c, (other, r))
-          ∙ ap (λ b. not b && has_right V c other r) (other_right caller right m other apart c r));
+      rights = λ c r at. sym (ap (has_at at)
+          (map.get-remove right_total V.rights (caller, (m, right)) (c, (other, r))
+          ∙ ap (λ b. cond b None (map.get V.rights (c, (other, r))))
+          (other_right caller right m other apart c r)));
     };
     unwritten = λ other apart request. refl;
     grows = omega arith;

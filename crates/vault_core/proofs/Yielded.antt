@@ -1,5 +1,6 @@
 -- A live token yields its number to a caller with the right.
-use Rattle.std.proofs.Common.{◌≡◌, ℕ, ◌<◌, ◌==◌, true, false, cond, Option, Some, None, is_some, refl, ap}
+use Rattle.std.proofs.Common.{◌≡◌, ℕ, ◌<◌, ◌==◌, true, false, cond, Option, Some, None, is_some, refl, sym}
+use Rattle.std.proofs.Common.{ap}
 use Rattle.std.proofs.Common.{◌∙◌, subst, arith}
 use Rattle.std.specs.FinMap as map
 use Rattle.std.specs.Option.{option_map_or}
@@ -16,7 +17,7 @@ use Rattle.vault_core.specs.Yields.{LiveTokensYield}
 use Rattle.vault_core.specs.declared.limit.TheConstants.{MOST_COUNT}
 use Rattle.vault_core.specs.declared.reply.Reply.TheVariants.{Number}
 use Rattle.vault_core.specs.declared.right.Right.TheVariants.{Detokenize}
-use Rattle.vault_core.proofs.Redeemed.{detokenize-entry, live-state}
+use Rattle.vault_core.proofs.Redeemed.{detokenize-entry, live-state, moment_known}
 use Rattle.vault_core.proofs.StaysSound.{stays_sound}
 
 there : {X : Type 0} (o : Option X) → is_some o ≡ true → (x : X) × (o ≡ Some x)
@@ -47,7 +48,8 @@ live_tokens_yield V cs s p caller m token now entry right here live few =
     ≡ true) known.1 live
     in
     let number = there entry.number (first_so _ _ (first_so _ _ at)) in
-    let allowed : entitled W caller m Detokenize (time_at known.0 now) ≡ true = right in
+    let allowed : entitled W caller m Detokenize (time_at known.0 now) ≡ true =
+    ap (entitled W caller m Detokenize) (sym (moment_known W m known.0 now known.1)) ∙ right in
     let below_limit : known.0.given < MOST_COUNT =
     subst (λ (o : Option Merchant). option_map_or (λ (x : Merchant). x.given) o 0 < MOST_COUNT) known.1
     few in (

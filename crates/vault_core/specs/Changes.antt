@@ -2,7 +2,7 @@
 use Rattle.std.specs.Prelude.{◌≡◌, ℕ, ◌+◌, Bool, true, false, Option, Some, None, max, is_none, IsSome}
 use Rattle.std.specs.Prelude.{if◌then◌else◌}
 use Rattle.std.specs.FinMap as map
-use Rattle.std.specs.FinSet as set
+use Rattle.std.specs.Option.{option_map_or}
 use Rattle.vault_core.specs.Keys.{Bytes, bytes_cmp, entry_cmp, record_cmp, right_cmp}
 use Rattle.vault_core.specs.Outcome.{Outcome}
 use Rattle.vault_core.specs.Named.{merchant_of, is_denial}
@@ -21,6 +21,7 @@ use Rattle.vault_core.specs.declared.reply.Reply.{Reply}
 use Rattle.vault_core.specs.declared.reply.Reply.TheVariants.{Done, Token, Number, Shown, Counts, Refused}
 use Rattle.vault_core.specs.declared.right.Right.{Right}
 use Rattle.vault_core.specs.declared.row.Entry.{Entry}
+use Rattle.vault_core.specs.declared.row.GrantRow.{GrantRow}
 use Rattle.vault_core.specs.declared.row.MerchantRow.{MerchantRow}
 use Rattle.vault_core.specs.declared.row.Record.{Record}
 use Rattle.vault_core.specs.declared.window.Window.{Window}
@@ -31,12 +32,18 @@ merchant_with x None =
     record {
       single_life = x.single_life;
       multi_life = x.multi_life;
+      lead = x.lead;
       moment = x.moment;
       given = 0;
       denied = 0;
     }
 merchant_with x (Some old) =
-    record old { single_life = x.single_life; multi_life = x.multi_life; moment = x.moment }
+    record old {
+      single_life = x.single_life;
+      multi_life = x.multi_life;
+      lead = x.lead;
+      moment = x.moment;
+    }
 
 -- one more number given or denied; how many tokens were made follows from the entries
 abbrev pub merchant_with_count : Option Count → Merchant → Merchant
@@ -66,10 +73,11 @@ with_record records None = records
 with_record records (Some x) = map.insert records (x.0, x.1) x.2
 
 -- with a right put in, or taken out
-abbrev pub with_right : set.FinSet right_cmp → Option (Bytes × Bytes × Right × Bool) → set.FinSet right_cmp
+abbrev pub with_right : map.FinMap right_cmp GrantRow → Option (Bytes × Bytes × Right × Option GrantRow)
+    → map.FinMap right_cmp GrantRow
 with_right rights None = rights
 with_right rights (Some x) =
-    if x.3 then set.insert rights (x.0, (x.1, x.2)) else set.remove rights (x.0, (x.1, x.2))
+    option_map_or (map.insert rights (x.0, (x.1, x.2))) x.3 (map.remove rights (x.0, (x.1, x.2)))
 
 -- a vault with the changes in it
 abbrev pub plus : Vault → Changes → Vault
@@ -133,6 +141,7 @@ moved_lives m row now =
       merchant = m;
       single_life = row.single_life;
       multi_life = row.multi_life;
+      lead = row.lead;
       moment = max row.moment now;
     }
 

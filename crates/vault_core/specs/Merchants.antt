@@ -1,7 +1,7 @@
 -- Merchants that are set, and rights that are given and taken away.
 use Rattle.std.specs.Prelude.{ℕ, Option, Some, None, nat_lt, if◌then◌else◌}
 use Rattle.std.specs.FinMap as map
-use Rattle.std.specs.FinSet as set
+use Rattle.vault_pan.specs.declared.lead.Lead.{Lead}
 use Rattle.vault_core.specs.Keys.{Bytes}
 use Rattle.vault_core.specs.Outcome.{Outcome, plain_refusal, of_merchant, moved_vault}
 use Rattle.vault_core.specs.Vault.{Vault, Merchant, merchant_at, time_at}
@@ -16,39 +16,47 @@ set_to V m merchant =
     record { reply = Done; after = record V { merchants = map.insert V.merchants m merchant } }
 
 -- a new merchant, whose moment is the one handed in
-abbrev pub new_merchant : ℕ → ℕ → ℕ → Merchant
-new_merchant single multi now =
-    record { single_life = single; multi_life = multi; moment = now; given = 0; denied = 0 }
+abbrev pub new_merchant : ℕ → ℕ → Lead → ℕ → Merchant
+new_merchant single multi lead now =
+    record { single_life = single; multi_life = multi; lead = lead; moment = now; given = 0; denied = 0 }
 
--- a merchant that is known gets new lives and its moment moves; a new one is refused where there is no room
-abbrev pub set_from : Vault → Bytes → ℕ → ℕ → ℕ → Option Merchant → Outcome
-set_from V m single multi now (Some old) =
-    set_to V m (record old { single_life = single; multi_life = multi; moment = time_at old now })
-set_from V m single multi now None =
+-- a merchant that is known gets new lives and a new lead, and its moment moves; a new one is refused where
+-- there is no room
+abbrev pub set_from : Vault → Bytes → ℕ → ℕ → Lead → ℕ → Option Merchant → Outcome
+set_from V m single multi lead now (Some old) =
+    set_to V m (record old {
+      single_life = single;
+      multi_life = multi;
+      lead = lead;
+      moment = time_at old now;
+    })
+set_from V m single multi lead now None =
     if nat_lt (map.len V.merchants) MOST_MERCHANTS
-    then set_to V m (new_merchant single multi now)
+    then set_to V m (new_merchant single multi lead now)
     else plain_refusal V too_many_merchants
 
 -- a merchant is set
-abbrev pub set_merchant : Vault → Bytes → ℕ → ℕ → ℕ → Outcome
-set_merchant V m single multi now = set_from V m single multi now (merchant_at V m)
+abbrev pub set_merchant : Vault → Bytes → ℕ → ℕ → Lead → ℕ → Outcome
+set_merchant V m single multi lead now = set_from V m single multi lead now (merchant_at V m)
 
--- done, with the right given
-abbrev pub granting : Vault → Bytes → Bytes → Right → ℕ → Merchant → Outcome
-granting V caller m right now merchant = record {
+-- done, with the right given up to this end
+abbrev pub granting : Vault → Bytes → Bytes → Right → Option ℕ → ℕ → Merchant → Outcome
+granting V caller m right until now merchant = record {
   reply = Done;
-  after = record (moved_vault V m merchant now) { rights = set.insert V.rights (caller, (m, right)) };
+  after = record (moved_vault V m merchant now) {
+    rights = map.insert V.rights (caller, (m, right)) (record { ends = until });
+  };
 }
 
--- a right is given, also where it was there before
-abbrev pub grant : Vault → Bytes → Bytes → Right → ℕ → Outcome
-grant V caller m right now = of_merchant V m (granting V caller m right now)
+-- a right is given; where it was there before it gets this end
+abbrev pub grant : Vault → Bytes → Bytes → Right → Option ℕ → ℕ → Outcome
+grant V caller m right until now = of_merchant V m (granting V caller m right until now)
 
 -- done, with the right taken away
 abbrev pub withdrawal : Vault → Bytes → Bytes → Right → ℕ → Merchant → Outcome
 withdrawal V caller m right now merchant = record {
   reply = Done;
-  after = record (moved_vault V m merchant now) { rights = set.remove V.rights (caller, (m, right)) };
+  after = record (moved_vault V m merchant now) { rights = map.remove V.rights (caller, (m, right)) };
 }
 
 -- a right is taken away, also where it wasn't there before

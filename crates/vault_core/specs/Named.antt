@@ -29,8 +29,8 @@ token_command_in c = None
 
 -- the merchant that a command names; the last row is that of the commands on a token
 abbrev pub merchant_of : Command → Bytes
-merchant_of (SetMerchant m single multi now) = m
-merchant_of (Grant caller m right now) = m
+merchant_of (SetMerchant m single multi lead now) = m
+merchant_of (Grant caller m right until now) = m
 merchant_of (Withdraw caller m right now) = m
 merchant_of (Tokenize caller m request usage pan digits now) = m
 merchant_of (Audit caller m now) = m

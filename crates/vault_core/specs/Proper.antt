@@ -12,7 +12,7 @@ use Rattle.vault_core.specs.declared.command.TokenCommand.{TokenCommand}
 
 -- the lives that a SetMerchant sets are lives
 abbrev pub HasLivesInRange : Command → Type 0
-HasLivesInRange (SetMerchant m single multi now) = IsLife single × IsLife multi
+HasLivesInRange (SetMerchant m single multi lead now) = IsLife single × IsLife multi
 HasLivesInRange c = Unit {0}
 
 -- the parts of a command on a token are values of their types
@@ -22,8 +22,8 @@ IsProperOnToken t = IsName t.caller × IsName t.merchant × IsToken t.token × I
 -- the parts of a command are values of their types, as the code's own types say of all but the lives; the
 -- last row is that of the commands on a token
 abbrev pub IsProper : Command → Type 0
-IsProper (SetMerchant m single multi now) = IsName m × IsLife single × IsLife multi × IsMoment now
-IsProper (Grant caller m right now) = IsName caller × IsName m × IsMoment now
+IsProper (SetMerchant m single multi lead now) = IsName m × IsLife single × IsLife multi × IsMoment now
+IsProper (Grant caller m right until now) = IsName caller × IsName m × IfSome until IsMoment × IsMoment now
 IsProper (Withdraw caller m right now) = IsName caller × IsName m × IsMoment now
 IsProper (Tokenize caller m request usage pan digits now) =
     IsName caller × IsName m × IsRequest request × IsPan pan × IsDrawing digits × IsMoment now

@@ -16,7 +16,7 @@ use Rattle.vault_core.specs.declared.row.EntryState.TheVariants.{Kept, Purged}
 abbrev pub showing : Vault → Merchant → Entry → EntryState → Outcome
 showing V merchant entry Purged = plain_refusal V token_purged
 showing V merchant entry (Kept number state) =
-    plain_reply V (Shown (mask_of number) entry.usage entry.birth entry.expires state)
+    plain_reply V (Shown (mask_of merchant.lead number) entry.usage entry.birth entry.expires state)
 
 -- a token is asked about
 abbrev pub view : Vault → TokenCommand → Outcome

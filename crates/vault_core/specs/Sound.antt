@@ -1,16 +1,17 @@
 -- What holds of every vault that commands make.
-use Rattle.std.specs.Prelude.{◌≡◌, ℕ, ◌+◌, ◌<◌, ◌≤◌, ◌⊎◌, true, Option, Some, None, IsSome}
+use Rattle.std.specs.Prelude.{◌≡◌, ℕ, ◌+◌, ◌<◌, ◌≤◌, ◌⊎◌, true, Option, Some, None, IsSome, IfSome}
 use Rattle.std.specs.FinMap as map
 use Rattle.vault_pan.specs.CardText.{IsPan, IsToken, fits}
 use Rattle.vault_core.specs.Keys.{Bytes}
 use Rattle.vault_core.specs.Name.{IsName}
 use Rattle.vault_core.specs.Repeats.{is_reusable}
 use Rattle.vault_core.specs.Scalar.{IsMoment, IsLife, IsRequest}
-use Rattle.vault_core.specs.Vault.{Vault, Merchant, merchant_at, entry_at, record_at, has_right, made_count}
+use Rattle.vault_core.specs.Vault.{Vault, Merchant, merchant_at, entry_at, record_at, right_at, made_count}
 use Rattle.vault_core.specs.declared.limit.TheConstants.{MOST_MERCHANTS, MOST_TOKENS, MOST_COUNT}
 use Rattle.vault_core.specs.declared.limit.TheConstants.{LONGEST_LIFE}
 use Rattle.vault_core.specs.declared.right.Right.{Right}
 use Rattle.vault_core.specs.declared.row.Entry.{Entry}
+use Rattle.vault_core.specs.declared.row.GrantRow.{GrantRow}
 use Rattle.vault_core.specs.declared.row.Record.{Record}
 
 -- a count of numbers given or denied
@@ -65,5 +66,5 @@ pub record Sound (V : Vault) : Type 0 where
   pub records : (caller : Bytes) (request : ℕ) (r : Record)
       → record_at V caller request ≡ Some r
       → IsName caller × IsRequest request × IsEntryOf r (entry_at V r.merchant r.token)
-  pub rights : (caller m : Bytes) (right : Right) → has_right V caller m right ≡ true
-      → IsName caller × (merchant : Merchant) × (merchant_at V m ≡ Some merchant)
+  pub rights : (caller m : Bytes) (right : Right) (g : GrantRow) → right_at V caller m right ≡ Some g
+      → IsName caller × (merchant : Merchant) × (merchant_at V m ≡ Some merchant) × IfSome g.ends IsMoment

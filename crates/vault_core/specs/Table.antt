@@ -42,8 +42,8 @@ request_in c = None
 
 -- the first case that applies
 abbrev pub outcome : Vault → Command → Outcome
-outcome V (SetMerchant m single multi now) = set_merchant V m single multi now
-outcome V (Grant caller m right now) = grant V caller m right now
+outcome V (SetMerchant m single multi lead now) = set_merchant V m single multi lead now
+outcome V (Grant caller m right until now) = grant V caller m right until now
 outcome V (Withdraw caller m right now) = withdraw V caller m right now
 outcome V (Tokenize caller m request usage pan digits now) =
     tokenize V (token_request caller m request usage pan digits now)

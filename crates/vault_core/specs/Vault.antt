@@ -1,9 +1,10 @@
 -- A vault: four finite maps.
-use Rattle.std.specs.Prelude.{ℕ, ◌&&◌, Bool, Option, max, is_none, is_some, nat_lt, if◌then◌else◌}
+use Rattle.std.specs.Prelude.{ℕ, ◌&&◌, Bool, true, false, Option, max, is_none, is_some, nat_lt}
+use Rattle.std.specs.Prelude.{if◌then◌else◌}
 use Rattle.std.specs.Option.{option_map_or}
 use Rattle.std.specs.FinMap as map
-use Rattle.std.specs.FinSet as set
 use Rattle.std.specs.Ordering.{eq_by_cmp}
+use Rattle.vault_pan.specs.declared.lead.Lead.{Lead}
 use Rattle.vault_core.specs.Keys.{Bytes, bytes_cmp, entry_cmp, record_cmp, right_cmp}
 use Rattle.vault_core.specs.declared.reply.State.{State}
 use Rattle.vault_core.specs.declared.reply.State.TheVariants.{Live, Expired, Revoked}
@@ -11,29 +12,33 @@ use Rattle.vault_core.specs.declared.right.Right.{Right}
 use Rattle.vault_core.specs.declared.row.Entry.{Entry}
 use Rattle.vault_core.specs.declared.row.EntryState.{EntryState}
 use Rattle.vault_core.specs.declared.row.EntryState.TheVariants.{Kept, Purged}
+use Rattle.vault_core.specs.declared.row.GrantRow.{GrantRow}
 use Rattle.vault_core.specs.declared.row.Record.{Record}
 use Rattle.vault_core.specs.declared.usage.Use.{Use}
 use Rattle.vault_core.specs.declared.usage.Use.TheVariants.{Single, Multi}
 
--- how long a merchant's tokens live, when it last changed, and how often a number was given or denied
+-- how long a merchant's tokens live, how many digits its masks show at the left, when it last changed, and
+-- how
+-- often a number was given or denied
 pub record Merchant : Type 0 where
   pub single_life : ℕ
   pub multi_life : ℕ
+  pub lead : Lead
   pub moment : ℕ
   pub given : ℕ
   pub denied : ℕ
 
--- merchants by name, entries by merchant and token, records by caller and request number, and the
--- rights of callers at merchants
+-- merchants by name, entries by merchant and token, records by caller and request number, and the rights of
+-- callers at merchants, each with its end
 pub record Vault : Type 0 where
   pub merchants : map.FinMap bytes_cmp Merchant
   pub entries : map.FinMap entry_cmp Entry
   pub records : map.FinMap record_cmp Record
-  pub rights : set.FinSet right_cmp
+  pub rights : map.FinMap right_cmp GrantRow
 
 -- the empty vault
 abbrev pub empty_vault : Vault
-empty_vault = record { merchants = map.empty; entries = map.empty; records = map.empty; rights = set.empty }
+empty_vault = record { merchants = map.empty; entries = map.empty; records = map.empty; rights = map.empty }
 
 -- the merchant of a name
 abbrev pub merchant_at : Vault → Bytes → Option Merchant
@@ -47,13 +52,17 @@ entry_at V m token = map.get V.entries (m, token)
 abbrev pub record_at : Vault → Bytes → ℕ → Option Record
 record_at V caller request = map.get V.records (caller, request)
 
--- whether a caller has a right at a merchant
-abbrev pub has_right : Vault → Bytes → Bytes → Right → Bool
-has_right V caller m right = set.contains V.rights (caller, (m, right))
+-- the right of a caller at a merchant
+abbrev pub right_at : Vault → Bytes → Bytes → Right → Option GrantRow
+right_at V caller m right = map.get V.rights (caller, (m, right))
 
--- whether a caller is entitled at a moment to what a right allows at a merchant: a right has no end
+-- whether a right is there at a moment: before its end, where it has one
+abbrev pub lasts : GrantRow → ℕ → Bool
+lasts g at = option_map_or (λ end. nat_lt at end) g.ends true
+
+-- whether a caller is entitled at a moment to what a right allows at a merchant
 abbrev pub entitled : Vault → Bytes → Bytes → Right → ℕ → Bool
-entitled V caller m right at = has_right V caller m right
+entitled V caller m right at = option_map_or (λ g. lasts g at) (right_at V caller m right) false
 
 -- the entries of one merchant
 abbrev pub entries_of : Vault → Bytes → map.FinMap entry_cmp Entry

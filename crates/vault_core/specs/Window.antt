@@ -24,6 +24,7 @@ abbrev pub row_of : Vault → Bytes → Merchant → MerchantRow
 row_of V m merchant = record {
   single_life = merchant.single_life;
   multi_life = merchant.multi_life;
+  lead = merchant.lead;
   moment = merchant.moment;
   made = made_count V m;
   given = merchant.given;
@@ -55,9 +56,9 @@ pub record ShowsToken (V : Vault) (t : TokenCommand) (w : Window) : Type 0 where
 -- the window shows what the vault holds at the places that the command needs; the last row is that of the
 -- commands on a token
 abbrev pub IsWindow : Vault → Command → Window → Type 0
-IsWindow V (SetMerchant m single multi now) w =
+IsWindow V (SetMerchant m single multi lead now) w =
     (w.merchant ≡ row_at V m) × (w.merchants ≡ map.len V.merchants)
-IsWindow V (Grant caller m right now) w = w.merchant ≡ row_at V m
+IsWindow V (Grant caller m right until now) w = w.merchant ≡ row_at V m
 IsWindow V (Withdraw caller m right now) w = w.merchant ≡ row_at V m
 IsWindow V (Tokenize caller m request usage pan digits now) w =
     ShowsRequest V (token_request caller m request usage pan digits now) w
@@ -84,6 +85,7 @@ pub record ShowsMerchant (V : Vault) (a : TokenRequest) (known : Merchant) (w : 
   pub known_as : merchant_at V a.merchant ≡ Some known
   pub single : row.single_life ≡ known.single_life
   pub multi : row.multi_life ≡ known.multi_life
+  pub lead : row.lead ≡ known.lead
   pub moment : row.moment ≡ known.moment
   pub made_is : row.made ≡ made_count V a.merchant
   pub right : w.right ≡ entitled V a.caller a.merchant right.Tokenize (time_at known a.moment)

@@ -6,15 +6,17 @@ use crate::moment::Moment;
 use crate::name::{Caller, MerchantId};
 use crate::request::RequestNo;
 use crate::right::Right;
-use crate::row::{Entry, Record};
+use crate::row::{Entry, GrantRow, Record};
+use vault_pan::lead::Lead;
 use vault_pan::token::Token;
 
-/// The lives and the moment that a merchant has from now on.
+/// The lives, the lead and the moment that a merchant has from now on.
 #[derive(Clone, Copy, Debug)]
 pub struct Lives {
     pub merchant: MerchantId,
     pub single_life: u64,
     pub multi_life: u64,
+    pub lead: Lead,
     pub moment: Moment,
 }
 
@@ -42,8 +44,8 @@ pub struct Changes {
     pub count: Option<Count>,
     pub entry: Option<(MerchantId, Token, Entry)>,
     pub recorded: Option<(Caller, RequestNo, Record)>,
-    /// A right that is there from now on, or isn't.
-    pub right: Option<(Caller, MerchantId, Right, bool)>,
+    /// A right that is there from now on, up to its end, or isn't.
+    pub right: Option<(Caller, MerchantId, Right, Option<GrantRow>)>,
 }
 
 impl Changes {

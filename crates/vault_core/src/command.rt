@@ -1,5 +1,5 @@
 //! The commands of a vault.
-ghost use Rattle.std.specs.Prelude.{IsTrue, ◌↔◌, ◌≡◌};
+ghost use Rattle.std.specs.Prelude.{IsTrue, IfSome, ◌↔◌, ◌≡◌};
 ghost use Rattle.vault_core.specs.Name.{IsName};
 ghost use Rattle.vault_core.specs.Scalar.{IsMoment};
 ghost use Rattle.vault_core.specs.Named.{token_command_in};
@@ -12,24 +12,27 @@ use crate::request::RequestNo;
 use crate::right::Right;
 use crate::usage::Use;
 use vault_pan::draw::Digits;
+use vault_pan::lead::Lead;
 use vault_pan::pan::Pan;
 use vault_pan::token::Token;
 
 /// What can be asked of a vault.
 #[derive(Clone, Copy, Debug)]
 pub enum Command {
-    /// Makes a merchant, or sets its lives anew.
+    /// Makes a merchant, or sets its lives and its lead anew.
     SetMerchant {
         merchant: MerchantId,
         single_life: u64,
         multi_life: u64,
+        lead: Lead,
         now: Moment,
     },
-    /// Gives a caller a right at a merchant.
+    /// Gives a caller a right at a merchant, up to an end or for good; one that is there gets this end.
     Grant {
         caller: Caller,
         merchant: MerchantId,
         right: Right,
+        until: Option<Moment>,
         now: Moment,
     },
     /// Takes a right of a caller at a merchant away.
@@ -121,6 +124,7 @@ impl Command {
                 single_life,
                 multi_life,
                 now,
+                ..
             } => {
                 let _merchant = merchant.bytes();
                 let _now = now.seconds();
@@ -129,10 +133,11 @@ impl Command {
             Command::Grant {
                 caller,
                 merchant,
+                until,
                 now,
                 ..
-            }
-            | Command::Withdraw {
+            } => has_end(until) && is_asked(caller, merchant, now),
+            Command::Withdraw {
                 caller,
                 merchant,
                 now,
@@ -242,5 +247,15 @@ fn is_asked(caller: Caller, merchant: MerchantId, now: Moment) -> bool
     let _caller = caller.bytes();
     let _merchant = merchant.bytes();
     let _now = now.seconds();
+    true
+}
+
+/// So is the end of a right, where there is one.
+fn has_end(until: Option<Moment>) -> bool
+    ensures { IsTrue result × IfSome until IsMoment }
+{
+    if let Some(end) = until {
+        let _end = end.seconds();
+    }
     true
 }

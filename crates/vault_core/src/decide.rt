@@ -50,14 +50,16 @@ fn settled(w: &Window, c: &Command) -> (Reply, Changes)
             merchant,
             single_life,
             multi_life,
+            lead,
             now,
-        } => set_merchant(w, merchant, single_life, multi_life, now),
+        } => set_merchant(w, merchant, single_life, multi_life, lead, now),
         Command::Grant {
             caller,
             merchant,
             right,
+            until,
             now,
-        } => grant(w, caller, merchant, right, now),
+        } => grant(w, caller, merchant, right, until, now),
         Command::Tokenize { .. } => {
             let Some(asked) = c.token_request() else {
                 unreachable!()

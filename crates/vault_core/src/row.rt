@@ -1,11 +1,12 @@
 //! The rows of a vault.
 ghost use Rattle.std.specs.Prelude.{◌≡◌};
-ghost use Rattle.vault_core.specs.Vault.{state_of};
+ghost use Rattle.vault_core.specs.Vault.{lasts, state_of};
 
 use crate::moment::Moment;
 use crate::name::MerchantId;
 use crate::reply::State;
 use crate::usage::Use;
+use vault_pan::lead::Lead;
 use vault_pan::pan::Pan;
 use vault_pan::token::Token;
 
@@ -16,6 +17,8 @@ pub struct MerchantRow {
     pub single_life: u64,
     /// How many seconds a multi-use token lives; 0 where they aren't offered.
     pub multi_life: u64,
+    /// How many digits its masks show at the left, at most.
+    pub lead: Lead,
     /// The greatest moment of the commands that changed something of the merchant.
     pub moment: Moment,
     pub made: u64,
@@ -60,6 +63,25 @@ impl Entry {
             State::Expired
         };
         EntryState::Kept { number, state }
+    }
+}
+
+/// A right that a caller has at a merchant: up to an end, or for good.
+#[derive(Clone, Copy, Debug, PartialEq, Eq)]
+pub struct GrantRow {
+    /// The first moment at which the caller doesn't have it any more.
+    pub ends: Option<Moment>,
+}
+
+impl GrantRow {
+    /// Whether the caller has it at a moment.
+    pub fn lasts(&self, at: Moment) -> bool
+        ensures { result ≡ lasts self.now at }
+    {
+        match self.ends {
+            Some(end) => at.seconds() < end.seconds(),
+            None => true,
+        }
     }
 }
 

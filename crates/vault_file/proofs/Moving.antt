@@ -16,13 +16,17 @@ use Rattle.vault_file.proofs.Opening.{no_verdict}
 use Rattle.vault_file.specs.Found.{IsNoVerdict}
 use Rattle.vault_file.specs.Moved.{LeavesOld, MovesFrom}
 use Rattle.vault_file.specs.declared.fault.NotOpened.TheVariants.{Fault}
-use Rattle.vault_file.proofs.Reopened.{older_again, step_again}
-use Rattle.vault_migrate.specs.Judged.{IsOlds}
-use Rattle.vault_migrate.specs.Moved.{IsMovable, LeavesOlder}
-use Rattle.vault_migrate.specs.Older.{HoldsOlder, LeavesStep}
-use Rattle.vault_file.specs.Reopened.{KeepsOlder}
-use Rattle.vault_recover.specs.Crashed.{AreBlank, HoldsFirst, IsOpenOf, Keeps, KeepsFirst}
-use Rattle.vault_verdict.specs.Opened.{HoldsSound, IsNoRefusal}
+use Rattle.vault_file.proofs.Reopened.{in_again, some_again}
+use Rattle.vault_migrate.specs.Moved.{HoldsSoundIn, IsMovable, IsOlder, LeavesIn, LeavesSome}
+use Rattle.vault_file.specs.Reopened.{KeepsIn}
+use Rattle.vault_recover.specs.Crashed.{AreBlank, HoldsFirst, IsOpenOf, KeepsFirst}
+use Rattle.vault_schema.proofs.Newest.{held_by_newest, held_in_newest}
+use Rattle.vault_schema.specs.Holds.{HoldsIn}
+use Rattle.vault_schema.specs.Stands.{newest}
+use Rattle.vault_schema.specs.declared.version.Version.{Version}
+use Rattle.vault_verdict.specs.Opened.{IsFit, IsNoRefusal}
+use Rattle.vault_verdict.specs.ReadAs.{IsFullIn}
+use Rattle.sqlite.specs.Effect.{Database}
 use Rattle.vault_verdict.specs.declared.fault.OpenFault.{OpenFault}
 use Rattle.vault_verdict.specs.declared.fault.OpenFault.TheVariants.{Store}
 use Rattle.vault_schema.specs.Holds.{Holds}
@@ -36,50 +40,68 @@ module _ {D : Type 0} {g : Ghosts D} (image : Image) (first last : Held (FileSto
   pub was_clean : HasCleanDisk (file_state last) → HasCleanDisk (file_state first)
   was_clean clean = omega (arith, quiet, clean)
 
-  older_found : HasCleanDisk (file_state last) → (V : Vault) → KeepsOlder image V
-      → HoldsOlder (file_state first) V
-  older_found clean = older_again image first (found (was_clean clean)) unlimited
+  found_in : HasCleanDisk (file_state last) → (v : Version) (V : Vault) → KeepsIn v image V
+      → HoldsIn v V (file_state first)
+  found_in clean = in_again image first (found (was_clean clean)) unlimited
 
   -- a migration that is done
-  pub moves_from : (HasCleanDisk (file_state last)
-      → (V : Vault) → HoldsOlder (file_state first) V → Holds (file_state last) V)
-      → (HasCleanDisk (file_state last) → (V : Vault) → Holds (file_state first) V
-      → Holds (file_state last) V)
-      → (HasCleanDisk (file_state last) → IsReady (file_state first)
-      → (file_state first).now.schema ≡ no_schema
-      → Holds (file_state last) empty_vault)
-      → (HasCleanDisk (file_state last) → IsOlds (file_state first).now → HoldsSound (file_state last))
-      → (HasCleanDisk (file_state first) → (V : Vault) → Keeps image V → Holds (file_state first) V)
-      → (HasCleanDisk (file_state first) → (before : Trees) → AreBlank before → KeepsFirst image before
-      → HoldsFirst (file_state first) before) → MovesFrom image last
-  moves_from moved kept blank sound again one = record {
-    first = first;
-    found = found;
-    older = λ clean V keeps. moved clean V (older_found clean V keeps);
-    newest = λ clean V keeps. kept clean V (again (was_clean clean) V keeps);
-    stopped = λ clean V keeps.
-        ∥∥₁_map (step_again image first (found (was_clean clean)) unlimited V keeps) (λ held. elim held
-        [ inl old ↦ moved clean V old | inr ours ↦ kept clean V ours ]);
-    blank = λ clean before none keeps. ∥∥₁_map (one (was_clean clean) before none keeps) (λ held. elim held
-        [ inl is ↦ blank clean is.ready is.schema | inr ours ↦ kept clean empty_vault ours ]);
-    sound = sound;
-  }
+  module _ (moved : HasCleanDisk (file_state last)
+      → (v : Version) (V : Vault) → HoldsIn v V (file_state first) → HoldsIn newest V (file_state last)) where
+    pub moves_on : HasCleanDisk (file_state last) → (v : Version) (V : Vault) → HoldsIn v V (file_state first)
+        → Holds (file_state last) V
+    moves_on clean v V held = held_by_newest V (file_state last) (moved clean v V held)
+
+    pub moves_from : (HasCleanDisk (file_state last) → IsReady (file_state first)
+        → (file_state first).now.schema ≡ no_schema
+        → Holds (file_state last) empty_vault)
+        → (HasCleanDisk (file_state last) → (v : Version) → IsOlder v → IsFullIn v (file_state first).now
+        → HoldsSoundIn newest (file_state last))
+        → (HasCleanDisk (file_state first) → (before : Trees) → AreBlank before → KeepsFirst image before
+        → HoldsFirst (file_state first) before) → MovesFrom image last
+    moves_from blank sound one = record {
+      first = first;
+      found = found;
+      moved = λ clean v V keeps. moves_on clean v V (found_in clean v V keeps);
+      stopped = λ clean V keeps.
+          ∥∥₁_map (some_again image first (found (was_clean clean)) unlimited V keeps)
+          (λ held. moves_on clean held.0 V held.1);
+      blank = λ clean before none keeps.
+          ∥∥₁_map (one (was_clean clean) before none keeps) (λ held. elim held [
+            | inl is ↦ blank clean is.ready is.schema
+            | inr ours ↦ moves_on clean newest empty_vault
+                (held_in_newest empty_vault (file_state first) ours)
+          ]);
+      sound = sound;
+    }
 
   -- and one that is refused
   module _ (e : OpenFault) where
     pub leaves_old : (HasCleanDisk (file_state last)
-        → (V : Vault) → HoldsOlder (file_state first) V → LeavesStep (file_state last) V)
+        → (v : Version) (V : Vault) → HoldsIn v V (file_state first) → LeavesSome V (file_state last))
         → (HasCleanDisk (file_state last) → e ≢ Store
-        → (V : Vault) → HoldsOlder (file_state first) V → LeavesOlder (file_state last) V)
+        → (v : Version) (V : Vault) → HoldsIn v V (file_state first) → LeavesIn v V (file_state last))
         → LeavesOld image (Fault e) last
-    leaves_old step stays = record {
-      step = λ clean V keeps. step clean V (older_found clean V keeps);
-      stays = λ clean other V keeps.
-          stays clean (λ same. other (ap (λ fault. Fault fault) same)) V (older_found clean V keeps);
+    leaves_old some stays = record {
+      some = λ clean v V keeps. some clean v V (found_in clean v V keeps);
+      stays = λ clean other v V keeps.
+          stays clean (λ same. other (ap (λ fault. Fault fault) same)) v V (found_in clean v V keeps);
     }
 
-    pub never_older : (HasCleanDisk (file_state last) → IsMovable (file_state first).now → IsNoRefusal e)
-        → HasCleanDisk (file_state last) → (V : Vault) → Sound V → KeepsOlder image V → IsNoVerdict (Fault e)
-    never_older never clean V sound keeps =
-        let held = older_found clean V keeps in
-        no_verdict e (never clean (inl (record { vault = V; sound = sound; stands = held.stands })))
+    pub never_in : (HasCleanDisk (file_state last) → IsMovable (file_state first).now → IsNoRefusal e)
+        → HasCleanDisk (file_state last) → (v : Version) (V : Vault) → Sound V → KeepsIn v image V
+        → IsNoVerdict (Fault e)
+    never_in never clean v V sound keeps =
+        let held = found_in clean v V keeps in
+        no_verdict e (never clean (inl (
+          v,
+          record {
+            schema = held.is.schema;
+            vault = V;
+            sound = sound;
+            stand = held.is.stand;
+          },
+        )))
+
+-- a database that is fit can be moved
+pub movable : (db : Database) → IsFit db → IsMovable db
+movable db fit = elim fit [ inl it ↦ inl (newest, it) | inr blank ↦ inr blank ]

@@ -21,7 +21,9 @@ use Rattle.vault_recover.specs.Crashed.{Keeps, KeepsEither, KeepsFirst}
 use Rattle.vault_verdict.specs.Opened.{IsFit, IsNoRefusal, Opens, StandsSound}
 use Rattle.vault_verdict.specs.declared.fault.OpenFault.{OpenFault}
 use Rattle.vault_verdict.specs.declared.fault.OpenFault.TheVariants.{WrongSchema, Damaged, Memory, Store}
-use Rattle.vault_verdict.proofs.Judged.{ours_of}
+use Rattle.vault_schema.proofs.Newest.{held_in_newest}
+use Rattle.vault_schema.specs.Stands.{newest}
+use Rattle.vault_verdict.proofs.Judged.{full_in}
 use Rattle.vault_schema.specs.Holds.{Holds}
 use Rattle.sql_maps.specs.Schema.{no_schema}
 use Rattle.vault_schema.specs.Stands.{Stands}
@@ -47,7 +49,13 @@ same_fault e f same = ap fault_in same
 
 -- what holds a sound vault stands for it
 stands_sound : (s : State) (V : Vault) → Sound V → Holds s V → StandsSound s.now
-stands_sound s V sound held = record { schema = held.schema; vault = V; sound = sound; stands = held.stands }
+stands_sound s V sound held = record {
+  schema = held.schema;
+  vault = V;
+  sound = sound;
+  stand =
+      (held_in_newest V s held).is.stand;
+}
 
 -- what isn't changed holds the vault still
 pub still_held : (old new : State) → IsUnchanged old new → new.step_limit ≡ old.step_limit
@@ -88,7 +96,7 @@ module _ {D : Type 0} {g : Ghosts D} (image : Image) (first : Held (FileStore D 
     opens_from conn either one opens =
         let on : HasCleanDisk (file_state conn) → (V : Vault) → Sound V → Holds (file_state first) V
         → Holds (file_state conn) V = λ clean V sound held.
-        let ours = ours_of (file_state first).now (stands_sound (file_state first) V sound held) in
+        let ours = full_in newest (file_state first).now (stands_sound (file_state first) V sound held) in
         (opens clean).same ours V held.stands in
         record {
           first = first;

@@ -1,27 +1,28 @@
 -- What a crash in the midst of a migration leaves of the files, and what the next open finds in them.
-use Rattle.std.specs.Prelude.{◌⊎◌}
 use Rattle.sqlite.specs.State.{State}
 use Rattle.sqlite.specs.Tree.{Trees}
 use Rattle.sqlite_disk.specs.declared.Disk.{Ghosts}
 use Rattle.sqlite_store.specs.declared.store.FileStore.{FileStore}
 use Rattle.sqlite_wal.specs.Recovery.{Image}
 use Rattle.vault_core.specs.Vault.{Vault}
-use Rattle.vault_migrate.specs.Older.{AreOlder, AreStep, HoldsOlder}
 use Rattle.vault_recover.specs.Crashed.{KeepsSuch, MayFind, ReopensSuch}
-use Rattle.vault_schema.specs.Holds.{Holds}
+use Rattle.vault_schema.specs.Holds.{AreIn, HoldsIn}
+use Rattle.vault_schema.specs.Stands.{lookups_of}
+use Rattle.vault_schema.specs.declared.version.Version.{Version}
+use Rattle.vault_steps.specs.Entries.{AreSome}
 
--- whoever opens files with these bytes, on whatever disk, finds the vault in schema 1
-abbrev pub KeepsOlder : Image → Vault → Type 0
-KeepsOlder image V = (found : Trees) → MayFind image found → AreOlder found V
+-- whoever opens files with these bytes, on whatever disk, finds the vault in this version
+abbrev pub KeepsIn : Version → Image → Vault → Type 0
+KeepsIn v image V = (found : Trees) → MayFind image found → AreIn v V found
 
--- whoever opens them finds the vault, in schema 1 or in this one
-abbrev pub KeepsStep : Image → Vault → Type 0
-KeepsStep image V = KeepsSuch image (AreStep V)
+-- whoever opens them finds the vault in some version
+abbrev pub KeepsSome : Image → Vault → Type 0
+KeepsSome image V = KeepsSuch image (AreSome (lookups_of V))
 
--- the connection holds the vault, in schema 1 or in this one
-abbrev pub HoldsStep : State → Vault → Type 0
-HoldsStep s V = ∥ (HoldsOlder s V ⊎ Holds s V) ∥₁
+-- the connection holds the vault in some version
+abbrev pub HoldsSome : State → Vault → Type 0
+HoldsSome s V = ∥ ((v : Version) × HoldsIn v V s) ∥₁
 
--- whatever bytes a crash may leave of the files now, they keep the vault, in schema 1 or in this one
-abbrev pub ReopensStep : {D : Type 0} {g : Ghosts D} → FileStore D g → Vault → Type 0
-ReopensStep it V = ReopensSuch it (AreStep V)
+-- whatever bytes a crash may leave of the files now, they keep the vault in some version
+abbrev pub ReopensSome : {D : Type 0} {g : Ghosts D} → FileStore D g → Vault → Type 0
+ReopensSome it V = ReopensSuch it (AreSome (lookups_of V))

@@ -7,22 +7,23 @@ ghost use Rattle.vault_core.specs.Sound.{Sound};
 ghost use Rattle.vault_core.specs.Vault.{Vault as Content};
 ghost use Rattle.vault_file.specs.Found.{HoldsSuch, IsNoPath, IsNoVerdict, LeavesFrom};
 ghost use Rattle.vault_file.specs.Moved.{LeavesOld, MovesFrom};
-ghost use Rattle.vault_file.specs.Reopened.{KeepsOlder};
+ghost use Rattle.vault_file.specs.Reopened.{KeepsIn};
 ghost use Rattle.vault_migrate.specs.Moved.{FindsBroken, FindsVersion};
 ghost use Rattle.vault_recover.specs.Crashed.{Keeps};
+ghost use Rattle.vault_schema.specs.declared.version.Version.{Version};
 
 use crate::fault::NotOpened;
 use crate::make::open_private;
 use crate::reopen::close_moved;
 use sqlite::{Connection, FileFrom, FileStore, Start, Unknown};
-use vault_migrate::migrate::migrate;
+use vault_migrate::migrate::migrate_all;
 use vault_verdict::fault::OpenFault;
 
-/// Moves the file at a path to the newest schema, and answers its version, 2. The connection is given back,
+/// Moves the file at a path to the newest schema, and answers its version, 4. The connection is given back,
 /// and with a refusal where there is one. The file keeps its mode; one that isn't there is made, as
 /// `open_from` makes it, and gets the tables of the empty vault.
 ///
-/// Refused by 30 to 33 as `vault_migrate::migrate` refuses, by 34 as `open_from` refuses.
+/// Refused by 30 to 33 as `vault_migrate::migrate_all` refuses, by 34 as `open_from` refuses.
 pub fn migrate_from<S: Start>(
     rt: &HostRuntime,
     path: &str,
@@ -32,7 +33,7 @@ pub fn migrate_from<S: Start>(
     (NotOpened, Option<Connection<FileStore<FileFrom<S>>>>),
 >
     ensures no_path { IsNoPath path.now → IsErrAnd result (λ e. e.0 ≡ NotOpened.Refused) }
-    ensures version { IfOk result (λ told. told.0 ≡ pos 2) }
+    ensures version { IfOk result (λ told. told.0 ≡ pos 4) }
     ensures moved { IfOk result (λ told. MovesFrom (image_at S.Start) told.1) }
     ensures refused { IfErr result (λ e. (e.0 ≡ NotOpened.Refused) ↔ (e.1 ≡ None)) }
     ensures damaged { IfErr result (λ e. IfSome e.1 (λ conn. HasCleanDisk (file_state conn)
@@ -41,17 +42,17 @@ pub fn migrate_from<S: Start>(
     ensures wrong { IfErr result (λ e. IfSome e.1 (λ conn. HasCleanDisk (file_state conn)
         → (n : ℤ) → e.0 ≡ NotOpened.Fault (OpenFault.WrongSchema n)
         → HoldsSuch (image_at S.Start) (λ db. FindsVersion db n))) }
-    ensures never_older { IfErr result (λ e. IfSome e.1 (λ conn. HasCleanDisk (file_state conn)
-        → (V : Content) → Sound V → KeepsOlder (image_at S.Start) V → IsNoVerdict e.0)) }
+    ensures never_in { IfErr result (λ e. IfSome e.1 (λ conn. HasCleanDisk (file_state conn)
+        → (v : Version) (V : Content) → Sound V → KeepsIn v (image_at S.Start) V → IsNoVerdict e.0)) }
     ensures never { IfErr result (λ e. IfSome e.1 (λ conn. HasCleanDisk (file_state conn)
         → (V : Content) → Sound V → Keeps (image_at S.Start) V → IsNoVerdict e.0)) }
     ensures left { IfErr result (λ e. IfSome e.1 (LeavesFrom (image_at S.Start))) }
-    ensures left_older { IfErr result (λ e. IfSome e.1 (LeavesOld (image_at S.Start) e.0)) }
+    ensures left_old { IfErr result (λ e. IfSome e.1 (LeavesOld (image_at S.Start) e.0)) }
 {
     let Some(mut conn) = open_private(rt, path, start) else {
         return Err((NotOpened::Refused, None));
     };
-    match migrate(rt.alloc(), &mut conn) {
+    match migrate_all(rt.alloc(), &mut conn) {
         Ok(version) => Ok((version, conn)),
         Err(fault) => Err((NotOpened::Fault(fault), Some(conn))),
     }
@@ -60,7 +61,7 @@ pub fn migrate_from<S: Start>(
 /// Moves the file at a path to the newest schema, as `migrate_from` does over a file that holds what it may.
 pub fn migrate_file(rt: &HostRuntime, path: &str) -> Result<i64, NotOpened>
     ensures no_path { IsNoPath path.now → result ≡ Err NotOpened.Refused }
-    ensures version { IfOk result (λ version. version ≡ pos 2) }
+    ensures version { IfOk result (λ version. version ≡ pos 4) }
 {
     match migrate_from(rt, path, Unknown) {
         Ok(told) => {

@@ -4,20 +4,20 @@ ghost use Rattle.sqlite.specs.Files.{file_state};
 ghost use Rattle.sqlite.specs.View.{IsClean, doubt};
 ghost use Rattle.sqlite_store.specs.FileStore.{view};
 ghost use Rattle.vault_core.specs.Vault.{Vault};
-ghost use Rattle.vault_migrate.specs.Older.{LeavesStep};
-ghost use Rattle.vault_file.specs.Reopened.{ReopensStep};
+ghost use Rattle.vault_migrate.specs.Moved.{LeavesSome};
+ghost use Rattle.vault_file.specs.Reopened.{ReopensSome};
 
 use sqlite::{Connection, FileStore};
 use sqlite_disk::Disk;
 
 /// Ends a connection after a migration. A crash at the moment of the call, or after it, leaves files in which
-/// whoever opens them finds the vault that was there, in schema 1 or in the newest one.
+/// whoever opens them finds the vault that was there, in some version on its way.
 pub fn close_moved<D: Disk + Drop>(conn: Connection<FileStore<D>>) -> FileStore<D>
     ensures clean { doubt (file_state conn).is_clean ≤ doubt (view result).is_clean }
-    ensures step { IsClean (view result)
-        → (V : Vault) → LeavesStep (file_state conn) V → ReopensStep conn.store V }
-    ensures step_after { IsClean (view result)
-        → (V : Vault) → LeavesStep (file_state conn) V → ReopensStep result V }
+    ensures some { IsClean (view result)
+        → (V : Vault) → LeavesSome V (file_state conn) → ReopensSome conn.store V }
+    ensures some_after { IsClean (view result)
+        → (V : Vault) → LeavesSome V (file_state conn) → ReopensSome result V }
 {
     conn.into_store()
 }

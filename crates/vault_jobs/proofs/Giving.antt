@@ -40,9 +40,10 @@ run_more (d ∷ cs) c V = run_more cs c (after V d)
 
 -- the grants up to a row are those before it and its own
 pub grants_more : (now : ℕ) (rows : List Row) (i : ℕ) (row : Row) → row ≡ get_or rows i row → i < length rows
-    → take (i + 1) (grants_at now rows) ≡ take i (grants_at now rows) ++ Grant row.0 row.1 row.2 now ∷ []
+    → take (i + 1) (grants_at now rows)
+    ≡ take i (grants_at now rows) ++ Grant row.0 row.1 row.2 row.3 now ∷ []
 grants_more now rows i row is below =
-    let f : Row → Command = λ r. Grant r.0 r.1 r.2 now in
+    let f : Row → Command = λ r. Grant r.0 r.1 r.2 r.3 now in
     take-map f (i + 1) rows ∙ ap (λ rs. map f rs) (take_more rows i row below)
     ∙ ap (λ r. map f (take i rows ++ r ∷ [])) (sym is)
     ∙ map-append f (take i rows) (row ∷ []) ∙ ap (λ cs. cs ++ f row ∷ []) (sym (take-map f i rows))
@@ -56,19 +57,20 @@ unbroken false x e only = refl
 -- there is a grant for each row
 pub grants_below : (now : ℕ) (rows : List Row) (i : ℕ) → i < length rows → i < length (grants_at now rows)
 grants_below now rows i below =
-    subst (λ n. i < n) (sym (length-map rows (λ (r : Row). Grant r.0 r.1 r.2 now))) below
+    subst (λ n. i < n) (sym (length-map rows (λ (r : Row). Grant r.0 r.1 r.2 r.3 now))) below
 
 -- a right is given, or refused
-pub granted_or_refused : (caller m : List ℕ) (right : Right) (now : ℕ) (V : Content)
-    → (v : Verdict) × (reply V (Grant caller m right now) ≡ reply_of v)
-granted_or_refused caller m right now V =
+pub granted_or_refused : (caller m : List ℕ) (right : Right) (until : Option ℕ) (now : ℕ) (V : Content)
+    → (v : Verdict) × (reply V (Grant caller m right until now) ≡ reply_of v)
+granted_or_refused caller m right until now V =
     by_merchant (merchant_at V m) refl
   where
     answered : Option Merchant → Reply
-    answered found = (option_map_or (granting V caller m right now) found (plain_refusal V no_merchant)).reply
+    answered found =
+        (option_map_or (granting V caller m right until now) found (plain_refusal V no_merchant)).reply
 
     by_merchant : (found : Option Merchant) → merchant_at V m ≡ found
-        → (v : Verdict) × (reply V (Grant caller m right now) ≡ reply_of v)
+        → (v : Verdict) × (reply V (Grant caller m right until now) ≡ reply_of v)
     by_merchant None is = (Refused no_merchant, ap answered is)
     by_merchant (Some merchant) is = (Done, ap answered is)
 

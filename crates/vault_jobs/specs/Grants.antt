@@ -13,9 +13,9 @@ use Rattle.vault_store.specs.declared.vault.Fault.TheVariants.{Memory, Store, Re
 use Rattle.vault_jobs.specs.declared.change.Verdict.{Verdict}
 use Rattle.vault_jobs.specs.declared.change.Verdict.TheVariants.{Done, Refused}
 
--- the commands that give rights at a moment, in their order
+-- the commands that give rights at a moment, each with its end, in their order
 abbrev pub grants_at : ℕ → List Row → List Command
-grants_at now rows = map (λ row. Grant row.0 row.1 row.2 now) rows
+grants_at now rows = map (λ row. Grant row.0 row.1 row.2 row.3 now) rows
 
 -- the first so many of the commands are done
 abbrev pub AreDone : ℕ → List Command → Content → Type 0

@@ -2,6 +2,7 @@
 use Rattle.std.specs.Prelude.{◌≡◌, ℕ, List, [], ◌∷◌, ◌++◌, length, map, take, All, false}
 use Rattle.std.specs.Prelude.{Option, Some, None}
 use Rattle.std.specs.Io.KnownBytes.{Appends, Consumes, IsAtEnd}
+use Rattle.vault_pan.specs.declared.lead.Lead.TheVariants.{Six}
 use Rattle.vault_core.specs.Table.{after}
 use Rattle.vault_core.specs.Vault.{Vault as Content, empty_vault}
 use Rattle.vault_core.specs.declared.command.Command.{Command}
@@ -30,15 +31,15 @@ abbrev pub left_by_all : Content → List Command → Content
 left_by_all V [] = V
 left_by_all V (c ∷ cs) = left_by_all (left_by V c) cs
 
--- the grants of rights to a caller at a merchant
+-- the grants of rights without an end to a caller at a merchant
 abbrev pub grants : List ℕ → List ℕ → ℕ → List Right → List Command
-grants caller m now rights = map (λ right. Grant caller m right now) rights
+grants caller m now rights = map (λ right. Grant caller m right None now) rights
 
--- one merchant with this life of single-use tokens and without multi-use ones, where the caller has all
--- rights
+-- one merchant with this life of single-use tokens and without multi-use ones, whose masks show six digits
+-- at the left, where the caller has all rights
 abbrev pub trial_vault : List ℕ → List ℕ → ℕ → ℕ → Content
 trial_vault caller m life now =
-    left_by_all empty_vault (SetMerchant m life 0 now ∷ grants caller m now all_rights)
+    left_by_all empty_vault (SetMerchant m life 0 Six now ∷ grants caller m now all_rights)
 
 -- The bytes that were read are messages, and an open rest or a fault. All messages up to the first that
 -- closes are asked, each with a pair of the fixed moment and digits, where these are fixed; what went out is

@@ -13,13 +13,13 @@ use vault_core::right::Right;
 use vault_store::tables::Tables;
 use vault_store::vault::{Fault, Vault};
 
-/// Gives rights at a moment, in their order, up to the first that is refused: by 7 where the merchant isn't
-/// known. Those before it stay given.
+/// Gives rights at a moment, each with its end, in their order, up to the first that is refused: by 7 where
+/// the merchant isn't known. Those before it stay given.
 ///
 /// 20 Memory: memory was refused. 21 Store: the store failed.
 pub fn give_all<T: Tables>(
     vault: &mut Vault<T>,
-    rights: &[(Caller, MerchantId, Right)],
+    rights: &[(Caller, MerchantId, Right, Option<Moment>)],
     now: Moment,
 ) -> Result<Verdict, Fault>
     requires { is_broken vault.old ≡ false }
@@ -33,6 +33,7 @@ pub fn give_all<T: Tables>(
             caller: given.0,
             merchant: given.1,
             right: given.2,
+            until: given.3,
             now,
         };
         match change(vault, &grant) {

@@ -39,7 +39,7 @@ pub enum Task<'a> {
     /// Carries out one command.
     Change(Command),
     /// Gives rights at a moment, to the first that is refused.
-    Give(&'a [(Caller, MerchantId, Right)], Moment),
+    Give(&'a [(Caller, MerchantId, Right, Option<Moment>)], Moment),
     /// Purges the numbers of a merchant's dead tokens at a moment, until none is left or one is refused.
     Sweep(Asker, Moment),
     /// Answers the rows of the input, with this moment and these digits, where they are fixed.
@@ -90,7 +90,7 @@ fn do_change<W: Write, T: Tables>(
 /// Gives rights, and says how many.
 fn do_give<W: Write, T: Tables>(
     vault: &mut Vault<T>,
-    rights: &[(Caller, MerchantId, Right)],
+    rights: &[(Caller, MerchantId, Right, Option<Moment>)],
     now: Moment,
     output: &mut Watched<W>,
 ) -> Result<Outcome, Stop>

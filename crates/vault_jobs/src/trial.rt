@@ -1,5 +1,5 @@
 //! A vault in memory that answers the messages of an input.
-ghost use Rattle.std.specs.Prelude.{◌≡◌, false, Err, IfErr, IfOk, OnErr, OnOk};
+ghost use Rattle.std.specs.Prelude.{◌≡◌, None, false, Err, IfErr, IfOk, OnErr, OnOk};
 ghost use Rattle.vault_core.specs.Proper.{HasLivesInRange};
 ghost use Rattle.vault_core.specs.Scalar.{IsLife};
 ghost use Rattle.vault_core.specs.Vault.{Vault as Content};
@@ -21,6 +21,7 @@ use vault_core::name::{Caller, MerchantId};
 use vault_core::right::Right;
 use vault_http::fault::ServeFault;
 use vault_pan::draw::Digits;
+use vault_pan::lead::Lead;
 use vault_store::memory::MemTables;
 use vault_store::vault::{Fault, Vault};
 use vault_wire::watched::Watched;
@@ -57,7 +58,8 @@ fn change(vault: &mut Vault<MemTables>, command: &Command) -> Result<(), AllocEr
     }
 }
 
-/// The vault of a trial: its merchant is set and its caller gets all rights.
+/// The vault of a trial: its merchant is set, with masks of six digits at the left, and its caller gets all
+/// rights for good.
 pub fn trial_vault(alloc: Global, trial: &Trial) -> Result<Vault<MemTables>, AllocError>
     requires { IsLife trial.now.life }
     ensures holds { IfOk result (λ vault. Contains IsHeld vault
@@ -69,6 +71,7 @@ pub fn trial_vault(alloc: Global, trial: &Trial) -> Result<Vault<MemTables>, All
         merchant: trial.merchant,
         single_life: trial.life,
         multi_life: 0,
+        lead: Lead::Six,
         now: trial.made,
     };
     change(&mut vault, &set)?;
@@ -81,18 +84,19 @@ pub fn trial_vault(alloc: Global, trial: &Trial) -> Result<Vault<MemTables>, All
     Ok(vault)
 }
 
-/// Gives the caller of the trial a right at its merchant.
+/// Gives the caller of the trial a right at its merchant, for good.
 fn give(vault: &mut Vault<MemTables>, trial: &Trial, right: Right) -> Result<(), AllocError>
     requires { is_broken vault.old ≡ false }
     ensures given { OnOk result ((V : Content) → Contains IsHeld vault.old V
         → Contains IsHeld vault.new
-        (left_by V (Command.Grant trial.now.caller trial.now.merchant right trial.now.made))) }
+        (left_by V (Command.Grant trial.now.caller trial.now.merchant right None trial.now.made))) }
     ensures unbroken { is_broken vault.new ≡ false }
 {
     let grant = Command::Grant {
         caller: trial.caller,
         merchant: trial.merchant,
         right,
+        until: None,
         now: trial.made,
     };
     change(vault, &grant)

@@ -1,9 +1,4 @@
-mod Apart
-mod Entries
-mod Judging
-mod More
-mod Moving
-mod OldRows
-mod OldShows
-mod OldStands
-mod OneOlder
+pub mod Entries
+pub mod More
+pub mod Moving
+pub mod OneVault

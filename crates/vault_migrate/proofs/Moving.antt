@@ -1,124 +1,231 @@
 -- What a move comes to.
-use Rattle.std.proofs.Common.{◌≡◌, ◌⊎◌, ◌∙◌, List, length, map, ap, arith, inl, inr, not, sym, subst, false}
-use Rattle.std.proofs.Common.{Bool, None, IsTrue, Result, Ok}
-use Rattle.std.proofs.Common.{Err, IfErr, IsErrAnd}
-use Rattle.sqlite.specs.Effect.{Database}
+use Rattle.std.proofs.Common.{Ok, Err, ◌≡◌, ◌⊎◌, ◌∙◌, ap, inl, inr, length, not, refl, sym, subst, false}
+use Rattle.std.proofs.Common.{Bool, None, IsTrue, Result, IfErr, arith, ℕ, ℤ}
+use Rattle.sqlite.specs.Effect.{Database, IsDatabase}
 use Rattle.sqlite.specs.Schema.{Schema}
 use Rattle.sqlite.specs.State.{State, HasCleanDisk, IsUnchanged}
 use Rattle.sqlite.specs.Tree.{Trees}
-use Rattle.sql_maps.proofs.Calls.{holds_on}
 use Rattle.sql_maps.specs.Schema.{no_schema}
 use Rattle.sql_maps.specs.States.{LeavesNoMore}
-use Rattle.vault_core.specs.Keys.{Bytes}
 use Rattle.vault_core.specs.Vault.{Vault}
-use Rattle.vault_core.specs.declared.row.Entry.{Entry}
-use Rattle.vault_migrate.proofs.Entries.{are_entries, old_full}
-use Rattle.vault_migrate.specs.Judged.{AreOlders, IsOlds}
-use Rattle.vault_migrate.specs.Made.{old_columns, typed_columns}
-use Rattle.vault_migrate.specs.Moved.{IsMovable, LeavesOlder, StandsOld}
-use Rattle.vault_migrate.specs.Older.{AreStep, HoldsOlder, LeavesStep}
-use Rattle.vault_schema.proofs.Lifted.{are_first, are_second, held_in_first, lifted}
+use Rattle.vault_migrate.specs.Moved.{FindsBroken, FindsVersion, IsMovable, IsNoOlder, IsOlder}
+use Rattle.vault_migrate.specs.Moved.{LeavesIn, LeavesSome, LeavesStep}
+use Rattle.vault_schema.proofs.Newest.{held_by_newest, ours_in_newest}
 use Rattle.vault_schema.proofs.Versions.{last_commit}
-use Rattle.vault_verdict.proofs.Results.{if_err}
-use Rattle.vault_verdict.proofs.Versioned.{has_version}
-use Rattle.vault_verdict.specs.Opened.{IsFit, IsNoRefusal, LeavesFound}
-use Rattle.vault_verdict.specs.Reading.{IsQuietWhere}
-use Rattle.vault_verdict.specs.declared.fault.OpenFault.{OpenFault}
-use Rattle.vault_verdict.specs.declared.replaced.OldEntry.{OldEntry}
-use Rattle.vault_schema.specs.Version1.Claims.{claims}
-use Rattle.vault_schema.specs.Version1.Tables.{v1}
-use Rattle.vault_schema.specs.Versioned.{HasVersion}
-use Rattle.vault_schema.specs.Holds.{Holds}
+use Rattle.vault_schema.specs.Holds.{Holds, HoldsIn, LeavesEither}
 use Rattle.vault_schema.specs.Left.{left_after}
 use Rattle.vault_schema.specs.Schema.{newest_schema}
-use Rattle.vault_schema.specs.Stands.{lookups_of}
-use Rattle.vault_schema.specs.Versions.{AreOf}
-use Rattle.vault_schema.specs.declared.version.Version.TheVariants.{One, Two}
-use Rattle.vault_steps.specs.Entries.{AreEntriesOf}
+use Rattle.vault_schema.specs.Stands.{lookups_of, newest}
+use Rattle.vault_schema.specs.Versioned.{HasVersion}
+use Rattle.vault_schema.specs.Versions.{IsOf, number_of, schema_of}
+use Rattle.vault_schema.specs.declared.version.Version.{Version}
+use Rattle.vault_schema.specs.declared.version.Version.TheVariants.{One, Two, Three, Four}
+use Rattle.vault_verdict.proofs.InVersion.{has_version_in}
+use Rattle.vault_verdict.proofs.Judged.{full_of, no_refusal_in}
+use Rattle.vault_verdict.proofs.Results.{if_err}
+use Rattle.vault_verdict.specs.Opened.{IsBrokenIn, IsFit, IsLeastBroken, IsNoRefusal, IsVersionIn, IsWrong}
+use Rattle.vault_verdict.specs.Opened.{LeavesFound, StandsSoundIn}
+use Rattle.vault_verdict.specs.ReadAs.{IsFullIn}
+use Rattle.vault_verdict.specs.Reading.{IsFull, IsQuietWhere}
+use Rattle.vault_verdict.specs.declared.fault.OpenFault.{OpenFault}
+use Rattle.vault_verdict.specs.declared.fault.OpenFault.TheVariants.{WrongSchema, Damaged}
 
--- the schemas differ in how many tables they have
-one_length : v1 ≡ newest_schema → ⊥
-one_length same = let many = ap (λ (s : Schema). length s.tables) same in omega (arith, many)
+-- ---- the schemas differ in how many tables they have
 
-no_length : v1 ≡ no_schema → ⊥
-no_length same = let many = ap (λ (s : Schema). length s.tables) same in omega (arith, many)
+many : (s t : Schema) → s ≡ t → length s.tables ≡ length t.tables
+many s t same = ap (λ (x : Schema). length x.tables) same
 
--- a vault that is held in schema 1 has full rows of entries
-pub olds_of : (st : State) (V : Vault) → HoldsOlder st V → IsOlds st.now
-olds_of st V h = record { schema = h.stands.schema; full = old_full st.now V h.stands.rows }
+-- a schema is that of one version
+pub one_version : (v w : Version) → schema_of v ≡ schema_of w → v ≡ w
+one_version One One same = refl
+one_version One Two same = let e = many _ _ same in absurd (omega (arith, e))
+one_version One Three same = let e = many _ _ same in absurd (omega (arith, e))
+one_version One Four same = let e = many _ _ same in absurd (omega (arith, e))
+one_version Two One same = let e = many _ _ same in absurd (omega (arith, e))
+one_version Two Two same = refl
+one_version Two Three same = let e = many _ _ same in absurd (omega (arith, e))
+one_version Two Four same = let e = many _ _ same in absurd (omega (arith, e))
+one_version Three One same = let e = many _ _ same in absurd (omega (arith, e))
+one_version Three Two same = let e = many _ _ same in absurd (omega (arith, e))
+one_version Three Three same = refl
+one_version Three Four same = let e = many _ _ same in absurd (omega (arith, e))
+one_version Four One same = let e = many _ _ same in absurd (omega (arith, e))
+one_version Four Two same = let e = many _ _ same in absurd (omega (arith, e))
+one_version Four Three same = let e = many _ _ same in absurd (omega (arith, e))
+one_version Four Four same = refl
 
--- where only the last commit may be left, what leaves no more leaves the vault in schema 1
-pub left_older : (old new : State) (V : Vault) → HoldsOlder old V
-    → ((db : Trees) → old.may_leave db → db ≡ old.committed.trees) → LeavesNoMore old new → LeavesOlder new V
-left_older old new V h alone no_more db left =
-    let last = last_commit One (lifted (lookups_of V)) old db (held_in_first V old h)
-    (alone db (no_more db left)) in
-    record { sound = last.sound; stands = are_first V db last }
+pub never_blank : (v : Version) → schema_of v ≡ no_schema → ⊥
+never_blank One same = let e = many _ _ same in absurd (omega (arith, e))
+never_blank Two same = let e = many _ _ same in absurd (omega (arith, e))
+never_blank Three same = let e = many _ _ same in absurd (omega (arith, e))
+never_blank Four same = let e = many _ _ same in absurd (omega (arith, e))
 
--- so it stands in one schema or the other
-pub left_step : (s : State) (V : Vault) → LeavesOlder s V → LeavesStep s V
-left_step s V older db left = inl (older db left)
+-- a version is older or the newest
+older_or : (v : Version) → IsOlder v ⊎ (v ≡ newest)
+older_or One = inl tt
+older_or Two = inl tt
+older_or Three = inl tt
+older_or Four = inr refl
 
--- what a step from schema 1 may leave
-pub left_of_step : (V : Vault) (db : Trees)
-    → AreOf One (lifted (lookups_of V)) db ⊎ AreOf Two (lifted (lookups_of V)) db → AreStep V db
-left_of_step V db (inl first) = inl (record { sound = first.sound; stands = are_first V db first })
-left_of_step V db (inr second) = inr (are_second V db second)
+-- an older version isn't the newest
+pub newest_older : (v : Version) → IsOlder v → v ≡ newest → ⊥
+newest_older One older same = absurd (let e = ap number_of same in cc)
+newest_older Two older same = absurd (let e = ap number_of same in cc)
+newest_older Three older same = absurd (let e = ap number_of same in cc)
+newest_older Four older same = older
 
--- a vault that is held in schema 1 stays held where nothing changed
-pub still_older : (old new : State) (V : Vault) → HoldsOlder old V → IsUnchanged old new
-    → new.step_limit ≡ old.step_limit → HoldsOlder new V
-still_older old new V h same limit = holds_on v1 (claims (lookups_of V)) old new same limit h
+pub older_schema : (v : Version) → IsOlder v → schema_of v ≡ newest_schema → ⊥
+older_schema v older same = newest_older v older (one_version v newest same)
 
--- where the rows of `entries` were read and nothing changed, the vault is held, and these are its entries
-pub moves_from : (old mid : State) (V : Vault) (olders : List OldEntry) (xs : List (Bytes × Bytes × Entry))
-    → HoldsOlder old V → (old.now.schema ≡ v1 → IsUnchanged old mid) → mid.step_limit ≡ old.step_limit
-    → (IsOlds old.now → AreOlders old.now olders) → map old_columns olders ≡ map typed_columns xs
-    → HoldsOlder mid V × AreEntriesOf xs (lifted (lookups_of V))
-moves_from old mid V olders xs h kept limit told same = (
-  still_older old mid V h (kept h.stands.schema) limit,
-  are_entries old.now V h.stands.rows olders xs (told (olds_of old V h)) same,
-)
+-- of each failure
+pub each_err : {A : Type 0} {Q : OpenFault → Type 0} (r : Result A OpenFault) → ((e : OpenFault) → Q e)
+    → IfErr r Q
+each_err (Ok a) f = tt
+each_err (Err e) f = f e
 
--- a fault that `?` passes on says the same
-pub passed_as : {A E : Type 0} (P : E → Type 0) (r : Result A E) (fault : E) → IsErrAnd r (λ e. e ≡ fault)
-    → P fault → IfErr r P
-passed_as P (Ok a) fault same p = tt
-passed_as P (Err e) fault same p = subst P (sym same) p
+-- where no older schema is there, a version that is there is the newest
+pub is_newest : (db : Database) → IsNoOlder db → (v : Version) → db.schema ≡ schema_of v → v ≡ newest
+is_newest db none v is = elim (older_or v) [ inl older ↦ absurd (none v older is) | inr same ↦ same ]
 
--- a database in schema 1 isn't one in the newest schema, nor one without a table
-pub never_fit : (db : Database) → db.schema ≡ v1 → ¬ (IsFit db)
-never_fit db older (inl it) = one_length (sym older ∙ it.schema)
-never_fit db older (inr none) = no_length (sym older ∙ none)
+pub no_older : (db : Database) (v : Version) → db.schema ≡ schema_of v → IsOlder v → IsNoOlder db → ⊥
+no_older db v is older none = none v older is
 
--- so one is refused neither way by a move, and the other by no check
-pub older_refusal : {A : Type 0} (db : Database) (r : Result A OpenFault) → db.schema ≡ v1
-    → IfErr r (λ e. StandsOld db → IsNoRefusal e) → IfErr r (λ e. IsMovable db → IsNoRefusal e)
-older_refusal db r is = if_err r (λ e never movable. elim movable
-    [ inl old ↦ never old | inr fit ↦ absurd (never_fit db is fit) ])
+-- ---- a vault that is held
 
-pub newest_refusal : {A : Type 0} (db : Database) (r : Result A OpenFault) → (db.schema ≡ v1 → ⊥)
-    → IfErr r (λ e. IsFit db → IsNoRefusal e) → IfErr r (λ e. IsMovable db → IsNoRefusal e)
-newest_refusal db r other = if_err r (λ e never movable. elim movable
-    [ inl old ↦ absurd (other old.stands.schema) | inr fit ↦ never fit ])
+-- it has full rows
+pub full_held : (v : Version) (V : Vault) (st : State) → HoldsIn v V st → IsFullIn v st.now
+full_held v V st h =
+    record { schema = h.is.schema; full = full_of v st.now.trees (lookups_of V) h.is.stand }
 
--- what a check of a store with tables leaves
+-- it stays held where nothing changed
+pub still_held : (v : Version) (V : Vault) (old new : State) → HoldsIn v V old → IsUnchanged old new
+    → new.step_limit ≡ old.step_limit → HoldsIn v V new
+still_held v V old new h same limit = record {
+  free = record { is_open = same.0.is_open; unlimited = limit ∙ h.free.unlimited };
+  autocommit = same.0.mode ∙ h.autocommit;
+  settled = same.0.now_is ∙ h.settled ∙ sym same.0.committed_is;
+  is = subst (IsOf v (lookups_of V)) (sym same.0.now_is) h.is;
+}
+
+-- where only the last commit may be left, what leaves no more leaves the vault
+pub left_in : (v : Version) (V : Vault) (old new : State) → HoldsIn v V old
+    → ((db : Trees) → old.may_leave db → db ≡ old.committed.trees) → LeavesNoMore old new → LeavesIn v V new
+left_in v V old new h alone no_more db left = last_commit v (lookups_of V) old db h
+    (alone db (no_more db left))
+
+pub left_some : (v : Version) (V : Vault) (s : State) → LeavesIn v V s → LeavesSome V s
+left_some v V s left db there = (v, left db there)
+
+pub left_step : (v : Version) (V : Vault) (s : State) → LeavesIn v V s → LeavesStep v V s
+left_step v V s left db there = inl (left db there)
+
+-- a sound vault that the database stands for is held, where nothing changed since
+pub holds_sound : (v : Version) (old new : State) (autocommit : Bool) (it : StandsSoundIn v old.now)
+    → IsDatabase old.now → autocommit ≡ not old.in_transaction → old.in_transaction ≡ false
+    → old.step_limit ≡ None
+    → (IsTrue autocommit → IsTrue old.is_open → old.now ≡ old.committed) → IsUnchanged old new
+    → HoldsIn v it.vault old
+holds_sound v old new autocommit it sound is idle unlimited settled same = record {
+  free = record { is_open = same.0.was_open; unlimited = unlimited };
+  autocommit = idle;
+  settled = settled (is ∙ ap not idle) same.0.was_open;
+  is = record { schema = it.schema; sound = sound; stand = it.stand };
+}
+
+-- ---- what is found
+
+-- in an older version
+module _ (v : Version) (older : IsOlder v) (db : Database) (is : db.schema ≡ schema_of v) where
+  found_version : (w : Version) → db.schema ≡ schema_of w → v ≡ w
+  found_version w same = one_version v w (sym is ∙ same)
+
+  pub broken_in : {A : Type 0} (r : Result A OpenFault)
+      → IfErr r (λ e. (rule : ℕ) → e ≡ Damaged rule → IsFullIn v db → IsBrokenIn v db rule)
+      → IfErr r (λ e. (rule : ℕ) → e ≡ Damaged rule → FindsBroken db rule)
+  broken_in r = if_err r (λ e broken rule same. record {
+    older = λ w was full.
+        let one = found_version w full.schema in
+        subst (λ (x : Version). IsBrokenIn x db rule) one
+        (broken rule same (subst (λ (x : Version). IsFullIn x db) (sym one) full));
+    newest = λ none full. absurd (none v older is);
+  })
+
+  pub version_in : {A : Type 0} (r : Result A OpenFault)
+      → IfErr r (λ e. (n : ℤ) → e ≡ WrongSchema n → db.schema ≡ schema_of v → IsVersionIn v db n)
+      → IfErr r (λ e. (n : ℤ) → e ≡ WrongSchema n → FindsVersion db n)
+  version_in r = if_err r (λ e wrong n same. record {
+    older = λ w was there.
+        subst (λ (x : Version). IsVersionIn x db n) (found_version w there) (wrong n same is);
+    newest = λ none. absurd (none v older is);
+  })
+
+  pub movable_in : {A : Type 0} (r : Result A OpenFault)
+      → IfErr r (λ e. (rule : ℕ) → e ≡ Damaged rule → IsFullIn v db → IsBrokenIn v db rule)
+      → IfErr r (λ e. (n : ℤ) → e ≡ WrongSchema n → db.schema ≡ schema_of v → IsVersionIn v db n)
+      → IfErr r (λ e. IsMovable db → IsNoRefusal e)
+  movable_in r damaged versioned =
+      if_err r (λ e never movable. elim movable [
+        | inl it ↦ never
+            (subst (λ (x : Version). StandsSoundIn x db) (sym (found_version it.0 it.1.schema)) it.1)
+        | inr blank ↦ absurd (never_blank v (sym is ∙ blank))
+      ]) (no_refusal_in v db r damaged versioned)
+
+-- and in none
+module _ (db : Database) (none : IsNoOlder db) where
+  pub broken_else : {A : Type 0} (r : Result A OpenFault)
+      → IfErr r (λ e. (rule : ℕ) → e ≡ Damaged rule → IsFull db → IsLeastBroken db rule)
+      → IfErr r (λ e. (rule : ℕ) → e ≡ Damaged rule → FindsBroken db rule)
+  broken_else r = if_err r (λ e broken rule same. record {
+    older = λ w was full. absurd (none w was full.schema);
+    newest = λ none full. broken rule same full;
+  })
+
+  pub version_else : {A : Type 0} (r : Result A OpenFault)
+      → IfErr r (λ e. (n : ℤ) → e ≡ WrongSchema n → IsWrong db n)
+      → IfErr r (λ e. (n : ℤ) → e ≡ WrongSchema n → FindsVersion db n)
+  version_else r = if_err r (λ e wrong n same. record {
+    older = λ w was there. absurd (none w was there);
+    newest = λ none. wrong n same;
+  })
+
+  pub movable_else : {A : Type 0} (r : Result A OpenFault) → IfErr r (λ e. IsFit db → IsNoRefusal e)
+      → IfErr r (λ e. IsMovable db → IsNoRefusal e)
+  movable_else r = if_err r (λ e never movable. elim movable [
+    | inl it ↦ never
+        (inl (subst (λ (x : Version). StandsSoundIn x db) (is_newest db none it.0 it.1.schema) it.1))
+    | inr blank ↦ never (inr blank)
+  ])
+
+-- ---- what a check of a store with tables leaves
+
 pub found_after : (old new : State) → IsQuietWhere (HasVersion old.now.schema) old new → HasCleanDisk new
     → ((V : Vault) → Holds old V → (db : Trees) → old.may_leave db → db ≡ old.committed.trees)
     → ¬ (old.now.schema ≡ no_schema) → LeavesFound old new
 found_after old new quiet clean alone some = record {
-  held = λ V h. left_after old new V h (alone V h) (quiet.left clean (has_version old.now.schema h.schema));
+  held = λ V h.
+      left_after old new V h (alone V h)
+      (quiet.left clean (has_version_in newest old.now.schema h.schema));
   blank = λ ready none. absurd (some none);
 }
 
--- a sound vault that the database stands for in schema 1 is held, where nothing changed since
-pub holds_old : (old new : State) (autocommit : Bool) (it : StandsOld old.now)
-    → autocommit ≡ not old.in_transaction → old.in_transaction ≡ false → old.step_limit ≡ None
-    → (IsTrue autocommit → IsTrue old.is_open → old.now ≡ old.committed) → IsUnchanged old new
-    → HoldsOlder old it.vault
-holds_old old new autocommit it is idle unlimited settled same = record {
-  free = record { is_open = same.0.was_open; unlimited = unlimited };
-  autocommit = idle;
-  settled = settled (is ∙ ap not idle) same.0.was_open;
-  stands = it.stands;
+-- where no older schema is there, a vault that is held is held in the newest
+pub held_newest : (old : State) → IsNoOlder old.now → (v : Version) (V : Vault) → HoldsIn v V old
+    → (v ≡ newest) × Holds old V
+held_newest old none v V h =
+    let same = is_newest old.now none v h.is.schema in
+    (same, held_by_newest V old (subst (λ (x : Version). HoldsIn x V old) same h))
+
+-- so it stays in it, whatever is left
+pub left_newest : (V : Vault) (s : State) → LeavesEither s V V → LeavesIn newest V s
+left_newest V s left db there = elim (left db there) [
+  | inl ours ↦ ours_in_newest V db ours
+  | inr ours ↦ ours_in_newest V db ours
+]
+
+-- in an older version no table is missing
+pub older_found : (v : Version) (old new : State) → old.now.schema ≡ schema_of v → IsOlder v
+    → LeavesFound old new
+older_found v old new is older = record {
+  held = λ V h. absurd (older_schema v older (sym is ∙ h.schema));
+  blank = λ ready none. absurd (never_blank v (sym is ∙ none));
 }

@@ -1,9 +1,12 @@
--- What the rows of a database in schema 1 determine.
+-- What the rows of a database determine.
 use Rattle.std.specs.Prelude.{◌≡◌}
 use Rattle.sqlite.specs.Tree.{Trees}
 use Rattle.vault_core.specs.Vault.{Vault}
-use Rattle.vault_migrate.specs.Older.{StandOlder}
+use Rattle.vault_schema.specs.Stands.{lookups_of}
+use Rattle.vault_schema.specs.Versions.{Stand}
+use Rattle.vault_schema.specs.declared.version.Version.{Version}
 
--- the rows of a database in schema 1 stand for one vault at most
-abbrev pub OlderRowsStandForOne : Type 0
-OlderRowsStandForOne = (db : Trees) (V W : Vault) → StandOlder db V → StandOlder db W → V ≡ W
+-- in each version, the rows of a database stand for one vault at most
+abbrev pub RowsStandForOne : Type 0
+RowsStandForOne =
+    (v : Version) (db : Trees) (V W : Vault) → Stand v db (lookups_of V) → Stand v db (lookups_of W) → V ≡ W

@@ -1,5 +1,3 @@
-pub mod Judged
 pub mod Laws
-pub mod Made
 pub mod Moved
-pub mod Older
+pub mod Typed

@@ -3,43 +3,71 @@ use Rattle.std.specs.Prelude.{◌≡◌, ◌⊎◌, ℕ, ℤ}
 use Rattle.sqlite.specs.Effect.{Database}
 use Rattle.sqlite.specs.State.{State}
 use Rattle.sqlite.specs.Tree.{Trees}
-use Rattle.sql_maps.specs.States as maps
+use Rattle.sql_maps.specs.Schema.{no_schema}
 use Rattle.vault_core.specs.Sound.{Sound}
 use Rattle.vault_core.specs.Vault.{Vault}
-use Rattle.vault_verdict.specs.Opened.{IsFit, IsLeastBroken, IsWrong, LeavesFound}
-use Rattle.vault_verdict.specs.Reading.{IsFull}
-use Rattle.vault_schema.specs.Version1.Claims.{claims}
-use Rattle.vault_schema.specs.Version1.Tables.{v1}
+use Rattle.vault_schema.specs.Holds.{AreIn, HoldsIn}
 use Rattle.vault_schema.specs.Stands.{lookups_of}
-use Rattle.vault_migrate.specs.Judged.{IsOldBroken, IsOldVersion, IsOlds}
-use Rattle.vault_migrate.specs.Older.{AreOlder, HoldsOlder, LeavesStep}
+use Rattle.vault_schema.specs.Versions.{next_of, schema_of}
+use Rattle.vault_schema.specs.declared.version.Version.{Version}
+use Rattle.vault_schema.specs.declared.version.Version.TheVariants.{One, Two, Three, Four}
+use Rattle.vault_steps.specs.Entries.{AreSome}
+use Rattle.vault_verdict.specs.Opened.{IsBrokenIn, IsLeastBroken, IsVersionIn, IsWrong, LeavesFound}
+use Rattle.vault_verdict.specs.Opened.{StandsSoundIn}
+use Rattle.vault_verdict.specs.ReadAs.{IsFullIn}
+use Rattle.vault_verdict.specs.Reading.{IsFull}
 
--- each state that a crash may leave now stands for the vault in schema 1
-abbrev pub LeavesOlder : State → Vault → Type 0
-LeavesOlder s V = (db : Trees) → s.may_leave db → AreOlder db V
+-- a version that a step leads on from
+abbrev pub IsOlder : Version → Type 0
+IsOlder One = Unit {0}
+IsOlder Two = Unit {0}
+IsOlder Three = Unit {0}
+IsOlder Four = ⊥
 
--- What a crash may leave now: where a vault was held in schema 1, that vault in schema 1 or in this one;
--- where one was held in this schema, that vault; without a table, what was committed or the empty vault.
-pub record LeavesMoved (old new : State) : Type 0 where
-  pub older : (V : Vault) → HoldsOlder old V → LeavesStep new V
-  pub found : LeavesFound old new
+-- the schema is that of no older version
+abbrev pub IsNoOlder : Database → Type 0
+IsNoOlder db = (v : Version) → IsOlder v → ¬ (db.schema ≡ schema_of v)
 
--- the rows break this rule and none below it: those of schema 1 as rows of schema 2, or else as they stand
-pub record FindsBroken (db : Database) (rule : ℕ) : Type 0 where
-  pub older : IsOlds db → IsOldBroken db rule
-  pub newest : ¬ (db.schema ≡ v1) → IsFull db → IsLeastBroken db rule
-
--- in schema 1 another version is told than 1, or else what a check refuses by this number
-pub record FindsVersion (db : Database) (n : ℤ) : Type 0 where
-  pub older : db.schema ≡ v1 → IsOldVersion db n
-  pub newest : ¬ (db.schema ≡ v1) → IsWrong db n
-
--- the database stands for a sound vault in schema 1
-pub record StandsOld (db : Database) : Type 0 where
+-- the connection holds a sound vault in this version
+pub record HoldsSoundIn (v : Version) (s : State) : Type 0 where
   pub vault : Vault
   pub sound : Sound vault
-  pub stands : maps.Stands v1 (claims (lookups_of vault)) db
+  pub holds : HoldsIn v vault s
 
--- the database stands for a sound vault in schema 1 or in the newest one, or has no table
+-- each state that a crash may leave now stands for the vault, in this version
+abbrev pub LeavesIn : Version → Vault → State → Type 0
+LeavesIn v V s = (db : Trees) → s.may_leave db → AreIn v V db
+
+-- in this version or in the next
+abbrev pub LeavesStep : Version → Vault → State → Type 0
+LeavesStep v V s = (db : Trees) → s.may_leave db → AreIn v V db ⊎ AreIn (next_of v) V db
+
+-- in some version
+abbrev pub LeavesSome : Vault → State → Type 0
+LeavesSome V s = (db : Trees) → s.may_leave db → AreSome (lookups_of V) db
+
+-- What a crash may leave now: where a vault was held in an older version, that vault in it or in the next;
+-- where
+-- one was held in the newest, that vault; without a table, what was committed or the empty vault.
+pub record LeavesMoved (old new : State) : Type 0 where
+  pub older : (v : Version) (V : Vault) → HoldsIn v V old → LeavesStep v V new
+  pub found : LeavesFound old new
+
+-- the same of all steps: where a vault was held, that vault in some version
+pub record LeavesClimbed (old new : State) : Type 0 where
+  pub older : (v : Version) (V : Vault) → HoldsIn v V old → LeavesSome V new
+  pub found : LeavesFound old new
+
+-- the rows break this rule and none below it, read as those of the newest version
+pub record FindsBroken (db : Database) (rule : ℕ) : Type 0 where
+  pub older : (v : Version) → IsOlder v → IsFullIn v db → IsBrokenIn v db rule
+  pub newest : IsNoOlder db → IsFull db → IsLeastBroken db rule
+
+-- in an older version another one is told, or else what a check refuses by this number
+pub record FindsVersion (db : Database) (n : ℤ) : Type 0 where
+  pub older : (v : Version) → IsOlder v → db.schema ≡ schema_of v → IsVersionIn v db n
+  pub newest : IsNoOlder db → IsWrong db n
+
+-- the database stands for a sound vault in some version, or has no table
 abbrev pub IsMovable : Database → Type 0
-IsMovable db = StandsOld db ⊎ IsFit db
+IsMovable db = ((v : Version) × StandsSoundIn v db) ⊎ (db.schema ≡ no_schema)

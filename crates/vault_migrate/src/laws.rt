@@ -1,7 +1,7 @@
 //! Laws of the definitions.
-ghost use Rattle.vault_migrate.specs.Laws.{OlderRowsStandForOne};
+ghost use Rattle.vault_migrate.specs.Laws.{RowsStandForOne};
 
-/// The rows of a database in schema 1 stand for one vault at most.
-pub fn older_rows_stand_for_one()
-    ensures { OlderRowsStandForOne }
+/// In each version, the rows of a database stand for one vault at most.
+pub fn rows_stand_for_one()
+    ensures { RowsStandForOne }
 {}

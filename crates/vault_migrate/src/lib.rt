@@ -2,9 +2,6 @@
 #![tactic(auto)]
 
 pub mod laws;
-mod made;
 pub mod migrate;
-mod read;
-mod rows;
+mod movable;
 mod typed;
-mod verdict;

@@ -1,65 +1,113 @@
-//! A vault's file is checked whole in the schema that it has, and moves to the newest one.
-ghost use Rattle.std.specs.Prelude.{◌≡◌, ◌≢◌, ◌≤◌, ℕ, ℤ, pos, false, None, IfErr, IfOk, OnOk};
+//! A vault's file is checked whole in the schema that it has, and moves up.
+ghost use Rattle.std.specs.Prelude.{◌≡◌, ◌≢◌, ◌≤◌, ◌<◌, ℕ, ℤ, false, None, IfErr, IfOk, OnOk};
 ghost use Rattle.sqlite.specs.Held.{state};
 ghost use Rattle.sqlite.specs.State.{HasCleanDisk, IsUnchanged};
 ghost use Rattle.sqlite.specs.View.{doubt};
 ghost use Rattle.sql_maps.specs.Schema.{no_schema};
 ghost use Rattle.vault_core.specs.Vault.{Vault, empty_vault};
-ghost use Rattle.vault_migrate.specs.Judged.{IsOldBroken, IsOldVersion, IsOlds};
-ghost use Rattle.vault_migrate.specs.Moved.{FindsBroken, FindsVersion, IsMovable, LeavesMoved};
-ghost use Rattle.vault_migrate.specs.Moved.{LeavesOlder};
-ghost use Rattle.vault_migrate.specs.Older.{HoldsOlder, LeavesStep};
-ghost use Rattle.vault_verdict.specs.Opened.{HoldsSound, IsFit, IsLeastBroken, IsNoRefusal};
+ghost use Rattle.vault_migrate.specs.Moved.{FindsBroken, FindsVersion, HoldsSoundIn, IsMovable, IsNoOlder};
+ghost use Rattle.vault_migrate.specs.Moved.{IsOlder, LeavesClimbed, LeavesIn, LeavesMoved, LeavesSome};
+ghost use Rattle.vault_migrate.specs.Moved.{LeavesStep};
+ghost use Rattle.vault_verdict.specs.Opened.{IsBrokenIn, IsFit, IsLeastBroken, IsNoRefusal, IsVersionIn};
 ghost use Rattle.vault_verdict.specs.Opened.{IsWrong, LeavesFound};
+ghost use Rattle.vault_verdict.specs.ReadAs.{IsFullIn};
 ghost use Rattle.vault_verdict.specs.Reading.{IsFull};
-ghost use Rattle.vault_schema.specs.Version1.Tables.{v1};
-ghost use Rattle.vault_schema.specs.Holds.{Holds, LeavesEither};
+ghost use Rattle.vault_schema.specs.Holds.{Holds, HoldsIn};
 ghost use Rattle.vault_schema.specs.Making.{IsReady};
 ghost use Rattle.vault_schema.specs.Schema.{newest_schema};
+ghost use Rattle.vault_schema.specs.Stands.{newest};
+ghost use Rattle.vault_schema.specs.Versions.{next_of, number_of, schema_of};
 
-use crate::typed::typed_entries;
-use crate::verdict::old_entries;
+use crate::movable::{judged, older_in};
 use sqlite::{Alter, Connection};
 use std::alloc::Global;
-use vault_schema::v1::shape::is_v1;
 use vault_schema::version::Version;
 use vault_sql::schema::{SchemaFault, make_schema};
+use vault_steps::climb::climb;
 use vault_steps::upgrade::upgrade;
 use vault_verdict::check::check;
 use vault_verdict::fault::OpenFault;
 
 /// The version of the newest schema.
-const VERSION: i64 = 2;
+const NEWEST: i64 = 4;
 
-/// Checks a vault in schema 1, and moves it to the newest schema.
-fn move_up<S: Alter>(alloc: Global, conn: &mut Connection<S>) -> Result<i64, OpenFault>
+/// Checks a vault in an older version, and moves it to the next.
+fn move_up<S: Alter>(
+    alloc: Global,
+    conn: &mut Connection<S>,
+    version: Version,
+) -> Result<i64, OpenFault>
     requires idle { conn.old.in_transaction ≡ false }
     requires unlimited { conn.old.step_limit ≡ None }
-    ensures newest { IfOk result (λ version. version ≡ pos 2) }
+    ensures next { IfOk result (λ n. n ≡ number_of (next_of version)) }
     ensures idle { conn.new.in_transaction ≡ false }
     ensures clean { doubt (state S.Store conn.old).is_clean ≤ doubt (state S.Store conn.new).is_clean }
-    ensures moved { HasCleanDisk (state S.Store conn.new) → OnOk result
-        ((V : Vault) → HoldsOlder (state S.Store conn.old) V → Holds (state S.Store conn.new) V) }
-    ensures whole { HasCleanDisk (state S.Store conn.new) → OnOk result
-        ((V : Vault) → HoldsOlder (state S.Store conn.old) V → LeavesEither (state S.Store conn.new) V V) }
+    ensures moved { HasCleanDisk (state S.Store conn.new) → OnOk result ((V : Vault)
+        → HoldsIn version V (state S.Store conn.old) → HoldsIn (next_of version) V (state S.Store conn.new)) }
+    ensures whole { HasCleanDisk (state S.Store conn.new) → OnOk result ((V : Vault)
+        → HoldsIn version V (state S.Store conn.old) → LeavesIn (next_of version) V
+        (state S.Store conn.new)) }
     ensures sound { HasCleanDisk (state S.Store conn.new)
-        → OnOk result (IsOlds (state S.Store conn.old).now → HoldsSound (state S.Store conn.new)) }
-    ensures crash { HasCleanDisk (state S.Store conn.new)
-        → (V : Vault) → HoldsOlder (state S.Store conn.old) V → LeavesStep (state S.Store conn.new) V }
+        → OnOk result (IsFullIn version (state S.Store conn.old).now
+        → HoldsSoundIn (next_of version) (state S.Store conn.new)) }
+    ensures crash { HasCleanDisk (state S.Store conn.new) → (V : Vault)
+        → HoldsIn version V (state S.Store conn.old) → LeavesStep version V (state S.Store conn.new) }
     ensures stays { HasCleanDisk (state S.Store conn.new) → IfErr result (λ e. e ≢ OpenFault.Store
-        → (V : Vault) → HoldsOlder (state S.Store conn.old) V → LeavesOlder (state S.Store conn.new) V) }
+        → (V : Vault) → HoldsIn version V (state S.Store conn.old)
+        → LeavesIn version V (state S.Store conn.new)) }
     ensures damaged { HasCleanDisk (state S.Store conn.new)
         → IfErr result (λ e. (rule : ℕ) → e ≡ OpenFault.Damaged rule
-        → IsOlds (state S.Store conn.old).now → IsOldBroken (state S.Store conn.old).now rule) }
+        → IsFullIn version (state S.Store conn.old).now
+        → IsBrokenIn version (state S.Store conn.old).now rule) }
     ensures wrong { HasCleanDisk (state S.Store conn.new)
         → IfErr result (λ e. (n : ℤ) → e ≡ OpenFault.WrongSchema n
-        → (state S.Store conn.old).now.schema ≡ v1 → IsOldVersion (state S.Store conn.old).now n) }
+        → (state S.Store conn.old).now.schema ≡ schema_of version
+        → IsVersionIn version (state S.Store conn.old).now n) }
 {
     let _settled = conn.is_autocommit();
-    let olders = old_entries(alloc, conn)?;
-    let entries = typed_entries(alloc, &olders)?;
-    match upgrade(conn, Version::One, &entries) {
-        Ok(()) => Ok(VERSION),
+    let entries = judged(alloc, conn, version)?;
+    match upgrade(conn, version, &entries) {
+        Ok(()) => Ok(version.next().number()),
+        Err(_) => Err(OpenFault::Store),
+    }
+}
+
+/// Checks a vault in an older version, and moves it to the newest, step by step.
+fn climb_up<S: Alter>(
+    alloc: Global,
+    conn: &mut Connection<S>,
+    version: Version,
+) -> Result<i64, OpenFault>
+    requires idle { conn.old.in_transaction ≡ false }
+    requires unlimited { conn.old.step_limit ≡ None }
+    ensures newest { IfOk result (λ n. n ≡ number_of newest) }
+    ensures idle { conn.new.in_transaction ≡ false }
+    ensures clean { doubt (state S.Store conn.old).is_clean ≤ doubt (state S.Store conn.new).is_clean }
+    ensures moved { HasCleanDisk (state S.Store conn.new) → OnOk result ((V : Vault)
+        → HoldsIn version V (state S.Store conn.old) → HoldsIn newest V (state S.Store conn.new)) }
+    ensures whole { HasCleanDisk (state S.Store conn.new) → OnOk result ((V : Vault)
+        → HoldsIn version V (state S.Store conn.old) → LeavesIn newest V (state S.Store conn.new)) }
+    ensures sound { HasCleanDisk (state S.Store conn.new)
+        → OnOk result (IsFullIn version (state S.Store conn.old).now
+        → HoldsSoundIn newest (state S.Store conn.new)) }
+    ensures crash { HasCleanDisk (state S.Store conn.new) → (V : Vault)
+        → HoldsIn version V (state S.Store conn.old) → LeavesSome V (state S.Store conn.new) }
+    ensures stays { HasCleanDisk (state S.Store conn.new) → IfErr result (λ e. e ≢ OpenFault.Store
+        → (V : Vault) → HoldsIn version V (state S.Store conn.old)
+        → LeavesIn version V (state S.Store conn.new)) }
+    ensures damaged { HasCleanDisk (state S.Store conn.new)
+        → IfErr result (λ e. (rule : ℕ) → e ≡ OpenFault.Damaged rule
+        → IsFullIn version (state S.Store conn.old).now
+        → IsBrokenIn version (state S.Store conn.old).now rule) }
+    ensures wrong { HasCleanDisk (state S.Store conn.new)
+        → IfErr result (λ e. (n : ℤ) → e ≡ OpenFault.WrongSchema n
+        → (state S.Store conn.old).now.schema ≡ schema_of version
+        → IsVersionIn version (state S.Store conn.old).now n) }
+{
+    let _settled = conn.is_autocommit();
+    let entries = judged(alloc, conn, version)?;
+    match climb(conn, version, &entries) {
+        Ok(()) => Ok(NEWEST),
         Err(_) => Err(OpenFault::Store),
     }
 }
@@ -67,7 +115,7 @@ fn move_up<S: Alter>(alloc: Global, conn: &mut Connection<S>) -> Result<i64, Ope
 /// Makes the newest schema in a store without any table; else checks the vault in it, and changes nothing.
 fn make_or_check<S: Alter>(alloc: Global, conn: &mut Connection<S>) -> Result<i64, OpenFault>
     requires { conn.old.in_transaction ≡ false }
-    ensures newest { IfOk result (λ version. version ≡ pos 2) }
+    ensures newest { IfOk result (λ version. version ≡ number_of newest) }
     ensures idle { conn.new.in_transaction ≡ false }
     ensures clean { doubt (state S.Store conn.old).is_clean ≤ doubt (state S.Store conn.new).is_clean }
     ensures kept { HasCleanDisk (state S.Store conn.new) → OnOk result
@@ -91,50 +139,59 @@ fn make_or_check<S: Alter>(alloc: Global, conn: &mut Connection<S>) -> Result<i6
         → IfErr result (λ e. IsFit (state S.Store conn.old).now → IsNoRefusal e) }
 {
     match make_schema(conn) {
-        Ok(()) => Ok(VERSION),
+        Ok(()) => Ok(NEWEST),
         Err(SchemaFault::Taken) => {
             check(alloc, conn)?;
-            Ok(VERSION)
+            Ok(NEWEST)
         }
         Err(SchemaFault::Store) => Err(OpenFault::Store),
     }
 }
 
-/// Moves a file to the newest schema, and answers its version, 2. A vault in schema 1 is checked whole
-/// there, and moves in one transaction; one in the newest schema is checked, and nothing changes; a store
+/// Moves a store one version up, and answers the version that it has then. A vault in an older schema is
+/// checked
+/// whole there, and moves in one transaction; one in the newest schema is checked, and nothing changes; a
+/// store
 /// without any table gets the tables of the empty vault.
 ///
 /// Refused by 30 with the version that the file says, where it isn't its schema's; or as a check refuses it,
-/// where its schema is another; by 31 with the least rule that the rows break, where those of schema 1 are
-/// taken as rows of the newest schema in which each number is a card of its own; by 32 where memory ran out;
-/// by 33 where the database failed, or holds what isn't a vault's. After 30, 31 and 32 a vault in schema 1 is
-/// as it was. A sound vault in either schema, and a store without a table, is refused by neither 30 nor 31.
+/// where its schema is another; by 31 with the least rule that the rows break, where those of an older schema
+/// are
+/// read as those of the newest: a merchant without a lead has six digits, a right without an end never ends,
+/// and
+/// each number of schema 1 is a card of its own; by 32 where memory ran out; by 33 where the database failed,
+/// or
+/// holds what isn't a vault's. After 30, 31 and 32 a vault in an older schema is as it was. A sound vault in
+/// any
+/// schema, and a store without a table, is refused by neither 30 nor 31.
 pub fn migrate<S: Alter>(alloc: Global, conn: &mut Connection<S>) -> Result<i64, OpenFault>
     requires idle { conn.old.in_transaction ≡ false }
     requires unlimited { conn.old.step_limit ≡ None }
-    ensures newest { IfOk result (λ version. version ≡ pos 2) }
+    ensures next { IfOk result (λ n. (v : Version) → (state S.Store conn.old).now.schema ≡ schema_of v
+        → n ≡ number_of (next_of v)) }
+    ensures made { IfOk result (λ n. IsNoOlder (state S.Store conn.old).now → n ≡ number_of newest) }
     ensures idle { conn.new.in_transaction ≡ false }
     ensures clean { doubt (state S.Store conn.old).is_clean ≤ doubt (state S.Store conn.new).is_clean }
-    ensures moved { HasCleanDisk (state S.Store conn.new) → OnOk result
-        ((V : Vault) → HoldsOlder (state S.Store conn.old) V → Holds (state S.Store conn.new) V) }
-    ensures whole { HasCleanDisk (state S.Store conn.new) → OnOk result
-        ((V : Vault) → HoldsOlder (state S.Store conn.old) V → LeavesEither (state S.Store conn.new) V V) }
+    ensures moved { HasCleanDisk (state S.Store conn.new) → OnOk result ((v : Version) (V : Vault)
+        → HoldsIn v V (state S.Store conn.old) → HoldsIn (next_of v) V (state S.Store conn.new)) }
+    ensures whole { HasCleanDisk (state S.Store conn.new) → OnOk result ((v : Version) (V : Vault)
+        → HoldsIn v V (state S.Store conn.old) → LeavesIn (next_of v) V (state S.Store conn.new)) }
     ensures sound { HasCleanDisk (state S.Store conn.new)
-        → OnOk result (IsOlds (state S.Store conn.old).now → HoldsSound (state S.Store conn.new)) }
-    ensures kept { HasCleanDisk (state S.Store conn.new) → OnOk result
-        ((V : Vault) → Holds (state S.Store conn.old) V → Holds (state S.Store conn.new) V) }
+        → OnOk result ((v : Version) → IsOlder v → IsFullIn v (state S.Store conn.old).now
+        → HoldsSoundIn (next_of v) (state S.Store conn.new)) }
     ensures same { HasCleanDisk (state S.Store conn.new) → OnOk result (
         (state S.Store conn.old).now.schema ≡ newest_schema
         → IsUnchanged (state S.Store conn.old) (state S.Store conn.new)) }
     ensures blank { HasCleanDisk (state S.Store conn.new) → OnOk result (IsReady (state S.Store conn.old)
         → (state S.Store conn.old).now.schema ≡ no_schema → Holds (state S.Store conn.new) empty_vault) }
     ensures checked { HasCleanDisk (state S.Store conn.new)
-        → OnOk result (¬ ((state S.Store conn.old).now.schema ≡ v1) → IsFull (state S.Store conn.old).now
+        → OnOk result (IsNoOlder (state S.Store conn.old).now → IsFull (state S.Store conn.old).now
         → IsFit (state S.Store conn.old).now) }
     ensures crash { HasCleanDisk (state S.Store conn.new)
         → LeavesMoved (state S.Store conn.old) (state S.Store conn.new) }
     ensures stays { HasCleanDisk (state S.Store conn.new) → IfErr result (λ e. e ≢ OpenFault.Store
-        → (V : Vault) → HoldsOlder (state S.Store conn.old) V → LeavesOlder (state S.Store conn.new) V) }
+        → (v : Version) (V : Vault) → HoldsIn v V (state S.Store conn.old)
+        → LeavesIn v V (state S.Store conn.new)) }
     ensures damaged { HasCleanDisk (state S.Store conn.new)
         → IfErr result (λ e. (rule : ℕ) → e ≡ OpenFault.Damaged rule
         → FindsBroken (state S.Store conn.old).now rule) }
@@ -144,8 +201,54 @@ pub fn migrate<S: Alter>(alloc: Global, conn: &mut Connection<S>) -> Result<i64,
     ensures never { HasCleanDisk (state S.Store conn.new)
         → IfErr result (λ e. IsMovable (state S.Store conn.old).now → IsNoRefusal e) }
 {
-    if is_v1(conn.schema()) {
-        return move_up(alloc, conn);
+    match older_in(conn.schema()) {
+        Some(version) => move_up(alloc, conn, version),
+        None => make_or_check(alloc, conn),
     }
-    make_or_check(alloc, conn)
+}
+
+/// Moves a store to the newest version, and answers it. A vault in an older schema is checked whole there
+/// once, and
+/// moves by one transaction a step; all else is as one step up does it.
+///
+/// Refused as one step up is. What a stop leaves is the vault in some version on its way.
+pub fn migrate_all<S: Alter>(alloc: Global, conn: &mut Connection<S>) -> Result<i64, OpenFault>
+    requires idle { conn.old.in_transaction ≡ false }
+    requires unlimited { conn.old.step_limit ≡ None }
+    ensures newest { IfOk result (λ n. n ≡ number_of newest) }
+    ensures idle { conn.new.in_transaction ≡ false }
+    ensures clean { doubt (state S.Store conn.old).is_clean ≤ doubt (state S.Store conn.new).is_clean }
+    ensures moved { HasCleanDisk (state S.Store conn.new) → OnOk result ((v : Version) (V : Vault)
+        → HoldsIn v V (state S.Store conn.old) → HoldsIn newest V (state S.Store conn.new)) }
+    ensures whole { HasCleanDisk (state S.Store conn.new) → OnOk result ((v : Version) (V : Vault)
+        → HoldsIn v V (state S.Store conn.old) → LeavesIn newest V (state S.Store conn.new)) }
+    ensures sound { HasCleanDisk (state S.Store conn.new)
+        → OnOk result ((v : Version) → IsOlder v → IsFullIn v (state S.Store conn.old).now
+        → HoldsSoundIn newest (state S.Store conn.new)) }
+    ensures same { HasCleanDisk (state S.Store conn.new) → OnOk result (
+        (state S.Store conn.old).now.schema ≡ newest_schema
+        → IsUnchanged (state S.Store conn.old) (state S.Store conn.new)) }
+    ensures blank { HasCleanDisk (state S.Store conn.new) → OnOk result (IsReady (state S.Store conn.old)
+        → (state S.Store conn.old).now.schema ≡ no_schema → Holds (state S.Store conn.new) empty_vault) }
+    ensures checked { HasCleanDisk (state S.Store conn.new)
+        → OnOk result (IsNoOlder (state S.Store conn.old).now → IsFull (state S.Store conn.old).now
+        → IsFit (state S.Store conn.old).now) }
+    ensures crash { HasCleanDisk (state S.Store conn.new)
+        → LeavesClimbed (state S.Store conn.old) (state S.Store conn.new) }
+    ensures stays { HasCleanDisk (state S.Store conn.new) → IfErr result (λ e. e ≢ OpenFault.Store
+        → (v : Version) (V : Vault) → HoldsIn v V (state S.Store conn.old)
+        → LeavesIn v V (state S.Store conn.new)) }
+    ensures damaged { HasCleanDisk (state S.Store conn.new)
+        → IfErr result (λ e. (rule : ℕ) → e ≡ OpenFault.Damaged rule
+        → FindsBroken (state S.Store conn.old).now rule) }
+    ensures wrong { HasCleanDisk (state S.Store conn.new)
+        → IfErr result (λ e. (n : ℤ) → e ≡ OpenFault.WrongSchema n
+        → FindsVersion (state S.Store conn.old).now n) }
+    ensures never { HasCleanDisk (state S.Store conn.new)
+        → IfErr result (λ e. IsMovable (state S.Store conn.old).now → IsNoRefusal e) }
+{
+    match older_in(conn.schema()) {
+        Some(version) => climb_up(alloc, conn, version),
+        None => make_or_check(alloc, conn),
+    }
 }

@@ -1,10 +1,9 @@
 //! Old entries as the vault has them.
 ghost use Rattle.std.specs.Prelude.{◌≡◌, ◌≢◌, ◌<◌, ◌^◌, ◌↔◌, ℕ, pos, drop, map, IfErr, IfOk, IsOk};
 ghost use Rattle.std.specs.List.{All};
-ghost use Rattle.std.specs.Prelude.{string_bytes};
 ghost use Rattle.vault_core.specs.Name.{IsName};
 ghost use Rattle.vault_core.specs.Numbers.{use_number};
-ghost use Rattle.vault_migrate.specs.Made.{old_columns, typed_columns};
+ghost use Rattle.vault_migrate.specs.Typed.{old_columns, typed_columns};
 ghost use Rattle.vault_verdict.specs.Raw.{int_value, maybe_text_value, old_entry_values};
 ghost use Rattle.vault_pan.specs.CardText.{IsToken};
 ghost use Rattle.vault_schema.specs.Version1.Rows.{entry_columns, number_or_null, text_or_null};

@@ -1,5 +1,5 @@
 -- The mask of a number in three parts: the front, the hidden digits and the last four.
-use Rattle.std.proofs.Common.{◌≡◌, ℕ, ◌-◌, ◌<◌, ◌≤◌, List, ◌++◌, All, ◌||◌, ◌==◌, length, take, drop}
+use Rattle.std.proofs.Common.{◌≡◌, ℕ, ◌+◌, ◌-◌, ◌<◌, ◌≤◌, List, ◌++◌, All, ◌||◌, ◌==◌, length, take, drop}
 use Rattle.std.proofs.Common.{replicate, get_or, min, cond, nat_lt, nat_le, arith, refl, subst, ◌*◌, ◌∙◌}
 use Rattle.std.proofs.lemmas.Grind.{common_steps}
 use Rattle.std.proofs.lemmas.Bool.Decides.{nat_tests}
@@ -12,7 +12,9 @@ use Rattle.std.proofs.lemmas.Str.Ascii.{IsAscii-from_all}
 use Rattle.std.specs.Char.{IsAsciiDigit}
 use Rattle.std.specs.Str.{IsAscii}
 use Rattle.vault_pan.specs.CardText.{IsNumber}
-use Rattle.vault_pan.specs.Mask.{IsMaskByte, IsMasked, mask_of, shown_at, hidden}
+use Rattle.vault_pan.specs.Mask.{IsMaskByte, IsMasked, front_of, hidden, least_hidden, mask_of, shown_at}
+use Rattle.vault_pan.specs.declared.lead.Lead.{Lead}
+use Rattle.vault_pan.specs.declared.lead.Lead.TheVariants.{Six, Eight}
 
 -- a digit or `*` is ASCII
 IsMaskByte-ascii : (b : ℕ) → IsMaskByte b → b < 128
@@ -59,14 +61,21 @@ get_or-hidden_between digits front last k h l inside =
     let rest = λ (above : last ≤ k). get_or-last digits front last k h l above inside in
     grind (arith, nat_tests, first, middle, rest)
 
+-- what is shown at the left leaves so many hidden before the last four
+pub front_fits : (lead : Lead) (n : ℕ) → 10 ≤ n → front_of lead n + least_hidden lead ≤ n - 4
+front_fits Six n many = omega arith
+front_fits Eight n many = omega arith
+
 -- a mask has these three parts
-pub mask_of-parts : (digits : List ℕ) → 10 ≤ length digits
-    → hidden_between digits (min 6 (length digits - 10)) (length digits - 4) ≡ mask_of digits
-mask_of-parts digits many =
+pub mask_of-parts : (lead : Lead) (digits : List ℕ) → 10 ≤ length digits
+    → hidden_between digits (front_of lead (length digits)) (length digits - 4) ≡ mask_of lead digits
+mask_of-parts lead digits many =
     let n = length digits in
-    fill_by_all (shown_at digits) _ n 0
-    (length-hidden_between digits (min 6 (n - 10)) (n - 4) (omega arith) (omega arith))
-    (λ k inside. get_or-hidden_between digits (min 6 (n - 10)) (n - 4) k (omega arith) (omega arith) inside)
+    let fits = front_fits lead n many in
+    fill_by_all (shown_at lead digits) _ n 0
+    (length-hidden_between digits (front_of lead n) (n - 4) (omega (arith, fits)) (omega arith))
+    (λ k inside. get_or-hidden_between digits (front_of lead n) (n - 4) k (omega (arith, fits)) (omega arith)
+    inside)
 
 -- as many are hidden as stand between the two indices, or more
 hidden-hidden_between : (digits : List ℕ) (front last : ℕ)
@@ -97,18 +106,35 @@ All-hidden_between digits front last each =
     (All-take IsMaskByte front digits shown) (All-replicate IsMaskByte (last - front) 42 refl))
     (All-drop IsMaskByte last digits shown)
 
--- what `mask_of` makes of a number is a mask
-pub mask_of-IsMasked : (digits : List ℕ) → IsNumber digits → IsMasked (mask_of digits)
-mask_of-IsMasked digits h =
+-- a lead hides four digits or more
+hides_four : (lead : Lead) → 4 ≤ least_hidden lead
+hides_four Six = omega arith
+hides_four Eight = omega arith
+
+-- so many are hidden
+pub mask_of-hides : (lead : Lead) (digits : List ℕ) → IsNumber digits
+    → least_hidden lead ≤ hidden (mask_of lead digits)
+mask_of-hides lead digits h =
     let n = length digits in
-    let front = min 6 (n - 10) in
+    let fits = front_fits lead n h.0 in
+    let stars = hidden-hidden_between digits (front_of lead n) (n - 4) in
+    subst (λ (text : List ℕ). least_hidden lead ≤ hidden text) (mask_of-parts lead digits h.0)
+    (omega (arith, fits, stars))
+
+-- what `mask_of` makes of a number is a mask
+pub mask_of-IsMasked : (lead : Lead) (digits : List ℕ) → IsNumber digits → IsMasked (mask_of lead digits)
+mask_of-IsMasked lead digits h =
+    let n = length digits in
+    let front = front_of lead n in
     let low = h.0 in
     let high = h.1 in
-    let long = length-hidden_between digits front (n - 4) (omega arith) (omega arith) in
-    let stars = hidden-hidden_between digits front (n - 4) in
-    subst IsMasked (mask_of-parts digits h.0) (
-      omega (arith, long),
-      omega (arith, long),
-      All-hidden_between digits front (n - 4) h.2,
-      omega (arith, stars),
+    let fits = front_fits lead n h.0 in
+    let long = length-hidden_between digits front (n - 4) (omega (arith, fits)) (omega arith) in
+    let parts = mask_of-parts lead digits h.0 in
+    let many = mask_of-hides lead digits h in
+    let four = hides_four lead in (
+      subst (λ (text : List ℕ). 10 ≤ length text) parts (omega (arith, long)),
+      subst (λ (text : List ℕ). length text ≤ 19) parts (omega (arith, long)),
+      subst (λ (text : List ℕ). All IsMaskByte text) parts (All-hidden_between digits front (n - 4) h.2),
+      omega (arith, many, four),
     )

@@ -9,6 +9,7 @@
 #![tactic(auto)]
 
 pub mod draw;
+pub mod lead;
 pub mod luhn;
 pub mod mask;
 pub mod pan;

@@ -1,23 +1,18 @@
 //! What of a card number may be shown.
 ghost use Rattle.std.specs.Prelude.{◌≡◌, ◌≤◌, length};
 ghost use Rattle.vault_pan.specs.CardText.{last_four};
-ghost use Rattle.vault_pan.specs.Mask.{IsMasked, mask_of, hidden};
+ghost use Rattle.vault_pan.specs.Mask.{IsMasked, front_of, hidden, least_hidden, mask_of};
 
+use crate::lead::Lead;
 use crate::pan::{MOST_DIGITS, Pan};
 use crate::short::Short;
 use std::fmt;
 use std::marker::Model;
 
-/// How many digits are shown at the front, at most.
-const MOST_IN_FRONT: usize = 6;
-
 /// How many digits are shown at the end.
 const LAST: usize = 4;
 
-/// How many digits are hidden, at least.
-const LEAST_HIDDEN: usize = 6;
-
-/// The mask of a card number: 10 to 19 bytes, each a digit or `*`, with at least six hidden.
+/// The mask of a card number: 10 to 19 bytes, each a digit or `*`, with at least four hidden.
 /// Contracts see its bytes.
 ///
 /// It is no card number, so printing shows it.
@@ -81,16 +76,27 @@ impl fmt::Debug for Masked {
     }
 }
 
-/// The mask of a card number: its last four digits, and from the front as many as leave six hidden,
-/// at most six.
-pub fn mask(p: &Pan) -> Masked
-    ensures masked { result ≡ mask_of p.now }
-    ensures hides { 6 ≤ hidden result }
+/// How many digits of a card number of so many digits are shown at the front.
+fn front_of(lead: Lead, len: usize) -> usize
+    requires { 10 ≤ len }
+    ensures { result ≡ front_of lead len }
+{
+    match lead {
+        Lead::Six => (len - 10).min(6),
+        Lead::Eight => (len - 8).min(8),
+    }
+}
+
+/// The mask of a card number: its last four digits, and from the front at most six of those before the last
+/// ten, or at most eight of those before the last eight.
+pub fn mask(p: &Pan, lead: Lead) -> Masked
+    ensures masked { result ≡ mask_of lead p.now }
+    ensures hides { least_hidden lead ≤ hidden result }
     ensures as_long { length result ≡ length p.now }
     ensures last_four { last_four result ≡ last_four p.now }
 {
     let digits = p.digits();
-    let front = (p.len() - LAST - LEAST_HIDDEN).min(MOST_IN_FRONT);
+    let front = front_of(lead, p.len());
     let last = p.len() - LAST;
     let mut text = Short::new();
     text.extend(&digits[..front]);

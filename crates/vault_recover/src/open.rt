@@ -18,7 +18,7 @@ use vault_sql::tables::SqlTables;
 use vault_store::vault::Vault;
 use vault_verdict::fault::OpenFault;
 use vault_verdict::names::{Holder, holder_in};
-use vault_verdict::verdict::verdict;
+use vault_verdict::verdict::newest_verdict;
 use vault_verdict::version::version_or;
 
 /// Makes the tables of the empty vault where there is no table, and else checks those that are there.
@@ -63,7 +63,7 @@ fn ready<S: Alter>(alloc: Global, conn: &mut Connection<S>) -> Result<(), OpenFa
             Ok(()) => Ok(()),
             Err(_) => Err(OpenFault::Store),
         },
-        Holder::Vault => match verdict(alloc, conn) {
+        Holder::Vault => match newest_verdict(alloc, conn) {
             Ok(_) => Ok(()),
             Err(fault) => Err(fault),
         },
@@ -75,7 +75,7 @@ fn ready<S: Alter>(alloc: Global, conn: &mut Connection<S>) -> Result<(), OpenFa
 /// Opens the vault in a file; a refusal hands the connection back. A file without any table gets the tables
 /// of the empty vault in one transaction. A file with a vault's tables is checked whole and not written.
 ///
-/// Refused by 30 with the version that the file says, where it isn't 2 and its table stands first, whatever
+/// Refused by 30 with the version that the file says, where it isn't 4 and its table stands first, whatever
 /// else there is; or with 0 where some of a vault's names are there and one is missing, or others stand
 /// beside them; by 31 with the least rule that the rows break; by 32 where memory ran out; by 33 where the
 /// database failed, the tables are another program's alone, or a vault's tables stand in another order or

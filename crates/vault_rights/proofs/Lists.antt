@@ -13,6 +13,10 @@ contains-head x xs = (0, omega arith, refl)
 pub contains-nothing : {X : Type 0} (x : X) → ¬ Contains [] x
 contains-nothing x (k, within, at) = absurd (omega arith)
 
+pub contains-only : {X : Type 0} (x y : X) → Contains (x ∷ []) y → y ≡ x
+contains-only x y (zero, within, at) = sym at
+contains-only x y (suc k, within, at) = absurd (omega arith)
+
 pub all-append : {X : Type 0} (P : X → Type 0) (xs ys : List X) → AllByRecursion P xs → AllByRecursion P ys
     → AllByRecursion P (xs ++ ys)
 all-append P [] ys h k = k
@@ -76,14 +80,10 @@ unfolding IsStrictlySortedBy
 list-one P row only = (
   (tt, tt),
   λ other. (
-    λ h. (only other).1 (one h),
+    λ h. (only other).1 (contains-only row other h),
     λ p. let same = (only other).0 p in (0, omega arith, sym same),
   ),
 )
-  where
-    one : {other : Row} → Contains (row ∷ []) other → other ≡ row
-    one (zero, within, at) = sym at
-    one (suc k, within, at) = absurd (omega arith)
 
 pub extended-along : (P : Row → Type 0) (before after end : List Row) → IsExtendedBy P before after
     → end ≡ after

@@ -23,7 +23,7 @@ abbrev pub Ascend : List Entry → Type 0
 Ascend es = IsStrictlySortedBy string_cmp (keys_of es)
 
 -- the key is this one, or it is looked for further on
-at-or-on : (k l : Bytes)
+pub at-or-on : (k l : Bytes)
     → (k ≡ l) ⊎ ((x : Option Data) (y : Data) → match_ordering (bytes_cmp k l) x (Some y) x ≡ x)
 at-or-on k l =
     elim (bytes_cmp k l) as
@@ -35,7 +35,7 @@ at-or-on k l =
     ] refl
 
 -- a key finds what stands first at it
-here : (k l : Bytes) (d : Data) (ms : Members) → k ≡ l → get_member k (member l d ms) ≡ Some d
+pub here : (k l : Bytes) (d : Data) (ms : Members) → k ≡ l → get_member k (member l d ms) ≡ Some d
 here k l d ms same = rw (same, tied_itself nat_list_cmp_total l) refl
 
 middle-above : (first : String Global) (es : List Entry) (e : Entry) (more : List Entry)

@@ -1,5 +1,5 @@
 -- The rows of one array, by the rights' numbers.
-use Rattle.std.proofs.Common.{◌≡◌, ◌⊎◌, ◌<◌, ◌≤◌, ◌+◌, ℕ, zero, suc, List, [], ◌∷◌, ◌++◌, Contains}
+use Rattle.std.proofs.Common.{◌≡◌, ◌⊎◌, ◌<◌, ◌≤◌, ◌+◌, ℕ, zero, suc, List, [], ◌∷◌, ◌++◌, Option}
 use Rattle.std.proofs.Common.{get_or, refl, sym, ap, ◌∙◌, subst, inl, inr, arith, nat_cmp, Less, Equal}
 use Rattle.std.specs.Cmp.{tied_itself, nat_cmp_is}
 use Rattle.std.specs.Cmp.Lexicographic.{nat_list_cmp_total}
@@ -8,14 +8,16 @@ use Rattle.vault_core.specs.Numbers.{right_number}
 use Rattle.vault_core.specs.declared.right.Right.{Right}
 use Rattle.vault_core.specs.declared.right.Right.TheVariants.{Tokenize, Detokenize, View, Revoke, Purge}
 use Rattle.vault_core.specs.declared.right.Right.TheVariants.{Audit}
-use Rattle.vault_rights.specs.Named.{Row, row_cmp, IsExtendedBy}
+use Rattle.vault_rights.specs.Items.{IsGranted}
+use Rattle.vault_rights.specs.Named.{Row, row_cmp, IsLatest, IsExtendedBy}
+use Rattle.vault_rights.proofs.Latest.{Grant, latest-exact}
 use Rattle.vault_rights.proofs.Lists.{extended-join, extended-same, list-one}
 use Rattle.vault_rights.proofs.Words.{number-exact}
 
--- a row of one of the rights whose number is at most i
-abbrev pub IsRowUpTo : Bytes → Bytes → List Right → ℕ → Row → Type 0
-IsRowUpTo c m rights i row =
-    (row.0 ≡ c) × (row.1 ≡ m) × (right_number row.2 ≤ i) × Contains rights row.2
+-- a row of one of the rights whose number is at most i, with the latest end of the grants
+abbrev pub IsRowUpTo : Bytes → Bytes → List Grant → ℕ → Row → Type 0
+IsRowUpTo c m grants i row =
+    (row.0 ≡ c) × (row.1 ≡ m) × (right_number row.2 ≤ i) × IsLatest (IsGranted grants row.2) row.3
 
 abbrev pub all_rights : List Right
 all_rights = Tokenize ∷ Detokenize ∷ View ∷ Revoke ∷ Purge ∷ Audit ∷ []
@@ -53,13 +55,15 @@ le_or_lt zero b = inl (omega arith)
 le_or_lt (suc a) zero = inr (omega arith)
 le_or_lt (suc a) (suc b) = elim (le_or_lt a b) [ inl h ↦ inl (omega arith) | inr h ↦ inr (omega arith) ]
 
-pub rows-pushed : (c m : Bytes) (rights : List Right) (i : ℕ) (right : Right) (before middle : List Row)
-    → right_number right ≡ i + 1 → Contains rights right → IsExtendedBy (IsRowUpTo c m rights i) before middle
-    → IsExtendedBy (IsRowUpTo c m rights (i + 1)) before (middle ++ (c, m, right) ∷ [])
-rows-pushed c m rights i right before middle number has extended =
-    let new : Row = (c, m, right) in
+pub rows-pushed : (c m : Bytes) (grants : List Grant) (i : ℕ) (right : Right) (until : Option ℕ)
+    (before middle : List Row) → right_number right ≡ i + 1
+    → IsLatest (IsGranted grants right) until
+    → IsExtendedBy (IsRowUpTo c m grants i) before middle
+    → IsExtendedBy (IsRowUpTo c m grants (i + 1)) before (middle ++ (c, m, right, until) ∷ [])
+rows-pushed c m grants i right until before middle number latest extended =
+    let new : Row = (c, m, right, until) in
     extended-same _ _ before _
-    (extended-join (IsRowUpTo c m rights i) (λ row. row ≡ new) before middle (middle ++ new ∷ []) extended
+    (extended-join (IsRowUpTo c m grants i) (λ row. row ≡ new) before middle (middle ++ new ∷ []) extended
     (new ∷ [], refl, list-one (λ row. row ≡ new) new (λ other. (λ h. h, λ h. h)))
     (λ a b p q.
     subst (λ (t : Row). row_cmp a t ≡ Less) (sym q)
@@ -68,21 +72,25 @@ rows-pushed c m rights i right before middle number has extended =
     (λ row. (
       λ s. elim s [
         | inl p ↦ (p.0, p.1, omega (arith, p.2), p.3)
-        | inr q ↦ subst (IsRowUpTo c m rights (i + 1)) (sym q) (refl, refl, omega (arith, number), has)
+        | inr q ↦ subst (IsRowUpTo c m grants (i + 1)) (sym q) (refl, refl, omega (arith, number), latest)
       ],
       λ r. elim (le_or_lt (right_number row.2) i) [
         | inl low ↦ inl (r.0, r.1, low, r.3)
         | inr high ↦
             let same = number-exact row.2 right (omega (arith, r.2, number)) in
-            inr (λ j. (r.0 j, r.1 j, same j))
+            let end =
+            latest-exact (IsGranted grants right) row.3 until
+            (subst (λ t. IsLatest (IsGranted grants t) row.3) same r.3) latest in
+            inr (λ j. (r.0 j, r.1 j, same j, end j))
       ],
     ))
 
-pub rows-kept : (c m : Bytes) (rights : List Right) (i : ℕ) (right : Right) (before middle : List Row)
-    → right_number right ≡ i + 1 → ¬ Contains rights right
-    → IsExtendedBy (IsRowUpTo c m rights i) before middle
-    → IsExtendedBy (IsRowUpTo c m rights (i + 1)) before middle
-rows-kept c m rights i right before middle number lacks extended =
+pub rows-kept : (c m : Bytes) (grants : List Grant) (i : ℕ) (right : Right) (before middle : List Row)
+    → right_number right ≡ i + 1
+    → ((until : Option ℕ) → ¬ IsGranted grants right until)
+    → IsExtendedBy (IsRowUpTo c m grants i) before middle
+    → IsExtendedBy (IsRowUpTo c m grants (i + 1)) before middle
+rows-kept c m grants i right before middle number lacks extended =
     extended-same _ _ before middle extended
     (λ row. (
       λ p. (p.0, p.1, omega (arith, p.2), p.3),
@@ -90,6 +98,6 @@ rows-kept c m rights i right before middle number lacks extended =
         | inl low ↦ (r.0, r.1, low, r.3)
         | inr high ↦
             let same = number-exact row.2 right (omega (arith, r.2, number)) in
-            absurd (lacks (subst (Contains rights) same r.3))
+            absurd (lacks row.3 (subst (λ t. IsGranted grants t row.3) same r.3.0))
       ],
     ))

@@ -1,7 +1,11 @@
--- The words of an array, and the rights that they say.
-use Rattle.std.proofs.Common.{◌≡◌, ◌↔◌, ◌<◌, ◌≤◌, ℕ, zero, suc, List, [], ◌∷◌, cond, ◌==◌, Some}
-use Rattle.std.proofs.Common.{Contains, get_or, length, map, take, refl, sym, ap, ◌∙◌, subst, arith}
+-- The items of an array, and the rights that they give.
+use Rattle.std.proofs.Common.{◌≡◌, ◌↔◌, ◌<◌, ◌≤◌, ℕ, zero, suc, List, [], ◌∷◌, cond, ◌==◌, Option, Some}
+use Rattle.std.proofs.Common.{None}
+use Rattle.std.specs.Prelude.{IfSome}
+use Rattle.std.specs.List.{AllByRecursion}
+use Rattle.std.proofs.Common.{get_or, length, map, take, refl, sym, ap, ◌∙◌, subst, arith}
 use Rattle.std.proofs.lemmas.Cmp.{nat_cmp_total}
+use Rattle.std.proofs.lemmas.List.{take_all}
 use Rattle.std.specs.Cmp.{tied_itself}
 use Rattle.toml.specs.Data.{Data, Items, Members, string, integer, float, boolean, datetime, array}
 use Rattle.toml.specs.Data.{table, get_item, as_array, as_table}
@@ -14,37 +18,47 @@ use Rattle.vault_core.specs.declared.right.Right.TheVariants.{Tokenize, Detokeni
 use Rattle.vault_core.specs.declared.right.Right.TheVariants.{Audit}
 use Rattle.vault_core.specs.Keys.{Bytes}
 use Rattle.vault_core.specs.Name.{IsName}
+use Rattle.vault_core.specs.Scalar.{IsMoment}
 use Rattle.vault_rights.specs.Faults.{IsItemFault, IsFirstItemFault}
-use Rattle.vault_rights.specs.Named.{Row, HasWord, HasRight, HasMerchant, GivesRight, IsExtendedBy}
+use Rattle.vault_rights.specs.Items.{grant_of, IsGranted}
+use Rattle.vault_rights.specs.Named.{Row, IsLatest, HasGrant, HasRight, HasMerchant, GivesRight}
+use Rattle.vault_rights.specs.Named.{IsExtendedBy}
 use Rattle.vault_rights.specs.declared.fault.RightsFault.{RightsFault}
+use Rattle.vault_rights.proofs.Latest.{Grant, latest-same}
 use Rattle.vault_rights.proofs.Lists.{extended-same}
 use Rattle.vault_rights.proofs.Members.{some_same}
-use Rattle.vault_rights.specs.Proper.{IsRightWord, AreRightWords, EachMember, IsProperMerchant}
+use Rattle.vault_rights.specs.Proper.{IsGrant, AreGrants, EachMember, IsProperMerchant}
 use Rattle.vault_rights.specs.Proper.{IsProperCaller}
 use Rattle.toml.specs.declared.value.Value.{Value}
 
-abbrev pub word_data : Right → Data
-word_data right = string (right_word right)
+abbrev pub grant_data : Grant → Data
+grant_data grant = grant_of grant.0 grant.1
 
--- items that rights' words are
-pub words-are : (rights : List Right) → AreRightWords (items_of (map word_data rights))
-words-are [] i x found = cc
-words-are (r ∷ rights) zero x found = (r, sym (some_same found))
-words-are (r ∷ rights) (suc i) x found = words-are rights i x found
+-- the end of each, where it has one, is a moment
+abbrev pub AreMoments : List Grant → Type 0
+AreMoments grants = AllByRecursion (λ (grant : Grant). IfSome grant.1 IsMoment) grants
+
+-- items that grants are
+pub grants-are : (grants : List Grant) → AreMoments grants → AreGrants (items_of (map grant_data grants))
+grants-are [] moments i x found = cc
+grants-are (g ∷ grants) moments zero x found = (g.0, g.1, sym (some_same found), moments.0)
+grants-are (g ∷ grants) moments (suc i) x found = grants-are grants moments.1 i x found
 
 -- an item before another is one of those taken
-pub words-before : (items : List Value) (i j : ℕ) (rights : List Right) (x : Data)
-    → map view (take i items) ≡ map word_data rights → j < i → get_item j (items_of (map view items)) ≡ Some x
-    → IsRightWord x
-words-before [] i j rights x same less found = cc
-words-before (v ∷ items) zero j rights x same less found = absurd (omega arith)
-words-before (v ∷ items) (suc i) zero [] x same less found = cc
-words-before (v ∷ items) (suc i) zero
-    (r ∷ rights) x same less found = (r, let e : view v ≡ word_data r = cc in sym (some_same found) ∙ e)
-words-before (v ∷ items) (suc i) (suc j) [] x same less found = cc
-words-before (v ∷ items) (suc i) (suc j) (r ∷ rights) x same less found =
-    words-before items i j rights x (let e : map view (take i items) ≡ map word_data rights = cc in e)
-    (omega arith) found
+pub grants-before : (items : List Value) (i j : ℕ) (grants : List Grant) (x : Data)
+    → map view (take i items) ≡ map grant_data grants → AreMoments grants → j < i
+    → get_item j (items_of (map view items)) ≡ Some x
+    → IsGrant x
+grants-before [] i j grants x same moments less found = cc
+grants-before (v ∷ items) zero j grants x same moments less found = absurd (omega arith)
+grants-before (v ∷ items) (suc i) zero [] x same moments less found = cc
+grants-before (v ∷ items) (suc i) zero (g ∷ grants) x same moments less found =
+    (g.0, g.1, let e : view v ≡ grant_data g = cc in sym (some_same found) ∙ e, moments.0)
+grants-before (v ∷ items) (suc i) (suc j) [] x same moments less found = cc
+grants-before (v ∷ items) (suc i) (suc j) (g ∷ grants) x same moments less found =
+    grants-before items i j grants x
+    (let e : map view (take i items) ≡ map grant_data grants = cc in e)
+    moments.1 (omega arith) found
 
 -- the right whose word begins with the byte
 abbrev right_of : ℕ → Right
@@ -79,21 +93,33 @@ number-within Revoke = (omega arith, omega arith)
 number-within Purge = (omega arith, omega arith)
 number-within Audit = (omega arith, omega arith)
 
-pub has-word : (rights : List Right) (r : Right)
-    → HasWord (items_of (map word_data rights)) r ↔ Contains rights r
-has-word rights r = (to rights, from rights)
-  where
-    to : (rights : List Right) → HasWord (items_of (map word_data rights)) r → Contains rights r
-    to [] (i, found) = cc
-    to (x ∷ xs) (zero, found) =
-        let same : right_word x ≡ right_word r = cc in
-        (0, omega arith, word-exact x r same)
-    to (x ∷ xs) (suc i, found) = let (k, within, at) = to xs (i, found) in (suc k, omega arith, at)
+-- items of one right and end are one
+pub grant-exact : (a b : Right) (p q : Option ℕ) → grant_of a p ≡ grant_of b q → (a ≡ b) × (p ≡ q)
+grant-exact a b None None h = let same : right_word a ≡ right_word b = cc in (word-exact a b same, refl)
+grant-exact a b None (Some n) h = absurd (cc)
+grant-exact a b (Some m) None h = absurd (cc)
+grant-exact a b (Some m) (Some n) h =
+    let same : right_word a ≡ right_word b = cc in
+    let level : m ≡ n = cc in
+    (word-exact a b same, ap (λ k. Some k) level)
 
-    from : (rights : List Right) → Contains rights r → HasWord (items_of (map word_data rights)) r
+pub has-grant : (grants : List Grant) (r : Right) (until : Option ℕ)
+    → HasGrant (items_of (map grant_data grants)) r until ↔ IsGranted grants r until
+has-grant grants r until = (to grants, from grants)
+  where
+    to : (grants : List Grant) → HasGrant (items_of (map grant_data grants)) r until
+        → IsGranted grants r until
+    to [] (i, found) = cc
+    to (g ∷ gs) (zero, found) =
+        let same = grant-exact g.0 r g.1 until (some_same found) in
+        (0, omega arith, λ i. (same.0 i, same.1 i))
+    to (g ∷ gs) (suc i, found) = let (k, within, at) = to gs (i, found) in (suc k, omega arith, at)
+
+    from : (grants : List Grant) → IsGranted grants r until
+        → HasGrant (items_of (map grant_data grants)) r until
     from [] (k, within, at) = absurd (omega arith)
-    from (x ∷ xs) (zero, within, at) = (0, ap (λ t. Some (word_data t)) at)
-    from (x ∷ xs) (suc k, within, at) = let (i, found) = from xs (k, omega arith, at) in (suc i, found)
+    from (g ∷ gs) (zero, within, at) = (0, ap (λ t. Some (grant_data t)) at)
+    from (g ∷ gs) (suc k, within, at) = let (i, found) = from gs (k, omega arith, at) in (suc i, found)
 
 -- an item of the array, by its place
 pub found-item : (items : List Value) (i : ℕ) (d : Value) → i < length items
@@ -102,19 +128,27 @@ found-item [] i d h = absurd (omega arith)
 found-item (v ∷ items) zero d h = refl
 found-item (v ∷ items) (suc i) d h = found-item items i d (omega arith)
 
--- the first item that is no right's word
-pub first-item-fault : (items xs : List Value) (i : ℕ) (x : Value) (rights : List Right)
+-- where each item was read, each gives a right
+pub grants-whole : (items xs : List Value) (i : ℕ) (grants : List Grant) → xs ≡ items → length xs ≤ i
+    → map view (take i xs) ≡ map grant_data grants → AreMoments grants → AreGrants (items_of (map view items))
+grants-whole items xs i grants same past read moments =
+    subst (λ t. AreGrants (items_of (map view t))) (take_all i xs past ∙ same)
+    (subst (λ ds. AreGrants (items_of ds)) (sym read) (grants-are grants moments))
+
+-- the first item that gives no right
+pub first-item-fault : (items xs : List Value) (i : ℕ) (x : Value) (grants : List Grant)
     (fault : RightsFault) → xs ≡ items
-    → i < length xs → x ≡ get_or xs i x → map view (take i xs) ≡ map word_data rights
+    → i < length xs → x ≡ get_or xs i x → map view (take i xs) ≡ map grant_data grants
+    → AreMoments grants
     → IsItemFault (view x) fault
     → IsFirstItemFault (items_of (map view items)) fault
-first-item-fault items xs i x rights fault same within at read bad =
+first-item-fault items xs i x grants fault same within at read moments bad =
     subst (λ t. IsFirstItemFault (items_of (map view t)) fault) same (
       i,
       view x,
       found-item xs i x within ∙ ap (λ t. Some (view t)) (sym at),
       bad,
-      λ j earlier less found. words-before xs i j rights earlier read less found,
+      λ j earlier less found. grants-before xs i j grants earlier read moments less found,
     )
 
 pub as-array : (d : Data) (xs : Items) → Some xs ≡ as_array d → d ≡ array xs
@@ -135,29 +169,31 @@ as-table (boolean s) xs h = cc
 as-table (datetime s) xs h = cc
 as-table (array s) xs h = cc
 
-pub proper-merchant : (name bytes : Bytes) (d : Data) (xs : Items) (rights : List Right) → bytes ≡ name
+pub proper-merchant : (name bytes : Bytes) (d : Data) (xs : Items) → bytes ≡ name
     → IsName bytes
-    → Some xs ≡ as_array d → xs ≡ items_of (map word_data rights) → IsProperMerchant name d
-proper-merchant name bytes d xs rights same named is words =
-    (subst IsName same named, (xs, as-array d xs is, subst AreRightWords (sym words) (words-are rights)))
+    → Some xs ≡ as_array d → AreGrants xs → IsProperMerchant name d
+proper-merchant name bytes d xs same named is grants =
+    (subst IsName same named, (xs, as-array d xs is, grants))
 
-pub merchant-rows : (c m name : Bytes) (d : Data) (xs : Items) (rights read : List Right)
+pub merchant-rows : (c m name : Bytes) (d : Data) (xs : Items) (grants read : List Grant)
     (before after : List Row) → m ≡ name
-    → Some xs ≡ as_array d → xs ≡ items_of (map word_data rights) → read ≡ rights
-    → IsExtendedBy (λ row. (row.0 ≡ c) × (row.1 ≡ m) × Contains read row.2) before after
-    → IsExtendedBy (λ row. (row.0 ≡ c) × (row.1 ≡ name) × HasRight d row.2) before after
-merchant-rows c m name d xs rights read before after same is words held rows =
+    → Some xs ≡ as_array d → xs ≡ items_of (map grant_data grants) → read ≡ grants
+    → IsExtendedBy (λ row. (row.0 ≡ c) × (row.1 ≡ m) × IsLatest (IsGranted read row.2) row.3) before after
+    → IsExtendedBy (λ row. (row.0 ≡ c) × (row.1 ≡ name) × HasRight d row.2 row.3) before after
+merchant-rows c m name d xs grants read before after same is items held rows =
     let kind = as-array d xs is in
     extended-same _ _ before after rows
-    (λ row. (
+    (λ row.
+    let among = λ (until : Option ℕ). has-grant grants row.2 until in (
       λ p. (
         p.0,
         p.1 ∙ same,
         (
           xs,
           kind,
-          subst (λ t. HasWord t row.2) (sym words)
-              ((has-word rights row.2).1 (subst (λ t. Contains t row.2) held p.2)),
+          subst (λ t. IsLatest (HasGrant t row.2) row.3) (sym items)
+              (latest-same _ _ row.3 (λ until. ((among until).1, (among until).0))
+              (subst (λ t. IsLatest (IsGranted t row.2) row.3) held p.2)),
         ),
       ),
       λ r.
@@ -165,8 +201,9 @@ merchant-rows c m name d xs rights read before after same is words held rows =
           let level : ys ≡ xs = cc in (
             r.0,
             r.1 ∙ sym same,
-            subst (λ t. Contains t row.2) (sym held)
-                ((has-word rights row.2).0 (subst (λ t. HasWord t row.2) (level ∙ words) w)),
+            subst (λ t. IsLatest (IsGranted t row.2) row.3) (sym held)
+                (latest-same _ _ row.3 among
+                (subst (λ t. IsLatest (HasGrant t row.2) row.3) (level ∙ items) w)),
           ),
     ))
 
@@ -177,8 +214,8 @@ proper-caller name bytes d ms same named is each = (subst IsName same named, (ms
 
 pub caller-rows : (c name : Bytes) (d : Data) (ms : Members) (before after : List Row) → c ≡ name
     → Some ms ≡ as_table d
-    → IsExtendedBy (λ row. (row.0 ≡ c) × HasMerchant ms row.1 row.2) before after
-    → IsExtendedBy (λ row. (row.0 ≡ name) × GivesRight d row.1 row.2) before after
+    → IsExtendedBy (λ row. (row.0 ≡ c) × HasMerchant ms row.1 row.2 row.3) before after
+    → IsExtendedBy (λ row. (row.0 ≡ name) × GivesRight d row.1 row.2 row.3) before after
 caller-rows c name d ms before after same is rows =
     let kind = as-table d ms is in
     extended-same _ _ before after rows
@@ -187,5 +224,5 @@ caller-rows c name d ms before after same is rows =
       λ r.
           let (other, kinds, has) = r.1 in
           let level : other ≡ ms = cc in
-          (r.0 ∙ sym same, subst (λ t. HasMerchant t row.1 row.2) level has),
+          (r.0 ∙ sym same, subst (λ t. HasMerchant t row.1 row.2 row.3) level has),
     ))

@@ -1,17 +1,18 @@
 -- The fault of a document: that of its first faulty place, in the order in which faults are looked for.
-use Rattle.std.specs.Prelude.{◌≡◌, ◌<◌, ◌⊎◌, ℕ, List, Some, None, IsUtf8}
+use Rattle.std.specs.Prelude.{◌≡◌, ◌<◌, ◌⊎◌, ℕ, ℤ, pos, List, Option, Some, None, IsUtf8}
 use Rattle.std.specs.declared.cmp.Ordering.TheVariants.{Less}
-use Rattle.toml.specs.Data.{Data, Items, Members, string, array, table, get_item, get_member, as_str}
-use Rattle.toml.specs.Data.{as_array, as_table}
+use Rattle.toml.specs.Data.{Data, Items, Members, array, table, get_item, get_member, as_array, as_table}
 use Rattle.toml.specs.Parse.{parse_document}
 use Rattle.vault_core.specs.Keys.{Bytes, bytes_cmp}
 use Rattle.vault_core.specs.Name.{IsName}
+use Rattle.vault_core.specs.Scalar.{IsMoment}
 use Rattle.vault_core.specs.Words.{right_word}
 use Rattle.vault_core.specs.declared.right.Right.{Right}
-use Rattle.vault_rights.specs.Proper.{IsRightWord, IsProperMerchant, IsProperCaller}
+use Rattle.vault_rights.specs.Items.{item_of}
+use Rattle.vault_rights.specs.Proper.{IsGrant, IsProperMerchant, IsProperCaller}
 use Rattle.vault_rights.specs.declared.fault.RightsFault.{RightsFault}
 use Rattle.vault_rights.specs.declared.fault.RightsFault.TheVariants.{NotToml, UnknownRight, BadName}
-use Rattle.vault_rights.specs.declared.fault.RightsFault.TheVariants.{WrongType, Memory}
+use Rattle.vault_rights.specs.declared.fault.RightsFault.TheVariants.{WrongType, Memory, BadEnd}
 
 -- the number of a fault
 abbrev pub number_of : RightsFault → ℕ
@@ -20,19 +21,35 @@ number_of UnknownRight = 71
 number_of BadName = 72
 number_of WrongType = 73
 number_of Memory = 74
+number_of BadEnd = 75
 
--- an item that is no text, or a text that is no right's word
+-- an item that is neither a text nor a table of a word and an end
+abbrev pub IsOtherItem : Data → Type 0
+IsOtherItem item = (word : Bytes) (end : Option ℤ) → ¬ (item ≡ item_of word end)
+
+-- an item whose word is no right's
+abbrev pub HasOtherWord : Data → Type 0
+HasOtherWord item =
+    (word : Bytes) × (end : Option ℤ) × (item ≡ item_of word end)
+    × ((right : Right) → ¬ (word ≡ right_word right))
+
+-- an item of a right whose end is no moment
+abbrev pub HasOtherEnd : Data → Type 0
+HasOtherEnd item =
+    (right : Right) × (end : ℤ) × (item ≡ item_of (right_word right) (Some end))
+    × ((moment : ℕ) → IsMoment moment → ¬ (end ≡ pos moment))
+
+-- the fault of an item: of its shape, else of its word, else of its end
 abbrev pub IsItemFault : Data → RightsFault → Type 0
 IsItemFault item fault =
-    ((as_str item ≡ None) × (fault ≡ WrongType))
-    ⊎ ((word : Bytes) × (item ≡ string word) × ((right : Right) → ¬ (word ≡ right_word right))
-    × (fault ≡ UnknownRight))
+    (IsOtherItem item × (fault ≡ WrongType))
+    ⊎ ((HasOtherWord item × (fault ≡ UnknownRight)) ⊎ (HasOtherEnd item × (fault ≡ BadEnd)))
 
--- the first item that is no right's word has the fault
+-- the first item that gives no right has the fault
 abbrev pub IsFirstItemFault : Items → RightsFault → Type 0
 IsFirstItemFault items fault =
     (i : ℕ) × (item : Data) × (get_item i items ≡ Some item) × IsItemFault item fault
-    × ((j : ℕ) (earlier : Data) → j < i → get_item j items ≡ Some earlier → IsRightWord earlier)
+    × ((j : ℕ) (earlier : Data) → j < i → get_item j items ≡ Some earlier → IsGrant earlier)
 
 -- a merchant's key is no name; else its value is no array; else the array's first faulty item has the fault
 abbrev pub IsMerchantFault : Bytes → Data → RightsFault → Type 0

@@ -1,16 +1,19 @@
 //! The array of a merchant, and the rows that it makes.
-ghost use Rattle.std.specs.Prelude.{◌≡◌, ◌⊎◌, ◌↔◌, IsTrue, IfOk, IfErr, map, Contains};
-ghost use Rattle.toml.specs.Data.{string};
-ghost use Rattle.toml.specs.View.{view, array_view, items_of};
-ghost use Rattle.vault_core.specs.Words.{right_word};
-ghost use Rattle.vault_rights.specs.Faults.{IsItemFault, IsFirstItemFault};
-ghost use Rattle.vault_rights.specs.Named.{IsExtendedBy};
-ghost use Rattle.vault_rights.specs.declared.fault.RightsFault.TheVariants.{Memory};
+ghost use Rattle.std.specs.Prelude.{◌≡◌, ◌⊎◌, ℕ, ℤ, pos, Some, IfOk, IfErr, IfSome, IfNone, map, option_map};
+ghost use Rattle.toml.specs.View.{view, array_view, items_of, table_view};
+ghost use Rattle.vault_core.specs.Keys.{Bytes};
+ghost use Rattle.vault_core.specs.Scalar.{IsMoment};
+ghost use Rattle.vault_rights.specs.Faults.{IsOtherItem, IsItemFault, IsFirstItemFault};
+ghost use Rattle.vault_rights.specs.Items.{IsGranted, pair_of, item_of, grant_of};
+ghost use Rattle.vault_rights.specs.Named.{IsLatest, IsExtendedBy};
+ghost use Rattle.vault_rights.specs.Proper.{AreGrants};
+ghost use Rattle.vault_rights.specs.declared.fault.RightsFault.TheVariants.{Memory, BadEnd};
 
 use crate::fault::RightsFault;
 use std::alloc::Global;
-use toml::Value;
 use toml::value::Array;
+use toml::{Table, Value};
+use vault_core::moment::Moment;
 use vault_core::name::{Caller, MerchantId};
 use vault_core::right::Right;
 
@@ -24,56 +27,120 @@ const RIGHTS: [Right; 6] = [
     Right::Audit,
 ];
 
-/// Reads an item of an array, a right's word.
-fn read_right(item: &Value) -> Result<Right, RightsFault>
-    ensures right { IfOk result (λ right. view item.now ≡ string (right_word right)) }
+/// What an item gives: a right, and its end where it has one.
+pub(crate) type Grant = (Right, Option<Moment>);
+
+/// The word and the end in a table of exactly the two.
+fn said_in(members: &Table) -> Option<(&str, i64)>
+    ensures said { IfSome result (λ said. table_view members.now ≡ pair_of said.0.now said.1) }
+    ensures none { IfNone result ((word : Bytes) (end : ℤ) → ¬ (table_view members.now ≡ pair_of word end)) }
+{
+    if members.len() != 2 {
+        return None;
+    }
+    let word = members.get("right")?.as_str()?;
+    let end = members.get("until")?.as_integer()?;
+    Some((word, end))
+}
+
+/// The word of an item, and its end where it has one.
+fn said_by(item: &Value) -> Option<(&str, Option<i64>)>
+    ensures said { IfSome result (λ said. view item.now ≡ item_of said.0.now said.1) }
+    ensures none { IfNone result (IsOtherItem (view item.now)) }
+{
+    if let Some(word) = item.as_str() {
+        return Some((word, None));
+    }
+    let (word, end) = said_in(item.as_table()?)?;
+    Some((word, Some(end)))
+}
+
+/// The moment of an end, where there is one.
+fn read_end(end: Option<i64>) -> Result<Option<Moment>, RightsFault>
+    ensures until { IfOk result (λ until. end ≡ option_map pos until) }
+    ensures moment { IfOk result (λ until. IfSome until IsMoment) }
+    ensures fault { IfErr result (λ fault. (other : ℤ) × (end ≡ Some other)
+        × ((moment : ℕ) → IsMoment moment → ¬ (other ≡ pos moment)) × (fault ≡ BadEnd)) }
+{
+    let Some(end) = end else {
+        return Ok(None);
+    };
+    if end < 0 {
+        return Err(RightsFault::BadEnd);
+    }
+    Ok(Some(Moment::new(end as u64)?))
+}
+
+/// Reads an item of an array.
+fn read_grant(item: &Value) -> Result<Grant, RightsFault>
+    ensures grant { IfOk result (λ grant. view item.now ≡ grant_of grant.0 grant.1) }
+    ensures moment { IfOk result (λ grant. IfSome grant.1 IsMoment) }
     ensures fault { IfErr result (IsItemFault (view item.now)) }
 {
-    let word = match item.as_str() {
-        Some(word) => word,
-        None => return Err(RightsFault::WrongType),
+    let Some((word, end)) = said_by(item) else {
+        return Err(RightsFault::WrongType);
     };
-    match Right::read(word.as_bytes()) {
-        Some(right) => Ok(right),
-        None => Err(RightsFault::UnknownRight),
-    }
+    let Some(right) = Right::read(word.as_bytes()) else {
+        return Err(RightsFault::UnknownRight);
+    };
+    let until = read_end(end)?;
+    Ok((right, until))
 }
 
-/// Reads an array's rights, in its order.
-pub(crate) fn read_rights(alloc: Global, items: &Array) -> Result<Vec<Right>, RightsFault>
-    ensures rights { IfOk result (λ rights.
-        array_view items.now ≡ items_of (map (λ right. string (right_word right)) rights.items)) }
+/// Reads an array's items, in its order.
+pub(crate) fn read_grants(alloc: Global, items: &Array) -> Result<Vec<Grant>, RightsFault>
+    ensures grants { IfOk result (λ grants.
+        array_view items.now ≡ items_of (map (λ grant. grant_of grant.0 grant.1) grants.items)) }
+    ensures proper { IfOk result (λ _. AreGrants (array_view items.now)) }
     ensures fault { IfErr result (λ fault. (fault ≡ Memory) ⊎ IsFirstItemFault (array_view items.now) fault) }
 {
-    let mut rights = Vec::new(alloc);
+    let mut grants = Vec::new(alloc);
     for item in items {
-        rights.push(read_right(item)?)?;
+        grants.push(read_grant(item)?)?;
     }
-    Ok(rights)
+    Ok(grants)
 }
 
-/// Whether the right is one of the rights.
-fn has_right(rights: &[Right], right: Right) -> bool
-    ensures { IsTrue result ↔ Contains rights.now right }
+/// The latest end so far, and that of one more grant: the later of the two.
+fn later_end(latest: Option<Option<Moment>>, until: Option<Moment>) -> Option<Moment>
+    ensures { IsLatest (λ end. (end ≡ until) ⊎ (latest ≡ Some end)) result }
 {
-    rights.contains(&right)
+    match latest {
+        Some(end) => Some(end?.later(until?)),
+        None => until,
+    }
 }
 
-/// Adds a row for each of the rights, by number and each once.
+/// The latest end of the grants of a right, if one of them is of the right.
+fn latest_end(grants: &[Grant], right: Right) -> Option<Option<Moment>>
+    ensures some { IfSome result (IsLatest (IsGranted grants.now right)) }
+    ensures none { IfNone result ((until : _) → ¬ IsGranted grants.now right until) }
+{
+    let mut latest = None;
+    for grant in grants {
+        let (granted, until) = *grant;
+        if granted == right {
+            latest = Some(later_end(latest, until));
+        }
+    }
+    latest
+}
+
+/// Adds a row for each of the rights, by number and each once, with the latest of its ends.
 pub(crate) fn push_rows(
     caller: Caller,
     merchant: MerchantId,
-    rights: &[Right],
-    rows: &mut Vec<(Caller, MerchantId, Right)>,
+    grants: &[Grant],
+    rows: &mut Vec<(Caller, MerchantId, Right, Option<Moment>)>,
 ) -> Result<(), RightsFault>
     ensures rows { IfOk result (λ _. IsExtendedBy
-        (λ row. (row.0 ≡ caller) × (row.1 ≡ merchant) × Contains rights.now row.2)
+        (λ row. (row.0 ≡ caller) × (row.1 ≡ merchant) × IsLatest (IsGranted grants.now row.2) row.3)
         rows.old.items rows.new.items) }
     ensures memory { IfErr result (λ fault. fault ≡ Memory) }
 {
     for right in RIGHTS {
-        if has_right(rights, right) {
-            rows.push((caller, merchant, right))?;
+        if let Some(until) = latest_end(grants, right) {
+            rows.push((caller, merchant, right, until))?;
         }
     }
     Ok(())

@@ -9,9 +9,10 @@ ghost use Rattle.vault_rights.specs.Proper.{EachMember, IsProperMerchant, IsProp
 ghost use Rattle.vault_rights.specs.declared.fault.RightsFault.TheVariants.{NotToml, Memory};
 
 use crate::fault::RightsFault;
-use crate::items::{push_rows, read_rights as read_items};
+use crate::items::{push_rows, read_grants};
 use std::alloc::Global;
 use toml::{Table, Value};
+use vault_core::moment::Moment;
 use vault_core::name::{Caller, MerchantId};
 use vault_core::right::Right;
 
@@ -21,11 +22,11 @@ fn read_merchant(
     caller: Caller,
     key: &str,
     value: &Value,
-    rows: &mut Vec<(Caller, MerchantId, Right)>,
+    rows: &mut Vec<(Caller, MerchantId, Right, Option<Moment>)>,
 ) -> Result<(), RightsFault>
     ensures proper { IfOk result (λ _. IsProperMerchant key.now (view value.now)) }
     ensures rows { IfOk result (λ _. IsExtendedBy
-        (λ row. (row.0 ≡ caller) × (row.1 ≡ key.now) × HasRight (view value.now) row.2)
+        (λ row. (row.0 ≡ caller) × (row.1 ≡ key.now) × HasRight (view value.now) row.2 row.3)
         rows.old.items rows.new.items) }
     ensures fault { IfErr result (λ fault.
         (fault ≡ Memory) ⊎ IsMerchantFault key.now (view value.now) fault) }
@@ -35,8 +36,8 @@ fn read_merchant(
         Some(items) => items,
         None => return Err(RightsFault::WrongType),
     };
-    let rights = read_items(alloc, items)?;
-    push_rows(caller, merchant, &rights, rows)?;
+    let grants = read_grants(alloc, items)?;
+    push_rows(caller, merchant, &grants, rows)?;
     Ok(())
 }
 
@@ -45,11 +46,11 @@ fn read_merchants(
     alloc: Global,
     caller: Caller,
     members: &Table,
-    rows: &mut Vec<(Caller, MerchantId, Right)>,
+    rows: &mut Vec<(Caller, MerchantId, Right, Option<Moment>)>,
 ) -> Result<(), RightsFault>
     ensures proper { IfOk result (λ _. EachMember IsProperMerchant (table_view members.now)) }
     ensures rows { IfOk result (λ _. IsExtendedBy
-        (λ row. (row.0 ≡ caller) × HasMerchant (table_view members.now) row.1 row.2)
+        (λ row. (row.0 ≡ caller) × HasMerchant (table_view members.now) row.1 row.2 row.3)
         rows.old.items rows.new.items) }
     ensures fault { IfErr result (λ fault.
         (fault ≡ Memory) ⊎ IsFirstFault IsProperMerchant IsMerchantFault (table_view members.now) fault) }
@@ -65,11 +66,12 @@ fn read_caller(
     alloc: Global,
     key: &str,
     value: &Value,
-    rows: &mut Vec<(Caller, MerchantId, Right)>,
+    rows: &mut Vec<(Caller, MerchantId, Right, Option<Moment>)>,
 ) -> Result<(), RightsFault>
     ensures proper { IfOk result (λ _. IsProperCaller key.now (view value.now)) }
     ensures rows { IfOk result (λ _. IsExtendedBy
-        (λ row. (row.0 ≡ key.now) × GivesRight (view value.now) row.1 row.2) rows.old.items rows.new.items) }
+        (λ row. (row.0 ≡ key.now) × GivesRight (view value.now) row.1 row.2 row.3)
+        rows.old.items rows.new.items) }
     ensures fault { IfErr result (λ fault. (fault ≡ Memory) ⊎ IsCallerFault key.now (view value.now) fault) }
 {
     let caller = Caller::read(key.as_bytes())?;
@@ -85,7 +87,7 @@ fn read_caller(
 fn read_callers(
     alloc: Global,
     document: &Table,
-    rows: &mut Vec<(Caller, MerchantId, Right)>,
+    rows: &mut Vec<(Caller, MerchantId, Right, Option<Moment>)>,
 ) -> Result<(), RightsFault>
     ensures proper { IfOk result (λ _. IsProper (table_view document.now)) }
     ensures rows { IfOk result (λ _.
@@ -117,16 +119,19 @@ fn read_document(alloc: Global, text: &[u8]) -> Result<Table, RightsFault>
 }
 
 /// Reads a rights file: the rights that its document names, by caller, merchant (by their bytes) and
-/// right (by number), each once.
+/// right (by number), each once, with its end. A text of an array gives a right for good, and a table of
+/// exactly a text `right` and a whole number `until` up to that moment. Of a right that several items of an
+/// array give, the latest end stands; to have none is the latest.
 ///
 /// Refused are, in this order: 70 a text that is no TOML document; then, caller by caller in the order
 /// of their bytes, 72 a key that is no name, 73 a value that is no table, and merchant by merchant in it
-/// 72 a key that is no name, 73 a value that is no array, and item by item in it 73 what is no text and
-/// 71 a word that is no right. 74: memory was refused, which says nothing of the text.
+/// 72 a key that is no name, 73 a value that is no array, and item by item in it 73 what is neither such a
+/// text nor such a table, 71 a word that is no right, and 75 an end that is no moment. 74: memory was
+/// refused, which says nothing of the text.
 pub fn read_rights(
     alloc: Global,
     text: &[u8],
-) -> Result<Vec<(Caller, MerchantId, Right)>, RightsFault>
+) -> Result<Vec<(Caller, MerchantId, Right, Option<Moment>)>, RightsFault>
     ensures rights { IfOk result (λ rows. (document : Members) × IsDocument text.now document
         × IsProper document × IsListOf (Names document) rows.items) }
     ensures fault { IfErr result (IsFault text.now) }

@@ -24,12 +24,16 @@ use Rattle.sql_maps.specs.States as maps
 use Rattle.sql_maps.proofs.Calls as calls
 use Rattle.sql_maps.proofs.Statements.{Ran}
 use Rattle.vault_core.specs.Keys.{Bytes}
+use Rattle.vault_pan.specs.Mask.{lead_digits}
+use Rattle.vault_pan.specs.declared.lead.Lead.{Lead}
+use Rattle.vault_pan.specs.declared.lead.Lead.TheVariants.{Six, Eight}
 use Rattle.vault_core.specs.Numbers.{right_number}
 use Rattle.vault_core.specs.Vault.{Vault}
 use Rattle.vault_core.specs.declared.right.Right.{Right}
 use Rattle.std.specs.FinMap as map
-use Rattle.vault_schema.specs.Version1.Claims.{Lookups}
-use Rattle.vault_schema.specs.Version2.Claims.{Lookups as Tables, claims}
+use Rattle.vault_schema.specs.Versions.{Lookups}
+use Rattle.vault_schema.specs.Versions.{Tables}
+use Rattle.vault_schema.specs.Stands.{newest_claims}
 use Rattle.vault_schema.specs.Version2.Joined.{AreJoined, nothing_owed}
 use Rattle.vault_schema.specs.declared.v2.Card.{Card}
 use Rattle.vault_schema.specs.declared.v2.Pointing.{Pointing}
@@ -37,13 +41,18 @@ use Rattle.vault_rows.specs.Calls.{HasTables, IsWithin, Makes, Tells, TellsInsid
 use Rattle.vault_schema.specs.Holds.{AreOurs, Holds, LeavesEither}
 use Rattle.vault_schema.specs.Left.{left_after}
 use Rattle.vault_schema.specs.Schema.{newest_schema}
-use Rattle.vault_schema.specs.Stands.{Stands, lookups_of, tables_of}
+use Rattle.vault_schema.specs.Stands.{Stands, lookups_of}
+use Rattle.vault_schema.specs.Versions.{tables_of}
 use Rattle.sqlite_catalog.specs.Listing.{IsSound}
 
 -- ---- parameters
 
 pub small_right : (right : Right) → right_number right < 2 ^ 63
 small_right right = grind arith
+
+pub small_lead : (lead : Lead) → lead_digits lead < 2 ^ 63
+small_lead Six = omega arith
+small_lead Eight = omega arith
 
 -- ---- a vault that is held, as claims on the tables
 
@@ -52,7 +61,7 @@ abbrev pub held_tables : (st : State) (V : Vault) → Holds st V → Tables
 held_tables st V h = tables_of (lookups_of V) h.stands.cards h.stands.pointing
 
 pub as_held : (st : State) (V : Vault) (h : Holds st V)
-    → maps.Holds newest_schema (claims (held_tables st V h)) st
+    → maps.Holds newest_schema (newest_claims (held_tables st V h)) st
 as_held st V h = record {
   free = record { is_open = h.is_open; unlimited = h.unlimited };
   autocommit = h.autocommit;
@@ -62,7 +71,7 @@ as_held st V h = record {
 
 pub as_vault : (st : State) (V : Vault) (cards : ℤ → Option Card)
     (pointing : Bytes × Bytes → Option Pointing) → AreJoined nothing_owed cards pointing (map.get V.entries)
-    → maps.Holds newest_schema (claims (tables_of (lookups_of V) cards pointing)) st → Holds st V
+    → maps.Holds newest_schema (newest_claims (tables_of (lookups_of V) cards pointing)) st → Holds st V
 as_vault st V cards pointing joined h = record {
   is_open = h.free.is_open;
   autocommit = h.autocommit;
@@ -79,7 +88,7 @@ pub begun_over : (st : State) (V : Vault) → Holds st V
 begun_over st V h = record {
   cards = h.stands.cards;
   pointing = h.stands.pointing;
-  has = calls.begun newest_schema (claims (held_tables st V h)) st (as_held st V h);
+  has = calls.begun newest_schema (newest_claims (held_tables st V h)) st (as_held st V h);
   joined = h.stands.joined;
 }
 
@@ -107,7 +116,7 @@ pub tells_tables : {R E : Type 0} {result : Result R E} {old new : State} {sql :
     → ((s : Schema) → IsPlain (understood s sql) → Reads s result old new)
     → (items : R → List Row) (params : Row)
     → (HasCleanDisk new → IfOk result (λ rows. Shown sql params old new (items rows)))
-    → ((t : Tables) (rows : R) → maps.Stands newest_schema (claims t) old.now
+    → ((t : Tables) (rows : R) → maps.Stands newest_schema (newest_claims t) old.now
     → Shown sql params old new (items rows) → Is t rows) → TellsTables result old new Is
 tells_tables {result = result} {old = old} {new = new} {sql = sql} means reads items params told
     lemma = record {
@@ -124,7 +133,7 @@ pub tells_of : {R E : Type 0} {result : Result R E} {old new : State} {Is : Tabl
     → Is (tables_of (lookups_of V) cards pointing) x → Of V x) → Tells result old new Of
 tells_of {result = result} {old = old} {Is = Is} it of = record {
   reads = it.reads;
-  told = λ clean. calls.if_ok result (λ x. (t : Tables) → maps.Stands newest_schema (claims t) old.now
+  told = λ clean. calls.if_ok result (λ x. (t : Tables) → maps.Stands newest_schema (newest_claims t) old.now
       → Is t x) _
       (it.told clean) (λ x so V h.
       of V h.stands.cards h.stands.pointing x h.stands.joined
@@ -139,7 +148,7 @@ pub tells : {R E : Type 0} {result : Result R E} {old new : State} {sql : List �
     → (HasCleanDisk new → IfOk result (λ rows. Shown sql params old new (items rows)))
     → ((V : Vault) (cards : ℤ → Option Card) (pointing : Bytes × Bytes → Option Pointing) (rows : R)
     → AreJoined nothing_owed cards pointing (map.get V.entries)
-    → maps.Stands newest_schema (claims (tables_of (lookups_of V) cards pointing)) old.now
+    → maps.Stands newest_schema (newest_claims (tables_of (lookups_of V) cards pointing)) old.now
     → Shown sql params old new (items rows) → Is V rows) → Tells result old new Is
 tells {result = result} {old = old} {new = new} {sql = sql} means reads items params told lemma = record {
   reads = reads newest_schema means.plain;
@@ -152,7 +161,7 @@ tells {result = result} {old = old} {new = new} {sql = sql} means reads items pa
 pub looks_up : {R E K X : Type 0} {result : Result R E} {old new : State} {sql : List ℕ} {project : List Term}
     {cmp : K → K → Ordering} {key : K → Row} {value : X → Row} (t : Keyed newest_schema cmp key value)
     (held : Tables → K → Option X)
-    (said : (h : Tables) (rows : List Row) → claim_at (claims h) t.place rows
+    (said : (h : Tables) (rows : List Row) → claim_at (newest_claims h) t.place rows
     → AreRowsOf (row_of key value) rows (held h))
     → IsQuery newest_schema sql (query_of t.table.tree (by_key (suc t.more)) project)
     → ((s : Schema) → IsPlain (understood s sql) → Reads s result old new)
@@ -174,7 +183,8 @@ still_held {old = old} {new = new} reads V h = (
   λ clean.
       let held = h.1 (omega (arith, reads.clean, clean)) in
       as_vault new V held.stands.cards held.stands.pointing held.stands.joined
-      (calls.holds_on newest_schema (claims (held_tables old V held)) old new (reads.kept clean held.schema)
+      (calls.holds_on newest_schema (newest_claims (held_tables old V held)) old new
+      (reads.kept clean held.schema)
       reads.limit (as_held old V held)),
 )
 
@@ -186,7 +196,7 @@ pub turns : {E : Type 0} {result : Result (Unit {0}) E} {old new : State} {sql :
     → (HasCleanDisk new
     → OnOk result
     (IsTrue old.in_transaction → (count : ℕ) × ExecutesInside 0 sql params old new (Ok count)))
-    → ((t : Tables) (base : Database) → Can t → Ran newest_schema (claims t) base old new sql params
+    → ((t : Tables) (base : Database) → Can t → Ran newest_schema (newest_claims t) base old new sql params
     → (after : Tables) × After tt t after × HasTables new base after) → Turns result old new Can After
 turns {E} {result} {old} {new} {sql} {params} {Can} {After} steps ran lemma = record {
   steps = steps;
@@ -206,7 +216,8 @@ turns {E} {result} {old} {new} {sql} {params} {Can} {After} steps ran lemma = re
 pub turns_telling : {R E : Type 0} {y : R} {old new : State} {sql : List ℕ} {params : Row} {count : ℕ}
     {Can : Tables → Type 0} {After : R → Tables → Tables → Type 0} → Steps old new
     → (HasCleanDisk new → IsTrue old.in_transaction → ExecutesInside 0 sql params old new (Ok count))
-    → ((t : Tables) (base : Database) → Can t → (run : Ran newest_schema (claims t) base old new sql params)
+    → ((t : Tables) (base : Database) → Can t → (run : Ran newest_schema
+    (newest_claims t) base old new sql params)
     → run.count ≡ count → (after : Tables) × After y t after × HasTables new base after)
     → Turns (let it : Result R E = Ok y in it) old new Can After
 turns_telling {count = count} steps ran lemma = record {
@@ -223,7 +234,7 @@ pub tells_inside : {R E : Type 0} {result : Result R E} {old new : State} {sql :
     → (HasCleanDisk new → IfOk result (λ rows. Shown sql params old new (items rows)))
     → (HasCleanDisk new → (s : Schema) → IsPlain (understood s sql) → old.now.schema ≡ s
     → OnOk result (IsUnchanged old new))
-    → ((t : Tables) (rows : R) → maps.Stands newest_schema (claims t) old.now
+    → ((t : Tables) (rows : R) → maps.Stands newest_schema (newest_claims t) old.now
     → Shown sql params old new (items rows) → Is t rows) → TellsInside result old new Is
 tells_inside {R} {E} {result} {old} {new} {sql} {Is = Is} means steps items params told kept lemma = record {
   steps = steps;
@@ -241,7 +252,7 @@ tells_inside {R} {E} {result} {old} {new} {sql} {Is = Is} means steps items para
             free = record { is_open = still.0.is_open; unlimited = steps.limit ∙ w.free.unlimited };
             inside = still.0.mode ∙ w.inside;
             committed = still.0.committed_is ∙ w.committed;
-            stands = subst (maps.Stands newest_schema (claims t)) (sym still.0.now_is) w.stands;
+            stands = subst (maps.Stands newest_schema (newest_claims t)) (sym still.0.now_is) w.stands;
           },
         )
 
@@ -253,7 +264,7 @@ pub makes : {R E : Type 0} {result : Result R E} {old new : State} {sql : List �
     (IsTrue old.in_transaction → (count : ℕ) × ExecutesInside 0 sql params old new (Ok count)))
     → ((h : Lookups) → (after h).entries ≡ h.entries)
     → ((h : Lookups) (cards : ℤ → Option Card) (pointing : Bytes × Bytes → Option Pointing) (base : Database)
-    → Can h → Ran newest_schema (claims (tables_of h cards pointing)) base old new sql params
+    → Can h → Ran newest_schema (newest_claims (tables_of h cards pointing)) base old new sql params
     → HasTables new base (tables_of (after h) cards pointing))
     → Makes result old new Can after
 makes {result = result} steps ran keeps lemma = record {
@@ -351,7 +362,7 @@ tables_then {second = second} {b = b} one two so = record {
       let before : HasCleanDisk b = omega (arith, two.reads.clean, clean) in
       let still = one.reads.kept before st.schema in
       so t y (one.told before t st)
-      (did t (subst (maps.Stands newest_schema (claims t)) (sym still.0.now_is) st)));
+      (did t (subst (maps.Stands newest_schema (newest_claims t)) (sym still.0.now_is) st)));
 }
 
 -- what the answer of a query tells of the tables

@@ -26,6 +26,7 @@ use Rattle.sql_maps.specs.Rows.{one_of}
 use Rattle.sql_maps.specs.States.{Stands}
 use Rattle.sql_maps.proofs.KeyTests.{equal_is, int_eq, number_eq, text_eq}
 use Rattle.sql_maps.proofs.Reading.{shown_none, shown_one}
+use Rattle.vault_schema.proofs.Newest.{behind_second, indexes_behind_second, pointing_table}
 use Rattle.vault_pan.specs.CardText.{same}
 use Rattle.vault_core.proofs.CurrentLemmas.{current-none, current-some, one_live}
 use Rattle.vault_core.proofs.Maps.{bytes_exact, bytes_total}
@@ -37,10 +38,10 @@ use Rattle.vault_core.specs.Vault.{Vault, entry_at}
 use Rattle.vault_core.specs.Window.{moment_at}
 use Rattle.vault_core.specs.declared.usage.Use.{Use}
 use Rattle.vault_core.specs.declared.usage.Use.TheVariants.{Multi}
-use Rattle.vault_schema.proofs.Version2.Codes.{pointing_table}
 use Rattle.vault_schema.proofs.Version2.Texts.{current_is, current_tests}
 use Rattle.vault_schema.specs.Version1.Rows.{number_or_null}
-use Rattle.vault_schema.specs.Version2.Claims.{Lookups as Tables, claims}
+use Rattle.vault_schema.specs.Versions.{Tables}
+use Rattle.vault_schema.specs.Stands.{newest_claims}
 use Rattle.vault_schema.specs.Version2.Joined.{AreJoined, joined, nothing_owed, number_of}
 use Rattle.vault_schema.specs.Version2.Rows.{id_or_null, pointing_row}
 use Rattle.vault_schema.specs.declared.v2.Card.{Card}
@@ -188,7 +189,7 @@ module _ (V : Vault) (t : Tables) (are : AreJoined nothing_owed t.cards t.pointi
         rw (own, here) rest
 
     -- a token that can be given again is the one that is live
-    pub shows_current : (old new : State) → Stands newest_schema (claims t) old.now → Sound V
+    pub shows_current : (old new : State) → Stands newest_schema (newest_claims t) old.now → Sound V
         → moment_at V m at ≡ at → (rows : List Row)
         → Shown FIND_CURRENT.now (Text m ∷ Int id ∷ Int (pos at) ∷ []) old new rows
         → rows ≡ one_of text_column (option_map (λ held. held.0) (current V m pan at))
@@ -196,14 +197,15 @@ module _ (V : Vault) (t : Tables) (are : AreJoined nothing_owed t.cards t.pointi
         elim (current V m pan at)
         as (λ o. current V m pan at ≡ o → rows ≡ one_of text_column (option_map (λ held. held.0) o)) [
           | None ↦ λ e. shown_none old new it _ _ rows shown pointing_table t.pointing (λ are. are)
-              _ _ _ (current_is [] []) (is_good m id at) (good_hits m id at) (λ q y is good.
+              _ _ _ (current_is behind_second indexes_behind_second) (is_good m id at) (good_hits m id at)
+              (λ q y is good.
               let its = owned q y is good in
               let clash = sym its.2 ∙ current-none V m pan q.1 at (joined t.cards y) e its.1 in cc)
           | Some held ↦ λ e.
               let there = current-some V m pan at held e in
               let y = points_there are (m, held.0) held.1 there.0 in
               shown_one old new it _ _ rows shown pointing_table t.pointing (λ are. are)
-              _ _ _ (current_is [] []) (is_good m id at) (good_hits m id at)
+              _ _ _ (current_is behind_second indexes_behind_second) (is_good m id at) (good_hits m id at)
               (λ (q : Bytes × Bytes) y. text_column q.1) (λ n q y. refl) (m, held.0) y.0 y.1
               (points held.0 y.0 y.1 (ap (is_reusable pan at) (sym y.2) ∙ there.1))
               (λ q y is good.

@@ -32,6 +32,7 @@ use Rattle.sql_maps.proofs.KeyTests.{equal_is, text_eq}
 use Rattle.sql_maps.proofs.Reading.{shown_first}
 use Rattle.sql_maps.proofs.Rising.{Rises}
 use Rattle.sql_maps.specs.States.{Stands}
+use Rattle.vault_schema.proofs.Newest.{behind_second, indexes_behind_second, pointing_table}
 use Rattle.vault_core.proofs.CurrentLemmas.{get-entries_of}
 use Rattle.vault_core.proofs.Finds.{true-T, some_same}
 use Rattle.vault_core.proofs.Maps.{bytes_exact, bytes_total, entry_exact, entry_total}
@@ -41,10 +42,10 @@ use Rattle.vault_core.specs.Sound.{Sound}
 use Rattle.vault_core.specs.Vault.{Vault, entries_of}
 use Rattle.vault_core.specs.Window.{moment_at}
 use Rattle.vault_core.specs.declared.row.Entry.{Entry}
-use Rattle.vault_schema.proofs.Version2.Codes.{pointing_table}
 use Rattle.vault_schema.proofs.Version2.Texts.{dead_is, dead_tests}
 use Rattle.vault_schema.specs.Version1.Rows.{number_or_null}
-use Rattle.vault_schema.specs.Version2.Claims.{Lookups as Tables, claims}
+use Rattle.vault_schema.specs.Versions.{Tables}
+use Rattle.vault_schema.specs.Stands.{newest_claims}
 use Rattle.vault_schema.specs.Version2.Joined.{AreJoined, joined, nothing_owed, number_of}
 use Rattle.vault_schema.specs.Version2.Rows.{id_or_null, pointing_row}
 use Rattle.vault_schema.specs.declared.v2.Card.{Card}
@@ -257,7 +258,7 @@ module _ (V : Vault) (m : Bytes) where
         λ i. (merchant i, token i)
 
     -- what a query shows of them
-    pub shows_dead : (old new : State) → Stands newest_schema (claims t) old.now → (many now : ℕ)
+    pub shows_dead : (old new : State) → Stands newest_schema (newest_claims t) old.now → (many now : ℕ)
         → moment_at V m now ≡ at → (rows : List Row)
         → Shown FIND_DEAD.now (Text m ∷ Int (pos at) ∷ Int (pos many) ∷ []) old new rows
         → rows ≡ map text_column (take many (dead_tokens V m now))
@@ -266,7 +267,8 @@ module _ (V : Vault) (m : Bytes) where
         let test = λ (e : (Bytes × Bytes) × Entry). is_dead e.1 at in
         shown_first old new it _ (Text m ∷ Int (pos at) ∷ Int (pos many) ∷ []) rows shown pointing_table
         t.pointing (λ are. are)
-        dead_tests 2 2 (dead_is [] []) (is_good m at) (dead_hits m at many) (λ q y. Text q.1) (λ n q y. refl)
+        dead_tests 2 2 (dead_is behind_second indexes_behind_second) (is_good m at) (dead_hits m at many)
+        (λ q y. Text q.1) (λ n q y. refl)
         many refl
         (λ q p y x found good found' good' tie.
         same_token q p (alike q y found good).0 (alike p x found' good').0 tie)

@@ -5,12 +5,12 @@ use Rattle.sql_maps.proofs.ByKey.{put_again}
 use Rattle.sql_maps.proofs.Calls as calls
 use Rattle.sql_maps.specs.Rows.{put}
 use Rattle.vault_core.specs.Keys.{Bytes, bytes_cmp}
-use Rattle.vault_schema.proofs.Version1.Codes.{merchant_coding}
-use Rattle.vault_schema.specs.Version1.Claims.{Lookups}
-use Rattle.vault_schema.specs.Version2.Claims.{Lookups as Tables}
-use Rattle.vault_schema.specs.declared.v1.Lives.{Lives}
+use Rattle.vault_schema.proofs.Version3.Codes.{merchant_coding}
+use Rattle.vault_schema.specs.Versions.{Lookups}
+use Rattle.vault_schema.specs.Versions.{Tables}
+use Rattle.vault_schema.specs.declared.v3.Lives.{Lives}
 use Rattle.vault_rows.specs.Calls.{HasTables, Makes, TellsInside}
-use Rattle.vault_schema.specs.Stands.{tables_of}
+use Rattle.vault_schema.specs.Versions.{tables_of}
 
 -- lives that a merchant has are put again, and nothing changes
 pub lives_kept : {E F : Type 0} {has : Bool} {old new : State} (m : Bytes) (x : Lives)
@@ -23,7 +23,8 @@ lives_kept {new = new} m x told says = record {
   done = λ clean base h w can.
       let seen = told.told clean base (tables_of h w.cards w.pointing) w.has in
       let same : h.merchants ≡ put bytes_cmp h.merchants m (Some x) =
-      λ i k. sym (put_again merchant_coding w.has.stands.rows.1.0 m (Some x) (seen.0.0 says) k) i in
+      λ i k. sym (put_again merchant_coding w.has.stands.rows.1.1.1.1.1.1.1.1.0 m (Some x)
+      (seen.0.0 says) k) i in
       record {
         cards = w.cards;
         pointing = w.pointing;

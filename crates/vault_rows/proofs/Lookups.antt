@@ -1,6 +1,6 @@
 -- What each query shows of a vault: exactly what it has, or nothing.
 use Rattle.std.proofs.Common.{◌≡◌, ◌↔◌, ℕ, ℤ, List, [], ◌∷◌, is_eq, Bool, IsTrue, false}
-use Rattle.std.proofs.Common.{◌==◌, ◌&&◌, subst, true, true≢false}
+use Rattle.std.proofs.Common.{true, true≢false}
 use Rattle.std.proofs.Common.{Option, Some, None, option_map, refl, sym, ap, ◌∙◌, arith, inl}
 use Rattle.std.proofs.Common.{inr, max, slice_get}
 use Rattle.std.proofs.lemmas.Bool.Decides.{nat_tests}
@@ -10,8 +10,14 @@ use Rattle.std.specs.Option.{option_map_or}
 use Rattle.sqlite.specs.Term.{holds}
 use Rattle.sqlite.specs.declared.types.Value.TheVariants.{Int, Text}
 use Rattle.std.specs.Cmp.{tied_itself}
+use Rattle.vault_schema.proofs.Newest.{behind_first, indexes_behind_first, count_table}
+use Rattle.vault_schema.specs.Version4.Tables.{tables4, indexes4}
 use Rattle.vault_core.proofs.Maps.{bytes_exact, bytes_total}
 use Rattle.vault_core.specs.Keys.{Bytes, bytes_cmp}
+use Rattle.vault_core.specs.declared.row.GrantRow.{GrantRow}
+use Rattle.vault_schema.proofs.Version4.Codes.{right_codes}
+use Rattle.vault_schema.specs.Version1.Rows.{number_or_null}
+use Rattle.vault_schema.specs.Version4.Rows.{ends_column}
 use Rattle.vault_core.specs.Sound.{Sound}
 use Rattle.vault_core.specs.Vault.{Vault, Merchant, merchant_at, made_count, time_at}
 use Rattle.vault_core.specs.Window.{moment_at, row_at, row_of}
@@ -22,31 +28,34 @@ use Rattle.sql_maps.specs.States.{Stands}
 use Rattle.sql_maps.specs.Texts.{by_key}
 use Rattle.sql_maps.proofs.KeyTests.{text_eq, and_true, equal_is}
 use Rattle.sql_maps.proofs.Reading.{how_many, shown_are}
-use Rattle.vault_schema.specs.Version2.Claims.{claims}
-use Rattle.vault_schema.specs.Version2.Tables.{tables2, indexes2}
+use Rattle.vault_schema.specs.Stands.{newest_claims}
 use Rattle.vault_schema.specs.declared.v2.Card.{Card}
 use Rattle.vault_schema.specs.declared.v2.Pointing.{Pointing}
 use Rattle.vault_schema.specs.Version1.Rows.{number_column}
-use Rattle.vault_schema.specs.Version1.Rows.{count_row, lives_columns}
-use Rattle.vault_schema.specs.declared.v1.TheConstants.{FIND_COUNTS, COUNT_MERCHANTS}
-use Rattle.vault_schema.proofs.Version1.Codes.{merchant_coding}
-use Rattle.vault_schema.proofs.Version2.Codes.{count_table}
-use Rattle.vault_schema.proofs.Version1.Texts.{counts_is, how_many_is}
+use Rattle.vault_schema.specs.Version1.Rows.{count_row}
+use Rattle.vault_schema.specs.Version3.Rows.{lives_columns}
+use Rattle.vault_schema.specs.declared.v1.TheConstants.{FIND_COUNTS}
+use Rattle.vault_schema.specs.declared.v3.TheConstants.{COUNT_MERCHANTS}
+use Rattle.vault_schema.proofs.Version3.Codes.{merchant_coding}
+use Rattle.vault_schema.proofs.Version1.Texts.{counts_is}
+use Rattle.vault_schema.proofs.Version3.Texts.{how_many_is}
 use Rattle.vault_schema.specs.Schema.{newest_schema}
 use Rattle.vault_rows.specs.Shown.{count_columns, ShowsCounts, IsTotalOf, ShowsLives}
-use Rattle.vault_schema.specs.Stands.{lives_in, count_at, unless_zero, lookups_of, tables_of}
+use Rattle.vault_schema.specs.Stands.{lives_in, count_at, unless_zero, lookups_of}
+use Rattle.vault_schema.specs.Versions.{tables_of}
 use Rattle.vault_core.proofs.Finds.{some_same}
 use Rattle.vault_core.specs.declared.row.MerchantRow.{MerchantRow}
-use Rattle.vault_schema.specs.declared.v1.Lives.{Lives}
+use Rattle.vault_schema.specs.declared.v3.Lives.{Lives}
 
 -- the rows of a query of this vault
 module _ (old new : State) (V : Vault) (cards : ℤ → Option Card) (pointing : Bytes × Bytes → Option Pointing)
-    (it : Stands newest_schema (claims (tables_of (lookups_of V) cards pointing)) old.now) (rows : List Row)
+    (it : Stands newest_schema (newest_claims (tables_of (lookups_of V) cards pointing)) old.now)
+    (rows : List Row)
   where
     pub shows_counts : (m : Bytes) → Shown FIND_COUNTS.now (Text m ∷ []) old new rows → ShowsCounts rows V m
     shows_counts m shown =
         let it = shown_are old new it _ _ rows shown count_table (lookups_of V).counts (λ are. are)
-        _ _ _ (counts_is tables2 indexes2) (λ q y. is_eq (bytes_cmp q.0 m)) passes
+        _ _ _ (counts_is behind_first indexes_behind_first) (λ q y. is_eq (bytes_cmp q.0 m)) passes
         (λ q y. count_columns q.1 y)
         (λ n q y. refl) in
         record {
@@ -66,8 +75,9 @@ module _ (old new : State) (V : Vault) (cards : ℤ → Option Card) (pointing :
     pub shows_how_many : Shown COUNT_MERCHANTS.now [] old new rows → Sound V
         → rows ≡ number_column (map.len V.merchants) ∷ []
     shows_how_many shown sound =
-        how_many old new it.schema 1 (how_many_is tables2 indexes2) shown merchant_coding lives_in V.merchants
-        it.rows.1.0
+        how_many old new it.schema 17 (how_many_is tables4 indexes4) shown merchant_coding lives_in
+        V.merchants
+        it.rows.1.1.1.1.1.1.1.1.0
         (omega (arith, sound.few))
 
 -- ---- the row of a merchant, put together from its own table and its counts
@@ -94,6 +104,7 @@ abbrev row_with : Lives → ℕ → ℕ → ℕ → MerchantRow
 row_with x made_count given denied = record {
   single_life = x.single_life;
   multi_life = x.multi_life;
+  lead = x.lead;
   moment = x.moment;
   made = made_count;
   given = given;
@@ -121,26 +132,11 @@ pub lives_shown : (o : Option Lives) (rows : List Row) (row : Row) (x : Lives) �
     → Some row ≡ slice_get rows 0 → ShowsLives row x → Some x ≡ o
 lives_shown o rows row x is first shows = grind arith
 
-abbrev are_same : Lives → Lives → Bool
-are_same x y = x.single_life == y.single_life && (x.multi_life == y.multi_life && x.moment == y.moment)
-
-same_are : (x y : Lives) → are_same x y ≡ true → x ≡ y
-same_are x y is =
-    let single : x.single_life ≡ y.single_life = grind (arith, nat_tests, is) in
-    let multi : x.multi_life ≡ y.multi_life = grind (arith, nat_tests, is) in
-    let moment : x.moment ≡ y.moment = grind (arith, nat_tests, is) in
-    λ i. record { single_life = single i; multi_life = multi i; moment = moment i }
-
-are_itself : (x : Lives) → are_same x x ≡ true
-are_itself x = grind (arith, nat_tests)
-
 -- lives that are compared with those that are there
-pub same_lives : (o : Option Lives) (x y : Lives) (same : Bool) → same ≡ are_same x y → Some x ≡ o
+pub same_lives : (o : Option Lives) (x y : Lives) (same : Bool) → (IsTrue same ↔ (x ≡ y)) → Some x ≡ o
     → IsTrue same ↔ (o ≡ Some y)
-same_lives o x y same tests is = (
-  λ says. sym is ∙ ap Some (same_are x y (sym tests ∙ says)),
-  λ there. tests ∙ subst (λ z. are_same x z ≡ true) (some_same (is ∙ there)) (are_itself x),
-)
+same_lives o x y same tests is =
+    (λ says. sym is ∙ ap Some (tests.0 says), λ there. tests.1 (some_same (is ∙ there)))
 
 -- where no row is shown, there are no lives
 pub no_lives : (o : Option Lives) (y : Lives) (rows : List Row) → rows ≡ one_of lives_columns o
@@ -152,6 +148,23 @@ no_lives None y rows is first = (
 )
 no_lives (Some x) y rows is first =
     let some : None ≡ Some (lives_columns x) = first ∙ ap (λ l. slice_get l 0) is in absurd cc
+
+-- the right whose end the one row of a query shows is the one that is there
+pub right_shown : (o : Option GrantRow) (rows : List Row) (row : Row) (g : GrantRow)
+    → rows ≡ one_of ends_column o → Some row ≡ slice_get rows 0 → column row 0 ≡ number_or_null g.ends
+    → Some g ≡ o
+right_shown None rows row g is first at =
+    let none : Some row ≡ None = first ∙ ap (λ l. slice_get l 0) is in absurd cc
+right_shown (Some h) rows row g is first at =
+    let same : row ≡ ends_column h =
+    (let both : Some row ≡ Some (ends_column h) = first ∙ ap (λ l. slice_get l 0) is in cc) in
+    ap (λ x. Some x) (right_codes.value_back g h (λ i. (sym at ∙ ap (λ r. column r 0) same) i ∷ []))
+
+pub no_right : (o : Option GrantRow) (rows : List Row) → rows ≡ one_of ends_column o
+    → None ≡ slice_get rows 0 → None ≡ o
+no_right None rows is first = refl
+no_right (Some g) rows is first =
+    let some : None ≡ Some (ends_column g) = first ∙ ap (λ l. slice_get l 0) is in absurd cc
 
 -- where no lives are there, there is no row
 pub no_row : (V : Vault) (m : Bytes) (found : Option Lives) → found ≡ option_map lives_in (merchant_at V m)

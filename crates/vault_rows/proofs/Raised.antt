@@ -7,10 +7,10 @@ use Rattle.sqlite.specs.declared.types.Value.TheVariants.{Int, Text}
 use Rattle.sql_maps.proofs.Calls as calls
 use Rattle.sql_maps.specs.States.{Steps}
 use Rattle.vault_core.specs.Keys.{Bytes}
-use Rattle.vault_schema.specs.Version2.Claims.{Lookups as Tables}
+use Rattle.vault_schema.specs.Versions.{Tables}
 use Rattle.vault_schema.specs.declared.v1.TheConstants.{RAISE_COUNT}
 use Rattle.vault_rows.specs.Calls.{HasTables, Makes, Turns}
-use Rattle.vault_schema.specs.Stands.{tables_of}
+use Rattle.vault_schema.specs.Versions.{tables_of}
 use Rattle.vault_rows.specs.Written.{HasRoomAt, IsRaised, raise_at}
 use Rattle.vault_cards.proofs.Calls.{on_if}
 use Rattle.vault_rows.proofs.Calls.{turns_telling}

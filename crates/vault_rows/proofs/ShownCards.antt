@@ -6,30 +6,34 @@ use Rattle.sqlite.specs.declared.types.Value.TheVariants.{Int, Text}
 use Rattle.sql_maps.specs.Rows.{one_of}
 use Rattle.sql_maps.specs.States.{Stands}
 use Rattle.sql_maps.proofs.ById.{look_up_id}
+use Rattle.vault_schema.proofs.Newest.{behind_second, indexes_behind_second, card_table}
 use Rattle.vault_cards.proofs.Shown.{one_card}
 use Rattle.vault_cards.specs.Cards.{ShowsCard}
 use Rattle.vault_core.specs.Keys.{Bytes}
-use Rattle.vault_schema.specs.Version2.Claims.{Lookups as Tables, claims}
+use Rattle.vault_schema.specs.Versions.{Tables}
+use Rattle.vault_schema.specs.Stands.{newest_claims}
 use Rattle.vault_schema.specs.Version2.Joined.{number_of}
 use Rattle.vault_schema.specs.declared.v2.Card.{Card}
 use Rattle.vault_schema.specs.declared.v2.TheConstants.{FIND_CARD, FIND_NUMBER}
-use Rattle.vault_schema.proofs.Version2.Codes.{card_table}
 use Rattle.vault_schema.proofs.Version2.Texts.{card_is, number_is}
 use Rattle.vault_schema.specs.Schema.{newest_schema}
 use Rattle.vault_rows.specs.Shown.{text_column}
 
-module _ {t : Tables} (old new : State) (it : Stands newest_schema (claims t) old.now) (rows : List Row) where
+module _ {t : Tables} (old new : State) (it : Stands newest_schema (newest_claims t) old.now)
+    (rows : List Row) where
   -- a merchant's number comes once
   pub shows_card : (m number : Bytes) → Shown FIND_CARD.now (Text m ∷ Text number ∷ []) old new rows
       → ShowsCard rows t.cards m number
   shows_card m number shown =
       one_card old new it rows t.cards card_table (λ are. are) it.rows.1.1.1.1.1.1.0
-      (record { index = _; only = refl; order = refl; columns = refl }) (card_is [] []) m number shown
+      (record { index = _; only = refl; order = refl; columns = refl })
+      (card_is behind_second indexes_behind_second) m number shown
 
   pub shows_number : (id : ℤ) → Shown FIND_NUMBER.now (Int id ∷ []) old new rows
       → rows ≡ one_of text_column (number_of t.cards id)
   shows_number id shown =
-      look_up_id old new it _ _ rows shown card_table t.cards (λ are. are) 0 _ (number_is [] []) id refl
+      look_up_id old new it _ _ rows shown card_table t.cards (λ are. are) 0 _
+      (number_is behind_second indexes_behind_second) id refl
       (λ (c : Card). text_column c.number) (λ c. refl) ∙ mapped (t.cards id)
     where
       mapped : (o : Option Card) → one_of (λ (c : Card). text_column c.number) o

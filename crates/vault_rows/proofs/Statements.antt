@@ -1,5 +1,5 @@
 -- What each statement that writes makes of the lookups, inside a transaction.
-use Rattle.std.proofs.Common.{arith, ◌≡◌, ◌⊎◌, ℕ, ℤ, pos, [], ◌∷◌, Option, Some, None, refl, sym, ap, subst}
+use Rattle.std.proofs.Common.{◌≡◌, ◌⊎◌, ℕ, ℤ, pos, [], ◌∷◌, Option, Some, None, refl, sym, ap, subst}
 use Rattle.std.proofs.Common.{◌∙◌, ◌+◌, ◌++◌, ◌<◌, ◌^◌, unwrap_or}
 use Rattle.sqlite.specs.Effect.{Database}
 use Rattle.sqlite.specs.Ops.{binary}
@@ -8,39 +8,48 @@ use Rattle.sqlite.specs.declared.types.Value.TheVariants.{Int, Text}
 use Rattle.sqlite_sql.specs.declared.ops.ArithOp.TheVariants.{Add}
 use Rattle.sqlite_sql.specs.declared.ops.BinaryOp.TheVariants.{Arith}
 use Rattle.sql_maps.specs.Rows.{put}
-use Rattle.sql_maps.proofs.Statements.{Ran, change_in, insert_in, keep_in, plus_one, take_in, upsert_in}
+use Rattle.sql_maps.proofs.Statements.{Ran, change_in, insert_in, plus_one, take_in, upsert_in}
+use Rattle.vault_schema.proofs.Newest.{behind_first, indexes_behind_first, merchant_table, count_table}
+use Rattle.vault_schema.proofs.Newest.{record_table}
+use Rattle.vault_schema.specs.Version4.Tables.{tables4, indexes4}
 use Rattle.vault_core.specs.Keys.{Bytes, bytes_cmp, record_cmp, right_cmp}
 use Rattle.vault_core.specs.declared.right.Right.{Right}
+use Rattle.vault_core.specs.declared.row.GrantRow.{GrantRow}
 use Rattle.vault_core.specs.declared.row.Record.{Record}
-use Rattle.vault_schema.specs.Version2.Claims.{Lookups as Tables, claims}
-use Rattle.vault_schema.specs.Version2.Tables.{tables2, indexes2}
-use Rattle.vault_schema.specs.Version1.Rows.{lives_columns, numbered_key, count_row}
+use Rattle.vault_schema.specs.Versions.{Tables}
+use Rattle.vault_schema.specs.Stands.{newest_claims}
+use Rattle.vault_schema.specs.Version1.Rows.{numbered_key, count_row}
+use Rattle.vault_schema.specs.Version3.Rows.{lives_columns}
+use Rattle.vault_schema.specs.Version4.Rows.{ends_column}
 use Rattle.vault_schema.specs.Version1.Rows.{record_columns, right_key}
-use Rattle.vault_schema.specs.declared.v1.Lives.{Lives}
-use Rattle.vault_schema.specs.declared.v1.TheConstants.{PUT_MERCHANT, RAISE_COUNT, ADD_COUNT, ADD_RECORD}
-use Rattle.vault_schema.specs.declared.v1.TheConstants.{GIVE_RIGHT, TAKE_RIGHT}
-use Rattle.vault_schema.proofs.Version1.Texts.{put_merchant_is, raise_is, add_count_is, add_record_is}
-use Rattle.vault_schema.proofs.Version1.Texts.{give_is, take_is}
-use Rattle.vault_schema.proofs.Version2.Codes.{merchant_table, count_table, record_table, right_table}
+use Rattle.vault_schema.specs.declared.v3.Lives.{Lives}
+use Rattle.vault_schema.specs.declared.v1.TheConstants.{RAISE_COUNT, ADD_COUNT, ADD_RECORD}
+use Rattle.vault_schema.specs.declared.v3.TheConstants.{PUT_MERCHANT}
+use Rattle.vault_schema.specs.declared.v4.TheConstants.{GIVE_RIGHT, TAKE_RIGHT}
+use Rattle.vault_schema.proofs.Version1.Texts.{raise_is, add_count_is, add_record_is}
+use Rattle.vault_schema.proofs.Version3.Texts.{put_merchant_is}
+use Rattle.vault_schema.proofs.Version4.Texts.{give_is, take_is}
+use Rattle.vault_schema.proofs.Version4.Codes.{right_table}
 use Rattle.vault_rows.specs.Calls.{HasTables}
 use Rattle.vault_schema.specs.Schema.{newest_schema}
 use Rattle.vault_rows.specs.Written.{raise_at, HasRoomAt}
 
 module _ {t : Tables} {base : Database} {old new : State} where
   pub merchant_put : (m : Bytes) (x : Lives)
-      → Ran newest_schema (claims t) base old new PUT_MERCHANT.now (Text m ∷ lives_columns x)
+      → Ran newest_schema (newest_claims t) base old new PUT_MERCHANT.now (Text m ∷ lives_columns x)
       → HasTables new base (record t { merchants = put bytes_cmp t.merchants m (Some x) })
-  merchant_put m x run = upsert_in refl run merchant_table t.merchants (λ are. are) m x 5 _ 4 _
-      (put_merchant_is tables2 indexes2) refl (λ n. refl) (λ n y is. refl)
+  merchant_put m x run = upsert_in refl run merchant_table t.merchants (λ are. are) m x 6 _ 5 _
+      (put_merchant_is tables4 indexes4) refl (λ n. refl) (λ n y is. refl)
 
   pub count_raised : (at : Bytes × ℕ) → HasRoomAt t.counts at
-      → (run : Ran newest_schema (claims t) base old new RAISE_COUNT.now (Text at.0 ∷ Int (pos at.1) ∷ []))
+      → (run : Ran newest_schema (newest_claims t) base old new RAISE_COUNT.now
+      (Text at.0 ∷ Int (pos at.1) ∷ []))
       → ((t.counts at ≡ None) × (run.count ≡ 0) × HasTables new base t)
       ⊎ ((y : ℕ) × (t.counts at ≡ Some y) × (run.count ≡ 1)
       × HasTables new base (record t { counts = raise_at t.counts at }))
   count_raised at room run =
       change_in refl run count_table t.counts (λ are. are) at (unwrap_or (t.counts at) 0 + 1) _
-      (raise_is tables2 indexes2) refl raised
+      (raise_is behind_first indexes_behind_first) refl raised
     where
       raised : (n : ℤ) (y : ℕ) → t.counts at ≡ Some y
           → Int n ∷ Int n ∷ Text at.0 ∷ Int (pos at.1) ∷ binary (Arith Add) (Int (pos y)) (Int (pos 1)) ∷ []
@@ -51,33 +60,32 @@ module _ {t : Tables} {base : Database} {old new : State} where
           ∙ ap (λ (o : Option ℕ). Int n ∷ Int n ∷ count_row at (unwrap_or o 0 + 1)) (sym is)
 
   pub count_added : (at : Bytes × ℕ) → t.counts at ≡ None
-      → Ran newest_schema (claims t) base old new ADD_COUNT.now (Text at.0 ∷ Int (pos at.1) ∷ [])
+      → Ran newest_schema (newest_claims t) base old new ADD_COUNT.now (Text at.0 ∷ Int (pos at.1) ∷ [])
       → HasTables new base (record t { counts = raise_at t.counts at })
   count_added at none run =
       subst (λ (o : Option ℕ). HasTables new base
       (record t { counts = put record_cmp t.counts at (Some (unwrap_or o 0 + 1)) }))
       (sym none)
-      (insert_in refl run count_table t.counts (λ are. are) at 1 4 _ (add_count_is tables2 indexes2) refl).1
+      (insert_in refl run count_table t.counts (λ are. are) at 1 4 _
+      (add_count_is behind_first indexes_behind_first) refl).1
 
   pub record_added : (at : Bytes × ℕ) (x : Record)
-      → Ran newest_schema (claims t) base old new ADD_RECORD.now (numbered_key at ++ record_columns x)
+      → Ran newest_schema (newest_claims t) base old new ADD_RECORD.now (numbered_key at ++ record_columns x)
       → HasTables new base (record t { records = put record_cmp t.records at (Some x) })
   record_added at x run =
-      (insert_in refl run record_table t.records (λ are. are) at x 6 _ (add_record_is tables2 indexes2)
+      (insert_in refl run record_table t.records (λ are. are) at x 6 _
+      (add_record_is behind_first indexes_behind_first)
       refl).1
 
-  pub right_given : (at : Bytes × (Bytes × Right))
-      → Ran newest_schema (claims t) base old new GIVE_RIGHT.now (right_key at)
-      → HasTables new base (record t { rights = put right_cmp t.rights at (Some tt) })
-  right_given at run =
-      keep_in refl run right_table t.rights (λ are. are) at tt 4 _ (give_is tables2 indexes2) refl
-      (there (t.rights at))
-    where
-      there : (o : Option (Unit {0})) → o ≡ Some tt ⊎ (o ≡ None)
-      there o = grind arith
+  pub right_given : (at : Bytes × (Bytes × Right)) (g : GrantRow)
+      → Ran newest_schema (newest_claims t) base old new GIVE_RIGHT.now (right_key at ++ ends_column g)
+      → HasTables new base (record t { rights = put right_cmp t.rights at (Some g) })
+  right_given at g run =
+      upsert_in refl run right_table t.rights (λ are. are) at g 5 _ 4 _ (give_is [] []) refl (λ n. refl)
+      (λ n y is. refl)
 
   pub right_taken : (at : Bytes × (Bytes × Right))
-      → Ran newest_schema (claims t) base old new TAKE_RIGHT.now (right_key at)
+      → Ran newest_schema (newest_claims t) base old new TAKE_RIGHT.now (right_key at)
       → HasTables new base (record t { rights = put right_cmp t.rights at None })
   right_taken at run =
-      take_in refl run right_table t.rights (λ are. are) (take_is tables2 indexes2) at refl
+      take_in refl run right_table t.rights (λ are. are) (take_is [] []) at refl

@@ -1,19 +1,16 @@
 -- What a call does to a connection that holds a vault.
-use Rattle.std.specs.Prelude.{ℤ, Option, Result, IfOk, OnOk}
+use Rattle.std.specs.Prelude.{Result, IfOk, OnOk}
 use Rattle.sqlite.specs.Effect.{Database}
 use Rattle.sqlite.specs.State.{State, HasCleanDisk}
 use Rattle.sql_maps.specs.States.{Reads, Steps, Within}
 use Rattle.sql_maps.specs.States as maps
+use Rattle.vault_cards.specs.Calls as each
 use Rattle.vault_core.specs.Vault.{Vault}
-use Rattle.vault_core.specs.Keys.{Bytes}
-use Rattle.vault_schema.specs.Version1.Claims.{Lookups}
-use Rattle.vault_schema.specs.Version2.Claims.{Lookups as Tables, claims}
-use Rattle.vault_schema.specs.Version2.Joined.{AreJoined, nothing_owed}
-use Rattle.vault_schema.specs.declared.v2.Card.{Card}
-use Rattle.vault_schema.specs.declared.v2.Pointing.{Pointing}
+use Rattle.vault_schema.specs.Versions.{Lookups}
+use Rattle.vault_schema.specs.Versions.{Tables}
+use Rattle.vault_schema.specs.Stands.{newest, newest_claims}
 use Rattle.vault_schema.specs.Holds.{Holds}
 use Rattle.vault_schema.specs.Schema.{newest_schema}
-use Rattle.vault_schema.specs.Stands.{tables_of}
 
 -- it only reads, and what it answers is so of each vault that is held
 pub record Tells {R E : Type 0} (result : Result R E) (old new : State) (Is : Vault → R → Type 0) : Type 0
@@ -23,14 +20,11 @@ pub record Tells {R E : Type 0} (result : Result R E) (old new : State) (Is : Va
 
 -- inside a transaction over this last commit, where the tables have this
 abbrev pub HasTables : State → Database → Tables → Type 0
-HasTables st base t = Within newest_schema (claims t) base st
+HasTables st base t = Within newest_schema (newest_claims t) base st
 
 -- inside a transaction over this last commit, where what is seen stands for these lookups
-pub record IsWithin (st : State) (base : Database) (h : Lookups) : Type 0 where
-  pub cards : ℤ → Option Card
-  pub pointing : Bytes × Bytes → Option Pointing
-  pub has : HasTables st base (tables_of h cards pointing)
-  pub joined : AreJoined nothing_owed cards pointing h.entries
+abbrev pub IsWithin : State → Database → Lookups → Type 0
+IsWithin st base h = each.IsWithin newest st base h
 
 -- it is one step of a transaction, and this is what it makes of lookups for which it can be done
 pub record Makes {R E : Type 0} (result : Result R E) (old new : State) (Can : Lookups → Type 0)
@@ -63,4 +57,4 @@ pub record TellsTables {R E : Type 0} (result : Result R E) (old new : State)
   where
     pub reads : Reads newest_schema result old new
     pub told : HasCleanDisk new
-        → IfOk result (λ x. (t : Tables) → maps.Stands newest_schema (claims t) old.now → Is t x)
+        → IfOk result (λ x. (t : Tables) → maps.Stands newest_schema (newest_claims t) old.now → Is t x)

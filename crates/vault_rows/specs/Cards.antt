@@ -4,7 +4,7 @@ use Rattle.std.specs.FinMap as map
 use Rattle.vault_cards.specs.Cards.{IsCardOf}
 use Rattle.vault_core.specs.Keys.{Bytes}
 use Rattle.vault_core.specs.Vault.{Vault}
-use Rattle.vault_schema.specs.Version2.Claims.{Lookups as Tables}
+use Rattle.vault_schema.specs.Versions.{Tables}
 use Rattle.vault_schema.specs.Version2.Joined.{AreJoined, nothing_owed}
 use Rattle.vault_schema.specs.declared.v2.Card.{Card}
 

@@ -8,15 +8,21 @@ use Rattle.vault_core.specs.declared.changes.Count.{Count}
 use Rattle.vault_core.specs.declared.changes.Lives as core
 use Rattle.vault_core.specs.declared.right.Right.{Right}
 use Rattle.vault_core.specs.declared.row.Entry.{Entry}
+use Rattle.vault_core.specs.declared.row.GrantRow.{GrantRow}
 use Rattle.vault_core.specs.declared.row.Record.{Record}
-use Rattle.vault_schema.specs.declared.v1.Lives.{Lives}
+use Rattle.vault_schema.specs.declared.v3.Lives.{Lives}
 use Rattle.sql_maps.specs.Rows.{put}
-use Rattle.vault_schema.specs.Version1.Claims.{Lookups}
-use Rattle.vault_schema.specs.Version2.Claims.{Lookups as Tables}
+use Rattle.vault_schema.specs.Versions.{Lookups}
+use Rattle.vault_schema.specs.Versions.{Tables}
 
 -- the row of lives that change
 abbrev pub lives_of : core.Lives → Lives
-lives_of x = record { single_life = x.single_life; multi_life = x.multi_life; moment = x.moment }
+lives_of x = record {
+  single_life = x.single_life;
+  multi_life = x.multi_life;
+  moment = x.moment;
+  lead = x.lead;
+}
 
 -- the merchants with the lives that change
 abbrev pub put_lives : (Bytes → Option Lives) → Option core.Lives → Bytes → Option Lives
@@ -45,10 +51,10 @@ put_record held None = held
 put_record held (Some x) = put record_cmp held (x.0, x.1) (Some x.2)
 
 -- the rights with the one that is given, or without the one that is taken
-abbrev pub put_right : (Bytes × (Bytes × Right) → Option (Unit {0})) → Option (Bytes × Bytes × Right × Bool)
-    → Bytes × (Bytes × Right) → Option (Unit {0})
+abbrev pub put_right : (Bytes × (Bytes × Right) → Option GrantRow)
+    → Option (Bytes × Bytes × Right × Option GrantRow) → Bytes × (Bytes × Right) → Option GrantRow
 put_right held None = held
-put_right held (Some x) = put right_cmp held (x.0, (x.1, x.2)) (if x.3 then Some tt else None)
+put_right held (Some x) = put right_cmp held (x.0, (x.1, x.2)) x.3
 
 -- each table with its change
 abbrev pub written : Lookups → Changes → Lookups

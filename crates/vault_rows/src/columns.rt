@@ -3,6 +3,7 @@ ghost use Rattle.std.specs.Prelude.{◌≡◌, pos, IfOk};
 ghost use Rattle.sqlite.specs.Order.{column};
 ghost use Rattle.sqlite.specs.declared.types.Value.TheVariants.{Int, Text};
 ghost use Rattle.vault_core.specs.Numbers.{use_number};
+ghost use Rattle.vault_pan.specs.Mask.{lead_digits};
 ghost use Rattle.vault_schema.specs.Version1.Rows.{text_or_null, number_or_null};
 
 use sqlite::Row;
@@ -10,6 +11,7 @@ use vault_cards::fault::StoreFault;
 use vault_core::moment::Moment;
 use vault_core::name::MerchantId;
 use vault_core::usage::Use;
+use vault_pan::lead::Lead;
 use vault_pan::pan::Pan;
 use vault_pan::token::Token;
 
@@ -69,6 +71,17 @@ pub(crate) fn moment_in(row: &Row, at: usize) -> Result<Moment, StoreFault>
     match Moment::new(seconds) {
         Ok(moment) => Ok(moment),
         Err(_) => Err(StoreFault),
+    }
+}
+
+/// The lead of a merchant's masks, by its digits.
+pub(crate) fn lead_in(row: &Row, at: usize) -> Result<Lead, StoreFault>
+    ensures { IfOk result (λ lead. column row.now at ≡ Int (pos (lead_digits lead))) }
+{
+    let digits: u64 = row.get(at)?;
+    match Lead::of(digits) {
+        Some(lead) => Ok(lead),
+        None => Err(StoreFault),
     }
 }
 

@@ -8,13 +8,14 @@ ghost use Rattle.vault_core.specs.Vault.{merchant_at};
 ghost use Rattle.vault_core.specs.Window.{moment_at, row_at};
 ghost use Rattle.vault_core.specs.Keys.{bytes_cmp};
 ghost use Rattle.vault_rows.specs.Calls.{Makes, Tells, TellsInside, Turns};
-ghost use Rattle.vault_schema.specs.Version1.Rows.{lives_columns, number_column};
+ghost use Rattle.vault_schema.specs.Version1.Rows.{number_column};
+ghost use Rattle.vault_schema.specs.Version3.Rows.{lives_columns};
 ghost use Rattle.vault_rows.specs.Shown.{IsTotalOf, ShowsCounts, ShowsLives};
 ghost use Rattle.vault_schema.specs.Stands.{lives_in};
 ghost use Rattle.sql_maps.specs.Rows.{one_of, put};
 ghost use Rattle.vault_rows.specs.Written.{HasRoomAt, IsRaised, raise_at};
 
-use crate::columns::moment_in;
+use crate::columns::{lead_in, moment_in};
 use sql_maps::run::{change, rows_in, rows_of, step};
 use sqlite::{Alter, Connection, Error, Row, Transaction, params};
 use vault_cards::fault::StoreFault;
@@ -23,9 +24,8 @@ use vault_core::changes::Count;
 use vault_core::moment::Moment;
 use vault_core::name::MerchantId;
 use vault_core::row::MerchantRow;
-use vault_schema::v1::{
-    ADD_COUNT, COUNT_MERCHANTS, FIND_COUNTS, FIND_LIVES, Lives, PUT_MERCHANT, RAISE_COUNT,
-};
+use vault_schema::v1::{ADD_COUNT, FIND_COUNTS, RAISE_COUNT};
+use vault_schema::v3::{COUNT_MERCHANTS, FIND_LIVES, Lives, PUT_MERCHANT};
 
 /// The row of a merchant's lives.
 fn lives_rows<S: Alter>(conn: &mut Connection<S>, m: &str) -> Result<Vec<Row>, Error>
@@ -42,10 +42,12 @@ fn lives_of(row: &Row) -> Result<Lives, StoreFault>
     let single_life: u64 = row.get(0)?;
     let multi_life: u64 = row.get(1)?;
     let moment = moment_in(row, 2)?;
+    let lead = lead_in(row, 3)?;
     Ok(Lives {
         single_life,
         multi_life,
         moment,
+        lead,
     })
 }
 
@@ -116,6 +118,7 @@ pub fn merchant<S: Alter>(
     Ok(Some(MerchantRow {
         single_life: lives.single_life,
         multi_life: lives.multi_life,
+        lead: lives.lead,
         moment: lives.moment,
         made,
         given,
@@ -152,7 +155,14 @@ fn lives_rows_in<S: Alter>(tx: &mut Transaction<'_, S>, m: &str) -> Result<Vec<R
     rows_in(tx, FIND_LIVES, params![m])
 }
 
-/// Whether a merchant has these lives and this moment, inside a transaction.
+/// Whether these are the same lives, with the same moment and lead.
+fn are_same(x: &Lives, y: &Lives) -> bool
+    ensures { IsTrue result ↔ (x.now ≡ y.now) }
+{
+    x == y
+}
+
+/// Whether a merchant has these lives, this moment and this lead, inside a transaction.
 fn has_lives<S: Alter>(tx: &mut Transaction<'_, S>, m: &str, x: &Lives) -> Result<bool, StoreFault>
     ensures same_reference { tx.new.conn.ghost_name ≡ tx.old.conn.ghost_name }
     ensures told { TellsInside result (state S.Store tx.old.conn.now) (state S.Store tx.new.conn.now)
@@ -160,12 +170,13 @@ fn has_lives<S: Alter>(tx: &mut Transaction<'_, S>, m: &str, x: &Lives) -> Resul
 {
     let rows = lives_rows_in(tx, m)?;
     match rows.first() {
-        Some(row) => Ok(lives_of(row)? == *x),
+        Some(row) => Ok(are_same(&lives_of(row)?, x)),
         None => Ok(false),
     }
 }
 
-/// Writes the lives and the moment of a merchant where it has others or isn't there: a look costs less than a
+/// Writes the lives, the moment and the lead of a merchant where it has others or isn't there: a look costs
+/// less than a
 /// write, and within a second a merchant's moment stays.
 pub fn set_lives<S: Alter>(
     tx: &mut Transaction<'_, S>,
@@ -184,7 +195,7 @@ pub fn set_lives<S: Alter>(
     Ok(put_merchant(tx, m, x)?)
 }
 
-/// Writes the lives and the moment of a merchant, whether or not it was there.
+/// Writes the lives, the moment and the lead of a merchant, whether or not it was there.
 fn put_merchant<S: Alter>(tx: &mut Transaction<'_, S>, m: &str, x: &Lives) -> Result<(), Error>
     requires single { x.now.single_life < 2 ^ 63 }
     requires multi { x.now.multi_life < 2 ^ 63 }
@@ -193,10 +204,17 @@ fn put_merchant<S: Alter>(tx: &mut Transaction<'_, S>, m: &str, x: &Lives) -> Re
         (λ _. Unit {0}) (λ h. record h { merchants = put bytes_cmp h.merchants m.now (Some x.now) }) }
 {
     let moment = x.moment.seconds();
+    let lead = x.lead.digits();
     step(
         tx,
         PUT_MERCHANT,
-        params![m, x.single_life as i64, x.multi_life as i64, moment as i64],
+        params![
+            m,
+            x.single_life as i64,
+            x.multi_life as i64,
+            moment as i64,
+            lead as i64
+        ],
     )
 }
 

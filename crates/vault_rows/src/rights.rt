@@ -1,22 +1,27 @@
 //! The rows of rights.
-ghost use Rattle.std.specs.Prelude.{◌≡◌, [], ◌∷◌, cond, Some, None};
+ghost use Rattle.std.specs.Prelude.{◌≡◌, None, Some, IfOk};
 ghost use Rattle.sqlite.specs.Held.{state};
+ghost use Rattle.sqlite.specs.Order.{column};
 ghost use Rattle.vault_core.specs.Keys.{right_cmp};
-ghost use Rattle.vault_core.specs.Numbers.{right_number};
-ghost use Rattle.vault_core.specs.Vault.{has_right};
+ghost use Rattle.vault_core.specs.Vault.{right_at};
 ghost use Rattle.vault_rows.specs.Calls.{Makes, Tells};
-ghost use Rattle.vault_schema.specs.Version1.Rows.{number_column};
-ghost use Rattle.sql_maps.specs.Rows.{put};
+ghost use Rattle.vault_schema.specs.Version1.Rows.{number_or_null};
+ghost use Rattle.vault_schema.specs.Version4.Rows.{ends_column};
+ghost use Rattle.sql_maps.specs.Rows.{one_of, put};
 
+use crate::columns::moment_or_null_in;
 use sql_maps::run::{rows_of, step};
+use sqlite::types::ToSql;
 use sqlite::{Alter, Connection, Error, Row, Transaction, params};
 use vault_cards::fault::StoreFault;
+use vault_cards::parameters::moment_value;
 use vault_cards::text::{caller_text, merchant_text};
 use vault_core::name::{Caller, MerchantId};
 use vault_core::right::Right;
-use vault_schema::v1::{FIND_RIGHT, GIVE_RIGHT, TAKE_RIGHT};
+use vault_core::row::GrantRow;
+use vault_schema::v4::{FIND_RIGHT, GIVE_RIGHT, TAKE_RIGHT};
 
-/// The row of a right, where the caller has it.
+/// The row of a right's end, where the caller has the right.
 fn right_rows<S: Alter>(
     conn: &mut Connection<S>,
     caller: &str,
@@ -24,41 +29,61 @@ fn right_rows<S: Alter>(
     right: Right,
 ) -> Result<Vec<Row>, Error>
     ensures { Tells result (state S.Store conn.old) (state S.Store conn.new)
-        (λ V rows. rows.items
-        ≡ cond (has_right V caller.now m.now right) (number_column (right_number right) ∷ []) []) }
+        (λ V rows. rows.items ≡ one_of ends_column (right_at V caller.now m.now right)) }
 {
     let what = right.number();
     rows_of(conn, FIND_RIGHT, params![caller, m, what as i64])
 }
 
-/// Whether a caller has a right at a merchant.
-pub fn has<S: Alter>(
+/// The right whose end a row shows.
+fn right_of(row: &Row) -> Result<GrantRow, StoreFault>
+    ensures { IfOk result (λ g. column row.now 0 ≡ number_or_null g.ends) }
+{
+    let ends = moment_or_null_in(row, 0)?;
+    Ok(GrantRow { ends })
+}
+
+/// The right of a caller at a merchant.
+pub fn right<S: Alter>(
     conn: &mut Connection<S>,
     caller: &Caller,
     m: &MerchantId,
     right: Right,
-) -> Result<bool, StoreFault>
+) -> Result<Option<GrantRow>, StoreFault>
     ensures { Tells result (state S.Store conn.old) (state S.Store conn.new)
-        (λ V found. found ≡ has_right V caller.now m.now right) }
+        (λ V found. found ≡ right_at V caller.now m.now right) }
 {
     let rows = right_rows(conn, caller_text(caller), merchant_text(m), right)?;
-    Ok(!rows.is_empty())
+    match rows.first() {
+        Some(row) => Ok(Some(right_of(row)?)),
+        None => Ok(None),
+    }
 }
 
-/// Gives a caller a right, whether or not it was there.
+/// Gives a caller a right up to its end, whether or not it was there.
 pub fn give<S: Alter>(
     tx: &mut Transaction<'_, S>,
     caller: &str,
     m: &str,
     right: Right,
+    row: GrantRow,
 ) -> Result<(), Error>
     ensures same_reference { tx.new.conn.ghost_name ≡ tx.old.conn.ghost_name }
     ensures done { Makes result (state S.Store tx.old.conn.now) (state S.Store tx.new.conn.now)
         (λ _. Unit {0})
-        (λ h. record h { rights = put right_cmp h.rights (caller.now, (m.now, right)) (Some tt) }) }
+        (λ h. record h { rights = put right_cmp h.rights (caller.now, (m.now, right)) (Some row) }) }
 {
     let what = right.number();
-    step(tx, GIVE_RIGHT, params![caller, m, what as i64])
+    step(
+        tx,
+        GIVE_RIGHT,
+        &[
+            caller.to_sql(),
+            m.to_sql(),
+            (what as i64).to_sql(),
+            moment_value(row.ends),
+        ],
+    )
 }
 
 /// Takes a right from a caller, whether or not it was there.

@@ -17,7 +17,7 @@ use Rattle.vault_core.specs.declared.right.Right.TheVariants.{Audit}
 use Rattle.vault_rules.specs.Lookups.{is_known, total_of, held_by}
 use Rattle.vault_rules.specs.Rules.{is_within, is_current, are_named, is_lasting, is_count, has_token}
 use Rattle.vault_rules.specs.Rules.{has_number, is_timed, is_kept, at_moments, is_counted, is_record}
-use Rattle.vault_rules.specs.Rules.{is_right, keeps}
+use Rattle.vault_rules.specs.Rules.{is_right, has_lead, has_end, keeps}
 use Rattle.vault_rules.specs.Showing.{Shows, ShowsCount}
 use Rattle.vault_rules.specs.Texts.{is_name, is_token}
 use Rattle.vault_rules.specs.VaultOf.{HasKeysApart}
@@ -27,6 +27,8 @@ use Rattle.vault_rules.specs.declared.rows.RawRecord.{RawRecord}
 use Rattle.vault_rules.specs.declared.rows.Rows.{Rows}
 use Rattle.vault_rules.proofs.CardsFrom.{cards_kept}
 use Rattle.vault_rules.proofs.DistinctFrom.{keys_distinct}
+use Rattle.vault_rules.proofs.Ends.{ends_from}
+use Rattle.vault_rules.proofs.Leads.{lead_from}
 use Rattle.vault_rules.proofs.Numbers.{within_from, int_same, below_from}
 use Rattle.vault_rules.proofs.ShownRows.{entered, tested, held_known, known, entry_shown}
 use Rattle.vault_rules.proofs.TextLemmas.{name_from, token_from}
@@ -160,10 +162,21 @@ module _ (rows : Rows) (V : Vault) (shows : Shows rows V) (sound : Sound V) wher
   kept_12 : list_all (is_right rows.merchants.items) rows.rights.items ≡ true
   kept_12 = test_from (is_right rows.merchants.items) rows.rights.items (λ r h.
       let it = shows.rights r h in
-      let fine = sound.rights (string_bytes r.caller) (string_bytes r.merchant) it.0 it.2 in
+      let fine = sound.rights (string_bytes r.caller) (string_bytes r.merchant) it.0 it.1 it.3 in
       and_from _ _ (and_from _ _ (name_from (string_bytes r.caller) fine.0)
       (known rows V shows (string_bytes r.merchant) fine.1 fine.2))
-      (right_within it.0 r.what it.1))
+      (right_within it.0 r.what it.2))
+
+  kept_14 : list_all has_lead rows.merchants.items ≡ true
+  kept_14 = test_from has_lead rows.merchants.items (λ m h.
+      let it = shows.merchants m h in
+      lead_from it.0.lead m.lead it.2.lead)
+
+  kept_15 : list_all has_end rows.rights.items ≡ true
+  kept_15 = test_from has_end rows.rights.items (λ r h.
+      let it = shows.rights r h in
+      let fine = sound.rights (string_bytes r.caller) (string_bytes r.merchant) it.0 it.1 it.3 in
+      ap (λ o. option_map_or (is_within (pos 0) (pos 253402300799)) o true) it.4 ∙ ends_from it.1.ends fine.3)
 
   kept_after : HasKeysApart rows → (n : ℕ)
       → keeps rows (suc (suc (suc (suc (suc (suc (suc (suc n)))))))) ≡ true
@@ -173,7 +186,9 @@ module _ (rows : Rows) (V : Vault) (shows : Shows rows V) (sound : Sound V) wher
   kept_after apart (suc (suc (suc zero))) = kept_11
   kept_after apart (suc (suc (suc (suc zero)))) = kept_12
   kept_after apart (suc (suc (suc (suc (suc zero))))) = cards_kept rows V shows sound apart
-  kept_after apart (suc (suc (suc (suc (suc (suc n)))))) = refl
+  kept_after apart (suc (suc (suc (suc (suc (suc zero)))))) = kept_14
+  kept_after apart (suc (suc (suc (suc (suc (suc (suc zero))))))) = kept_15
+  kept_after apart (suc (suc (suc (suc (suc (suc (suc (suc n)))))))) = refl
 
 pub all_kept : (rows : Rows) (V : Vault) → Shows rows V → Sound V → HasKeysApart rows → (r : ℕ)
     → keeps rows r ≡ true

@@ -8,13 +8,14 @@ use Rattle.std.specs.declared.cmp.Ordering.{Ordering}
 use Rattle.std.specs.declared.cmp.Ordering.TheVariants.{Less, Equal, Greater}
 use Rattle.std.proofs.lemmas.Map.Text.{is_eq-slice_cmp}
 use Rattle.std.proofs.lemmas.Slice.Eq.{bytes_eq-Decides}
-use Rattle.vault_core.specs.Keys.{Bytes, bytes_cmp, entry_cmp, record_cmp}
-use Rattle.vault_core.specs.Vault.{merchant_at, entry_at, record_at, made_count}
+use Rattle.vault_core.specs.Keys.{Bytes, bytes_cmp, entry_cmp, record_cmp, right_cmp}
+use Rattle.vault_core.specs.Vault.{merchant_at, entry_at, record_at, right_at, made_count}
+use Rattle.vault_core.specs.declared.right.Right.{Right}
 use Rattle.vault_core.proofs.Maps.{bytes_total, bytes_exact, entry_total, entry_exact, record_total}
-use Rattle.vault_core.proofs.Maps.{record_exact}
+use Rattle.vault_core.proofs.Maps.{record_exact, right_total, right_exact}
 use Rattle.vault_rules.specs.Lookups.{merchant_of, entry_of, held_by}
 use Rattle.vault_rules.specs.VaultOf.{vault_of, merchant_value, entry_key, entry_value, record_key}
-use Rattle.vault_rules.specs.VaultOf.{record_value, HasKeysApart}
+use Rattle.vault_rules.specs.VaultOf.{record_value, right_key, grant_value, HasKeysApart}
 use Rattle.vault_rules.specs.declared.rows.Rows.{Rows}
 use Rattle.vault_rules.proofs.Keyed.{get_first, len_is, kept_is}
 
@@ -60,6 +61,14 @@ module _ (rows : Rows) where
   record_is caller request =
       get_first record_total record_exact record_key record_value
       (λ q r. eq_by_cmp record_cmp q (record_key r)) (λ q r. refl) rows.records.items (caller, request)
+
+  pub right_is : (caller m : Bytes) (right : Right)
+      → right_at (vault_of rows) caller m right
+      ≡ option_map grant_value
+      (find (λ r. eq_by_cmp right_cmp (caller, (m, right)) (right_key r)) rows.rights.items)
+  right_is caller m right =
+      get_first right_total right_exact right_key grant_value
+      (λ q r. eq_by_cmp right_cmp q (right_key r)) (λ q r. refl) rows.rights.items (caller, (m, right))
 
   pub many_is : HasKeysApart rows → finite.len (vault_of rows).merchants ≡ length rows.merchants.items
   many_is apart =

@@ -1,31 +1,30 @@
 -- The rows of what the vault has.
-use Rattle.std.proofs.Common.{◌≡◌, ℕ, ℤ, Bool, true, ◌&&◌, List, find, map, Option, Some, option_map, sym}
+use Rattle.std.proofs.Common.{◌≡◌, ℕ, ℤ, Bool, true, ◌&&◌, List, find, Option, Some, option_map, sym}
 use Rattle.std.proofs.Common.{ap, ◌∙◌}
 use Rattle.std.specs.Prelude.{string_bytes, bytes_eq}
-use Rattle.std.specs.FinSet as set
 use Rattle.std.specs.Cmp.{Equal-is}
 use Rattle.std.specs.Option.{option_map_or}
 use Rattle.std.specs.Ordering.{eq_by_cmp}
 use Rattle.std.proofs.lemmas.Bool.{and_parts}
 use Rattle.sqlite_rules.specs.Lists.{Has}
-use Rattle.sqlite_rules.proofs.ListLemmas.{has_found, some_has}
-use Rattle.sqlite_rules.proofs.ProbeLemmas.{has_mapped}
+use Rattle.sqlite_rules.proofs.ListLemmas.{has_found}
 use Rattle.vault_core.specs.Keys.{Bytes, record_cmp, right_cmp}
-use Rattle.vault_core.specs.Vault.{Merchant, merchant_at, entry_at, record_at, has_right}
+use Rattle.vault_core.specs.Vault.{Merchant, merchant_at, entry_at, record_at, right_at}
 use Rattle.vault_core.specs.declared.right.Right.{Right}
 use Rattle.vault_core.specs.declared.row.Entry.{Entry}
+use Rattle.vault_core.specs.declared.row.GrantRow.{GrantRow}
 use Rattle.vault_core.specs.declared.row.Record.{Record}
-use Rattle.vault_core.proofs.Maps.{record_exact, right_total, right_exact}
+use Rattle.vault_core.proofs.Maps.{record_exact, right_exact}
 use Rattle.vault_rules.specs.Lookups.{merchant_of, entry_of, is_known}
 use Rattle.vault_rules.specs.Rules.{at_moments}
 use Rattle.vault_rules.specs.VaultOf.{vault_of, merchant_value, entry_value, record_key, record_value}
-use Rattle.vault_rules.specs.VaultOf.{right_key}
+use Rattle.vault_rules.specs.VaultOf.{right_key, grant_value}
 use Rattle.vault_rules.specs.declared.rows.RawMerchant.{RawMerchant}
 use Rattle.vault_rules.specs.declared.rows.RawEntry.{RawEntry}
 use Rattle.vault_rules.specs.declared.rows.RawRecord.{RawRecord}
 use Rattle.vault_rules.specs.declared.rows.RawRight.{RawRight}
 use Rattle.vault_rules.specs.declared.rows.Rows.{Rows}
-use Rattle.vault_rules.proofs.Found.{bytes_are, merchant_is, entry_is, record_is}
+use Rattle.vault_rules.proofs.Found.{bytes_are, merchant_is, entry_is, record_is, right_is}
 use Rattle.vault_rules.proofs.Options.{there_is, mapped_is}
 
 -- the row of a merchant
@@ -125,13 +124,15 @@ module _ (rows : Rows) where
       ((Equal-is (record_cmp (caller, request) (record_key it.0))).0 found.1) in
       (it.0, found.0, sym same, it.2)
 
-  pub right_row : (caller m : Bytes) (right : Right) → has_right (vault_of rows) caller m right ≡ true
+  pub right_row : (caller m : Bytes) (right : Right) (g : GrantRow)
+      → right_at (vault_of rows) caller m right ≡ Some g
       → (r : RawRight) × Has rows.rights.items r × (right_key r ≡ (caller, (m, right)))
-  right_row caller m right h =
+      × (grant_value r ≡ g)
+  right_row caller m right g h =
       let q : Bytes × (Bytes × Right) = (caller, (m, right)) in
-      let found =
-      some_has (eq_by_cmp right_cmp q) (map right_key rows.rights.items)
-      (sym (set.contains-from_list right_total (map right_key rows.rights.items) q) ∙ h) in
-      let row = has_mapped right_key rows.rights.items found.0 found.1 in
-      let same = right_exact q found.0 ((Equal-is (right_cmp q found.0)).0 found.2) in
-      (row.0, row.1, sym (same ∙ row.2))
+      let test = λ (r : RawRight). eq_by_cmp right_cmp q (right_key r) in
+      let it =
+      mapped_is grant_value (find test rows.rights.items) g (sym (right_is rows caller m right) ∙ h) in
+      let found = has_found test rows.rights.items it.0 it.1 in
+      let same = right_exact q (right_key it.0) ((Equal-is (right_cmp q (right_key it.0))).0 found.1) in
+      (it.0, found.0, sym same, it.2)

@@ -1,26 +1,26 @@
 -- Each row is in the vault of rows.
-use Rattle.std.proofs.Common.{◌≡◌, ℕ, pos, true, List, [], ◌∷◌, map, length, Some, option_map, inl, inr}
+use Rattle.std.proofs.Common.{◌≡◌, ℕ, pos, true, List, [], ◌∷◌, length, Some, option_map, inl, inr}
 use Rattle.std.proofs.Common.{refl, sym, ap, ◌∙◌}
 use Rattle.std.specs.Prelude.{string_bytes}
 use Rattle.std.specs.Cmp.{tied_itself}
 use Rattle.std.specs.FinMap as finite
 use Rattle.std.specs.FinMap.{IsAntisymmetric}
-use Rattle.std.specs.FinSet as set
 use Rattle.std.specs.Cmp.{IsTotalOrder, Equal-is}
 use Rattle.std.specs.Ordering.{eq_by_cmp, int_eq, is_eq}
 use Rattle.std.specs.declared.cmp.Ordering.{Ordering}
 use Rattle.sqlite_rules.specs.Lists.{Has}
-use Rattle.sqlite_rules.proofs.ListLemmas.{has_found, some_from}
-use Rattle.sqlite_rules.proofs.ProbeLemmas.{mapped_has}
-use Rattle.vault_core.specs.Keys.{Bytes, right_cmp}
-use Rattle.vault_core.specs.Vault.{merchant_at, entry_at, record_at, has_right}
+use Rattle.sqlite_rules.proofs.ListLemmas.{has_found}
+use Rattle.vault_core.specs.Keys.{Bytes}
+use Rattle.vault_core.specs.Numbers.{right_number}
+use Rattle.vault_core.specs.Vault.{merchant_at, entry_at, record_at, right_at}
+use Rattle.vault_core.specs.declared.right.Right.{Right}
 use Rattle.vault_core.proofs.Maps.{bytes_total, bytes_exact, entry_total, entry_exact, record_total}
-use Rattle.vault_core.proofs.Maps.{record_exact, right_total}
+use Rattle.vault_core.proofs.Maps.{record_exact, right_total, right_exact}
 use Rattle.vault_rules.specs.Lookups.{card_of}
 use Rattle.vault_rules.specs.Rules.{keeps}
 use Rattle.vault_rules.specs.VaultOf.{AreKeysApart, HasKeysApart, vault_of, natural, merchant_value}
 use Rattle.vault_rules.specs.VaultOf.{entry_key, entry_value, record_key, record_value, request_key}
-use Rattle.vault_rules.specs.VaultOf.{right_key, right_of}
+use Rattle.vault_rules.specs.VaultOf.{right_key, right_of, grant_value, number_key}
 use Rattle.vault_rules.specs.declared.rows.RawMerchant.{RawMerchant}
 use Rattle.vault_rules.specs.declared.rows.RawCard.{RawCard}
 use Rattle.vault_rules.specs.declared.rows.RawEntry.{RawEntry}
@@ -30,6 +30,7 @@ use Rattle.vault_rules.specs.declared.rows.Rows.{Rows}
 use Rattle.vault_rules.proofs.Keyed.{keys_once, find-some, pairs, get_first, len_is}
 use Rattle.vault_rules.proofs.Kept as kept
 use Rattle.vault_rules.proofs.Numbers.{int_is, int_same}
+use Rattle.vault_rules.proofs.RightNumbers.{what_is}
 
 -- keys that differ by one part differ by another that tells it
 apart_by : {R K L : Type 0} (key : R → K) (other : R → L) (rows : List R)
@@ -108,11 +109,27 @@ module _ (rows : Rows) (apart : HasKeysApart rows) where
   records_many keep =
       len_is record_total record_exact record_key record_value rows.records.items (requests_apart keep)
 
-module _ (rows : Rows) where
-  pub right_held : (r : RawRight) → Has rows.rights.items r
-      → has_right (vault_of rows) (string_bytes r.caller) (string_bytes r.merchant) (right_of r.what) ≡ true
-  right_held r h =
-      set.contains-from_list right_total (map right_key rows.rights.items) (right_key r)
-      ∙ some_from (eq_by_cmp right_cmp (right_key r)) (map right_key rows.rights.items) (right_key r)
-      (mapped_has right_key rows.rights.items r h)
-      (ap is_eq (tied_itself right_total (right_key r)))
+  -- rights that are apart have keys that are apart, since each has a number of its own
+  rights_apart : ((r : ℕ) → keeps rows r ≡ true) → AreKeysApart right_key rows.rights.items
+  rights_apart keep = apart_by number_key right_key rows.rights.items numbered apart.rights
+    where
+      numbered : (a b : RawRight)
+          → Has rows.rights.items a → Has rows.rights.items b → right_key a ≡ right_key b
+          → number_key a ≡ number_key b
+      numbered a b g k same =
+          let what : a.what ≡ b.what =
+          what_is a.what (kept.rights_well rows keep a g).2
+          ∙ ap (λ (key : Bytes × (Bytes × Right)). pos (right_number key.1.1)) same
+          ∙ sym (what_is b.what (kept.rights_well rows keep b k).2) in
+          λ i. ((same i).0, ((same i).1.0, what i))
+
+  pub right_held : ((r : ℕ) → keeps rows r ≡ true) → (r : RawRight) → Has rows.rights.items r
+      → right_at (vault_of rows) (string_bytes r.caller) (string_bytes r.merchant) (right_of r.what)
+      ≡ Some (grant_value r)
+  right_held keep r h =
+      get_held right_total right_exact right_key grant_value rows.rights.items (rights_apart keep) r h
+
+  pub rights_many : ((r : ℕ) → keeps rows r ≡ true)
+      → finite.len (vault_of rows).rights ≡ length rows.rights.items
+  rights_many keep =
+      len_is right_total right_exact right_key grant_value rows.rights.items (rights_apart keep)

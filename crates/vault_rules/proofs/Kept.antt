@@ -13,7 +13,7 @@ use Rattle.vault_pan.specs.CardText.{IsToken}
 use Rattle.vault_rules.specs.Lookups.{is_known, entry_of, held_by, total_of, used_by}
 use Rattle.vault_rules.specs.Rules.{are_named, is_lasting, is_count, has_token, has_number, is_timed}
 use Rattle.vault_rules.specs.Rules.{is_kept, at_moments, live_key, are_distinct, is_counted, is_record}
-use Rattle.vault_rules.specs.Rules.{is_right, is_card, has_card, keeps}
+use Rattle.vault_rules.specs.Rules.{is_right, is_card, has_card, has_lead, has_end, keeps}
 use Rattle.vault_rules.specs.Showing.{HasCard}
 use Rattle.vault_rules.specs.Texts.{is_name}
 use Rattle.vault_rules.specs.declared.rows.RawMerchant.{RawMerchant}
@@ -152,3 +152,9 @@ module _ (rows : Rows) (kept : (r : ℕ) → keeps rows r ≡ true) where
   pub own_card : (e : RawEntry) → Has rows.entries.items e → HasCard rows.cards.items e
   own_card e h =
       card_is rows.cards.items e (test_has (has_card rows.cards.items) rows.entries.items e both_cards.1 h)
+
+  pub led : (m : RawMerchant) → Has rows.merchants.items m → has_lead m ≡ true
+  led m h = test_has has_lead rows.merchants.items m (kept 14) h
+
+  pub ended : (r : RawRight) → Has rows.rights.items r → has_end r ≡ true
+  ended r h = test_has has_end rows.rights.items r (kept 15) h

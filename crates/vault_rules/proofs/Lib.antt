@@ -4,6 +4,7 @@ pub mod Cards
 pub mod CardsFrom
 pub mod Counts
 pub mod DistinctFrom
+pub mod Ends
 pub mod FirstLemmas
 pub mod Found
 pub mod FoundRows
@@ -11,12 +12,14 @@ pub mod Held
 pub mod HeldLemmas
 pub mod Kept
 pub mod Keyed
+pub mod Leads
 pub mod LeastLemmas
 pub mod Live
 pub mod LiveLemmas
 pub mod Numbers
 pub mod Options
 pub mod Pointing
+pub mod RightNumbers
 pub mod RowsShow
 pub mod RowsSound
 pub mod ShownRows

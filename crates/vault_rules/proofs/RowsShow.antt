@@ -8,13 +8,13 @@ use Rattle.std.specs.Ordering.{int_eq}
 use Rattle.std.proofs.lemmas.Bool.{and_parts}
 use Rattle.std.proofs.lemmas.Bool.Decides.{Decides-eqb}
 use Rattle.sqlite_rules.specs.Lists.{Has}
-use Rattle.vault_core.specs.Numbers.{right_number, use_number}
+use Rattle.vault_core.specs.Numbers.{use_number}
 use Rattle.vault_core.specs.Vault.{Merchant}
 use Rattle.vault_rules.specs.Lookups.{total_of, entry_of}
 use Rattle.vault_rules.specs.Rules.{is_current, keeps}
 use Rattle.vault_rules.specs.Showing.{Shows, ShowsCount, ShowsRecord}
 use Rattle.vault_rules.specs.VaultOf.{HasKeysApart, vault_of, natural, use_of, right_of, merchant_value}
-use Rattle.vault_rules.specs.VaultOf.{entry_value, record_value}
+use Rattle.vault_rules.specs.VaultOf.{entry_value, record_value, grant_value}
 use Rattle.vault_rules.specs.declared.rows.RawVersion.{RawVersion}
 use Rattle.vault_rules.specs.declared.rows.RawCount.{RawCount}
 use Rattle.vault_rules.specs.declared.rows.RawEntry.{RawEntry}
@@ -22,12 +22,15 @@ use Rattle.vault_rules.specs.declared.rows.RawRecord.{RawRecord}
 use Rattle.vault_rules.specs.declared.rows.Rows.{Rows}
 use Rattle.vault_rules.proofs.Alone.{entry_shown}
 use Rattle.vault_rules.proofs.Counts.{count_of, count_total, counts_are}
+use Rattle.vault_rules.proofs.Ends.{ends_are}
 use Rattle.vault_rules.proofs.Found.{many_is, made_is}
 use Rattle.vault_rules.proofs.FoundRows.{merchant_known, merchant_there, merchant_row, entry_found, entry_row}
 use Rattle.vault_rules.proofs.Held.{merchant_held, entry_held, record_held, right_held}
 use Rattle.vault_rules.proofs.Kept as kept
+use Rattle.vault_rules.proofs.Leads.{lead_is}
 use Rattle.vault_rules.proofs.Numbers.{int_is, pos_same}
 use Rattle.vault_rules.proofs.Options.{tested_is}
+use Rattle.vault_rules.proofs.RightNumbers.{what_is}
 
 one_row : (versions : List RawVersion)
     → (length versions == 1 && list_all (λ x. int_eq x.id (pos 1)) versions) ≡ true
@@ -46,16 +49,6 @@ current_is : (versions : List RawVersion) (replaced : ℕ) → is_current versio
 current_is versions replaced h =
     let parts = and_parts _ _ h in
     (one_row versions parts.0, (Decides-eqb replaced 0).0 parts.1)
-
-numbered : (n : ℕ) → 1 ≤ n → n ≤ 6 → n ≡ right_number (right_of (pos n))
-numbered zero low high = absurd (omega arith)
-numbered (suc zero) low high = refl
-numbered (suc (suc zero)) low high = refl
-numbered (suc (suc (suc zero))) low high = refl
-numbered (suc (suc (suc (suc zero)))) low high = refl
-numbered (suc (suc (suc (suc (suc zero))))) low high = refl
-numbered (suc (suc (suc (suc (suc (suc zero)))))) low high = refl
-numbered (suc (suc (suc (suc (suc (suc (suc n))))))) low high = absurd (omega arith)
 
 one_of_three : (n : ℕ) → 1 ≤ n → n ≤ 3 → (n ≡ 1) ⊎ ((n ≡ 2) ⊎ (n ≡ 3))
 one_of_three zero low high = absurd (omega arith)
@@ -138,6 +131,7 @@ module _ (rows : Rows) (apart : HasKeysApart rows) (keep : (r : ℕ) → keeps r
                 single_life = lasting.single.is;
                 multi_life = lasting.multi.is;
                 moment = lasting.moment.is;
+                lead = lead_is m.lead (kept.led rows keep m h);
               },
             );
         merchants_there =
@@ -171,8 +165,9 @@ module _ (rows : Rows) (apart : HasKeysApart rows) (keep : (r : ℕ) → keeps r
         rights = λ r h.
             let what = (kept.rights_well rows keep r h).2 in (
               right_of r.what,
-              what.is ∙ ap pos (numbered (natural r.what) what.low_is what.high_is)
-                  ∙ ap (λ z. pos (right_number (right_of z))) (sym what.is),
-              right_held rows r h,
+              grant_value r,
+              what_is r.what what,
+              right_held rows apart keep r h,
+              ends_are r.ends (kept.ended rows keep r h),
             );
       }

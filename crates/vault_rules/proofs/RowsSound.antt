@@ -2,16 +2,17 @@
 use Rattle.std.proofs.Common.{◌≡◌, ℕ, pos, ◌≤◌, Bool, true, false, cond, List, [], ◌∷◌, length, filter}
 use Rattle.std.proofs.Common.{Option, Some, None, is_some, inl, inr, refl, sym, ap, subst, ◌∙◌, arith}
 use Rattle.std.proofs.Common.{true≢false}
-use Rattle.std.specs.Prelude.{string_bytes, bytes_eq}
+use Rattle.std.specs.Prelude.{string_bytes, bytes_eq, IfSome}
 use Rattle.std.specs.Ordering.{int_eq}
 use Rattle.sqlite_rules.specs.Lists.{Has}
 use Rattle.vault_core.specs.Keys.{Bytes}
 use Rattle.vault_core.specs.Name.{IsName}
-use Rattle.vault_core.specs.Scalar.{IsRequest}
+use Rattle.vault_core.specs.Scalar.{IsMoment, IsRequest}
 use Rattle.vault_core.specs.Sound.{IsSoundEntry, IsEntryOf}
-use Rattle.vault_core.specs.Vault.{Merchant, merchant_at, entry_at, record_at, has_right}
+use Rattle.vault_core.specs.Vault.{Merchant, merchant_at, entry_at, record_at, right_at}
 use Rattle.vault_core.specs.declared.right.Right.{Right}
 use Rattle.vault_core.specs.declared.row.Entry.{Entry}
+use Rattle.vault_core.specs.declared.row.GrantRow.{GrantRow}
 use Rattle.vault_core.specs.declared.row.Record.{Record}
 use Rattle.vault_rules.specs.Lookups.{merchant_of, entry_of, held_by, is_known}
 use Rattle.vault_rules.specs.Rules.{is_timed, is_kept, keeps}
@@ -20,6 +21,7 @@ use Rattle.vault_rules.specs.declared.rows.RawMerchant.{RawMerchant}
 use Rattle.vault_rules.specs.declared.rows.RawEntry.{RawEntry}
 use Rattle.vault_rules.specs.declared.rows.RawRecord.{RawRecord}
 use Rattle.vault_rules.specs.declared.rows.Rows.{Rows}
+use Rattle.vault_rules.proofs.Ends.{ends_sound}
 use Rattle.vault_rules.proofs.Found.{bytes_are}
 use Rattle.vault_rules.proofs.FoundRows.{MerchantRow, merchant_known, merchant_found, entry_found}
 use Rattle.vault_rules.proofs.FoundRows.{at_moment, merchant_there, entry_there, entry_row, record_row}
@@ -109,17 +111,21 @@ module _ (rows : Rows) (keep : (r : ℕ) → keeps rows r ≡ true) where
         subst (λ (x : Record). IsEntryOf x (entry_at (vault_of rows) x.merchant x.token)) it.3 fine.2,
       )
 
-  pub rights_sound : (caller m : Bytes) (right : Right) → has_right (vault_of rows) caller m right ≡ true
+  pub rights_sound : (caller m : Bytes) (right : Right) (g : GrantRow)
+      → right_at (vault_of rows) caller m right ≡ Some g
       → IsName caller × (merchant : Merchant) × (merchant_at (vault_of rows) m ≡ Some merchant)
-  rights_sound caller m right h =
-      let it = right_row rows caller m right h in
+      × IfSome g.ends IsMoment
+  rights_sound caller m right g h =
+      let it = right_row rows caller m right g h in
       let well = kept.rights_well rows keep it.0 it.1 in
       let row = merchant_known rows.merchants.items (string_bytes it.0.merchant) well.1 in
       let value = merchant_value rows.counts.items row.m in
-      let at = merchant_there rows (string_bytes it.0.merchant) row in (
+      let at = merchant_there rows (string_bytes it.0.merchant) row in
+      let ended = ends_sound it.0.ends (kept.ended rows keep it.0 it.1) in (
         subst (λ (k : Bytes × (Bytes × Right)). IsName k.0) it.2 well.0,
         value,
         subst (λ (k : Bytes × (Bytes × Right)). merchant_at (vault_of rows) k.1.0 ≡ Some value) it.2 at,
+        subst (λ (x : GrantRow). IfSome x.ends IsMoment) it.3 ended,
       )
 
   -- a merchant that isn't there has no entries

@@ -130,7 +130,15 @@ has_card cards e =
     (card_of cards id) false)
     e.card true
 
--- each rule, from 1 to 13
+-- 14: a merchant's masks show at most 6 or 8 digits at the left
+abbrev pub has_lead : RawMerchant → Bool
+has_lead m = int_eq m.lead (pos 6) || int_eq m.lead (pos 8)
+
+-- 15: a right has no end, or it ends at a moment, 0 to 253402300799
+abbrev pub has_end : RawRight → Bool
+has_end r = option_map_or (is_within (pos 0) (pos 253402300799)) r.ends true
+
+-- each rule, from 1 to 15
 abbrev pub verdicts : Rows → List Bool
 verdicts rows =
     let merchants = rows.merchants.items in
@@ -149,6 +157,8 @@ verdicts rows =
     ∷ list_all (is_record entries) rows.records.items
     ∷ list_all (is_right merchants) rows.rights.items
     ∷ (list_all (is_card merchants entries) cards && list_all (has_card cards) entries)
+    ∷ list_all has_lead merchants
+    ∷ list_all has_end rows.rights.items
     ∷ []
 
 -- whether the rows keep the rule of this number

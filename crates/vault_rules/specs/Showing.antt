@@ -1,14 +1,16 @@
 -- Rows that show a vault.
-use Rattle.std.specs.Prelude.{◌≡◌, ◌<◌, ◌⊎◌, ℕ, ℤ, pos, true, List, [], ◌∷◌, length, Some, option_map}
+use Rattle.std.specs.Prelude.{◌≡◌, ◌<◌, ◌⊎◌, ℕ, ℤ, pos, List, [], ◌∷◌, length, Some, option_map}
 use Rattle.std.specs.Prelude.{string_bytes}
 use Rattle.std.specs.FinMap as finite
 use Rattle.sqlite_rules.specs.Lists.{Has}
 use Rattle.vault_core.specs.Keys.{Bytes}
 use Rattle.vault_core.specs.Numbers.{right_number, use_number}
-use Rattle.vault_core.specs.Vault.{Vault, Merchant, merchant_at, entry_at, record_at, has_right, made_count}
+use Rattle.vault_core.specs.Vault.{Vault, Merchant, merchant_at, entry_at, record_at, right_at, made_count}
 use Rattle.vault_core.specs.declared.right.Right.{Right}
 use Rattle.vault_core.specs.declared.row.Entry.{Entry}
+use Rattle.vault_core.specs.declared.row.GrantRow.{GrantRow}
 use Rattle.vault_core.specs.declared.row.Record.{Record}
+use Rattle.vault_pan.specs.Mask.{lead_digits}
 use Rattle.vault_rules.specs.Lookups.{total_of, held_by, card_of, number_of, used_by}
 use Rattle.vault_rules.specs.declared.rows.RawVersion.{RawVersion}
 use Rattle.vault_rules.specs.declared.rows.RawMerchant.{RawMerchant}
@@ -19,11 +21,12 @@ use Rattle.vault_rules.specs.declared.rows.RawRecord.{RawRecord}
 use Rattle.vault_rules.specs.declared.rows.RawRight.{RawRight}
 use Rattle.vault_rules.specs.declared.rows.Rows.{Rows}
 
--- a row has the lives and the moment of a merchant
+-- a row has the lives, the moment and the lead of a merchant
 pub record ShowsMerchant (m : RawMerchant) (merchant : Merchant) : Type 0 where
   pub single_life : m.single_life ≡ pos merchant.single_life
   pub multi_life : m.multi_life ≡ pos merchant.multi_life
   pub moment : m.moment ≡ pos merchant.moment
+  pub lead : m.lead ≡ pos (lead_digits merchant.lead)
 
 -- the card of an entry, unless it is purged, is a card row of its merchant
 abbrev pub HasCard : List RawCard → RawEntry → Type 0
@@ -88,5 +91,6 @@ pub record Shows (rows : Rows) (V : Vault) : Type 0 where
       → (request : ℕ) × (shown : Record) × (r.request ≡ pos request)
       × (record_at V (string_bytes r.caller) request ≡ Some shown) × ShowsRecord r shown
   pub rights : (r : RawRight) → Has rows.rights.items r
-      → (right : Right) × (r.what ≡ pos (right_number right))
-      × (has_right V (string_bytes r.caller) (string_bytes r.merchant) right ≡ true)
+      → (right : Right) × (g : GrantRow) × (r.what ≡ pos (right_number right))
+      × (right_at V (string_bytes r.caller) (string_bytes r.merchant) right ≡ Some g)
+      × (r.ends ≡ option_map pos g.ends)

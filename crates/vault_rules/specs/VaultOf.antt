@@ -2,7 +2,6 @@
 use Rattle.std.specs.Prelude.{◌≢◌, ℕ, ℤ, pos, negsuc, List, [], ◌∷◌, map, option_map, string_bytes}
 use Rattle.std.specs.Prelude.{if◌then◌else◌}
 use Rattle.std.specs.FinMap as finite
-use Rattle.std.specs.FinSet as set
 use Rattle.std.specs.Ordering.{int_eq}
 use Rattle.sqlite_rules.specs.Lists.{Has}
 use Rattle.vault_core.specs.Keys.{Bytes}
@@ -11,9 +10,12 @@ use Rattle.vault_core.specs.declared.right.Right.{Right}
 use Rattle.vault_core.specs.declared.right.Right.TheVariants.{Tokenize, Detokenize, View, Revoke, Purge}
 use Rattle.vault_core.specs.declared.right.Right.TheVariants.{Audit}
 use Rattle.vault_core.specs.declared.row.Entry.{Entry}
+use Rattle.vault_core.specs.declared.row.GrantRow.{GrantRow}
 use Rattle.vault_core.specs.declared.row.Record.{Record}
 use Rattle.vault_core.specs.declared.usage.Use.{Use}
 use Rattle.vault_core.specs.declared.usage.Use.TheVariants.{Single, Multi}
+use Rattle.vault_pan.specs.declared.lead.Lead.{Lead}
+use Rattle.vault_pan.specs.declared.lead.Lead.TheVariants.{Six, Eight}
 use Rattle.vault_rules.specs.Lookups.{total_of, number_of}
 use Rattle.vault_rules.specs.declared.rows.RawMerchant.{RawMerchant}
 use Rattle.vault_rules.specs.declared.rows.RawCount.{RawCount}
@@ -42,11 +44,16 @@ right_of n =
     else if int_eq n (pos 5) then Purge
     else Audit
 
+-- the lead of so many digits
+abbrev pub lead_of : ℤ → Lead
+lead_of n = if int_eq n (pos 8) then Eight else Six
+
 -- a merchant, with its counts of numbers given (2) and denied (3)
 abbrev pub merchant_value : List RawCount → RawMerchant → Merchant
 merchant_value counts m = record {
   single_life = natural m.single_life;
   multi_life = natural m.multi_life;
+  lead = lead_of m.lead;
   moment = natural m.moment;
   given = natural (total_of counts (string_bytes m.name) (pos 2));
   denied = natural (total_of counts (string_bytes m.name) (pos 3));
@@ -79,6 +86,10 @@ record_value r =
 abbrev pub right_key : RawRight → Bytes × (Bytes × Right)
 right_key r = (string_bytes r.caller, (string_bytes r.merchant, right_of r.what))
 
+-- what a row says of a right
+abbrev pub grant_value : RawRight → GrantRow
+grant_value r = record { ends = option_map natural r.ends }
+
 -- the vault of rows in which no key comes twice
 abbrev pub vault_of : Rows → Vault
 vault_of rows = record {
@@ -87,7 +98,7 @@ vault_of rows = record {
       (map (λ m. (string_bytes m.name, merchant_value rows.counts.items m)) rows.merchants.items);
   entries = finite.from_entries (map (λ e. (entry_key e, entry_value rows.cards.items e)) rows.entries.items);
   records = finite.from_entries (map (λ r. (record_key r, record_value r)) rows.records.items);
-  rights = set.from_list (map right_key rows.rights.items);
+  rights = finite.from_entries (map (λ r. (right_key r, grant_value r)) rows.rights.items);
 }
 
 -- keys as they stand

@@ -9,15 +9,17 @@ use crate::rows::Rows;
 use crate::rules::callers::{are_records, are_rights};
 use crate::rules::cards::are_cards;
 use crate::rules::counts::{are_counted, are_counts};
+use crate::rules::ends::have_ends;
 use crate::rules::entries::{are_kept, are_timed, have_numbers, have_tokens};
+use crate::rules::leads::have_leads;
 use crate::rules::live::are_alone;
 use crate::rules::merchants::{are_lasting, are_named, is_current};
 use std::alloc::{AllocError, Global};
 
 /// How many rules there are.
-const RULES: usize = 13;
+const RULES: usize = 15;
 
-/// The least number of a rule that the rows break, from 1 to 13. Only memory can fail.
+/// The least number of a rule that the rows break, from 1 to 15. Only memory can fail.
 pub fn least_broken(alloc: Global, rows: &Rows) -> Result<Option<u8>, AllocError>
     ensures none { IfOk result (λ found. found ≡ None → (r : ℕ) → keeps rows.now r ≡ true) }
     ensures some { IfOk result (λ found. (rule : ℕ) → found ≡ Some rule → IsLeastBroken rows.now rule) }
@@ -27,7 +29,7 @@ pub fn least_broken(alloc: Global, rows: &Rows) -> Result<Option<u8>, AllocError
     Ok(first_broken(&kept))
 }
 
-/// Whether the rows keep each rule, from 1 to 13.
+/// Whether the rows keep each rule, from 1 to 15.
 fn verdicts(alloc: Global, index: &Index) -> Result<[bool; RULES], AllocError>
     ensures { IfOk result (λ kept. kept ≡ verdicts_spec index.now.rows.now) }
 {
@@ -46,6 +48,8 @@ fn verdicts(alloc: Global, index: &Index) -> Result<[bool; RULES], AllocError>
         are_records(index),
         are_rights(index),
         are_cards(index),
+        have_leads(&rows.merchants),
+        have_ends(&rows.rights),
     ])
 }
 

@@ -15,6 +15,8 @@ pub struct RawMerchant {
     pub single_life: i64,
     pub multi_life: i64,
     pub moment: i64,
+    /// How many digits its masks show at the left, at most: the column `lead_digits`.
+    pub lead: i64,
 }
 
 /// A row of `counts`.
@@ -68,6 +70,8 @@ pub struct RawRight {
     pub caller: String,
     pub merchant: String,
     pub what: i64,
+    /// NULL where the right has no end.
+    pub ends: Option<i64>,
 }
 
 /// The rows of all tables. Nothing of them is printed, since cards hold card numbers.
@@ -80,6 +84,6 @@ pub struct Rows {
     pub entries: Vec<RawEntry>,
     pub records: Vec<RawRecord>,
     pub rights: Vec<RawRight>,
-    /// How many rows the tables have that a later schema replaced.
+    /// How many of the tables that a later schema replaced still have rows.
     pub replaced: u64,
 }

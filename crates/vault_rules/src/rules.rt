@@ -3,6 +3,8 @@ mod bounds;
 pub mod callers;
 pub mod cards;
 pub mod counts;
+pub mod ends;
 pub mod entries;
+pub mod leads;
 pub mod live;
 pub mod merchants;

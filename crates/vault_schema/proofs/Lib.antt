@@ -1,5 +1,5 @@
 pub mod Grown
-pub mod Lifted
+pub mod Newest
 pub mod Version1
 pub mod Version2
 pub mod Version3

@@ -1,5 +1,4 @@
 -- Schema 1.
-pub mod AsClaims
 pub mod Codes
 pub mod Making
 pub mod Texts

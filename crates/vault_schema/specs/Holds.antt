@@ -6,7 +6,9 @@ use Rattle.sqlite.specs.Tree.{Trees}
 use Rattle.sqlite_catalog.specs.Listing.{IsSound}
 use Rattle.vault_core.specs.Vault.{Vault, empty_vault}
 use Rattle.vault_schema.specs.Schema.{newest_schema}
-use Rattle.vault_schema.specs.Stands.{Stands}
+use Rattle.vault_schema.specs.Stands.{Stands, lookups_of}
+use Rattle.vault_schema.specs.Versions.{AreOf, HoldsOf}
+use Rattle.vault_schema.specs.declared.version.Version.{Version}
 
 -- the connection is outside a transaction, and what it sees stands for the vault
 pub record Holds (s : State) (V : Vault) : Type 0 where
@@ -38,3 +40,13 @@ LeavesEither s before after = (db : Trees) → s.may_leave db → AreEither befo
 -- each state that a crash may leave now has these trees, or is that of the empty vault
 abbrev pub LeavesFirst : State → Trees → Type 0
 LeavesFirst s before = (db : Trees) → s.may_leave db → AreFirst before db
+
+-- ---- in each version, where what it can't hold has its default
+
+-- the connection holds the vault in this version
+abbrev pub HoldsIn : Version → Vault → State → Type 0
+HoldsIn v V st = HoldsOf v (lookups_of V) st
+
+-- a sound database in this version's schema, whose rows are those of the vault
+abbrev pub AreIn : Version → Vault → Trees → Type 0
+AreIn v V db = AreOf v (lookups_of V) db

@@ -1,24 +1,24 @@
 -- The rows that stand for a vault.
-use Rattle.std.specs.Prelude.{ℕ, ℤ, ◌==◌, Option, Some, None, cond, option_map, if◌then◌else◌}
+use Rattle.std.specs.Prelude.{ℕ, ◌==◌, List, Option, Some, None, option_map, if◌then◌else◌}
 use Rattle.std.specs.Option.{option_map_or}
 use Rattle.std.specs.FinMap as map
-use Rattle.std.specs.FinSet as set
 use Rattle.sqlite.specs.Tree.{Trees}
 use Rattle.vault_core.specs.Keys.{Bytes}
 use Rattle.vault_core.specs.Vault.{Vault, Merchant, merchant_at, made_count}
-use Rattle.sql_maps.specs.States.{StandsIn}
-use Rattle.vault_schema.specs.Version1.Claims.{Lookups}
-use Rattle.vault_schema.specs.Version2.Claims.{Lookups as Tables, claims}
-use Rattle.vault_schema.specs.Version2.Joined.{AreJoined, nothing_owed}
-use Rattle.vault_schema.specs.declared.v1.Lives.{Lives}
-use Rattle.vault_schema.specs.declared.v2.Card.{Card}
-use Rattle.vault_schema.specs.declared.v2.Pointing.{Pointing}
-use Rattle.vault_schema.specs.Schema.{newest_schema}
+use Rattle.sql_maps.specs.States.{Claim}
+use Rattle.vault_schema.specs.Versions.{Lookups, StandJoined, Tables, claims_of}
+use Rattle.vault_schema.specs.declared.v3.Lives.{Lives}
+use Rattle.vault_schema.specs.declared.version.Version.{Version}
+use Rattle.vault_schema.specs.declared.version.Version.TheVariants.{Four}
 
--- the lives and the moment of a merchant, without its counts
+-- the lives, the moment and the lead of a merchant, without its counts
 abbrev pub lives_in : Merchant → Lives
-lives_in merchant =
-    record { single_life = merchant.single_life; multi_life = merchant.multi_life; moment = merchant.moment }
+lives_in merchant = record {
+  single_life = merchant.single_life;
+  multi_life = merchant.multi_life;
+  moment = merchant.moment;
+  lead = merchant.lead;
+}
 
 -- how many tokens a merchant has (1), and how often a number was given (2) or denied (3)
 abbrev pub count_at : Vault → Bytes → ℕ → ℕ
@@ -39,27 +39,17 @@ lookups_of V = record {
   counts = λ key. unless_zero (count_at V key.0 key.1);
   entries = map.get V.entries;
   records = map.get V.records;
-  rights = λ key. cond (set.contains V.rights key) (Some tt) None;
+  rights = map.get V.rights;
 }
 
--- what the tables have, where the entries stand as cards and as entries that point at them
-abbrev pub tables_of : Lookups → (ℤ → Option Card) → (Bytes × Bytes → Option Pointing) → Tables
-tables_of h cards pointing = record {
-  merchants = h.merchants;
-  counts = h.counts;
-  records = h.records;
-  rights = h.rights;
-  cards = cards;
-  pointing = pointing;
-}
+-- the newest version
+abbrev pub newest : Version
+newest = Four
 
--- the rows of the tables are those of what is looked up
-pub record StandsFor (db : Trees) (h : Lookups) : Type 0 where
-  pub cards : ℤ → Option Card
-  pub pointing : Bytes × Bytes → Option Pointing
-  pub rows : StandsIn newest_schema.tables (claims (tables_of h cards pointing)) db
-  pub joined : AreJoined nothing_owed cards pointing h.entries
+-- what is said of the rows of its tables
+abbrev pub newest_claims : Tables → List Claim
+newest_claims t = claims_of newest t
 
 -- the rows of the tables are those of the vault
 abbrev pub Stands : Trees → Vault → Type 0
-Stands db V = StandsFor db (lookups_of V)
+Stands db V = StandJoined newest db (lookups_of V)

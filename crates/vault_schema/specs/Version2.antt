@@ -1,5 +1,4 @@
 -- Schema 2.
-pub mod Claims
 pub mod Joined
 pub mod Rows
 pub mod Tables

@@ -9,8 +9,10 @@ use Rattle.sqlite_catalog.specs.Listing.{IsSound}
 use Rattle.sql_maps.specs.Rows.{AreRowsById, AreRowsOf}
 use Rattle.sql_maps.specs.States.{Claim, IsEmpty, IsFree, StandsIn}
 use Rattle.vault_core.specs.Keys.{Bytes}
+use Rattle.vault_pan.specs.declared.lead.Lead.TheVariants.{Six}
 use Rattle.vault_core.specs.declared.right.Right.{Right}
 use Rattle.vault_core.specs.declared.row.Entry.{Entry}
+use Rattle.vault_core.specs.declared.row.GrantRow.{GrantRow}
 use Rattle.vault_core.specs.declared.row.Record.{Record}
 use Rattle.vault_schema.specs.Version1.Claims.{IsVersion}
 use Rattle.vault_schema.specs.Version1.Rows.{count_row, entry_row, record_row}
@@ -54,14 +56,14 @@ pub record Lookups : Type 0 where
   pub counts : Bytes × ℕ → Option ℕ
   pub entries : Bytes × Bytes → Option Entry
   pub records : Bytes × ℕ → Option Record
-  pub rights : Bytes × (Bytes × Right) → Option (Option ℕ)
+  pub rights : Bytes × (Bytes × Right) → Option GrantRow
 
 -- what the tables have that stand for it, from schema 2 on
 pub record Tables : Type 0 where
   pub merchants : Bytes → Option Lives
   pub counts : Bytes × ℕ → Option ℕ
   pub records : Bytes × ℕ → Option Record
-  pub rights : Bytes × (Bytes × Right) → Option (Option ℕ)
+  pub rights : Bytes × (Bytes × Right) → Option GrantRow
   pub cards : ℤ → Option Card
   pub pointing : Bytes × Bytes → Option Pointing
 
@@ -79,13 +81,13 @@ tables_of h cards pointing = record {
 abbrev pub OldMerchants : (Bytes → Option Lives) → Claim
 OldMerchants held rows = AreRowsOf one.merchant_row rows (λ m. option_map three.older (held m))
 
-abbrev pub OldRights : (Bytes × (Bytes × Right) → Option (Option ℕ)) → Claim
+abbrev pub OldRights : (Bytes × (Bytes × Right) → Option GrantRow) → Claim
 OldRights held rows = AreRowsOf one.right_row rows (λ key. option_map four.older (held key))
 
 abbrev pub Merchants : (Bytes → Option Lives) → Claim
 Merchants held rows = AreRowsOf three.merchant_row rows held
 
-abbrev pub Rights : (Bytes × (Bytes × Right) → Option (Option ℕ)) → Claim
+abbrev pub Rights : (Bytes × (Bytes × Right) → Option GrantRow) → Claim
 Rights held rows = AreRowsOf four.right_row rows held
 
 -- what is said of the rows of schema 1, in its order
@@ -124,11 +126,11 @@ StandRows Four db h = StandJoined Four db h
 
 -- each merchant has the lead of six digits
 abbrev pub AreSix : Lookups → Type 0
-AreSix h = (m : Bytes) (x : Lives) → h.merchants m ≡ Some x → x.lead ≡ 6
+AreSix h = (m : Bytes) (x : Lives) → h.merchants m ≡ Some x → x.lead ≡ Six
 
 -- no right ends
 abbrev pub AreEndless : Lookups → Type 0
-AreEndless h = (key : Bytes × (Bytes × Right)) (ends : Option ℕ) → h.rights key ≡ Some ends → ends ≡ None
+AreEndless h = (key : Bytes × (Bytes × Right)) (g : GrantRow) → h.rights key ≡ Some g → g.ends ≡ None
 
 -- what a version can't hold has its default
 abbrev pub HasDefaults : Version → Lookups → Type 0

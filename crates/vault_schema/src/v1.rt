@@ -1,5 +1,5 @@
-//! Schema 1: the texts that make its tables, and those that read and write them, but for those of its
-//! entries, which are only read whole: schema 2 replaced them.
+//! Schema 1: the texts that make its tables, and those that read and write the ones that no later schema
+//! replaced; its entries are only read whole.
 pub mod shape;
 
 use vault_core::moment::Moment;
@@ -57,28 +57,12 @@ pub const CREATE_RIGHTS: &str = "\
     CREATE TABLE rights (caller TEXT NOT NULL, merchant TEXT NOT NULL, what INTEGER NOT NULL, \
     PRIMARY KEY (caller, merchant, what)) STRICT";
 
-/// The lives of a merchant.
-pub const FIND_LIVES: &str =
-    "SELECT single_life, multi_life, moment FROM merchants WHERE name = ?1";
-
 /// The counts of a merchant.
 pub const FIND_COUNTS: &str = "SELECT kind, total FROM counts WHERE merchant = ?1";
-
-/// How many merchants there are.
-pub const COUNT_MERCHANTS: &str = "SELECT count(*) FROM merchants";
 
 /// What a caller's request was answered.
 pub const FIND_RECORD: &str =
     "SELECT merchant, token, usage FROM records WHERE caller = ?1 AND request = ?2";
-
-/// The right of a caller at a merchant.
-pub const FIND_RIGHT: &str =
-    "SELECT what FROM rights WHERE caller = ?1 AND merchant = ?2 AND what = ?3";
-
-/// Writes the lives and the moment of a merchant, whether or not it was there.
-pub const PUT_MERCHANT: &str = "\
-    INSERT INTO merchants VALUES (?1, ?2, ?3, ?4) \
-    ON CONFLICT (name) DO UPDATE SET single_life = ?2, multi_life = ?3, moment = ?4";
 
 /// Raises a count of a merchant by one, where it has a row.
 pub const RAISE_COUNT: &str =
@@ -90,19 +74,8 @@ pub const ADD_COUNT: &str = "INSERT INTO counts VALUES (?1, ?2, 1)";
 /// Writes a new record.
 pub const ADD_RECORD: &str = "INSERT INTO records VALUES (?1, ?2, ?3, ?4, ?5)";
 
-/// Gives a caller a right, whether or not it was there.
-pub const GIVE_RIGHT: &str =
-    "INSERT INTO rights VALUES (?1, ?2, ?3) ON CONFLICT (caller, merchant, what) DO NOTHING";
-
-/// Takes a right from a caller, whether or not it was there.
-pub const TAKE_RIGHT: &str = "DELETE FROM rights WHERE caller = ?1 AND merchant = ?2 AND what = ?3";
-
 /// The whole of `vault`, by its id.
 pub const READ_VERSIONS: &str = "SELECT id, version FROM vault ORDER BY id";
-
-/// The whole of `merchants`, by its rowid.
-pub const READ_MERCHANTS: &str =
-    "SELECT rowid, name, single_life, multi_life, moment FROM merchants ORDER BY rowid";
 
 /// The whole of `counts`, by its rowid.
 pub const READ_COUNTS: &str = "SELECT rowid, merchant, kind, total FROM counts ORDER BY rowid";
@@ -118,6 +91,3 @@ pub const READ_ENTRY_IDS: &str = "SELECT rowid FROM entries ORDER BY rowid";
 /// The whole of `records`, by its rowid.
 pub const READ_RECORDS: &str =
     "SELECT rowid, caller, request, merchant, token, usage FROM records ORDER BY rowid";
-
-/// The whole of `rights`, by its rowid.
-pub const READ_RIGHTS: &str = "SELECT rowid, caller, merchant, what FROM rights ORDER BY rowid";

@@ -53,9 +53,6 @@ pub const CREATE_ENTRIES: &str = "\
 /// Makes the index of entries by card.
 pub const CREATE_ENTRIES_CARD: &str = "CREATE INDEX entries2_card ON entries2 (merchant, card)";
 
-/// Writes the version of a new vault.
-pub const PUT_VERSION: &str = "INSERT INTO vault VALUES (1, 2)";
-
 /// Writes the version over that of schema 1.
 pub const SET_VERSION: &str = "UPDATE vault SET version = 2 WHERE id = 1";
 

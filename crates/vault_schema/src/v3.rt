@@ -2,6 +2,7 @@
 pub mod shape;
 
 use vault_core::moment::Moment;
+use vault_pan::lead::Lead;
 
 /// A merchant as its own table has it, without its counts: how many digits its masks show at the left at most
 /// stands beside its lives.
@@ -10,7 +11,7 @@ pub struct Lives {
     pub single_life: u64,
     pub multi_life: u64,
     pub moment: Moment,
-    pub lead: u64,
+    pub lead: Lead,
 }
 
 /// The names of its tables, and of the indexes that aren't a key's.
@@ -46,6 +47,9 @@ pub const SET_VERSION: &str = "UPDATE vault SET version = 3 WHERE id = 1";
 /// The whole of `merchants`, by its rowid, with the lead that a merchant has there: six digits.
 pub const READ_OLD_MERCHANTS: &str =
     "SELECT rowid, name, single_life, multi_life, moment, 6 FROM merchants ORDER BY rowid";
+
+/// The rowids of `merchants`, in their order.
+pub const READ_MERCHANT_IDS: &str = "SELECT rowid FROM merchants ORDER BY rowid";
 
 /// The whole of `merchants3`, by its rowid.
 pub const READ_MERCHANTS: &str = "\

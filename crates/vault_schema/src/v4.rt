@@ -28,12 +28,18 @@ pub const COPY_RIGHTS: &str = "INSERT INTO rights4 SELECT caller, merchant, what
 /// Takes the rights of schema 3 away.
 pub const EMPTY_RIGHTS: &str = "DELETE FROM rights";
 
+/// Writes the version of a new vault.
+pub const PUT_VERSION: &str = "INSERT INTO vault VALUES (1, 4)";
+
 /// Writes the version over that of schema 3.
 pub const SET_VERSION: &str = "UPDATE vault SET version = 4 WHERE id = 1";
 
 /// The whole of `rights`, by its rowid, with the end that a right has there: none.
 pub const READ_OLD_RIGHTS: &str =
     "SELECT rowid, caller, merchant, what, NULL FROM rights ORDER BY rowid";
+
+/// The rowids of `rights`, in their order.
+pub const READ_RIGHT_IDS: &str = "SELECT rowid FROM rights ORDER BY rowid";
 
 /// The whole of `rights4`, by its rowid.
 pub const READ_RIGHTS: &str =

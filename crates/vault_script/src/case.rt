@@ -7,6 +7,7 @@ use vault_core::moment::Moment;
 use vault_core::name::{Caller, MerchantId};
 use vault_core::reply::Reply;
 use vault_core::right::Right;
+use vault_pan::lead::Lead;
 use vault_pan::token::Token;
 use vault_store::tables::Tables;
 use vault_store::vault::{Fault, Vault};
@@ -32,13 +33,15 @@ fn applied<T: Tables>(vault: &mut Vault<T>, command: &Command) -> Option<Answer>
     Some(vault.apply(command))
 }
 
-/// `open CALLER MERCHANT SINGLE MULTI NOW`: the merchant is set, and the caller has all rights there.
+/// `open CALLER MERCHANT SINGLE MULTI NOW`: the merchant is set, and the caller has all rights there for
+/// good.
 fn open<T: Tables>(vault: &mut Vault<T>, line: &str) -> Option<Answer> {
     let (caller, merchant, now) = (caller(line, 1)?, merchant(line, 2)?, moment(line, 5)?);
     let set = Command::SetMerchant {
         merchant,
         single_life: number(line, 3)?,
         multi_life: number(line, 4)?,
+        lead: Lead::Six,
         now,
     };
     let mut answer = applied(vault, &set)?;
@@ -47,6 +50,7 @@ fn open<T: Tables>(vault: &mut Vault<T>, line: &str) -> Option<Answer> {
             caller,
             merchant,
             right,
+            until: None,
             now,
         };
         answer = applied(vault, &grant)?;

@@ -6,6 +6,7 @@ use vault_core::request::RequestNo;
 use vault_core::right::Right;
 use vault_core::usage::Use;
 use vault_pan::draw::Digits;
+use vault_pan::lead::Lead;
 use vault_pan::pan::Pan;
 use vault_pan::token::Token;
 
@@ -44,22 +45,40 @@ pub fn token(line: &str, place: usize) -> Option<Token> {
     Token::read(word(line, place)?.as_bytes()).ok()
 }
 
-/// `set MERCHANT SINGLE MULTI NOW`.
+/// The lead at a place of a line; six, where the line ends before it.
+fn lead(line: &str, place: usize) -> Option<Lead> {
+    match word(line, place) {
+        Some(_) => Lead::of(number(line, place)?),
+        None => Some(Lead::Six),
+    }
+}
+
+/// The end of a right at a place of a line; none, where the line ends before it.
+fn until(line: &str, place: usize) -> Option<Option<Moment>> {
+    match word(line, place) {
+        Some(_) => Some(Some(moment(line, place)?)),
+        None => Some(None),
+    }
+}
+
+/// `set MERCHANT SINGLE MULTI NOW [LEAD]`, where the lead is 6 or 8.
 fn set(line: &str) -> Option<Command> {
     Some(Command::SetMerchant {
         merchant: merchant(line, 1)?,
         single_life: number(line, 2)?,
         multi_life: number(line, 3)?,
+        lead: lead(line, 5)?,
         now: moment(line, 4)?,
     })
 }
 
-/// `grant CALLER MERCHANT RIGHT NOW`.
+/// `grant CALLER MERCHANT RIGHT NOW [UNTIL]`.
 fn grant(line: &str) -> Option<Command> {
     Some(Command::Grant {
         caller: caller(line, 1)?,
         merchant: merchant(line, 2)?,
         right: right(line, 3)?,
+        until: until(line, 5)?,
         now: moment(line, 4)?,
     })
 }

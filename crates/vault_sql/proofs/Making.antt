@@ -1,6 +1,5 @@
 -- What making the schema leads to: the empty vault.
-use Rattle.std.proofs.Common.{◌≡◌, ℕ, ℤ, suc, pos, List, [], ◌∷◌, Option, Some, None, Ok, true}
-use Rattle.std.proofs.Common.{cond}
+use Rattle.std.proofs.Common.{◌≡◌, ℕ, ℤ, suc, pos, List, [], ◌∷◌, Option, None, Ok, true}
 use Rattle.std.proofs.Common.{option_map, refl, sym, ap, subst, ◌∙◌, arith, IsTrue, Result, OnOk}
 use Rattle.std.proofs.lemmas.Bool.Decides.{nat_tests}
 use Rattle.sqlite.specs.State.{HasCleanDisk, State, ExecutesInside}
@@ -10,7 +9,6 @@ use Rattle.sql_maps.specs.States.{Steps, IsEmpty, StandsIn, Within}
 use Rattle.sql_maps.specs.Texts.{MakesIndex, MakesTable}
 use Rattle.sql_maps.proofs.Calls.{on_ok}
 use Rattle.std.specs.FinMap as map
-use Rattle.std.specs.FinSet as set
 use Rattle.std.specs.Ordering.{eq_by_cmp}
 use Rattle.sqlite.specs.Effect.{Database}
 use Rattle.sqlite.specs.Order.{Row}
@@ -19,7 +17,7 @@ use Rattle.sqlite.specs.Table.{Table}
 use Rattle.sqlite.specs.Tree.{Trees}
 use Rattle.sqlite.specs.declared.types.Value.TheVariants.{Null, Int}
 use Rattle.sql_maps.specs.Rows.{AreRowsById}
-use Rattle.sql_maps.specs.Schema.{no_schema, table_of}
+use Rattle.sql_maps.specs.Schema.{no_schema}
 use Rattle.sql_maps.proofs.ByKey.{no_rows}
 use Rattle.sql_maps.proofs.Making.{makes_index, makes_table}
 use Rattle.sql_maps.proofs.Statements.{insert_first, retold}
@@ -28,23 +26,27 @@ use Rattle.vault_core.specs.Keys.{Bytes, bytes_cmp, entry_cmp, record_cmp, right
 use Rattle.vault_core.specs.Vault.{Merchant, empty_vault, entries_of, made_count}
 use Rattle.vault_core.specs.declared.row.Entry.{Entry}
 use Rattle.vault_schema.specs.Version1.Claims.{IsVersion}
-use Rattle.vault_schema.specs.Version1.Rows.{merchant_row, count_row, record_row, right_row}
-use Rattle.vault_schema.specs.Version1.Tables.{rights, v1, vault}
-use Rattle.vault_schema.specs.Version2.Claims.{claims}
+use Rattle.vault_schema.specs.Version1.Rows.{count_row, record_row}
+use Rattle.vault_schema.specs.Version3.Rows.{merchant_row}
+use Rattle.vault_schema.specs.Version3.Tables.{v3}
+use Rattle.vault_schema.specs.Version4.Rows.{right_row}
+use Rattle.vault_schema.specs.Version4.Tables.{rights}
+use Rattle.vault_schema.specs.Version1.Tables.{vault}
+use Rattle.vault_schema.specs.Stands.{newest_claims}
 use Rattle.vault_schema.specs.Version2.Joined.{AreJoined, nothing_owed}
 use Rattle.vault_schema.specs.Version2.Rows.{card_columns, pointing_row}
 use Rattle.vault_schema.specs.Version2.Tables.{entries}
 use Rattle.vault_schema.specs.declared.v2.Card.{Card}
 use Rattle.vault_schema.specs.declared.v2.Pointing.{Pointing}
-use Rattle.vault_schema.specs.declared.v2.TheConstants.{PUT_VERSION}
-use Rattle.vault_schema.proofs.Version1.Making as version1
-use Rattle.vault_schema.proofs.Version1.Making.{six, treeless}
-use Rattle.vault_schema.proofs.Version2.Making.{all_made, card_index, with_entries}
-use Rattle.vault_schema.proofs.Version2.Texts.{put_version_is}
+use Rattle.vault_schema.specs.declared.v4.TheConstants.{PUT_VERSION}
+use Rattle.vault_schema.proofs.Version1.Making.{treeless}
+use Rattle.vault_schema.proofs.Version4.Making as version4
+use Rattle.vault_schema.proofs.Version4.Texts.{put_version_is}
 use Rattle.vault_rows.specs.Calls.{IsWithin}
 use Rattle.vault_schema.specs.Making.{IsRowless, IsBegun, IsReady, empties}
 use Rattle.vault_schema.specs.Schema.{newest_schema}
-use Rattle.vault_schema.specs.Stands.{count_at, lives_in, lookups_of, tables_of, unless_zero}
+use Rattle.vault_schema.specs.Stands.{count_at, lives_in, lookups_of, unless_zero}
+use Rattle.vault_schema.specs.Versions.{tables_of}
 
 -- ---- the tables, one after the other
 
@@ -88,11 +90,23 @@ module _ {old new : State} {sql : List ℕ} (steps : Steps old new)
       makes_index s (empties n) base old new w.free w.committed w.stands.schema w.stands.rows sql did.0 did.1
       steps.limit _ _ _ it
 
--- all tables of schema 1
-pub first_schema : (Begun : Database → Type 0) (st : State)
-    → Reached Begun st (created six (treeless rights)) 6 → Reached Begun st v1 6
-first_schema Begun st made clean base b =
-    subst (λ s. IsRowless s 6 st base) version1.all_made (made clean base b)
+-- the last index of a version, whose step is the last one
+pub last_index : {R E : Type 0} (result : Result R E) {Begun : Database → Type 0} {old new : State}
+    {sql : List ℕ} → Steps old new
+    → (HasCleanDisk new → OnOk result (IsTrue old.in_transaction
+    → (count : ℕ) × ExecutesInside 0 sql [] old new (Ok count)))
+    → {s next : Schema} {at : ℕ} {t : Table} {i : Index} (n : ℕ) → MakesIndex s sql at t i
+    → indexed s t i ≡ next → Reached Begun old s n → HasCleanDisk new
+    → OnOk result ((base : Database) → Begun base → IsRowless next n new base)
+last_index result {new = new} steps ran n it same before clean = on_ok result (ran clean) (λ did base b.
+    subst (λ s. IsRowless s n new base) same
+    (index_made steps (λ clean. did) n it before clean base b))
+
+-- all tables of a version
+pub all_tables : (n : ℕ) {s next : Schema} → s ≡ next → (Begun : Database → Type 0) (st : State)
+    → Reached Begun st s n → Reached Begun st next n
+all_tables n same Begun st made clean base b =
+    subst (λ s. IsRowless s n st base) same (made clean base b)
 
 -- ---- the empty vault
 
@@ -134,12 +148,13 @@ no_ids rows is = subst (λ l. AreRowsById card_columns l no_cards) (sym is) (rec
 })
 
 -- tables without rows stand for the empty vault
-emptied : (db : Trees) → StandsIn newest_schema.tables (IsVersion 2 ∷ empties 7) db
-    → StandsIn newest_schema.tables (claims (tables_of (lookups_of empty_vault) no_cards no_pointing)) db
+emptied : (db : Trees) → StandsIn newest_schema.tables (IsVersion 4 ∷ empties 9) db
+    → StandsIn newest_schema.tables (newest_claims (tables_of
+    (lookups_of empty_vault) no_cards no_pointing)) db
 emptied db s = (
   s.0,
   (
-    no_rows merchant_row (db 1) _ s.1.0 (λ m. ap (option_map lives_in) (map.get-empty bytes_cmp m)),
+    s.1.0,
     (
       no_rows count_row (db 3) _ s.1.1.0 (λ key. ap unless_zero (no_count key.0 key.1)),
       (
@@ -147,12 +162,20 @@ emptied db s = (
         (
           no_rows record_row (db 8) _ s.1.1.1.1.0 (λ key. map.get-empty record_cmp key),
           (
-            no_rows right_row (db 10) _ s.1.1.1.1.1.0
-                (λ key. ap (λ b. let there : Option (Unit {0}) = Some tt in cond b there None)
-                (set.contains-empty right_cmp key)),
+            s.1.1.1.1.1.0,
             (
               no_ids (db 12) s.1.1.1.1.1.1.0,
-              (no_rows pointing_row (db 14) no_pointing s.1.1.1.1.1.1.1.0 (λ key. refl), tt),
+              (
+                no_rows pointing_row (db 14) no_pointing s.1.1.1.1.1.1.1.0 (λ key. refl),
+                (
+                  no_rows merchant_row (db 17) _ s.1.1.1.1.1.1.1.1.0
+                      (λ m. ap (option_map lives_in) (map.get-empty bytes_cmp m)),
+                  (
+                    no_rows right_row (db 19) _ s.1.1.1.1.1.1.1.1.1.0 (λ key. map.get-empty right_cmp key),
+                    tt,
+                  ),
+                ),
+              ),
             ),
           ),
         ),
@@ -166,21 +189,21 @@ pub version_put : {R E : Type 0} (result : Result R E) {Begun : Database → Typ
     → Steps old new
     → (HasCleanDisk new → OnOk result (IsTrue old.in_transaction
     → (count : ℕ) × ExecutesInside 0 PUT_VERSION.now [] old new (Ok count)))
-    → Reached Begun old (indexed with_entries (table_of entries) card_index) 8 → HasCleanDisk new
+    → Reached Begun old (created v3 (treeless rights)) 10 → HasCleanDisk new
     → OnOk result ((base : Database) → Begun base → IsWithin new base (lookups_of empty_vault))
 version_put result {old = old} {new = new} steps ran before clean =
     on_ok result (ran clean) (λ ran base b.
     let made = before (omega (arith, steps.clean, clean)) base b in
-    let ready : Within newest_schema (empties 8) base old =
-    subst (λ s. Within s (empties 8) base old) all_made made in
+    let ready : Within newest_schema (empties 10) base old =
+    subst (λ s. Within s (empties 10) base old) version4.all_made made in
     let did = ran made.inside in
     record {
       cards = no_cards;
       pointing = no_pointing;
-      has = retold newest_schema (IsVersion 2 ∷ empties 7)
-          (claims (tables_of (lookups_of empty_vault) no_cards no_pointing)) base new emptied
+      has = retold newest_schema (IsVersion 4 ∷ empties 9)
+          (newest_claims (tables_of (lookups_of empty_vault) no_cards no_pointing)) base new emptied
           (insert_first refl (record { within = ready; count = did.0; ran = did.1; limit = steps.limit })
           vault 0
-          refl 3 _ (put_version_is [] []) (pos 1) (Null ∷ Int (pos 2) ∷ []) ready.stands.rows.0 refl refl);
+          refl 3 _ (put_version_is [] []) (pos 1) (Null ∷ Int (pos 4) ∷ []) ready.stands.rows.0 refl refl);
       joined = none_joined;
     })

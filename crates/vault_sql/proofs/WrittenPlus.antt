@@ -1,9 +1,8 @@
 -- The lookups that changes write are those of the vault with the changes.
-use Rattle.std.proofs.Common.{◌≡◌, ℕ, ◌+◌, ◌≤◌, ◌==◌, Bool, true, false, cond, ◌&&◌, is_eq, Option, Some}
+use Rattle.std.proofs.Common.{◌≡◌, ℕ, ◌+◌, ◌≤◌, ◌==◌, true, cond, ◌&&◌, is_eq, Option, Some}
 use Rattle.std.proofs.Common.{None, option_map, refl, sym, ap, ◌∙◌, arith, if◌then◌else◌, nat_cmp}
 use Rattle.std.proofs.lemmas.Bool.Decides.{nat_tests}
 use Rattle.std.specs.FinMap as map
-use Rattle.std.specs.FinSet as set
 use Rattle.std.specs.Option.{option_map_or}
 use Rattle.std.specs.Ordering.{eq_by_cmp}
 use Rattle.vault_core.proofs.Maps.{bytes_total, bytes_exact, entry_total, record_total, right_total}
@@ -19,6 +18,7 @@ use Rattle.vault_core.specs.declared.changes.Count.TheVariants.{Made, Given, Den
 use Rattle.vault_core.specs.declared.changes.Lives as core
 use Rattle.vault_core.specs.declared.right.Right.{Right}
 use Rattle.vault_core.specs.declared.row.Entry.{Entry}
+use Rattle.vault_core.specs.declared.row.GrantRow.{GrantRow}
 use Rattle.vault_core.specs.declared.row.Record.{Record}
 use Rattle.vault_store.proofs.MadeLemmas.{one_at, made-plus}
 use Rattle.vault_schema.specs.Stands.{lives_in, count_at, unless_zero, lookups_of}
@@ -105,24 +105,20 @@ records_plus : (records : map.FinMap record_cmp Record) (change : Option (Bytes 
 records_plus records None q = refl
 records_plus records (Some x) q = sym (map.get-insert record_total records (x.0, x.1) x.2 q)
 
-rights_plus : (rights : set.FinSet right_cmp) (change : Option (Bytes × Bytes × Right × Bool))
-    (q : Bytes × (Bytes × Right))
-    → put_right (λ key. cond (set.contains rights key) (Some tt) None) change q ≡ cond
-    (set.contains (with_right rights change) q) (Some tt) None
+rights_plus : (rights : map.FinMap right_cmp GrantRow)
+    (change : Option (Bytes × Bytes × Right × Option GrantRow)) (q : Bytes × (Bytes × Right))
+    → put_right (map.get rights) change q ≡ map.get (with_right rights change) q
 rights_plus rights None q = refl
-rights_plus rights (Some x) q = given x.3
+rights_plus rights (Some x) q = put_is x.3
   where
     key : Bytes × (Bytes × Right)
     key = (x.0, (x.1, x.2))
 
-    there : Option (Unit {0})
-    there = Some tt
-
-    given : (b : Bool)
-        → put right_cmp (λ key. cond (set.contains rights key) there None) key (cond b there None) q
-        ≡ cond (set.contains (cond b (set.insert rights key) (set.remove rights key)) q) there None
-    given true = rw (set.contains-insert right_total rights key q) (grind arith)
-    given false = rw (set.contains-remove right_total rights key q) (grind arith)
+    put_is : (o : Option GrantRow)
+        → put right_cmp (map.get rights) key o q
+        ≡ map.get (option_map_or (map.insert rights key) o (map.remove rights key)) q
+    put_is None = sym (map.get-remove right_total rights key q)
+    put_is (Some g) = sym (map.get-insert right_total rights key g q)
 
 pub written_plus : (V : Vault) (ch : Changes) → Fit V ch → written (lookups_of V) ch ≡ lookups_of (plus V ch)
 written_plus V ch fit = λ i. record {

@@ -10,12 +10,13 @@ ghost use Rattle.vault_rows.specs.Calls.{IsWithin};
 ghost use Rattle.vault_schema.specs.Holds.{Holds, LeavesFirst};
 ghost use Rattle.vault_schema.specs.Making.{IsRowless, IsBegun, IsReady};
 ghost use Rattle.vault_schema.specs.Version1.Tables.{v1 as first_schema};
+ghost use Rattle.vault_schema.specs.Version2.Tables.{v2 as second_schema};
 ghost use Rattle.vault_schema.specs.Stands.{lookups_of};
 
 use sql_maps::run::step;
 use sqlite::{Alter, Connection, Error, Transaction};
 use sqlite_schema::schema::Schema;
-use vault_schema::{v1, v2};
+use vault_schema::{v1, v2, v3, v4};
 
 /// Why no schema was made.
 #[derive(Clone, Copy, Debug, PartialEq, Eq)]
@@ -51,18 +52,30 @@ fn create_first<S: Alter>(tx: &mut Transaction<'_, S>) -> Result<(), Error>
     Ok(())
 }
 
-/// Makes the tables that schema 2 has besides and writes the version, inside a transaction.
+/// Makes the tables that schema 2 has besides, inside a transaction.
 fn create_second<S: Alter>(tx: &mut Transaction<'_, S>) -> Result<(), Error>
     ensures same_reference { tx.new.conn.ghost_name ≡ tx.old.conn.ghost_name }
     ensures steps { Steps (state S.Store tx.old.conn.now) (state S.Store tx.new.conn.now) }
     ensures done { HasCleanDisk (state S.Store tx.new.conn.now)
         → OnOk result ((base : _) → IsRowless first_schema 6 (state S.Store tx.old.conn.now) base
-        → IsWithin (state S.Store tx.new.conn.now) base (lookups_of empty_vault)) }
+        → IsRowless second_schema 8 (state S.Store tx.new.conn.now) base) }
 {
     step(tx, v2::CREATE_CARDS, &[])?;
     step(tx, v2::CREATE_ENTRIES, &[])?;
-    step(tx, v2::CREATE_ENTRIES_CARD, &[])?;
-    step(tx, v2::PUT_VERSION, &[])
+    step(tx, v2::CREATE_ENTRIES_CARD, &[])
+}
+
+/// Makes the tables that schemas 3 and 4 have besides and writes the version, inside a transaction.
+fn create_last<S: Alter>(tx: &mut Transaction<'_, S>) -> Result<(), Error>
+    ensures same_reference { tx.new.conn.ghost_name ≡ tx.old.conn.ghost_name }
+    ensures steps { Steps (state S.Store tx.old.conn.now) (state S.Store tx.new.conn.now) }
+    ensures done { HasCleanDisk (state S.Store tx.new.conn.now)
+        → OnOk result ((base : _) → IsRowless second_schema 8 (state S.Store tx.old.conn.now) base
+        → IsWithin (state S.Store tx.new.conn.now) base (lookups_of empty_vault)) }
+{
+    step(tx, v3::CREATE_MERCHANTS, &[])?;
+    step(tx, v4::CREATE_RIGHTS, &[])?;
+    step(tx, v4::PUT_VERSION, &[])
 }
 
 /// Makes all tables and writes the version, inside a transaction.
@@ -74,7 +87,8 @@ fn create_tables<S: Alter>(tx: &mut Transaction<'_, S>) -> Result<(), Error>
         → IsWithin (state S.Store tx.new.conn.now) base (lookups_of empty_vault)) }
 {
     create_first(tx)?;
-    create_second(tx)
+    create_second(tx)?;
+    create_last(tx)
 }
 
 /// Makes all tables of the empty vault in one transaction.

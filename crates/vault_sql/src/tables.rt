@@ -10,13 +10,13 @@ use vault_core::moment::Moment;
 use vault_core::name::{Caller, MerchantId};
 use vault_core::request::RequestNo;
 use vault_core::right::Right;
-use vault_core::row::{Entry, MerchantRow, Record};
+use vault_core::row::{Entry, GrantRow, MerchantRow, Record};
 use vault_pan::pan::Pan;
 use vault_pan::token::Token;
 use vault_rows::entries::{current, dead, entry};
 use vault_rows::merchants::{how_many, merchant};
 use vault_rows::records::recorded;
-use vault_rows::rights::has;
+use vault_rows::rights::right;
 use vault_store::tables::{Tables, TablesFault};
 
 /// Tables in a database, which fail from the first call on that the database refused.
@@ -120,11 +120,16 @@ impl<S: Alter> Tables for SqlTables<S> {
     }
 
     #[tactic(auto, using(vault_rows::proofs::Calls::left_by, vault_rows::proofs::Calls::still_held))]
-    fn right(&mut self, c: Caller, m: MerchantId, r: Right) -> Result<bool, TablesFault> {
+    fn right(
+        &mut self,
+        c: Caller,
+        m: MerchantId,
+        r: Right,
+    ) -> Result<Option<GrantRow>, TablesFault> {
         if self.failed {
             return Err(TablesFault::Store);
         }
-        match has(&mut self.conn, &c, &m, r) {
+        match right(&mut self.conn, &c, &m, r) {
             Ok(found) => Ok(found),
             Err(_) => self.fail(),
         }

@@ -1,5 +1,5 @@
 //! All that one command changes, in one transaction.
-ghost use Rattle.std.specs.Prelude.{◌≡◌, ◌≤◌, ◌↔◌, IsTrue, false, Some, None, OnOk, if◌then◌else◌};
+ghost use Rattle.std.specs.Prelude.{◌≡◌, ◌≤◌, ◌↔◌, IsTrue, false, OnOk};
 ghost use Rattle.sqlite.specs.Held.{state};
 ghost use Rattle.vault_core.specs.Changes.{Fit, plus};
 ghost use Rattle.vault_core.specs.Keys.{right_cmp};
@@ -24,12 +24,12 @@ use vault_core::changes::{self, Changes, Count};
 use vault_core::name::{Caller, MerchantId};
 use vault_core::request::RequestNo;
 use vault_core::right::Right;
-use vault_core::row::{Entry, Record};
+use vault_core::row::{Entry, GrantRow, Record};
 use vault_pan::token::Token;
 use vault_rows::merchants::{raise, set_lives};
 use vault_rows::records::add_record;
 use vault_rows::rights::{give, take};
-use vault_schema::v1::Lives;
+use vault_schema::v3::Lives;
 
 /// Whether columns hold the numbers of a merchant's lives.
 fn are_storable_lives(lives: &Option<changes::Lives>) -> bool
@@ -58,7 +58,7 @@ pub(crate) fn are_storable(ch: &Changes) -> bool
     are_storable_lives(&ch.lives) && is_storable_entry(&ch.entry)
 }
 
-/// Writes the lives and the moment of a merchant.
+/// Writes the lives, the moment and the lead of a merchant.
 fn write_lives<S: Alter>(
     tx: &mut Transaction<'_, S>,
     lives: &Option<changes::Lives>,
@@ -74,6 +74,7 @@ fn write_lives<S: Alter>(
                 single_life: x.single_life,
                 multi_life: x.multi_life,
                 moment: x.moment,
+                lead: x.lead,
             };
             set_lives(tx, merchant_text(&x.merchant), &row)
         }
@@ -138,39 +139,36 @@ fn write_record<S: Alter>(
     }
 }
 
-/// Gives a right, or takes it away.
+/// Gives a right up to its end, or takes it away.
 fn set_right<S: Alter>(
     tx: &mut Transaction<'_, S>,
     caller: &Caller,
     m: &MerchantId,
     right: Right,
-    is_given: bool,
+    row: Option<GrantRow>,
 ) -> Result<(), Error>
     ensures same_reference { tx.new.conn.ghost_name ≡ tx.old.conn.ghost_name }
     ensures done { Makes result (state S.Store tx.old.conn.now) (state S.Store tx.new.conn.now)
-        (λ _. Unit {0}) (λ h. record h {
-          rights =
-              put right_cmp h.rights (caller.now, (m.now, right)) (if is_given then Some tt else None);
-        }) }
+        (λ _. Unit {0})
+        (λ h. record h { rights = put right_cmp h.rights (caller.now, (m.now, right)) row }) }
 {
-    if is_given {
-        give(tx, caller_text(caller), merchant_text(m), right)
-    } else {
-        take(tx, caller_text(caller), merchant_text(m), right)
+    match row {
+        Some(row) => give(tx, caller_text(caller), merchant_text(m), right, row),
+        None => take(tx, caller_text(caller), merchant_text(m), right),
     }
 }
 
 /// Writes a right.
 fn write_right<S: Alter>(
     tx: &mut Transaction<'_, S>,
-    change: &Option<(Caller, MerchantId, Right, bool)>,
+    change: &Option<(Caller, MerchantId, Right, Option<GrantRow>)>,
 ) -> Result<(), Error>
     ensures same_reference { tx.new.conn.ghost_name ≡ tx.old.conn.ghost_name }
     ensures done { Makes result (state S.Store tx.old.conn.now) (state S.Store tx.new.conn.now)
         (λ _. Unit {0}) (λ h. record h { rights = put_right h.rights change.now }) }
 {
     match change {
-        Some((caller, m, right, is_given)) => set_right(tx, caller, m, *right, *is_given),
+        Some((caller, m, right, row)) => set_right(tx, caller, m, *right, *row),
         None => Ok(()),
     }
 }

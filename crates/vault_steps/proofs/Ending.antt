@@ -1,5 +1,5 @@
 -- The step from schema 3 to schema 4, statement by statement.
-use Rattle.std.proofs.Common.{◌≡◌, ◌++◌, ℕ, pos, List, [], ◌∷◌, Option, Some, None, refl, sym, ap}
+use Rattle.std.proofs.Common.{◌≡◌, ◌++◌, pos, List, [], ◌∷◌, Option, Some, None, refl, sym, ap}
 use Rattle.std.proofs.Common.{subst, option_map}
 use Rattle.sqlite.specs.Effect.{Database}
 use Rattle.sqlite.specs.State.{State}
@@ -10,6 +10,7 @@ use Rattle.sql_maps.proofs.KeyTests.{int_eq}
 use Rattle.sql_maps.proofs.Moves.{change_one, empty_in}
 use Rattle.vault_core.specs.Keys.{Bytes}
 use Rattle.vault_core.specs.declared.right.Right.{Right}
+use Rattle.vault_core.specs.declared.row.GrantRow.{GrantRow}
 use Rattle.vault_schema.specs.Version1.Tables as one
 use Rattle.vault_schema.specs.Version4.Rows.{endless, older}
 use Rattle.vault_schema.specs.Version4.Tables.{v4}
@@ -27,10 +28,15 @@ pub endless_again : (h : Lookups) → AreEndless h
     → (λ key. option_map endless (option_map older (h.rights key))) ≡ h.rights
 endless_again h none = λ i key. each key (h.rights key) refl i
   where
-    each : (key : Bytes × (Bytes × Right)) (o : Option (Option ℕ)) → h.rights key ≡ o
+    same : (key : Bytes × (Bytes × Right)) (g : GrantRow) → h.rights key ≡ Some g → endless (older g) ≡ g
+    same key g is =
+        let ends = sym (none key g is) in
+        λ i. record { ends = ends i }
+
+    each : (key : Bytes × (Bytes × Right)) (o : Option GrantRow) → h.rights key ≡ o
         → option_map endless (option_map older o) ≡ o
     each key None is = refl
-    each key (Some ends) is = ap (λ e. Some e) (sym (none key ends is))
+    each key (Some g) is = ap (λ e. Some e) (same key g is)
 
 -- the table is there, has the rights, and the older one is empty
 abbrev made : Tables → List Claim
@@ -73,7 +79,7 @@ module _ {h : Lookups} {base : Database} {a b c d e : State} (w : WithinOf Three
   pub ended : WithinOf Four h base e
   ended =
       let end : Within v4 (claims_of Four t) base e =
-      subst (λ (held : Bytes × (Bytes × Right) → Option (Option ℕ)). Within v4
+      subst (λ (held : Bytes × (Bytes × Right) → Option GrantRow). Within v4
       (shared_claims 4 IsEmpty IsEmpty t (Merchants t.merchants ∷ Rights held ∷ [])) base e)
       (endless_again h w.is.stand.defaults) after_version in
       closed Four (record {

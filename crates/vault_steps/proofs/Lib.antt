@@ -1,4 +1,5 @@
 pub mod Carding
+pub mod Climbing
 pub mod Ending
 pub mod Entered
 pub mod Inside

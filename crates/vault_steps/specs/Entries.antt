@@ -4,7 +4,8 @@ use Rattle.sqlite_rules.specs.Lists.{Has}
 use Rattle.sql_maps.specs.Rows.{put}
 use Rattle.vault_core.specs.Keys.{Bytes, entry_cmp}
 use Rattle.vault_core.specs.declared.row.Entry.{Entry}
-use Rattle.vault_schema.specs.Versions.{Lookups}
+use Rattle.sqlite.specs.Tree.{Trees}
+use Rattle.vault_schema.specs.Versions.{AreOf, Lookups}
 use Rattle.vault_schema.specs.declared.version.Version.{Version}
 use Rattle.vault_schema.specs.declared.version.Version.TheVariants.{One, Two, Three, Four}
 
@@ -29,3 +30,7 @@ AreFor One entries h = AreEntriesOf entries h
 AreFor Two entries h = Unit {0}
 AreFor Three entries h = Unit {0}
 AreFor Four entries h = Unit {0}
+
+-- a sound database whose rows stand for this in some version
+abbrev pub AreSome : Lookups → Trees → Type 0
+AreSome h db = (v : Version) × AreOf v h db

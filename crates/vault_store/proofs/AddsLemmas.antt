@@ -1,20 +1,18 @@
 -- Changes that put something at a new key add something.
-use Rattle.std.proofs.Common.{◌≡◌, ℕ, Bool, true, false, Option, Some, None, is_some, sym, ap, ◌∙◌, cond}
-use Rattle.std.specs.Prelude.{◌||◌}
+use Rattle.std.proofs.Common.{◌≡◌, ℕ, true, Option, Some, None, is_some, ap, ◌∙◌}
 use Rattle.std.specs.FinMap as map
-use Rattle.std.specs.FinSet as set
-use Rattle.std.specs.Cmp.{tied_itself}
-use Rattle.std.specs.Ordering.{is_eq}
+use Rattle.std.specs.Option.{option_map_or}
 use Rattle.vault_core.specs.Changes.{plus, with_merchant, with_entry, with_record, with_right}
 use Rattle.vault_core.specs.Keys.{Bytes}
-use Rattle.vault_core.specs.Vault.{Vault, merchant_at, entry_at, record_at, has_right}
+use Rattle.vault_core.specs.Vault.{Vault, merchant_at, entry_at, record_at, right_at}
 use Rattle.vault_core.specs.declared.changes.Changes.{Changes}
 use Rattle.vault_core.specs.declared.changes.Lives.{Lives}
 use Rattle.vault_core.specs.declared.right.Right.{Right}
 use Rattle.vault_core.specs.declared.row.Entry.{Entry}
+use Rattle.vault_core.specs.declared.row.GrantRow.{GrantRow}
 use Rattle.vault_core.specs.declared.row.Record.{Record}
 use Rattle.vault_core.proofs.Maps.{bytes_total, bytes_exact, entry_total, entry_exact, record_total}
-use Rattle.vault_core.proofs.Maps.{record_exact, right_total, get-insert_same}
+use Rattle.vault_core.proofs.Maps.{record_exact, right_total, right_exact, get-insert_same}
 use Rattle.vault_store.specs.Added.{AddsNothing}
 
 missing : {X : Type 0} (o : Option X) → o ≡ None → is_some o ≡ true → ⊥
@@ -48,18 +46,14 @@ adds_record V ch x is none adds =
     (ap is_some (ap (λ entry. map.get (with_record V.records entry) (x.0, x.1)) is
     ∙ get-insert_same record_total record_exact V.records (x.0, x.1) x.2)))
 
-pub adds_right : (V : Vault) (ch : Changes) (x : Bytes × Bytes × Right × Bool)
-    → ch.right ≡ Some x → x.3 ≡ true
-    → has_right V x.0 x.1 x.2 ≡ false → AddsNothing V (plus V ch) → ⊥
-adds_right V ch x is given none adds =
-    let there =
-    adds.rights x.0 x.1 x.2
-    (ap (λ right. set.contains (with_right V.rights right) (x.0, (x.1, x.2))) is
-    ∙ ap (λ b. set.contains
-    (cond b (set.insert V.rights (x.0, (x.1, x.2))) (set.remove V.rights (x.0, (x.1, x.2))))
-    (x.0, (x.1, x.2)))
-    given
-    ∙ set.contains-insert right_total V.rights (x.0, (x.1, x.2)) (x.0, (x.1, x.2))
-    ∙ ap (λ r. is_eq r || has_right V x.0 x.1 x.2) (tied_itself right_total (x.0, (x.1, x.2))))
-    in
-    let clash = sym none ∙ there in cc
+pub adds_right : (V : Vault) (ch : Changes) (x : Bytes × Bytes × Right × Option GrantRow) (row : GrantRow)
+    → ch.right ≡ Some x → x.3 ≡ Some row
+    → right_at V x.0 x.1 x.2 ≡ None → AddsNothing V (plus V ch) → ⊥
+adds_right V ch x row is given none adds =
+    let at : Bytes × (Bytes × Right) = (x.0, (x.1, x.2)) in
+    missing (right_at V x.0 x.1 x.2) none
+    (adds.rights x.0 x.1 x.2
+    (ap is_some
+    (ap (λ right. map.get (with_right V.rights right) at) is
+    ∙ ap (λ o. map.get (option_map_or (map.insert V.rights at) o (map.remove V.rights at)) at) given
+    ∙ get-insert_same right_total right_exact V.rights at row)))

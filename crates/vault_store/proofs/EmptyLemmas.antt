@@ -1,12 +1,9 @@
--- Maps and sets with nothing in them show the empty vault.
+-- Maps with nothing in them show the empty vault.
 use Rattle.std.proofs.Common.{◌≡◌, [], length, sym, ap, ◌∙◌}
 use Rattle.std.specs.Prelude.{option_map}
 use Rattle.std.specs.BTreeMap as rows
 use Rattle.std.specs.BTreeMap.{is_at}
-use Rattle.std.specs.BTreeSet as keys
 use Rattle.std.specs.FinMap as map
-use Rattle.std.specs.FinSet as set
-use Rattle.std.specs.List.{list_any}
 use Rattle.std.specs.Map.{lookup}
 use Rattle.std.specs.declared.cmp.Ordering.{Ordering}
 use Rattle.vault_core.specs.Keys.{Bytes, bytes_cmp}
@@ -14,7 +11,6 @@ use Rattle.vault_core.specs.Vault.{Merchant, empty_vault}
 use Rattle.vault_core.specs.Window.{row_of}
 use Rattle.vault_core.specs.declared.row.MerchantRow.{MerchantRow}
 use Rattle.vault_store.specs.Shown.{Shows}
-use Rattle.vault_store.specs.ShownKeys.{ShowsKeys}
 use Rattle.vault_store.specs.ShownMerchants.{ShowsMerchants}
 
 module _ {K : Type 0} (R : K → K → Ordering) where
@@ -23,9 +19,6 @@ module _ {K : Type 0} (R : K → K → Ordering) where
     at = λ key. ap (lookup (is_at (R key))) none ∙ sym (map.get-empty R key);
     many = ap length none ∙ sym (map.len-empty R X);
   }
-
-  pub shows_keys-empty : (shown : keys.BTreeSet K) → shown.keys ≡ [] → ShowsKeys R shown set.empty
-  shows_keys-empty shown none = λ key. ap (list_any (is_at (R key))) none ∙ sym (set.contains-empty R key)
 
 pub shows_merchants-empty : (shown : rows.BTreeMap Bytes MerchantRow) → shown.entries ≡ []
     → ShowsMerchants shown empty_vault

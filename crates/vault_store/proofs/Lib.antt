@@ -11,6 +11,5 @@ pub mod MadeLemmas
 pub mod MerchantLemmas
 pub mod Results
 pub mod RightOrder
-pub mod ShownKeysLemmas
 pub mod ShownLemmas
 pub mod WithAt

@@ -26,6 +26,7 @@ abbrev counted : ℕ → Merchant → MerchantRow
 counted n merchant = record {
   single_life = merchant.single_life;
   multi_life = merchant.multi_life;
+  lead = merchant.lead;
   moment = merchant.moment;
   made = n;
   given = merchant.given;

@@ -1,5 +1,5 @@
 -- Facts about results.
-use Rattle.std.proofs.Common.{◌≡◌, Result, Ok, Err, Bool, true, false, not, refl, Option, Some, None}
+use Rattle.std.proofs.Common.{◌≡◌, Result, Ok, Err, false, refl, Option, Some, None}
 use Rattle.std.proofs.Common.{is_some}
 use Rattle.std.specs.Prelude.{OnErr, OnOk}
 use Rattle.std.specs.Result.{is_err}
@@ -28,13 +28,3 @@ pub keeps : {X : Type 0} (r : Result X TablesFault) (before now : Vault → Type
 keeps (Ok x) before now h = tt
 keeps (Err Memory) before now h = h
 keeps (Err Store) before now h = tt
-
--- a test that says whether something is missing
-pub is_false : (b c d : Bool) → b ≡ not c → c ≡ d → b ≡ true → d ≡ false
-is_false b c true is same set = cc
-is_false b c false is same set = refl
-
-pub is_true : (b c d : Bool) → b ≡ not c → c ≡ d → b ≡ false → d ≡ true
-is_true b c true is same unset = refl
-is_true b true false is same unset = cc
-is_true b false false is same unset = cc

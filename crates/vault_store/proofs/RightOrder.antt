@@ -1,6 +1,8 @@
 -- The order of rights in the code is the one of the vault.
-use Rattle.std.proofs.Common.{◌≡◌, refl, ap, subst, Bool, cond}
-use Rattle.std.specs.BTreeSet as keys
+use Rattle.std.proofs.Common.{◌≡◌, refl, ap, subst, Option, Result, cond}
+use Rattle.std.specs.Prelude.{OnErr, OnOk}
+use Rattle.std.specs.BTreeMap as tree
+use Rattle.std.specs.FinMap as map
 use Rattle.std.specs.Ordering.{nat_cmp, ordering_then, eq_by_cmp}
 use Rattle.std.specs.declared.cmp.Ordering.{Ordering}
 use Rattle.vault_core.specs.Keys.{Bytes, bytes_cmp, right_cmp}
@@ -9,6 +11,7 @@ use Rattle.vault_core.specs.declared.right.Right.{Right}
 use Rattle.vault_core.specs.declared.right.Right.TheVariants.{Tokenize, Detokenize, View, Revoke, Purge}
 use Rattle.vault_core.specs.declared.right.Right.TheVariants.{Audit}
 use Rattle.vault_core.specs.contracts.right.RightOrd.TheImpl.{ghosts}
+use Rattle.vault_store.specs.Shown.{Shows}
 
 by_number : (a b : Right) → ghosts.cmp a b ≡ nat_cmp (right_number a) (right_number b)
 by_number Tokenize =
@@ -33,23 +36,55 @@ abbrev pub derived_cmp : RightKey → RightKey → Ordering
 derived_cmp a b =
     ordering_then (bytes_cmp a.0 b.0) (ordering_then (bytes_cmp a.1.0 b.1.0) (ghosts.cmp a.1.1 b.1.1))
 
-derived_is : derived_cmp ≡ right_cmp
+pub derived_is : derived_cmp ≡ right_cmp
 derived_is =
     λ i a b. ordering_then (bytes_cmp a.0 b.0)
     (ordering_then (bytes_cmp a.1.0 b.1.0) (by_number a.1.1 b.1.1 i))
 
--- a set of rights has the same keys in either order
-pub contains-derived : (s : keys.BTreeSet RightKey) (k : RightKey)
-    → keys.contains derived_cmp s k ≡ keys.contains right_cmp s k
-contains-derived s k = ap (λ (R : RightKey → RightKey → Ordering). keys.contains R s k) derived_is
+-- a map of rights has the same rows in either order
+pub get-derived : {X : Type 0} (rows : tree.BTreeMap RightKey X) (k : RightKey)
+    → tree.get derived_cmp rows k ≡ tree.get right_cmp rows k
+get-derived rows k = ap (λ (R : RightKey → RightKey → Ordering). tree.get R rows k) derived_is
 
 -- and changes at a key in either
-pub updates-derived : (old new : keys.BTreeSet RightKey) (k : RightKey) (b : Bool)
+pub updates-derived : {X : Type 0} (old new : tree.BTreeMap RightKey X) (k : RightKey) (o : Option X)
     → ((q : RightKey)
-    → keys.contains derived_cmp new q ≡ cond (eq_by_cmp derived_cmp k q) b (keys.contains derived_cmp old q))
+    → tree.get derived_cmp new q ≡ cond (eq_by_cmp derived_cmp k q) o (tree.get derived_cmp old q))
     → (q : RightKey)
-    → keys.contains right_cmp new q ≡ cond (eq_by_cmp right_cmp k q) b (keys.contains right_cmp old q)
-updates-derived old new k b =
+    → tree.get right_cmp new q ≡ cond (eq_by_cmp right_cmp k q) o (tree.get right_cmp old q)
+updates-derived old new k o =
     subst (λ (R : RightKey → RightKey → Ordering). (q : RightKey)
-    → keys.contains R new q ≡ cond (eq_by_cmp R k q) b (keys.contains R old q))
+    → tree.get R new q ≡ cond (eq_by_cmp R k q) o (tree.get R old q))
+    derived_is
+
+-- what a call that puts a row at a key says in one order it says in the other
+pub put-derived : {X E : Type 0} (r : Result (Option X) E) (old new : tree.BTreeMap RightKey X)
+    (k : RightKey) (row : X)
+    → OnOk r ((F : map.FinMap derived_cmp X) → Shows derived_cmp old F
+    → Shows derived_cmp new (map.insert F k row))
+    → OnOk r ((F : map.FinMap right_cmp X) → Shows right_cmp old F → Shows right_cmp new (map.insert F k row))
+put-derived {X = X} r old new k row =
+    subst (λ (R : RightKey → RightKey → Ordering).
+    OnOk r ((F : map.FinMap R X) → Shows R old F → Shows R new (map.insert F k row)))
+    derived_is
+
+-- what a call that fails keeps in one order it keeps in the other
+pub kept-derived : {X E : Type 0} (r : Result (Option X) E) (old new : tree.BTreeMap RightKey X)
+    → OnErr r ((F : map.FinMap derived_cmp X) → Shows derived_cmp old F → Shows derived_cmp new F)
+    → OnErr r ((F : map.FinMap right_cmp X) → Shows right_cmp old F → Shows right_cmp new F)
+kept-derived {X = X} r old new =
+    subst (λ (R : RightKey → RightKey → Ordering).
+    OnErr r ((F : map.FinMap R X) → Shows R old F → Shows R new F))
+    derived_is
+
+-- and what a call puts back
+pub back-derived : {X : Type 0} (old new : tree.BTreeMap RightKey X) (k : RightKey) (was : Option X)
+    → (map.IsAntisymmetric derived_cmp → (F : map.FinMap derived_cmp X) (row : X) → was ≡ map.get F k
+    → Shows derived_cmp old (map.insert F k row) → Shows derived_cmp new F)
+    → map.IsAntisymmetric right_cmp → (F : map.FinMap right_cmp X) (row : X) → was ≡ map.get F k
+    → Shows right_cmp old (map.insert F k row) → Shows right_cmp new F
+back-derived {X = X} old new k was =
+    subst (λ (R : RightKey → RightKey → Ordering). map.IsAntisymmetric R
+    → (F : map.FinMap R X) (row : X) → was ≡ map.get F k
+    → Shows R old (map.insert F k row) → Shows R new F)
     derived_is

@@ -1,5 +1,5 @@
--- What an ordered map shows after a row was put in, or taken back.
-use Rattle.std.proofs.Common.{◌≡◌, ◌+◌, inl, inr, ℕ, cond, Option, Some, None, Result, Ok, Err, is_some}
+-- What an ordered map shows after a row was put in, taken back or taken out.
+use Rattle.std.proofs.Common.{◌≡◌, ◌+◌, ◌-◌, inl, inr, ℕ, cond, Option, Some, None, Result, Ok, Err, is_some}
 use Rattle.std.proofs.Common.{sym, ap, ◌∙◌, arith}
 use Rattle.std.specs.Prelude.{IsSome, OnOk, OnErr, IfOk}
 use Rattle.std.specs.FinMap as map
@@ -44,6 +44,25 @@ module _ {K X : Type 0} {R : K → K → Ordering} (o : IsTotalOrder R) where
           → rows.btree_map_len old + cond (is_some x) 0 1 ≡ cond (is_some x) (map.len F) (map.len F + 1)
       more None = let e = h.many in omega arith
       more (Some x) = let e = h.many in omega arith
+
+  -- a row was taken out
+  pub shows-taken : (old new : rows.BTreeMap K X) (F : map.FinMap R X) (k : K)
+      → ((q : K) → rows.get R new q ≡ cond (eq_by_cmp R k q) None (rows.get R old q))
+      → rows.btree_map_len new + cond (is_some (rows.get R old k)) 1 0 ≡ rows.btree_map_len old
+      → Shows R old F → Shows R new (map.remove F k)
+  shows-taken old new F k updates len h = record {
+    at = λ q.
+        updates q ∙ ap (λ b. cond b None (rows.get R old q)) ((eq_by_cmp_equiv o).symm k q)
+        ∙ ap (cond (eq_by_cmp R q k) None) (h.at q) ∙ sym (map.get-remove o F k q);
+    many =
+        less (map.get F k) (ap (λ x. rows.btree_map_len new + cond (is_some x) 1 0) (sym (h.at k)) ∙ len)
+        ∙ sym (map.len-remove o F k);
+  }
+    where
+      less : (x : Option X) → rows.btree_map_len new + cond (is_some x) 1 0 ≡ rows.btree_map_len old
+          → rows.btree_map_len new ≡ cond (is_some x) (map.len F - 1) (map.len F)
+      less None e = let m = h.many in omega arith
+      less (Some x) e = let m = h.many in omega arith
 
   module _ (exact : map.IsAntisymmetric R) where
     -- the row that was put in at a new key is removed

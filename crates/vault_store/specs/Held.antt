@@ -3,7 +3,6 @@ use Rattle.vault_core.specs.Keys.{record_cmp, right_cmp}
 use Rattle.vault_core.specs.Vault.{Vault}
 use Rattle.vault_store.specs.HeldEntries.{HoldsEntries}
 use Rattle.vault_store.specs.Shown.{Shows}
-use Rattle.vault_store.specs.ShownKeys.{ShowsKeys}
 use Rattle.vault_store.specs.ShownMerchants.{ShowsMerchants}
 use Rattle.vault_store.specs.declared.memory.MemTables.{MemTables}
 
@@ -12,4 +11,4 @@ pub record IsHeld (t : MemTables) (V : Vault) : Type 0 where
   pub merchants : ShowsMerchants t.merchants V
   pub entries : HoldsEntries t.entries V.entries
   pub records : Shows record_cmp t.records V.records
-  pub rights : ShowsKeys right_cmp t.rights V.rights
+  pub rights : Shows right_cmp t.rights V.rights

@@ -8,6 +8,5 @@ pub mod Live
 pub mod Reads
 pub mod Rows
 pub mod Shown
-pub mod ShownKeys
 pub mod ShownMerchants
 pub mod Written

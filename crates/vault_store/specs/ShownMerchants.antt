@@ -15,18 +15,24 @@ pub record ShowsMerchants (shown : rows.BTreeMap Bytes MerchantRow) (V : Vault) 
   pub at : (m : Bytes) → rows.get bytes_cmp shown m ≡ row_at V m
   pub many : rows.btree_map_len shown ≡ map.len V.merchants
 
--- a merchant's row with its new lives and moment, and its counts as they were
+-- a merchant's row with its new lives, lead and moment, and its counts as they were
 abbrev pub row_with : Lives → Option MerchantRow → MerchantRow
 row_with lives None = record {
   single_life = lives.single_life;
   multi_life = lives.multi_life;
+  lead = lives.lead;
   moment = lives.moment;
   made = 0;
   given = 0;
   denied = 0;
 }
 row_with lives (Some row) =
-    record row { single_life = lives.single_life; multi_life = lives.multi_life; moment = lives.moment }
+    record row {
+      single_life = lives.single_life;
+      multi_life = lives.multi_life;
+      lead = lives.lead;
+      moment = lives.moment;
+    }
 
 -- a row with one more in the count that goes up
 abbrev pub row_raised : Option Count → MerchantRow → MerchantRow

@@ -17,13 +17,13 @@ use crate::window::moment_of;
 use dead::dead_among;
 use entries::Entries;
 use std::alloc::Global;
-use std::collections::{BTreeMap, BTreeSet};
+use std::collections::BTreeMap;
 use vault_core::changes::Changes;
 use vault_core::moment::Moment;
 use vault_core::name::{Caller, MerchantId};
 use vault_core::request::RequestNo;
 use vault_core::right::Right;
-use vault_core::row::{Entry, MerchantRow, Record};
+use vault_core::row::{Entry, GrantRow, MerchantRow, Record};
 use vault_pan::pan::Pan;
 use vault_pan::token::Token;
 use write::write_record;
@@ -35,7 +35,7 @@ pub struct MemTables {
     merchants: BTreeMap<MerchantId, MerchantRow>,
     entries: Entries,
     records: BTreeMap<(Caller, RequestNo), Record>,
-    rights: BTreeSet<(Caller, (MerchantId, Right))>,
+    rights: BTreeMap<(Caller, (MerchantId, Right)), GrantRow>,
 }
 
 impl MemTables {
@@ -50,7 +50,7 @@ impl MemTables {
             merchants: BTreeMap::new(alloc),
             entries: Entries::new(alloc),
             records: BTreeMap::new(alloc),
-            rights: BTreeSet::new(alloc),
+            rights: BTreeMap::new(alloc),
         }
     }
 }
@@ -88,8 +88,13 @@ impl Tables for MemTables {
         Ok(self.merchants.len() as u64)
     }
 
-    fn right(&mut self, c: Caller, m: MerchantId, r: Right) -> Result<bool, TablesFault> {
-        Ok(self.rights.contains(&(c, (m, r))))
+    fn right(
+        &mut self,
+        c: Caller,
+        m: MerchantId,
+        r: Right,
+    ) -> Result<Option<GrantRow>, TablesFault> {
+        Ok(self.rights.get(&(c, (m, r))).copied())
     }
 
     fn recorded(&mut self, c: Caller, n: RequestNo) -> Result<Option<Record>, TablesFault> {

@@ -6,7 +6,7 @@ ghost use Rattle.vault_core.specs.Changes.{Fit, plus};
 ghost use Rattle.vault_core.specs.Dead.{dead_tokens};
 ghost use Rattle.vault_core.specs.Repeats.{current};
 ghost use Rattle.vault_core.specs.Sound.{Sound};
-ghost use Rattle.vault_core.specs.Vault.{Vault, entry_at, has_right, record_at};
+ghost use Rattle.vault_core.specs.Vault.{Vault, entry_at, record_at, right_at};
 ghost use Rattle.vault_core.specs.Window.{moment_at, row_at};
 ghost use Rattle.vault_store.specs.Added.{AddsNothing};
 ghost use Rattle.vault_store.specs.Reads.{FailsWith, IsAllowed, Keeps, KeepsOnMemory};
@@ -17,7 +17,7 @@ use vault_core::moment::Moment;
 use vault_core::name::{Caller, MerchantId};
 use vault_core::request::RequestNo;
 use vault_core::right::Right;
-use vault_core::row::{Entry, MerchantRow, Record};
+use vault_core::row::{Entry, GrantRow, MerchantRow, Record};
 use vault_pan::pan::Pan;
 use vault_pan::token::Token;
 
@@ -88,11 +88,11 @@ pub trait Tables {
         ensures failing { FailsWith result (has_failed self.old) (has_failed self.new) }
         ensures allowed { IsAllowed may_refuse may_fail result };
 
-    /// Whether a caller has a right at a merchant.
-    fn right(&mut self, c: Caller, m: MerchantId, r: Right) -> Result<bool, TablesFault>
+    /// The right of a caller at a merchant, with its end.
+    fn right(&mut self, c: Caller, m: MerchantId, r: Right) -> Result<Option<GrantRow>, TablesFault>
         ensures honest { is_honest self.new → is_honest self.old }
         ensures told { is_honest self.new
-            → IfOk result (λ found. (V : Vault) → holds self.old V → Sound V → found ≡ has_right V c m r) }
+            → IfOk result (λ found. (V : Vault) → holds self.old V → Sound V → found ≡ right_at V c m r) }
         ensures kept { Keeps result (holds self.old) (holds self.new) }
         ensures crash { is_honest self.new → (V : Vault) → holds self.old V → leaves self.new V V }
         ensures failing { FailsWith result (has_failed self.old) (has_failed self.new) }

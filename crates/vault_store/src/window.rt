@@ -4,7 +4,7 @@ ghost use Rattle.std.specs.Option.{option_map_or};
 ghost use Rattle.vault_core.specs.Draw.{chosen_token};
 ghost use Rattle.vault_core.specs.Repeats.{current, record_with_entry, reusable as reusable_lem};
 ghost use Rattle.vault_core.specs.Sound.{Sound};
-ghost use Rattle.vault_core.specs.Vault.{Vault};
+ghost use Rattle.vault_core.specs.Vault.{Vault, entitled};
 ghost use Rattle.vault_core.specs.Window.{IsWindow, ShowsRequest, ShowsToken, moment_at};
 ghost use Rattle.vault_store.specs.Reads.{FailsWith, IsAllowed, Keeps};
 ghost use Rattle.vault_store.specs.Rows.{row_moment};
@@ -12,6 +12,7 @@ ghost use Rattle.vault_store.specs.Rows.{row_moment};
 use crate::tables::{Tables, TablesFault};
 use vault_core::command::{Command, TokenCommand, TokenRequest};
 use vault_core::moment::Moment;
+use vault_core::name::{Caller, MerchantId};
 use vault_core::right::Right;
 use vault_core::row::{Entry, MerchantRow, Record};
 use vault_core::usage::Use;
@@ -55,10 +56,11 @@ pub fn window<T: Tables>(tables: &mut T, c: &Command) -> Result<Window, TablesFa
         Command::Audit {
             caller,
             merchant,
-            ..
+            now,
         } => {
             let row = tables.merchant(merchant)?;
-            let right = tables.right(caller, merchant, Right::Audit)?;
+            let at = moment_of(&row, now);
+            let right = is_entitled(tables, caller, merchant, Right::Audit, at)?;
             Ok(Window {
                 merchant: row,
                 right,
@@ -86,7 +88,8 @@ fn token_window<T: Tables>(tables: &mut T, asked: &TokenCommand) -> Result<Windo
     ensures allowed { IsAllowed T.may_refuse T.may_fail result }
 {
     let merchant = tables.merchant(asked.merchant)?;
-    let right = tables.right(asked.caller, asked.merchant, asked.right)?;
+    let at = moment_of(&merchant, asked.moment);
+    let right = is_entitled(tables, asked.caller, asked.merchant, asked.right, at)?;
     let named = tables.entry(asked.merchant, asked.token)?;
     Ok(Window {
         merchant,
@@ -108,9 +111,10 @@ fn request_window<T: Tables>(tables: &mut T, asked: &TokenRequest) -> Result<Win
     ensures allowed { IsAllowed T.may_refuse T.may_fail result }
 {
     let merchant = tables.merchant(asked.merchant)?;
-    let right = tables.right(asked.caller, asked.merchant, Right::Tokenize)?;
+    let at = moment_of(&merchant, asked.moment);
+    let right = is_entitled(tables, asked.caller, asked.merchant, Right::Tokenize, at)?;
     let recorded = recorded_entry(tables, asked)?;
-    let current = reusable(tables, asked, moment_of(&merchant, asked.moment))?;
+    let current = reusable(tables, asked, at)?;
     let candidate = first_good(tables, asked)?;
     Ok(Window {
         merchant,
@@ -129,6 +133,29 @@ pub fn moment_of(merchant: &Option<MerchantRow>, now: Moment) -> Moment
     match merchant {
         Some(row) => row.moment.later(now),
         None => now,
+    }
+}
+
+/// Whether a caller is entitled at a moment to what a right allows at a merchant.
+fn is_entitled<T: Tables>(
+    tables: &mut T,
+    caller: Caller,
+    merchant: MerchantId,
+    right: Right,
+    at: Moment,
+) -> Result<bool, TablesFault>
+    ensures honest { T.is_honest tables.new → T.is_honest tables.old }
+    ensures told { T.is_honest tables.new
+        → IfOk result (λ found. (V : Vault) → T.holds tables.old V → Sound V
+        → found ≡ entitled V caller merchant right at) }
+    ensures kept { Keeps result (T.holds tables.old) (T.holds tables.new) }
+    ensures crash { T.is_honest tables.new → (V : Vault) → T.holds tables.old V → T.leaves tables.new V V }
+    ensures failing { FailsWith result (T.has_failed tables.old) (T.has_failed tables.new) }
+    ensures allowed { IsAllowed T.may_refuse T.may_fail result }
+{
+    match tables.right(caller, merchant, right)? {
+        Some(grant) => Ok(grant.lasts(at)),
+        None => Ok(false),
     }
 }
 

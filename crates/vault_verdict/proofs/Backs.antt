@@ -1,12 +1,11 @@
 -- What a value tells of what it was made from.
-use Rattle.std.proofs.Common.{◌≡◌, ◌<◌, ℕ, true, Bool, cond, Some, None}
+use Rattle.std.proofs.Common.{◌≡◌, ◌<◌, ℕ, ℤ, pos, Option, Some, None, option_map, refl}
 use Rattle.std.proofs.Common.{arith}
 use Rattle.std.proofs.lemmas.Bool.Decides.{nat_tests}
 use Rattle.std.proofs.lemmas.Grind.{common_steps}
 use Rattle.vault_schema.specs.Stands.{unless_zero}
-
-pub given_back : (b : Bool) (x : Unit {0}) → cond b (Some tt) None ≡ Some x → b ≡ true
-given_back b x e = grind arith
+use Rattle.vault_schema.specs.Version1.Rows.{number_or_null}
+use Rattle.vault_verdict.specs.Raw.{int_value}
 
 -- a count that has no row is 0
 pub none_unless : (n : ℕ) → unless_zero n ≡ None → n ≡ 0
@@ -22,3 +21,14 @@ unless_some n low = grind (arith, nat_tests, common_steps)
 
 pub same_count : (n m : ℕ) → unless_zero n ≡ unless_zero m → n ≡ m
 same_count n m same = grind (arith, nat_tests, common_steps)
+
+-- a moment, or none, in its column and back
+pub moment_as : (o : Option ℕ) → int_value (option_map pos o) ≡ number_or_null o
+moment_as None = refl
+moment_as (Some n) = refl
+
+pub moment_told : (o : Option ℤ) (n : Option ℕ) → int_value o ≡ number_or_null n → o ≡ option_map pos n
+moment_told None None e = refl
+moment_told None (Some n) e = absurd cc
+moment_told (Some o) None e = absurd cc
+moment_told (Some o) (Some n) e = cc

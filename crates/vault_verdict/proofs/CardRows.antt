@@ -1,6 +1,6 @@
 -- The table of cards, and its rows as they were read.
 use Rattle.std.proofs.Common.{◌≡◌, ◌&&◌, pos, true, List, [], ◌∷◌, map, Some, refl, sym, ap, ◌∙◌}
-use Rattle.std.proofs.Common.{subst, option_map}
+use Rattle.std.proofs.Common.{slice_get, subst, option_map}
 use Rattle.std.proofs.lemmas.Cmp.{tied_itself}
 use Rattle.std.proofs.lemmas.List.Sorted.{IsPermutation-sym}
 use Rattle.std.specs.List.Sorted.{IsPermutation}
@@ -8,6 +8,7 @@ use Rattle.std.specs.Prelude.{string_bytes}
 use Rattle.sqlite.specs.Collation.TheVariants.{Binary}
 use Rattle.sqlite.specs.Effect.{Database, IsDatabase}
 use Rattle.sqlite.specs.Order.{value_cmp}
+use Rattle.sqlite.specs.Schema.{Schema}
 use Rattle.sqlite.specs.declared.types.Value.TheVariants.{Null, Int, Text}
 use Rattle.sqlite_rules.specs.Lists.{Has}
 use Rattle.sqlite_schema.specs.Rules.{equal}
@@ -28,11 +29,6 @@ use Rattle.vault_rules.specs.VaultOf.{AreKeysApart, card_key, natural}
 use Rattle.vault_rules.specs.declared.rows.RawCard.{RawCard}
 use Rattle.vault_schema.specs.Version2.Rows.{card_columns}
 use Rattle.vault_schema.specs.Version2.Tables as v2
-use Rattle.vault_schema.specs.Schema.{newest_schema}
-
--- the index of a merchant's numbers is unique
-guarded : IsGuarded newest_schema.indexes (table_of v2.cards) (2 ∷ 3 ∷ [])
-guarded = record { index = _; only = refl; order = refl; columns = refl }
 
 same_texts : (m n p q : Bytes) → m ≡ p → n ≡ q
     → (equal Binary (Text m) (Text p) && (equal Binary (Text n) (Text q) && true)) ≡ true
@@ -49,10 +45,12 @@ module _ (db : Database) (items : List RawCard) (same : IsPermutation (db.trees 
       (λ a b h g e. ap (λ n. value_cmp (Int n) (Int b.id)) e ∙ tied_itself value_cmp_total (Int b.id))
 
   -- nor does a number of a merchant
-  pub numbers_apart : db.schema ≡ newest_schema → IsDatabase db → AreKeysApart card_key items
-  numbers_apart ours sound =
+  pub numbers_apart : (s : Schema) → db.schema ≡ s → IsDatabase db
+      → slice_get s.tables 6 ≡ Some (table_of v2.cards)
+      → IsGuarded s.indexes (table_of v2.cards) (2 ∷ 3 ∷ []) → AreKeysApart card_key items
+  numbers_apart s ours sound here guarded =
       keys_by_rowid card_row card_key items up (λ a b h g e.
-      let one = one_at_key newest_schema db ours sound v2.cards 6 refl (2 ∷ 3 ∷ []) guarded a.id b.id _ _
+      let one = one_at_key s db ours sound v2.cards 6 here (2 ∷ 3 ∷ []) guarded a.id b.id _ _
       (in_tree card_row items same a h) (in_tree card_row items same b g)
       (same_texts _ _ _ _ (ap (λ (k : Bytes × Bytes). k.0) e) (ap (λ (k : Bytes × Bytes). k.1) e)) in
       ap (λ n. value_cmp (Int n) (Int b.id)) one ∙ tied_itself value_cmp_total (Int b.id))

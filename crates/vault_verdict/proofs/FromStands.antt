@@ -1,5 +1,5 @@
--- The rows of a database that stands for a vault show that vault.
-use Rattle.std.proofs.Common.{◌≡◌, ◌⊎◌, inl, inr, ℕ, zero, suc, pos, List, [], ◌∷◌, length, map, ◌<◌}
+-- Rows that stand for a vault, table by table, show it.
+use Rattle.std.proofs.Common.{◌≡◌, ◌⊎◌, inl, inr, ℕ, zero, suc, pos, List, [], ◌∷◌, map, ◌<◌}
 use Rattle.std.proofs.Common.{Option, Some, None, option_map, refl, sym, ap, subst, ◌∙◌, arith}
 use Rattle.std.proofs.lemmas.Bool.Decides.{nat_tests}
 use Rattle.std.proofs.lemmas.List.{length-map}
@@ -21,14 +21,13 @@ use Rattle.vault_core.specs.Numbers.{use_number}
 use Rattle.vault_core.specs.declared.row.Entry.{Entry}
 use Rattle.vault_core.specs.declared.usage.Use.{Use}
 use Rattle.vault_core.specs.declared.usage.Use.TheVariants.{Single, Multi}
-use Rattle.vault_verdict.proofs.AsClaims.{as_fields}
 use Rattle.sql_maps.proofs.Determined.{both_ways}
-use Rattle.vault_verdict.proofs.Backs.{given_back, none_unless, some_unless}
-use Rattle.vault_verdict.proofs.ShownCards.{cards_shown, entry_pointing, entry_shown, pointing_of}
+use Rattle.vault_verdict.proofs.Backs.{moment_told, none_unless, some_unless}
 use Rattle.vault_verdict.proofs.Table.{pair_of, row_at}
 use Rattle.vault_verdict.proofs.Tables as tables
 use Rattle.vault_verdict.proofs.VersionRows.{one_shown}
-use Rattle.vault_verdict.specs.Opened.{AreRaws, AreVersions}
+use Rattle.vault_verdict.specs.Opened.{AreVersions}
+use Rattle.vault_verdict.specs.ReadAs.{merchants_in, rights_in}
 use Rattle.vault_verdict.specs.Raw.{version_values}
 use Rattle.vault_verdict.specs.Raw as raw
 use Rattle.vault_verdict.specs.Reading.{shown_by, version_columns}
@@ -46,11 +45,14 @@ use Rattle.vault_rules.specs.declared.rows.RawCard.{RawCard}
 use Rattle.vault_rules.specs.declared.rows.RawCount.{RawCount}
 use Rattle.vault_rules.specs.declared.rows.RawEntry.{RawEntry}
 use Rattle.vault_rules.specs.declared.rows.Rows.{Rows}
-use Rattle.vault_schema.proofs.Version1.Codes.{merchant_coding}
+use Rattle.vault_schema.proofs.Version3.Codes.{merchant_coding}
 use Rattle.vault_schema.specs.Version1.Claims.{IsVersion}
 use Rattle.vault_schema.specs.Version1.Rows as row
-use Rattle.vault_schema.specs.Version2.Joined.{joined}
-use Rattle.vault_schema.specs.Stands.{Stands, count_at, lives_in, lookups_of, tables_of, unless_zero}
+use Rattle.vault_schema.specs.Version1.Rows.{number_or_null}
+use Rattle.vault_schema.specs.Version3.Rows as three
+use Rattle.vault_schema.specs.Version4.Rows as four
+use Rattle.vault_schema.specs.declared.version.Version.{Version}
+use Rattle.vault_schema.specs.Stands.{count_at, lives_in, lookups_of, unless_zero}
 
 -- which of a merchant's counts this is
 abbrev IsWhich : Vault → Bytes → ℕ → ℕ → Type 0
@@ -94,16 +96,18 @@ moment_same : (o : Option ℕ) → option_map natural (option_map pos o) ≡ o
 moment_same None = refl
 moment_same (Some n) = refl
 
--- what the rows of the tables that each schema has are claimed to be, and how they were read
-pub record AreShared (db : Trees) (V : Vault) (rows : Rows) : Type 0 where
-  pub merchants : AreRowsOf row.merchant_row (db 1) (lookups_of V).merchants
+-- what the rows of the tables that each version has are claimed to be, read as those of the newest one, and
+-- how
+-- they were read
+pub record AreShared (v : Version) (db : Trees) (V : Vault) (rows : Rows) : Type 0 where
+  pub merchants : AreRowsOf three.merchant_row (merchants_in v db) (lookups_of V).merchants
   pub counts : AreRowsOf row.count_row (db 3) (lookups_of V).counts
   pub records : AreRowsOf row.record_row (db 8) (lookups_of V).records
-  pub rights : AreRowsOf row.right_row (db 10) (lookups_of V).rights
-  pub merchants_are : IsPermutation (db 1) (map raw.merchant_values rows.merchants.items)
+  pub rights : AreRowsOf four.right_row (rights_in v db) (lookups_of V).rights
+  pub merchants_are : IsPermutation (merchants_in v db) (map raw.merchant_values rows.merchants.items)
   pub counts_are : IsPermutation (db 3) (map raw.count_values rows.counts.items)
   pub records_are : IsPermutation (db 8) (map raw.record_values rows.records.items)
-  pub rights_are : IsPermutation (db 10) (map raw.right_values rows.rights.items)
+  pub rights_are : IsPermutation (rights_in v db) (map raw.right_values rows.rights.items)
 
 -- each row of an entry shows the entry that the vault has at its key
 abbrev pub ArePairs : Vault → Rows → Type 0
@@ -118,8 +122,9 @@ AreThere V rows =
     (key : Bytes × Bytes) (entry : Entry) → finite.get V.entries key ≡ Some entry
     → (e : RawEntry) × Has rows.entries.items e × (entry_key e ≡ key)
 
-module _ (db : Trees) (V : Vault) (rows : Rows) (claimed : AreShared db V rows) (apart : HasKeysApart rows)
-    (entry_pair : ArePairs V rows) (entry_there : AreThere V rows) where
+module _ (v : Version) (db : Trees) (V : Vault) (rows : Rows) (claimed : AreShared v db V rows)
+    (apart : HasKeysApart rows) (entry_pair : ArePairs V rows)
+    (entry_there : AreThere V rows) where
   abbrev count_of : RawCount → ℕ
   count_of c = count_at V (string_bytes c.merchant) (natural c.kind)
 
@@ -198,7 +203,7 @@ module _ (db : Trees) (V : Vault) (rows : Rows) (claimed : AreShared db V rows) 
       → Shows rows V
   shows_of version one id replaced cards =
       let size = length_permutation _ _ claimed.merchants_are in
-      let many = as_many merchant_coding lives_in (db 1) V.merchants claimed.merchants in
+      let many = as_many merchant_coding lives_in (merchants_in v db) V.merchants claimed.merchants in
       record {
         version = version;
         versions = one;
@@ -208,7 +213,7 @@ module _ (db : Trees) (V : Vault) (rows : Rows) (claimed : AreShared db V rows) 
         merchants = λ m h.
             let it = pair_of tables.merchants _ claimed.merchants_are claimed.merchants m h in
             let back = mapped_is lives_in (merchant_at V (string_bytes m.name)) it.0 it.2 in
-            let is = it.1 ∙ ap (row.merchant_row (string_bytes m.name)) (sym back.2) in
+            let is = it.1 ∙ ap (three.merchant_row (string_bytes m.name)) (sym back.2) in
             let shown : ShowsMerchant m back.0 = grind (arith, is) in
             (back.0, back.1, shown);
         merchants_there = λ name merchant h.
@@ -228,32 +233,6 @@ module _ (db : Trees) (V : Vault) (rows : Rows) (claimed : AreShared db V rows) 
             (natural r.request, it.0, grind (arith, it.1), it.2, shown);
         rights = λ r h.
             let it = pair_of tables.rights _ claimed.rights_are claimed.rights r h in
-            (right_of r.what, grind (arith, it.1), given_back _ it.0 it.2);
+            let ends : raw.int_value r.ends ≡ number_or_null it.0.ends = grind (arith, it.1) in
+            (right_of r.what, it.0, grind (arith, it.1), it.2, moment_told r.ends it.0.ends ends);
       }
-
--- the rows of a database that stands for a vault show it
-pub stands_shows : (db : Trees) (V : Vault) → Stands db V → (rows : Rows) → AreRaws db rows
-    → HasKeysApart rows → Shows rows V
-stands_shows db V stands rows raws apart =
-    let claimed = as_fields db (tables_of (lookups_of V) stands.cards stands.pointing) stands.rows in
-    let version = version_of 2 db claimed.version rows.versions.items raws.versions in
-    let shared : AreShared db V rows = record {
-      merchants = claimed.merchants;
-      counts = claimed.counts;
-      records = claimed.records;
-      rights = claimed.rights;
-      merchants_are = raws.merchants;
-      counts_are = raws.counts;
-      records_are = raws.records;
-      rights_are = raws.rights;
-    } in
-    shows_of db V rows shared apart
-    (λ e h.
-    let it = pointing_of db stands.joined claimed.cards claimed.pointing rows raws apart e h in (
-      joined stands.cards it.0,
-      stands.joined.same (entry_key e) ∙ ap (option_map (joined stands.cards)) it.1,
-      entry_shown db stands.joined claimed.cards claimed.pointing rows raws apart e h,
-    ))
-    (entry_pointing db stands.joined claimed.cards claimed.pointing rows raws apart)
-    version.0 version.1 version.2 (raws.replaced ∙ ap length claimed.replaced)
-    (cards_shown db stands.joined claimed.cards claimed.pointing rows raws apart)

@@ -1,31 +1,41 @@
 -- What the verdict over rows comes to.
 use Rattle.std.proofs.Common.{arith, drop, length, ◌<◌, ◌≡◌, ℕ, ℤ, pos, List, [], ◌∷◌, ◌&&◌, not, true}
-use Rattle.std.proofs.Common.{false, cond, Some, None, option_map, Ok, Err, Result, IfOk, IfErr, OnOk, inl}
-use Rattle.std.proofs.Common.{inr, sym, ap, subst, ◌∙◌, true≢false}
+use Rattle.std.proofs.Common.{false, cond, Some, None, option_map, Ok, Err, Result, IfErr, inl}
+use Rattle.std.proofs.Common.{inr, refl, sym, ap, subst, ◌∙◌, true≢false}
 use Rattle.std.specs.Ordering.{int_eq}
 use Rattle.sqlite.specs.Effect.{Database, IsDatabase}
 use Rattle.sqlite.specs.Order.{Row}
 use Rattle.sqlite.specs.State.{State, IsUnchanged}
 use Rattle.sqlite.specs.Tree.{Trees}
 use Rattle.sql_maps.specs.Rows.{IsApart}
-use Rattle.vault_verdict.proofs.AsClaims.{AreClaimed, as_fields}
-use Rattle.vault_verdict.proofs.FromStands.{stands_shows, version_of}
+use Rattle.vault_verdict.proofs.InVersion.{has_version_in}
+use Rattle.vault_verdict.proofs.KeysIn.{apart_keys}
+use Rattle.vault_verdict.proofs.StandsShow.{keys_of, stands_shows, version_row}
+use Rattle.vault_verdict.proofs.TheyStand.{they_stand}
 use Rattle.vault_verdict.proofs.Opening.{apart}
-use Rattle.vault_verdict.proofs.Versioned.{has_version}
-use Rattle.vault_verdict.proofs.Stood.{apart_keys, they_stand}
 use Rattle.vault_verdict.proofs.Permuted.{apart_permuted}
 use Rattle.vault_verdict.specs.Apart.{AreApart, AreByRowid}
-use Rattle.vault_verdict.specs.Opened.{AreRaws, AreVersions, IsFit, IsLeastBroken, IsNoRefusal}
-use Rattle.vault_verdict.specs.Opened.{IsOtherVersion, IsSoundOf, StandsSound}
-use Rattle.vault_verdict.specs.Reading.{AreAll, IsOurs}
+use Rattle.vault_verdict.specs.Opened.{AreRaws, AreVersions, IsBrokenIn, IsFit, IsLeastBroken, IsNoRefusal}
+use Rattle.vault_verdict.specs.Opened.{AreOldersIn, IsOtherVersion, IsSoundIn, IsVersionIn, StandsSoundIn}
+use Rattle.vault_verdict.specs.ReadAs.{AreEntries, AreFull, AreLonger, IsFullIn}
+use Rattle.vault_verdict.specs.Reading.{AreAll, AreReadEntries, AreRightsFull, IsOurs}
+use Rattle.vault_verdict.specs.declared.replaced.OldEntry.{OldEntry}
+use Rattle.vault_core.specs.Keys.{Bytes}
+use Rattle.vault_core.specs.declared.right.Right.{Right}
+use Rattle.sql_maps.specs.Rows.{AreRowsOf}
+use Rattle.vault_schema.specs.Version1.Rows.{entry_row}
+use Rattle.vault_schema.specs.Version2.Rows.{pointing_row}
+use Rattle.vault_schema.specs.Version4.Rows.{right_row}
+use Rattle.vault_schema.specs.Versions.{Lookups, Stand, number_of, schema_of}
+use Rattle.vault_schema.specs.declared.version.Version.{Version}
+use Rattle.vault_schema.specs.declared.version.Version.TheVariants.{One, Two, Three, Four}
 use Rattle.vault_verdict.specs.Sizes.{counts_of}
-use Rattle.vault_verdict.specs.Versions.{is_other, other_than, other_version}
+use Rattle.vault_verdict.specs.Versions.{is_other, other_than}
 use Rattle.vault_verdict.specs.declared.fault.OpenFault.{OpenFault}
 use Rattle.vault_verdict.specs.declared.fault.OpenFault.TheVariants.{WrongSchema, Damaged}
 use Rattle.vault_schema.specs.Versioned.{HasVersion}
 use Rattle.vault_schema.specs.Schema.{newest_schema}
-use Rattle.vault_schema.specs.Stands.{lookups_of, tables_of}
-use Rattle.vault_verdict.specs.declared.sizes.Sizes.{Sizes}
+use Rattle.vault_schema.specs.Stands.{lookups_of, newest}
 use Rattle.vault_rules.proofs.AllKept.{all_kept}
 use Rattle.vault_rules.proofs.Found.{many_is}
 use Rattle.vault_rules.proofs.Held.{entries_many, records_many}
@@ -41,22 +51,23 @@ use Rattle.vault_rules.specs.declared.rows.Rows.{Rows}
 pub version_is : (n : ℤ) (v : RawVersion) → v.id ≡ pos 1 → other_than n (v ∷ []) ≡ None → v.version ≡ n
 version_is n v id none = grind (arith, int_is v.version n, int_same v.id (pos 1))
 
-pub sound_of : (db : Database) → IsOurs db → IsDatabase db → (rows : Rows) → AreRaws db.trees rows
+pub sound_of : (v : Version) (db : Database) → db.schema ≡ schema_of v → IsDatabase db
+    → (olders : List OldEntry) (rows : Rows) → AreRaws v db.trees olders rows
     → ((r : ℕ) → keeps rows r ≡ true) → AreApart rows
-    → other_version rows.versions.items ≡ None → IsSoundOf db (counts_of rows)
-sound_of db ours sound rows raws keep apart says =
-    let keys = apart_keys db ours.schema sound rows raws apart in
+    → other_than (number_of v) rows.versions.items ≡ None → IsSoundIn v db (counts_of rows)
+sound_of v db ours sound olders rows raws keep apart says =
+    let keys = apart_keys v db ours sound olders rows raws apart in
     let shows = rows_show rows keys keep in
-    let version =
-    version_is (pos 2) shows.version shows.id (subst (λ vs. other_version vs ≡ None) shows.versions says) in
+    let version = version_is (number_of v) shows.version shows.id
+    (subst (λ vs. other_than (number_of v) vs ≡ None) shows.versions says) in
     record {
       is = sound;
       it = record {
-        schema = ours.schema;
+        schema = ours;
         vault = vault_of rows;
         sound = vault_is_sound rows keys keep;
-        stands =
-            they_stand rows keys keep db raws apart ours.schema sound shows.version shows.versions shows.id
+        stand =
+            they_stand v db ours sound olders rows raws apart keep shows.version shows.versions shows.id
             version;
       };
       sizes_are = λ i. record {
@@ -66,106 +77,162 @@ sound_of db ours sound rows raws keep apart says =
       };
     }
 
--- rows that were read of a database: all that it has, in the order of the rowids
-pub record AreRead (db : Database) (rows : Rows) : Type 0 where
-  pub sound : IsDatabase db
-  pub raws : AreRaws db.trees rows
-  pub ordered : AreByRowid rows
+-- ---- what was read
 
-pub are_read : (old mid : State) (versions : List RawVersion) (rows : Rows) → rows.versions.items ≡ versions
+entries_are : (v : Version) (db : Database) (olders : List OldEntry) (rows : Rows) → AreFull v db.trees
+    → AreReadEntries v db olders rows.cards.items rows.entries.items → AreEntries v db.trees olders rows
+entries_are One db olders rows full read =
+    record { stand = read.read.all full; entries = read.made_entries; cards = read.made_cards }
+entries_are Two db olders rows full read =
+    record { cards = read.read_cards.all tt; entries = read.read_entries.all full }
+entries_are Three db olders rows full read =
+    record { cards = read.read_cards.all tt; entries = read.read_entries.all full }
+entries_are Four db olders rows full read =
+    record { cards = read.read_cards.all tt; entries = read.read_entries.all full.0 }
+
+rights_full : (v : Version) (db : Database) → AreFull v db.trees → AreRightsFull v db
+rights_full One db full = tt
+rights_full Two db full = tt
+rights_full Three db full = tt
+rights_full Four db full = full.1
+
+-- rows that were read of a database are all that it has
+pub record AreRead (v : Version) (db : Database) (olders : List OldEntry) (rows : Rows) : Type 0 where
+  pub sound : IsDatabase db
+  pub raws : AreRaws v db.trees olders rows
+  pub all : AreAll v db olders rows
+
+pub are_read : (v : Version) (old mid : State) (versions : List RawVersion) (olders : List OldEntry)
+    (rows : Rows) → rows.versions.items ≡ versions
     → (HasVersion old.now.schema → IsUnchanged old mid) → (HasVersion old.now.schema → IsDatabase old.now)
     → (HasVersion old.now.schema → AreVersions old.now.trees versions)
-    → (mid.now.schema ≡ newest_schema → AreAll mid.now rows) → IsOurs old.now → AreRead old.now rows
-are_read old mid versions rows is same sound are told ours =
-    let has = has_version _ ours.schema in
+    → (mid.now.schema ≡ schema_of v → AreAll v mid.now olders rows) → IsFullIn v old.now
+    → AreRead v old.now olders rows
+are_read v old mid versions olders rows is same sound are told ours =
+    let has = has_version_in v _ ours.schema in
     let now : mid.now ≡ old.now = (same has).0.now_is in
-    let all = subst (λ d. AreAll d rows) now (told (ap (λ (d : Database). d.schema) now ∙ ours.schema)) in
+    let all = subst (λ d. AreAll v d olders rows) now
+    (told (ap (λ (d : Database). d.schema) now ∙ ours.schema)) in
     record {
       sound = sound has;
       raws = record {
         versions = subst (AreVersions old.now.trees) (sym is) (are has);
         merchants = all.merchants.all tt;
         counts = all.counts.all tt;
-        cards = all.cards.all tt;
-        entries = all.entries.all ours.full;
+        entries = entries_are v old.now olders rows ours.full all.entries;
         records = all.records.all tt;
-        rights = all.rights.all tt;
+        rights = all.rights.all (rights_full v old.now ours.full);
         replaced = all.replaced;
       };
-      ordered = record {
-        merchants = all.merchants.ordered;
-        counts = all.counts.ordered;
-        cards = all.cards.ordered;
-        entries = all.entries.ordered;
-        records = all.records.ordered;
-        rights = all.rights.ordered;
-      };
+      all = all;
     }
 
-pub judged : (P : Type 0) (Q : Sizes → Type 0) (r : Result Sizes OpenFault) (rows : Rows)
-    → IfOk r (λ sizes. sizes ≡ counts_of rows)
-    → OnOk r ((n : ℕ) → keeps rows n ≡ true) → OnOk r (AreApart rows)
-    → (((n : ℕ) → keeps rows n ≡ true) → AreApart rows → P → Q (counts_of rows))
-    → IfOk r (λ sizes. P → Q sizes)
-judged P Q (Ok sizes) rows is keep apart f = λ p. subst Q (sym is) (f keep apart p)
-judged P Q (Err fault) rows is keep apart f = tt
+-- those of schema 1 as they stand
+pub olders_in : (v : Version) (db : Database) (olders : List OldEntry) (rows : Rows)
+    → AreRead v db olders rows
+    → AreOldersIn v db.trees olders
+olders_in One db olders rows read = read.raws.entries.stand
+olders_in Two db olders rows read = tt
+olders_in Three db olders rows read = tt
+olders_in Four db olders rows read = tt
+
+-- so in the newest version they are in the order of the rowids
+pub by_rowid : (db : Database) (olders : List OldEntry) (rows : Rows) → AreRead newest db olders rows
+    → AreByRowid rows
+by_rowid db olders rows read = record {
+  merchants = read.all.merchants.ordered;
+  counts = read.all.counts.ordered;
+  cards = read.all.entries.read_cards.ordered;
+  entries = read.all.entries.read_entries.ordered;
+  records = read.all.records.ordered;
+  rights = read.all.rights.ordered;
+}
 
 -- where no rowid comes twice in the tables, none does in the rows
-pub apart_of : (db : Trees) (rows : Rows) → AreRaws db rows
-    → IsApart (db 1) × IsApart (db 3) × IsApart (db 12) × IsApart (db 14) × IsApart (db 8) × IsApart (db 10)
+pub apart_of : (db : Trees) (olders : List OldEntry) (rows : Rows) → AreRaws newest db olders rows
+    → IsApart (db 17) × IsApart (db 3) × IsApart (db 12) × IsApart (db 14) × IsApart (db 8) × IsApart (db 19)
     → AreApart rows
-apart_of db rows raws apart = record {
+apart_of db olders rows raws apart = record {
   merchants = apart_permuted _ _ raws.merchants apart.0;
   counts = apart_permuted _ _ raws.counts apart.1;
-  cards = apart_permuted _ _ raws.cards apart.2;
-  entries = apart_permuted _ _ raws.entries apart.3;
+  cards = apart_permuted _ _ raws.entries.cards apart.2;
+  entries = apart_permuted _ _ raws.entries.entries apart.3;
   records = apart_permuted _ _ raws.records apart.4;
   rights = apart_permuted _ _ raws.rights apart.5;
 }
 
-module _ (db : Database) (it : StandsSound db) where
-  claimed : AreClaimed db.trees (tables_of (lookups_of it.vault) it.stands.cards it.stands.pointing)
-  claimed = as_fields db.trees _ it.stands.rows
+-- ---- a database that stands for a sound vault
 
-  -- the rows of a database that stands for a sound vault break no rule
-  pub never_broken : (rule : ℕ) → IsLeastBroken db rule → ⊥
+never_itself : (v : Version)
+    → (int_eq (pos 1) (pos 1) && not (int_eq (number_of v) (number_of v))) ≡ false
+never_itself One = refl
+never_itself Two = refl
+never_itself Three = refl
+never_itself Four = refl
+
+behind : (n : ℕ) (row : Row) → length (drop 1 row) ≡ n → 0 < n → n < length row
+behind n [] e some = absurd (omega (arith, e, some))
+behind n (v ∷ row) e some = omega (arith, e)
+
+-- rows of entries, and of rights that may end, have all their columns
+pointing_full : {rows : List Row} {held : Bytes × Bytes → _} → AreRowsOf pointing_row rows held
+    → AreLonger 7 rows
+pointing_full are row there =
+    let found = are.sound row there in behind 7 row (ap length found.2) (omega arith)
+
+olders_full : {rows : List Row} {held : Bytes × Bytes → _} → AreRowsOf entry_row rows held → AreLonger 7 rows
+olders_full are row there =
+    let found = are.sound row there in behind 7 row (ap length found.2) (omega arith)
+
+rights_are_full : {rows : List Row} {held : Bytes × (Bytes × Right) → _} → AreRowsOf right_row rows held
+    → AreLonger 4 rows
+rights_are_full are row there =
+    let found = are.sound row there in behind 4 row (ap length found.2) (omega arith)
+
+pub full_of : (v : Version) (db : Trees) (h : Lookups) → Stand v db h → AreFull v db
+full_of One db h s = olders_full s.rows.1.1.1.0
+full_of Two db h s = pointing_full s.rows.rows.1.1.1.1.1.1.1.0
+full_of Three db h s = pointing_full s.rows.rows.1.1.1.1.1.1.1.0
+full_of Four db h s = (
+  pointing_full s.rows.rows.1.1.1.1.1.1.1.0,
+  rights_are_full s.rows.rows.1.1.1.1.1.1.1.1.1.0,
+)
+
+module _ (v : Version) (db : Database) (it : StandsSoundIn v db) where
+  -- its rows break no rule
+  pub never_broken : (rule : ℕ) → IsBrokenIn v db rule → ⊥
   never_broken rule least =
-      let keys = apart_keys db it.schema least.is least.rows least.are
-      (apart_of db.trees least.rows least.are (
-        claimed.merchants.apart,
-        claimed.counts.apart,
-        claimed.cards.apart,
-        claimed.pointing.apart,
-        claimed.records.apart,
-        claimed.rights.apart,
-      )) in
+      let keys = keys_of v db it.schema least.is it.vault it.stand least.olders least.rows least.are in
       true≢false (sym (all_kept least.rows it.vault
-      (stands_shows db.trees it.vault it.stands least.rows least.are keys) it.sound keys rule)
-      ∙ least.least.broken)
+      (stands_shows v db it.schema least.is it.vault it.stand least.olders least.rows least.are) it.sound keys
+      rule) ∙ least.least.broken)
 
   -- nor do they say another version
-  pub never_other : (n : ℤ) → IsOtherVersion db n → ⊥
+  pub never_other : (n : ℤ) → IsVersionIn v db n → ⊥
   never_other n other =
-      let v = version_of 2 db.trees claimed.version other.versions other.are in
-      let same : is_other (pos 2) v.0 ≡ false = (λ i. int_eq (v.2 i) (pos 1) && not (int_eq (v.3 i) (pos 2)))
-      in
-      let none : other_version other.versions ≡ None =
-      ap other_version v.1
-      ∙ ap (λ b. option_map (λ (v : RawVersion). v.version) (cond b (Some v.0) None)) same in
+      let row = version_row v db.trees (lookups_of it.vault) it.stand other.versions other.are in
+      let same : is_other (number_of v) row.0 ≡ false =
+      (λ i. int_eq (row.2 i) (pos 1) && not (int_eq (row.3 i) (number_of v))) ∙ never_itself v in
+      let none : other_than (number_of v) other.versions ≡ None =
+      ap (other_than (number_of v)) row.1
+      ∙ ap (λ b. option_map (λ (v : RawVersion). v.version) (cond b (Some row.0) None)) same in
       let clash = sym none ∙ other.says in cc
 
-  -- and each row of `entries2` has all its columns
-  pub ours_of : IsOurs db
-  ours_of = record {
-    schema = it.schema;
-    full = λ row there. let found = claimed.pointing.sound row there in behind row (ap length found.2);
-  }
-    where
-      behind : (row : Row) → length (drop 1 row) ≡ 7 → 7 < length row
-      behind [] e = absurd (omega (arith, e))
-      behind (v ∷ row) e = omega (arith, e)
+  pub full_in : IsFullIn v db
+  full_in = record { schema = it.schema; full = full_of v db.trees (lookups_of it.vault) it.stand }
 
--- a database that is fit is refused by no version and no rule
+-- a database that stands for a sound vault in a version is refused there by no version and no rule
+pub no_refusal_in : {A : Type 0} (v : Version) (db : Database) (r : Result A OpenFault)
+    → IfErr r (λ e. (rule : ℕ) → e ≡ Damaged rule → IsFullIn v db → IsBrokenIn v db rule)
+    → IfErr r (λ e. (n : ℤ) → e ≡ WrongSchema n → db.schema ≡ schema_of v → IsVersionIn v db n)
+    → IfErr r (λ e. StandsSoundIn v db → IsNoRefusal e)
+no_refusal_in v db (Ok a) damaged versioned = tt
+no_refusal_in v db (Err e) damaged versioned = λ it. (
+  λ n same. never_other v db it n (versioned n same it.schema),
+  λ rule same. never_broken v db it rule (damaged rule same (full_in v db it)),
+)
+
+-- so one that is fit is refused by neither in the newest
 pub no_refusal : {A : Type 0} (db : Database) → db.schema ≡ newest_schema → (r : Result A OpenFault)
     → IfErr r (λ e. (rule : ℕ) → e ≡ Damaged rule → IsOurs db → IsLeastBroken db rule)
     → IfErr r (λ e. (n : ℤ) → e ≡ WrongSchema n → db.schema ≡ newest_schema → IsOtherVersion db n)
@@ -173,8 +240,10 @@ pub no_refusal : {A : Type 0} (db : Database) → db.schema ≡ newest_schema �
 no_refusal db vault (Ok a) damaged versioned = tt
 no_refusal db vault (Err e) damaged versioned = λ fit. elim fit as (λ _. IsNoRefusal e) [
   | inl it ↦ (
-    λ n same. never_other db it n (versioned n same vault),
-    λ rule same. never_broken db it rule (damaged rule same (ours_of db it)),
+    λ n same.
+        let other = versioned n same vault in
+        never_other newest db it n (record { versions = other.versions; are = other.are; says = other.says }),
+    λ rule same. never_broken newest db it rule (damaged rule same (full_in newest db it)),
   )
   | inr blank ↦ absurd (apart (sym blank ∙ vault))
 ]

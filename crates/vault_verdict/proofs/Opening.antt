@@ -32,7 +32,7 @@ opens_vault old new autocommit sizes is idle unlimited settled ours limit sound 
   ours =
       λ it.
       let found = (sound it).it in (
-        record { vault = found.vault; sound = found.sound; holds = holds it found.vault found.stands },
+        record { vault = found.vault; sound = found.sound; holds = holds it found.vault found.stand.rows },
         (kept it.schema).0.now_is,
       );
   same = holds;

@@ -1,6 +1,7 @@
 -- What a reading of a table comes to, from its query.
 use Rattle.std.proofs.Common.{◌≡◌, ℤ, ℕ, ◌+◌, ◌<◌, List, [], ◌∷◌, map, length, sym, ap, ap₂, subst, ◌∙◌}
-use Rattle.std.proofs.Common.{arith, Result, Ok, Err, IsErrAnd}
+use Rattle.std.proofs.Common.{◌++◌, arith, Result, Ok, Err, IsErrAnd, None, Some, refl, slice_get, true}
+use Rattle.std.specs.List.{list_all}
 use Rattle.std.proofs.lemmas.List.{get_or-map, length-map}
 use Rattle.std.proofs.lemmas.List.Sorted.{length_permutation}
 use Rattle.std.specs.Global.{Vec}
@@ -12,15 +13,21 @@ use Rattle.sqlite.specs.Held.{Held, state}
 use Rattle.sqlite.specs.Order.{Row, value_cmp}
 use Rattle.sqlite.specs.Schema.{Schema}
 use Rattle.sqlite.specs.State.{State, Shown}
-use Rattle.sqlite.specs.Term.{Term, col}
-use Rattle.sqlite.specs.Tree.{rowid}
+use Rattle.sqlite.specs.Term.{Term, col, lit}
+use Rattle.sqlite.specs.Tree.{Trees, rowid}
+use Rattle.sqlite.specs.declared.types.Value.{Value}
 use Rattle.sqlite.specs.declared.types.Value.TheVariants.{Null, Int}
 use Rattle.sqlite_value.proofs.OrderLemmas.{value_cmp-Int}
 use Rattle.sqlite_trees.specs.declared.store.Store.{Ghosts}
+use Rattle.sqlite_value.specs.declared.keys.Key.{Key}
+use Rattle.sql_maps.proofs.Beside.{beside, shown_beside}
+use Rattle.sql_maps.proofs.Full.{all_columns, shown_full}
 use Rattle.sql_maps.proofs.Ordered.{by_rowid}
+use Rattle.sql_maps.specs.Schema.{Descriptor, table_of}
 use Rattle.sql_maps.proofs.Reading.{reads_all}
 use Rattle.sql_maps.specs.Texts.{IsQuery, ordered_by, sorted_of}
-use Rattle.vault_verdict.specs.Reading.{CountsTable, ReadsRows, ReadsTable}
+use Rattle.vault_verdict.specs.ReadAs.{any_left}
+use Rattle.vault_verdict.specs.Reading.{ReadsRows, ReadsTable, TellsAny}
 use Rattle.vault_verdict.specs.declared.fault.ReadFault.{ReadFault}
 
 -- what a query orders by the rowid is in the order of the raw rows' rowids
@@ -51,39 +58,61 @@ many_read {s = s} {text = text} old new {tree} more means has values raws shown 
     sym (length-map raws values) ∙ length_permutation _ (map values raws) all
     ∙ length-map (old.now.trees tree) _
 
+-- lists of one length are empty or not together
+any_same : {X Y : Type 0} (xs : List X) (ys : List Y) → length xs ≡ length ys → any_left xs ≡ any_left ys
+any_same [] [] same = refl
+any_same [] (y ∷ ys) same = absurd (omega (arith, same))
+any_same (x ∷ xs) [] same = absurd (omega (arith, same))
+any_same (x ∷ xs) (y ∷ ys) same = refl
+
+-- SELECT of all columns and a constant: the rows as they stand, with it beside them
+module _ (s : Schema) (old new : State) (has : old.now.schema ≡ s) (sound : IsDatabase old.now)
+    (text : List ℕ) (rows : List Row) (d : Descriptor) (place : ℕ)
+    (here : slice_get s.tables place ≡ Some (table_of d)) (order : List (Term × Key)) (v : Value) where
+  pub reads_beside : IsQuery s text (sorted_of d.tree []
+      (all_columns (length d.columns) ++ lit v ∷ []) [] order)
+      → Shown text [] old new rows → d.rowid ≡ None → 0 < length d.columns
+      → list_all (λ c. c.not_null) d.columns ≡ true
+      → IsPermutation (map (beside v) (old.now.trees d.tree)) rows
+  reads_beside means shown ordinary some always = subst (λ l. IsPermutation l rows)
+      (shown_beside [] (length d.columns) v (old.now.trees d.tree)
+      (shown_full s old.now has sound d ordinary place here [] some always))
+      (reads_all s old new has text rows d.tree _ order means shown)
+
 -- the rows of a table, by what a text means
 module _ {S : Type 0} (g : Ghosts S) {R : Type 0} {s : Schema} {text : List ℕ} {values : R → Row}
     (old new : Held S) where
   module _ {tree : ℕ} (more : List Term)
       (means : IsQuery s text (sorted_of tree [] (col 1 0 ∷ more) [] (ordered_by (0 ∷ [])))) where
-    pub reads_table : {Full : Database → Type 0} {stands : R → Row} {id : R → ℤ}
-        → ((m : R) → rowid (values m) ≡ Int (id m))
+    pub reads_table : {Full : Database → Type 0} {rows : Trees → List Row} {stands : R → Row} {id : R → ℤ}
+        → ((m : R) → rowid (values m) ≡ Int (id m)) → ((t : Trees) → length (rows t) ≡ length (t tree))
         → (result : Result (Vec R) ReadFault) → ReadsRows g text values s result old new
         → ((raws : List R) → (state g old).now.schema ≡ s → IsDatabase (state g old).now
         → Full (state g old).now → Shown text [] (state g old) (state g new) (map values raws)
-        → IsPermutation ((state g old).now.trees tree) (map stands raws))
-        → ReadsTable g text values s Full tree stands id result old new
-    reads_table {id = id} is (Ok raws) read whole = record {
+        → IsPermutation (rows (state g old).now.trees) (map stands raws))
+        → ReadsTable g text values s Full rows stands id result old new
+    reads_table {id = id} is many (Ok raws) read whole = record {
       reads = read.reads;
       told = λ clean has. record {
         sound = read.sound clean has;
-        many = many_read (state g old) (state g new) more means has values raws.items (read.told clean has);
+        many = many_read (state g old) (state g new) more means has values raws.items (read.told clean has)
+            ∙ sym (many (state g old).now.trees);
         all = λ full. whole raws.items has (read.sound clean has) full (read.told clean has);
         ordered = ids_ascend id values is raws.items
             (shown_by_rowid _ more means (state g old) (state g new) has _ (read.told clean has));
       };
       refused = read.refused;
     }
-    reads_table is (Err fault) read whole = record {
+    reads_table is many (Err fault) read whole = record {
       reads = read.reads;
       told = λ clean has. tt;
       refused = read.refused;
     }
 
-    -- where as many are told as were read
-    pub counts_table : (raws : Vec R) → ReadsRows g text values s (Ok raws) old new → (many : ℕ)
-        → many ≡ length raws.items → CountsTable g text values s tree (Ok many) old new
-    counts_table raws read many is = record {
+    -- where it is told whether any were read
+    pub tells_any : (raws : Vec R) → ReadsRows g text values s (Ok raws) old new → (n : ℕ)
+        → n ≡ any_left raws.items → TellsAny g text values s (λ t. t tree) (Ok n) old new
+    tells_any raws read n is = record {
       reads = record {
         clean = read.reads.clean;
         mode = read.reads.mode;
@@ -91,17 +120,18 @@ module _ {S : Type 0} (g : Ghosts S) {R : Type 0} {s : Schema} {text : List ℕ}
         left = read.reads.left;
         kept = read.reads.kept;
       };
-      told = λ clean has. is ∙ many_read (state g old) (state g new) more means has values raws.items
-          (read.told clean has);
+      told = λ clean has.
+          is ∙ any_same raws.items ((state g old).now.trees tree)
+          (many_read (state g old) (state g new) more means has values raws.items (read.told clean has));
       refused = λ clean has. tt;
     }
 
   -- and where none were
-  pub counts_none : {tree : ℕ} (fault : ReadFault) → ReadsRows g text values s (Err fault) old new
+  pub tells_none : {tree : ℕ} (fault : ReadFault) → ReadsRows g text values s (Err fault) old new
       → (result : Result ℕ ReadFault) → IsErrAnd result (λ e. e ≡ fault)
-      → CountsTable g text values s tree result old new
-  counts_none fault read (Ok many) same = absurd same
-  counts_none fault read (Err e) same = record {
+      → TellsAny g text values s (λ t. t tree) result old new
+  tells_none fault read (Ok n) same = absurd same
+  tells_none fault read (Err e) same = record {
     reads = record {
       clean = read.reads.clean;
       mode = read.reads.mode;

@@ -1,5 +1,6 @@
 -- What holds of a result, from what holds of it.
-use Rattle.std.proofs.Common.{◌≡◌, ◌≢◌, ◌∙◌, refl, sym, ℕ, ℤ, Ok, Err, Result, IfOk, IfErr, IsErrAnd, OnOk}
+use Rattle.std.proofs.Common.{◌≡◌, ◌≢◌, ◌∙◌, refl, subst, sym, ℕ, ℤ, Ok, Err, Result, IfOk, IfErr, IsErrAnd}
+use Rattle.std.proofs.Common.{OnOk}
 use Rattle.sqlite.specs.Schema.{Schema}
 use Rattle.sqlite.specs.State.{State}
 use Rattle.sql_maps.specs.States.{Reads}
@@ -76,3 +77,9 @@ pub passed : {A P : Type 0} (r : Result A ReadFault) (fault : ReadFault) → IsE
     → (fault ≡ read.Store → P) → IfErr r (λ e. e ≡ read.Store → P)
 passed (Ok a) fault same none = tt
 passed (Err e) fault same none = λ store. none (sym same ∙ store)
+
+-- a fault that `?` passes on says the same
+pub passed_as : {A E : Type 0} (P : E → Type 0) (r : Result A E) (fault : E) → IsErrAnd r (λ e. e ≡ fault)
+    → P fault → IfErr r P
+passed_as P (Ok a) fault same p = tt
+passed_as P (Err e) fault same p = subst P (sym same) p

@@ -12,7 +12,7 @@ use Rattle.vault_verdict.proofs.InTree.{in_items, in_tree}
 use Rattle.vault_verdict.proofs.Pointers.{one_number, pointing_are}
 use Rattle.vault_verdict.proofs.Table.{pair_of, row_at}
 use Rattle.vault_verdict.proofs.Tables as tables
-use Rattle.vault_verdict.specs.Opened.{AreRaws}
+use Rattle.vault_verdict.specs.ReadAs.{AreCards}
 use Rattle.vault_verdict.specs.Raw.{card_row, int_value}
 use Rattle.vault_verdict.specs.Raw as raw
 use Rattle.vault_rules.proofs.Held.{card_held}
@@ -62,7 +62,7 @@ module _ (db : Trees) {cards : ℤ → Option Card} {pointing : Bytes × Bytes �
     {entries : Bytes × Bytes → Option Entry} (all : AreJoined nothing_owed cards pointing entries)
     (card_rows : AreRowsById card_columns (db 12) cards)
     (entry_rows : AreRowsOf pointing_row (db 14) pointing)
-    (rows : Rows) (raws : AreRaws db rows) (apart : HasKeysApart rows) where
+    (rows : Rows) (raws : AreCards db rows) (apart : HasKeysApart rows) where
   -- the row of a card
   card_at : (id : ℤ) (c : Card) → cards id ≡ Some c
       → (x : RawCard) × (card_of rows.cards.items id ≡ Some x) × IsCardRow x id c

@@ -1,27 +1,32 @@
--- A database whose rows keep the rules stands for the vault of its rows.
-use Rattle.std.proofs.Common.{◌≡◌, ℕ, zero, pos, List, [], ◌∷◌, drop, length, map, true, cond, Some, None}
+-- A database whose rows keep the rules stands for the vault of its rows, table by table.
+use Rattle.std.proofs.Common.{◌≡◌, ℕ, ℤ, zero, pos, List, [], ◌∷◌, drop, map, true, Option, Some, None}
 use Rattle.std.proofs.Common.{option_map, refl, sym, ap, ◌∙◌, arith, string_bytes}
 use Rattle.sqlite.specs.Effect.{Database, IsDatabase}
-use Rattle.sqlite.specs.Order.{Row}
-use Rattle.sqlite.specs.declared.types.Value.TheVariants.{Int, Text}
 use Rattle.sqlite.specs.Table.{Table as SqlTable}
+use Rattle.sqlite.specs.declared.types.Value.TheVariants.{Null, Int, Text}
 use Rattle.sqlite_rules.specs.Lists.{Has}
 use Rattle.sqlite_schema.specs.declared.schema.Index.{Index}
-use Rattle.sql_maps.specs.Rows.{AreRowsOf, IsApart}
-use Rattle.sql_maps.specs.Schema.{grown}
+use Rattle.sql_maps.proofs.Keys.{IsGuarded}
+use Rattle.sql_maps.specs.Rows.{AreRowsById, AreRowsOf, IsApart}
+use Rattle.sql_maps.specs.Schema.{columns_to, grown, guards_of, table_of}
 use Rattle.std.specs.List.Sorted.{IsPermutation}
+use Rattle.vault_core.proofs.Finds.{some_same}
 use Rattle.vault_core.specs.Keys.{Bytes}
+use Rattle.vault_core.specs.Vault.{Merchant, merchant_at}
 use Rattle.vault_core.specs.declared.row.Entry.{Entry}
-use Rattle.vault_verdict.proofs.AsClaims.{AreClaimed, as_claims}
-use Rattle.vault_verdict.proofs.Backs.{given_back, some_unless, unless_some}
-use Rattle.vault_verdict.proofs.CardRows.{cards_by_id, ids_apart, numbers_apart}
+use Rattle.vault_core.specs.declared.row.GrantRow.{GrantRow}
+use Rattle.vault_pan.specs.Mask.{lead_digits}
+use Rattle.vault_pan.specs.declared.lead.Lead.{Lead}
+use Rattle.vault_pan.specs.declared.lead.Lead.TheVariants.{Six, Eight}
+use Rattle.vault_verdict.proofs.Backs.{moment_as, some_unless, unless_some}
+use Rattle.vault_verdict.proofs.CardRows.{cards_by_id, numbers_apart}
+use Rattle.vault_verdict.proofs.InVersion.{behind, counts_free, indexes_behind, merchants_free, records_free}
+use Rattle.vault_verdict.proofs.InVersion.{rights_free, schema_is}
 use Rattle.vault_verdict.proofs.Joining.{cards_in, entry_first, pointing_in, pointing_value, rows_joined}
-use Rattle.vault_verdict.proofs.Table.{keys_apart, stand_for}
+use Rattle.vault_verdict.proofs.Table.{stand_for}
 use Rattle.vault_verdict.proofs.Tables as tables
-use Rattle.vault_verdict.proofs.VersionRows.{version_stands}
-use Rattle.vault_verdict.specs.Apart.{AreApart}
-use Rattle.vault_verdict.specs.Opened.{AreRaws}
 use Rattle.vault_verdict.specs.Raw as raw
+use Rattle.vault_verdict.specs.ReadAs.{AreCards}
 use Rattle.vault_rules.proofs.Counts.{counts_are, count_cases}
 use Rattle.vault_rules.proofs.FoundRows.{entry_found, record_row, right_row}
 use Rattle.vault_rules.proofs.Held.{card_held}
@@ -30,36 +35,43 @@ use Rattle.vault_rules.proofs.Numbers.{pos_same}
 use Rattle.vault_rules.proofs.Options.{mapped_is}
 use Rattle.vault_rules.proofs.RowsShow.{rows_show, count_held}
 use Rattle.vault_rules.specs.Rules.{keeps}
-use Rattle.vault_rules.specs.Showing.{ShowsEntry}
+use Rattle.vault_rules.specs.Showing.{Shows, ShowsEntry}
 use Rattle.vault_rules.specs.VaultOf.{HasKeysApart, vault_of, natural, entry_key}
-use Rattle.vault_rules.specs.declared.rows.RawVersion.{RawVersion}
 use Rattle.vault_rules.specs.declared.rows.RawCard.{RawCard}
 use Rattle.vault_rules.specs.declared.rows.RawCount.{RawCount}
 use Rattle.vault_rules.specs.declared.rows.RawEntry.{RawEntry}
+use Rattle.vault_rules.specs.declared.rows.RawMerchant.{RawMerchant}
+use Rattle.vault_rules.specs.declared.rows.RawRight.{RawRight}
 use Rattle.vault_rules.specs.declared.rows.Rows.{Rows}
-use Rattle.vault_schema.specs.Version1.Rows as row
-use Rattle.vault_schema.specs.Version1.Tables.{v1}
-use Rattle.vault_schema.specs.Version1.Tables as v1tables
-use Rattle.vault_schema.specs.Version2.Rows.{pointing_row}
-use Rattle.vault_schema.specs.Version2.Tables.{tables2, indexes2}
-use Rattle.vault_schema.specs.Schema.{newest_schema}
-use Rattle.vault_schema.specs.Stands.{Stands, count_at, lives_in, lookups_of, tables_of, unless_zero}
+use Rattle.vault_schema.specs.Stands.{count_at, lives_in, lookups_of, unless_zero}
+use Rattle.vault_schema.specs.Version1.Rows as one
+use Rattle.vault_schema.specs.Version1.Rows.{number_or_null}
+use Rattle.vault_schema.specs.Version2.Joined.{AreJoined, nothing_owed}
+use Rattle.vault_schema.specs.Version2.Rows.{card_columns, pointing_row}
+use Rattle.vault_schema.specs.Version2.Tables as v2
+use Rattle.vault_schema.specs.Version2.Tables.{v2 as second_schema}
+use Rattle.vault_schema.specs.Version3.Rows as three
+use Rattle.vault_schema.specs.Version3.Tables as v3
+use Rattle.vault_schema.specs.Version3.Tables.{v3 as third_schema}
+use Rattle.vault_schema.specs.Version4.Rows as four
+use Rattle.vault_schema.specs.Version4.Tables.{v4}
+use Rattle.vault_schema.specs.Versions.{AreEndless, AreSix, Lookups, schema_of}
+use Rattle.vault_schema.specs.declared.version.Version.{Version}
 
--- a key that is UNIQUE comes once
-pub apart_keys : (db : Database) → db.schema ≡ newest_schema → IsDatabase db → (rows : Rows)
-    → AreRaws db.trees rows → AreApart rows → HasKeysApart rows
-apart_keys db ours sound rows raws up = record {
-  merchants = keys_apart tables.merchants db ours sound _ raws.merchants up.merchants;
-  counts = keys_apart tables.counts db ours sound _ raws.counts up.counts;
-  cards = ids_apart db _ raws.cards up.cards;
-  entries = keys_apart tables.entries db ours sound _ raws.entries up.entries;
-  records = keys_apart tables.records db ours sound _ raws.records up.records;
-  rights = keys_apart tables.rights db ours sound _ raws.rights up.rights;
-}
+six_told : (lead : Lead) → lead_digits lead ≡ 6 → lead ≡ Six
+six_told Six is = refl
+six_told Eight is = absurd cc
 
-none_there : (rows : List Row) → length rows ≡ 0 → rows ≡ []
-none_there [] none = refl
-none_there (r ∷ rows) none = cc
+no_end : (ends : Option ℤ) → raw.int_value ends ≡ Null → ends ≡ None
+no_end None is = refl
+no_end (Some n) is = absurd cc
+
+none_back : (o : Option ℕ) → option_map pos o ≡ None → o ≡ None
+none_back None is = refl
+none_back (Some n) is = absurd cc
+
+digits_of : (lead : Lead) (n : ℤ) → n ≡ pos (lead_digits lead) → Int n ≡ Int (pos 6) → lead_digits lead ≡ 6
+digits_of lead n shown six = let same : n ≡ pos 6 = cc in pos_same (sym shown ∙ same)
 
 -- a row of an entry is listed as it points
 entry_listed : (cards : List RawCard) (e : RawEntry) (entry : Entry) → ShowsEntry cards e entry
@@ -67,6 +79,12 @@ entry_listed : (cards : List RawCard) (e : RawEntry) (entry : Entry) → ShowsEn
 entry_listed cards e entry it = grind (arith, it.usage, it.birth, it.expires, it.revoked)
 
 module _ (rows : Rows) (apart : HasKeysApart rows) (keep : (r : ℕ) → keeps rows r ≡ true) where
+  abbrev h : Lookups
+  h = lookups_of (vault_of rows)
+
+  shows : Shows rows (vault_of rows)
+  shows = rows_show rows apart keep
+
   abbrev HasRow : Bytes × ℕ → Type 0
   HasRow k = (c : RawCount) × Has rows.counts.items c × ((string_bytes c.merchant, natural c.kind) ≡ k)
 
@@ -78,101 +96,159 @@ module _ (rows : Rows) (apart : HasKeysApart rows) (keep : (r : ℕ) → keeps r
       (λ c row e. (c, row.there, λ i. (row.merchant_is i, natural (row.kind_is i))))
       (counts_are rows apart keep k.0 k.1 ∙ ap pos it.0)
 
-  -- the tables that each schema has stand for what the rows have
-  module _ (others : List SqlTable) (indexes : List Index) (db : Database)
-      (ours : db.schema ≡ grown v1 others indexes) (sound : IsDatabase db) where
-    pub merchants_stand : tables.IsFree others indexes v1tables.merchants 1
-        → IsPermutation (db.trees 1) (map raw.merchant_values rows.merchants.items)
+  -- ---- what older versions can't hold has its default
+
+  pub are_six : ((m : RawMerchant) → Has rows.merchants.items m → Int m.lead ≡ Int (pos 6)) → AreSix h
+  are_six six name x is =
+      let merchant = mapped_is lives_in (merchant_at (vault_of rows) name) x is in
+      let row = shows.merchants_there name merchant.0 merchant.1 in
+      let it = shows.merchants row.0 row.1 in
+      let same : it.0 ≡ merchant.0 =
+      some_same (sym it.1 ∙ ap (merchant_at (vault_of rows)) row.2 ∙ merchant.1) in
+      let lead = six_told it.0.lead (digits_of it.0.lead row.0.lead it.2.lead (six row.0 row.1)) in
+      sym (ap (λ (y : _). y.lead) merchant.2) ∙ sym (ap (λ (y : Merchant). y.lead) same) ∙ lead
+
+  pub are_endless : ((r : RawRight) → Has rows.rights.items r → raw.int_value r.ends ≡ Null) → AreEndless h
+  are_endless endless key g is =
+      let row = right_row rows key.0 key.1.0 key.1.1 g is in
+      let it = shows.rights row.0 row.1 in
+      let none = no_end row.0.ends (endless row.0 row.1) in
+      sym (ap (λ (x : GrantRow). x.ends) row.3) ∙ ap (option_map natural) none
+
+  module _ (db : Database) (sound : IsDatabase db) where
+    -- ---- the tables that each version has
+
+    module _ (v : Version) (ours : db.schema ≡ schema_of v) where
+      pub counts_stand : IsPermutation (db.trees 3) (map raw.count_values rows.counts.items)
+          → IsApart (map raw.count_values rows.counts.items) → AreRowsOf one.count_row (db.trees 3) h.counts
+      counts_stand are up =
+          stand_for (tables.counts_in (behind v) (indexes_behind v) (counts_free v)) db (ours ∙ schema_is v)
+          sound _ are up
+          (λ c h.
+          let it = counts_well rows keep c h in
+          let at = ap unless_zero (sym (count_held rows apart keep c h)) ∙ unless_some _ it.total.low_is in
+          let name = string_bytes c.merchant in
+          (_, _, (λ i. Text name ∷ Int (it.kind.is i) ∷ Int (it.total.is i) ∷ []), at))
+          counts_there
+
+      pub records_stand : IsPermutation (db.trees 8) (map raw.record_values rows.records.items)
+          → IsApart (map raw.record_values rows.records.items)
+          → AreRowsOf one.record_row (db.trees 8) h.records
+      records_stand are up =
+          stand_for (tables.records_in (behind v) (indexes_behind v) (records_free v)) db (ours ∙ schema_is v)
+          sound _ are up
+          (λ r h.
+          let it = shows.records r h in
+          let listed : drop 1 (raw.record_values r) ≡ one.record_row _ it.1 = grind (arith, it.2, it.4) in
+          ((string_bytes r.caller, it.0), it.1, listed, it.3))
+          (λ k x h. let it = record_row rows k.0 k.1 x h in (it.0, it.1, it.2))
+
+      pub old_merchants_stand : IsPermutation (db.trees 1)
+          (map tables.old_merchant_values rows.merchants.items)
+          → IsApart (map tables.old_merchant_values rows.merchants.items)
+          → AreRowsOf one.merchant_row (db.trees 1) (λ m. option_map three.older (h.merchants m))
+      old_merchants_stand are up =
+          stand_for (tables.old_merchants_in (behind v) (indexes_behind v) (merchants_free v)) db
+          (ours ∙ schema_is v) sound _ are up
+          (λ m there.
+          let it = shows.merchants m there in
+          let name = string_bytes m.name in
+          let listed : drop 1 (tables.old_merchant_values m) ≡ one.merchant_row name
+          (three.older (lives_in it.0)) =
+          grind (arith, it.2) in (
+            name,
+            three.older (lives_in it.0),
+            listed,
+            ap (λ o. option_map three.older (option_map lives_in o)) it.1,
+          ))
+          (λ name x is.
+          let lives = mapped_is three.older (h.merchants name) x is in
+          let it = mapped_is lives_in (merchant_at (vault_of rows) name) lives.0 lives.1 in
+          shows.merchants_there name it.0 it.1)
+
+      pub old_rights_stand : IsPermutation (db.trees 10) (map tables.old_right_values rows.rights.items)
+          → IsApart (map tables.old_right_values rows.rights.items)
+          → AreRowsOf one.right_row (db.trees 10) (λ key. option_map four.older (h.rights key))
+      old_rights_stand are up =
+          stand_for (tables.old_rights_in (behind v) (indexes_behind v) (rights_free v)) db (ours
+          ∙ schema_is v)
+          sound _ are up
+          (λ r there.
+          let it = shows.rights r there in
+          let listed : drop 1 (tables.old_right_values r) ≡ one.right_row _ tt = grind (arith, it.2) in (
+            (string_bytes r.caller, (string_bytes r.merchant, it.0)),
+            tt,
+            listed,
+            ap (option_map four.older) it.3,
+          ))
+          (λ k x is.
+          let g = mapped_is four.older (h.rights k) x is in
+          let it = right_row rows k.0 k.1.0 k.1.1 g.0 g.1 in
+          (it.0, it.1, it.2))
+
+    -- ---- those that later ones brought
+
+    pub merchants_stand : (others : List SqlTable) (indexes : List Index)
+        → guards_of indexes (table_of v3.merchants) (columns_to 1) ≡ []
+        → db.schema ≡ grown third_schema others indexes
+        → IsPermutation (db.trees 17) (map raw.merchant_values rows.merchants.items)
         → IsApart (map raw.merchant_values rows.merchants.items)
-        → AreRowsOf row.merchant_row (db.trees 1) (lookups_of (vault_of rows)).merchants
-    merchants_stand free are up =
-        let shows = rows_show rows apart keep in
+        → AreRowsOf three.merchant_row (db.trees 17) h.merchants
+    merchants_stand others indexes free ours are up =
         stand_for (tables.merchants_in others indexes free) db ours sound _ are up
-        (λ m h.
-        let it = shows.merchants m h in
+        (λ m there.
+        let it = shows.merchants m there in
         let name = string_bytes m.name in
-        let listed : drop 1 (raw.merchant_values m) ≡ row.merchant_row name _ = grind (arith, it.2) in
+        let listed : drop 1 (raw.merchant_values m) ≡ three.merchant_row name (lives_in it.0) =
+        grind (arith, it.2) in
         (name, lives_in it.0, listed, ap (option_map lives_in) it.1))
-        (λ name x h. let it = mapped_is lives_in _ x h in shows.merchants_there name it.0 it.1)
+        (λ name x is.
+        let it = mapped_is lives_in (merchant_at (vault_of rows) name) x is in
+        shows.merchants_there name it.0 it.1)
 
-    pub counts_stand : tables.IsFree others indexes v1tables.counts 2
-        → IsPermutation (db.trees 3) (map raw.count_values rows.counts.items)
-        → IsApart (map raw.count_values rows.counts.items)
-        → AreRowsOf row.count_row (db.trees 3) (lookups_of (vault_of rows)).counts
-    counts_stand free are up =
-        stand_for (tables.counts_in others indexes free) db ours sound _ are up
-        (λ c h.
-        let it = counts_well rows keep c h in
-        let at = ap unless_zero (sym (count_held rows apart keep c h)) ∙ unless_some _ it.total.low_is in
-        let name = string_bytes c.merchant in
-        (_, _, (λ i. Text name ∷ Int (it.kind.is i) ∷ Int (it.total.is i) ∷ []), at))
-        counts_there
+    pub rights_stand : db.schema ≡ v4 → IsPermutation (db.trees 19) (map raw.right_values rows.rights.items)
+        → IsApart (map raw.right_values rows.rights.items) → AreRowsOf four.right_row (db.trees 19) h.rights
+    rights_stand ours are up =
+        stand_for tables.rights db ours sound _ are up
+        (λ r there.
+        let it = shows.rights r there in
+        let what = it.2 in
+        let ends : raw.int_value r.ends ≡ number_or_null it.1.ends = ap raw.int_value it.4
+        ∙ moment_as it.1.ends in (
+          (string_bytes r.caller, (string_bytes r.merchant, it.0)),
+          it.1,
+          λ i. Text (string_bytes r.caller) ∷ Text (string_bytes r.merchant) ∷ Int (what i) ∷ ends i ∷ [],
+          it.3,
+        ))
+        (λ k g is. let it = right_row rows k.0 k.1.0 k.1.1 g is in (it.0, it.1, it.2))
 
-    pub records_stand : tables.IsFree others indexes v1tables.records 2
-        → IsPermutation (db.trees 8) (map raw.record_values rows.records.items)
-        → IsApart (map raw.record_values rows.records.items)
-        → AreRowsOf row.record_row (db.trees 8) (lookups_of (vault_of rows)).records
-    records_stand free are up =
-        let shows = rows_show rows apart keep in
-        stand_for (tables.records_in others indexes free) db ours sound _ are up
-        (λ r h.
-        let it = shows.records r h in
-        let listed : drop 1 (raw.record_values r) ≡ row.record_row _ it.1 = grind (arith, it.2, it.4) in
-        ((string_bytes r.caller, it.0), it.1, listed, it.3))
-        (λ k x h. let it = record_row rows k.0 k.1 x h in (it.0, it.1, it.2))
+    -- cards, and the entries that point at them
+    module _ (others : List SqlTable) (indexes : List Index)
+        (free : guards_of indexes (table_of v2.entries) (columns_to 2) ≡ [])
+        (guarded : IsGuarded (grown second_schema others indexes).indexes (table_of v2.cards) (2 ∷ 3 ∷ []))
+        (ours : db.schema ≡ grown second_schema others indexes) (are : AreCards db.trees rows)
+        (cards_up : IsApart (map raw.card_row rows.cards.items))
+        (entries_up : IsApart (map raw.entry_values rows.entries.items)) where
+      pub cards_stand : AreRowsById card_columns (db.trees 12) (cards_in rows.cards.items)
+      cards_stand = cards_by_id db _ are.cards cards_up (card_held rows apart)
+          (λ c there. let it = (shows.cards c there).uses in it ∙ ap (λ z. pos (natural z)) (sym it))
 
-    pub rights_stand : tables.IsFree others indexes v1tables.rights 3
-        → IsPermutation (db.trees 10) (map raw.right_values rows.rights.items)
-        → IsApart (map raw.right_values rows.rights.items)
-        → AreRowsOf row.right_row (db.trees 10) (lookups_of (vault_of rows)).rights
-    rights_stand free are up =
-        let shows = rows_show rows apart keep in
-        stand_for (tables.rights_in others indexes free) db ours sound _ are up
-        (λ r h.
-        let it = shows.rights r h in
-        let listed : drop 1 (raw.right_values r) ≡ row.right_row _ tt = grind (arith, it.1) in
-        (_, tt, listed, ap (λ b. cond b (Some tt) None) it.2))
-        (λ k x h. right_row rows k.0 k.1.0 k.1.1 (given_back _ x h))
+      pub pointing_stand : AreRowsOf pointing_row (db.trees 14) (pointing_in rows.entries.items)
+      pointing_stand = stand_for (tables.entries_in others indexes free) db ours sound _ are.entries
+          entries_up
+          (λ e there.
+          let it = (shows.entries e there).2 in (
+            entry_key e,
+            pointing_value e,
+            entry_listed rows.cards.items e _ it,
+            ap (option_map pointing_value) (entry_first rows.entries.items apart.entries e there),
+          ))
+          (λ k x is.
+          let it = mapped_is pointing_value _ x is in
+          let found = entry_found rows.entries.items k.0 k.1 it.0 it.1 in
+          (it.0, found.there, λ i. (found.merchant_is i, found.token_is i)))
 
-  -- where the version is 2, the tables have what the rows have
-  they_claim : (db : Database) → AreRaws db.trees rows → AreApart rows → db.schema ≡ newest_schema
-      → IsDatabase db → (v : RawVersion) → rows.versions.items ≡ v ∷ [] → v.id ≡ pos 1 → v.version ≡ pos 2
-      → AreClaimed db.trees (tables_of (lookups_of (vault_of rows)) (cards_in rows.cards.items)
-      (pointing_in rows.entries.items))
-  they_claim db raws up ours sound v one id version =
-      let shows = rows_show rows apart keep in
-      record {
-        version = version_stands db ours sound rows.versions.items raws.versions v one id version;
-        merchants = merchants_stand tables2 indexes2 db ours sound refl raws.merchants up.merchants;
-        counts = counts_stand tables2 indexes2 db ours sound refl raws.counts up.counts;
-        replaced = none_there (db.trees 5) (sym raws.replaced ∙ shows.replaced);
-        records = records_stand tables2 indexes2 db ours sound refl raws.records up.records;
-        rights = rights_stand tables2 indexes2 db ours sound refl raws.rights up.rights;
-        cards = cards_by_id db _ raws.cards up.cards (card_held rows apart)
-            (λ c h. let it = (shows.cards c h).uses in it ∙ ap (λ z. pos (natural z)) (sym it));
-        pointing = stand_for tables.entries db ours sound _ raws.entries up.entries
-            (λ e h.
-            let it = (shows.entries e h).2 in (
-              entry_key e,
-              pointing_value e,
-              entry_listed rows.cards.items e _ it,
-              ap (option_map pointing_value) (entry_first rows.entries.items apart.entries e h),
-            ))
-            (λ k x h.
-            let it = mapped_is pointing_value _ x h in
-            let found = entry_found rows.entries.items k.0 k.1 it.0 it.1 in
-            (it.0, found.there, λ i. (found.merchant_is i, found.token_is i)));
-      }
-
-  -- so the database stands for the vault
-  pub they_stand : (db : Database) → AreRaws db.trees rows → AreApart rows → db.schema ≡ newest_schema
-      → IsDatabase db → (v : RawVersion) → rows.versions.items ≡ v ∷ [] → v.id ≡ pos 1 → v.version ≡ pos 2
-      → Stands db.trees (vault_of rows)
-  they_stand db raws up ours sound v one id version = record {
-    cards = cards_in rows.cards.items;
-    pointing = pointing_in rows.entries.items;
-    rows = as_claims db.trees _ (they_claim db raws up ours sound v one id version);
-    joined =
-        rows_joined rows apart (rows_show rows apart keep)
-        (numbers_apart db _ raws.cards up.cards ours sound);
-  }
+      pub joined_stand : AreJoined nothing_owed (cards_in rows.cards.items) (pointing_in rows.entries.items)
+          h.entries
+      joined_stand = rows_joined rows apart shows (numbers_apart db _ are.cards cards_up
+          (grown second_schema others indexes) ours sound refl guarded)

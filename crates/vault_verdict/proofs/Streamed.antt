@@ -23,7 +23,6 @@ use Rattle.vault_verdict.specs.Raw.{IsStrange}
 use Rattle.vault_verdict.specs.Reading.{IsUnread, ReadsRows}
 use Rattle.vault_verdict.specs.declared.fault.ReadFault.{ReadFault}
 use Rattle.vault_verdict.specs.declared.fault.ReadFault.TheVariants.{Memory, Store}
-use Rattle.vault_schema.specs.Schema.{newest_schema}
 
 -- a fault that isn't for want of memory comes from an error that isn't
 pub other_cause : (error : Error) (fault : ReadFault)
@@ -64,16 +63,13 @@ shown_from text old at new rows plain same h =
     )
 
 -- what isn't read after a table that was read
-pub after : {S : Type 0} {g : Ghosts S} {R X E : Type 0} {text : List ℕ} {values : R → Row}
+pub after : {S : Type 0} (g : Ghosts S) {X E : Type 0} {s : Schema} (Unread : Database → Held S → Type 0)
     (old mid : Held S) {new : Held S} {r : Result X E} {x : X} → r ≡ Ok x
-    → Reads newest_schema r (state g old) (state g mid)
-    → HasCleanDisk (state g mid) → (state g old).now.schema ≡ newest_schema
-    → ((state g mid).now.schema ≡ newest_schema → IsUnread g text values (state g mid).now new)
-    → IsUnread g text values (state g old).now new
-after {g = g} {text = text} {values = values} old mid {new} is read clean has unread =
+    → Reads s r (state g old) (state g mid) → HasCleanDisk (state g mid) → (state g old).now.schema ≡ s
+    → ((state g mid).now.schema ≡ s → Unread (state g mid).now new) → Unread (state g old).now new
+after g Unread old mid {new} is read clean has unread =
     let same = (rw is at (read.kept clean has)).0.now_is in
-    subst (λ db. IsUnread g text values db new) same
-    (unread (ap (λ (d : Database). d.schema) same ∙ has))
+    subst (λ db. Unread db new) same (unread (ap (λ (d : Database). d.schema) same ∙ has))
 
 -- the connection is what the rows lent
 pub settled : {S : Type 0} {g : Ghosts S} {R : Type 0} {s : Schema} {text : List ℕ} {values : R → Row}

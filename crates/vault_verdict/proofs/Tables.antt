@@ -1,4 +1,4 @@
--- The tables of a vault, those of schema 1 in each schema that begins with it.
+-- The tables of a vault, each in every schema that begins with the one that brought it.
 use Rattle.std.proofs.Common.{◌≡◌, ℕ, ℤ, true, List, [], ◌∷◌, refl, ap, ◌∙◌, is_eq, arith, string_bytes}
 use Rattle.std.proofs.lemmas.Cmp.{tied_itself}
 use Rattle.std.specs.Cmp.{int_cmp_total}
@@ -17,16 +17,22 @@ use Rattle.vault_verdict.proofs.Table.{Table}
 use Rattle.vault_verdict.specs.Raw as raw
 use Rattle.vault_rules.specs.VaultOf.{count_key, entry_key, request_key, number_key, natural, right_of}
 use Rattle.vault_rules.specs.declared.rows.RawMerchant.{RawMerchant}
+use Rattle.vault_verdict.specs.declared.replaced.OldEntry.{OldEntry}
 use Rattle.vault_rules.specs.declared.rows.RawCount.{RawCount}
 use Rattle.vault_rules.specs.declared.rows.RawEntry.{RawEntry}
 use Rattle.vault_rules.specs.declared.rows.RawRecord.{RawRecord}
 use Rattle.vault_rules.specs.declared.rows.RawRight.{RawRight}
 use Rattle.vault_schema.proofs.Grown.{keyed_in_grown}
 use Rattle.vault_schema.proofs.Version1.Codes as codes
-use Rattle.vault_schema.proofs.Version2.Codes as newer
+use Rattle.vault_schema.proofs.Newest as newest
+use Rattle.vault_schema.proofs.Version2.Codes as second
+use Rattle.vault_schema.proofs.Version3.Codes as third
+use Rattle.vault_schema.proofs.Version4.Codes as fourth
 use Rattle.vault_schema.specs.Version1.Rows as row
 use Rattle.vault_schema.specs.Version1.Tables as v1
-use Rattle.vault_schema.specs.Version2.Tables.{tables2, indexes2}
+use Rattle.vault_schema.specs.Version2.Tables as v2
+use Rattle.vault_schema.specs.Version3.Tables as v3
+use Rattle.vault_schema.specs.Version4.Tables as v4
 
 -- a value that isn't NULL is equal to itself
 pub same_text : (t : Bytes) → equal Binary (Text t) (Text t) ≡ true
@@ -63,15 +69,24 @@ pub right_back : (q : Bytes × (Bytes × ℤ)) (k : Bytes × (Bytes × Right)) �
     → right_in q ≡ k
 right_back q k e = grind arith
 
+-- what the older tables have of a merchant and of a right
+abbrev pub old_merchant_values : RawMerchant → Row
+old_merchant_values m =
+    Int m.rowid ∷ Text (string_bytes m.name) ∷ Int m.single_life ∷ Int m.multi_life ∷ Int m.moment ∷ []
+
+abbrev pub old_right_values : RawRight → Row
+old_right_values r =
+    Int r.rowid ∷ Text (string_bytes r.caller) ∷ Text (string_bytes r.merchant) ∷ Int r.what ∷ []
+
 module _ (tables : List SqlTable) (indexes : List Index) where
   -- no index behind those of schema 1 guards the key
   abbrev pub IsFree : Descriptor → ℕ → Type 0
   IsFree d n = guards_of indexes (table_of d) (columns_to n) ≡ []
 
-  abbrev pub merchants_in : (free : IsFree v1.merchants 1)
+  abbrev pub old_merchants_in : (free : IsFree v1.merchants 1)
       → Table (keyed_in_grown codes.merchant_table tables indexes free) RawMerchant Bytes
-  merchants_in free = record {
-    values = raw.merchant_values;
+  old_merchants_in free = record {
+    values = old_merchant_values;
     shown = λ m. string_bytes m.name;
     shows = λ q. Text q ∷ [];
     key_of = λ q. q;
@@ -104,10 +119,10 @@ module _ (tables : List SqlTable) (indexes : List Index) where
     back = number_back;
   }
 
-  abbrev pub rights_in : (free : IsFree v1.rights 3)
+  abbrev pub old_rights_in : (free : IsFree v1.rights 3)
       → Table (keyed_in_grown codes.right_table tables indexes free) RawRight (Bytes × (Bytes × ℤ))
-  rights_in free = record {
-    values = raw.right_values;
+  old_rights_in free = record {
+    values = old_right_values;
     shown = number_key;
     shows = whose;
     key_of = right_in;
@@ -116,20 +131,73 @@ module _ (tables : List SqlTable) (indexes : List Index) where
     back = right_back;
   }
 
--- those of schema 2
-abbrev pub merchants : Table newer.merchant_table RawMerchant Bytes
-merchants = merchants_in tables2 indexes2 refl
+-- the entries of schema 1
+abbrev pub old_entries : Table codes.entry_table OldEntry (Bytes × Bytes)
+old_entries = record {
+  values = raw.old_entry_values;
+  shown = λ o. (string_bytes o.merchant, string_bytes o.token);
+  shows = λ q. Text q.0 ∷ Text q.1 ∷ [];
+  key_of = λ q. q;
+  whole = λ e. refl;
+  fits = λ q. (refl, rw (same_text q.0, same_text q.1) refl);
+  back = entry_back;
+}
 
-abbrev pub counts : Table newer.count_table RawCount (Bytes × ℤ)
-counts = counts_in tables2 indexes2 refl
+-- those of schema 2, in each schema that begins with it
+module _ (tables : List SqlTable) (indexes : List Index) where
+  abbrev pub entries_in : (free : guards_of indexes (table_of v2.entries) (columns_to 2) ≡ [])
+      → Table (keyed_in_grown second.pointing_table tables indexes free) RawEntry (Bytes × Bytes)
+  entries_in free = record {
+    values = raw.entry_values;
+    shown = entry_key;
+    shows = λ q. Text q.0 ∷ Text q.1 ∷ [];
+    key_of = λ q. q;
+    whole = λ e. refl;
+    fits = λ q. (refl, rw (same_text q.0, same_text q.1) refl);
+    back = entry_back;
+  }
 
-abbrev pub records : Table newer.record_table RawRecord (Bytes × ℤ)
-records = records_in tables2 indexes2 refl
+-- merchants with a lead, in each schema that begins with schema 3
+module _ (tables : List SqlTable) (indexes : List Index) where
+  abbrev pub merchants_in : (free : guards_of indexes (table_of v3.merchants) (columns_to 1) ≡ [])
+      → Table (keyed_in_grown third.merchant_table tables indexes free) RawMerchant Bytes
+  merchants_in free = record {
+    values = raw.merchant_values;
+    shown = λ m. string_bytes m.name;
+    shows = λ q. Text q ∷ [];
+    key_of = λ q. q;
+    whole = λ m. refl;
+    fits = λ q. (refl, rw (same_text q) refl);
+    back = name_back;
+  }
 
-abbrev pub rights : Table newer.right_table RawRight (Bytes × (Bytes × ℤ))
-rights = rights_in tables2 indexes2 refl
+-- rights that may end
+abbrev pub rights : Table fourth.right_table RawRight (Bytes × (Bytes × ℤ))
+rights = record {
+  values = raw.right_values;
+  shown = number_key;
+  shows = whose;
+  key_of = right_in;
+  whole = λ r. refl;
+  fits = λ q. (refl, rw (same_text q.0, same_text q.1.0, same_int q.1.1) refl);
+  back = right_back;
+}
 
-abbrev pub entries : Table newer.pointing_table RawEntry (Bytes × Bytes)
+-- the tables of the newest schema
+abbrev pub merchants : Table newest.merchant_table RawMerchant Bytes
+merchants = merchants_in v4.tables4 v4.indexes4 refl
+
+abbrev pub counts : Table (keyed_in_grown codes.count_table newest.behind_first newest.indexes_behind_first
+    refl)
+    RawCount (Bytes × ℤ)
+counts = counts_in newest.behind_first newest.indexes_behind_first refl
+
+abbrev pub records :
+    Table (keyed_in_grown codes.record_table newest.behind_first newest.indexes_behind_first refl) RawRecord
+    (Bytes × ℤ)
+records = records_in newest.behind_first newest.indexes_behind_first refl
+
+abbrev pub entries : Table second.pointing_table RawEntry (Bytes × Bytes)
 entries = record {
   values = raw.entry_values;
   shown = entry_key;

@@ -18,7 +18,9 @@ use Rattle.vault_verdict.specs.Reading.{shown_by, version_columns}
 use Rattle.vault_rules.specs.declared.rows.RawVersion.{RawVersion}
 use Rattle.vault_schema.specs.Version1.Claims.{IsVersion}
 use Rattle.vault_schema.specs.Version1.Tables.{vault}
-use Rattle.vault_schema.specs.Schema.{newest_schema}
+use Rattle.vault_schema.specs.Versions.{schema_of}
+use Rattle.vault_schema.specs.declared.version.Version.{Version}
+use Rattle.vault_schema.specs.declared.version.Version.TheVariants.{One, Two, Three, Four}
 
 -- the one item of which the list is shown
 pub one_shown : {X Y : Type 0} (f : X → Y) (xs : List X) (y : Y) → map f xs ≡ y ∷ []
@@ -42,8 +44,16 @@ version_in n db listed sound versions are v one id version =
     let it : row.0 ≡ Int (pos 1) ∷ Null ∷ Int (pos n) ∷ [] = grind (arith, typed, row.2, id, version) in
     row.1 ∙ ap (λ r. r ∷ []) it
 
-pub version_stands : (db : Database) → db.schema ≡ newest_schema → IsDatabase db
-    → (versions : List RawVersion) → AreVersions db.trees versions → (v : RawVersion) → versions ≡ v ∷ []
-    → v.id ≡ pos 1 → v.version ≡ pos 2 → IsVersion 2 (db.trees 0)
-version_stands db ours = version_in 2 db
-    (subst (λ (s : Schema). Has s.tables (table_of vault)) (sym ours) (inl refl))
+pub version_stands : (v : Version) (db : Database) → db.schema ≡ schema_of v → IsDatabase db
+    → (versions : List RawVersion) → AreVersions db.trees versions → (row : RawVersion)
+    → versions ≡ row ∷ [] → row.id ≡ pos 1 → (n : ℕ) → row.version ≡ pos n → IsVersion n (db.trees 0)
+version_stands v db ours sound versions are row one id n =
+    version_in n db (subst (λ (s : Schema). Has s.tables (table_of vault)) (sym ours)
+    (listed v)) sound versions
+    are row one id
+  where
+    listed : (v : Version) → Has (schema_of v).tables (table_of vault)
+    listed One = inl refl
+    listed Two = inl refl
+    listed Three = inl refl
+    listed Four = inl refl

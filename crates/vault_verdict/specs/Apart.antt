@@ -25,10 +25,11 @@ pub record AreApart (rows : Rows) : Type 0 where
   pub records : IsApart (map record_values rows.records.items)
   pub rights : IsApart (map right_values rows.rights.items)
 
--- in some table a rowid comes twice
+-- in some table of the newest schema a rowid comes twice
 abbrev pub SharesRowid : Trees → Type 0
 SharesRowid db =
-    ¬ (IsApart (db 1) × IsApart (db 3) × IsApart (db 12) × IsApart (db 14) × IsApart (db 8) × IsApart (db 10))
+    ¬ (IsApart (db 17) × IsApart (db 3) × IsApart (db 12) × IsApart (db 14) × IsApart (db 8)
+    × IsApart (db 19))
 
 -- the rows of each table ascend by their rowids
 pub record AreByRowid (rows : Rows) : Type 0 where

@@ -1,9 +1,10 @@
 pub mod Apart
 pub mod Faults
-pub mod Laws
+pub mod Made
 pub mod Names
 pub mod Opened
 pub mod Raw
+pub mod ReadAs
 pub mod Reading
 pub mod Sizes
 pub mod Versions

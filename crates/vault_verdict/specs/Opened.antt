@@ -1,5 +1,5 @@
 -- What an open finds.
-use Rattle.std.specs.Prelude.{◌≡◌, ◌≢◌, ◌⊎◌, ℕ, ℤ, pos, List, length, map, Some, None, IsTrue}
+use Rattle.std.specs.Prelude.{◌≡◌, ◌≢◌, ◌⊎◌, ℕ, ℤ, pos, List, map, Some, None, IsTrue}
 use Rattle.std.specs.List.Sorted.{IsPermutation}
 use Rattle.sqlite.specs.Effect.{Database, IsDatabase}
 use Rattle.sqlite.specs.State.{State}
@@ -7,11 +7,13 @@ use Rattle.sqlite.specs.Tree.{Trees}
 use Rattle.vault_core.specs.Sound.{Sound}
 use Rattle.vault_core.specs.Vault.{Vault, empty_vault}
 use Rattle.vault_verdict.specs.Names.{IsMixed, vault_names}
-use Rattle.vault_verdict.specs.Raw.{version_values, merchant_values, count_values, card_row, entry_values}
-use Rattle.vault_verdict.specs.Raw.{record_values, right_values}
+use Rattle.vault_verdict.specs.Raw.{version_values, merchant_values, count_values}
+use Rattle.vault_verdict.specs.Raw.{old_entry_values, record_values, right_values}
+use Rattle.vault_verdict.specs.ReadAs.{AreEntries, merchants_in, replaced_in, rights_in}
 use Rattle.vault_verdict.specs.Reading.{IsOurs, shown_by, version_columns}
 use Rattle.vault_verdict.specs.Sizes.{sizes_of}
-use Rattle.vault_verdict.specs.Versions.{other_version}
+use Rattle.vault_verdict.specs.Versions.{other_than, other_version}
+use Rattle.vault_verdict.specs.declared.replaced.OldEntry.{OldEntry}
 use Rattle.vault_verdict.specs.declared.fault.OpenFault.{OpenFault}
 use Rattle.vault_verdict.specs.declared.fault.OpenFault.TheVariants.{WrongSchema, Damaged}
 use Rattle.vault_verdict.specs.declared.sizes.Sizes.{Sizes}
@@ -23,39 +25,61 @@ use Rattle.vault_schema.specs.Holds.{Holds, LeavesEither, LeavesFirst}
 use Rattle.vault_schema.specs.Making.{IsReady}
 use Rattle.sql_maps.specs.Schema.{no_schema}
 use Rattle.vault_schema.specs.Schema.{newest_schema}
-use Rattle.vault_schema.specs.Stands.{Stands}
+use Rattle.vault_schema.specs.Stands.{Stands, lookups_of, newest}
+use Rattle.vault_schema.specs.Versions.{Stand, number_of, schema_of}
+use Rattle.vault_schema.specs.declared.version.Version.{Version}
+use Rattle.vault_schema.specs.declared.version.Version.TheVariants.{One, Two, Three, Four}
 
 -- the rows of `vault` as they stand, in some order
 abbrev pub AreVersions : Trees → List RawVersion → Type 0
 AreVersions db versions = IsPermutation (map (shown_by version_columns) (db 0)) (map version_values versions)
 
--- the rows of all tables, each in some order; of the table that schema 2 replaced, how many
-pub record AreRaws (db : Trees) (rows : Rows) : Type 0 where
+-- the rows of all tables of a version, read as those of the newest one, each in some order; of the tables
+-- that
+-- were replaced, how many still have rows
+pub record AreRaws (v : Version) (db : Trees) (olders : List OldEntry) (rows : Rows) : Type 0 where
   pub versions : AreVersions db rows.versions.items
-  pub merchants : IsPermutation (db 1) (map merchant_values rows.merchants.items)
+  pub merchants : IsPermutation (merchants_in v db) (map merchant_values rows.merchants.items)
   pub counts : IsPermutation (db 3) (map count_values rows.counts.items)
-  pub cards : IsPermutation (db 12) (map card_row rows.cards.items)
-  pub entries : IsPermutation (db 14) (map entry_values rows.entries.items)
+  pub entries : AreEntries v db olders rows
   pub records : IsPermutation (db 8) (map record_values rows.records.items)
-  pub rights : IsPermutation (db 10) (map right_values rows.rights.items)
-  pub replaced : rows.replaced ≡ length (db 5)
+  pub rights : IsPermutation (rights_in v db) (map right_values rows.rights.items)
+  pub replaced : rows.replaced ≡ replaced_in v db
 
--- the version is 2, and the rows break this rule and none below it
-pub record IsLeastBroken (db : Database) (rule : ℕ) : Type 0 where
+-- the rows of `entries`, the table of schema 1, as they stand; a later schema has none
+abbrev pub AreOldersIn : Version → Trees → List OldEntry → Type 0
+AreOldersIn One db olders = IsPermutation (db 5) (map old_entry_values olders)
+AreOldersIn Two db olders = Unit {0}
+AreOldersIn Three db olders = Unit {0}
+AreOldersIn Four db olders = Unit {0}
+
+-- the version is this one, and the rows break this rule and none below it
+pub record IsBrokenIn (v : Version) (db : Database) (rule : ℕ) : Type 0 where
+  pub olders : List OldEntry
   pub rows : Rows
   pub is : IsDatabase db
-  pub are : AreRaws db.trees rows
-  pub version : other_version rows.versions.items ≡ None
+  pub are : AreRaws v db.trees olders rows
+  pub version : other_than (number_of v) rows.versions.items ≡ None
   pub least : rules.IsLeastBroken rows rule
 
--- the database has a version: the row of `vault` with the id 1 says this one, which isn't 2
+-- so in the newest version
+abbrev pub IsLeastBroken : Database → ℕ → Type 0
+IsLeastBroken db rule = IsBrokenIn newest db rule
+
+-- the row of `vault` with the id 1 says the version n, which isn't this one
+pub record IsVersionIn (v : Version) (db : Database) (n : ℤ) : Type 0 where
+  pub versions : List RawVersion
+  pub are : AreVersions db.trees versions
+  pub says : other_than (number_of v) versions ≡ Some n
+
+-- the database has a version: the row of `vault` with the id 1 says this one, which isn't the newest
 pub record IsOtherVersion (db : Database) (n : ℤ) : Type 0 where
   pub first : HasVersion db.schema
   pub versions : List RawVersion
   pub are : AreVersions db.trees versions
   pub says : other_version versions ≡ Some n
 
--- the row of `vault` with the id 1 says the version 2, or there is no such row
+-- the row of `vault` with the id 1 says the newest version, or there is no such row
 pub record IsThisVersion (db : Database) : Type 0 where
   pub versions : List RawVersion
   pub are : AreVersions db.trees versions
@@ -65,18 +89,25 @@ pub record IsThisVersion (db : Database) : Type 0 where
 abbrev pub SaysNoOther : Database → Type 0
 SaysNoOther db = HasVersion db.schema → IsThisVersion db
 
--- the database stands for a sound vault
-pub record StandsSound (db : Database) : Type 0 where
-  pub schema : db.schema ≡ newest_schema
+-- the database stands for a sound vault in this version
+pub record StandsSoundIn (v : Version) (db : Database) : Type 0 where
+  pub schema : db.schema ≡ schema_of v
   pub vault : Vault
   pub sound : Sound vault
-  pub stands : Stands db.trees vault
+  pub stand : Stand v db.trees (lookups_of vault)
 
 -- and that vault has these sizes
-pub record IsSoundOf (db : Database) (sizes : Sizes) : Type 0 where
+pub record IsSoundIn (v : Version) (db : Database) (sizes : Sizes) : Type 0 where
   pub is : IsDatabase db
-  pub it : StandsSound db
+  pub it : StandsSoundIn v db
   pub sizes_are : sizes ≡ sizes_of it.vault
+
+-- so in the newest version
+abbrev pub StandsSound : Database → Type 0
+StandsSound db = StandsSoundIn newest db
+
+abbrev pub IsSoundOf : Database → Sizes → Type 0
+IsSoundOf db sizes = IsSoundIn newest db sizes
 
 -- the connection holds a sound vault
 pub record HoldsSound (s : State) : Type 0 where

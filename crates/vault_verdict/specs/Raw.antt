@@ -8,7 +8,7 @@ use Rattle.sqlite.specs.Order.{Row}
 use Rattle.vault_schema.specs.Version1.Rows.{text_or_null}
 use Rattle.vault_rules.specs.declared.rows.RawVersion.{RawVersion}
 use Rattle.vault_rules.specs.declared.rows.RawMerchant.{RawMerchant}
-use Rattle.vault_verdict.specs.declared.replaced.EntryId.{EntryId}
+use Rattle.vault_verdict.specs.declared.replaced.RowId.{RowId}
 use Rattle.vault_verdict.specs.declared.replaced.OldEntry.{OldEntry}
 use Rattle.vault_rules.specs.declared.rows.RawCount.{RawCount}
 use Rattle.vault_rules.specs.declared.rows.RawCard.{RawCard}
@@ -37,10 +37,11 @@ IsStrange {R} values shown = (raw : R) → shown ≢ values raw
 abbrev pub version_values : RawVersion → Row
 version_values v = Int v.id ∷ Int v.version ∷ []
 
--- a row of `merchants`, with its rowid in front
+-- a row of `merchants3`, with its rowid in front
 abbrev pub merchant_values : RawMerchant → Row
 merchant_values m =
-    Int m.rowid ∷ Text (string_bytes m.name) ∷ Int m.single_life ∷ Int m.multi_life ∷ Int m.moment ∷ []
+    Int m.rowid ∷ Text (string_bytes m.name) ∷ Int m.single_life ∷ Int m.multi_life ∷ Int m.moment
+    ∷ Int m.lead ∷ []
 
 -- of `counts`
 abbrev pub count_values : RawCount → Row
@@ -68,9 +69,9 @@ old_entry_values e =
     Int e.rowid ∷ Text (string_bytes e.merchant) ∷ Text (string_bytes e.token)
     ∷ maybe_text_value e.number ∷ Int e.usage ∷ Int e.birth ∷ Int e.expires ∷ int_value e.revoked ∷ []
 
--- of `entries`, its rowid alone
-abbrev pub entry_id_values : EntryId → Row
-entry_id_values e = Int e.rowid ∷ []
+-- of a table that was replaced, its rowid alone
+abbrev pub id_values : RowId → Row
+id_values r = Int r.rowid ∷ []
 
 -- of `records`
 abbrev pub record_values : RawRecord → Row
@@ -78,7 +79,8 @@ record_values r =
     Int r.rowid ∷ Text (string_bytes r.caller) ∷ Int r.request ∷ Text (string_bytes r.merchant)
     ∷ Text (string_bytes r.token) ∷ Int r.usage ∷ []
 
--- of `rights`
+-- of `rights4`
 abbrev pub right_values : RawRight → Row
 right_values r =
-    Int r.rowid ∷ Text (string_bytes r.caller) ∷ Text (string_bytes r.merchant) ∷ Int r.what ∷ []
+    Int r.rowid ∷ Text (string_bytes r.caller) ∷ Text (string_bytes r.merchant) ∷ Int r.what
+    ∷ int_value r.ends ∷ []

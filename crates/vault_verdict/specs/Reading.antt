@@ -1,8 +1,9 @@
 -- Reading the whole of a table.
 use Rattle.std.specs.Global.{Vec}
+use Rattle.std.specs.List.{filter_map}
 use Rattle.std.specs.List.Sorted.{IsPermutation, IsSortedByKey}
 use Rattle.std.specs.Ordering.{int_cmp}
-use Rattle.std.specs.Prelude.{◌≡◌, ◌≢◌, ◌≤◌, ◌<◌, ◌⊎◌, ℕ, ℤ, false, List, [], ◌∷◌, length, map}
+use Rattle.std.specs.Prelude.{◌≡◌, ◌≢◌, ◌≤◌, ◌⊎◌, ℕ, ℤ, false, List, [], ◌∷◌, length, map}
 use Rattle.std.specs.Prelude.{Result, IfErr, IfOk, OnOk}
 use Rattle.sqlite.specs.Effect.{Database, IsDatabase}
 use Rattle.sqlite.specs.Held.{Held, state}
@@ -10,22 +11,35 @@ use Rattle.sqlite.specs.Order.{Row}
 use Rattle.sqlite.specs.Schema.{Schema}
 use Rattle.sqlite.specs.State.{State, HasCleanDisk, Begins, FailsToQuery, Shown}
 use Rattle.sqlite.specs.Term.{Term, eval_all, col}
+use Rattle.sqlite.specs.Tree.{Trees}
 use Rattle.sqlite.specs.View.{doubt}
 use Rattle.sqlite.specs.declared.error.Error.{Error}
 use Rattle.sqlite.specs.declared.error.Error.TheVariants.{SqliteFailure}
 use Rattle.sqlite.specs.declared.error.ErrorCode.TheVariants.{OutOfMemory}
-use Rattle.sqlite_rules.specs.Lists.{Has}
 use Rattle.sqlite_trees.specs.declared.store.Store.{Ghosts}
 use Rattle.sql_maps.specs.States.{LeavesNoMore, Reads}
 use Rattle.vault_verdict.specs.Apart.{SharesRowid}
+use Rattle.vault_verdict.specs.Made.{as_card, as_entry}
 use Rattle.vault_verdict.specs.Raw.{IsStrange, merchant_values, count_values, card_values, card_row}
-use Rattle.vault_verdict.specs.Raw.{entry_values, entry_id_values, record_values, right_values}
+use Rattle.vault_verdict.specs.Raw.{entry_values, id_values, old_entry_values, record_values, right_values}
 use Rattle.vault_verdict.specs.Raw.{version_values}
+use Rattle.vault_verdict.specs.ReadAs.{AreFull, AreLonger, IsFullIn, any_left, merchants_in, replaced_in}
+use Rattle.vault_verdict.specs.ReadAs.{rights_in}
+use Rattle.vault_verdict.specs.declared.read.WithCards.{WithCards}
 use Rattle.vault_verdict.specs.declared.fault.ReadFault.{ReadFault}
 use Rattle.vault_verdict.specs.declared.fault.ReadFault.TheVariants.{Store}
+use Rattle.vault_rules.specs.declared.rows.RawCard.{RawCard}
+use Rattle.vault_rules.specs.declared.rows.RawEntry.{RawEntry}
 use Rattle.vault_rules.specs.declared.rows.Rows.{Rows}
+use Rattle.vault_verdict.specs.declared.replaced.OldEntry.{OldEntry}
 use Rattle.vault_schema.specs.declared.v1.TheConstants as v1
 use Rattle.vault_schema.specs.declared.v2.TheConstants as v2
+use Rattle.vault_schema.specs.declared.v3.TheConstants as v3
+use Rattle.vault_schema.specs.declared.v4.TheConstants as v4
+use Rattle.vault_schema.specs.Stands.{newest}
+use Rattle.vault_schema.specs.Versions.{schema_of}
+use Rattle.vault_schema.specs.declared.version.Version.{Version}
+use Rattle.vault_schema.specs.declared.version.Version.TheVariants.{One, Two, Three, Four}
 use Rattle.vault_schema.specs.Schema.{newest_schema}
 
 -- what the terms show of a row
@@ -36,35 +50,39 @@ shown_by project row = eval_all project ([] ∷ row ∷ [])
 abbrev pub version_columns : List Term
 version_columns = col 1 0 ∷ col 1 2 ∷ []
 
--- each row of a table of entries has all its columns
-abbrev pub AreFull : ℕ → Database → Type 0
-AreFull tree db = (row : Row) → Has (db.trees tree) row → 7 < length row
-
--- The premise on a file: each row of `entries2` has all its columns. The last one may be NULL, so nothing
--- else says that no row was made before it was added; no statement of this program adds one.
+-- the premise on a file of the newest version
 abbrev pub IsFull : Database → Type 0
-IsFull = AreFull 14
+IsFull db = AreFull newest db.trees
 
--- the premise on the old table of entries
-abbrev pub IsOldFull : Database → Type 0
-IsOldFull = AreFull 5
+-- a database in the newest schema, with full rows
+abbrev pub IsOurs : Database → Type 0
+IsOurs db = IsFullIn newest db
+
+-- the premise on the table of entries of schema 1, on those of entries that point at cards, and on that of
+-- rights that end
+abbrev pub AreOldFull : Database → Type 0
+AreOldFull db = AreLonger 7 (db.trees 5)
+
+abbrev pub ArePointingFull : Database → Type 0
+ArePointingFull db = AreLonger 7 (db.trees 14)
+
+abbrev pub AreRightsFull : Version → Database → Type 0
+AreRightsFull One db = Unit {0}
+AreRightsFull Two db = Unit {0}
+AreRightsFull Three db = Unit {0}
+AreRightsFull Four db = AreLonger 4 (db.trees 19)
 
 -- no premise
 abbrev pub IsAny : Database → Type 0
 IsAny db = Unit {0}
 
--- a database in the schema of a vault, with full rows
-pub record IsOurs (db : Database) : Type 0 where
-  pub schema : db.schema ≡ newest_schema
-  pub full : IsFull db
-
 -- Rows that were read of a table, in the order of their rowids: as many as it has, and under the premise they
--- are all its rows, as they stand.
-pub record AreTable {R : Type 0} (Full : Database → Type 0) (tree : ℕ) (stands : R → Row) (id : R → ℤ)
-    (db : Database) (raws : List R) : Type 0 where
+-- are all its rows, as they are read.
+pub record AreTable {R : Type 0} (Full : Database → Type 0) (rows : Trees → List Row) (stands : R → Row)
+    (id : R → ℤ) (db : Database) (raws : List R) : Type 0 where
   pub sound : IsDatabase db
-  pub many : length raws ≡ length (db.trees tree)
-  pub all : Full db → IsPermutation (db.trees tree) (map stands raws)
+  pub many : length raws ≡ length (rows db.trees)
+  pub all : Full db → IsPermutation (rows db.trees) (map stands raws)
   pub ordered : IsSortedByKey id int_cmp raws
 
 -- a query that failed, but not for want of memory
@@ -97,48 +115,110 @@ module _ {S : Type 0} (g : Ghosts S) {R : Type 0} (text : List ℕ) (values : R 
           → IfErr result (λ e. e ≡ Store → IsUnread (state g old).now new)
 
     -- a table of this schema is read by the text, and nothing else is done
-    pub record ReadsTable (Full : Database → Type 0) (tree : ℕ) (stands : R → Row) (id : R → ℤ)
-        (result : Result (Vec R) ReadFault) (old new : Held S) : Type 0
+    pub record ReadsTable (Full : Database → Type 0) (rows : Trees → List Row) (stands : R → Row)
+        (id : R → ℤ) (result : Result (Vec R) ReadFault) (old new : Held S) : Type 0
       where
         pub reads : Reads s result (state g old) (state g new)
         pub told : HasCleanDisk (state g new) → (state g old).now.schema ≡ s
-            → IfOk result (λ raws. AreTable Full tree stands id (state g old).now raws.items)
+            → IfOk result (λ raws. AreTable Full rows stands id (state g old).now raws.items)
         pub refused : HasCleanDisk (state g new) → (state g old).now.schema ≡ s
             → IfErr result (λ e. e ≡ Store → IsUnread (state g old).now new)
 
-    -- the rows of such a table are read and counted, and nothing else is done
-    pub record CountsTable (tree : ℕ) (result : Result ℕ ReadFault) (old new : Held S) : Type 0 where
-      pub reads : Reads s result (state g old) (state g new)
-      pub told : HasCleanDisk (state g new) → (state g old).now.schema ≡ s
-          → IfOk result (λ many. many ≡ length ((state g old).now.trees tree))
-      pub refused : HasCleanDisk (state g new) → (state g old).now.schema ≡ s
-          → IfErr result (λ e. e ≡ Store → IsUnread (state g old).now new)
+    -- the rows of such a table are read, and it is told whether there are any; nothing else is done
+    pub record TellsAny (rows : Trees → List Row) (result : Result ℕ ReadFault) (old new : Held S) : Type 0
+      where
+        pub reads : Reads s result (state g old) (state g new)
+        pub told : HasCleanDisk (state g new) → (state g old).now.schema ≡ s
+            → IfOk result (λ n. n ≡ any_left (rows (state g old).now.trees))
+        pub refused : HasCleanDisk (state g new) → (state g old).now.schema ≡ s
+            → IfErr result (λ e. e ≡ Store → IsUnread (state g old).now new)
 
--- why one of the tables beside `vault` isn't read, though memory is there
-abbrev pub IsUnreadOne : {S : Type 0} → Ghosts S → Database → Held S → Type 0
-IsUnreadOne g db new =
-    IsUnread g v1.READ_MERCHANTS.now merchant_values db new
-    ⊎ (IsUnread g v1.READ_COUNTS.now count_values db new
-    ⊎ (IsUnread g v2.READ_CARDS.now card_values db new
-    ⊎ (IsUnread g v2.READ_ENTRIES.now entry_values db new
-    ⊎ (IsUnread g v1.READ_RECORDS.now record_values db new
-    ⊎ (IsUnread g v1.READ_RIGHTS.now right_values db new
-    ⊎ IsUnread g v1.READ_ENTRY_IDS.now entry_id_values db new)))))
+-- the text that reads the merchants of a version, and that of its rights
+abbrev pub merchants_text : Version → List ℕ
+merchants_text One = v3.READ_OLD_MERCHANTS.now
+merchants_text Two = v3.READ_OLD_MERCHANTS.now
+merchants_text Three = v3.READ_MERCHANTS.now
+merchants_text Four = v3.READ_MERCHANTS.now
 
--- why 33 is told of a database in a vault's schema: a table isn't read, or in one a rowid comes twice
+abbrev pub rights_text : Version → List ℕ
+rights_text One = v4.READ_OLD_RIGHTS.now
+rights_text Two = v4.READ_OLD_RIGHTS.now
+rights_text Three = v4.READ_OLD_RIGHTS.now
+rights_text Four = v4.READ_RIGHTS.now
+
+-- what was read of the entries of schema 1, and what they are with cards
+pub record AreReadOlders (db : Database) (olders : List OldEntry) (cards : List RawCard)
+    (entries : List RawEntry) : Type 0 where
+  pub read : AreTable AreOldFull (λ t. t 5) old_entry_values (λ o. o.rowid) db olders
+  pub made_entries : map as_entry olders ≡ map entry_values entries
+  pub made_cards : filter_map as_card olders ≡ map card_values cards
+
+-- what was read of the entries of a later one, and of the cards
+pub record AreReadCards (db : Database) (cards : List RawCard) (entries : List RawEntry) : Type 0 where
+  pub read_cards : AreTable IsAny (λ t. t 12) card_row (λ c. c.id) db cards
+  pub read_entries : AreTable ArePointingFull (λ t. t 14) entry_values (λ e. e.rowid) db entries
+
+abbrev pub AreReadEntries : Version → Database → List OldEntry → List RawCard → List RawEntry → Type 0
+AreReadEntries One db olders cards entries = AreReadOlders db olders cards entries
+AreReadEntries Two db olders cards entries = AreReadCards db cards entries
+AreReadEntries Three db olders cards entries = AreReadCards db cards entries
+AreReadEntries Four db olders cards entries = AreReadCards db cards entries
+
+module _ {S : Type 0} (g : Ghosts S) where
+  -- why the cards or the entries that point at them aren't read, though memory is there
+  abbrev pub IsUnreadCards : Database → Held S → Type 0
+  IsUnreadCards db new =
+      IsUnread g v2.READ_CARDS.now card_values db new ⊎ IsUnread g v2.READ_ENTRIES.now entry_values db new
+
+  -- why the entries of a version aren't
+  abbrev pub IsUnreadEntries : Version → Database → Held S → Type 0
+  IsUnreadEntries One db new = Unit {0}
+  IsUnreadEntries Two db new = IsUnreadCards db new
+  IsUnreadEntries Three db new = IsUnreadCards db new
+  IsUnreadEntries Four db new = IsUnreadCards db new
+
+  -- the entries of a version are read, with their cards, and nothing else is done
+  pub record ReadsEntries (v : Version) (result : Result WithCards ReadFault)
+      (old new : Held S) : Type 0 where
+    pub reads : Reads (schema_of v) result (state g old) (state g new)
+    pub told : HasCleanDisk (state g new) → (state g old).now.schema ≡ schema_of v
+        → IfOk result (λ e. AreReadEntries v (state g old).now e.olders.items e.cards.items e.entries.items)
+    pub refused : HasCleanDisk (state g new) → (state g old).now.schema ≡ schema_of v
+        → IfErr result (λ e. e ≡ Store → IsUnreadEntries v (state g old).now new)
+
+  -- why the tables that were replaced aren't counted, though memory is there
+  abbrev pub IsUnreadReplaced : Database → Held S → Type 0
+  IsUnreadReplaced db new =
+      IsUnread g v1.READ_ENTRY_IDS.now id_values db new
+      ⊎ (IsUnread g v3.READ_MERCHANT_IDS.now id_values db new
+      ⊎ IsUnread g v4.READ_RIGHT_IDS.now id_values db new)
+
+  -- why one of the tables beside `vault` isn't read, though memory is there
+  abbrev pub IsUnreadOne : Version → Database → Held S → Type 0
+  IsUnreadOne v db new =
+      IsUnread g (merchants_text v) merchant_values db new
+      ⊎ (IsUnread g v1.READ_COUNTS.now count_values db new
+      ⊎ (IsUnreadEntries v db new
+      ⊎ (IsUnread g v1.READ_RECORDS.now record_values db new
+      ⊎ (IsUnread g (rights_text v) right_values db new
+      ⊎ IsUnreadReplaced db new))))
+
+-- why 33 is told of a database in the newest schema: a table isn't read, or in one a rowid comes twice
 abbrev pub IsUnreadFile : {S : Type 0} → Ghosts S → Database → Held S → Type 0
 IsUnreadFile g db new =
-    IsUnread g v1.READ_VERSIONS.now version_values db new ⊎ (IsUnreadOne g db new ⊎ SharesRowid db.trees)
+    IsUnread g v1.READ_VERSIONS.now version_values db new
+    ⊎ (IsUnreadOne g newest db new ⊎ SharesRowid db.trees)
 
--- these are the rows of all tables beside `vault`; of the table that schema 2 replaced, how many
-pub record AreAll (db : Database) (rows : Rows) : Type 0 where
-  pub merchants : AreTable IsAny 1 merchant_values (λ m. m.rowid) db rows.merchants.items
-  pub counts : AreTable IsAny 3 count_values (λ c. c.rowid) db rows.counts.items
-  pub cards : AreTable IsAny 12 card_row (λ c. c.id) db rows.cards.items
-  pub entries : AreTable IsFull 14 entry_values (λ e. e.rowid) db rows.entries.items
-  pub records : AreTable IsAny 8 record_values (λ r. r.rowid) db rows.records.items
-  pub rights : AreTable IsAny 10 right_values (λ r. r.rowid) db rows.rights.items
-  pub replaced : rows.replaced ≡ length (db.trees 5)
+-- these are the rows of all tables of a version beside `vault`; of the tables that were replaced, how many
+-- still
+-- have rows
+pub record AreAll (v : Version) (db : Database) (olders : List OldEntry) (rows : Rows) : Type 0 where
+  pub merchants : AreTable IsAny (merchants_in v) merchant_values (λ m. m.rowid) db rows.merchants.items
+  pub counts : AreTable IsAny (λ t. t 3) count_values (λ c. c.rowid) db rows.counts.items
+  pub entries : AreReadEntries v db olders rows.cards.items rows.entries.items
+  pub records : AreTable IsAny (λ t. t 8) record_values (λ r. r.rowid) db rows.records.items
+  pub rights : AreTable (AreRightsFull v) (rights_in v) right_values (λ r. r.rowid) db rows.rights.items
+  pub replaced : rows.replaced ≡ replaced_in v db.trees
 
 -- Whether or not it failed, a call made no doubt of the disk go away, no transaction and no limit; and where
 -- this is so, a crash leaves nothing that it did not leave before.

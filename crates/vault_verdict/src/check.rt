@@ -16,7 +16,7 @@ ghost use Rattle.vault_schema.specs.Schema.{newest_schema};
 use crate::fault::OpenFault;
 use crate::names::{Holder, holder_in};
 use crate::sizes::Sizes;
-use crate::verdict::verdict;
+use crate::verdict::newest_verdict;
 use crate::version::version_or;
 use sqlite::{Alter, Connection};
 use std::alloc::Global;
@@ -24,7 +24,7 @@ use std::alloc::Global;
 /// Checks a file whole, and says how much the vault in it holds. It writes nothing: a file without any
 /// table is the empty vault, and stays as it is.
 ///
-/// Refused by 30 with the version that the file says, where it isn't 2 and its table stands first, whatever
+/// Refused by 30 with the version that the file says, where it isn't 4 and its table stands first, whatever
 /// else there is; or with 0 where some of a vault's names are there and one is missing, or others stand
 /// beside them; by 31 with the least rule that the rows break; by 32 where memory ran out; by 33 where the
 /// database failed, the tables are another program's alone, or a vault's tables stand in another order or
@@ -66,7 +66,7 @@ pub fn check<S: Alter>(alloc: Global, conn: &mut Connection<S>) -> Result<Sizes,
 {
     match holder_in(conn.schema()) {
         Holder::Nobody => Ok(Sizes::NONE),
-        Holder::Vault => verdict(alloc, conn),
+        Holder::Vault => newest_verdict(alloc, conn),
         Holder::Mixed => Err(version_or(alloc, conn, OpenFault::WrongSchema(0))),
         Holder::Other => Err(version_or(alloc, conn, OpenFault::Store)),
     }

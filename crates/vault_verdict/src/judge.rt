@@ -4,6 +4,7 @@ ghost use Rattle.vault_verdict.specs.Apart.{AreApart, AreByRowid};
 ghost use Rattle.vault_verdict.specs.Sizes.{counts_of};
 ghost use Rattle.vault_verdict.specs.Versions.{is_other, other_than, other_version};
 ghost use Rattle.vault_rules.specs.Rules.{IsLeastBroken, keeps};
+ghost use Rattle.vault_schema.specs.Versions.{number_of};
 
 use crate::apart::are_apart;
 use crate::fault::OpenFault;
@@ -11,9 +12,7 @@ use crate::sizes::Sizes;
 use std::alloc::Global;
 use vault_rules::least::least_broken;
 use vault_rules::rows::{RawVersion, Rows};
-
-/// The version of the schema that this program reads and writes.
-const VERSION: i64 = 2;
+use vault_schema::version::Version;
 
 /// Whether this is the row with the id 1, and says another version than this one.
 fn is_other(row: &RawVersion, version: i64) -> bool
@@ -32,11 +31,23 @@ pub fn other_than(versions: &[RawVersion], version: i64) -> Option<i64>
         .map(|row| row.version)
 }
 
-/// The version of the row with the id 1, where it isn't this program's.
+/// The version of the row with the id 1, where it isn't that of the schema.
+pub(crate) fn other_in(versions: &[RawVersion], version: Version) -> Option<i64>
+    ensures { result ≡ other_than (number_of version) versions.now }
+{
+    match version {
+        Version::One => other_than(versions, 1),
+        Version::Two => other_than(versions, 2),
+        Version::Three => other_than(versions, 3),
+        Version::Four => other_than(versions, 4),
+    }
+}
+
+/// The version of the row with the id 1, where it isn't the newest.
 pub(crate) fn other_version(versions: &[RawVersion]) -> Option<i64>
     ensures { result ≡ other_version versions.now }
 {
-    other_than(versions, VERSION)
+    other_in(versions, Version::Four)
 }
 
 /// The sizes of rows that keep each rule; 31 names the least that they break.

@@ -6,7 +6,7 @@ pub mod check;
 mod columns;
 pub mod fault;
 pub mod judge;
-pub mod laws;
+mod made;
 pub mod names;
 mod raws;
 pub mod read;

@@ -50,6 +50,7 @@ impl Raw for RawMerchant {
             single_life: columns.next()?,
             multi_life: columns.next()?,
             moment: columns.next()?,
+            lead: columns.next()?,
         };
         columns.end()?;
         Ok(raw)
@@ -136,6 +137,7 @@ impl Raw for RawRight {
             caller: columns.next()?,
             merchant: columns.next()?,
             what: columns.next()?,
+            ends: columns.next()?,
         };
         columns.end()?;
         Ok(raw)

@@ -1,5 +1,5 @@
-//! Rows of the table that schema 2 replaced.
-ghost use Rattle.vault_verdict.specs.Raw.{entry_id_values, old_entry_values};
+//! Rows of the tables that a later schema replaced.
+ghost use Rattle.vault_verdict.specs.Raw.{id_values, old_entry_values};
 
 use crate::columns::Columns;
 use crate::fault::ReadFault;
@@ -41,18 +41,18 @@ impl Raw for OldEntry {
     }
 }
 
-/// The rowid alone of a row of `entries`.
+/// The rowid alone of a row.
 #[derive(Drop)]
-pub struct EntryId {
+pub struct RowId {
     pub rowid: i64,
 }
 
-impl Raw for EntryId {
-    ghost values = { entry_id_values };
+impl Raw for RowId {
+    ghost values = { id_values };
 
-    fn read(row: &Row) -> Result<EntryId, ReadFault> {
+    fn read(row: &Row) -> Result<RowId, ReadFault> {
         let mut columns = Columns::of(row);
-        let raw = EntryId {
+        let raw = RowId {
             rowid: columns.next()?,
         };
         columns.end()?;

@@ -3,20 +3,75 @@ ghost use Rattle.std.specs.Prelude.{◌≡◌, ℤ, ℕ, IfOk, IfErr, OnOk};
 ghost use Rattle.sqlite.specs.Held.{state};
 ghost use Rattle.sqlite.specs.State.{HasCleanDisk, IsUnchanged};
 ghost use Rattle.vault_verdict.specs.Faults.{IsJudged};
-ghost use Rattle.vault_verdict.specs.Opened.{IsLeastBroken, IsOtherVersion, IsSoundOf};
-ghost use Rattle.vault_verdict.specs.Reading.{IsOurs, IsQuiet, IsUnreadFile};
+ghost use Rattle.vault_verdict.specs.Opened.{AreOldersIn, IsBrokenIn, IsLeastBroken, IsOtherVersion};
+ghost use Rattle.vault_verdict.specs.Opened.{IsSoundIn, IsSoundOf, IsVersionIn};
+ghost use Rattle.vault_verdict.specs.ReadAs.{IsFullIn};
+ghost use Rattle.vault_verdict.specs.Reading.{IsOurs, IsQuiet, IsQuietWhere, IsUnreadFile};
 ghost use Rattle.vault_schema.specs.Schema.{newest_schema};
+ghost use Rattle.vault_schema.specs.Stands.{newest};
+ghost use Rattle.vault_schema.specs.Versions.{schema_of};
 
 use crate::fault::OpenFault;
-use crate::judge::{judge, other_version};
+use crate::judge::{judge, other_in};
 use crate::read::version_rows;
+use crate::replaced::OldEntry;
 use crate::rows::rows;
 use crate::sizes::Sizes;
 use sqlite::{Alter, Connection};
 use std::alloc::Global;
+use vault_schema::version::Version;
 
-/// Reads all tables, and says what they hold where they stand for a sound vault.
-pub fn verdict<S: Alter>(alloc: Global, conn: &mut Connection<S>) -> Result<Sizes, OpenFault>
+/// A vault that was judged to be sound: how much it holds, and the entries of schema 1 as they stand there.
+#[derive(Drop)]
+pub struct Judged {
+    pub sizes: Sizes,
+    pub olders: Vec<OldEntry>,
+}
+
+/// Reads all tables of a version as those of the newest one, and says what they hold where they stand for a
+/// sound vault.
+pub fn verdict<S: Alter>(
+    alloc: Global,
+    conn: &mut Connection<S>,
+    version: Version,
+) -> Result<Judged, OpenFault>
+    ensures sound { HasCleanDisk (state S.Store conn.new)
+        → IfOk result (λ it. IsFullIn version (state S.Store conn.old).now
+        → IsSoundIn version (state S.Store conn.old).now it.sizes) }
+    ensures olders { HasCleanDisk (state S.Store conn.new)
+        → IfOk result (λ it. IsFullIn version (state S.Store conn.old).now
+        → AreOldersIn version (state S.Store conn.old).now.trees it.olders.items) }
+    ensures kept { HasCleanDisk (state S.Store conn.new)
+        → OnOk result ((state S.Store conn.old).now.schema ≡ schema_of version
+        → IsUnchanged (state S.Store conn.old) (state S.Store conn.new)) }
+    ensures damaged { HasCleanDisk (state S.Store conn.new) → IfErr result (λ e. (rule : ℕ)
+        → e ≡ OpenFault.Damaged rule → IsFullIn version (state S.Store conn.old).now
+        → IsBrokenIn version (state S.Store conn.old).now rule) }
+    ensures versioned { HasCleanDisk (state S.Store conn.new) → IfErr result (λ e. (n : ℤ)
+        → e ≡ OpenFault.WrongSchema n
+        → (state S.Store conn.old).now.schema ≡ schema_of version
+        → IsVersionIn version (state S.Store conn.old).now n) }
+    ensures unread { version ≡ newest → HasCleanDisk (state S.Store conn.new)
+        → IfErr result (λ e. e ≡ OpenFault.Store
+        → IsOurs (state S.Store conn.old).now
+        → IsUnreadFile S.Store (state S.Store conn.old).now conn.new) }
+    ensures sees { HasCleanDisk (state S.Store conn.new) → IfErr result (λ e. IsJudged e
+        → (state S.Store conn.old).now.schema ≡ schema_of version
+        → IsUnchanged (state S.Store conn.old) (state S.Store conn.new)) }
+    ensures quiet { IsQuietWhere ((state S.Store conn.old).now.schema ≡ schema_of version)
+        (state S.Store conn.old) (state S.Store conn.new) }
+{
+    let versions = version_rows(alloc, conn)?;
+    if let Some(other) = other_in(&versions, version) {
+        return Err(OpenFault::WrongSchema(other));
+    }
+    let (olders, rows) = rows(alloc, conn, version, versions)?;
+    let sizes = judge(alloc, &rows)?;
+    Ok(Judged { sizes, olders })
+}
+
+/// The verdict over a file in the newest version.
+pub fn newest_verdict<S: Alter>(alloc: Global, conn: &mut Connection<S>) -> Result<Sizes, OpenFault>
     ensures sound { HasCleanDisk (state S.Store conn.new)
         → IfOk result
         (λ sizes. IsOurs (state S.Store conn.old).now → IsSoundOf (state S.Store conn.old).now sizes) }
@@ -38,10 +93,8 @@ pub fn verdict<S: Alter>(alloc: Global, conn: &mut Connection<S>) -> Result<Size
         → IsUnchanged (state S.Store conn.old) (state S.Store conn.new)) }
     ensures quiet { IsQuiet (state S.Store conn.old) (state S.Store conn.new) }
 {
-    let versions = version_rows(alloc, conn)?;
-    if let Some(version) = other_version(&versions) {
-        return Err(OpenFault::WrongSchema(version));
+    match verdict(alloc, conn, Version::Four) {
+        Ok(it) => Ok(it.sizes),
+        Err(fault) => Err(fault),
     }
-    let rows = rows(alloc, conn, versions)?;
-    judge(alloc, &rows)
 }

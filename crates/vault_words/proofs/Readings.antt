@@ -11,7 +11,9 @@ use Rattle.clap.specs.Words.{ReadsOne, Row, Text, first_of, first_value, one_of,
 use Rattle.clap.specs.declared.parser.matches.Found.{Found}
 use Rattle.clap.proofs.WalkLemmas.{first_value-rows, one_text-rows}
 use Rattle.vault_words.specs.Digits.{IsDigitText}
-use Rattle.vault_words.specs.Values.{Finds, HasDigits, HasNow, HasNumber, HasPort, HasText}
+use Rattle.vault_pan.specs.Mask.{lead_digits}
+use Rattle.vault_pan.specs.declared.lead.Lead.{Lead}
+use Rattle.vault_words.specs.Values.{Finds, HasDigits, HasLead, HasMoment, HasNumber, HasPort, HasText}
 use Rattle.vault_words.specs.Values.{IsLeftOut, Writes}
 
 -- what holds where there is no value
@@ -76,11 +78,18 @@ read_number {E} f id r e none value =
     let same = one_text-rows f id in
     number_in {E = E} (one_of id (rows_of f)) r e (λ e. none (same ∙ e)) (λ t e. value t (same ∙ e))
 
--- no moment, where --now is there and is no number
-pub no_now : (rows : List Row) → ¬ (IsLeftOut rows (codes "now"))
-    → ((n : ℕ) → ¬ (HasNumber rows (codes "now") n)) → (now : Option ℕ) → ¬ (HasNow rows now)
-no_now rows given never None h = given h
-no_now rows given never (Some n) h = never n h.0
+-- no moment, where a name has a value that is no number
+pub no_moment : (rows : List Row) (id : Text) → ¬ (IsLeftOut rows id)
+    → ((n : ℕ) → ¬ (HasNumber rows id n)) → (moment : Option ℕ) → ¬ (HasMoment rows id moment)
+no_moment rows id given never None h = given h
+no_moment rows id given never (Some n) h = never n h.0
+
+-- no lead, where --lead is there and is no lead's number
+pub no_lead : (rows : List Row) → ¬ (IsLeftOut rows (codes "lead"))
+    → ((lead : Lead) → ¬ (HasNumber rows (codes "lead") (lead_digits lead))) → (lead : Lead)
+    → ¬ (HasLead rows lead)
+no_lead rows given never lead (inl h) = given h.0
+no_lead rows given never lead (inr h) = never lead h
 
 -- no port, where --port is there and is no number
 pub no_port : (rows : List Row) → ¬ (IsLeftOut rows (codes "port"))

@@ -1,14 +1,16 @@
 -- The subcommands: the rules of their words in clap's terms, and what their values ask for.
 use Rattle.std.specs.Prelude.{List, [], ◌∷◌, true, codes}
-use Rattle.clap.specs.Words.{App, Row, Rule, Text, new_app, with_subcommand}
-use Rattle.vault_words.specs.Rules.{digits_rule, now_rule, number_option, number_rule, text_rule}
-use Rattle.vault_words.specs.Rules.{with_rules}
-use Rattle.vault_words.specs.Values.{HasConnections, HasDigits, HasLife, HasNow, HasPort, HasText}
+use Rattle.clap.specs.Words.{App, Row, Rule, new_app, with_subcommand}
+use Rattle.vault_words.specs.Rules.{digits_rule, lead_rule, now_rule, number_option, number_rule, text_rule}
+use Rattle.vault_words.specs.Rules.{until_rule, with_rules}
+use Rattle.vault_words.specs.Values.{HasConnections, HasDigits, HasLead, HasLife, HasNow, HasPort, HasText}
+use Rattle.vault_words.specs.Values.{HasUntil}
 use Rattle.vault_words.specs.declared.commands.batch.BatchJob.{BatchJob}
 use Rattle.vault_words.specs.declared.commands.check.CheckJob.{CheckJob}
 use Rattle.vault_words.specs.declared.commands.merchant.MerchantJob.{MerchantJob}
 use Rattle.vault_words.specs.declared.commands.migrate.MigrateJob.{MigrateJob}
 use Rattle.vault_words.specs.declared.commands.pipe.PipeJob.{PipeJob}
+use Rattle.vault_words.specs.declared.commands.rights.GrantJob.{GrantJob}
 use Rattle.vault_words.specs.declared.commands.rights.RightJob.{RightJob}
 use Rattle.vault_words.specs.declared.commands.rights_file.RightsFileJob.{RightsFileJob}
 use Rattle.vault_words.specs.declared.commands.serve.ServeJob.{ServeJob}
@@ -27,31 +29,43 @@ AsksTrial rows job =
     HasNow rows job.now × HasDigits rows job.digits × HasText rows (codes "CALLER") job.caller.now
     × HasText rows (codes "MERCHANT") job.merchant.now × HasLife rows (codes "LIFE") job.life
 
--- merchant [--now T] FILE NAME SINGLE MULTI
+-- merchant [--now T] [--lead L] FILE NAME SINGLE MULTI
 abbrev pub merchant_app : App
 merchant_app = with_rules (new_app (codes "merchant"))
-    (now_rule ∷ text_rule (codes "FILE") ∷ text_rule (codes "NAME")
+    (now_rule ∷ lead_rule ∷ text_rule (codes "FILE") ∷ text_rule (codes "NAME")
     ∷ number_rule (codes "SINGLE") ∷ number_rule (codes "MULTI") ∷ [])
 
 -- the values of merchant ask for this job
 abbrev pub AsksMerchant : List Row → MerchantJob → Type 0
 AsksMerchant rows job =
-    HasNow rows job.now × HasText rows (codes "FILE") job.file.now
+    HasNow rows job.now × HasLead rows job.lead × HasText rows (codes "FILE") job.file.now
     × HasText rows (codes "NAME") job.name.now × HasLife rows (codes "SINGLE") job.single_life
     × HasLife rows (codes "MULTI") job.multi_life
 
--- grant, or withdraw: [--now T] FILE CALLER MERCHANT RIGHT
-abbrev pub right_app : Text → App
-right_app name = with_rules (new_app name)
-    (now_rule ∷ text_rule (codes "FILE") ∷ text_rule (codes "CALLER")
-    ∷ text_rule (codes "MERCHANT") ∷ text_rule (codes "RIGHT") ∷ [])
+-- FILE CALLER MERCHANT RIGHT
+abbrev pub right_rules : List Rule
+right_rules =
+    text_rule (codes "FILE") ∷ text_rule (codes "CALLER") ∷ text_rule (codes "MERCHANT")
+    ∷ text_rule (codes "RIGHT") ∷ []
 
--- the values of grant, or of withdraw, ask for this job
+-- grant [--now T] [--until T] FILE CALLER MERCHANT RIGHT
+abbrev pub grant_app : App
+grant_app = with_rules (new_app (codes "grant")) (now_rule ∷ until_rule ∷ right_rules)
+
+-- withdraw [--now T] FILE CALLER MERCHANT RIGHT
+abbrev pub withdraw_app : App
+withdraw_app = with_rules (new_app (codes "withdraw")) (now_rule ∷ right_rules)
+
+-- the values of withdraw, or of grant but for --until, ask for this job
 abbrev pub AsksRight : List Row → RightJob → Type 0
 AsksRight rows job =
     HasNow rows job.now × HasText rows (codes "FILE") job.file.now
     × HasText rows (codes "CALLER") job.caller.now
     × HasText rows (codes "MERCHANT") job.merchant.now × HasText rows (codes "RIGHT") job.right.now
+
+-- the values of grant ask for this job
+abbrev pub AsksGrant : List Row → GrantJob → Type 0
+AsksGrant rows job = AsksRight rows job.given × HasUntil rows job.until
 
 -- rights [--now T] FILE RIGHTS
 abbrev pub rights_app : App
@@ -145,6 +159,5 @@ root_app =
 -- the program
 abbrev pub program_app : App
 program_app = with_subcommands root_app
-    (trial_app ∷ merchant_app ∷ right_app (codes "grant") ∷ right_app (codes "withdraw")
-    ∷ rights_app ∷ pipe_app ∷ batch_app ∷ serve_app ∷ sweep_app ∷ check_app
-    ∷ migrate_app ∷ [])
+    (trial_app ∷ merchant_app ∷ grant_app ∷ withdraw_app ∷ rights_app ∷ pipe_app ∷ batch_app
+    ∷ serve_app ∷ sweep_app ∷ check_app ∷ migrate_app ∷ [])

@@ -3,8 +3,8 @@ use Rattle.std.specs.Prelude.{◌≡◌, ◌≢◌, ◌⊎◌, List, [], ◌∷�
 use Rattle.clap.specs.Words.{App, Row, Text, IsAmong, fault_of, subcommand_of}
 use Rattle.clap.specs.declared.error.kind.ErrorKind.{ErrorKind}
 use Rattle.clap.specs.declared.error.kind.ErrorKind.TheVariants.{DisplayHelp, OutOfMemory}
-use Rattle.vault_words.specs.Commands.{AsksBatch, AsksCheck, AsksMerchant, AsksMigrate, AsksPipe, AsksRight}
-use Rattle.vault_words.specs.Commands.{AsksRights, AsksServe, AsksSweep, AsksTrial}
+use Rattle.vault_words.specs.Commands.{AsksBatch, AsksCheck, AsksGrant, AsksMerchant, AsksMigrate, AsksPipe}
+use Rattle.vault_words.specs.Commands.{AsksRight, AsksRights, AsksServe, AsksSweep, AsksTrial}
 use Rattle.vault_words.specs.declared.jobs.Job.{Job}
 use Rattle.vault_words.specs.declared.jobs.Job.TheVariants.{Trial, Merchant, Grant, Withdraw}
 use Rattle.vault_words.specs.declared.jobs.Job.TheVariants.{Rights, Pipe, Batch, Serve, Sweep, Check, Migrate}
@@ -15,7 +15,7 @@ use Rattle.vault_words.specs.declared.jobs.JobFault.TheVariants.{Help, BadWords,
 abbrev pub Asks : Text → List Row → Job → Type 0
 Asks name rows (Trial job) = (name ≡ codes "trial") × AsksTrial rows job
 Asks name rows (Merchant job) = (name ≡ codes "merchant") × AsksMerchant rows job
-Asks name rows (Grant job) = (name ≡ codes "grant") × AsksRight rows job
+Asks name rows (Grant job) = (name ≡ codes "grant") × AsksGrant rows job
 Asks name rows (Withdraw job) = (name ≡ codes "withdraw") × AsksRight rows job
 Asks name rows (Rights job) = (name ≡ codes "rights") × AsksRights rows job
 Asks name rows (Pipe job) = (name ≡ codes "pipe") × AsksPipe rows job

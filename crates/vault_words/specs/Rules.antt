@@ -26,6 +26,14 @@ number_option id = record (text_option id) { parser = Some (vp.Unsigned 0 184467
 abbrev pub now_rule : Rule
 now_rule = number_option (codes "now")
 
+-- --until T
+abbrev pub until_rule : Rule
+until_rule = number_option (codes "until")
+
+-- --lead L
+abbrev pub lead_rule : Rule
+lead_rule = number_option (codes "lead")
+
 -- --digits D
 abbrev pub digits_rule : Rule
 digits_rule = text_option (codes "digits")

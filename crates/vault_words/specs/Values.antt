@@ -3,6 +3,9 @@ use Rattle.std.specs.Prelude.{◌≡◌, ◌⊎◌, ℕ, ◌<◌, ◌≤◌, ◌
 use Rattle.std.specs.Prelude.{Result, MatchResult}
 use Rattle.std.specs.Str.Parse.{IsNumeral, digits_value, without_leading_plus}
 use Rattle.clap.specs.Words.{Row, Text, first_of, one_of}
+use Rattle.vault_pan.specs.Mask.{lead_digits}
+use Rattle.vault_pan.specs.declared.lead.Lead.{Lead}
+use Rattle.vault_pan.specs.declared.lead.Lead.TheVariants.{Six}
 use Rattle.vault_core.specs.Scalar.{IsLife, IsMoment}
 use Rattle.vault_words.specs.Digits.{IsDigitText, repeated}
 
@@ -32,10 +35,24 @@ HasNumber rows id n = (text : Text) × (one_of id rows ≡ Some text) × Writes 
 abbrev pub HasLife : List Row → Text → ℕ → Type 0
 HasLife rows id life = HasNumber rows id life × IsLife life
 
+-- it writes this moment, or is left out
+abbrev pub HasMoment : List Row → Text → Option ℕ → Type 0
+HasMoment rows id None = IsLeftOut rows id
+HasMoment rows id (Some moment) = HasNumber rows id moment × IsMoment moment
+
 -- --now gives this moment, or is left out
 abbrev pub HasNow : List Row → Option ℕ → Type 0
-HasNow rows None = IsLeftOut rows (codes "now")
-HasNow rows (Some now) = HasNumber rows (codes "now") now × IsMoment now
+HasNow rows now = HasMoment rows (codes "now") now
+
+-- --until gives this end of a right, or is left out, and the right has none
+abbrev pub HasUntil : List Row → Option ℕ → Type 0
+HasUntil rows until = HasMoment rows (codes "until") until
+
+-- --lead gives this lead, 6 or 8, or is left out, and the lead is 6
+abbrev pub HasLead : List Row → Lead → Type 0
+HasLead rows lead =
+    (IsLeftOut rows (codes "lead") × (lead ≡ Six))
+    ⊎ HasNumber rows (codes "lead") (lead_digits lead)
 
 -- --digits gives these in place of drawn ones, or is left out
 abbrev pub HasDigits : List Row → Option (List ℕ) → Type 0

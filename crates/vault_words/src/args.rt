@@ -2,7 +2,7 @@
 ghost use Rattle.std.specs.Prelude.{◌≡◌, IfOk, codes, false};
 ghost use Rattle.clap.specs.Words.{App, Rule, new_app, rule_of, with_rule};
 ghost use Rattle.vault_words.specs.Rules.{IsApp, number_option, number_rule, text_option, text_rule};
-ghost use Rattle.vault_words.specs.Rules.{digits_rule, now_rule};
+ghost use Rattle.vault_words.specs.Rules.{digits_rule, lead_rule, now_rule, until_rule};
 
 use clap::{Arg, ArgAction, Command, value_parser};
 use std::alloc::{AllocError, Global};
@@ -55,6 +55,32 @@ pub(crate) fn now<'a>(alloc: Global) -> Arg<'a>
         "now",
         "T",
         "The moment, in seconds since 1970, in place of the clock's",
+    )
+}
+
+/// The end of a right.
+pub(crate) fn until<'a>(alloc: Global) -> Arg<'a>
+    ensures rule { rule_of result ≡ until_rule }
+    ensures local { result.global ≡ false }
+{
+    number_after(
+        alloc,
+        "until",
+        "T",
+        "The right's end, in seconds since 1970; none, if left out",
+    )
+}
+
+/// How many digits masks show at the left, at most.
+pub(crate) fn lead<'a>(alloc: Global) -> Arg<'a>
+    ensures rule { rule_of result ≡ lead_rule }
+    ensures local { result.global ≡ false }
+{
+    number_after(
+        alloc,
+        "lead",
+        "L",
+        "Most digits at the left of a mask, 6 or 8; 6, if left out",
     )
 }
 

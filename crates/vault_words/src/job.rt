@@ -10,7 +10,7 @@ use crate::commands::check::CheckJob;
 use crate::commands::merchant::MerchantJob;
 use crate::commands::migrate::MigrateJob;
 use crate::commands::pipe::PipeJob;
-use crate::commands::rights::RightJob;
+use crate::commands::rights::{GrantJob, RightJob};
 use crate::commands::rights_file::RightsFileJob;
 use crate::commands::serve::ServeJob;
 use crate::commands::sweep::SweepJob;
@@ -41,7 +41,7 @@ fn job_of<'a>(name: &str, matches: &ArgMatches<'a>) -> Result<Job<'a>, BadValue>
     match name {
         "trial" => read!(matches, TrialJob, Job::Trial),
         "merchant" => read!(matches, MerchantJob, Job::Merchant),
-        "grant" => read!(matches, RightJob, Job::Grant),
+        "grant" => read!(matches, GrantJob, Job::Grant),
         "withdraw" => read!(matches, RightJob, Job::Withdraw),
         "rights" => read!(matches, RightsFileJob, Job::Rights),
         "pipe" => read!(matches, PipeJob, Job::Pipe),

@@ -5,7 +5,7 @@ use crate::commands::check::CheckJob;
 use crate::commands::merchant::MerchantJob;
 use crate::commands::migrate::MigrateJob;
 use crate::commands::pipe::PipeJob;
-use crate::commands::rights::RightJob;
+use crate::commands::rights::{GrantJob, RightJob};
 use crate::commands::rights_file::RightsFileJob;
 use crate::commands::serve::ServeJob;
 use crate::commands::sweep::SweepJob;
@@ -27,10 +27,10 @@ pub enum JobFault {
 pub enum Job<'a> {
     /// Messages from standard input are answered by a vault in memory, which ends with the program.
     Trial(TrialJob<'a>),
-    /// A merchant's lives are set.
+    /// A merchant's lives and its lead are set.
     Merchant(MerchantJob<'a>),
     /// A caller is given a right.
-    Grant(RightJob<'a>),
+    Grant(GrantJob<'a>),
     /// A right is taken from a caller.
     Withdraw(RightJob<'a>),
     /// The rights that a rights file lists are granted.

@@ -1,14 +1,15 @@
 //! The values that a subcommand was given.
 ghost use Rattle.std.specs.Prelude.{IsTrue, ◌↔◌};
 ghost use Rattle.clap.specs.Words.{found_of, rows_of};
-ghost use Rattle.vault_words.specs.Values.{Finds, HasConnections, HasDigits, HasLife, HasNow};
-ghost use Rattle.vault_words.specs.Values.{HasNumber, HasPort, HasText, IsLeftOut};
+ghost use Rattle.vault_words.specs.Values.{Finds, HasConnections, HasDigits, HasLead, HasLife, HasMoment};
+ghost use Rattle.vault_words.specs.Values.{HasNow, HasNumber, HasPort, HasText, HasUntil, IsLeftOut};
 
 use crate::digits::drawn;
 use clap::ArgMatches;
 use vault_core::limit::LONGEST_LIFE;
 use vault_core::moment::Moment;
 use vault_pan::draw::Digits;
+use vault_pan::lead::Lead;
 
 /// The most connections that a service can be asked for.
 const MOST_CONNECTIONS: u64 = 1_000_000;
@@ -49,16 +50,43 @@ pub(crate) fn life(matches: &ArgMatches<'_>, id: &str) -> Result<u64, BadValue>
     Ok(life)
 }
 
+/// The moment of this name, if it is there.
+fn moment(matches: &ArgMatches<'_>, id: &str) -> Result<Option<Moment>, BadValue>
+    ensures { Finds result (HasMoment (rows_of (found_of matches.now)) id.now) }
+{
+    if is_left_out(matches, id) {
+        return Ok(None);
+    }
+    match Moment::new(number(matches, id)?) {
+        Ok(moment) => Ok(Some(moment)),
+        Err(_) => Err(BadValue),
+    }
+}
+
 /// The moment that `--now` gives, if it is there.
 pub(crate) fn now(matches: &ArgMatches<'_>) -> Result<Option<Moment>, BadValue>
     ensures { Finds result (HasNow (rows_of (found_of matches.now))) }
 {
-    if is_left_out(matches, "now") {
-        return Ok(None);
+    moment(matches, "now")
+}
+
+/// The end of a right that `--until` gives, if it is there.
+pub(crate) fn until(matches: &ArgMatches<'_>) -> Result<Option<Moment>, BadValue>
+    ensures { Finds result (HasUntil (rows_of (found_of matches.now))) }
+{
+    moment(matches, "until")
+}
+
+/// The lead that `--lead` gives, or six, where it isn't there.
+pub(crate) fn lead(matches: &ArgMatches<'_>) -> Result<Lead, BadValue>
+    ensures { Finds result (HasLead (rows_of (found_of matches.now))) }
+{
+    if is_left_out(matches, "lead") {
+        return Ok(Lead::Six);
     }
-    match Moment::new(number(matches, "now")?) {
-        Ok(now) => Ok(Some(now)),
-        Err(_) => Err(BadValue),
+    match Lead::of(number(matches, "lead")?) {
+        Some(lead) => Ok(lead),
+        None => Err(BadValue),
     }
 }
 

@@ -1,4 +1,4 @@
-//! `merchant`: a merchant's lives.
+//! `merchant`: a merchant's lives and its lead.
 ghost use Rattle.std.specs.Prelude.{◌≡◌};
 ghost use Rattle.vault_wire.specs.Watching.{inner_of};
 ghost use Rattle.vault_jobs.specs.Streams.{Streams, streams};
@@ -41,6 +41,7 @@ pub(crate) fn merchant<R: Read, W: Write>(
         merchant,
         single_life: job.single_life,
         multi_life: job.multi_life,
+        lead: job.lead,
         now,
     };
     do_on_file(rt, job.file, &Task::Change(set), input, output)

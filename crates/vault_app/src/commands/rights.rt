@@ -16,7 +16,7 @@ use vault_jobs::clock::moment;
 use vault_jobs::task::Task;
 use vault_rights::fault::UNKNOWN_RIGHT;
 use vault_wire::watched::Watched;
-use vault_words::commands::rights::RightJob;
+use vault_words::commands::rights::{GrantJob, RightJob};
 
 /// Whose right at which merchant.
 #[derive(Clone, Copy)]
@@ -47,22 +47,22 @@ fn read(job: &RightJob<'_>) -> Result<Entitlement, u8>
     })
 }
 
-/// Gives a caller a right at a merchant, in the vault of a file. Refused by 4 where a name is none, by 71
-/// where the right is none, and by 7 where the merchant isn't known.
+/// Gives a caller a right at a merchant, up to an end or for good, in the vault of a file. Refused by 4 where
+/// a name is none, by 71 where the right is none, and by 7 where the merchant isn't known.
 pub(crate) fn grant<R: Read, W: Write>(
     rt: &HostRuntime,
-    job: &RightJob<'_>,
+    job: &GrantJob<'_>,
     input: &mut Watched<R>,
     output: &mut Watched<W>,
 ) -> Ending
     ensures { let s : Streams = streams R.remaining input.old input.new W.contents output.old output.new in
         Ends (Job.Grant job.entry.now) result (input.new ≡ input.old) (output.new ≡ output.old) s }
 {
-    let asked = match read(job) {
+    let asked = match read(&job.given) {
         Ok(asked) => asked,
         Err(number) => return Ending::Refused(number),
     };
-    let now = match moment(rt, job.now) {
+    let now = match moment(rt, job.given.now) {
         Ok(now) => now,
         Err(stop) => return Ending::Stopped(stop),
     };
@@ -70,9 +70,10 @@ pub(crate) fn grant<R: Read, W: Write>(
         caller: asked.caller,
         merchant: asked.merchant,
         right: asked.right,
+        until: job.until,
         now,
     };
-    do_on_file(rt, job.file, &Task::Change(grant), input, output)
+    do_on_file(rt, job.given.file, &Task::Change(grant), input, output)
 }
 
 /// Takes a right of a caller at a merchant away, in the vault of a file. Refused as a grant is.

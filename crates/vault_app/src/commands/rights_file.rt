@@ -10,6 +10,7 @@ use crate::ending::Ending;
 use crate::on_file::do_on_file;
 use std::fs;
 use std::io::{Read, Write};
+use vault_core::moment::Moment;
 use vault_core::name::{Caller, MerchantId};
 use vault_core::right::Right;
 use vault_jobs::clock::moment;
@@ -20,9 +21,12 @@ use vault_rights::read::read_rights;
 use vault_wire::watched::Watched;
 use vault_words::commands::rights_file::RightsFileJob;
 
-/// The rights that a file lists, or how the job ends without them: refused by 70 to 73, or stopped by 74 or,
-/// where the file can't be read, by 80.
-fn read(rt: &HostRuntime, path: &str) -> Result<Vec<(Caller, MerchantId, Right)>, Ending>
+/// The rights that a file lists, or how the job ends without them: refused by 70 to 73 or 75, or stopped by
+/// 74 or, where the file can't be read, by 80.
+fn read(
+    rt: &HostRuntime,
+    path: &str,
+) -> Result<Vec<(Caller, MerchantId, Right, Option<Moment>)>, Ending>
     ensures listed { IfOk result (λ rows. IsListed rows.items) }
     ensures unlisted { IfErr result IsUnlisted }
 {
@@ -36,8 +40,8 @@ fn read(rt: &HostRuntime, path: &str) -> Result<Vec<(Caller, MerchantId, Right)>
     }
 }
 
-/// Gives the rights that a file lists, in the vault of another file, up to the first that is refused: by 7
-/// where its merchant isn't known. The vault's file isn't touched where the list isn't read.
+/// Gives the rights that a file lists, each with its end, in the vault of another file, up to the first that
+/// is refused: by 7 where its merchant isn't known. The vault's file isn't touched where the list isn't read.
 pub(crate) fn rights<R: Read, W: Write>(
     rt: &HostRuntime,
     job: &RightsFileJob<'_>,

@@ -79,6 +79,147 @@ fn a_right_that_is_withdrawn_is_refused(rt: HostRuntime) {
     assert!(rt; is_forbidden(&rt));
 }
 
+/// A question for the counts by `back`.
+const COUNTS: &str = "GET /v1/merchants/shop1/audit HTTP/1.1\r\nX-Vault-Caller: back\r\n\r\n";
+
+/// The counts of a merchant without tokens.
+const NO_COUNTS: &str =
+    "HTTP/1.1 200 OK\r\nContent-Type: application/json\r\nContent-Length: 31\r\n\r\n\
+     {\"denied\":0,\"given\":0,\"made\":0}";
+
+/// The answer to a caller who hasn't the right.
+const NO_RIGHT: &str =
+    "HTTP/1.1 403 Forbidden\r\nContent-Type: application/json\r\nContent-Length: 13\r\n\r\n\
+     {\"refused\":8}";
+
+/// A right is given up to an end, and then for good.
+const ENDING: [Step; 6] = [
+    (
+        "vault merchant --now 1000 FILE shop1 60 0",
+        "",
+        0,
+        "done\n",
+        "",
+    ),
+    (
+        "vault grant --now 1000 --until 2000 FILE back shop1 audit",
+        "",
+        0,
+        "done\n",
+        "",
+    ),
+    (
+        "vault pipe --now 1999 --digits 0 FILE",
+        COUNTS,
+        0,
+        NO_COUNTS,
+        "",
+    ),
+    (
+        "vault pipe --now 2000 --digits 0 FILE",
+        COUNTS,
+        0,
+        NO_RIGHT,
+        "",
+    ),
+    (
+        "vault grant --now 2000 FILE back shop1 audit",
+        "",
+        0,
+        "done\n",
+        "",
+    ),
+    (
+        "vault pipe --now 2000 --digits 0 FILE",
+        COUNTS,
+        0,
+        NO_COUNTS,
+        "",
+    ),
+];
+
+#[test]
+fn a_right_lasts_up_to_its_end(rt: HostRuntime) {
+    assert!(rt; is_folder_made(&rt, "app_ending"));
+    assert!(rt; end_so(&rt, "app_ending/vault.db", &ENDING));
+}
+
+/// A question for what the worked message's token stands for.
+const VIEW: &str = "GET /v1/merchants/shop1/tokens/0000000000001111 HTTP/1.1\r\n\
+     X-Vault-Caller: till-1\r\n\r\n";
+
+/// Its answer with eight digits at the left.
+const EIGHT: &str =
+    "HTTP/1.1 200 OK\r\nContent-Type: application/json\r\nContent-Length: 87\r\n\r\n\
+     {\"birth\":1000,\"expires\":1060,\"masked\":\"41111111****1111\",\"state\":\"live\",\
+     \"use\":\"single\"}";
+
+/// Its answer with six.
+const SIX: &str = "HTTP/1.1 200 OK\r\nContent-Type: application/json\r\nContent-Length: 87\r\n\r\n\
+     {\"birth\":1000,\"expires\":1060,\"masked\":\"411111******1111\",\"state\":\"live\",\
+     \"use\":\"single\"}";
+
+/// A token is shown with the lead that its merchant has at the time.
+const LEADS: [Step; 8] = [
+    (
+        "vault merchant --now 1000 --lead 8 FILE shop1 60 0",
+        "",
+        0,
+        "done\n",
+        "",
+    ),
+    (
+        "vault grant --now 1000 FILE till-1 shop1 tokenize",
+        "",
+        0,
+        "done\n",
+        "",
+    ),
+    (
+        "vault grant --now 1000 FILE till-1 shop1 view",
+        "",
+        0,
+        "done\n",
+        "",
+    ),
+    (
+        "vault pipe --now 1000 --digits 0 FILE",
+        ASKED,
+        0,
+        FIRST_TOKEN,
+        "",
+    ),
+    ("vault pipe --now 1000 --digits 0 FILE", VIEW, 0, EIGHT, ""),
+    (
+        "vault merchant --now 1000 FILE shop1 60 0",
+        "",
+        0,
+        "done\n",
+        "",
+    ),
+    ("vault pipe --now 1000 --digits 0 FILE", VIEW, 0, SIX, ""),
+    ("vault check FILE", "", 0, "sound 1 1 1\n", ""),
+];
+
+#[test]
+fn a_token_is_shown_with_its_merchants_lead(rt: HostRuntime) {
+    assert!(rt; is_folder_made(&rt, "app_leads"));
+    assert!(rt; end_so(&rt, "app_leads/vault.db", &LEADS));
+}
+
+/// A file is made in the newest schema, and stays in it.
+const MIGRATED: [Step; 3] = [
+    ("vault migrate FILE", "", 0, "schema 4\n", ""),
+    ("vault migrate FILE", "", 0, "schema 4\n", ""),
+    ("vault check FILE", "", 0, "sound 0 0 0\n", ""),
+];
+
+#[test]
+fn a_new_file_has_the_newest_schema(rt: HostRuntime) {
+    assert!(rt; is_folder_made(&rt, "app_migrated"));
+    assert!(rt; end_so(&rt, "app_migrated/vault.db", &MIGRATED));
+}
+
 /// Names and rights that are refused before the file.
 const MISNAMED: [Step; 5] = [
     ("vault grant FILE Till shop1 view", "", 1, "refused 4\n", ""),

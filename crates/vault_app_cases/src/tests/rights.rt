@@ -11,7 +11,7 @@ fn gives(rt: &HostRuntime, file: &str, list: &str, text: &str, step: Step) -> bo
 const GIVEN: &str = "vault rights --now 1000 FILE app_rights/rights.toml";
 
 /// A rights file, the status and the line that it ends with.
-const LISTS: [(&str, u8, &str); 4] = [
+const LISTS: [(&str, u8, &str); 5] = [
     (
         "[till-1]\nshop1 = [\"view\", \"tokenize\", \"view\"]\n[back]\nshop1 = [\"purge\"]\n",
         0,
@@ -21,6 +21,11 @@ const LISTS: [(&str, u8, &str); 4] = [
         "[till-1]\nshop1 = [\"view\", \"tokenize\", \"view\"]\n[back]\nshop1 = [\"purge\"]\n",
         0,
         "granted 3\n",
+    ),
+    (
+        "[till-1]\nshop1 = [\"view\", {right = \"view\", until = 2000}, {right = \"audit\", until = 2000}]\n",
+        0,
+        "granted 2\n",
     ),
     ("", 0, "granted 0\n"),
     (
@@ -49,11 +54,16 @@ fn a_rights_file_is_granted_up_to_the_first_refusal(rt: HostRuntime) {
 const UNLISTED: &str = "vault rights --now 1000 FILE app_unlisted/rights.toml";
 
 /// A rights file that is refused, and the line that it ends with.
-const REFUSED: [(&str, &str); 4] = [
+const REFUSED: [(&str, &str); 6] = [
     ("[till-1", "refused 70\n"),
     ("[a]\nshop1 = [\"peek\"]\n", "refused 71\n"),
     ("[A]\nshop1 = []\n", "refused 72\n"),
     ("[a]\nshop1 = \"view\"\n", "refused 73\n"),
+    ("[a]\nshop1 = [{right = \"view\"}]\n", "refused 73\n"),
+    (
+        "[a]\nshop1 = [{right = \"view\", until = -1}]\n",
+        "refused 75\n",
+    ),
 ];
 
 #[test]

@@ -5,9 +5,23 @@ use vault_app::run::no_words;
 use vault_wire::watched::Watched;
 
 /// Words that ask for no job.
-const BAD: [Step; 2] = [
+const BAD: [Step; 4] = [
     ("vault", "", 2, "", "vault: bad words\n"),
     ("vault trial till-1 shop1", "", 2, "", "vault: bad words\n"),
+    (
+        "vault merchant --lead 7 v.db shop1 60 0",
+        "",
+        2,
+        "",
+        "vault: bad words\n",
+    ),
+    (
+        "vault withdraw --until 1 v.db till-1 shop1 view",
+        "",
+        2,
+        "",
+        "vault: bad words\n",
+    ),
 ];
 
 #[test]

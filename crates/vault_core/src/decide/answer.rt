@@ -23,6 +23,7 @@ pub fn moved(merchant: MerchantId, row: &MerchantRow, now: Moment) -> Lives
         merchant,
         single_life: row.single_life,
         multi_life: row.multi_life,
+        lead: row.lead,
         moment: row.moment.later(now),
     }
 }

@@ -11,7 +11,9 @@ use crate::name::{Caller, MerchantId};
 use crate::refusal::{NO_MERCHANT, TOO_MANY_MERCHANTS};
 use crate::reply::Reply;
 use crate::right::Right;
+use crate::row::GrantRow;
 use crate::window::Window;
+use vault_pan::lead::Lead;
 
 /// A merchant is set.
 pub fn set_merchant(
@@ -19,12 +21,13 @@ pub fn set_merchant(
     merchant: MerchantId,
     single_life: u64,
     multi_life: u64,
+    lead: Lead,
     now: Moment,
 ) -> (Reply, Changes)
     requires single { IsLife single_life }
     requires multi { IsLife multi_life }
-    ensures settles { Decides w.now (Command.SetMerchant merchant single_life multi_life now) result }
-    ensures refusals { RefusesQuietly (Command.SetMerchant merchant single_life multi_life now)
+    ensures settles { Decides w.now (Command.SetMerchant merchant single_life multi_life lead now) result }
+    ensures refusals { RefusesQuietly (Command.SetMerchant merchant single_life multi_life lead now)
         result.0 result.1 }
 {
     let moment = match w.merchant {
@@ -40,6 +43,7 @@ pub fn set_merchant(
         merchant,
         single_life,
         multi_life,
+        lead,
         moment,
     };
     (
@@ -51,16 +55,17 @@ pub fn set_merchant(
     )
 }
 
-/// A right is given.
+/// A right is given, up to an end or for good.
 pub fn grant(
     w: &Window,
     caller: Caller,
     merchant: MerchantId,
     right: Right,
+    until: Option<Moment>,
     now: Moment,
 ) -> (Reply, Changes)
-    ensures settles { Decides w.now (Command.Grant caller merchant right now) result }
-    ensures refusals { RefusesQuietly (Command.Grant caller merchant right now) result.0 result.1 }
+    ensures settles { Decides w.now (Command.Grant caller merchant right until now) result }
+    ensures refusals { RefusesQuietly (Command.Grant caller merchant right until now) result.0 result.1 }
 {
     let Some(row) = w.merchant else {
         return refused(NO_MERCHANT);
@@ -69,7 +74,7 @@ pub fn grant(
         Reply::Done,
         Changes {
             lives: Some(moved(merchant, &row, now)),
-            right: Some((caller, merchant, right, true)),
+            right: Some((caller, merchant, right, Some(GrantRow { ends: until }))),
             ..Changes::none()
         },
     )
@@ -93,7 +98,7 @@ pub fn withdraw(
         Reply::Done,
         Changes {
             lives: Some(moved(merchant, &row, now)),
-            right: Some((caller, merchant, right, false)),
+            right: Some((caller, merchant, right, None)),
             ..Changes::none()
         },
     )

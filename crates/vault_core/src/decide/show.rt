@@ -34,7 +34,7 @@ pub fn view(w: &Window, asked: &TokenCommand) -> (Reply, Changes)
         EntryState::Purged => return refused(PURGED),
     };
     let reply = Reply::Shown {
-        masked: mask(&number),
+        masked: mask(&number, row.lead),
         usage: entry.usage,
         birth: entry.birth,
         expires: entry.expires,

@@ -13,7 +13,7 @@ merchants 1
 right granted
 candidate 0000000000001111
 tokenize till-1 shop1 7 single 4111111111111111 0 1000 = 0000000000001111 1060; lives made entry recorded
-lives = shop1 60 0 1000
+lives = shop1 60 0 1000 Six
 entry = shop1 0000000000001111 4111111111111111 single 1000 1060 -
 recorded = till-1 7 shop1 0000000000001111 single";
 
@@ -65,10 +65,31 @@ merchants 1
 right granted
 candidate 0000000000001111
 tokenize till-1 shop1 7 single 4111111111111111 0 1000 = 0000000000001111 2060; lives made entry recorded
-lives = shop1 60 0 2000
+lives = shop1 60 0 2000 Six
 grant till-1 shop1 view 1500 = done; lives right
-lives = shop1 60 0 2000
-right = till-1 shop1 View true";
+lives = shop1 60 0 2000 Six
+right = till-1 shop1 View for good";
+
+/// A set gives a merchant its lead, which no other command changes; a grant gives a right its end.
+const SET: &str = "shop 60 0 1000 0 0 0 eight
+merchants 1
+right granted
+candidate 0000000000001111
+tokenize till-1 shop1 7 single 4111111111111111 0 1000 = 0000000000001111 1060; lives made entry recorded
+lives = shop1 60 0 1000 Eight
+set shop1 60 0 1000 = done; lives
+lives = shop1 60 0 1000 Six
+set shop1 60 0 1000 8 = done; lives
+lives = shop1 60 0 1000 Eight
+grant till-1 shop1 view 1500 1600 = done; lives right
+lives = shop1 60 0 1500 Eight
+right = till-1 shop1 View until 1600
+grant till-1 shop1 view 1500 1499 = done; lives right
+right = till-1 shop1 View until 1499
+grant till-1 shop1 view 1500 = done; lives right
+right = till-1 shop1 View for good
+withdraw till-1 shop1 view 1500 = done; lives right
+right = till-1 shop1 View taken away";
 
 /// A vault has room for 10000 merchants.
 const ROOM: &str = "merchants 9999
@@ -87,13 +108,14 @@ candidate 0000000000001111
 printed tokenize till-1 shop1 7 single 4111111111111111 0 1000 = true true false";
 
 /// All cases.
-const CASES: [&str; 17] = [
+const CASES: [&str; 18] = [
     NEW,
     REFUSED,
     REPEATED,
     REUSED,
     AGAIN,
     FALLEN,
+    SET,
     ROOM,
     PRINTED,
     redeeming::LIMITS,

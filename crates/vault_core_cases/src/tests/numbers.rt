@@ -101,6 +101,13 @@ mask |4222222222222| = 422******2222
 mask |4111 1111 1111 1111| = 411111******1111
 mask |6304000000000000000| = 630400*********0000";
 
+/// With a lead of eight a mask shows two more at the left, and hides four or more.
+const EIGHT_MASKS: &str = "mask eight |0000000000| = 00****0000
+mask eight |79927398713| = 799****8713
+mask eight |4222222222222| = 42222****2222
+mask eight |4111111111111111| = 41111111****1111
+mask eight |6304000000000000000| = 63040000*******0000";
+
 /// Numbers that differ where they are hidden have one mask.
 const SAME_MASKS: &str = "masks 4111111210111111 4111111111111111 = true Equal Some(Equal)
 masks 4222222222222 4111111111111111 = false Greater Some(Greater)
@@ -122,7 +129,7 @@ fault token = 3 3 not a token";
 const SHORT: &str = "short = 0 true 4 false Less Some(Equal) Short(4 bytes)";
 
 /// All cases, also those of names.
-const CASES: [&str; 20] = [
+const CASES: [&str; 21] = [
     CHECKS,
     SHOWN,
     FAULTS,
@@ -133,6 +140,7 @@ const CASES: [&str; 20] = [
     CANDIDATES,
     PASSING,
     MASKS,
+    EIGHT_MASKS,
     SAME_MASKS,
     PRINTED,
     REFUSALS,

@@ -27,13 +27,14 @@ replaced 1 = 1
 replaced 18446744073709551615 = 1";
 
 /// All cases.
-const CASES: [&str; 29] = [
+const CASES: [&str; 31] = [
     SOUND,
     VERSIONS,
     REPLACED,
     merchants::NAMES,
     merchants::MANY,
     merchants::BOUNDS,
+    merchants::LEADS,
     merchants::COUNTS,
     merchants::COUNTED,
     merchants::FIRST_COUNT,
@@ -50,6 +51,7 @@ const CASES: [&str; 29] = [
     callers::REQUESTS,
     callers::ENTRIES,
     callers::RIGHTS,
+    callers::ENDS,
     callers::LEAST,
     cards::USES,
     cards::POINTED,

@@ -103,7 +103,7 @@ set shop1 50 0 1000 = done",
 );
 
 /// All cases.
-const CASES: [(&str, &str); 22] = [
+const CASES: [(&str, &str); 24] = [
     OPENED,
     TAKEN,
     OTHERWISE,
@@ -119,6 +119,8 @@ const CASES: [(&str, &str); 22] = [
     redeemed::DENIED,
     redeemed::ELSEWHERE,
     redeemed::SHOWN,
+    redeemed::LEADING,
+    redeemed::ENDED,
     redeemed::WITHDRAWN,
     purged::ALIKE,
     purged::LISTED,

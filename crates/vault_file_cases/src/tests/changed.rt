@@ -8,18 +8,23 @@ tokenize till-1 shop1 7 single 4111111111111111 0 1000 = 0000000000001111 1060
 tokenize till-1 shop1 8 multi 4111111111111111 1 1000 = 1111111111111111 1100";
 
 /// Statements, and by which rule the rows are refused then.
-const RULES: [(&str, &str); 21] = [
+const RULES: [(&str, &str); 27] = [
     ("DELETE FROM vault", "31 1"),
-    ("INSERT INTO vault VALUES (2, 2)", "31 1"),
+    ("INSERT INTO vault VALUES (2, 4)", "31 1"),
     (
         "INSERT INTO entries VALUES ('shop1', '2222222222221111', NULL, 1, 0, 60, 0)",
         "31 1",
     ),
-    ("UPDATE merchants SET name = 'Shop1'", "31 2"),
-    ("UPDATE merchants SET multi_life = -1", "31 3"),
-    ("UPDATE merchants SET moment = 253402300800", "31 3"),
+    (
+        "INSERT INTO merchants VALUES ('shop1', 60, 100, 1000)",
+        "31 1",
+    ),
+    ("INSERT INTO rights VALUES ('till-1', 'shop1', 1)", "31 1"),
+    ("UPDATE merchants3 SET name = 'Shop1'", "31 2"),
+    ("UPDATE merchants3 SET multi_life = -1", "31 3"),
+    ("UPDATE merchants3 SET moment = 253402300800", "31 3"),
     ("UPDATE counts SET kind = 4 WHERE kind = 1", "31 4"),
-    ("DELETE FROM merchants", "31 4"),
+    ("DELETE FROM merchants3", "31 4"),
     (
         "UPDATE entries2 SET token = '4111111111111111' WHERE usage = 1",
         "31 5",
@@ -38,18 +43,29 @@ const RULES: [(&str, &str); 21] = [
         "UPDATE counts SET total = 3 WHERE kind = 1; UPDATE records SET usage = 2 WHERE request = 7",
         "31 10",
     ),
-    ("UPDATE rights SET what = 7 WHERE what = 6", "31 12"),
+    ("UPDATE rights4 SET what = 7 WHERE what = 6", "31 12"),
     ("UPDATE cards2 SET uses = 3", "31 13"),
     (
         "UPDATE entries2 SET card = card + 1 WHERE usage = 1",
         "31 13",
     ),
     ("UPDATE cards2 SET merchant = 'shop2'", "31 13"),
+    ("UPDATE merchants3 SET lead_digits = 7", "31 14"),
+    (
+        "UPDATE merchants3 SET lead_digits = 7; UPDATE rights4 SET ends = -1",
+        "31 14",
+    ),
+    ("UPDATE rights4 SET ends = -1 WHERE what = 1", "31 15"),
+    (
+        "UPDATE rights4 SET ends = 253402300800 WHERE what = 6",
+        "31 15",
+    ),
 ];
 
 /// Statements, and what the file is refused by for its version, its names or the form of its tables.
-const FORMS: [(&str, &str); 13] = [
+const FORMS: [(&str, &str); 17] = [
     ("UPDATE vault SET version = 9", "30 9"),
+    ("UPDATE vault SET version = 3", "30 3"),
     ("UPDATE vault SET version = 9; DROP TABLE rights", "30 9"),
     (
         "UPDATE vault SET version = 1; CREATE TABLE notes (line TEXT)",
@@ -62,6 +78,8 @@ const FORMS: [(&str, &str); 13] = [
     ("DELETE FROM vault; DROP TABLE rights", "30 0"),
     ("DROP TABLE rights", "30 0"),
     ("DROP TABLE cards2", "30 0"),
+    ("DROP TABLE merchants3", "30 0"),
+    ("DROP TABLE rights4", "30 0"),
     ("CREATE TABLE notes (line TEXT)", "30 0"),
     ("CREATE INDEX by_token ON records (token)", "30 0"),
     ("DROP INDEX entries2_card", "30 0"),
@@ -73,6 +91,11 @@ const FORMS: [(&str, &str); 13] = [
     ),
     (
         "DROP TABLE rights; CREATE TABLE RIGHTS (caller TEXT NOT NULL, merchant TEXT NOT NULL, \
+         what INTEGER NOT NULL, PRIMARY KEY (caller, merchant, what)) STRICT",
+        "33",
+    ),
+    (
+        "DROP TABLE rights4; CREATE TABLE rights4 (caller TEXT NOT NULL, merchant TEXT NOT NULL, \
          what INTEGER NOT NULL, PRIMARY KEY (caller, merchant, what)) STRICT",
         "33",
     ),

@@ -3,7 +3,7 @@ ghost use Rattle.std.specs.Prelude.{◌≡◌, false, None};
 
 use sqlite::{Alter, Connection, Error};
 use std::alloc::Global;
-use vault_migrate::migrate::migrate;
+use vault_migrate::migrate::{migrate, migrate_all};
 use vault_recover::open::open;
 use vault_script::case::wrong;
 use vault_script::told::text;
@@ -22,6 +22,8 @@ pub enum Step<'a> {
     Ask(&'a str),
     /// The files move to the newest schema: `schema` and its version, or how they are refused.
     Migrate,
+    /// They move one version up, and tell the same.
+    Up,
     /// The number that a query shows, or `none`.
     Number(&'a str),
     /// The rows of a sound vault are counted: its entries, its records and the tokens made.
@@ -64,12 +66,9 @@ fn number<S: Alter>(conn: &mut Connection<S>, sql: &str) -> Result<i64, Error> {
     conn.query_row(sql, &[])?.get(0)
 }
 
-/// What a migration says: the version of the newest schema, or how it refuses.
-fn migrated<S: Alter>(alloc: Global, conn: &mut Connection<S>) -> String
-    requires idle { conn.old.in_transaction ≡ false }
-    requires unlimited { conn.old.step_limit ≡ None }
-{
-    match migrate(alloc, conn) {
+/// What a migration says: the version that stands then, or how it refuses.
+fn moved(alloc: Global, outcome: Result<i64, OpenFault>) -> String {
+    match outcome {
         Ok(version) => {
             let told = format!(in alloc; "schema {version}");
             told.unwrap_or(String::new(alloc))
@@ -140,7 +139,8 @@ pub fn done_over<S: Alter + Drop>(
     let told = match step {
         Step::Change(sql) => changed(alloc, &mut conn, sql),
         Step::Check => checked(alloc, &mut conn),
-        Step::Migrate => migrated(alloc, &mut conn),
+        Step::Migrate => moved(alloc, migrate_all(alloc, &mut conn)),
+        Step::Up => moved(alloc, migrate(alloc, &mut conn)),
         Step::Number(sql) => shown(alloc, &mut conn, sql),
         Step::Count => counted(alloc, &mut conn),
         Step::Ask(lines) => return asked(alloc, conn, lines),

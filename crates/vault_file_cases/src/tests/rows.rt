@@ -126,8 +126,38 @@ detokenize till-1 shop1 1111111111111111 1065 = 4111111111111111
 dead shop1 1070 1000 = 1 1111111111111111
 audit till-1 shop1 1065 = 3 1 0";
 
-const CASES: [&str; 10] = [
-    TAKEN, GIVEN, EXPIRED, MULTI, REUSED, DENIED, SHOWN, WITHDRAWN, PURGED, DEAD,
+/// A View masks by its merchant's lead of now, whenever the token was made.
+const LEADS: &str = "open till-1 shop1 60 0 1000 = done
+open till-1 shop2 60 0 1000 = done
+tokenize till-1 shop1 7 single 4111111111111111 0 1000 = 0000000000001111 1060
+tokenize till-1 shop2 8 single 4111111111111111 0 1000 = 0000000000001111 1060
+set shop1 60 0 1000 8 = done
+view till-1 shop1 0000000000001111 1000 = 41111111****1111 single 1000 1060 live
+view till-1 shop2 0000000000001111 1000 = 411111******1111 single 1000 1060 live
+set shop1 60 0 1000 6 = done
+view till-1 shop1 0000000000001111 1000 = 411111******1111 single 1000 1060 live";
+
+/// A right lasts up to its end, also where the clock falls behind its merchant's moment, and a new end takes
+/// the place of its own.
+const ENDING: &str = "set shop1 60 0 1000 = done
+grant back shop1 audit 1000 2000 = done
+audit back shop1 1999 = 0 0 0
+audit back shop1 2000 = refused 8
+set shop1 60 0 2000 = done
+audit back shop1 1500 = refused 8
+grant back shop1 audit 2000 3000 = done
+audit back shop1 2999 = 0 0 0
+audit back shop1 3000 = refused 8
+grant back shop1 audit 2000 = done
+audit back shop1 253402300799 = 0 0 0
+grant back shop1 audit 2000 2000 = done
+audit back shop1 2000 = refused 8
+withdraw back shop1 audit 2000 = done
+grant back shop1 audit 2000 2001 = done
+audit back shop1 2000 = 0 0 0";
+
+const CASES: [&str; 12] = [
+    TAKEN, GIVEN, EXPIRED, MULTI, REUSED, DENIED, SHOWN, WITHDRAWN, PURGED, DEAD, LEADS, ENDING,
 ];
 
 /// What the lines of a case tell over ordered maps.

@@ -37,9 +37,12 @@ pub struct Trial<'a> {
     /// The step, and what it tells once nothing stops it.
     pub step: Step<'a>,
     pub done: &'a str,
-    /// What is asked after the crash, and what it tells of a step that left nothing, and of one that is done.
+    /// What is asked after the crash.
     pub seen: Step<'a>,
+    /// What that tells of a step that isn't done; where there are several such texts a `|` stands between
+    /// two.
     pub before: &'a str,
+    /// What that tells of a step that is done.
     pub after: &'a str,
 }
 
@@ -48,10 +51,20 @@ pub struct Trial<'a> {
 enum Left {
     /// The step is done, and all of it is seen.
     Done,
-    /// The step was stopped, and nothing of it is seen, or all.
+    /// The step was stopped, and what may be left of it is seen, or all.
     Stopped,
     /// Something else is seen, or nothing of a step that is done.
     Other,
+}
+
+/// Whether this is one of the texts between which a `|` stands.
+fn is_among(texts: &str, told: &str) -> bool {
+    for text in texts.split('|') {
+        if text == told {
+            return true;
+        }
+    }
+    false
 }
 
 /// What a step left that told this, and of which this is seen.
@@ -62,7 +75,7 @@ fn found(rt: &HostRuntime, trial: &Trial<'_>, told: &str, seen: &str) -> Left {
         } else {
             Left::Other
         }
-    } else if seen == trial.before || is_told(rt, seen, trial.after) {
+    } else if is_among(trial.before, seen) || is_told(rt, seen, trial.after) {
         Left::Stopped
     } else {
         Left::Other
@@ -111,7 +124,7 @@ fn calls_until_done(
     None
 }
 
-/// Whether a step over files of which one is stopped is there whole or not at all, and was stopped.
+/// Whether a step over files of which one is stopped leaves what it may, or is done, and was stopped.
 fn is_whole(rt: &HostRuntime, base: &Files<Memory>, is_log: bool, trial: &Trial<'_>) -> bool {
     match calls_until_done(rt, base, is_log, trial) {
         Some(calls) => calls > 0,
@@ -120,7 +133,7 @@ fn is_whole(rt: &HostRuntime, base: &Files<Memory>, is_log: bool, trial: &Trial<
 }
 
 /// Whether that is so over each of the two files in turn.
-pub fn is_whole_or_not_at_all(rt: &HostRuntime, base: &Files<Memory>, trial: &Trial<'_>) -> bool {
+pub fn is_whole_where_stopped(rt: &HostRuntime, base: &Files<Memory>, trial: &Trial<'_>) -> bool {
     is_whole(rt, base, true, trial) && is_whole(rt, base, false, trial)
 }
 
@@ -139,7 +152,7 @@ const TRIAL: Trial<'static> = Trial {
 /// Whether the request in an open shop is there whole or not at all where it is stopped.
 fn is_request_whole(rt: &HostRuntime) -> bool {
     let (told, base) = all_done(rt.alloc(), no_files(rt.alloc()), SHOP.as_slice());
-    is_told(rt, told.as_str(), "answered; ") && is_whole_or_not_at_all(rt, &base, &TRIAL)
+    is_told(rt, told.as_str(), "answered; ") && is_whole_where_stopped(rt, &base, &TRIAL)
 }
 
 #[test]

@@ -12,7 +12,7 @@ Usage: vault <COMMAND>
 
 Commands:
   trial     Answers messages from standard input by a vault in memory
-  merchant  Sets how long a merchant's tokens live
+  merchant  Sets how long a merchant's tokens live, and what its masks show
   grant     Gives a caller a right at a merchant
   withdraw  Takes a right at a merchant from a caller
   rights    Grants what a rights file lists
@@ -26,6 +26,49 @@ Commands:
 
 Options:
   -h, --help  Print help
+";
+
+/// `vault help merchant`
+const MERCHANT: &str = "\
+Sets how long a merchant's tokens live, and what its masks show
+
+Usage: vault merchant [OPTIONS] <FILE> <NAME> <SINGLE> <MULTI>
+
+Arguments:
+  <FILE>    The vault's file; it is made if it isn't there
+  <NAME>    The merchant
+  <SINGLE>  How many seconds a single-use token lives; 0 offers none
+  <MULTI>   How many seconds a multi-use token lives; 0 offers none
+
+Options:
+      --now <T>   The moment, in seconds since 1970, in place of the clock's
+      --lead <L>  Most digits at the left of a mask, 6 or 8; 6, if left out
+  -h, --help      Print help
+
+No token lives longer than 3155760000 seconds, 100 years. A mask shows a card
+number's last four digits, and at the left up to 6 of those before the last
+ten, or with --lead 8 up to 8 of those before the last eight.
+";
+
+/// `vault help grant`
+const GRANT: &str = "\
+Gives a caller a right at a merchant
+
+Usage: vault grant [OPTIONS] <FILE> <CALLER> <MERCHANT> <RIGHT>
+
+Arguments:
+  <FILE>      The vault's file; it is made if it isn't there
+  <CALLER>    The caller
+  <MERCHANT>  The merchant at which the right holds
+  <RIGHT>     tokenize, detokenize, view, revoke, purge or audit
+
+Options:
+      --now <T>    The moment, in seconds since 1970, in place of the clock's
+      --until <T>  The right's end, in seconds since 1970; none, if left out
+  -h, --help       Print help
+
+The caller has the right up to its end, and not at it. A right that is there
+already gets the new end, or none, in place of its own.
 ";
 
 /// `vault help rights`
@@ -43,12 +86,14 @@ Options:
   -h, --help     Print help
 
 A rights file has a table for each caller, and in it for each merchant the
-words of the rights that the caller gets there:
+rights that the caller gets there. An item is a right's word, which gives it
+for good, or a table with its word and its end, in seconds since 1970:
 
   [till-1]
-  shop1 = [\"tokenize\", \"view\"]
+  shop1 = [\"tokenize\", { right = \"view\", until = 1893456000 }]
 
-The words are tokenize, detokenize, view, revoke, purge and audit.
+The words are tokenize, detokenize, view, revoke, purge and audit. Of a right
+that is listed twice the latest end counts, and to have none is the latest.
 ";
 
 /// `vault help batch`
@@ -115,10 +160,14 @@ were purged.
 ";
 
 /// Words that ask for help, and the text that they get.
-const TEXTS: [(&str, &str); 12] = [
+const TEXTS: [(&str, &str); 16] = [
     ("vault --help", PROGRAM),
     ("vault -h", PROGRAM),
     ("vault help", PROGRAM),
+    ("vault merchant --help", MERCHANT),
+    ("vault help merchant", MERCHANT),
+    ("vault grant -h", GRANT),
+    ("vault help grant", GRANT),
     ("vault rights -h", RIGHTS),
     ("vault help rights", RIGHTS),
     ("vault batch v.db --help", BATCH),

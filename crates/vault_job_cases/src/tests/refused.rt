@@ -47,10 +47,11 @@ fn lives_are_0_to_3155760000(rt: HostRuntime) {
     assert!(rt; are_told(&rt, &LIVES, &values));
 }
 
-const MOMENTS: [&str; 8] = [
+const MOMENTS: [&str; 9] = [
     "vault trial --now ? till-1 shop1 60",
     "vault merchant --now ? v.db shop1 60 0",
     "vault grant --now ? v.db till-1 shop1 view",
+    "vault grant --until ? v.db till-1 shop1 view",
     "vault withdraw --now ? v.db till-1 shop1 view",
     "vault rights --now ? v.db rights.toml",
     "vault pipe --now ? v.db",
@@ -65,10 +66,23 @@ fn moments_are_0_to_253402300799(rt: HostRuntime) {
         ("253402300799", true),
         ("253402300800", false),
         ("18446744073709551616", false),
+        ("-1", false),
         ("x", false),
         ("", false),
     ];
     assert!(rt; are_told(&rt, &MOMENTS, &values));
+}
+
+#[test]
+fn leads_are_6_and_8(rt: HostRuntime) {
+    let values = [
+        ("6", true),
+        ("8", true),
+        ("7", false),
+        ("x", false),
+        ("", false),
+    ];
+    assert!(rt; are_told(&rt, &["vault merchant --lead ? v.db shop1 60 0"], &values));
 }
 
 #[test]
@@ -114,14 +128,16 @@ fn digits_are_1_to_300(rt: HostRuntime) {
     assert!(rt; most.len() == 300 && are_told(&rt, &DIGITS, &values));
 }
 
-const MISSING: [&str; 23] = [
+const MISSING: [&str; 25] = [
     "",
     "vault",
     "vault trial",
     "vault trial till-1 shop1",
     "vault trial --now 1000",
     "vault merchant v.db shop1 60",
+    "vault merchant v.db shop1 60 0 --lead",
     "vault grant v.db till-1 shop1",
+    "vault grant v.db till-1 shop1 view --until",
     "vault withdraw v.db till-1 view",
     "vault rights",
     "vault rights rights.toml",
@@ -145,14 +161,17 @@ fn missing_words_are_bad(rt: HostRuntime) {
     assert!(rt; are_told(&rt, &MISSING, &[("", false)]));
 }
 
-const TOO_MANY: [&str; 19] = [
+const TOO_MANY: [&str; 22] = [
     "vault trail",
     "vault --version",
     "vault help trail",
     "vault trial till-1 shop1 60 60",
     "vault merchant v.db shop1 60 0 0",
     "vault merchant v.db shop1 60 0 --digits 0",
+    "vault merchant --until 1 v.db shop1 60 0",
     "vault grant v.db till-1 shop1 view audit",
+    "vault grant --lead 6 v.db till-1 shop1 view",
+    "vault withdraw --until 1 v.db till-1 shop1 view",
     "vault withdraw v.db till-1 shop1 view -x",
     "vault rights v.db rights.toml shop1",
     "vault rights v.db rights.toml --digits 0",

@@ -14,7 +14,7 @@ use vault_words::jobs::Job;
 const TWO_GROUPS: &str = "411111111111000000000000000000";
 
 /// Words with options, and the jobs that they ask for.
-const WITH_OPTIONS: [(&str, &str); 13] = [
+const WITH_OPTIONS: [(&str, &str); 17] = [
     (
         "vault trial --now 1000 till-1 shop1 60",
         "Trial(TrialJob { now: Some(Moment { seconds: 1000 }), digits: None, \
@@ -22,13 +22,35 @@ const WITH_OPTIONS: [(&str, &str); 13] = [
     ),
     (
         "vault merchant v.db --now=7 shop1 60 0",
-        "Merchant(MerchantJob { now: Some(Moment { seconds: 7 }), file: \"v.db\", \
+        "Merchant(MerchantJob { now: Some(Moment { seconds: 7 }), lead: Six, file: \"v.db\", \
+         name: \"shop1\", single_life: 60, multi_life: 0 })",
+    ),
+    (
+        "vault merchant --lead 8 v.db shop1 60 0",
+        "Merchant(MerchantJob { now: None, lead: Eight, file: \"v.db\", \
+         name: \"shop1\", single_life: 60, multi_life: 0 })",
+    ),
+    (
+        "vault merchant v.db shop1 --now 7 60 0 --lead=6",
+        "Merchant(MerchantJob { now: Some(Moment { seconds: 7 }), lead: Six, file: \"v.db\", \
          name: \"shop1\", single_life: 60, multi_life: 0 })",
     ),
     (
         "vault grant v.db till-1 shop1 view --now 8",
-        "Grant(RightJob { now: Some(Moment { seconds: 8 }), file: \"v.db\", \
-         caller: \"till-1\", merchant: \"shop1\", right: \"view\" })",
+        "Grant(GrantJob { given: RightJob { now: Some(Moment { seconds: 8 }), file: \"v.db\", \
+         caller: \"till-1\", merchant: \"shop1\", right: \"view\" }, until: None })",
+    ),
+    (
+        "vault grant --until 2000 v.db till-1 shop1 view",
+        "Grant(GrantJob { given: RightJob { now: None, file: \"v.db\", \
+         caller: \"till-1\", merchant: \"shop1\", right: \"view\" }, \
+         until: Some(Moment { seconds: 2000 }) })",
+    ),
+    (
+        "vault grant v.db --now=8 till-1 shop1 view --until=7",
+        "Grant(GrantJob { given: RightJob { now: Some(Moment { seconds: 8 }), file: \"v.db\", \
+         caller: \"till-1\", merchant: \"shop1\", right: \"view\" }, \
+         until: Some(Moment { seconds: 7 }) })",
     ),
     (
         "vault withdraw --now 9 v.db till-1 shop1 view",
@@ -88,13 +110,13 @@ const WITHOUT_OPTIONS: [(&str, &str); 12] = [
     ),
     (
         "vault merchant v.db shop1 60 3600",
-        "Merchant(MerchantJob { now: None, file: \"v.db\", name: \"shop1\", \
+        "Merchant(MerchantJob { now: None, lead: Six, file: \"v.db\", name: \"shop1\", \
          single_life: 60, multi_life: 3600 })",
     ),
     (
         "vault grant v.db till-1 shop1 view",
-        "Grant(RightJob { now: None, file: \"v.db\", caller: \"till-1\", \
-         merchant: \"shop1\", right: \"view\" })",
+        "Grant(GrantJob { given: RightJob { now: None, file: \"v.db\", caller: \"till-1\", \
+         merchant: \"shop1\", right: \"view\" }, until: None })",
     ),
     (
         "vault withdraw v.db till-1 shop1 view",

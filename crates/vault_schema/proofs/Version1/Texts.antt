@@ -9,57 +9,34 @@ use Rattle.sqlite_schema.specs.declared.schema.Index.{Index}
 use Rattle.sqlite_sql.specs.declared.ops.ArithOp.TheVariants.{Add}
 use Rattle.sqlite_sql.specs.declared.ops.BinaryOp.TheVariants.{Arith}
 use Rattle.sql_maps.specs.Schema.{grown}
-use Rattle.sql_maps.specs.Texts.{IsQuery, IsWrite, query_of, sorted_of, ordered_by, counting_of, by_key}
-use Rattle.sql_maps.specs.Texts.{insert, upsert, insert_or_nothing, update, delete}
+use Rattle.sql_maps.specs.Texts.{IsQuery, IsWrite, query_of, sorted_of, ordered_by, by_key}
+use Rattle.sql_maps.specs.Texts.{insert, update}
 use Rattle.sql_maps.proofs.Full.{all_columns}
 use Rattle.vault_schema.specs.Versioned.{versioned}
 use Rattle.vault_schema.specs.Version1.Tables.{v1}
-use Rattle.vault_schema.specs.declared.v1.TheConstants.{READ_VERSIONS, READ_MERCHANTS, READ_COUNTS}
+use Rattle.vault_schema.specs.declared.v1.TheConstants.{READ_VERSIONS, READ_COUNTS}
 use Rattle.vault_schema.specs.declared.v1.TheConstants.{READ_ENTRIES, READ_ENTRY_IDS, READ_RECORDS}
-use Rattle.vault_schema.specs.declared.v1.TheConstants.{READ_RIGHTS, FIND_LIVES, FIND_COUNTS, COUNT_MERCHANTS}
-use Rattle.vault_schema.specs.declared.v1.TheConstants.{FIND_RECORD, FIND_RIGHT, PUT_MERCHANT}
-use Rattle.vault_schema.specs.declared.v1.TheConstants.{RAISE_COUNT, ADD_COUNT, ADD_RECORD, GIVE_RIGHT}
-use Rattle.vault_schema.specs.declared.v1.TheConstants.{TAKE_RIGHT}
+use Rattle.vault_schema.specs.declared.v1.TheConstants.{FIND_COUNTS}
+use Rattle.vault_schema.specs.declared.v1.TheConstants.{FIND_RECORD}
+use Rattle.vault_schema.specs.declared.v1.TheConstants.{RAISE_COUNT, ADD_COUNT, ADD_RECORD}
 
--- the columns of a merchant after an update
-abbrev pub merchant_set : List Term
-merchant_set = col 1 1 ∷ col 0 1 ∷ col 0 2 ∷ col 0 3 ∷ []
-
--- those of a count
+-- the columns of a count after an update
 abbrev pub count_set : List Term
 count_set = col 1 1 ∷ col 1 2 ∷ op2 (Arith Add) (col 1 3) (lit (Int (pos 1))) ∷ []
 
 module _ (ts : List Table) (is : List Index) where
   -- ---- queries
 
-  pub lives_is : IsQuery (grown v1 ts is) FIND_LIVES.now
-      (query_of 1 (by_key 1) (col 1 2 ∷ col 1 3 ∷ col 1 4 ∷ []))
-  unfolding understood everything
-  lives_is = record { names = _; is = refl; plain = (refl, refl); unlisted = refl }
-
   pub counts_is : IsQuery (grown v1 ts is) FIND_COUNTS.now (query_of 3 (by_key 1) (col 1 2 ∷ col 1 3 ∷ []))
   unfolding understood everything
   counts_is = record { names = _; is = refl; plain = (refl, refl); unlisted = refl }
-
-  pub how_many_is : IsQuery (grown v1 ts is) COUNT_MERCHANTS.now (counting_of 1)
-  unfolding understood everything
-  how_many_is = record { names = _; is = refl; plain = (refl, refl); unlisted = refl }
 
   pub record_is : IsQuery (grown v1 ts is) FIND_RECORD.now
       (query_of 8 (by_key 2) (col 1 3 ∷ col 1 4 ∷ col 1 5 ∷ []))
   unfolding understood everything
   record_is = record { names = _; is = refl; plain = (refl, refl); unlisted = refl }
 
-  pub right_is : IsQuery (grown v1 ts is) FIND_RIGHT.now (query_of 10 (by_key 3) (col 1 3 ∷ []))
-  unfolding understood everything
-  right_is = record { names = _; is = refl; plain = (refl, refl); unlisted = refl }
-
   -- ---- whole tables
-
-  pub read_merchants_is : IsQuery (grown v1 ts is) READ_MERCHANTS.now
-      (sorted_of 1 [] (all_columns 4) [] (ordered_by (0 ∷ [])))
-  unfolding understood everything
-  read_merchants_is = record { names = _; is = refl; plain = (refl, refl); unlisted = refl }
 
   pub read_counts_is : IsQuery (grown v1 ts is) READ_COUNTS.now
       (sorted_of 3 [] (all_columns 3) [] (ordered_by (0 ∷ [])))
@@ -81,17 +58,7 @@ module _ (ts : List Table) (is : List Index) where
   unfolding understood everything
   read_records_is = record { names = _; is = refl; plain = (refl, refl); unlisted = refl }
 
-  pub read_rights_is : IsQuery (grown v1 ts is) READ_RIGHTS.now
-      (sorted_of 10 [] (all_columns 3) [] (ordered_by (0 ∷ [])))
-  unfolding understood everything
-  read_rights_is = record { names = _; is = refl; plain = (refl, refl); unlisted = refl }
-
   -- ---- writes
-
-  pub put_merchant_is : IsWrite (grown v1 ts is) PUT_MERCHANT.now
-      (upsert 1 1 1 5 (lit Null ∷ col 0 0 ∷ col 0 1 ∷ col 0 2 ∷ col 0 3 ∷ []) 4 merchant_set)
-  unfolding understood everything
-  put_merchant_is = record { is = refl; plain = (refl, refl) }
 
   pub raise_is : IsWrite (grown v1 ts is) RAISE_COUNT.now (update 2 3 (by_key 2) count_set)
   unfolding understood everything
@@ -106,15 +73,6 @@ module _ (ts : List Table) (is : List Index) where
       (insert 4 6 (lit Null ∷ col 0 0 ∷ col 0 1 ∷ col 0 2 ∷ col 0 3 ∷ col 0 4 ∷ []))
   unfolding understood everything
   add_record_is = record { is = refl; plain = (refl, refl) }
-
-  pub give_is : IsWrite (grown v1 ts is) GIVE_RIGHT.now
-      (insert_or_nothing 5 3 4 (lit Null ∷ col 0 0 ∷ col 0 1 ∷ col 0 2 ∷ []))
-  unfolding understood everything
-  give_is = record { is = refl; plain = (refl, refl) }
-
-  pub take_is : IsWrite (grown v1 ts is) TAKE_RIGHT.now (delete 5 10 (by_key 3))
-  unfolding understood everything
-  take_is = record { is = refl; plain = (refl, refl) }
 
 -- the version is read so in each schema that has it
 module _ (ts : List Table) (is : List Index) where

@@ -16,7 +16,7 @@ use Rattle.sql_maps.specs.Texts.{IsQuery, IsWrite, query_of, sorted_of, ordered_
 use Rattle.sql_maps.specs.Texts.{insert, upsert, delete, first_of}
 use Rattle.sql_maps.proofs.Full.{all_columns}
 use Rattle.vault_schema.specs.Version2.Tables.{v2}
-use Rattle.vault_schema.specs.declared.v2.TheConstants.{PUT_VERSION, SET_VERSION, EMPTY_ENTRIES, FIND_CARD}
+use Rattle.vault_schema.specs.declared.v2.TheConstants.{SET_VERSION, EMPTY_ENTRIES, FIND_CARD}
 use Rattle.vault_schema.specs.declared.v2.TheConstants.{FIND_NUMBER, FIND_USES, ADD_CARD, SET_USES}
 use Rattle.vault_schema.specs.declared.v2.TheConstants.{DROP_CARD, FIND_ENTRY, FIND_CURRENT}
 use Rattle.vault_schema.specs.declared.v2.TheConstants.{FIND_DEAD, ADD_ENTRY, PUT_ENTRY, READ_CARDS}
@@ -95,11 +95,6 @@ module _ (ts : List Table) (is : List Index) where
   read_entries_is = record { names = _; is = refl; plain = (refl, refl); unlisted = refl }
 
   -- ---- writes
-
-  pub put_version_is : IsWrite (grown v2 ts is) PUT_VERSION.now
-      (insert 0 3 (lit (Int (pos 1)) ∷ lit Null ∷ lit (Int (pos 2)) ∷ []))
-  unfolding understood everything
-  put_version_is = record { is = refl; plain = (refl, refl) }
 
   pub set_version_is : IsWrite (grown v2 ts is) SET_VERSION.now
       (Update 0

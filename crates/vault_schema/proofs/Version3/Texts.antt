@@ -13,7 +13,8 @@ use Rattle.sql_maps.proofs.Full.{all_columns}
 use Rattle.vault_schema.specs.Version1.Tables.{v1}
 use Rattle.vault_schema.specs.Version3.Tables.{v3}
 use Rattle.vault_schema.specs.declared.v3.TheConstants.{COPY_MERCHANTS, EMPTY_MERCHANTS, SET_VERSION}
-use Rattle.vault_schema.specs.declared.v3.TheConstants.{READ_MERCHANTS, READ_OLD_MERCHANTS, FIND_LIVES}
+use Rattle.vault_schema.specs.declared.v3.TheConstants.{READ_MERCHANT_IDS, READ_MERCHANTS, READ_OLD_MERCHANTS}
+use Rattle.vault_schema.specs.declared.v3.TheConstants.{FIND_LIVES}
 use Rattle.vault_schema.specs.declared.v3.TheConstants.{COUNT_MERCHANTS, PUT_MERCHANT}
 
 -- a merchant of schema 2 with the lead of six digits
@@ -27,6 +28,11 @@ module _ (ts : List Table) (is : List Index) where
       (ordered_by (0 ∷ [])))
   unfolding understood everything
   read_old_merchants_is = record { names = _; is = refl; plain = (refl, refl); unlisted = refl }
+
+  pub read_merchant_ids_is : IsQuery (grown v1 ts is) READ_MERCHANT_IDS.now
+      (sorted_of 1 [] (col 1 0 ∷ []) [] (ordered_by (0 ∷ [])))
+  unfolding understood everything
+  read_merchant_ids_is = record { names = _; is = refl; plain = (refl, refl); unlisted = refl }
 
   pub read_merchants_is : IsQuery (grown v3 ts is) READ_MERCHANTS.now
       (sorted_of 17 [] (all_columns 5) [] (ordered_by (0 ∷ [])))

@@ -1,5 +1,5 @@
 -- Each right of schema 4 is told by its columns, and each table stands at its place.
-use Rattle.std.proofs.Common.{refl, sym, ap, ◌∙◌}
+use Rattle.std.proofs.Common.{◌≡◌, refl, sym, ap, ◌∙◌}
 use Rattle.sqlite.specs.Order.{column}
 use Rattle.sql_maps.proofs.Keys.{Keyed, coding}
 use Rattle.sql_maps.proofs.ByKey.{Coding}
@@ -19,8 +19,11 @@ right_codes = record {
   exact = v1.right_codes.exact;
   long = λ k. refl;
   same = v1.right_codes.same;
-  value_back = λ x y e. sym (number_back x) ∙ ap (λ r. maybe_number (column r 0)) e ∙ number_back y;
-  fit = λ k x. rw (number_fits x) refl;
+  value_back = λ x y e.
+      let ends : x.ends ≡ y.ends = sym (number_back x.ends) ∙ ap (λ r. maybe_number (column r 0)) e
+      ∙ number_back y.ends in
+      λ i. record { ends = ends i };
+  fit = λ k x. rw (number_fits x.ends) refl;
 }
 
 pub right_coding : Coding right_cmp right_row

@@ -7,12 +7,15 @@ use Rattle.sqlite.specs.Term.{Term, lit, col}
 use Rattle.sqlite.specs.declared.types.Value.TheVariants.{Null, Int}
 use Rattle.sqlite_schema.specs.declared.schema.Index.{Index}
 use Rattle.sql_maps.specs.Schema.{grown}
-use Rattle.sql_maps.specs.Texts.{IsQuery, IsWrite, by_key, delete, eq, insert_from, ordered_by, query_of}
+use Rattle.sql_maps.specs.Texts.{IsQuery, IsWrite, by_key, delete, eq, insert, insert_from, ordered_by}
+use Rattle.sql_maps.specs.Texts.{query_of}
 use Rattle.sql_maps.specs.Texts.{sorted_of, update, upsert}
 use Rattle.sql_maps.proofs.Full.{all_columns}
 use Rattle.vault_schema.specs.Version1.Tables.{v1}
 use Rattle.vault_schema.specs.Version4.Tables.{v4}
 use Rattle.vault_schema.specs.declared.v4.TheConstants.{COPY_RIGHTS, EMPTY_RIGHTS, SET_VERSION, READ_RIGHTS}
+use Rattle.vault_schema.specs.declared.v4.TheConstants.{READ_RIGHT_IDS}
+use Rattle.vault_schema.specs.declared.v4.TheConstants.{PUT_VERSION}
 use Rattle.vault_schema.specs.declared.v4.TheConstants.{READ_OLD_RIGHTS, FIND_RIGHT, GIVE_RIGHT, TAKE_RIGHT}
 
 -- a right of schema 3, which doesn't end
@@ -25,6 +28,11 @@ module _ (ts : List Table) (is : List Index) where
       (sorted_of 10 [] (col 1 0 ∷ col 1 1 ∷ col 1 2 ∷ col 1 3 ∷ lit Null ∷ []) [] (ordered_by (0 ∷ [])))
   unfolding understood everything
   read_old_rights_is = record { names = _; is = refl; plain = (refl, refl); unlisted = refl }
+
+  pub read_right_ids_is : IsQuery (grown v1 ts is) READ_RIGHT_IDS.now
+      (sorted_of 10 [] (col 1 0 ∷ []) [] (ordered_by (0 ∷ [])))
+  unfolding understood everything
+  read_right_ids_is = record { names = _; is = refl; plain = (refl, refl); unlisted = refl }
 
   pub read_rights_is : IsQuery (grown v4 ts is) READ_RIGHTS.now
       (sorted_of 19 [] (all_columns 4) [] (ordered_by (0 ∷ [])))
@@ -52,6 +60,11 @@ module _ (ts : List Table) (is : List Index) where
   pub empty_is : IsWrite (grown v4 ts is) EMPTY_RIGHTS.now (delete 5 10 [])
   unfolding understood everything
   empty_is = record { is = refl; plain = (refl, refl) }
+
+  pub put_version_is : IsWrite (grown v4 ts is) PUT_VERSION.now
+      (insert 0 3 (lit (Int (pos 1)) ∷ lit Null ∷ lit (Int (pos 4)) ∷ []))
+  unfolding understood everything
+  put_version_is = record { is = refl; plain = (refl, refl) }
 
   pub set_version_is : IsWrite (grown v4 ts is) SET_VERSION.now
       (update 0 0 (eq (col 1 0) (lit (Int (pos 1))) ∷ []) (lit Null ∷ lit (Int (pos 4)) ∷ []))

@@ -4,6 +4,8 @@ use Rattle.sqlite.specs.Order.{Row}
 use Rattle.sqlite.specs.declared.types.Value.TheVariants.{Int}
 use Rattle.sql_maps.specs.Codes.{row_of}
 use Rattle.vault_core.specs.Keys.{Bytes}
+use Rattle.vault_pan.specs.Mask.{lead_digits}
+use Rattle.vault_pan.specs.declared.lead.Lead.TheVariants.{Six}
 use Rattle.vault_schema.specs.Version1.Rows.{merchant_key}
 use Rattle.vault_schema.specs.declared.v1.Lives as one
 use Rattle.vault_schema.specs.declared.v3.Lives.{Lives}
@@ -11,7 +13,8 @@ use Rattle.vault_schema.specs.declared.v3.Lives.{Lives}
 -- the columns of a merchant's lives, its moment and its lead
 abbrev pub lives_columns : Lives → Row
 lives_columns x =
-    Int (pos x.single_life) ∷ Int (pos x.multi_life) ∷ Int (pos x.moment) ∷ Int (pos x.lead) ∷ []
+    Int (pos x.single_life) ∷ Int (pos x.multi_life) ∷ Int (pos x.moment)
+    ∷ Int (pos (lead_digits x.lead)) ∷ []
 
 -- a merchant, behind its rowid
 abbrev pub merchant_row : Bytes → Lives → Row
@@ -24,4 +27,4 @@ older x = record { single_life = x.single_life; multi_life = x.multi_life; momen
 -- a merchant of the older tables: its masks show six digits at most
 abbrev pub with_six : one.Lives → Lives
 with_six x =
-    record { single_life = x.single_life; multi_life = x.multi_life; moment = x.moment; lead = 6 }
+    record { single_life = x.single_life; multi_life = x.multi_life; moment = x.moment; lead = Six }

@@ -34,7 +34,7 @@ pub fn put_merchant(
     Ok(())
 }
 
-/// The row of a merchant with its new lives, and its counts as they were.
+/// The row of a merchant with its new lives and lead, and its counts as they were.
 fn row_with(was: Option<MerchantRow>, lives: &Lives) -> MerchantRow
     ensures { result ≡ row_with_lem lives.now was }
 {
@@ -45,6 +45,7 @@ fn row_with(was: Option<MerchantRow>, lives: &Lives) -> MerchantRow
     MerchantRow {
         single_life: lives.single_life,
         multi_life: lives.multi_life,
+        lead: lives.lead,
         moment: lives.moment,
         made,
         given,

@@ -1,37 +1,52 @@
-//! Rights that are put into an ordered set, and taken out.
-ghost use Rattle.std.specs.Prelude.{◌≡◌, IfOk, OnOk, OnErr, false, not};
-ghost use Rattle.std.specs.BTreeSet as keys;
-ghost use Rattle.std.specs.FinSet as set;
+//! Rights, with rows of any kind, that are put into an ordered map, taken back and taken out.
+ghost use Rattle.std.specs.Prelude.{◌≡◌, IfOk, OnOk, OnErr, None};
+ghost use Rattle.std.specs.BTreeMap as tree;
+ghost use Rattle.std.specs.FinMap as map;
 ghost use Rattle.vault_core.specs.Keys.{right_cmp};
-ghost use Rattle.vault_store.specs.ShownKeys.{ShowsKeys};
+ghost use Rattle.vault_store.specs.Shown.{Shows};
 
+use crate::memory::rows::{put, put_back};
 use std::alloc::AllocError;
-use std::collections::BTreeSet;
+use std::collections::BTreeMap;
 use vault_core::name::{Caller, MerchantId};
 use vault_core::right::Right;
 
-/// Gives a caller a right at a merchant, and says whether it is new. Only a new one can be refused.
-pub fn give(
-    rights: &mut BTreeSet<(Caller, (MerchantId, Right))>,
+/// Gives a caller a right at a merchant, and gives the one that stood there. Only a new one can be
+/// refused.
+pub fn give<V: Drop>(
+    rights: &mut BTreeMap<(Caller, (MerchantId, Right)), V>,
     key: (Caller, (MerchantId, Right)),
-) -> Result<bool, AllocError>
-    ensures added { IfOk result (λ is_new. is_new ≡ not (keys.contains right_cmp rights.old key)) }
-    ensures ok { OnOk result ((F : set.FinSet right_cmp) → ShowsKeys right_cmp rights.old F
-        → ShowsKeys right_cmp rights.new (set.insert F key)) }
-    ensures new { OnErr result (keys.contains right_cmp rights.old key ≡ false) }
-    ensures err { OnErr result
-        ((F : set.FinSet right_cmp) → ShowsKeys right_cmp rights.old F → ShowsKeys right_cmp rights.new F) }
+    row: V,
+) -> Result<Option<V>, AllocError>
+    ensures was { IfOk result (λ was. was ≡ tree.get right_cmp rights.old key) }
+    ensures ok { OnOk result ((F : map.FinMap right_cmp V) → Shows right_cmp rights.old F
+        → Shows right_cmp rights.new (map.insert F key row)) }
+    ensures new { OnErr result (tree.get right_cmp rights.old key ≡ None) }
+    ensures err { OnErr result ((F : map.FinMap right_cmp V)
+        → Shows right_cmp rights.old F → Shows right_cmp rights.new F) }
 {
-    Ok(rights.insert(key)?)
+    put(rights, key, row)
+}
+
+/// Gives back the right that a caller had at a merchant before another was given.
+pub fn give_back<V: Drop>(
+    rights: &mut BTreeMap<(Caller, (MerchantId, Right)), V>,
+    key: (Caller, (MerchantId, Right)),
+    was: Option<V>,
+)
+    ensures { (F : map.FinMap right_cmp V) (row : V) → was ≡ map.get F key
+        → Shows right_cmp rights.old (map.insert F key row) → Shows right_cmp rights.new F }
+{
+    put_back(rights, key, was);
 }
 
 /// Takes a right away from a caller.
-pub fn take_away(
-    rights: &mut BTreeSet<(Caller, (MerchantId, Right))>,
+pub fn take_away<V: Drop>(
+    rights: &mut BTreeMap<(Caller, (MerchantId, Right)), V>,
     key: &(Caller, (MerchantId, Right)),
 )
-    ensures { (F : set.FinSet right_cmp) → ShowsKeys right_cmp rights.old F
-        → ShowsKeys right_cmp rights.new (set.remove F key.now) }
+    ensures { (F : map.FinMap right_cmp V) → Shows right_cmp rights.old F
+        → Shows right_cmp rights.new (map.remove F key.now) }
 {
     let _ = rights.remove(key);
 }

@@ -7,20 +7,20 @@ ghost use Rattle.vault_store.specs.Added.{AddsNothing};
 ghost use Rattle.vault_store.specs.Written.{HoldsRecords, HoldsRights};
 
 use crate::memory::merchant::put_merchant;
-use crate::memory::rights::{give, take_away};
+use crate::memory::rights::{give, give_back, take_away};
 use crate::memory::rows::{put, put_back};
 use std::alloc::AllocError;
-use std::collections::{BTreeMap, BTreeSet};
+use std::collections::BTreeMap;
 use vault_core::changes::Changes;
 use vault_core::name::{Caller, MerchantId};
 use vault_core::request::RequestNo;
 use vault_core::right::Right;
-use vault_core::row::{MerchantRow, Record};
+use vault_core::row::{GrantRow, MerchantRow, Record};
 
 /// Writes the record, the right and the merchant of the changes, or nothing.
 pub fn write_record(
     records: &mut BTreeMap<(Caller, RequestNo), Record>,
-    rights: &mut BTreeSet<(Caller, (MerchantId, Right))>,
+    rights: &mut BTreeMap<(Caller, (MerchantId, Right)), GrantRow>,
     merchants: &mut BTreeMap<MerchantId, MerchantRow>,
     ch: &Changes,
 ) -> Result<(), AllocError>
@@ -45,7 +45,7 @@ pub fn write_record(
 /// Writes the right and the merchant of the changes, or nothing. A right is taken away last, since
 /// that takes no memory and needn't be undone.
 fn write_right(
-    rights: &mut BTreeSet<(Caller, (MerchantId, Right))>,
+    rights: &mut BTreeMap<(Caller, (MerchantId, Right)), GrantRow>,
     merchants: &mut BTreeMap<MerchantId, MerchantRow>,
     ch: &Changes,
 ) -> Result<(), AllocError>
@@ -56,20 +56,18 @@ fn write_right(
     ensures allowed { (V : Vault) → HoldsRights rights.old merchants.old V → AddsNothing V (plus V ch.now)
         → IsOk result }
 {
-    let Some((caller, merchant, right, is_given)) = ch.right else {
+    let Some((caller, merchant, right, given)) = ch.right else {
         return put_merchant(merchants, ch);
     };
     let key = (caller, (merchant, right));
-    if !is_given {
+    let Some(row) = given else {
         put_merchant(merchants, ch)?;
         take_away(rights, &key);
         return Ok(());
-    }
-    let is_new = give(rights, key)?;
+    };
+    let was = give(rights, key, row)?;
     if let Err(refused) = put_merchant(merchants, ch) {
-        if is_new {
-            take_away(rights, &key);
-        }
+        give_back(rights, key, was);
         return Err(refused);
     }
     Ok(())

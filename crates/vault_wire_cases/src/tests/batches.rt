@@ -66,10 +66,13 @@ fn is_told(ended: Ended, wanted: Told) -> bool {
     }
 }
 
-/// The vault of a shop that was set at 1000 with a single life of 60, where `till-1` may ask for tokens.
-fn shop(alloc: Global) -> Option<Vault<MemTables>> {
+/// A shop is set at 1000 with a single life of 60, and `till-1` may ask for tokens.
+const OPENED: &str = "set shop1 60 0 1000 = done
+grant till-1 shop1 tokenize 1000 = done";
+
+/// The vault that does these lines; none where it answers one otherwise.
+fn vault_of(alloc: Global, lines: &str) -> Option<Vault<MemTables>> {
     let mut vault = Vault::new(MemTables::new(alloc));
-    let lines = "set shop1 60 0 1000 = done\ngrant till-1 shop1 tokenize 1000 = done";
     if wrong(alloc, &mut vault, lines).as_str() == "answered" {
         Some(vault)
     } else {
@@ -115,7 +118,7 @@ fn run_new<R: Read + Drop, W: Write + Drop>(
     writer: W,
     pairs: u64,
 ) -> Ended {
-    let mut vault = shop(alloc)?;
+    let mut vault = vault_of(alloc, OPENED)?;
     let source = source(1000, 0, pairs)?;
     run(alloc, reader, writer, &mut vault, source)
 }

@@ -3,6 +3,7 @@ use std::alloc::Global;
 use vault_core::moment::Moment;
 use vault_core::reply::{Reply, State};
 use vault_core::usage::Use;
+use vault_pan::lead::Lead;
 use vault_pan::mask::mask;
 use vault_pan::pan::Pan;
 use vault_pan::token::Token;
@@ -64,7 +65,7 @@ const LINES: [(&str, &str); 7] = [
 /// What a live token of the worked number shows.
 fn shown() -> Option<Reply> {
     Some(Reply::Shown {
-        masked: mask(&Pan::read(b"4111111111111111").ok()?),
+        masked: mask(&Pan::read(b"4111111111111111").ok()?, Lead::Six),
         usage: Use::Single,
         birth: Moment::new(1000).ok()?,
         expires: 1060,

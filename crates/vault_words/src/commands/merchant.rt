@@ -1,4 +1,4 @@
-//! `merchant [--now T] FILE NAME SINGLE MULTI`
+//! `merchant [--now T] [--lead L] FILE NAME SINGLE MULTI`
 ghost use Rattle.std.specs.Prelude.{IfOk};
 ghost use Rattle.clap.specs.Words.{found_of, rows_of};
 ghost use Rattle.vault_words.specs.Commands.{AsksMerchant, merchant_app};
@@ -10,12 +10,15 @@ use crate::values::{self, BadValue};
 use clap::{ArgMatches, Command};
 use std::alloc::{AllocError, Global};
 use vault_core::moment::Moment;
+use vault_pan::lead::Lead;
 
-/// What a merchant's lives are set with.
+/// What a merchant's lives and its lead are set with.
 #[derive(Clone, Copy, Debug)]
 pub struct MerchantJob<'a> {
     /// The moment; the clock's, if there is none.
     pub now: Option<Moment>,
+    /// How many digits its masks show at the left, at most; six, if none is given.
+    pub lead: Lead,
     /// The file of the vault.
     pub file: &'a str,
     /// The merchant.
@@ -33,6 +36,7 @@ impl<'a> MerchantJob<'a> {
     {
         Ok(MerchantJob {
             now: values::now(matches)?,
+            lead: values::lead(matches)?,
             file: values::text(matches, "FILE")?,
             name: values::text(matches, "NAME")?,
             single_life: values::life(matches, "SINGLE")?,
@@ -42,13 +46,16 @@ impl<'a> MerchantJob<'a> {
 }
 
 /// What help says of `merchant` behind its words.
-const NOTES: &str = "No token lives longer than 3155760000 seconds, 100 years.";
+const NOTES: &str = "\
+No token lives longer than 3155760000 seconds, 100 years. A mask shows a card
+number's last four digits, and at the left up to 6 of those before the last
+ten, or with --lead 8 up to 8 of those before the last eight.";
 
 /// The command `merchant`.
 pub(crate) fn merchant<'a>(alloc: Global) -> Result<Command<'a>, AllocError>
     ensures { IfOk result (λ c. IsApp c merchant_app) }
 {
-    let about = "Sets how long a merchant's tokens live";
+    let about = "Sets how long a merchant's tokens live, and what its masks show";
     let name = args::text(alloc, "NAME", "The merchant");
     let single_help = "How many seconds a single-use token lives; 0 offers none";
     let single = args::number(alloc, "SINGLE", single_help);
@@ -56,6 +63,7 @@ pub(crate) fn merchant<'a>(alloc: Global) -> Result<Command<'a>, AllocError>
     let multi = args::number(alloc, "MULTI", multi_help);
     let command = Ok(args::with_notes(args::command(alloc, "merchant", about), NOTES));
     let command = add(command, args::now(alloc));
+    let command = add(command, args::lead(alloc));
     let command = add(command, args::file(alloc));
     let command = add(command, name);
     let command = add(command, single);

@@ -1,8 +1,8 @@
-//! `grant` and `withdraw`, each with the words `[--now T] FILE CALLER MERCHANT RIGHT`
-ghost use Rattle.std.specs.Prelude.{IfOk, codes};
-ghost use Rattle.clap.specs.Words.{found_of, rows_of};
-ghost use Rattle.vault_words.specs.Commands.{AsksRight, right_app};
-ghost use Rattle.vault_words.specs.Rules.{IsApp};
+//! `grant [--now T] [--until T] FILE CALLER MERCHANT RIGHT`, and `withdraw`, which has no `--until`
+ghost use Rattle.std.specs.Prelude.{IfOk};
+ghost use Rattle.clap.specs.Words.{App, found_of, rows_of};
+ghost use Rattle.vault_words.specs.Commands.{AsksGrant, AsksRight, grant_app, right_rules, withdraw_app};
+ghost use Rattle.vault_words.specs.Rules.{IsApp, with_rules};
 ghost use Rattle.vault_words.specs.Values.{Finds};
 
 use crate::args::{self, add};
@@ -11,7 +11,7 @@ use clap::{ArgMatches, Command};
 use std::alloc::{AllocError, Global};
 use vault_core::moment::Moment;
 
-/// What a right is given or taken away with.
+/// What a right is given or taken away with, but for its end.
 #[derive(Clone, Copy, Debug)]
 pub struct RightJob<'a> {
     /// The moment; the clock's, if there is none.
@@ -27,7 +27,7 @@ pub struct RightJob<'a> {
 }
 
 impl<'a> RightJob<'a> {
-    /// The job that the values of `grant` or of `withdraw` ask for.
+    /// The job that the values of `withdraw` ask for, and those of `grant` but for `--until`.
     pub(crate) fn read(matches: &ArgMatches<'a>) -> Result<RightJob<'a>, BadValue>
         ensures { Finds result (AsksRight (rows_of (found_of matches.now))) }
     {
@@ -41,33 +41,68 @@ impl<'a> RightJob<'a> {
     }
 }
 
-/// A command of this name on a right.
-fn on_right<'a>(alloc: Global, name: &'a str, about: &'a str) -> Result<Command<'a>, AllocError>
-    ensures { IfOk result (λ c. IsApp c (right_app name.entry.now)) }
+/// What a right is given with.
+#[derive(Clone, Copy, Debug)]
+pub struct GrantJob<'a> {
+    /// Whose right at which merchant, in which file and when.
+    pub given: RightJob<'a>,
+    /// The first moment at which the caller doesn't have the right any more; it has no end, if there is none.
+    pub until: Option<Moment>,
+}
+
+impl<'a> GrantJob<'a> {
+    /// The job that the values of `grant` ask for.
+    pub(crate) fn read(matches: &ArgMatches<'a>) -> Result<GrantJob<'a>, BadValue>
+        ensures { Finds result (AsksGrant (rows_of (found_of matches.now))) }
+    {
+        let until = values::until(matches)?;
+        match RightJob::read(matches) {
+            Ok(given) => Ok(GrantJob { given, until }),
+            Err(fault) => Err(fault),
+        }
+    }
+}
+
+/// The command with the words of a right behind those that it has.
+fn on_right<'a>(
+    alloc: Global,
+    command: Result<Command<'a>, AllocError>,
+) -> Result<Command<'a>, AllocError>
+    ensures { (a : App) → IfOk command.entry (λ c. IsApp c a)
+        → IfOk result (λ c. IsApp c (with_rules a right_rules)) }
 {
     let caller = args::text(alloc, "CALLER", "The caller");
     let merchant = args::text(alloc, "MERCHANT", "The merchant at which the right holds");
     let words = "tokenize, detokenize, view, revoke, purge or audit";
     let right = args::text(alloc, "RIGHT", words);
-    let command = add(Ok(args::command(alloc, name, about)), args::now(alloc));
     let command = add(command, args::file(alloc));
     let command = add(command, caller);
     let command = add(command, merchant);
     add(command, right)
 }
 
+/// What help says of `grant` behind its words.
+const NOTES: &str = "\
+The caller has the right up to its end, and not at it. A right that is there
+already gets the new end, or none, in place of its own.";
+
 /// The command `grant`.
 pub(crate) fn grant<'a>(alloc: Global) -> Result<Command<'a>, AllocError>
-    ensures { IfOk result (λ c. IsApp c (right_app (codes "grant"))) }
+    ensures { IfOk result (λ c. IsApp c grant_app) }
 {
     let about = "Gives a caller a right at a merchant";
-    on_right(alloc, "grant", about)
+    let command = Ok(args::with_notes(args::command(alloc, "grant", about), NOTES));
+    let command = add(command, args::now(alloc));
+    let command = add(command, args::until(alloc));
+    on_right(alloc, command)
 }
 
 /// The command `withdraw`.
 pub(crate) fn withdraw<'a>(alloc: Global) -> Result<Command<'a>, AllocError>
-    ensures { IfOk result (λ c. IsApp c (right_app (codes "withdraw"))) }
+    ensures { IfOk result (λ c. IsApp c withdraw_app) }
 {
     let about = "Takes a right at a merchant from a caller";
-    on_right(alloc, "withdraw", about)
+    let command = Ok(args::command(alloc, "withdraw", about));
+    let command = add(command, args::now(alloc));
+    on_right(alloc, command)
 }

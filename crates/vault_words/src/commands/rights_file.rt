@@ -38,12 +38,14 @@ impl<'a> RightsFileJob<'a> {
 /// What help says of `rights` behind its words.
 const NOTES: &str = "\
 A rights file has a table for each caller, and in it for each merchant the
-words of the rights that the caller gets there:
+rights that the caller gets there. An item is a right's word, which gives it
+for good, or a table with its word and its end, in seconds since 1970:
 
   [till-1]
-  shop1 = [\"tokenize\", \"view\"]
+  shop1 = [\"tokenize\", { right = \"view\", until = 1893456000 }]
 
-The words are tokenize, detokenize, view, revoke, purge and audit.";
+The words are tokenize, detokenize, view, revoke, purge and audit. Of a right
+that is listed twice the latest end counts, and to have none is the latest.";
 
 /// The command `rights`.
 pub(crate) fn rights<'a>(alloc: Global) -> Result<Command<'a>, AllocError>

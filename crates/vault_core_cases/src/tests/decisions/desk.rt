@@ -5,6 +5,7 @@ use vault_core::changes::Changes;
 use vault_core::row::{Entry, MerchantRow, Record};
 use vault_core::usage::Use;
 use vault_core::window::Window;
+use vault_pan::lead::Lead;
 use vault_pan::pan::Pan;
 use vault_script::command::{merchant, moment, number, token, word};
 use vault_script::told::text;
@@ -16,11 +17,17 @@ pub struct Desk {
     pub changes: Changes,
 }
 
-/// The merchant of `shop SINGLE MULTI MOMENT MADE GIVEN DENIED`.
+/// The merchant of `shop SINGLE MULTI MOMENT MADE GIVEN DENIED [eight]`: its lead is six, or eight.
 fn shop(line: &str) -> Option<MerchantRow> {
+    let lead = if word(line, 7) == Some("eight") {
+        Lead::Eight
+    } else {
+        Lead::Six
+    };
     Some(MerchantRow {
         single_life: number(line, 1)?,
         multi_life: number(line, 2)?,
+        lead,
         moment: moment(line, 3)?,
         made: number(line, 4)?,
         given: number(line, 5)?,

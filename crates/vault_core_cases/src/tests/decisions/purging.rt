@@ -8,17 +8,17 @@ candidate 0000000000001111
 named of 4111111111111111 single 1000 1060 -
 purge till-1 shop1 0000000000001111 1059 = refused 17; nothing
 revoke till-1 shop1 0000000000001111 1059 = done; lives entry
-lives = shop1 60 0 1059
+lives = shop1 60 0 1059 Six
 entry = shop1 0000000000001111 4111111111111111 single 1000 1060 1059
 named of 4111111111111111 single 1000 1060 1059
 purge till-1 shop1 0000000000001111 1059 = done; lives entry
-lives = shop1 60 0 1059
+lives = shop1 60 0 1059 Six
 entry = shop1 0000000000001111 - single 1000 1060 1059
 named of - single 1000 1060 1059
 detokenize till-1 shop1 0000000000001111 1059 = refused 14; lives denied
-lives = shop1 60 0 1059
+lives = shop1 60 0 1059 Six
 purge till-1 shop1 0000000000001111 1061 = done; lives
-lives = shop1 60 0 1061
+lives = shop1 60 0 1061 Six
 empty
 recorded shop1 0000000000001111 single of - single 1000 1060 1059
 tokenize till-1 shop1 7 single 4111111111111111 0 1000 = 0000000000001111 1060; nothing
@@ -32,11 +32,11 @@ right granted
 candidate 0000000000001111
 named of 4111111111111111 single 1000 1060 -
 purge till-1 shop1 0000000000001111 1065 = done; lives entry
-lives = shop1 60 0 1065
+lives = shop1 60 0 1065 Six
 entry = shop1 0000000000001111 - single 1000 1060 -
 named of 4111111111111111 single 1020 1080 1020
 purge till-1 shop1 0000000000001111 1065 = done; lives entry
-lives = shop1 60 0 1065
+lives = shop1 60 0 1065 Six
 entry = shop1 0000000000001111 - single 1020 1080 1020
 named of 4111111111111111 single 1010 1070 -
 purge till-1 shop1 0000000000001111 1065 = refused 17; nothing

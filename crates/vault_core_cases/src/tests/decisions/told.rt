@@ -2,8 +2,9 @@
 use super::desk::Desk;
 use std::alloc::Global;
 use vault_core::changes::{Changes, Count};
+use vault_core::command::Command;
 use vault_core::decide::decide;
-use vault_core::row::{Entry, EntryState};
+use vault_core::row::{Entry, EntryState, GrantRow};
 use vault_core::window::Window;
 use vault_script::command::{asked, moment, word};
 use vault_script::told::reply_told;
@@ -36,24 +37,31 @@ fn parts_told(alloc: Global, changes: &Changes) -> Option<String> {
     format!(in alloc; "{lives}{count}{entry}{recorded}{right}").ok()
 }
 
-/// A command: the reply, and which parts change.
-fn decided_told(alloc: Global, desk: &mut Desk, line: &str) -> Option<String> {
-    let command = asked(line)?;
+/// What is decided on a command: the reply, and which parts change.
+fn decision_told(alloc: Global, desk: &mut Desk, command: &Command) -> Option<String> {
     if !command.proper() {
         return None;
     }
-    let (reply, changes) = decide(&desk.window, &command);
+    let (reply, changes) = decide(&desk.window, command);
     desk.changes = changes;
     let (reply, parts) = (reply_told(alloc, &reply), parts_told(alloc, &changes)?);
     format!(in alloc; "{reply};{parts}").ok()
 }
 
-/// `lives`: the merchant's lives and its moment from now on.
+/// A command: the reply, and which parts change.
+fn decided_told(alloc: Global, desk: &mut Desk, line: &str) -> Option<String> {
+    match asked(line) {
+        Some(command) => decision_told(alloc, desk, &command),
+        None => None,
+    }
+}
+
+/// `lives`: the merchant's lives, its moment and its lead from now on.
 fn lives_told(alloc: Global, changes: &Changes) -> Option<String> {
     let lives = changes.lives?;
     let (shop, moment) = (text_of(lives.merchant.bytes()), lives.moment.seconds());
-    let (single, multi) = (lives.single_life, lives.multi_life);
-    format!(in alloc; "{shop} {single} {multi} {moment}").ok()
+    let (single, multi, lead) = (lives.single_life, lives.multi_life, lives.lead);
+    format!(in alloc; "{shop} {single} {multi} {moment} {lead:?}").ok()
 }
 
 /// An entry in words.
@@ -94,11 +102,30 @@ fn recorded_told(alloc: Global, changes: &Changes) -> Option<String> {
     format!(in alloc; "{caller} {request} {shop} {token} {usage}").ok()
 }
 
-/// `right`: the right that changes give, or take away.
+/// How long a right lasts, in words.
+fn lasting_told(alloc: Global, given: &Option<GrantRow>) -> Option<String> {
+    let Some(grant) = given else {
+        return String::from_str(alloc, "taken away").ok();
+    };
+    match grant.ends {
+        Some(end) => {
+            let seconds = end.seconds();
+            format!(in alloc; "until {seconds}").ok()
+        }
+        None => String::from_str(alloc, "for good").ok(),
+    }
+}
+
+/// `right`: the right that changes give, with its end, or take away.
 fn right_told(alloc: Global, changes: &Changes) -> Option<String> {
-    let (caller, shop, right, is_there) = changes.right?;
-    let (caller, shop) = (text_of(caller.bytes()), text_of(shop.bytes()));
-    format!(in alloc; "{caller} {shop} {right:?} {is_there}").ok()
+    match &changes.right {
+        Some((caller, shop, right, given)) => {
+            let (caller, shop) = (text_of(caller.bytes()), text_of(shop.bytes()));
+            let lasting = lasting_told(alloc, given)?;
+            format!(in alloc; "{caller} {shop} {right:?} {lasting}").ok()
+        }
+        None => None,
+    }
 }
 
 /// `state SECONDS`: the state of the named entry.
@@ -123,19 +150,26 @@ fn token_command_told(alloc: Global, line: &str) -> Option<String> {
     format!(in alloc; "{caller} {shop} {token} {right:?} {seconds}").ok()
 }
 
-/// `printed COMMAND`: whether it, the window, the reply and the changes show a number's length, a token, and
-/// a number's first digits.
-fn printed_told(alloc: Global, desk: &Desk, line: &str) -> Option<String> {
-    let command = asked(line.strip_prefix("printed ")?)?;
+/// Whether a command, the window, the reply and the changes show a number's length, a token, and a number's
+/// first digits.
+fn print_told(alloc: Global, desk: &Desk, command: &Command) -> Option<String> {
     if !command.proper() {
         return None;
     }
-    let (window, (reply, changes)) = (desk.window, decide(&desk.window, &command));
+    let (window, (reply, changes)) = (desk.window, decide(&desk.window, command));
     let shown = format!(in alloc; "{command:?} {reply:?} {changes:?} {window:?}").ok()?;
     let length = shown.contains("Pan(16 digits)");
     let token = shown.contains("Token(0000000000001111)");
     let number = shown.contains("411111");
     format!(in alloc; "{length} {token} {number}").ok()
+}
+
+/// `printed COMMAND`: what printing it and what is decided on it shows.
+fn printed_told(alloc: Global, desk: &Desk, line: &str) -> Option<String> {
+    match asked(line.strip_prefix("printed ")?) {
+        Some(command) => print_told(alloc, desk, &command),
+        None => None,
+    }
 }
 
 /// The answer to a question.

@@ -1,6 +1,7 @@
 //! Questions on card numbers, tokens, drawings and masks. A text that may have spaces stands in `|`.
 use std::alloc::Global;
 use vault_pan::draw::{DRAWN_DIGITS, Digits, GROUPS, candidate};
+use vault_pan::lead::Lead;
 use vault_pan::luhn::passes;
 use vault_pan::mask::mask;
 use vault_pan::pan::{Pan, PanFault};
@@ -110,9 +111,14 @@ fn candidate_told(alloc: Global, line: &str) -> Option<String> {
     }
 }
 
-/// `mask |NUMBER|`.
+/// `mask |NUMBER|` or `mask eight |NUMBER|`: with six digits at the left, or with eight.
 fn mask_told(alloc: Global, line: &str) -> Option<String> {
-    let masked = mask(&Pan::read(quoted(line)?.as_bytes()).ok()?);
+    let lead = if word(line, 1) == Some("eight") {
+        Lead::Eight
+    } else {
+        Lead::Six
+    };
+    let masked = mask(&Pan::read(quoted(line)?.as_bytes()).ok()?, lead);
     let shown = masked.as_str();
     if masked.text() != shown.as_bytes() {
         return None;
@@ -122,7 +128,8 @@ fn mask_told(alloc: Global, line: &str) -> Option<String> {
 
 /// `masks NUMBER NUMBER`: whether their masks are equal, and how they are ordered.
 fn masks_told(alloc: Global, line: &str) -> Option<String> {
-    let (first, second) = (mask(&pan(line, 1)?), mask(&pan(line, 2)?));
+    let first = mask(&pan(line, 1)?, Lead::Six);
+    let second = mask(&pan(line, 2)?, Lead::Six);
     let (is_same, order) = (first == second, first.cmp(&second));
     let partial = first.partial_cmp(&second);
     format!(in alloc; "{is_same} {order:?} {partial:?}").ok()
@@ -132,7 +139,7 @@ fn masks_told(alloc: Global, line: &str) -> Option<String> {
 fn printed_told(alloc: Global, line: &str) -> Option<String> {
     match word(line, 1)? {
         "mask" => {
-            let masked = mask(&pan(line, 2)?);
+            let masked = mask(&pan(line, 2)?, Lead::Six);
             format!(in alloc; "{masked}, {masked:?}").ok()
         }
         "token" => {

@@ -114,7 +114,10 @@ pub fn are_numbered() -> bool {
 
 /// `proper COMMAND`: whether its lives are in range.
 fn proper_told(alloc: Global, line: &str) -> Option<String> {
-    yes_or_no(alloc, asked(line.strip_prefix("proper ")?)?.proper())
+    match asked(line.strip_prefix("proper ")?) {
+        Some(command) => yes_or_no(alloc, command.proper()),
+        None => None,
+    }
 }
 
 /// What a source gives next: the moment and how many zeros, or the fault; how many are left, and whether it

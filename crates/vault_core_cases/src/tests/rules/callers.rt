@@ -23,6 +23,15 @@ right till-1,shop1,7 = 12
 right till-1,shop2,1 = 12
 right till 1,shop1,1 = 12";
 
+/// The end of a right is a moment, or there is none.
+pub const ENDS: &str = "sound
+right till-1,shop1,1,- = none
+right till-1,shop1,1,0 = none
+right till-1,shop1,1,253402300799 = none
+right till-1,shop1,1,-1 = 15
+right till-1,shop1,1,253402300800 = 15
+right till-1,shop1,7,-1 = 12";
+
 /// The least of two broken rules is told.
 pub const LEAST: &str = "sound
 clear records; record till-1,7,shop1,0000000000001111,2; clear counts; count shop1,1,2 = 10";

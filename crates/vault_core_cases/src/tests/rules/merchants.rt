@@ -25,6 +25,16 @@ merchant shop1,-1,0,0 = 3
 merchant shop1,0,-1,0 = 3
 merchant shop1,0,0,-1 = 3";
 
+/// A merchant's masks show at most 6 or 8 digits at the left.
+pub const LEADS: &str = "version 1,1
+merchant shop1,60,0,1000,6 = none
+merchant shop1,60,0,1000,8 = none
+merchant shop1,60,0,1000,7 = 14
+merchant shop1,60,0,1000,0 = 14
+merchant shop1,60,0,1000,-6 = 14
+merchant shop1,60,0,1000; merchant shop2,60,0,1000,7 = 14
+merchant shop1,-1,0,1000,7 = 3";
+
 /// A count is of a merchant, of a kind from 1 to 3, and within its bounds.
 pub const COUNTS: &str = "sound
 count shop1,2,1 = none

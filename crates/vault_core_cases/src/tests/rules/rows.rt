@@ -48,16 +48,21 @@ fn version(edit: &str) -> Option<RawVersion> {
     })
 }
 
-/// `merchant NAME,SINGLE,MULTI,MOMENT`.
+/// `merchant NAME,SINGLE,MULTI,MOMENT[,LEAD]`, with a lead of 6 where none stands there.
 fn merchant(alloc: Global, edit: &str) -> Option<RawMerchant> {
     let (single_life, multi_life) = (number(edit, 1)?, number(edit, 2)?);
     let moment = number(edit, 3)?;
+    let lead = match column(edit, 4) {
+        Some(_) => number(edit, 4)?,
+        None => 6,
+    };
     Some(RawMerchant {
         rowid: 1,
         name: column_text(alloc, edit, 0),
         single_life,
         multi_life,
         moment,
+        lead,
     })
 }
 
@@ -112,14 +117,19 @@ fn record(alloc: Global, edit: &str) -> Option<RawRecord> {
     })
 }
 
-/// `right CALLER,MERCHANT,RIGHT`.
+/// `right CALLER,MERCHANT,RIGHT[,ENDS]`, without an end where none stands there.
 fn right(alloc: Global, edit: &str) -> Option<RawRight> {
     let what = number(edit, 2)?;
+    let ends = match column(edit, 3) {
+        Some(_) => nullable(edit, 3)?,
+        None => None,
+    };
     Some(RawRight {
         rowid: 1,
         caller: column_text(alloc, edit, 0),
         merchant: column_text(alloc, edit, 1),
         what,
+        ends,
     })
 }
 

@@ -70,6 +70,34 @@ detokenize till-1 shop1 0000000000001111 1030 = refused 15",
     "made shop1 = 1",
 );
 
+/// A token is shown with the lead that its merchant has now.
+pub const LEADING: (&str, &str) = (
+    "open till-1 shop1 60 0 1000 = done
+tokenize till-1 shop1 7 single 4111111111111111 0 1000 = 0000000000001111 1060
+set shop1 60 0 1000 8 = done
+view till-1 shop1 0000000000001111 1000 = 41111111****1111 single 1000 1060 live
+set shop1 60 0 1000 = done
+view till-1 shop1 0000000000001111 1000 = 411111******1111 single 1000 1060 live",
+    "made shop1 = 1",
+);
+
+/// A right lasts until its end, which the merchant's moment may have passed.
+pub const ENDED: (&str, &str) = (
+    "open till-1 shop1 60 0 1000 = done
+tokenize till-1 shop1 7 single 4111111111111111 0 1000 = 0000000000001111 1060
+grant till-1 shop1 detokenize 1000 1030 = done
+detokenize till-1 shop1 0000000000001111 1029 = 4111111111111111
+audit till-1 shop1 1029 = 1 1 0
+detokenize till-1 shop1 0000000000001111 1030 = refused 8
+audit till-1 shop1 1030 = 1 1 1
+detokenize till-1 shop1 0000000000001111 1010 = refused 8
+audit till-1 shop1 1030 = 1 1 2
+grant till-1 shop1 detokenize 1031 = done
+detokenize till-1 shop1 0000000000001111 1031 = 4111111111111111
+audit till-1 shop1 1031 = 1 2 2",
+    "made shop1 = 1",
+);
+
 /// A right that is withdrawn ends new requests and no repeat.
 pub const WITHDRAWN: (&str, &str) = (
     "open till-1 shop1 60 0 1000 = done

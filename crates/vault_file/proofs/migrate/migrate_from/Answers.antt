@@ -1,18 +1,16 @@
-use Rattle.std.proofs.Common.{inr}
 use Rattle.sqlite.specs.Files.{file_state}
 use Rattle.sqlite_wal.specs.Files.{image_at}
 use Rattle.vault_file.proofs.Leaving.{leaves_from}
-use Rattle.vault_file.proofs.Moving.{leaves_old, moves_from, never_older, was_clean}
+use Rattle.vault_file.proofs.Moving.{leaves_old, movable, moves_from, never_in, was_clean}
 use Rattle.vault_file.proofs.Opening.{found_in, never_kept, same_fault, there}
 use Rattle.vault_file.proofs.migrate.migrate_from.Goals as goal
 use Rattle.vault_verdict.specs.declared.fault.OpenFault.TheVariants.{WrongSchema, Damaged}
 
 pub returns-in-Ok-clause-moved : goal.returns-in-Ok-clause-moved
 returns-in-Ok-clause-moved g c =
-    moves_from (image_at g.S.Start) c.in-Some.conn c.migrate.new.conn c.in-Some.ensures.opened
-    c.in-Some.ensures.unlimited c.migrate.ensures.clean
-    c.in-Ok.ensures.moved c.in-Ok.ensures.kept c.in-Ok.ensures.blank c.in-Ok.ensures.sound
-    c.in-Some.ensures.again c.in-Some.ensures.first
+    moves_from (image_at g.S.Start) c.in-Some.conn c.migrate_all.new.conn c.in-Some.ensures.opened
+    c.in-Some.ensures.unlimited c.migrate_all.ensures.clean
+    c.in-Ok.ensures.moved c.in-Ok.ensures.blank c.in-Ok.ensures.sound c.in-Some.ensures.first
 
 pub returns-in-Ok-clause-no_path : goal.returns-in-Ok-clause-no_path
 returns-in-Ok-clause-no_path g c none = there c.in-Some.conn (c.in-Some.ensures.no_path none)
@@ -24,8 +22,8 @@ pub returns-in-Err-clause-damaged : goal.returns-in-Err-clause-damaged
 returns-in-Err-clause-damaged g c clean rule same = (
   (file_state c.in-Some.conn).now,
   found_in (image_at g.S.Start) c.in-Some.conn c.in-Some.ensures.opened
-      (was_clean (image_at g.S.Start) c.in-Some.conn c.migrate.new.conn c.in-Some.ensures.opened
-      c.in-Some.ensures.unlimited c.migrate.ensures.clean clean),
+      (was_clean (image_at g.S.Start) c.in-Some.conn c.migrate_all.new.conn c.in-Some.ensures.opened
+      c.in-Some.ensures.unlimited c.migrate_all.ensures.clean clean),
   c.in-Err.ensures.damaged clean rule (same_fault c.in-Err.fault (Damaged rule) same),
 )
 
@@ -33,32 +31,33 @@ pub returns-in-Err-clause-wrong : goal.returns-in-Err-clause-wrong
 returns-in-Err-clause-wrong g c clean n same = (
   (file_state c.in-Some.conn).now,
   found_in (image_at g.S.Start) c.in-Some.conn c.in-Some.ensures.opened
-      (was_clean (image_at g.S.Start) c.in-Some.conn c.migrate.new.conn c.in-Some.ensures.opened
-      c.in-Some.ensures.unlimited c.migrate.ensures.clean clean),
+      (was_clean (image_at g.S.Start) c.in-Some.conn c.migrate_all.new.conn c.in-Some.ensures.opened
+      c.in-Some.ensures.unlimited c.migrate_all.ensures.clean clean),
   c.in-Err.ensures.wrong clean n (same_fault c.in-Err.fault (WrongSchema n) same),
 )
 
-pub returns-in-Err-clause-never_older : goal.returns-in-Err-clause-never_older
-returns-in-Err-clause-never_older g c =
-    never_older (image_at g.S.Start) c.in-Some.conn c.migrate.new.conn c.in-Some.ensures.opened
-    c.in-Some.ensures.unlimited c.migrate.ensures.clean c.in-Err.fault c.in-Err.ensures.never
+pub returns-in-Err-clause-never_in : goal.returns-in-Err-clause-never_in
+returns-in-Err-clause-never_in g c =
+    never_in (image_at g.S.Start) c.in-Some.conn c.migrate_all.new.conn c.in-Some.ensures.opened
+    c.in-Some.ensures.unlimited c.migrate_all.ensures.clean c.in-Err.fault c.in-Err.ensures.never
 
 pub returns-in-Err-clause-never : goal.returns-in-Err-clause-never
 returns-in-Err-clause-never g c clean V sound keeps =
     never_kept (image_at g.S.Start) c.in-Some.conn
     c.in-Some.ensures.opened c.in-Some.ensures.again
-    c.migrate.new.conn c.in-Err.fault
-    (λ clean fit. c.in-Err.ensures.never clean (inr fit)) (λ some. c.migrate.ensures.clean) clean V sound
+    c.migrate_all.new.conn c.in-Err.fault
+    (λ clean fit. c.in-Err.ensures.never clean (movable (file_state c.in-Some.conn).now fit))
+    (λ some. c.migrate_all.ensures.clean) clean V sound
     keeps
 
 pub returns-in-Err-clause-left : goal.returns-in-Err-clause-left
 returns-in-Err-clause-left g c =
-    leaves_from (image_at g.S.Start) c.in-Some.conn c.migrate.new.conn c.in-Some.ensures.opened
-    c.in-Some.ensures.unlimited (λ clean. (c.migrate.ensures.crash clean).found) c.in-Some.ensures.again
+    leaves_from (image_at g.S.Start) c.in-Some.conn c.migrate_all.new.conn c.in-Some.ensures.opened
+    c.in-Some.ensures.unlimited (λ clean. (c.migrate_all.ensures.crash clean).found) c.in-Some.ensures.again
     c.in-Some.ensures.either c.in-Some.ensures.first
 
-pub returns-in-Err-clause-left_older : goal.returns-in-Err-clause-left_older
-returns-in-Err-clause-left_older g c =
-    leaves_old (image_at g.S.Start) c.in-Some.conn c.migrate.new.conn c.in-Some.ensures.opened
-    c.in-Some.ensures.unlimited c.migrate.ensures.clean c.in-Err.fault
-    (λ clean. (c.migrate.ensures.crash clean).older) c.in-Err.ensures.stays
+pub returns-in-Err-clause-left_old : goal.returns-in-Err-clause-left_old
+returns-in-Err-clause-left_old g c =
+    leaves_old (image_at g.S.Start) c.in-Some.conn c.migrate_all.new.conn c.in-Some.ensures.opened
+    c.in-Some.ensures.unlimited c.migrate_all.ensures.clean c.in-Err.fault
+    (λ clean. (c.migrate_all.ensures.crash clean).older) c.in-Err.ensures.stays

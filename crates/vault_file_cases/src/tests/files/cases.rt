@@ -22,10 +22,15 @@ check vault_file_damaged/2 = 31 1
 migrate vault_file_damaged/2 = 31 1
 open vault_file_damaged/2 = 31 1
 open vault_file_damaged/3 = opened
-run vault_file_damaged/3: INSERT INTO rights VALUES ('till-1', 'shop1', 6) = changed
+run vault_file_damaged/3: INSERT INTO rights4 VALUES ('till-1', 'shop1', 6, NULL) = changed
 check vault_file_damaged/3 = 31 12
 migrate vault_file_damaged/3 = 31 12
 open vault_file_damaged/3 = 31 12
+open vault_file_damaged/4 = opened
+run vault_file_damaged/4: INSERT INTO merchants3 VALUES ('shop1', 60, 0, 1000, 7) = changed
+check vault_file_damaged/4 = 31 14
+migrate vault_file_damaged/4 = 31 14
+open vault_file_damaged/4 = 31 14
 remove vault_file_damaged = done";
 
 /// Another program's file is refused.
@@ -89,11 +94,11 @@ check vault_file_moved/a = 30 1
 open vault_file_moved/a = 30 1
 check vault_file_moved/a = 30 1
 open vault_file_moved/a = 30 1
-migrate vault_file_moved/a = schema 2
+migrate vault_file_moved/a = schema 4
 mode vault_file_moved/a = 640
 check vault_file_moved/a = 2 5 5
 open vault_file_moved/a = opened
-migrate vault_file_moved/a = schema 2
+migrate vault_file_moved/a = schema 4
 mode vault_file_moved/a = 640
 check vault_file_moved/a = 2 5 5
 open vault_file_moved/a = opened
@@ -107,12 +112,12 @@ migrate vault_file_unmoved/a = 31 10
 migrate vault_file_unmoved/a = 31 10
 run vault_file_unmoved/a: UPDATE counts SET total = 4 WHERE kind = 1 AND merchant = 'shop1' = changed
 check vault_file_unmoved/a = 30 1
-migrate vault_file_unmoved/a = schema 2
+migrate vault_file_unmoved/a = schema 4
 remove vault_file_unmoved = done";
 
 /// A file that is not there is made in the newest schema.
 const MADE_NEW: &str = "folder vault_file_made_new = done
-migrate vault_file_made_new/a = schema 2
+migrate vault_file_made_new/a = schema 4
 mode vault_file_made_new/a = 600
 check vault_file_made_new/a = 0 0 0
 remove vault_file_made_new = done";

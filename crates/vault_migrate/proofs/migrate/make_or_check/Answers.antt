@@ -1,6 +1,7 @@
 use Rattle.std.proofs.Common.{◌≡◌, ◌∙◌, ap, arith, inl, inr, Err}
 use Rattle.sqlite.specs.Held.{state}
-use Rattle.vault_migrate.proofs.Moving.{found_after, passed_as}
+use Rattle.vault_migrate.proofs.Moving.{found_after}
+use Rattle.vault_verdict.proofs.Results.{passed_as}
 use Rattle.vault_migrate.proofs.migrate.make_or_check.Goals as goal
 
 pub returns-in_err-check-in-Err-Taken-clause-left :

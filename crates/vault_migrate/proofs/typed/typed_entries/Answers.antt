@@ -5,7 +5,7 @@ use Rattle.std.specs.List.{All}
 use Rattle.vault_core.specs.Keys.{Bytes}
 use Rattle.vault_core.specs.declared.row.Entry.{Entry}
 use Rattle.vault_migrate.proofs.More.{typed_more}
-use Rattle.vault_migrate.specs.Made.{old_columns, typed_columns}
+use Rattle.vault_migrate.specs.Typed.{old_columns, typed_columns}
 use Rattle.vault_migrate.proofs.typed.typed_entries.Goals as goal
 
 pub loop-older-preserved : goal.loop-older-preserved

@@ -2,7 +2,7 @@ use Rattle.std.proofs.Common.{◌≡◌, ◌<◌, ◌^◌, map, take}
 use Rattle.std.specs.List.{All}
 use Rattle.vault_core.specs.Keys.{Bytes}
 use Rattle.vault_core.specs.declared.row.Entry.{Entry}
-use Rattle.vault_migrate.specs.Made.{old_columns, typed_columns}
+use Rattle.vault_migrate.specs.Typed.{old_columns, typed_columns}
 use Rattle.vault_migrate.proofs.typed.typed_entries.Given as goal
 
 -- the entries so far are those of the old ones so far

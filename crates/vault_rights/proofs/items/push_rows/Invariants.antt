@@ -4,4 +4,4 @@ use Rattle.vault_rights.proofs.items.push_rows.Given as goal
 
 abbrev pub invariant-loop-right : goal.invariant-loop-right
 invariant-loop-right l =
-    IsExtendedBy (IsRowUpTo l.caller l.merchant l.rights l.right-index) l.initial.rows.items l.rows.items
+    IsExtendedBy (IsRowUpTo l.caller l.merchant l.grants l.right-index) l.initial.rows.items l.rows.items

@@ -33,7 +33,7 @@ loop-key-preserved c =
       done ++ e ∷ [],
       all ∙ sym (append_assoc done (e ∷ []) left),
       all-append (λ (t : Entry). IsProperCaller (string_bytes t.0) (view t.1)) done (e ∷ []) good (here, tt),
-      rows-more (λ row. row.0) (λ d row. GivesRight d row.1 row.2) _ done e left _ _ _ ordered rows
+      rows-more (λ row. row.0) (λ d row. GivesRight d row.1 row.2 row.3) _ done e left _ _ _ ordered rows
           c.in_ok-read_caller.ensures.rows
           (λ row. (λ q. (q.0 ∙ named, q.1), λ q. (q.0 ∙ sym named, q.1)))
           (λ a b d f less v w. callers-below a b less),

@@ -35,7 +35,7 @@ loop-key-preserved c =
       all-append (λ (t : Entry). IsProperMerchant (string_bytes t.0) (view t.1)) done (e ∷ []) good
           (here, tt),
       rows-more (λ row. row.1)
-          (λ d row. (row.0 ≡ c.args.caller) × HasRight d row.2) _ done e left _ _ _ ordered rows
+          (λ d row. (row.0 ≡ c.args.caller) × HasRight d row.2 row.3) _ done e left _ _ _ ordered rows
           c.in_ok-read_merchant.ensures.rows
           (λ row. (λ q. (q.1 ∙ named, (q.0, q.2)), λ q. (q.1.0, q.0 ∙ sym named, q.1.1)))
           (λ a b d f less v w. same-caller-below a b (v.0 ∙ sym w.0) less),
@@ -73,10 +73,11 @@ returns-clause-rows c =
     let (done, whole, good, rows) = c.loop-key.invariant in
     let all = whole ∙ ap (λ es. done ++ es) c.in-None.ensures.steps.0 ∙ append-nil done in
     let named =
-    extended-same _ (λ row. (row.0 ≡ c.args.caller) × HasMerchant (members_view done) row.1 row.2) _ _ rows
+    extended-same _
+    (λ row. (row.0 ≡ c.args.caller) × HasMerchant (members_view done) row.1 row.2 row.3) _ _ rows
     (λ row. (λ q. (q.2.0, (q.0, q.1, q.2.1)), λ q. (q.1.0, q.1.1, (q.0, q.1.2)))) in
     subst
-    (λ es. IsExtendedBy (λ row. (row.0 ≡ c.args.caller) × HasMerchant (members_view es) row.1 row.2)
+    (λ es. IsExtendedBy (λ row. (row.0 ≡ c.args.caller) × HasMerchant (members_view es) row.1 row.2 row.3)
     c.args.rows.now.items
     c.loop-key.rows.items)
     (sym all) named

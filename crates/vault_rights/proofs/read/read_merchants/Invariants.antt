@@ -10,6 +10,6 @@ abbrev pub invariant-loop-key : goal.invariant-loop-key
 invariant-loop-key l =
     (done : List Entry) × (l.members.entries ≡ done ++ l.key-iterator)
     × EachEntry IsProperMerchant done
-    × IsExtendedBy (HasRow (λ row. row.1) (λ value row. (row.0 ≡ l.caller) × HasRight value row.2)
+    × IsExtendedBy (HasRow (λ row. row.1) (λ value row. (row.0 ≡ l.caller) × HasRight value row.2 row.3)
     (members_view done))
     l.initial.rows.items l.rows.items

@@ -1,14 +1,16 @@
-use Rattle.std.proofs.Common.{[]}
 use Rattle.sql_maps.proofs.Calls.{small}
+use Rattle.vault_schema.proofs.Newest.{behind_second, indexes_behind_second}
 use Rattle.vault_schema.proofs.Version2.Texts.{dead_is}
 use Rattle.vault_rows.proofs.Calls.{tells}
 use Rattle.vault_rows.proofs.Dead.{shows_dead}
-use Rattle.vault_schema.specs.Stands.{lookups_of, tables_of}
+use Rattle.vault_schema.specs.Stands.{lookups_of}
+use Rattle.vault_schema.specs.Versions.{tables_of}
 use Rattle.vault_rows.proofs.entries.dead_rows.Goals as goal
 
 pub returns : goal.returns
 returns g c =
-    tells (dead_is [] []) c.rows_of.ensures.reads (λ rows. rows.items) _ c.rows_of.ensures.told
+    tells (dead_is behind_second indexes_behind_second) c.rows_of.ensures.reads
+    (λ rows. rows.items) _ c.rows_of.ensures.told
     (λ V cards pointing rows joined it shown. λ now is.
     shows_dead V c.args.m.now (tables_of (lookups_of V) cards pointing) joined c.args.at _ _ it c.args.many
     now is

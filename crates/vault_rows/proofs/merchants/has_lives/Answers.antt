@@ -5,7 +5,7 @@ use Rattle.vault_rows.proofs.merchants.has_lives.Goals as goal
 pub returns-in-Some-clause-told : goal.returns-in-Some-clause-told
 returns-in-Some-clause-told g c =
     told_so c.in_ok-rows.ensures.told (λ t shown.
-    same_lives (t.merchants c.args.m.now) _ c.args.x.now c.eq.result c.eq.ensures
+    same_lives (t.merchants c.args.m.now) _ c.args.x.now c.are_same.result c.are_same.ensures
     (lives_shown _ c.in_ok-rows.rows.items c.in-Some.row.now _ shown
     (rw (c.deref.ensures.value) at c.in-Some.ensures.value) c.in_ok-lives_of-in-Some.ensures))
 

@@ -1,9 +1,8 @@
 use Rattle.std.proofs.Common.{refl}
 use Rattle.sql_maps.proofs.Calls.{small}
+use Rattle.vault_schema.proofs.Newest.{behind_first, indexes_behind_first, record_table}
 use Rattle.vault_schema.specs.Version1.Rows.{record_columns}
-use Rattle.vault_schema.proofs.Version2.Codes.{record_table}
 use Rattle.vault_schema.proofs.Version1.Texts.{record_is}
-use Rattle.vault_schema.specs.Version2.Tables.{tables2, indexes2}
 use Rattle.vault_rows.proofs.Calls.{looks_up, tells_of}
 use Rattle.vault_rows.proofs.records.record_rows.Goals as goal
 
@@ -11,7 +10,7 @@ pub returns : goal.returns
 returns g c =
     tells_of
     (looks_up record_table (λ h. h.records) (λ h rows are. are)
-    (record_is tables2 indexes2) c.rows_of.ensures.reads
+    (record_is behind_first indexes_behind_first) c.rows_of.ensures.reads
     (λ rows. rows.items) _ c.rows_of.ensures.told (c.args.caller.now, c.args.request)
     (rw (c.params-to_sql.ensures, c.params-to_sql-2.ensures, small _ c.requires) refl) record_columns
     (λ n x. refl))

@@ -1,6 +1,7 @@
-use Rattle.vault_schema.proofs.Version1.Making.{makes_vault, makes_merchants, makes_counts, makes_entries}
-use Rattle.vault_schema.proofs.Version1.Making.{makes_entries_number, makes_records, makes_rights}
-use Rattle.vault_sql.proofs.Making.{first_made, first_schema, index_made, table_made}
+use Rattle.vault_schema.proofs.Version1.Making.{all_made, makes_vault, makes_merchants, makes_counts}
+use Rattle.vault_schema.proofs.Version1.Making.{makes_entries, makes_entries_number, makes_records}
+use Rattle.vault_schema.proofs.Version1.Making.{makes_rights}
+use Rattle.vault_sql.proofs.Making.{all_tables, first_made, index_made, table_made}
 use Rattle.vault_sql.proofs.schema.create_first.Goals as goal
 
 pub returns-clause-done : goal.returns-clause-done
@@ -16,4 +17,4 @@ returns-clause-done g c =
     in
     let records = table_made c.in_ok-step-6.ensures.steps c.in_ok-step-6.ensures.ran 4 makes_records number in
     let rights = table_made c.in_ok-step-7.ensures.steps c.in_ok-step-7.ensures.ran 5 makes_rights records in
-    first_schema _ _ rights
+    all_tables 6 all_made _ _ rights

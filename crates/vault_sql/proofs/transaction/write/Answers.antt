@@ -5,7 +5,7 @@ use Rattle.sql_maps.proofs.Calls.{as_ok, on_ok, steps_then}
 use Rattle.vault_core.specs.Changes.{Fit, plus}
 use Rattle.vault_core.specs.Sound.{Sound}
 use Rattle.vault_core.specs.Vault.{Vault}
-use Rattle.vault_schema.specs.Version1.Claims.{Lookups}
+use Rattle.vault_schema.specs.Versions.{Lookups}
 use Rattle.vault_rows.specs.Calls.{IsWithin}
 use Rattle.vault_schema.specs.Holds.{Holds, LeavesEither}
 use Rattle.vault_schema.specs.Stands.{lookups_of}

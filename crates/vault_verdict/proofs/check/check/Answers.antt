@@ -13,15 +13,16 @@ returns-in-Nobody-clause-sound g c clean full =
 pub returns-in-Vault-clause-damaged : goal.returns-in-Vault-clause-damaged
 returns-in-Vault-clause-damaged g c clean =
     let vault = held_by _ _ _ _ c.in-Vault.is c.schema.ensures.value c.holder_in.ensures in
-    if_err c.verdict.result
+    if_err c.newest_verdict.result
     (λ fault broken rule same full. broken rule same (record { schema = vault; full = full }))
-    (c.verdict.ensures.damaged clean)
+    (c.newest_verdict.ensures.damaged clean)
 
 pub returns-in-Vault-clause-never : goal.returns-in-Vault-clause-never
 returns-in-Vault-clause-never g c clean =
     no_refusal (state g.S.Store c.args.conn.now).now
     (held_by _ _ _ _ c.in-Vault.is c.schema.ensures.value c.holder_in.ensures)
-    c.verdict.result (c.verdict.ensures.damaged clean) (c.verdict.ensures.versioned clean)
+    c.newest_verdict.result (c.newest_verdict.ensures.damaged clean)
+    (c.newest_verdict.ensures.versioned clean)
 
 pub returns-in-Mixed-clause-wrong : goal.returns-in-Mixed-clause-wrong
 returns-in-Mixed-clause-wrong g c clean =

@@ -1,16 +1,33 @@
-use Rattle.std.proofs.Common.{[], refl}
-use Rattle.sqlite.specs.Held.{state}
-use Rattle.sql_maps.proofs.Reading.{reads_long}
-use Rattle.vault_schema.specs.Version2.Tables.{entries}
-use Rattle.vault_schema.proofs.Version2.Texts.{read_entries_is}
-use Rattle.vault_verdict.proofs.Readings.{reads_table}
+use Rattle.std.proofs.Common.{[]}
+use Rattle.vault_schema.proofs.Newest.{behind_second, indexes_behind_second}
+use Rattle.vault_schema.specs.Version3.Tables.{tables3, indexes3}
+use Rattle.vault_verdict.proofs.Joined.{none_said}
 use Rattle.vault_verdict.proofs.read.entries.Goals as goal
-use Rattle.vault_schema.specs.Schema.{newest_schema}
 
-pub returns : goal.returns
-returns g c =
-    let means = read_entries_is [] [] in
-    reads_table g.S.Store c.args.conn.now c.shown.new.conn _ means (λ m. refl) c.shown.result
-    (c.shown.ensures newest_schema means.plain)
-    (λ raws has sound full shown. reads_long newest_schema (state g.S.Store c.args.conn.now)
-    (state g.S.Store c.shown.new.conn) has sound _ _ entries 7 refl _ means shown refl full)
+pub returns-in-One : goal.returns-in-One
+returns-in-One g c = rw (c.in-One.is) (record {
+  reads = c.first_entries.ensures.reads;
+  told = c.first_entries.ensures.told;
+  refused = λ clean has. none_said _ c.first_entries.result;
+})
+
+pub returns-in-Two : goal.returns-in-Two
+returns-in-Two g c = rw (c.in-Two.is) (record {
+  reads = c.later_entries.ensures.reads [] [];
+  told = c.later_entries.ensures.told [] [];
+  refused = c.later_entries.ensures.refused [] [];
+})
+
+pub returns-in-Three : goal.returns-in-Three
+returns-in-Three g c = rw (c.in-Three.is) (record {
+  reads = c.later_entries-in-Three.ensures.reads tables3 indexes3;
+  told = c.later_entries-in-Three.ensures.told tables3 indexes3;
+  refused = c.later_entries-in-Three.ensures.refused tables3 indexes3;
+})
+
+pub returns-in-Four : goal.returns-in-Four
+returns-in-Four g c = rw (c.in-Four.is) (record {
+  reads = c.later_entries-in-Four.ensures.reads behind_second indexes_behind_second;
+  told = c.later_entries-in-Four.ensures.told behind_second indexes_behind_second;
+  refused = c.later_entries-in-Four.ensures.refused behind_second indexes_behind_second;
+})

@@ -1,17 +1,105 @@
-use Rattle.std.proofs.Common.{[], rules}
-use Rattle.vault_schema.proofs.Version1.Texts.{read_entry_ids_is}
-use Rattle.vault_schema.specs.Version2.Tables.{tables2, indexes2}
-use Rattle.vault_verdict.proofs.Readings.{counts_none, counts_table}
+use Rattle.std.proofs.Common.{◌≡◌, ◌∙◌, arith, inl, inr}
+use Rattle.sqlite.specs.Held.{state}
+use Rattle.sqlite.specs.State.{HasCleanDisk}
+use Rattle.vault_verdict.proofs.InVersion.{behind, indexes_behind, schema_is}
+use Rattle.vault_verdict.proofs.Joined.{both_told, failed_as, failed_then, from_start, in_version, none_if}
+use Rattle.sql_maps.proofs.Calls.{reads_then}
+use Rattle.vault_verdict.proofs.Results.{passed}
 use Rattle.vault_verdict.proofs.read.replaced.Goals as goal
+use Rattle.vault_verdict.specs.Raw.{id_values}
+use Rattle.vault_verdict.specs.ReadAs.{any_left, left_in}
+use Rattle.vault_verdict.specs.Reading.{IsUnread}
+use Rattle.vault_schema.specs.declared.v3.TheConstants.{READ_MERCHANT_IDS}
+use Rattle.vault_schema.specs.declared.v4.TheConstants.{READ_RIGHT_IDS}
 
-pub returns-in_err-ids : goal.returns-in_err-ids
-returns-in_err-ids g c =
-    let means = read_entry_ids_is tables2 indexes2 in
-    counts_none g.S.Store c.args.conn.now c.shown.new.conn _ (c.in_err-ids.ensures _ means.plain)
-    c.from_residual.result c.from_residual.ensures.1
+pub returns-in_err-entries-clause-reads : goal.returns-in_err-entries-clause-reads
+returns-in_err-entries-clause-reads g c =
+    let v = c.args.version in
+    in_version v
+    (failed_as (c.in_err-entries.ensures.told (behind v) (indexes_behind v)).reads c.from_residual.ensures.0)
 
-pub returns : goal.returns
-returns g c =
-    let means = read_entry_ids_is tables2 indexes2 in
-    counts_table g.S.Store c.args.conn.now c.shown.new.conn [] means c.in_ok-ids.ids
-    (c.in_ok-ids.ensures _ means.plain) _ (search rules)
+pub returns-in_err-entries-clause-told : goal.returns-in_err-entries-clause-told
+returns-in_err-entries-clause-told g c clean has = none_if c.from_residual.result _ c.from_residual.ensures.0
+
+pub returns-in_err-entries-clause-refused : goal.returns-in_err-entries-clause-refused
+returns-in_err-entries-clause-refused g c clean has =
+    let v = c.args.version in
+    passed c.from_residual.result _ c.from_residual.ensures.1 (λ store. inl
+    ((c.in_err-entries.ensures.told (behind v) (indexes_behind v)).refused clean (has ∙ schema_is v) store))
+
+pub returns-in_err-merchants-clause-reads : goal.returns-in_err-merchants-clause-reads
+returns-in_err-merchants-clause-reads g c =
+    let v = c.args.version in
+    in_version v
+    (failed_then (c.in_ok-entries.ensures.told (behind v) (indexes_behind v)).reads
+    (c.in_err-merchants.ensures.told (behind v) (indexes_behind v)).reads
+    c.from_residual-in_err-merchants.ensures.0)
+
+pub returns-in_err-merchants-clause-told : goal.returns-in_err-merchants-clause-told
+returns-in_err-merchants-clause-told g c clean has =
+    none_if c.from_residual-in_err-merchants.result _ c.from_residual-in_err-merchants.ensures.0
+
+pub returns-in_err-merchants-clause-refused : goal.returns-in_err-merchants-clause-refused
+returns-in_err-merchants-clause-refused g c clean has =
+    let v = c.args.version in
+    let second = c.in_err-merchants.ensures.told (behind v) (indexes_behind v) in
+    let early : HasCleanDisk (state g.S.Store c.entries_left.new.conn) =
+    omega (arith, second.reads.clean, clean) in
+    passed c.from_residual-in_err-merchants.result _ c.from_residual-in_err-merchants.ensures.1 (λ store.
+    inr (inl (from_start (λ db. IsUnread g.S.Store READ_MERCHANT_IDS.now id_values db
+    c.merchants_left.new.conn) (c.in_ok-entries.ensures.told (behind v) (indexes_behind v)).reads early
+    (has ∙ schema_is v) (λ same. second.refused clean same store))))
+
+pub returns-in_err-rights-clause-reads : goal.returns-in_err-rights-clause-reads
+returns-in_err-rights-clause-reads g c =
+    let v = c.args.version in
+    let first = c.in_ok-entries.ensures.told (behind v) (indexes_behind v) in
+    let second = c.in_ok-merchants.ensures.told (behind v) (indexes_behind v) in
+    let both = reads_then first.reads first.reads.kept second.reads in
+    in_version v
+    (failed_then both (c.in_err-rights.ensures.told (behind v) (indexes_behind v)).reads
+    c.from_residual-in_err-rights.ensures.0)
+
+pub returns-in_err-rights-clause-told : goal.returns-in_err-rights-clause-told
+returns-in_err-rights-clause-told g c clean has =
+    none_if c.from_residual-in_err-rights.result _ c.from_residual-in_err-rights.ensures.0
+
+pub returns-in_err-rights-clause-refused : goal.returns-in_err-rights-clause-refused
+returns-in_err-rights-clause-refused g c clean has =
+    let v = c.args.version in
+    let third = c.in_err-rights.ensures.told (behind v) (indexes_behind v) in
+    let early : HasCleanDisk (state g.S.Store c.merchants_left.new.conn) =
+    omega (arith, third.reads.clean, clean) in
+    let first = c.in_ok-entries.ensures.told (behind v) (indexes_behind v) in
+    let second = c.in_ok-merchants.ensures.told (behind v) (indexes_behind v) in
+    let both = reads_then first.reads first.reads.kept second.reads in
+    passed c.from_residual-in_err-rights.result _ c.from_residual-in_err-rights.ensures.1 (λ store.
+    inr (inr (from_start (λ db. IsUnread g.S.Store READ_RIGHT_IDS.now id_values db c.rights_left.new.conn)
+    both early (has ∙ schema_is v) (λ same. third.refused clean same store))))
+
+pub returns-clause-reads : goal.returns-clause-reads
+returns-clause-reads g c =
+    let v = c.args.version in
+    let first = c.in_ok-entries.ensures.told (behind v) (indexes_behind v) in
+    let second = c.in_ok-merchants.ensures.told (behind v) (indexes_behind v) in
+    let both = reads_then first.reads first.reads.kept second.reads in
+    in_version v
+    (both_told both (c.in_ok-rights.ensures.told (behind v) (indexes_behind v)).reads)
+
+pub returns-clause-told : goal.returns-clause-told
+returns-clause-told g c clean has =
+    let v = c.args.version in
+    let first = c.in_ok-entries.ensures.told (behind v) (indexes_behind v) in
+    let second = c.in_ok-merchants.ensures.told (behind v) (indexes_behind v) in
+    let third = c.in_ok-rights.ensures.told (behind v) (indexes_behind v) in
+    let middle : HasCleanDisk (state g.S.Store c.merchants_left.new.conn) =
+    omega (arith, third.reads.clean, clean) in
+    let early : HasCleanDisk (state g.S.Store c.entries_left.new.conn) =
+    omega (arith, second.reads.clean, middle) in
+    let there = has ∙ schema_is v in
+    let entries = first.told early there in
+    let merchants = from_start (λ db. c.in_ok-merchants.merchants ≡ any_left (db.trees 1)) first.reads early
+    there (λ same. second.told middle same) in
+    let rights = from_start (λ db. c.in_ok-rights.rights ≡ any_left (db.trees 10))
+    (reads_then first.reads first.reads.kept second.reads) middle there (λ same. third.told clean same) in
+    c.left_in.ensures ∙ (λ i. left_in v (entries i) (merchants i) (rights i))

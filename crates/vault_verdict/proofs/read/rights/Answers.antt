@@ -1,20 +1,17 @@
-use Rattle.std.proofs.Common.{arith, refl}
-use Rattle.sqlite.specs.Held.{state}
-use Rattle.sql_maps.proofs.Reading.{reads_whole}
-use Rattle.sql_maps.specs.Schema.{grown}
-use Rattle.vault_schema.specs.Version1.Tables.{v1, rights}
-use Rattle.vault_schema.proofs.Version1.Texts.{read_rights_is}
-use Rattle.vault_schema.specs.Version2.Tables.{tables2, indexes2}
-use Rattle.vault_verdict.proofs.Readings.{reads_table}
+use Rattle.std.proofs.Common.{[]}
+use Rattle.vault_schema.specs.declared.version.Version.TheVariants.{Two, Three}
+use Rattle.vault_verdict.proofs.InVersion.{behind, indexes_behind}
 use Rattle.vault_verdict.proofs.read.rights.Goals as goal
 
-pub returns-clause-each : goal.returns-clause-each
-returns-clause-each g c others indexes =
-    let means = read_rights_is others indexes in
-    reads_table g.S.Store c.args.conn.now c.shown.new.conn _ means (λ m. refl) c.shown.result
-    (c.shown.ensures (grown v1 others indexes) means.plain)
-    (λ raws has sound full shown. reads_whole (grown v1 others indexes) (state g.S.Store c.args.conn.now)
-    (state g.S.Store c.shown.new.conn) has sound _ _ rights 5 refl _ means shown refl (omega arith) refl)
+pub returns-in-One : goal.returns-in-One
+returns-in-One g c = rw (c.in-One.is) (c.old_rights.ensures [] [])
 
-pub returns-clause-ours : goal.returns-clause-ours
-returns-clause-ours g c = returns-clause-each g c tables2 indexes2
+pub returns-in-Two : goal.returns-in-Two
+returns-in-Two g c = rw (c.in-Two.is) (c.old_rights-in-Two.ensures (behind Two) (indexes_behind Two))
+
+pub returns-in-Three : goal.returns-in-Three
+returns-in-Three g c = rw (c.in-Three.is) (c.old_rights-in-Three.ensures (behind Three)
+    (indexes_behind Three))
+
+pub returns-in-Four : goal.returns-in-Four
+returns-in-Four g c = rw (c.in-Four.is) (c.ending_rights.ensures)

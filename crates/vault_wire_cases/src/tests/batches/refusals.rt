@@ -1,6 +1,6 @@
 //! Rows that are refused by their number, and records at which a batch stops.
 use super::stuck::Stuck;
-use super::{Told, ends, is_told, lines_of, run, shop, source};
+use super::{OPENED, Told, ends, is_told, lines_of, run, source, vault_of};
 use std::alloc::{AllocError, Global};
 use vault_batch::fault::BatchFault;
 use vault_store::vault::Vault;
@@ -125,7 +125,7 @@ fn is_stopped(alloc: Global, vault: &mut Vault<Stuck>) -> bool {
 
 /// Whether a store that can't be written stops a batch, and another one after it.
 fn is_stuck(alloc: Global) -> bool {
-    let Some(vault) = shop(alloc) else {
+    let Some(vault) = vault_of(alloc, OPENED) else {
         return false;
     };
     let mut stuck = Vault::new(Stuck::new(vault.into_tables()));

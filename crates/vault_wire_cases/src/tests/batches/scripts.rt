@@ -1,5 +1,5 @@
 //! Batches that are answered whole: worked rows, the forms of lines, and batches that follow one another.
-use super::{ANSWERED, ASKED, Told, ends, is_told, run, run_new, shop, source};
+use super::{ANSWERED, ASKED, OPENED, Told, ends, is_told, run, run_new, source, vault_of};
 use std::alloc::{AllocError, Global};
 use vault_batch::fault::BatchFault;
 use vault_store::memory::MemTables;
@@ -24,9 +24,10 @@ fn is_done(alloc: Global, vault: &mut Vault<MemTables>, step: &Step) -> bool {
     is_told(ended, wanted) && output.as_slice() == lines.as_bytes()
 }
 
-/// Whether batches at a shop of its own go as their steps say; the first one that doesn't is printed.
-fn are_done(rt: &HostRuntime, steps: &[Step]) -> bool {
-    let Some(mut vault) = shop(rt.alloc()) else {
+/// Whether batches at a vault that did these lines go as their steps say; the first one that doesn't is
+/// printed.
+fn are_done(rt: &HostRuntime, lines: &str, steps: &[Step]) -> bool {
+    let Some(mut vault) = vault_of(rt.alloc(), lines) else {
         return false;
     };
     for (place, step) in steps.iter().enumerate() {
@@ -56,7 +57,34 @@ const AGAIN: [Step; 2] = [
 
 #[test]
 fn a_batch_that_comes_again_is_answered_the_tokens_that_stand(rt: HostRuntime) {
-    assert!(rt; are_done(&rt, AGAIN.as_slice()));
+    assert!(rt; are_done(&rt, OPENED, AGAIN.as_slice()));
+}
+
+/// A shop where `till-1` may ask for tokens until 1030.
+const ENDING: &str = "set shop1 60 0 1000 = done
+grant till-1 shop1 tokenize 1000 1030 = done";
+
+/// The last second of the right and the first one after it: a new row is refused, and a repeat is not.
+const ENDED: [Step; 2] = [
+    (
+        (1029, 0, 100),
+        "request,number,use\n1,4111111111111111,single\n",
+        Told::Counted(1, 0),
+        "request,answer,detail\n1,0000000000001111,1089\n",
+    ),
+    (
+        (1030, 1, 100),
+        "request,number,use\n1,4111111111111111,single\n2,4111111111111111,single\n\
+         1,4111111111111111,single\n",
+        Told::Counted(2, 1),
+        "request,answer,detail\n1,0000000000001111,1089\n2,refused,8\n\
+         1,0000000000001111,1089\n",
+    ),
+];
+
+#[test]
+fn a_row_after_the_end_of_the_right_is_refused(rt: HostRuntime) {
+    assert!(rt; are_done(&rt, ENDING, ENDED.as_slice()));
 }
 
 /// Sources of two pairs, of one and of none.
@@ -83,7 +111,7 @@ const SOURCES: [Step; 3] = [
 
 #[test]
 fn a_source_that_gives_no_pair_stops_a_batch(rt: HostRuntime) {
-    assert!(rt; are_done(&rt, SOURCES.as_slice()));
+    assert!(rt; are_done(&rt, OPENED, SOURCES.as_slice()));
     assert!(rt; BatchFault::Source.number() == 46);
 }
 

@@ -8,7 +8,7 @@ use vault_core::moment::Moment;
 use vault_core::name::{Caller, MerchantId};
 use vault_core::request::RequestNo;
 use vault_core::right::Right;
-use vault_core::row::{Entry, MerchantRow, Record};
+use vault_core::row::{Entry, GrantRow, MerchantRow, Record};
 use vault_pan::pan::Pan;
 use vault_pan::token::Token;
 use vault_store::memory::MemTables;
@@ -62,7 +62,12 @@ impl Tables for Stuck {
         self.tables.merchants()
     }
 
-    fn right(&mut self, c: Caller, m: MerchantId, r: Right) -> Result<bool, TablesFault> {
+    fn right(
+        &mut self,
+        c: Caller,
+        m: MerchantId,
+        r: Right,
+    ) -> Result<Option<GrantRow>, TablesFault> {
         self.tables.right(c, m, r)
     }
 

@@ -1,8 +1,10 @@
 //! Connections that come after one another to one shop, as lines: the moment, the digit that is drawn, how
-//! many times the message comes, the message, the status line of each answer, and its body.
+//! many times the message comes, the message, the status line of each answer, and its body. After `vault` a
+//! line is a command of the vault itself, and its answer.
 use super::{ASKED, answer, connect, message, repeated, shop, source};
 use std::alloc::{AllocError, Global};
 use vault_http::served::Served;
+use vault_script::case::wrong;
 use vault_store::memory::MemTables;
 use vault_store::vault::Vault;
 
@@ -64,13 +66,21 @@ fn answers(alloc: Global, vault: &mut Vault<MemTables>, line: &str) -> Option<bo
     Some(ended == Ok(served) && output.as_slice() == answered.as_bytes())
 }
 
+/// Whether a shop answers a line so: a connection, or a command of the vault itself.
+fn is_answered(alloc: Global, vault: &mut Vault<MemTables>, line: &str) -> bool {
+    match line.strip_prefix("vault ") {
+        Some(command) => wrong(alloc, vault, command).as_str() == "answered",
+        None => answers(alloc, vault, line) == Some(true),
+    }
+}
+
 /// Whether a shop of its own answers all lines so; the first one that isn't is printed.
 fn are_answered(rt: &HostRuntime, lines: &str) -> bool {
     let Some(mut vault) = shop(rt.alloc()) else {
         return false;
     };
     for line in lines.lines() {
-        if answers(rt.alloc(), &mut vault, line) != Some(true) {
+        if !is_answered(rt.alloc(), &mut vault, line) {
             let _ = println!(rt; "{line}");
             return false;
         }
@@ -98,6 +108,38 @@ const SHOWN: &str = "1000 0 1 worked = 200 OK = {\"expires\":1060,\"token\":\"00
 #[test]
 fn a_token_is_shown_and_counted(rt: HostRuntime) {
     assert!(rt; are_answered(&rt, SHOWN));
+}
+
+/// A token is shown with the lead that its merchant has now.
+const LEADING: &str = "1000 0 1 worked = 200 OK = {\"expires\":1060,\"token\":\"0000000000001111\"}
+vault set shop1 60 0 1000 8 = done
+1000 0 1 GET /v1/merchants/shop1/tokens/0000000000001111 = 200 OK = {\"birth\":1000,\
+\"expires\":1060,\"masked\":\"41111111****1111\",\"state\":\"live\",\"use\":\"single\"}
+vault set shop1 60 0 1000 = done
+1000 0 1 GET /v1/merchants/shop1/tokens/0000000000001111 = 200 OK = {\"birth\":1000,\
+\"expires\":1060,\"masked\":\"411111******1111\",\"state\":\"live\",\"use\":\"single\"}";
+
+#[test]
+fn a_token_is_shown_with_the_lead_of_now(rt: HostRuntime) {
+    assert!(rt; are_answered(&rt, LEADING));
+}
+
+/// A right lasts until its end, which the merchant's moment may have passed.
+const ENDED: &str = "1000 0 1 worked = 200 OK = {\"expires\":1060,\"token\":\"0000000000001111\"}
+vault grant till-1 shop1 detokenize 1000 1030 = done
+1029 0 1 POST /v1/merchants/shop1/tokens/0000000000001111/number = 200 OK = {\"number\":\"4111111111111111\"}
+1029 0 1 GET /v1/merchants/shop1/audit = 200 OK = {\"denied\":0,\"given\":1,\"made\":1}
+1030 0 1 POST /v1/merchants/shop1/tokens/0000000000001111/number = 403 Forbidden = {\"refused\":8}
+1030 0 1 GET /v1/merchants/shop1/audit = 200 OK = {\"denied\":1,\"given\":1,\"made\":1}
+1010 0 1 POST /v1/merchants/shop1/tokens/0000000000001111/number = 403 Forbidden = {\"refused\":8}
+1010 0 1 GET /v1/merchants/shop1/audit = 200 OK = {\"denied\":2,\"given\":1,\"made\":1}
+vault grant till-1 shop1 detokenize 1031 = done
+1031 0 1 POST /v1/merchants/shop1/tokens/0000000000001111/number = 200 OK = {\"number\":\"4111111111111111\"}
+1031 0 1 GET /v1/merchants/shop1/audit = 200 OK = {\"denied\":2,\"given\":2,\"made\":1}";
+
+#[test]
+fn a_right_lasts_until_its_end(rt: HostRuntime) {
+    assert!(rt; are_answered(&rt, ENDED));
 }
 
 /// A number is given, and not once its token is revoked; both are counted.

@@ -1,19 +1,25 @@
-use Rattle.std.proofs.Common.{◌∙◌, ap, sym, true, not}
-use Rattle.vault_core.proofs.Maps.{right_total}
-use Rattle.vault_store.proofs.Results.{on_err}
-use Rattle.vault_store.proofs.RightOrder.{contains-derived, updates-derived}
-use Rattle.vault_store.proofs.ShownKeysLemmas.{shows-given}
+use Rattle.std.proofs.Common.{◌≡◌, None, subst}
+use Rattle.std.specs.BTreeMap as tree
+use Rattle.std.specs.Prelude.{IfOk, OnErr}
+use Rattle.std.specs.declared.cmp.Ordering.{Ordering}
+use Rattle.vault_store.proofs.RightOrder.{RightKey, derived_is, put-derived, kept-derived}
 use Rattle.vault_store.proofs.memory.rights.give.Goals as goal
 
-pub returns-clause-added : goal.returns-clause-added
-returns-clause-added c = c.in_ok-insert.ensures.added ∙ ap not (contains-derived c.args.rights.now c.args.key)
+pub returns-clause-was : goal.returns-clause-was
+returns-clause-was g c =
+    subst (λ (R : RightKey → RightKey → Ordering). IfOk c.put.result
+    (λ was. was ≡ tree.get R c.args.rights.now c.args.key))
+    derived_is c.put.ensures.was
 
 pub returns-clause-ok : goal.returns-clause-ok
-returns-clause-ok c F =
-    shows-given right_total c.args.rights.now c.insert.new.self F c.args.key
-    (updates-derived c.args.rights.now c.insert.new.self c.args.key true c.in_ok-insert.ensures.updates.0)
+returns-clause-ok g c =
+    put-derived c.put.result c.args.rights.now c.put.new.rows c.args.key c.args.row c.put.ensures.ok
 
-pub returns-in_err-insert-clause-new : goal.returns-in_err-insert-clause-new
-returns-in_err-insert-clause-new c =
-    on_err c.from_residual.result
-    (sym (contains-derived c.args.rights.now c.args.key) ∙ c.in_err-insert.ensures.absent)
+pub returns-clause-new : goal.returns-clause-new
+returns-clause-new g c =
+    subst (λ (R : RightKey → RightKey → Ordering). OnErr c.put.result
+    (tree.get R c.args.rights.now c.args.key ≡ None))
+    derived_is c.put.ensures.new
+
+pub returns-clause-err : goal.returns-clause-err
+returns-clause-err g c = kept-derived c.put.result c.args.rights.now c.put.new.rows c.put.ensures.err

@@ -1,0 +1,75 @@
+//! A vault in an older schema is checked whole before it moves.
+ghost use Rattle.std.specs.Prelude.{◌≡◌, ◌<◌, ◌^◌, ℕ, ℤ, IfErr, IfNone, IfOk, IfSome, OnOk};
+ghost use Rattle.std.specs.List.{All};
+ghost use Rattle.sqlite.specs.Effect.{IsDatabase};
+ghost use Rattle.sqlite.specs.Held.{state};
+ghost use Rattle.sqlite.specs.State.{HasCleanDisk, IsUnchanged};
+ghost use Rattle.vault_core.specs.Vault.{Vault};
+ghost use Rattle.vault_migrate.specs.Moved.{IsOlder};
+ghost use Rattle.vault_schema.specs.Holds.{HoldsIn};
+ghost use Rattle.vault_schema.specs.Stands.{lookups_of};
+ghost use Rattle.vault_schema.specs.Versions.{schema_of};
+ghost use Rattle.vault_steps.specs.Entries.{AreFor};
+ghost use Rattle.vault_verdict.specs.Opened.{IsBrokenIn, IsVersionIn, StandsSoundIn};
+ghost use Rattle.vault_verdict.specs.ReadAs.{IsFullIn};
+ghost use Rattle.vault_verdict.specs.Reading.{IsQuietWhere};
+
+use crate::typed::typed_entries;
+use sqlite::{Alter, Connection};
+use sqlite_schema::schema::Schema;
+use std::alloc::Global;
+use vault_core::name::MerchantId;
+use vault_core::row::Entry;
+use vault_pan::token::Token;
+use vault_schema::version::Version;
+use vault_verdict::fault::OpenFault;
+use vault_verdict::verdict::verdict;
+
+/// The older version whose schema this is.
+pub(crate) fn older_in(schema: &Schema) -> Option<Version>
+    ensures older { IfSome result (λ v. IsOlder v) }
+    ensures found { IfSome result (λ v. schema.now ≡ schema_of v) }
+    ensures none { IfNone result ((v : Version) → IsOlder v → ¬ (schema.now ≡ schema_of v)) }
+{
+    match Version::of(schema) {
+        Some(Version::Four) => None,
+        found => found,
+    }
+}
+
+/// Checks a vault whole in the version that it has, and answers what the step from there is given: the
+/// entries of
+/// schema 1, and else none.
+pub(crate) fn judged<S: Alter>(
+    alloc: Global,
+    conn: &mut Connection<S>,
+    version: Version,
+) -> Result<Vec<(MerchantId, Token, Entry)>, OpenFault>
+    ensures storable { IfOk result (λ xs. All (λ x. x.2.expires < 2 ^ 63) xs.items) }
+    ensures given { HasCleanDisk (state S.Store conn.new) → IfOk result (λ xs. (V : Vault)
+        → HoldsIn version V (state S.Store conn.old) → AreFor version xs.items (lookups_of V)) }
+    ensures held { HasCleanDisk (state S.Store conn.new) → OnOk result ((V : Vault)
+        → HoldsIn version V (state S.Store conn.old) → HoldsIn version V (state S.Store conn.new)) }
+    ensures live { HasCleanDisk (state S.Store conn.new)
+        → OnOk result (IsFullIn version (state S.Store conn.old).now
+        → IsDatabase (state S.Store conn.old).now) }
+    ensures sound { HasCleanDisk (state S.Store conn.new)
+        → OnOk result (IsFullIn version (state S.Store conn.old).now
+        → StandsSoundIn version (state S.Store conn.old).now) }
+    ensures kept { HasCleanDisk (state S.Store conn.new)
+        → OnOk result ((state S.Store conn.old).now.schema ≡ schema_of version
+        → IsUnchanged (state S.Store conn.old) (state S.Store conn.new)) }
+    ensures damaged { HasCleanDisk (state S.Store conn.new)
+        → IfErr result (λ e. (rule : ℕ) → e ≡ OpenFault.Damaged rule
+        → IsFullIn version (state S.Store conn.old).now
+        → IsBrokenIn version (state S.Store conn.old).now rule) }
+    ensures versioned { HasCleanDisk (state S.Store conn.new)
+        → IfErr result (λ e. (n : ℤ) → e ≡ OpenFault.WrongSchema n
+        → (state S.Store conn.old).now.schema ≡ schema_of version
+        → IsVersionIn version (state S.Store conn.old).now n) }
+    ensures quiet { IsQuietWhere ((state S.Store conn.old).now.schema ≡ schema_of version)
+        (state S.Store conn.old) (state S.Store conn.new) }
+{
+    let it = verdict(alloc, conn, version)?;
+    Ok(typed_entries(alloc, &it.olders)?)
+}

@@ -1,0 +1,18 @@
+use Rattle.std.proofs.Common.{arith, refl}
+use Rattle.std.proofs.lemmas.List.{length-map}
+use Rattle.sqlite.specs.Held.{state}
+use Rattle.sql_maps.specs.Schema.{grown}
+use Rattle.vault_schema.specs.Version1.Tables.{v1, rights}
+use Rattle.vault_schema.proofs.Version4.Texts.{read_old_rights_is}
+use Rattle.vault_verdict.proofs.Readings.{reads_beside, reads_table}
+use Rattle.vault_verdict.proofs.read.old_rights.Goals as goal
+
+pub returns : goal.returns
+returns g c others indexes =
+    let means = read_old_rights_is others indexes in
+    reads_table g.S.Store c.args.conn.now c.shown.new.conn _ means (λ m. refl)
+    (λ t. length-map (t 10) _) c.shown.result
+    (c.shown.ensures (grown v1 others indexes) means.plain)
+    (λ raws has sound full shown. reads_beside (grown v1 others indexes) (state g.S.Store c.args.conn.now)
+    (state g.S.Store c.shown.new.conn) has sound _ _ rights 5 refl _ _ means shown refl (omega arith)
+    refl)

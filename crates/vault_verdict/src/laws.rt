@@ -1,7 +1,0 @@
-//! Laws of the definitions.
-ghost use Rattle.vault_verdict.specs.Laws.{RowsStandForOne};
-
-/// The rows of a database stand for one vault at most.
-pub fn rows_stand_for_one()
-    ensures { RowsStandForOne }
-{}

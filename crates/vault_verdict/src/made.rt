@@ -1,0 +1,75 @@
+//! Old entries as rows of schema 2, in which each number is a card of its own.
+ghost use Rattle.std.specs.Prelude.{◌≡◌, IfOk, map, option_map};
+ghost use Rattle.std.specs.List.{filter_map};
+ghost use Rattle.vault_verdict.specs.Made.{as_card, as_entry, own_card};
+ghost use Rattle.vault_verdict.specs.Raw.{card_values, entry_values};
+
+use crate::fault::ReadFault;
+use crate::replaced::OldEntry;
+use std::alloc::{AllocError, Global};
+use vault_rules::rows::{RawCard, RawEntry};
+
+/// The id of an entry's own card, where it has a number.
+fn own_card(older: &OldEntry) -> Option<i64>
+    ensures { result ≡ own_card older.now }
+{
+    match &older.number {
+        Some(_) => Some(older.rowid),
+        None => None,
+    }
+}
+
+/// An entry, which points at its own card.
+fn entry_of(older: &OldEntry) -> Result<RawEntry, AllocError>
+    ensures { IfOk result (λ e. entry_values e ≡ as_entry older.now) }
+{
+    Ok(RawEntry {
+        rowid: older.rowid,
+        merchant: older.merchant.clone()?,
+        token: older.token.clone()?,
+        card: own_card(older),
+        usage: older.usage,
+        birth: older.birth,
+        expires: older.expires,
+        revoked: older.revoked,
+    })
+}
+
+/// The entries of old ones.
+pub(crate) fn entries(alloc: Global, olders: &[OldEntry]) -> Result<Vec<RawEntry>, ReadFault>
+    ensures { IfOk result (λ entries. map as_entry olders.now ≡ map entry_values entries.items) }
+{
+    let mut entries = Vec::new(alloc);
+    for older in olders {
+        entries.push(entry_of(older)?)?;
+    }
+    Ok(entries)
+}
+
+/// An entry's own card, where it has a number.
+fn card_of(older: &OldEntry) -> Result<Option<RawCard>, AllocError>
+    ensures { IfOk result (λ card. option_map card_values card ≡ as_card older.now) }
+{
+    let Some(number) = &older.number else {
+        return Ok(None);
+    };
+    Ok(Some(RawCard {
+        id: older.rowid,
+        merchant: older.merchant.clone()?,
+        number: number.clone()?,
+        uses: 1,
+    }))
+}
+
+/// The cards of old entries.
+pub(crate) fn cards(alloc: Global, olders: &[OldEntry]) -> Result<Vec<RawCard>, ReadFault>
+    ensures { IfOk result (λ cards. filter_map as_card olders.now ≡ map card_values cards.items) }
+{
+    let mut cards = Vec::new(alloc);
+    for older in olders {
+        if let Some(card) = card_of(older)? {
+            cards.push(card)?;
+        }
+    }
+    Ok(cards)
+}
