@@ -80,8 +80,7 @@ room_now c cs V room e =
     (Contains-first (reply V c) (replies cs (after V c))))
 
 -- what V, which ran all commands, and W, which ran those that name m, have in common: the merchant's rows,
--- and
--- the records of all callers who are still to ask for tokens there
+-- and the records of all callers who are still to ask for tokens there
 record Beside (m : Bytes) (cs : List Command) (V W : Vault) : Type 0 where
   rows : AgreeAt m V W
   fewer : map.len W.merchants ≤ map.len V.merchants

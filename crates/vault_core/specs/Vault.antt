@@ -18,8 +18,7 @@ use Rattle.vault_core.specs.declared.usage.Use.{Use}
 use Rattle.vault_core.specs.declared.usage.Use.TheVariants.{Single, Multi}
 
 -- how long a merchant's tokens live, how many digits its masks show at the left, when it last changed, and
--- how
--- often a number was given or denied
+-- how often a number was given or denied
 pub record Merchant : Type 0 where
   pub single_life : ℕ
   pub multi_life : ℕ

@@ -22,8 +22,7 @@ use Rattle.vault_schema.specs.declared.version.Version.{Version}
 module _ {D : Type 0} {g : Ghosts D} where
   -- A connection was opened over files with these bytes, and this one comes from moving what is there to the
   -- newest schema. A vault that the bytes keep, in whatever version, or in one on its way, as a migration
-  -- that was
-  -- stopped leaves it, is held in the newest one; without a table, the empty vault.
+  -- that was stopped leaves it, is held in the newest one; without a table, the empty vault.
   pub record MovesFrom (image : Image) (conn : Held (FileStore D g)) : Type 0 where
     pub first : Held (FileStore D g)
     pub found : HasCleanDisk (file_state first) → IsOpenOf image first
@@ -38,8 +37,7 @@ module _ {D : Type 0} {g : Ghosts D} where
         → HoldsSoundIn newest (file_state conn)
 
   -- what a crash leaves of files with these bytes, which kept a vault in some version, after this refusal:
-  -- that
-  -- vault in some version, and in the one that it had alone after any refusal but 33
+  -- that vault in some version, and in the one that it had alone after any refusal but 33
   pub record LeavesOld (image : Image) (refusal : NotOpened) (conn : Held (FileStore D g)) : Type 0 where
     pub some : HasCleanDisk (file_state conn)
         → (v : Version) (V : Vault) → KeepsIn v image V → LeavesSome V (file_state conn)

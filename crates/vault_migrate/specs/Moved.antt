@@ -47,8 +47,7 @@ abbrev pub LeavesSome : Vault → State → Type 0
 LeavesSome V s = (db : Trees) → s.may_leave db → AreSome (lookups_of V) db
 
 -- What a crash may leave now: where a vault was held in an older version, that vault in it or in the next;
--- where
--- one was held in the newest, that vault; without a table, what was committed or the empty vault.
+-- where one was held in the newest, that vault; without a table, what was committed or the empty vault.
 pub record LeavesMoved (old new : State) : Type 0 where
   pub older : (v : Version) (V : Vault) → HoldsIn v V old → LeavesStep v V new
   pub found : LeavesFound old new

@@ -21,15 +21,12 @@ ghost use Rattle.vault_schema.specs.Versions.{next_of, number_of, schema_of};
 use crate::movable::{judged, older_in};
 use sqlite::{Alter, Connection};
 use std::alloc::Global;
-use vault_schema::version::Version;
+use vault_schema::version::{NEWEST, Version};
 use vault_sql::schema::{SchemaFault, make_schema};
 use vault_steps::climb::climb;
 use vault_steps::upgrade::upgrade;
 use vault_verdict::check::check;
 use vault_verdict::fault::OpenFault;
-
-/// The version of the newest schema.
-const NEWEST: i64 = 4;
 
 /// Checks a vault in an older version, and moves it to the next.
 fn move_up<S: Alter>(
@@ -107,7 +104,7 @@ fn climb_up<S: Alter>(
     let _settled = conn.is_autocommit();
     let entries = judged(alloc, conn, version)?;
     match climb(conn, version, &entries) {
-        Ok(()) => Ok(NEWEST),
+        Ok(()) => Ok(NEWEST.number()),
         Err(_) => Err(OpenFault::Store),
     }
 }
@@ -139,31 +136,27 @@ fn make_or_check<S: Alter>(alloc: Global, conn: &mut Connection<S>) -> Result<i6
         → IfErr result (λ e. IsFit (state S.Store conn.old).now → IsNoRefusal e) }
 {
     match make_schema(conn) {
-        Ok(()) => Ok(NEWEST),
+        Ok(()) => Ok(NEWEST.number()),
         Err(SchemaFault::Taken) => {
             check(alloc, conn)?;
-            Ok(NEWEST)
+            Ok(NEWEST.number())
         }
         Err(SchemaFault::Store) => Err(OpenFault::Store),
     }
 }
 
 /// Moves a store one version up, and answers the version that it has then. A vault in an older schema is
-/// checked
-/// whole there, and moves in one transaction; one in the newest schema is checked, and nothing changes; a
-/// store
-/// without any table gets the tables of the empty vault.
+/// checked whole there, and moves in one transaction; one in the newest schema is checked, and nothing
+/// changes; a store without any table gets the tables of the empty vault.
 ///
 /// Refused by 30 with the version that the file says, where it isn't its schema's; or as a check refuses it,
 /// where its schema is another; by 31 with the least rule that the rows break, where those of an older schema
-/// are
-/// read as those of the newest: a merchant without a lead has six digits, a right without an end never ends,
-/// and
-/// each number of schema 1 is a card of its own; by 32 where memory ran out; by 33 where the database failed,
-/// or
-/// holds what isn't a vault's. After 30, 31 and 32 a vault in an older schema is as it was. A sound vault in
-/// any
-/// schema, and a store without a table, is refused by neither 30 nor 31.
+/// are read as those of the newest: a merchant without a lead has six digits, a right without an end never
+/// ends, and each number of schema 1 is a card of its own; by 32 where memory ran out; by 33 where the
+/// database failed, or holds what isn't a vault's. After 30, 31 and 32 a vault in an older schema is as it
+/// was. A sound vault in any schema, and a store without a table, is refused by neither 30 nor 31.
+///
+/// In a history of the store (`vault_recover::laws`) it is the step `Migrated`.
 pub fn migrate<S: Alter>(alloc: Global, conn: &mut Connection<S>) -> Result<i64, OpenFault>
     requires idle { conn.old.in_transaction ≡ false }
     requires unlimited { conn.old.step_limit ≡ None }
@@ -208,10 +201,11 @@ pub fn migrate<S: Alter>(alloc: Global, conn: &mut Connection<S>) -> Result<i64,
 }
 
 /// Moves a store to the newest version, and answers it. A vault in an older schema is checked whole there
-/// once, and
-/// moves by one transaction a step; all else is as one step up does it.
+/// once, and moves by one transaction a step; all else is as one step up does it.
 ///
 /// Refused as one step up is. What a stop leaves is the vault in some version on its way.
+///
+/// In a history of the store (`vault_recover::laws`) it is the step `Migrated`, however many it takes.
 pub fn migrate_all<S: Alter>(alloc: Global, conn: &mut Connection<S>) -> Result<i64, OpenFault>
     requires idle { conn.old.in_transaction ≡ false }
     requires unlimited { conn.old.step_limit ≡ None }

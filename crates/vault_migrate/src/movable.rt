@@ -38,8 +38,7 @@ pub(crate) fn older_in(schema: &Schema) -> Option<Version>
 }
 
 /// Checks a vault whole in the version that it has, and answers what the step from there is given: the
-/// entries of
-/// schema 1, and else none.
+/// entries of schema 1, and else none.
 pub(crate) fn judged<S: Alter>(
     alloc: Global,
     conn: &mut Connection<S>,

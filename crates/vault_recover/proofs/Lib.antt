@@ -1,2 +1,7 @@
 pub mod LeftBy
+pub mod NumbersGiven
+pub mod OneEntry
+pub mod OneToken
 pub mod Reopened
+pub mod Steps
+pub mod TokenRequests

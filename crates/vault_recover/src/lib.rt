@@ -3,6 +3,7 @@
 
 mod cached;
 pub mod last;
+pub mod laws;
 pub mod open;
 mod options;
 pub mod reopen;

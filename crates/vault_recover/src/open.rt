@@ -81,6 +81,8 @@ fn ready<S: Alter>(alloc: Global, conn: &mut Connection<S>) -> Result<(), OpenFa
 /// database failed, the tables are another program's alone, or a vault's tables stand in another order or
 /// form than this program makes them. A refused file is as it was; but after 33 one without any table may
 /// have those of the empty vault. After 30 and 31 the connection sees what it saw.
+///
+/// In a history of the store (`vault_recover::laws`) it is the step `Reopened`.
 pub fn open<S: Alter>(
     alloc: Global,
     conn: Connection<S>,

@@ -176,8 +176,7 @@ fn has_lives<S: Alter>(tx: &mut Transaction<'_, S>, m: &str, x: &Lives) -> Resul
 }
 
 /// Writes the lives, the moment and the lead of a merchant where it has others or isn't there: a look costs
-/// less than a
-/// write, and within a second a merchant's moment stays.
+/// less than a write, and within a second a merchant's moment stays.
 pub fn set_lives<S: Alter>(
     tx: &mut Transaction<'_, S>,
     m: &str,

@@ -8,7 +8,7 @@ use crate::v3::shape::is_v3;
 use crate::v4::shape::is_v4;
 use sqlite_schema::schema::Schema;
 
-/// A version.
+/// A version. The newest one is `NEWEST`.
 #[derive(Clone, Copy, Debug, PartialEq, Eq)]
 pub enum Version {
     One,
@@ -16,6 +16,9 @@ pub enum Version {
     Three,
     Four,
 }
+
+/// The version that a vault is written in, and that the program moves a file to.
+pub const NEWEST: Version = Version::Four;
 
 impl Version {
     /// Its number.

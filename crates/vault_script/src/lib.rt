@@ -4,4 +4,5 @@
 
 pub mod case;
 pub mod command;
+pub mod forty;
 pub mod told;

@@ -68,6 +68,9 @@ impl<T: Tables> Vault<T> {
     }
 
     /// Answers a command, after what it changes was written.
+    ///
+    /// In a history of the store (`vault_recover::laws`) a call that answers is the step `Answered`, and one
+    /// without an answer is `Undecided`.
     pub fn apply(&mut self, c: &Command) -> Result<Reply, Fault>
         requires { HasLivesInRange c.now }
         ensures honest { T.is_honest (tables_of self.new) → T.is_honest (tables_of self.old) }

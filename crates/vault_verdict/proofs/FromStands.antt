@@ -97,8 +97,7 @@ moment_same None = refl
 moment_same (Some n) = refl
 
 -- what the rows of the tables that each version has are claimed to be, read as those of the newest one, and
--- how
--- they were read
+-- how they were read
 pub record AreShared (v : Version) (db : Trees) (V : Vault) (rows : Rows) : Type 0 where
   pub merchants : AreRowsOf three.merchant_row (merchants_in v db) (lookups_of V).merchants
   pub counts : AreRowsOf row.count_row (db 3) (lookups_of V).counts

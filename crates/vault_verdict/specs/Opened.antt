@@ -35,8 +35,7 @@ abbrev pub AreVersions : Trees → List RawVersion → Type 0
 AreVersions db versions = IsPermutation (map (shown_by version_columns) (db 0)) (map version_values versions)
 
 -- the rows of all tables of a version, read as those of the newest one, each in some order; of the tables
--- that
--- were replaced, how many still have rows
+-- that were replaced, how many still have rows
 pub record AreRaws (v : Version) (db : Trees) (olders : List OldEntry) (rows : Rows) : Type 0 where
   pub versions : AreVersions db rows.versions.items
   pub merchants : IsPermutation (merchants_in v db) (map merchant_values rows.merchants.items)

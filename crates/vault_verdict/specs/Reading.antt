@@ -96,8 +96,7 @@ ShowsStrange text values st = (rows : List Row) × Begins text [] st rows × IsS
 
 module _ {S : Type 0} (g : Ghosts S) {R : Type 0} (text : List ℕ) (values : R → Row) where
   -- Why the rows of a query of this database aren't read, though memory is there: at some row the query
-  -- failed,
-  -- or what it shows is strange.
+  -- failed, or what it shows is strange.
   pub record IsUnread (db : Database) (new : Held S) : Type 0 where
     pub at : Held S
     pub same : (state g at).now ≡ db
@@ -210,8 +209,7 @@ IsUnreadFile g db new =
     ⊎ (IsUnreadOne g newest db new ⊎ SharesRowid db.trees)
 
 -- these are the rows of all tables of a version beside `vault`; of the tables that were replaced, how many
--- still
--- have rows
+-- still have rows
 pub record AreAll (v : Version) (db : Database) (olders : List OldEntry) (rows : Rows) : Type 0 where
   pub merchants : AreTable IsAny (merchants_in v) merchant_values (λ m. m.rowid) db rows.merchants.items
   pub counts : AreTable IsAny (λ t. t 3) count_values (λ c. c.rowid) db rows.counts.items

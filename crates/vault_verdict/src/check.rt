@@ -29,6 +29,8 @@ use std::alloc::Global;
 /// beside them; by 31 with the least rule that the rows break; by 32 where memory ran out; by 33 where the
 /// database failed, the tables are another program's alone, or a vault's tables stand in another order or
 /// form than this program makes them. After 30 and 31 the connection sees what it saw.
+///
+/// In a history of the store (`vault_recover::laws`) it is the step `Reopened`.
 pub fn check<S: Alter>(alloc: Global, conn: &mut Connection<S>) -> Result<Sizes, OpenFault>
     ensures sound { HasCleanDisk (state S.Store conn.new)
         → IfOk result (λ sizes. IsFull (state S.Store conn.old).now

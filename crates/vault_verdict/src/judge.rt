@@ -12,7 +12,7 @@ use crate::sizes::Sizes;
 use std::alloc::Global;
 use vault_rules::least::least_broken;
 use vault_rules::rows::{RawVersion, Rows};
-use vault_schema::version::Version;
+use vault_schema::version::{NEWEST, Version};
 
 /// Whether this is the row with the id 1, and says another version than this one.
 fn is_other(row: &RawVersion, version: i64) -> bool
@@ -35,19 +35,14 @@ pub fn other_than(versions: &[RawVersion], version: i64) -> Option<i64>
 pub(crate) fn other_in(versions: &[RawVersion], version: Version) -> Option<i64>
     ensures { result ≡ other_than (number_of version) versions.now }
 {
-    match version {
-        Version::One => other_than(versions, 1),
-        Version::Two => other_than(versions, 2),
-        Version::Three => other_than(versions, 3),
-        Version::Four => other_than(versions, 4),
-    }
+    other_than(versions, version.number())
 }
 
 /// The version of the row with the id 1, where it isn't the newest.
 pub(crate) fn other_version(versions: &[RawVersion]) -> Option<i64>
     ensures { result ≡ other_version versions.now }
 {
-    other_in(versions, Version::Four)
+    other_in(versions, NEWEST)
 }
 
 /// The sizes of rows that keep each rule; 31 names the least that they break.

@@ -15,8 +15,8 @@ use vault_rules::rows::{RawVersion, Rows};
 use vault_schema::version::Version;
 
 /// The rows of all tables of a version as those of the newest one, beside those of `vault`, which are given;
-/// of
-/// the tables that were replaced, how many still have rows. With them the entries of schema 1 as they stand.
+/// of the tables that were replaced, how many still have rows. With them the entries of schema 1 as they
+/// stand.
 pub(crate) fn rows<S: Alter>(
     alloc: Global,
     conn: &mut Connection<S>,

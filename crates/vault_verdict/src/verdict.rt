@@ -19,7 +19,7 @@ use crate::rows::rows;
 use crate::sizes::Sizes;
 use sqlite::{Alter, Connection};
 use std::alloc::Global;
-use vault_schema::version::Version;
+use vault_schema::version::{NEWEST, Version};
 
 /// A vault that was judged to be sound: how much it holds, and the entries of schema 1 as they stand there.
 #[derive(Drop)]
@@ -93,7 +93,7 @@ pub fn newest_verdict<S: Alter>(alloc: Global, conn: &mut Connection<S>) -> Resu
         → IsUnchanged (state S.Store conn.old) (state S.Store conn.new)) }
     ensures quiet { IsQuiet (state S.Store conn.old) (state S.Store conn.new) }
 {
-    match verdict(alloc, conn, Version::Four) {
+    match verdict(alloc, conn, NEWEST) {
         Ok(it) => Ok(it.sizes),
         Err(fault) => Err(fault),
     }

@@ -15,7 +15,7 @@ use vault_schema::{v2, v3};
 /// entry.
 const ROWS: &str = "INSERT INTO vault VALUES (1, 1);
 INSERT INTO merchants VALUES ('shop1', 60, 0, 1000), ('shop2', 60, 0, 1000);
-INSERT INTO counts VALUES ('shop1', 1, 3), ('shop2', 1, 1);
+INSERT INTO counts VALUES ('shop1', 1, 3), ('shop1', 2, 5), ('shop1', 3, 2), ('shop2', 1, 1);
 INSERT INTO entries VALUES ('shop1', '0000000000001111', '4111111111111111', 1, 1000, 1060, NULL),
 ('shop1', '1111111111111111', '4111111111111111', 1, 1000, 1060, NULL),
 ('shop1', '2222222222221111', NULL, 1, 1000, 1060, 1000),
@@ -44,7 +44,7 @@ const REFUSED: &str =
     "changed; changed; changed; changed; changed; changed; changed; changed; 30 1; 30 1; ";
 
 /// Files of schema 1, and what they told.
-fn older(alloc: Global) -> (String, Files<Memory>) {
+pub fn older(alloc: Global) -> (String, Files<Memory>) {
     all_done(alloc, no_files(alloc), MADE.as_slice())
 }
 
@@ -55,7 +55,7 @@ fn are_moved(rt: &HostRuntime, steps: &[Step<'_>], wanted: &str) -> bool {
 }
 
 /// The files move, and move again; then the tokens of one number are purged.
-const NUMBERS: [Step<'static>; 18] = [
+const NUMBERS: [Step<'static>; 21] = [
     Step::Migrate,
     Step::Check,
     Step::Number("SELECT uses FROM cards2 WHERE merchant = 'shop1'"),
@@ -68,6 +68,9 @@ const NUMBERS: [Step<'static>; 18] = [
     Step::Number("SELECT count(*) FROM rights4 WHERE ends IS NULL"),
     Step::Migrate,
     Step::Check,
+    Step::Number("SELECT total FROM counts WHERE merchant = 'shop1' AND kind = 2"),
+    Step::Number("SELECT total FROM counts WHERE merchant = 'shop1' AND kind = 3"),
+    Step::Ask("view till-1 shop1 0000000000001111 1000 = 411111******1111 single 1000 1060 live"),
     Step::Ask("tokenize till-1 shop1 1 single 4111111111111111 5 1001 = 0000000000001111 1060"),
     Step::Ask("purge till-1 shop1 0000000000001111 1060 = done"),
     Step::Number("SELECT uses FROM cards2 WHERE merchant = 'shop1'"),
@@ -79,7 +82,7 @@ const NUMBERS: [Step<'static>; 18] = [
 #[test]
 fn each_number_stands_once_a_merchant_after_the_move(rt: HostRuntime) {
     let wanted = "schema 4; sound 2 4 4; 2; 1; 0; 1; 0; 2; 0; 2; schema 4; sound 2 4 4; \
-        answered; answered; 1; answered; none; sound 2 4 4; ";
+        5; 2; answered; answered; answered; 1; answered; none; sound 2 4 4; ";
     assert!(rt; are_moved(&rt, NUMBERS.as_slice(), wanted));
 }
 

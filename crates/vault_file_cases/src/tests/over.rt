@@ -1,12 +1,15 @@
 //! What is done with a connection, and what it tells.
 ghost use Rattle.std.specs.Prelude.{◌≡◌, false, None};
 
+use super::sent::{rows_sent, stream_sent};
 use sqlite::{Alter, Connection, Error};
 use std::alloc::Global;
 use vault_migrate::migrate::{migrate, migrate_all};
 use vault_recover::open::open;
 use vault_script::case::wrong;
 use vault_script::told::text;
+use vault_store::tables::Tables;
+use vault_store::vault::Vault;
 use vault_verdict::check::check;
 use vault_verdict::fault::OpenFault;
 
@@ -20,6 +23,10 @@ pub enum Step<'a> {
     /// Lines are asked of the vault that is opened: `answered`, how it is refused, or the first line that is
     /// answered otherwise.
     Ask(&'a str),
+    /// The forty requests are sent to the vault that is opened: what went out, or how it is refused.
+    Stream,
+    /// A batch of three rows is sent to it, with the same.
+    Rows,
     /// The files move to the newest schema: `schema` and its version, or how they are refused.
     Migrate,
     /// They move one version up, and tell the same.
@@ -108,18 +115,35 @@ fn counted<S: Alter>(alloc: Global, conn: &mut Connection<S>) -> String {
     told
 }
 
-/// Asks lines of the vault that a connection opens, and gives the connection again.
+/// What a vault is asked.
+#[derive(Clone, Copy)]
+enum Question<'a> {
+    Lines(&'a str),
+    Stream,
+    Rows,
+}
+
+/// What a vault tells to a question.
+fn answered<T: Tables>(alloc: Global, vault: &mut Vault<T>, question: Question<'_>) -> String {
+    match question {
+        Question::Lines(lines) => wrong(alloc, vault, lines),
+        Question::Stream => stream_sent(alloc, vault),
+        Question::Rows => rows_sent(alloc, vault),
+    }
+}
+
+/// Asks the vault that a connection opens, and gives the connection again.
 fn asked<S: Alter + Drop>(
     alloc: Global,
     conn: Connection<S>,
-    lines: &str,
+    question: Question<'_>,
 ) -> (String, Connection<S>)
     requires idle { conn.in_transaction ≡ false }
     requires unlimited { conn.step_limit ≡ None }
 {
     match open(alloc, conn) {
         Ok(mut vault) => {
-            let told = wrong(alloc, &mut vault, lines);
+            let told = answered(alloc, &mut vault, question);
             (told, vault.into_tables().into_connection())
         }
         Err((fault, conn)) => (refusal(alloc, fault), conn),
@@ -143,7 +167,9 @@ pub fn done_over<S: Alter + Drop>(
         Step::Up => moved(alloc, migrate(alloc, &mut conn)),
         Step::Number(sql) => shown(alloc, &mut conn, sql),
         Step::Count => counted(alloc, &mut conn),
-        Step::Ask(lines) => return asked(alloc, conn, lines),
+        Step::Ask(lines) => return asked(alloc, conn, Question::Lines(lines)),
+        Step::Stream => return asked(alloc, conn, Question::Stream),
+        Step::Rows => return asked(alloc, conn, Question::Rows),
     };
     (told, conn)
 }

@@ -11,7 +11,7 @@ const REQUEST: &str =
     "tokenize till-1 shop1 7 single 4111111111111111 0 1000 = 0000000000001111 1060";
 
 /// More calls to a file than the request makes.
-const MOST_CALLS: u64 = 1000;
+pub const MOST_CALLS: u64 = 1000;
 
 /// Writes these bytes to an empty file, all on the disk, and tells whether that was done.
 fn is_written<D: Disk>(file: &mut D, bytes: &[u8]) -> bool {
@@ -22,7 +22,7 @@ fn is_written<D: Disk>(file: &mut D, bytes: &[u8]) -> bool {
 }
 
 /// A file with these bytes, or none where they weren't written.
-fn copy(alloc: Global, bytes: &[u8]) -> Memory {
+pub fn copy(alloc: Global, bytes: &[u8]) -> Memory {
     let mut file = Memory::new(alloc);
     if is_written(&mut file, bytes) {
         file
@@ -58,7 +58,7 @@ enum Left {
 }
 
 /// Whether this is one of the texts between which a `|` stands.
-fn is_among(texts: &str, told: &str) -> bool {
+pub fn is_among(texts: &str, told: &str) -> bool {
     for text in texts.split('|') {
         if text == told {
             return true;
@@ -93,7 +93,7 @@ fn stopped<D: Crash + Drop>(rt: &HostRuntime, files: Files<D>, trial: &Trial<'_>
 }
 
 /// Copies of files, of which one stops after so many calls.
-fn fused(alloc: Global, base: &Files<Memory>, calls: u64, is_log: bool) -> Files<Fuse<Memory>> {
+pub fn fused(alloc: Global, base: &Files<Memory>, calls: u64, is_log: bool) -> Files<Fuse<Memory>> {
     let (log, db) = if is_log {
         (calls, u64::MAX)
     } else {

@@ -1,4 +1,5 @@
 //! Connections over a vault in memory: who asks, what is asked, and what is answered byte for byte.
+mod forty;
 mod longest;
 mod refusals;
 mod scripts;
@@ -14,6 +15,7 @@ use vault_http::serve::serve;
 use vault_http::served::Served;
 use vault_pan::draw::Digits;
 use vault_script::case::wrong;
+use vault_script::forty::SHOP;
 use vault_store::memory::MemTables;
 use vault_store::vault::Vault;
 use vault_wire::fault::WireFault;
@@ -35,7 +37,7 @@ const CLOSING: &str = "Connection: close\r\n";
 /// The vault of a shop that was set at 1000 with a single life of 60, where `till-1` has all rights.
 fn shop(alloc: Global) -> Option<Vault<MemTables>> {
     let mut vault = Vault::new(MemTables::new(alloc));
-    let told = wrong(alloc, &mut vault, "open till-1 shop1 60 0 1000 = done");
+    let told = wrong(alloc, &mut vault, SHOP);
     if told.as_str() == "answered" {
         Some(vault)
     } else {

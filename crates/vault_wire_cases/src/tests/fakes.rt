@@ -3,10 +3,11 @@ use std::cell::Cell;
 use std::io;
 use std::io::{Error, ErrorKind, Read, Write};
 
-/// Gives one byte at a call, and fails at the call `bad`, counted from 1; counts its calls.
+/// Gives so many bytes at a call, and fails at the call `bad`, counted from 1; counts its calls.
 #[derive(Drop)]
 pub struct SlowReader<'a> {
     pub bytes: &'a [u8],
+    pub size: usize,
     pub calls: &'a Cell<usize>,
     pub bad: usize,
 }
@@ -17,14 +18,11 @@ impl<'a> Read for SlowReader<'a> {
         if self.calls.get() == self.bad {
             return Err(Error::from(ErrorKind::BrokenPipe));
         }
-        match (self.bytes, buf.first_mut()) {
-            ([byte, rest @ ..], Some(place)) => {
-                *place = *byte;
-                self.bytes = rest;
-                Ok(1)
-            }
-            _ => Ok(0),
-        }
+        let taken = self.size.min(self.bytes.len()).min(buf.len());
+        let (now, later) = self.bytes.split_at(taken);
+        buf[..taken].copy_from_slice(now);
+        self.bytes = later;
+        Ok(taken)
     }
 }
 

@@ -21,6 +21,7 @@ fn is_stopped_reader(bad: usize) -> bool {
     let calls = Cell::new(0);
     let mut reader = Watched::new(SlowReader {
         bytes: b"aaaaaaaa",
+        size: 1,
         calls: &calls,
         bad,
     });

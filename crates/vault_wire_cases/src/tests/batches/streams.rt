@@ -10,6 +10,7 @@ fn run_slow(alloc: Global, bad: (usize, usize), output: &mut Vec<u8>) -> Ended {
     let (reads, writes) = (Cell::new(0), Cell::new(0));
     let reader = SlowReader {
         bytes: ASKED.as_bytes(),
+        size: 1,
         calls: &reads,
         bad: bad.0,
     };

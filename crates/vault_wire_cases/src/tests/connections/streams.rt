@@ -20,6 +20,7 @@ fn connect_slow(alloc: Global, bytes: &[u8], bad: (usize, usize), output: &mut V
     let (reads, writes) = (Cell::new(0), Cell::new(0));
     let reader = SlowReader {
         bytes,
+        size: 1,
         calls: &reads,
         bad: bad.0,
     };

@@ -1,0 +1,28 @@
+"""Runs the three parts of the trial: damage PROGRAM [all]."""
+
+import os
+import pathlib
+import random
+import sys
+import tempfile
+
+from damage import changes, damaged, wrong_messages
+from shared.tally import Tally
+
+
+def main(program, every):
+    """Counts all parts, and ends with their figures."""
+    seed = int(os.environ.get("SEED", "1"))
+    tally = Tally()
+    with tempfile.TemporaryDirectory() as name:
+        folder = pathlib.Path(name)
+        changes.try_all(program, folder, tally)
+        tally.show("changed by SQL")
+        damaged.try_all(program, folder, tally, random.Random(seed), every)
+        wrong_messages.try_all(program, folder, tally)
+        tally.show("messages through a service")
+    tally.end()
+
+
+if __name__ == "__main__":
+    main(sys.argv[1], "all" in sys.argv[2:])

@@ -1,0 +1,66 @@
+"""The files that are damaged: made by the program, at fixed moments and with fixed digits."""
+
+import shutil
+
+from damage import rows
+from shared import messages
+from shared.runs import must
+
+# Card numbers that pass the check.
+NUMBERS = ("4111111111111111", "5555555555554444", "378282246310005", "4222222222222", "6304000000000000000")
+
+
+def log_of(file):
+    """The log beside a file."""
+    return file.with_name(file.name + "-wal")
+
+
+def copy(file, to):
+    """Copies a file and its log, where it has one."""
+    shutil.copyfile(file, to)
+    log_of(to).unlink(missing_ok=True)
+    if log_of(file).exists():
+        shutil.copyfile(log_of(file), log_of(to))
+
+
+def make_small(program, file):
+    """A vault with one merchant, one right, and a card number under a single-use and a multi-use token."""
+    must(program, "merchant", "--now", 1000, file, "shop1", 60, 100)
+    must(program, "grant", "--now", 1000, file, "till-1", "shop1", "tokenize")
+    for digit, request, use in ((0, 7, "single"), (1, 8, "multi")):
+        asked = messages.token_asked(request, messages.order(use=use))
+        must(program, "pipe", "--now", 1000, "--digits", digit, file, given=asked)
+    rows.change(file, "PRAGMA wal_checkpoint(TRUNCATE)")
+
+
+def orders():
+    """Messages that ask for tokens of each use, each with its request number."""
+    bodies = [messages.order(number, use) for number in NUMBERS for use in ("single", "multi", "single")]
+    return [messages.token_asked(100 + place, body) for place, body in enumerate(bodies)]
+
+
+def make_large(program, file, digits):
+    """A vault with two merchants and some rights, of which some end. Of its tokens two are revoked and one is
+    purged; a number was given, and another one denied."""
+    must(program, "merchant", "--now", 1000, file, "shop1", 600, 1000)
+    must(program, "merchant", "--now", 1000, "--lead", 8, file, "shop2", 60, 0)
+    for right in ("detokenize", "view", "revoke", "purge", "audit"):
+        must(program, "grant", "--now", 1000, file, "back", "shop1", right)
+        must(program, "grant", "--now", 1000, "--until", 5000, file, "back", "shop2", right)
+    must(program, "grant", "--now", 1000, file, "till-1", "shop1", "tokenize")
+    must(program, "grant", "--now", 1000, file, "till-1", "shop2", "tokenize")
+    given = must(program, "pipe", "--now", 1010, "--digits", digits, file, given=b"".join(orders())).out
+    tokens = [answer.body.split(b'"')[5].decode() for answer in messages.answers_in(given)]
+    tail = [messages.asked("POST", f"/v1/merchants/shop1/tokens/{token}/revoke") for token in tokens[:2]]
+    tail.append(messages.asked("DELETE", f"/v1/merchants/shop1/tokens/{tokens[0]}"))
+    tail += [messages.asked("POST", f"/v1/merchants/shop1/tokens/{tokens[place]}/number") for place in (1, 3)]
+    tail.append(messages.token_asked(500, merchant="shop2"))
+    must(program, "pipe", "--now", 1020, "--digits", digits, file, given=b"".join(tail))
+    return tokens
+
+
+def questions(tokens):
+    """Messages that a sound vault answers without a change: each request again, and each token shown."""
+    shown = [messages.asked("GET", f"/v1/merchants/shop1/tokens/{token}") for token in tokens]
+    last = [messages.token_asked(500, merchant="shop2"), messages.asked("GET", "/v1/merchants/shop1/audit")]
+    return b"".join((*orders(), *shown, *last))

@@ -1,0 +1,1 @@
+"""Runs of the program over a disk that is full, or that fails at some call."""

@@ -1,0 +1,1 @@
+"""Jobs of the program to which one request for memory is refused."""

@@ -1,0 +1,137 @@
+"""What is known of a vault from the answers that came: its rows, where a few moments may be open."""
+
+import collections
+
+from shared.rules import outcome
+
+
+class Rows:
+    """The rows of a vault by their keys, and the tokens of each number."""
+
+    def __init__(self, rows=None):
+        self.rows = {}
+        self.tokens = collections.defaultdict(set)
+        self.entries = collections.Counter()
+        self.put(rows or {})
+
+    def get(self, key):
+        return self.rows.get(key)
+
+    def made(self, merchant):
+        return self.entries[merchant]
+
+    def tokens_of(self, merchant, number):
+        return self.tokens[merchant, number]
+
+    def put(self, changes):
+        """Puts rows, and takes those away that are None."""
+        for key, row in changes.items():
+            if row is None:
+                self.rows.pop(key, None)
+                continue
+            if key[0] == "entry":
+                self.entries[key[1]] += key not in self.rows
+                self.tokens[key[1], row.number].add(key[2])
+            self.rows[key] = row
+
+    def unlike(self, other):
+        """The rows of another vault where they differ from these, with None for one that it hasn't."""
+        changed = {key: row for key, row in other.items() if self.rows.get(key) != row}
+        return changed | {key: None for key in self.rows.keys() - other.keys()}
+
+    def count(self, kind):
+        """How many rows of a kind there are."""
+        return sum(key[0] == kind for key in self.rows)
+
+
+class Changed:
+    """Rows with some changes that may have been made."""
+
+    def __init__(self, rows, changes):
+        self.rows, self.changes = rows, changes
+
+    def get(self, key):
+        return self.changes[key] if key in self.changes else self.rows.get(key)
+
+    def new_entries(self):
+        kept = self.changes.items()
+        return [key for key, row in kept if key[0] == "entry" and row and self.rows.get(key) is None]
+
+    def made(self, merchant):
+        return self.rows.made(merchant) + sum(key[1] == merchant for key in self.new_entries())
+
+    def tokens_of(self, merchant, number):
+        new = {key[2] for key in self.new_entries() if key[1] == merchant}
+        return self.rows.tokens_of(merchant, number) | new
+
+    def after(self, changes):
+        """These changes and further ones, but those that leave a row as it is."""
+        both = {**self.changes, **changes}
+        return {key: row for key, row in both.items() if self.rows.get(key) != row}
+
+
+class Known:
+    """What is known of a vault. Where an answer doesn't tell its moment, several changes of the rows are
+    possible until a later answer tells which."""
+
+    def __init__(self, rows=None):
+        self.rows = Rows(rows)
+        self.possible = [{}]
+
+    def reset(self, rows):
+        self.rows, self.possible = Rows(rows), [{}]
+
+    def outcomes(self, possible, command, moments, drawn):
+        """What a command may be answered by what is possible, and the changes after it, without doubles."""
+        found = []
+        for changes in possible:
+            seen = Changed(self.rows, changes)
+            for now in moments:
+                reply, more = outcome(seen, command, now, drawn)
+                pair = reply, seen.after(more)
+                if pair not in found:
+                    found.append(pair)
+        return found
+
+    def take(self, command, moments, reply):
+        """An answer came, at one of some moments: what is wrong with it, or nothing."""
+        drawn = reply[1].get("token") if isinstance(reply[1], dict) else None
+        found = self.outcomes(self.possible, command, moments, drawn)
+        fitting = [changes for wanted, changes in found if wanted == reply]
+        if not fitting:
+            return f"{command.right} {command.request}: answered {reply}, not {[it[0] for it in found[:2]]}"
+        self.keep(fitting)
+        return ""
+
+    def keep(self, possible):
+        """These changes are possible, and no others."""
+        self.possible = []
+        for changes in possible:
+            if changes not in self.possible:
+                self.possible.append(changes)
+        if len(self.possible) == 1:
+            self.rows.put(self.possible[0])
+            self.possible = [{}]
+
+    def settle(self, undecided, moments, found, most=None):
+        """The rows of the file are those after the first so many of the undecided commands: how many, or
+        None. Only `most` of those may have been carried out."""
+        wanted = self.rows.unlike(found)
+        possible = self.possible
+        for carried in range(len(undecided) + 1):
+            if wanted in possible:
+                self.keep([wanted])
+                return carried
+            if carried == len(undecided) or carried == most:
+                break
+            command = undecided[carried]
+            record = found.get(("record", command.caller, command.request))
+            drawn = record.token if record and command.right == "tokenize" else None
+            further = self.outcomes(possible, command, moments, drawn)
+            possible = [changes for reply, changes in further if reply[0] != 0]
+        return None
+
+    def differing(self, found):
+        """In how many rows a file differs, by their kinds."""
+        kinds = collections.Counter(key[0] for key in self.rows.unlike(found))
+        return ", ".join(f"{many} {kind}" for kind, many in sorted(kinds.items())) or "no row"

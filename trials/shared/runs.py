@@ -1,0 +1,61 @@
+"""One run of the program: its words, its input, a time limit, and how it ended."""
+
+import concurrent.futures
+import os
+import subprocess
+from typing import NamedTuple
+
+# No run of a trial takes a tenth of this, also where the machine has much other work.
+SECONDS = float(os.environ.get("SECONDS_EACH", "30"))
+WORKERS = int(os.environ.get("WORKERS", os.cpu_count() or 1))
+
+
+class Ran(NamedTuple):
+    """How a run ended: `status` is None where it hung, and below 0 where a signal ended it."""
+
+    status: int | None
+    out: bytes
+    err: bytes
+
+    @property
+    def told(self):
+        """The line of its ending, without `vault: ` before it."""
+        return self.err.decode("ascii", "replace").strip().removeprefix("vault: ")
+
+    @property
+    def broke(self):
+        """What no run may do: it hung, or it crashed; else nothing."""
+        if self.status is None:
+            return f"no end within {SECONDS:.0f} s"
+        if self.status < 0 or self.status > 4:
+            return f"ended with status {self.status}: {self.told[-300:]}"
+        return ""
+
+    def __str__(self):
+        return self.broke or f"status {self.status}, {self.told or self.out[-60:]!r}"
+
+
+def run(program, *words, given=b"", limit=SECONDS, more=None):
+    """Runs the program with these words; `given` is its standard input, `more` goes to its environment."""
+    environment = {**os.environ, **more} if more else None
+    try:
+        ended = subprocess.run(
+            [program, *map(str, words)], input=given, capture_output=True, timeout=limit, env=environment
+        )
+    except subprocess.TimeoutExpired as late:
+        return Ran(None, late.stdout or b"", late.stderr or b"")
+    return Ran(ended.returncode, ended.stdout, ended.stderr)
+
+
+def must(program, *words, given=b""):
+    """The same, of a run that a trial builds on: it has to end well."""
+    ran = run(program, *words, given=given)
+    if ran.status != 0:
+        raise SystemExit(f"{words[0]}: {ran}\n0 passed, 1 failed")
+    return ran
+
+
+def side_by_side(work, items):
+    """What the work answers for each item, in their order, with as many at once as there are processors."""
+    with concurrent.futures.ThreadPoolExecutor(WORKERS) as pool:
+        yield from pool.map(work, items)
