@@ -18,9 +18,11 @@ mode() {
 }
 
 # 0
-step "0: a file that isn't there is made" 'sound 0 0 0 (0)' "$(told "$program" check new.db)"
-step "0: it is in the newest schema" 'schema 4 (0)' "$(told "$program" migrate new.db)"
+step "0: a file that isn't there" 'sound 0 0 0 (0)' "$(told "$program" check new.db)"
+step "0: and still isn't" 'no' "$([ -e new.db ] && echo yes || echo no)"
+step "0: it is made" 'schema 4 (0)' "$(told "$program" migrate new.db)"
 step "0: help" 'Keeps card numbers*' "$(told "$program" help)"
+step "0: the version" 'vault 0.4.0, schema 4 (0)' "$(told "$program" --version)"
 step "0: a merchant" 'done (0)' "$(told "$program" merchant shop.db shop1 86400 0)"
 step "0: a right" 'done (0)' "$(told "$program" grant shop.db till-1 shop1 tokenize)"
 step "0: a merchant whose masks show eight digits" 'done (0)' \
@@ -59,7 +61,7 @@ step "1: a merchant that isn't known" 'refused 7 (1)' "$(told "$program" grant s
 # 2
 step "2: no word" 'vault: bad words (2)' "$(told "$program")"
 step "2: a word that is none" 'vault: bad words (2)' "$(told "$program" trail)"
-step "2: connections are missing" 'vault: bad words (2)' "$(told "$program" serve shop.db)"
+step "2: no connections" 'vault: bad words (2)' "$(told "$program" serve --connections 0 shop.db)"
 step "2: no file to move" 'vault: bad words (2)' "$(told "$program" migrate)"
 step "2: a lead that is none" 'vault: bad words (2)' "$(told "$program" merchant --lead 7 shop.db shop1 60 0)"
 step "2: an end that is none" 'vault: bad words (2)' \
@@ -108,8 +110,8 @@ step "4: a thousand were answered" '1000' "$(tr '{' '\n' < answers | grep -c '^"
 
 # Modes
 for mask in 000 0777; do
-    made=$(umask "$mask" && "$program" check "mode$mask.db" 2>&1 || true)
-    step "a file made under umask $mask" 'sound 0 0 0 -rw-------' "$made $(mode "mode$mask.db")"
+    made=$(umask "$mask" && "$program" migrate "mode$mask.db" 2>&1 || true)
+    step "a file made under umask $mask" 'schema 4 -rw-------' "$made $(mode "mode$mask.db")"
 done
 : > open.db
 chmod 644 open.db

@@ -7,13 +7,13 @@ import sys
 import tempfile
 
 from damage import changes, damaged, wrong_messages
-from shared.tally import Tally
+from shared.masked import MaskedTally
 
 
 def main(program, every):
     """Counts all parts, and ends with their figures."""
     seed = int(os.environ.get("SEED", "1"))
-    tally = Tally()
+    tally = MaskedTally()
     with tempfile.TemporaryDirectory() as name:
         folder = pathlib.Path(name)
         changes.try_all(program, folder, tally)

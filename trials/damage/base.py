@@ -60,7 +60,10 @@ def make_large(program, file, digits):
 
 
 def questions(tokens):
-    """Messages that a sound vault answers without a change: each request again, and each token shown."""
+    """Messages by which a vault finds its rows by each index: each request again, each token shown, and new
+    requests for numbers that have a card, of which some have a live multi-use token."""
     shown = [messages.asked("GET", f"/v1/merchants/shop1/tokens/{token}") for token in tokens]
     last = [messages.token_asked(500, merchant="shop2"), messages.asked("GET", "/v1/merchants/shop1/audit")]
-    return b"".join((*orders(), *shown, *last))
+    bodies = [messages.order(number, use) for number in NUMBERS for use in ("multi", "single")]
+    new = [messages.token_asked(600 + place, body) for place, body in enumerate(bodies)]
+    return b"".join((*orders(), *shown, *last, *new))

@@ -22,7 +22,7 @@ class Whole:
         self.answers = self.answered(file)
 
     def answered(self, file):
-        """What a pipe over a file answers to messages that change nothing, or how else it ended."""
+        """What a pipe over a file answers to the same messages, or how else it ended."""
         ran = run(self.program, "pipe", "--now", 1020, "--digits", "7", file, given=self.asked)
         return ran.out if ran.status == 0 else ran
 

@@ -99,7 +99,7 @@ class Small:
         self.give(ROOM)
         ran, left = self.ask(kind, left[:5])
         self.judge(f"{place}: {kind} with room", "" if ran.status == 0 and not left else str(ran), "goes on")
-        sizes = " ".join(str(self.known.rows.count(it)) for it in ("merchant", "entry", "record"))
+        sizes = " ".join(str(self.known.count(it)) for it in ("merchant", "entry", "record"))
         checked = run(self.program, "check", self.path)
         fault = "" if checked.out == f"sound {sizes}\n".encode() else f"{checked}, not {sizes}"
         self.judge(f"{place}: check with room", fault, "sound")

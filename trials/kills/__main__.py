@@ -102,7 +102,7 @@ def main():
     with tempfile.TemporaryDirectory() as name:
         trial = Trial(words.program, pathlib.Path(name), words.seed)
         trial.take(words.kills)
-    trial.tally.show(f"{words.kills} kills, seed {words.seed}")
+    trial.tally.show(f"{trial.kills.total()} kills, seed {words.seed}")
     trial.tally.end()
 
 

@@ -57,6 +57,10 @@ def judge_made(program, path, ended):
     faults = []
     if checked.status != 0 or checked.out not in wanted:
         faults.append(f"check says {checked}")
+    # a check makes nothing, so a second name that the kill left goes with the next job that makes the file
+    moved = run_whole(program, "migrate", path)
+    if (moved.status, moved.out) != (0, b"schema 4\n"):
+        faults.append(f"migrate says {moved}")
     names = sorted(it.name for it in path.parent.iterdir() if it.name.startswith(path.name))
     if not set(names) <= {path.name, path.name + "-wal"}:
         faults.append(f"files are left: {names}")

@@ -66,7 +66,7 @@ class Judge:
     def judge_sound(self, shop):
         """The check finds the file sound, with as many rows."""
         checked = run_whole(shop.program, "check", shop.path)
-        sizes = " ".join(str(shop.known.rows.count(it)) for it in ("merchant", "entry", "record"))
+        sizes = " ".join(str(shop.known.count(it)) for it in ("merchant", "entry", "record"))
         fault = "" if checked.out == f"sound {sizes}\n".encode() else f"check: {checked}, not {sizes}"
         self.check(fault, "check says sound")
 

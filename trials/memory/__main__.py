@@ -8,8 +8,8 @@ import tempfile
 
 from memory import jobs
 from memory.refused import Trial
+from shared.masked import MaskedTally
 from shared.runs import side_by_side
-from shared.tally import Tally
 
 # Those that are refused by default: each of the first, so many of the others, and so many around a change.
 FIRST = 300
@@ -75,7 +75,7 @@ def try_job(trial, tally, chosen, every):
 def main(program, library, every):
     """Tries each job, and ends with the figures."""
     chosen = random.Random(int(os.environ.get("SEED", "1")))
-    tally = Tally()
+    tally = MaskedTally()
     with tempfile.TemporaryDirectory() as name:
         folder = pathlib.Path(name)
         jobs.make_bases(program, folder)

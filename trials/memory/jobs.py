@@ -145,7 +145,7 @@ def all_jobs(folder):
         Job("check", ("check",), base="moved.db"),
         Job("migrate", ("migrate",), base="old.db"),
         Job("rights", ("rights", *NOW), (folder / "rights.toml",), b"", "moved.db",
-            (*command, "stopped 74"), ("stopped 80",)),
+            (*command, "stopped 74")),
     )
 
 

@@ -6,8 +6,8 @@ import pathlib
 import tempfile
 
 from random_bytes import compared, grounds
+from shared.masked import MaskedTally
 from shared.runs import side_by_side
-from shared.tally import Tally
 
 # One stream of so many goes through a service too.
 SERVED = 20
@@ -21,7 +21,7 @@ def main():
     words.add_argument("--seed", type=int, default=1, help="the seed of the first stream (1)")
     words.add_argument("--show", action="store_true", help="print the bytes of a stream that fails")
     asked = words.parse_args()
-    tally = Tally()
+    tally = MaskedTally()
     kinds = collections.Counter()
     with tempfile.TemporaryDirectory() as name:
         ground = grounds.Ground(asked.program, pathlib.Path(name), asked.seed)

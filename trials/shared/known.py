@@ -81,6 +81,17 @@ class Known:
     def reset(self, rows):
         self.rows, self.possible = Rows(rows), [{}]
 
+    def get(self, key):
+        """A row, as the first of what is possible has it."""
+        return Changed(self.rows, self.possible[0]).get(key)
+
+    def count(self, kind):
+        """How many rows of a kind there are, which is so whatever moments are open."""
+        changes = self.possible[0].items()
+        new = sum(key[0] == kind and row is not None and self.rows.get(key) is None for key, row in changes)
+        gone = sum(key[0] == kind and row is None for key, row in changes)
+        return self.rows.count(kind) + new - gone
+
     def outcomes(self, possible, command, moments, drawn):
         """What a command may be answered by what is possible, and the changes after it, without doubles."""
         found = []

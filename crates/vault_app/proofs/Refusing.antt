@@ -8,8 +8,8 @@ use Rattle.vault_jobs.specs.Streams.{Streams}
 use Rattle.vault_app.specs.Ending.{status_of}
 use Rattle.vault_app.specs.Ran.{AsksFor, IsBatch, IsRefusedInPart, Ran}
 use Rattle.vault_app.specs.declared.ending.Ending.{Ending}
-use Rattle.vault_app.specs.declared.ending.Ending.TheVariants.{Done, Refused, SomeRefused, BadWords}
-use Rattle.vault_app.specs.declared.ending.Ending.TheVariants.{NotOpened, Stopped}
+use Rattle.vault_app.specs.declared.ending.Ending.TheVariants.{Done, Version, Refused, SomeRefused}
+use Rattle.vault_app.specs.declared.ending.Ending.TheVariants.{BadWords, NotOpened, Stopped}
 
 -- only a batch is refused in part
 batch_of : (job : Job) (s : Streams) → IsRefusedInPart job s → IsBatch job
@@ -31,7 +31,9 @@ pub unread_of : (words : List Text) (ending : Ending) (unread unsent : Type 0) (
     → unread ⊎ AsksFor words IsBatch
 unread_of words (Refused n) unread unsent s status (inl (job, asked, (calm, silent, refused))) is one =
     inl calm
-unread_of words (Refused n) unread unsent s status (inr (inl (help, never, calm))) is one =
+unread_of words (Refused n) unread unsent s status (inr (inl (inl (help, never), calm))) is one =
+    absurd (cc (never))
+unread_of words (Refused n) unread unsent s status (inr (inl (inr (version, never, silent), calm))) is one =
     absurd (cc (never))
 unread_of words (Refused n) unread unsent s status (inr (inr (inl (none, never, calm, silent)))) is one =
     absurd (cc (never))
@@ -39,13 +41,18 @@ unread_of words (Refused n) unread unsent s status (inr (inr (inr (never, calm, 
     absurd (cc (never))
 unread_of words SomeRefused unread unsent s status (inl (job, asked, (quiet, part))) is one =
     inr (job, asked, batch_of job s part)
-unread_of words SomeRefused unread unsent s status (inr (inl (help, never, calm))) is one =
+unread_of words SomeRefused unread unsent s status (inr (inl (inl (help, never), calm))) is one =
+    absurd (cc (never))
+unread_of words SomeRefused unread unsent s status (inr (inl (inr (version, never, silent), calm))) is one =
     absurd (cc (never))
 unread_of words SomeRefused unread unsent s status (inr (inr (inl (none, never, calm, silent)))) is one =
     absurd (cc (never))
 unread_of words SomeRefused unread unsent s status (inr (inr (inr (never, calm, silent)))) is one =
     absurd (cc (never))
 unread_of words Done unread unsent s status ran is one =
+    let never : ⊥ = omega (arith, is, one) in
+    absurd never
+unread_of words Version unread unsent s status ran is one =
     let never : ⊥ = omega (arith, is, one) in
     absurd never
 unread_of words BadWords unread unsent s status ran is one =

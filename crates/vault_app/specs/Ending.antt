@@ -5,17 +5,22 @@ use Rattle.vault_file.specs.Faults as file
 use Rattle.vault_file.specs.declared.fault.NotOpened.{NotOpened as FileFault}
 use Rattle.vault_jobs.specs.Causes.{number_of}
 use Rattle.vault_app.specs.declared.ending.Ending.{Ending}
-use Rattle.vault_app.specs.declared.ending.Ending.TheVariants.{Done, Refused, SomeRefused, BadWords}
-use Rattle.vault_app.specs.declared.ending.Ending.TheVariants.{NotOpened, Stopped}
+use Rattle.vault_app.specs.declared.ending.Ending.TheVariants.{Done, Version, Refused, SomeRefused}
+use Rattle.vault_app.specs.declared.ending.Ending.TheVariants.{BadWords, NotOpened, Stopped}
 
 -- the exit status
 abbrev pub status_of : Ending → ℕ
 status_of Done = 0
+status_of Version = 0
 status_of (Refused n) = 1
 status_of SomeRefused = 1
 status_of BadWords = 2
 status_of (NotOpened f) = 3
 status_of (Stopped s) = 4
+
+-- the line of the program's version and of the newest schema, on the output
+abbrev pub version_line : List ℕ
+version_line = codes "vault 0.4.0, schema 4\n"
 
 -- the line of a refusal, on the output
 abbrev pub refusal_line : ℕ → List ℕ
@@ -40,10 +45,11 @@ not_opened_line f =
 abbrev pub stop_line : ℕ → List ℕ
 stop_line n = codes "vault: stopped " ++ decimal n ++ codes "\n"
 
--- A refusal is said on the output, and what else stands in the way of a job on the errors; the other stream
+-- A version and a refusal are said on the output, and what else stands in the way of a job on the errors; the other stream
 -- stays as it was, and at the end of a job, and of a batch with refused rows, both do.
 abbrev pub Says : Ending → Type 0 → Type 0 → (List ℕ → Type 0) → (List ℕ → Type 0) → Type 0
 Says Done same_output same_errors output errors = same_output × same_errors
+Says Version same_output same_errors output errors = output version_line × same_errors
 Says (Refused n) same_output same_errors output errors = output (refusal_line n) × same_errors
 Says SomeRefused same_output same_errors output errors = same_output × same_errors
 Says BadWords same_output same_errors output errors = same_output × errors bad_words_line

@@ -1,7 +1,7 @@
 -- What the program did, by how it ended.
 use Rattle.std.specs.Prelude.{◌≡◌, ◌≢◌, ◌⊎◌, ℕ, ◌++◌, List, length, false, codes, decimal}
 use Rattle.clap.specs.Words.{IsAmong, Text, fault_of}
-use Rattle.clap.specs.declared.error.kind.ErrorKind.TheVariants.{DisplayHelp}
+use Rattle.clap.specs.declared.error.kind.ErrorKind.TheVariants.{DisplayHelp, DisplayVersion}
 use Rattle.vault_core.specs.Name.{IsName}
 use Rattle.vault_core.specs.Scalar.{IsLife}
 use Rattle.vault_core.specs.Words.{right_word}
@@ -28,10 +28,11 @@ use Rattle.vault_jobs.specs.Trial.{IsCut, IsTrial, trial_vault}
 use Rattle.vault_jobs.specs.declared.stop.Stop.{Stop}
 use Rattle.vault_jobs.specs.declared.stop.Stop.TheVariants.{Vault, Service}
 use Rattle.vault_app.specs.Ending.{bad_words_line, not_opened_line, refusal_line, status_of, stop_line}
+use Rattle.vault_app.specs.Ending.{version_line}
 use Rattle.vault_app.specs.Rights.{IsListed, IsRefusedText}
 use Rattle.vault_app.specs.declared.ending.Ending.{Ending}
-use Rattle.vault_app.specs.declared.ending.Ending.TheVariants.{Done, Refused, SomeRefused, BadWords}
-use Rattle.vault_app.specs.declared.ending.Ending.TheVariants.{NotOpened, Stopped}
+use Rattle.vault_app.specs.declared.ending.Ending.TheVariants.{Done, Version, Refused, SomeRefused}
+use Rattle.vault_app.specs.declared.ending.Ending.TheVariants.{BadWords, NotOpened, Stopped}
 
 -- the lives of a job are lives
 abbrev pub HasLives : Job → Type 0
@@ -152,6 +153,7 @@ IsBatch job = (j : BatchJob) × (job ≡ Batch j)
 -- how a job ends; a job that is refused, or whose file isn't opened, leaves both streams alone
 abbrev pub Ends : Job → Ending → Type 0 → Type 0 → Streams → Type 0
 Ends job Done unread unsent s = (s.writer ≡ false) × IsDone job unread s
+Ends job Version unread unsent s = ⊥
 Ends job (Refused n) unread unsent s = unread × unsent × IsRefused job n
 Ends job SomeRefused unread unsent s = (s.writer ≡ false) × IsRefusedInPart job s
 Ends job BadWords unread unsent s = ⊥
@@ -166,12 +168,16 @@ AsksFor words P = (job : Job) × IsAsked program_app words job × P job
 abbrev pub AsksHelp : List Text → Type 0
 AsksHelp words = IsAmong DisplayHelp (fault_of program_app words)
 
--- How the program ends: as the job of the words does; with help, which is done; with words that ask for no
--- job; or for want of memory before there is a job.
+-- the words ask for the version
+abbrev pub AsksVersion : List Text → Type 0
+AsksVersion words = IsAmong DisplayVersion (fault_of program_app words)
+
+-- How the program ends: as the job of the words does; with help, which is done; with its version; with words
+-- that ask for no job; or for want of memory before there is a job.
 abbrev pub Ran : List Text → Ending → Type 0 → Type 0 → Streams → Type 0
 Ran words ending unread unsent s =
     AsksFor words (λ job. Ends job ending unread unsent s)
-    ⊎ (AsksHelp words × (ending ≡ Done) × unread
+    ⊎ ((AsksHelp words × (ending ≡ Done) ⊎ AsksVersion words × (ending ≡ Version) × unsent) × unread
     ⊎ (((job : Job) → ¬ (IsAsked program_app words job)) × (ending ≡ BadWords) × unread × unsent
     ⊎ (ending ≡ Stopped (Vault vault.Memory)) × unread × unsent))
 
@@ -180,6 +186,8 @@ abbrev pub Said : List Text → Ending → Type 0 → Type 0 → Type 0 → Stre
     → (List ℕ → Type 0) → Type 0
 Said words Done unread unsent silent s output errors = silent
     × (AsksFor words (λ job. (s.writer ≡ false) × IsDone job unread s) ⊎ AsksHelp words × unread)
+Said words Version unread unsent silent s output errors = silent × unread × output version_line
+    × AsksVersion words
 Said words (Refused n) unread unsent silent s output errors = silent × unread × output (refusal_line n)
     × AsksFor words (λ job. IsRefused job n)
 Said words SomeRefused unread unsent silent s output errors = silent

@@ -7,6 +7,8 @@ use vault_jobs::stop::Stop;
 pub enum Ending {
     /// Done, or help was asked.
     Done,
+    /// The version was asked.
+    Version,
     /// The words' names or the vault refused, by this number.
     Refused(u8),
     /// Some rows of a batch are refused, as their lines say.

@@ -1,7 +1,7 @@
 //! What the program says of an ending.
 ghost use Rattle.std.specs.Prelude.{◌≡◌, ◌++◌, codes, decimal};
 ghost use Rattle.vault_wire.specs.Watching.{inner_of, is_stopped};
-ghost use Rattle.vault_app.specs.Ending.{Says, not_opened_line, status_of};
+ghost use Rattle.vault_app.specs.Ending.{Says, not_opened_line, status_of, version_line};
 ghost use Rattle.vault_jobs.specs.Told.{Tells};
 
 use crate::ending::Ending;
@@ -9,7 +9,9 @@ use itoa::Buffer;
 use std::io::Write;
 use vault_file::fault::NotOpened;
 use vault_jobs::told::tell;
+use vault_schema::version::NEWEST;
 use vault_wire::watched::Watched;
+use vault_words::jobs::VERSION;
 
 /// Writes a line that ends with a number.
 fn tell_numbered<W: Write>(writer: &mut Watched<W>, before: &str, number: u8)
@@ -45,6 +47,16 @@ fn tell_not_opened<E: Write>(errors: &mut Watched<E>, fault: &NotOpened)
     }
 }
 
+/// Says the program's version, and the newest schema.
+fn tell_version<W: Write>(output: &mut Watched<W>)
+    ensures { Tells (W.contents (inner_of output.old)) (W.contents (inner_of output.new))
+        (is_stopped output.new) version_line }
+{
+    let mut digits = Buffer::new();
+    let schema = digits.format(NEWEST.number());
+    tell(output, &["vault ", VERSION, ", schema ", schema, "\n"]);
+}
+
 /// Says how a job ended, and answers the exit status. A line that can't be written changes no status.
 pub(crate) fn report<W: Write, E: Write>(
     ending: &Ending,
@@ -60,6 +72,10 @@ pub(crate) fn report<W: Write, E: Write>(
 {
     match ending {
         Ending::Done => 0,
+        Ending::Version => {
+            tell_version(output);
+            0
+        }
         Ending::Refused(number) => {
             tell_numbered(output, "refused ", *number);
             1

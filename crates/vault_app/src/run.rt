@@ -70,6 +70,7 @@ fn ended<S: AsStr, R: Read, W: Write>(
             tell(output, &[text.as_str()]);
             Ending::Done
         }
+        Err(JobFault::Version) => Ending::Version,
         Err(JobFault::BadWords) => Ending::BadWords,
         Err(JobFault::Memory) => Ending::Stopped(Stop::Vault(Fault::Memory)),
     }

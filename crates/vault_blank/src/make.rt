@@ -48,6 +48,17 @@ fn named<R: Files>(files: &R, name: &str) -> io::Result<Option<Metadata>> {
     }
 }
 
+/// Whether nothing has the name, in a folder that is there.
+pub fn is_missing<R: Files>(files: &R, path: &str) -> bool {
+    match named(files, path) {
+        Ok(None) => match fs::metadata(files, folder_of(path)) {
+            Ok(folder) => folder.is_dir(),
+            Err(_) => false,
+        },
+        Ok(Some(_)) | Err(_) => false,
+    }
+}
+
 /// Whether both are the same regular file, which has so many names.
 fn is_same(one: &Metadata, other: &Metadata, names: u64) -> bool {
     let same = one.dev() == other.dev() && one.ino() == other.ino();

@@ -12,8 +12,9 @@ ghost use Rattle.vault_verdict.specs.Reading.{IsFull};
 ghost use Rattle.vault_schema.specs.Holds.{Holds};
 
 use crate::fault::NotOpened;
-use crate::make::open_private;
+use crate::make::{is_no_path, open_private};
 use sqlite::{Connection, FileFrom, FileStore, Start, Unknown};
+use vault_blank::make::is_missing;
 use vault_recover::reopen::close;
 use vault_verdict::check::check;
 use vault_verdict::fault::OpenFault;
@@ -56,10 +57,21 @@ pub fn check_from<S: Start>(
     }
 }
 
-/// Checks the file at a path whole, as `check_from` does over a file that holds what it may.
+/// The sizes of the empty vault.
+const EMPTY: Sizes = Sizes {
+    merchants: 0,
+    entries: 0,
+    records: 0,
+};
+
+/// Checks the file at a path whole, as `check_from` does over a file that holds what it may. But a file that
+/// isn't there, in a folder that is, is the empty vault, and nothing is made.
 pub fn check_file(rt: &HostRuntime, path: &str) -> Result<Sizes, NotOpened>
     ensures no_path { IsNoPath path.now → result ≡ Err NotOpened.Refused }
 {
+    if !is_no_path(path) && is_missing(rt, path) {
+        return Ok(EMPTY);
+    }
     match check_from(rt, path, Unknown) {
         Ok(told) => {
             drop(close(told.1));

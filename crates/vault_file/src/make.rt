@@ -15,7 +15,7 @@ use vault_blank::make::make_blank;
 use vault_recover::reopen::open_path;
 
 /// Whether the words name no file: the database keeps `:memory:` and what begins with `file:` for itself.
-fn is_no_path(path: &str) -> bool
+pub(crate) fn is_no_path(path: &str) -> bool
     ensures { IsTrue result ↔ IsNoPath path.now }
 {
     path.is_empty() || path == ":memory:" || path.starts_with("file:")

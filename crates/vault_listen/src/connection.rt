@@ -10,7 +10,7 @@ ghost use Rattle.vault_http.specs.Served.{IsServed, IsStopped};
 use rand_core::Rng;
 use std::alloc::Global;
 use std::io::{Read, Write};
-use std::time::Clock;
+use std::time::{Clock, Duration};
 use vault_http::fault::ServeFault;
 use vault_http::serve::serve_by;
 use vault_http::served::Served;
@@ -24,13 +24,15 @@ use vault_wire::watched::Watched;
 pub const MESSAGES: u64 = 1000;
 
 /// Answers the messages of one connection, at most 1000, each with the clock's second and digits of its own.
+/// None is taken up from `end` on, by the monotonic clock.
 ///
-/// 60 Source: the 1001st message, or a clock that can't be read. 61 Read and 62 Write: the reader or the
+/// 60 Source: the 1001st message, one after `end`, or a clock that can't be read. 61 Read and 62 Write: the reader or the
 /// writer failed. 63 Store: the store failed, or the vault was broken before. 64 Memory: memory was refused.
 pub fn serve_connection<C: Clock, G: Rng, R: Read, W: Write, T: Tables>(
     alloc: Global,
     clock: &C,
     generator: &mut G,
+    end: Option<Duration>,
     routes: &Routes,
     reader: &mut Watched<R>,
     writer: &mut Watched<W>,
@@ -47,6 +49,6 @@ pub fn serve_connection<C: Clock, G: Rng, R: Read, W: Write, T: Tables>(
     ensures sturdy { T.may_fail ≡ false → is_broken vault.old ≡ false → ¬ (result ≡ Err ServeFault.Store) }
     ensures honest { T.is_honest (tables_of vault.new) → T.is_honest (tables_of vault.old) }
 {
-    let mut source = LiveSource::new(alloc, clock, generator, MESSAGES);
+    let mut source = LiveSource::ending(alloc, clock, generator, MESSAGES, end);
     serve_by(alloc, routes, reader, writer, vault, &mut source)
 }

@@ -4,5 +4,6 @@
 pub mod connection;
 pub mod fault;
 pub mod linger;
+pub mod peer;
 pub mod refusal;
 pub mod service;

@@ -7,21 +7,18 @@ ghost use Rattle.vault_listen.specs.Service.{AllKept, Ends, vault_passing};
 use crate::connection::serve_connection;
 use crate::fault::ListenFault;
 use crate::linger::linger;
+use crate::peer::{Limits, Peer, PeerReader, PeerWriter};
 use rand_core::Rng;
 use std::alloc::Global;
-use std::io;
 use std::io::ErrorKind;
 use std::net::{OpenListener, TcpStream};
-use std::time::{Clock, Duration};
+use std::time::Clock;
 use vault_http::fault::ServeFault;
 use vault_http::served::Served;
 use vault_routes::route::Routes;
 use vault_store::tables::Tables;
 use vault_store::vault::Vault;
 use vault_wire::watched::Watched;
-
-/// How many seconds a peer may send nothing or take nothing.
-pub const PATIENCE: u64 = 5;
 
 /// Whether a failed accept lost one connection, and the listener can go on. A signal isn't among them: the
 /// accept of `TcpListener` calls again after one.
@@ -49,12 +46,6 @@ fn store_failed(ended: Result<Served, ServeFault>) -> bool
     }
 }
 
-/// Lets reads and writes wait so long, and no longer.
-pub fn limit_waits(stream: &TcpStream, patience: Duration) -> io::Result<()> {
-    stream.set_read_timeout(Some(patience))?;
-    stream.set_write_timeout(Some(patience))
-}
-
 /// Serves an accepted connection. Its only fault is 63 Store; any other end is that connection's alone.
 fn serve_stream<C: Clock, G: Rng, T: Tables>(
     alloc: Global,
@@ -62,7 +53,7 @@ fn serve_stream<C: Clock, G: Rng, T: Tables>(
     generator: &mut G,
     routes: &Routes,
     stream: &TcpStream,
-    patience: Duration,
+    limits: Limits,
     vault: &mut Vault<T>,
 ) -> Result<(), ListenFault>
     ensures left { let w : Passage = vault_passing T.is_honest T.holds T.leaves vault.old vault.new in
@@ -72,22 +63,23 @@ fn serve_stream<C: Clock, G: Rng, T: Tables>(
     ensures sturdy { T.may_fail ≡ false → is_broken vault.old ≡ false → ¬ (result ≡ Err ListenFault.Store) }
     ensures honest { T.is_honest (tables_of vault.new) → T.is_honest (tables_of vault.old) }
 {
-    if limit_waits(stream, patience).is_err() {
+    let Ok(peer) = Peer::new(stream, clock, limits) else {
         return Ok(());
-    }
-    let mut reader = Watched::new(stream);
-    let mut writer = Watched::new(stream);
+    };
+    let mut reader = Watched::new(PeerReader::new(&peer));
+    let mut writer = Watched::new(PeerWriter::new(&peer));
     let ended = serve_connection(
         alloc,
         clock,
         generator,
+        Some(peer.end()),
         routes,
         &mut reader,
         &mut writer,
         vault,
     );
     if !reader.failed() && !writer.failed() {
-        linger(stream);
+        linger(stream, clock, limits.turn);
     }
     if store_failed(ended) {
         return Err(ListenFault::Store);
@@ -95,14 +87,14 @@ fn serve_stream<C: Clock, G: Rng, T: Tables>(
     Ok(())
 }
 
-/// Serves connections as `serve_on` does, where a peer may be silent so long.
+/// Serves connections as `serve_on` does, where a peer may take so long.
 pub fn serve_within<L: OpenListener<Stream = TcpStream>, C: Clock, G: Rng, T: Tables>(
     alloc: Global,
     clock: &C,
     generator: &mut G,
     listener: &L,
     connections: u64,
-    patience: Duration,
+    limits: Limits,
     vault: &mut Vault<T>,
 ) -> Result<(), ListenFault>
     ensures left { let w : Passage = vault_passing T.is_honest T.holds T.leaves vault.old vault.new in
@@ -120,7 +112,7 @@ pub fn serve_within<L: OpenListener<Stream = TcpStream>, C: Clock, G: Rng, T: Ta
         match listener.accept() {
             Ok((stream, _)) => {
                 if let Err(fault) = serve_stream(
-                    alloc, clock, generator, &routes, &stream, patience, vault,
+                    alloc, clock, generator, &routes, &stream, limits, vault,
                 ) {
                     return Err(fault);
                 }
@@ -135,11 +127,13 @@ pub fn serve_within<L: OpenListener<Stream = TcpStream>, C: Clock, G: Rng, T: Ta
 /// Serves so many connections, one after the other, by one vault.
 ///
 /// A connection ends with its bytes, or at a message that closes it; after a fault of its bytes, which is
-/// answered; after 1000 messages, or where the clock can't be read (60); where its peer fails, or sends or
-/// takes nothing for 5 seconds (61, 62); or for want of memory (64). Unless its reader or writer failed, the
-/// peer is told that no more answers come, and what it still sends is thrown away, so that its answers reach
-/// it: at most 64 KiB in at most 16 reads, of at most 5 seconds each. A connection that was lost before it
-/// was accepted counts as one. None of these ends the service.
+/// answered; after 1000 messages, or where the clock can't be read (60); where its peer fails (61, 62); where
+/// a message isn't whole 5 seconds after the connection was accepted or after the answer before it (61), or
+/// an answer isn't taken within 5 seconds (62); 60 seconds after it was accepted (61, or 60 where the next
+/// message was read before); or for want of memory (64). Unless its reader or writer failed, the peer is told
+/// that no more answers come, and what it still sends is thrown away, so that its answers reach it: at most
+/// 64 KiB, for at most 5 seconds. So a peer holds up the others for at most 70 seconds. A connection that was
+/// lost before it was accepted counts as one. None of these ends the service.
 ///
 /// 63 Store: the store failed, or the vault was broken before; nothing more is accepted. 64 Memory: memory
 /// was refused before the first connection. 80 Accept: the listener failed.
@@ -159,14 +153,13 @@ pub fn serve_on<L: OpenListener<Stream = TcpStream>, C: Clock, G: Rng, T: Tables
     ensures sturdy { T.may_fail ≡ false → is_broken vault.old ≡ false → ¬ (result ≡ Err ListenFault.Store) }
     ensures honest { T.is_honest (tables_of vault.new) → T.is_honest (tables_of vault.old) }
 {
-    let patience = Duration::from_secs(PATIENCE);
     serve_within(
         alloc,
         clock,
         generator,
         listener,
         connections,
-        patience,
+        Limits::of_service(),
         vault,
     )
 }

@@ -5,7 +5,7 @@ ghost use Rattle.std.specs.Prelude.{IsErr};
 use crate::draw::drawn;
 use rand_core::Rng;
 use std::alloc::Global;
-use std::time::{Clock, SystemTime, UNIX_EPOCH};
+use std::time::{Clock, Duration, SystemTime, UNIX_EPOCH};
 use vault_core::moment::Moment;
 use vault_core::source::{Source, SourceFault};
 use vault_pan::draw::Digits;
@@ -18,13 +18,15 @@ pub fn moment_of<C: Clock>(clock: &C) -> Option<Moment> {
 }
 
 /// Gives the clock's second and 300 digits that a generator draws, a number of times, and keeps
-/// the pairs that it gave. The moment, the digits or both may be fixed: then each pair has them.
+/// the pairs that it gave. The moment, the digits or both may be fixed: then each pair has them. It may have
+/// an end, from which on it gives none.
 #[derive(Drop)]
 pub struct LiveSource<'c, C, G> {
     clock: &'c C,
     generator: G,
     moment: Option<Moment>,
     digits: Option<Digits>,
+    end: Option<Duration>,
     given: Vec<(Moment, Digits)>,
     left: u64,
     refused: bool,
@@ -58,9 +60,45 @@ impl<'c, C: Clock, G: Rng> LiveSource<'c, C, G> {
             generator,
             moment,
             digits,
+            end: None,
             given: Vec::new(alloc),
             left: times,
             refused: false,
+        }
+    }
+
+    /// A source that gives this many pairs, and none from this moment of the monotonic clock on, where there is
+    /// one.
+    pub fn ending(
+        alloc: Global,
+        clock: &'c C,
+        generator: G,
+        times: u64,
+        end: Option<Duration>,
+    ) -> LiveSource<'c, C, G>
+        ensures fresh { IsFresh result times }
+        ensures free { Fixes result None None }
+    {
+        LiveSource {
+            clock,
+            generator,
+            moment: None,
+            digits: None,
+            end,
+            given: Vec::new(alloc),
+            left: times,
+            refused: false,
+        }
+    }
+
+    // Whether it has come to its end, or can't tell.
+    fn is_over(&self) -> bool {
+        match self.end {
+            Some(end) => match self.clock.monotonic() {
+                Ok(now) => now >= end,
+                Err(_) => true,
+            },
+            None => false,
         }
     }
 
@@ -98,7 +136,7 @@ impl<'c, C: Clock, G: Rng> Source for LiveSource<'c, C, G> {
     ghost precedes = { Continues };
 
     fn next(&mut self) -> Result<(Moment, Digits), SourceFault> {
-        if self.left == 0 {
+        if self.left == 0 || self.is_over() {
             self.refused = true;
             return Err(SourceFault);
         }

@@ -1,8 +1,8 @@
 -- What a command is after one more argument, subcommand or setting.
-use Rattle.std.proofs.Common.{◌≡◌, true, false, ◌||◌, ◌∙◌, ap}
+use Rattle.std.proofs.Common.{◌≡◌, true, false, ◌||◌, ◌∙◌, ap, Some, Bor}
 use Rattle.clap.specs.Built.{AddsArg, AddsSubcommand}
 use Rattle.clap.specs.Simple.{app_of_fields, shape_of}
-use Rattle.clap.specs.Words.{App, Rule, rule_of, with_rule, with_subcommand}
+use Rattle.clap.specs.Words.{App, Rule, Text, rule_of, with_rule, with_subcommand}
 use Rattle.clap.specs.declared.builder.arg.Arg.{Arg}
 use Rattle.clap.specs.declared.builder.command.Command.{Command}
 use Rattle.clap.specs.declared.builder.command.Command.TheViews.{out-Command}
@@ -25,6 +25,16 @@ with_sub old sub new a s adds is has = record {
       ∙ ap (λ (b : App). with_subcommand a b.top) has.shape);
   locals = adds.globals
       ∙ (ap (λ b. b || (out-Command sub).has_globals) is.locals ∙ ap (λ b. false || b) has.locals);
+}
+
+-- with a version
+pub with_version : (old new : Command) (a : App) (text : Bor Text)
+    → out-Command new ≡ record (out-Command old) { version = Some text } → IsApp old a
+    → IsApp new (record a { top = record a.top { has_version = true } })
+with_version old new a text sets is = record {
+  shape = ap app_of_fields sets
+      ∙ ap (λ (b : App). record b { top = record b.top { has_version = true } }) is.shape;
+  locals = ap (λ f. f.has_globals) sets ∙ is.locals;
 }
 
 -- with a subcommand that must be named

@@ -21,7 +21,7 @@ use Rattle.vault_words.specs.declared.jobs.Job.{Job}
 use Rattle.vault_words.specs.declared.jobs.Job.TheVariants.{Trial, Merchant, Grant, Withdraw}
 use Rattle.vault_words.specs.declared.jobs.Job.TheVariants.{Rights, Pipe, Batch, Serve, Sweep, Check, Migrate}
 use Rattle.vault_words.specs.declared.jobs.JobFault.{JobFault}
-use Rattle.vault_words.specs.declared.jobs.JobFault.TheVariants.{Help, BadWords, Memory}
+use Rattle.vault_words.specs.declared.jobs.JobFault.TheVariants.{Help, Version, BadWords, Memory}
 
 -- a name with values, as the parse met a subcommand
 abbrev Met : Type 0
@@ -132,9 +132,13 @@ refused : (words : List Text) (e : Error) (fault : JobFault) → HasKind (fault_
 refused words e (Help text) (inl h) stands = absurd (cc)
 refused words e (Help text) (inr h) stands =
     subst (λ (k : ErrorKind). IsAmong k (fault_of program_app words)) stands h
-refused words e BadWords (inl h) stands = absurd (stands.1 h)
+refused words e Version (inl h) stands = absurd (cc)
+refused words e Version (inr h) stands =
+    subst (λ (k : ErrorKind). IsAmong k (fault_of program_app words)) stands h
+refused words e BadWords (inl h) stands = absurd (stands.2 h)
 refused words e BadWords (inr h) stands = (
   λ is. elim (subst (IsAmong (kind_of e)) is h) [ inl k ↦ stands.0 k | inr never ↦ never ],
+  λ is. elim (subst (IsAmong (kind_of e)) is h) [ inl k ↦ stands.1 k | inr never ↦ never ],
   λ job asked. subst (IsAmong (kind_of e)) asked.taken h,
 )
 refused words e Memory h stands = tt
@@ -153,5 +157,6 @@ pub unasked : (words : List Text) (met : Option Met) → fault_of program_app wo
     → Explains program_app words BadWords
 unasked words met none is nothing = (
   λ help. absurd (cc (none, help)),
+  λ version. absurd (cc (none, version)),
   λ job asked. nothing job (subst (λ (m : Option Met). AsksBy m job) (sym is) asked.asks),
 )

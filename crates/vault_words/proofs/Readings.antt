@@ -1,5 +1,5 @@
 -- The values that a subcommand was given, as they are read.
-use Rattle.std.proofs.Common.{◌≡◌, ◌↔◌, ℕ, codes, List, Option, Some, None, Result, Ok, Err, Bor}
+use Rattle.std.proofs.Common.{◌≡◌, ◌≤◌, ◌↔◌, ℕ, codes, List, Option, Some, None, Result, Ok, Err, Bor}
 use Rattle.std.proofs.Common.{Bool, true, false, sym, ◌∙◌, refl, subst, inl, inr}
 use Rattle.std.specs.Bool.{IsTrue}
 use Rattle.std.specs.Option.{is_some, ok_or, option_map}
@@ -13,8 +13,8 @@ use Rattle.clap.proofs.WalkLemmas.{first_value-rows, one_text-rows}
 use Rattle.vault_words.specs.Digits.{IsDigitText}
 use Rattle.vault_pan.specs.Mask.{lead_digits}
 use Rattle.vault_pan.specs.declared.lead.Lead.{Lead}
-use Rattle.vault_words.specs.Values.{Finds, HasDigits, HasLead, HasMoment, HasNumber, HasPort, HasText}
-use Rattle.vault_words.specs.Values.{IsLeftOut, Writes}
+use Rattle.vault_words.specs.Values.{Finds, HasConnections, HasDigits, HasLead, HasMoment, HasNumber, HasPort}
+use Rattle.vault_words.specs.Values.{HasText, IsLeftOut, Writes}
 
 -- what holds where there is no value
 pub none_found : {T E : Type 0} (r : Result T E) (P : T → Type 0) → IsErr r → ((x : T) → ¬ (P x))
@@ -90,6 +90,13 @@ pub no_lead : (rows : List Row) → ¬ (IsLeftOut rows (codes "lead"))
     → ¬ (HasLead rows lead)
 no_lead rows given never lead (inl h) = given h.0
 no_lead rows given never lead (inr h) = never lead h
+
+-- no number of connections, where --connections is there and is none from 1 to 1000000
+pub no_connections : (rows : List Row) → ¬ (IsLeftOut rows (codes "connections"))
+    → ((n : ℕ) → HasNumber rows (codes "connections") n → 1 ≤ n → n ≤ 1000000 → ⊥) → (count : Option ℕ)
+    → ¬ (HasConnections rows count)
+no_connections rows given never None h = given h
+no_connections rows given never (Some n) h = never n h.0 h.1 h.2
 
 -- no port, where --port is there and is no number
 pub no_port : (rows : List Row) → ¬ (IsLeftOut rows (codes "port"))

@@ -101,14 +101,10 @@ AsksBatch rows job =
     × HasText rows (codes "CALLER") job.caller.now
     × HasText rows (codes "MERCHANT") job.merchant.now
 
--- --connections N, which must be there
-abbrev pub connections_rule : Rule
-connections_rule = record (number_option (codes "connections")) { required = true }
-
--- serve --connections N [--port P] FILE
+-- serve [--connections N] [--port P] FILE
 abbrev pub serve_app : App
 serve_app = with_rules (new_app (codes "serve"))
-    (connections_rule ∷ number_option (codes "port") ∷ text_rule (codes "FILE") ∷ [])
+    (number_option (codes "connections") ∷ number_option (codes "port") ∷ text_rule (codes "FILE") ∷ [])
 
 -- the values of serve ask for this job
 abbrev pub AsksServe : List Row → ServeJob → Type 0
@@ -150,11 +146,11 @@ abbrev pub with_subcommands : App → List App → App
 with_subcommands a [] = a
 with_subcommands a (s ∷ ss) = with_subcommands (with_subcommand a s.top) ss
 
--- the program without its subcommands, one of which must be named
+-- the program without its subcommands, one of which must be named; it tells its version
 abbrev pub root_app : App
 root_app =
     let named : App = new_app (codes "vault") in
-    record named { top = record named.top { subcommand_required = true } }
+    record named { top = record named.top { has_version = true; subcommand_required = true } }
 
 -- the program
 abbrev pub program_app : App

@@ -2,14 +2,14 @@
 use Rattle.std.specs.Prelude.{◌≡◌, ◌≢◌, ◌⊎◌, List, [], ◌∷◌, Option, Some, codes}
 use Rattle.clap.specs.Words.{App, Row, Text, IsAmong, fault_of, subcommand_of}
 use Rattle.clap.specs.declared.error.kind.ErrorKind.{ErrorKind}
-use Rattle.clap.specs.declared.error.kind.ErrorKind.TheVariants.{DisplayHelp, OutOfMemory}
+use Rattle.clap.specs.declared.error.kind.ErrorKind.TheVariants.{DisplayHelp, DisplayVersion, OutOfMemory}
 use Rattle.vault_words.specs.Commands.{AsksBatch, AsksCheck, AsksGrant, AsksMerchant, AsksMigrate, AsksPipe}
 use Rattle.vault_words.specs.Commands.{AsksRight, AsksRights, AsksServe, AsksSweep, AsksTrial}
 use Rattle.vault_words.specs.declared.jobs.Job.{Job}
 use Rattle.vault_words.specs.declared.jobs.Job.TheVariants.{Trial, Merchant, Grant, Withdraw}
 use Rattle.vault_words.specs.declared.jobs.Job.TheVariants.{Rights, Pipe, Batch, Serve, Sweep, Check, Migrate}
 use Rattle.vault_words.specs.declared.jobs.JobFault.{JobFault}
-use Rattle.vault_words.specs.declared.jobs.JobFault.TheVariants.{Help, BadWords, Memory}
+use Rattle.vault_words.specs.declared.jobs.JobFault.TheVariants.{Help, Version, BadWords, Memory}
 
 -- the subcommand of this name, with these values, asks for the job
 abbrev pub Asks : Text → List Row → Job → Type 0
@@ -35,17 +35,19 @@ pub record IsAsked (app : App) (words : List Text) (job : Job) : Type 0 where
   pub taken : fault_of app words ≡ []
   pub asks : AsksBy (subcommand_of app words) job
 
--- Why words give no job. Help is only given where it is a fault of the words that they ask for it,
--- and is given where that is their only fault. Bad words ask for no job. A want of memory says
+-- Why words give no job. Help is only given where it is a fault of the words that they ask for it, and is
+-- given where that is their only fault; so with the version. Bad words ask for no job. A want of memory says
 -- nothing of the words.
 abbrev pub Explains : App → List Text → JobFault → Type 0
 Explains app words (Help text) = IsAmong DisplayHelp (fault_of app words)
-Explains app words BadWords =
-    (fault_of app words ≢ DisplayHelp ∷ []) × ((job : Job) → ¬ (IsAsked app words job))
+Explains app words Version = IsAmong DisplayVersion (fault_of app words)
+Explains app words BadWords = (fault_of app words ≢ DisplayHelp ∷ [])
+    × (fault_of app words ≢ DisplayVersion ∷ []) × ((job : Job) → ¬ (IsAsked app words job))
 Explains app words Memory = Unit {0}
 
 -- What a refusal of this kind comes to. The text of help may find no memory.
 abbrev pub StandsFor : ErrorKind → JobFault → Type 0
 StandsFor kind (Help text) = kind ≡ DisplayHelp
-StandsFor kind BadWords = (kind ≢ DisplayHelp) × (kind ≢ OutOfMemory)
+StandsFor kind Version = kind ≡ DisplayVersion
+StandsFor kind BadWords = (kind ≢ DisplayHelp) × (kind ≢ DisplayVersion) × (kind ≢ OutOfMemory)
 StandsFor kind Memory = (kind ≡ DisplayHelp) ⊎ (kind ≡ OutOfMemory)

@@ -61,9 +61,10 @@ HasDigits rows (Some digits) =
     (text : Text) × HasText rows (codes "digits") text × IsDigitText text
     × (digits ≡ repeated 300 text)
 
--- --connections gives this number, 1 to 1000000
-abbrev pub HasConnections : List Row → ℕ → Type 0
-HasConnections rows n = HasNumber rows (codes "connections") n × (1 ≤ n) × (n ≤ 1000000)
+-- --connections gives this number, 1 to 1000000, or is left out
+abbrev pub HasConnections : List Row → Option ℕ → Type 0
+HasConnections rows None = IsLeftOut rows (codes "connections")
+HasConnections rows (Some n) = HasNumber rows (codes "connections") n × (1 ≤ n) × (n ≤ 1000000)
 
 -- --port gives this port, at most 65535, or is left out, and the port is 0
 abbrev pub HasPort : List Row → ℕ → Type 0

@@ -74,6 +74,7 @@ fn fault_of(alloc: Global, error: &Error) -> JobFault
             Ok(text) => JobFault::Help(text),
             Err(_) => JobFault::Memory,
         },
+        ErrorKind::DisplayVersion => JobFault::Version,
         _ => JobFault::BadWords,
     }
 }

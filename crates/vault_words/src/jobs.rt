@@ -11,11 +11,16 @@ use crate::commands::serve::ServeJob;
 use crate::commands::sweep::SweepJob;
 use crate::commands::trial::TrialJob;
 
+/// The version of the program.
+pub const VERSION: &str = "0.4.0";
+
 /// Why words are no job.
 #[derive(Debug, Drop)]
 pub enum JobFault {
     /// Help was asked for. This is its text.
     Help(String),
+    /// The version was asked for.
+    Version,
     /// The words ask for no job.
     BadWords,
     /// Memory was refused.

@@ -15,15 +15,17 @@ use crate::commands::rights_file::rights;
 use crate::commands::serve::serve;
 use crate::commands::sweep::sweep;
 use crate::commands::trial::trial;
+use crate::jobs::VERSION;
 use clap::Command;
 use std::alloc::{AllocError, Global};
 
-/// The program's command without its subcommands, one of which must be named.
+/// The program's command without its subcommands, one of which must be named; it has a version.
 fn root<'a>(alloc: Global) -> Command<'a>
     ensures { IsApp result root_app }
 {
     let about = "Keeps card numbers, and gives tokens for them";
-    command(alloc, "vault", about).subcommand_required(true)
+    let named = command(alloc, "vault", about).version(VERSION);
+    named.subcommand_required(true)
 }
 
 /// The command with one more subcommand, where there was memory for both.

@@ -103,15 +103,18 @@ pub(crate) fn digits(matches: &ArgMatches<'_>) -> Result<Option<Digits>, BadValu
     }
 }
 
-/// How many connections `--connections` gives.
-pub(crate) fn connections(matches: &ArgMatches<'_>) -> Result<u64, BadValue>
+/// How many connections `--connections` gives, if it is there.
+pub(crate) fn connections(matches: &ArgMatches<'_>) -> Result<Option<u64>, BadValue>
     ensures { Finds result (HasConnections (rows_of (found_of matches.now))) }
 {
+    if is_left_out(matches, "connections") {
+        return Ok(None);
+    }
     let count = number(matches, "connections")?;
     if count == 0 || count > MOST_CONNECTIONS {
         return Err(BadValue);
     }
-    Ok(count)
+    Ok(Some(count))
 }
 
 /// The port that `--port` gives, or 0, any free one, where it isn't there.

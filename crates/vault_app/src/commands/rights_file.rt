@@ -1,5 +1,5 @@
 //! `rights`: the rights that a file lists.
-ghost use Rattle.std.specs.Prelude.{◌≡◌, IfErr, IfOk};
+ghost use Rattle.std.specs.Prelude.{◌≡◌, ◌≢◌, IfErr, IfOk};
 ghost use Rattle.vault_wire.specs.Watching.{inner_of};
 ghost use Rattle.vault_words.specs.declared.jobs.Job.{Job};
 ghost use Rattle.vault_jobs.specs.Streams.{Streams, streams};
@@ -9,7 +9,7 @@ ghost use Rattle.vault_app.specs.Rights.{IsListed, IsUnlisted};
 use crate::ending::Ending;
 use crate::on_file::do_on_file;
 use std::fs;
-use std::io::{Read, Write};
+use std::io::{ErrorKind, Read, Write};
 use vault_core::moment::Moment;
 use vault_core::name::{Caller, MerchantId};
 use vault_core::right::Right;
@@ -21,6 +21,17 @@ use vault_rights::read::read_rights;
 use vault_wire::watched::Watched;
 use vault_words::commands::rights_file::RightsFileJob;
 
+/// Why a file isn't read that the host refuses so.
+fn why_unread(kind: ErrorKind) -> Unread
+    ensures memory { kind ≡ ErrorKind.OutOfMemory → result ≡ Unread.Memory }
+    ensures refused { kind ≢ ErrorKind.OutOfMemory → result ≡ Unread.File }
+{
+    match kind {
+        ErrorKind::OutOfMemory => Unread::Memory,
+        _ => Unread::File,
+    }
+}
+
 /// The rights that a file lists, or how the job ends without them: refused by 70 to 73 or 75, or stopped by
 /// 74 or, where the file can't be read, by 80.
 fn read(
@@ -30,8 +41,9 @@ fn read(
     ensures listed { IfOk result (λ rows. IsListed rows.items) }
     ensures unlisted { IfErr result IsUnlisted }
 {
-    let Ok(text) = fs::read(rt, path) else {
-        return Err(Ending::Stopped(Stop::Rights(Unread::File)));
+    let text = match fs::read(rt, path) {
+        Ok(text) => text,
+        Err(error) => return Err(Ending::Stopped(Stop::Rights(why_unread(error.kind())))),
     };
     match read_rights(rt.alloc(), &text) {
         Ok(rows) => Ok(rows),

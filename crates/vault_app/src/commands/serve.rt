@@ -12,7 +12,10 @@ use vault_jobs::task::Task;
 use vault_wire::watched::Watched;
 use vault_words::commands::serve::ServeJob;
 
-/// Serves so many connections on a port, by the vault of a file.
+/// More connections than any service lives to see: it goes on until it is ended.
+const WITHOUT_END: u64 = u64::MAX;
+
+/// Serves so many connections on a port, or without an end, by the vault of a file.
 pub(crate) fn serve<R: Read, W: Write>(
     rt: &HostRuntime,
     job: &ServeJob<'_>,
@@ -25,7 +28,7 @@ pub(crate) fn serve<R: Read, W: Write>(
     do_on_file(
         rt,
         job.file,
-        &Task::Serve(job.port, job.connections),
+        &Task::Serve(job.port, job.connections.unwrap_or(WITHOUT_END)),
         input,
         output,
     )

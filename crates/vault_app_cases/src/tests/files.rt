@@ -355,7 +355,13 @@ const STATUSES: [Step; 4] = [
         "refused 7\n",
         "",
     ),
-    ("vault serve FILE", "", 2, "", "vault: bad words\n"),
+    (
+        "vault serve --connections 0 FILE",
+        "",
+        2,
+        "",
+        "vault: bad words\n",
+    ),
     (
         "vault check app_statuses",
         "",

@@ -3,6 +3,7 @@ mod cases;
 mod folder;
 mod met;
 mod page;
+mod seen;
 mod stand_in;
 pub mod steps;
 mod stopped;

@@ -1,11 +1,11 @@
-//! A clock of the tests' own.
+//! Clocks of the tests' own.
 use std::cell::Cell;
 use std::io;
 use std::io::{Error, ErrorKind};
 use std::rt::Clock;
 use std::time::Duration;
 
-/// A clock that stands at a number of seconds, and can't be read so many times before.
+/// A clock that stands at a number of seconds, and can't be read so many times before. No time passes by it.
 #[derive(Drop)]
 pub struct StandingClock {
     seconds: u64,
@@ -32,7 +32,7 @@ impl StandingClock {
 
 impl Clock for StandingClock {
     fn monotonic(&self) -> io::Result<Duration> {
-        self.since_1970()
+        Ok(Duration::from_secs(self.seconds))
     }
 
     fn since_1970(&self) -> io::Result<Duration> {
@@ -42,5 +42,33 @@ impl Clock for StandingClock {
             return Err(Error::from(ErrorKind::Other));
         }
         Ok(Duration::from_secs(self.seconds))
+    }
+}
+
+/// A clock that stands at 1000, and by which so many seconds pass each time that it is asked how many did.
+#[derive(Drop)]
+pub struct StepClock {
+    step: u64,
+    passed: Cell<u64>,
+}
+
+impl StepClock {
+    /// A clock by which so many seconds pass at a time.
+    pub fn of(step: u64) -> StepClock {
+        StepClock {
+            step,
+            passed: Cell::new(0),
+        }
+    }
+}
+
+impl Clock for StepClock {
+    fn monotonic(&self) -> io::Result<Duration> {
+        self.passed.set(self.passed.get().saturating_add(self.step));
+        Ok(Duration::from_secs(self.passed.get()))
+    }
+
+    fn since_1970(&self) -> io::Result<Duration> {
+        Ok(Duration::from_secs(1000))
     }
 }

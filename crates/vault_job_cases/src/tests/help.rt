@@ -2,7 +2,7 @@
 use super::words::words_of;
 use std::alloc::Global;
 use vault_words::job::job;
-use vault_words::jobs::JobFault;
+use vault_words::jobs::{JobFault, VERSION};
 
 /// `vault help`
 const PROGRAM: &str = "\
@@ -25,7 +25,8 @@ Commands:
   help      Print this message or the help of the given subcommand(s)
 
 Options:
-  -h, --help  Print help
+  -h, --help     Print help
+  -V, --version  Print version
 ";
 
 /// `vault help merchant`
@@ -123,19 +124,21 @@ number, `refused` and the number of the refusal.
 const SERVE: &str = "\
 Answers messages of connections by the vault in FILE
 
-Usage: vault serve [OPTIONS] --connections <N> <FILE>
+Usage: vault serve [OPTIONS] <FILE>
 
 Arguments:
   <FILE>  The vault's file; it is made if it isn't there
 
 Options:
-      --connections <N>  Ends after this many connections, 1 to 1000000
+      --connections <N>  Ends after N connections, 1 to 1000000; else never
       --port <P>         The port, 0 to 65535; 0, any free one, if left out
   -h, --help             Print help
 
 It listens on 127.0.0.1 alone. The line `listening P` on standard output says
-that it does, and P is its port. Connections are served one after the other,
-and one whose peer sends or takes nothing for 5 seconds is ended.
+that it does, and P is its port. Connections are served one after the other.
+A message has to be whole 5 seconds after its connection was accepted, or after
+the answer before it; an answer has to be taken within 5 seconds. A connection
+lasts 60 seconds at most.
 ";
 
 /// `vault help sweep`
@@ -217,6 +220,20 @@ fn help_is_the_text_of_the_command(rt: HostRuntime) {
     for (line, wanted) in TEXTS {
         assert!(rt; says(rt.alloc(), line, wanted), "{line}");
     }
+}
+
+/// Whether the words of a line ask for the version alone.
+fn is_version(alloc: Global, line: &str) -> bool {
+    let words = words_of(alloc, line, "");
+    matches!(job(alloc, &words), Err(JobFault::Version))
+}
+
+#[test]
+fn the_version_is_asked_by_either_word(rt: HostRuntime) {
+    for line in ["vault --version", "vault -V"] {
+        assert!(rt; is_version(rt.alloc(), line), "{line}");
+    }
+    assert!(rt; VERSION == "0.4.0");
 }
 
 /// Whether a text has at most 24 lines, of at most 80 columns.

@@ -4,13 +4,13 @@ use std::alloc::Global;
 use vault_words::job::job;
 use vault_words::jobs::JobFault;
 
-/// Whether words ask for a job, or are bad; help and want of memory are neither.
+/// Whether words ask for a job, or are bad; help, the version and want of memory are neither.
 fn is_taken(alloc: Global, line: &str, value: &str) -> Option<bool> {
     let words = words_of(alloc, line, value);
     match job(alloc, &words) {
         Ok(_) => Some(true),
         Err(JobFault::BadWords) => Some(false),
-        Err(JobFault::Help(_)) | Err(JobFault::Memory) => None,
+        Err(JobFault::Help(_) | JobFault::Version | JobFault::Memory) => None,
     }
 }
 
@@ -147,7 +147,7 @@ const MISSING: [&str; 25] = [
     "vault batch",
     "vault batch till-1 shop1",
     "vault batch v.db till-1 shop1 --digits",
-    "vault serve v.db",
+    "vault serve",
     "vault serve --connections 1",
     "vault sweep",
     "vault sweep back shop1",
@@ -163,7 +163,7 @@ fn missing_words_are_bad(rt: HostRuntime) {
 
 const TOO_MANY: [&str; 22] = [
     "vault trail",
-    "vault --version",
+    "vault check --version v.db",
     "vault help trail",
     "vault trial till-1 shop1 60 60",
     "vault merchant v.db shop1 60 0 0",

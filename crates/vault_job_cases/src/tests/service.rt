@@ -12,7 +12,8 @@ use std::io::{Write, read_to_string};
 use std::net::{Net, OpenListener, Shutdown, TcpListener, TcpStream};
 use std::time::Duration;
 use vault_listen::fault::ListenFault;
-use vault_listen::service::{PATIENCE, serve_on, serve_within};
+use vault_listen::peer::{LONGEST, Limits, PATIENCE};
+use vault_listen::service::{serve_on, serve_within};
 use vault_script::case::wrong;
 use vault_store::memory::MemTables;
 use vault_store::tables::Tables;
@@ -77,7 +78,7 @@ fn is_told(alloc: Global, peer: TcpStream, wanted: &str) -> bool {
     }
 }
 
-/// Serves so many connections at a moment, where a peer may be silent for 200 milliseconds.
+/// Serves so many connections at a moment, where a message or an answer may take 200 milliseconds.
 fn serve_at<L: OpenListener<Stream = TcpStream>, T: Tables>(
     alloc: Global,
     listener: &L,
@@ -86,14 +87,17 @@ fn serve_at<L: OpenListener<Stream = TcpStream>, T: Tables>(
     vault: &mut Vault<T>,
 ) -> Result<(), ListenFault> {
     let mut generator = StdRng::seed_from_u64(7);
-    let patience = Duration::from_millis(200);
+    let limits = Limits {
+        turn: Duration::from_millis(200),
+        connection: Duration::from_secs(60),
+    };
     serve_within(
         alloc,
         &StandingClock::at(moment),
         &mut generator,
         listener,
         connections,
-        patience,
+        limits,
         vault,
     )
 }
@@ -114,7 +118,8 @@ fn is_answered<H: Net<Listener = TcpListener, Stream = TcpStream> + AllocGlobal>
     let mut generator = StdRng::seed_from_u64(7);
     let clock = StandingClock::at(1000);
     let ended = serve_on(rt.alloc(), &clock, &mut generator, &listener, 1, &mut vault);
-    Ok(ended == Ok(()) && is_told(rt.alloc(), asked, ANSWERED) && PATIENCE == 5)
+    let are_limits = PATIENCE == 5 && LONGEST == 60;
+    Ok(ended == Ok(()) && are_limits && is_told(rt.alloc(), asked, ANSWERED))
 }
 
 #[test]

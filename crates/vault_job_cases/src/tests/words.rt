@@ -83,11 +83,11 @@ const WITH_OPTIONS: [(&str, &str); 17] = [
     ),
     (
         "vault serve --port 8080 --connections 3 v.db",
-        "Serve(ServeJob { connections: 3, port: 8080, file: \"v.db\" })",
+        "Serve(ServeJob { connections: Some(3), port: 8080, file: \"v.db\" })",
     ),
     (
         "vault serve v.db --connections=3 --port=8080",
-        "Serve(ServeJob { connections: 3, port: 8080, file: \"v.db\" })",
+        "Serve(ServeJob { connections: Some(3), port: 8080, file: \"v.db\" })",
     ),
     (
         "vault sweep --now 12 v.db back shop1",
@@ -102,7 +102,7 @@ const WITH_OPTIONS: [(&str, &str); 17] = [
 ];
 
 /// Words without options that may be left out, and the jobs that they ask for.
-const WITHOUT_OPTIONS: [(&str, &str); 12] = [
+const WITHOUT_OPTIONS: [(&str, &str); 13] = [
     (
         "vault trial till-1 shop1 60",
         "Trial(TrialJob { now: None, digits: None, caller: \"till-1\", \
@@ -137,8 +137,12 @@ const WITHOUT_OPTIONS: [(&str, &str); 12] = [
          merchant: \"shop1\" })",
     ),
     (
+        "vault serve v.db",
+        "Serve(ServeJob { connections: None, port: 0, file: \"v.db\" })",
+    ),
+    (
         "vault serve --connections 1 v.db",
-        "Serve(ServeJob { connections: 1, port: 0, file: \"v.db\" })",
+        "Serve(ServeJob { connections: Some(1), port: 0, file: \"v.db\" })",
     ),
     (
         "vault sweep v.db back shop1",

@@ -1,20 +1,20 @@
-//! `serve --connections N [--port P] FILE`
-ghost use Rattle.std.specs.Prelude.{◌≡◌, IfOk, false};
-ghost use Rattle.clap.specs.Words.{found_of, rows_of, rule_of};
-ghost use Rattle.vault_words.specs.Commands.{AsksServe, connections_rule, serve_app};
+//! `serve [--connections N] [--port P] FILE`
+ghost use Rattle.std.specs.Prelude.{IfOk};
+ghost use Rattle.clap.specs.Words.{found_of, rows_of};
+ghost use Rattle.vault_words.specs.Commands.{AsksServe, serve_app};
 ghost use Rattle.vault_words.specs.Rules.{IsApp};
 ghost use Rattle.vault_words.specs.Values.{Finds};
 
 use crate::args::{self, add};
 use crate::values::{self, BadValue};
-use clap::{Arg, ArgMatches, Command};
+use clap::{ArgMatches, Command};
 use std::alloc::{AllocError, Global};
 
 /// What connections are served with.
 #[derive(Clone, Copy, Debug)]
 pub struct ServeJob<'a> {
-    /// How many connections are served.
-    pub connections: u64,
+    /// After how many connections it ends; none where it goes on until it is ended.
+    pub connections: Option<u64>,
     /// The port at which they are taken; 0 is any free one.
     pub port: u16,
     /// The file of the vault.
@@ -37,27 +37,22 @@ impl<'a> ServeJob<'a> {
 /// What help says of `serve` behind its words.
 const NOTES: &str = "\
 It listens on 127.0.0.1 alone. The line `listening P` on standard output says
-that it does, and P is its port. Connections are served one after the other,
-and one whose peer sends or takes nothing for 5 seconds is ended.";
-
-/// How many connections are served.
-fn connections<'a>(alloc: Global) -> Arg<'a>
-    ensures rule { rule_of result ≡ connections_rule }
-    ensures local { result.global ≡ false }
-{
-    let help = "Ends after this many connections, 1 to 1000000";
-    args::number_after(alloc, "connections", "N", help).required(true)
-}
+that it does, and P is its port. Connections are served one after the other.
+A message has to be whole 5 seconds after its connection was accepted, or after
+the answer before it; an answer has to be taken within 5 seconds. A connection
+lasts 60 seconds at most.";
 
 /// The command `serve`.
 pub(crate) fn serve<'a>(alloc: Global) -> Result<Command<'a>, AllocError>
     ensures { IfOk result (λ c. IsApp c serve_app) }
 {
     let about = "Answers messages of connections by the vault in FILE";
+    let count = "Ends after N connections, 1 to 1000000; else never";
+    let connections = args::number_after(alloc, "connections", "N", count);
     let which = "The port, 0 to 65535; 0, any free one, if left out";
     let port = args::number_after(alloc, "port", "P", which);
     let command = Ok(args::with_notes(args::command(alloc, "serve", about), NOTES));
-    let command = add(command, connections(alloc));
+    let command = add(command, connections);
     let command = add(command, port);
     add(command, args::file(alloc))
 }

@@ -80,16 +80,17 @@ make vault_blank_words/a/ = NotFound
 there -new = nothing
 drop vault_blank_words = done";
 
-/// A second name that is no file of one name is refused, and left.
+/// A second name that is no file of one name is refused, and left; so is what a link there leads to.
 const ODD: &str = "folder vault_blank_odd = done
 folder vault_blank_odd/a-new = done
 mine vault_blank_odd/nowhere = done
 link vault_blank_odd/b-new = done
-hard vault_blank_odd/nowhere vault_blank_odd/c-new = done
 make vault_blank_odd/a = Unsupported
 there vault_blank_odd/a = nothing
 make vault_blank_odd/b = Unsupported
 there vault_blank_odd/b = nothing
+has-mine vault_blank_odd/nowhere = done
+hard vault_blank_odd/nowhere vault_blank_odd/c-new = done
 make vault_blank_odd/c = Unsupported
 there vault_blank_odd/c = nothing
 there vault_blank_odd/a-new = folder

@@ -12,8 +12,10 @@ pub enum Call {
     Look,
     Open,
     Hold,
-    /// The mode, the length, the bytes, and that the disk keeps them.
+    /// The mode, the length and the bytes.
     Fill,
+    /// That the disk keeps them.
+    Keep,
     Link,
     Remove,
 }
@@ -81,12 +83,12 @@ impl<'a, F: OpenFile, B: Before> OpenFile for StandInFile<'a, F, B> {
     }
 
     fn sync_all(&self) -> io::Result<()> {
-        self.happens.before(Call::Fill)?;
+        self.happens.before(Call::Keep)?;
         self.file.sync_all()
     }
 
     fn sync_data(&self) -> io::Result<()> {
-        self.happens.before(Call::Fill)?;
+        self.happens.before(Call::Keep)?;
         self.file.sync_data()
     }
 

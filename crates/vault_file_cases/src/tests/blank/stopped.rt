@@ -129,7 +129,7 @@ fn is_taken_away(rt: &HostRuntime, call: Call) -> bool {
 
 #[test]
 fn what_can_not_be_filled_or_linked_is_taken_away(rt: HostRuntime) {
-    for call in [Call::Fill, Call::Link] {
+    for call in [Call::Fill, Call::Keep, Call::Link] {
         assert!(rt; is_taken_away(&rt, call), "{call:?}");
     }
 }

@@ -41,11 +41,15 @@ migrate vault_file_foreign/a = 33
 open vault_file_foreign/a = 33
 remove vault_file_foreign = done";
 
-/// A new file is its owner's alone.
+/// A new file is its owner's alone; a check makes none.
 const NEW: &str = "folder vault_file_new = done
 open vault_file_new/a = opened
 check vault_file_new/a = 0 0 0
 check vault_file_new/b = 0 0 0
+nothing vault_file_new/b = done
+nothing vault_file_new/b-new = done
+nothing vault_file_new/b-wal = done
+migrate vault_file_new/b = schema 4
 mode vault_file_new/a = 600
 mode vault_file_new/a-wal = 600
 mode vault_file_new/b = 600

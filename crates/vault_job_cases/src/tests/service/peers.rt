@@ -1,15 +1,16 @@
 //! Peers that are silent, cut short, gone or in the way: the service goes on to the next one.
 use super::{ANSWERED, ASKED, is_served, is_told, listen, open_peer, peer, shop};
-use crate::tests::clocks::StandingClock;
+use crate::tests::clocks::{StandingClock, StepClock};
 use rand::SeedableRng;
 use rand::rngs::StdRng;
 use std::alloc::{AllocError, Global};
 use std::io;
-use std::io::read_to_string;
-use std::net::{Net, TcpListener, TcpStream};
+use std::io::{Read, Write, read_to_string};
+use std::net::{Net, OpenListener, TcpListener, TcpStream};
 use std::time::Duration;
 use vault_listen::linger::discard;
-use vault_listen::service::{PATIENCE, limit_waits, serve_within};
+use vault_listen::peer::{Limits, PATIENCE, Peer, PeerReader, PeerWriter};
+use vault_listen::service::{serve_on, serve_within};
 
 /// Whether peers that go away end their own connection alone.
 fn go_away<H: Net<Listener = TcpListener, Stream = TcpStream> + AllocGlobal>(
@@ -52,11 +53,15 @@ fn an_idle_peer_is_waited_for_as_long_as_patience_lasts(rt: HostRuntime) {
 /// Whether the waits of a stream are limited to five seconds both ways.
 fn are_limited<H: Net<Listener = TcpListener, Stream = TcpStream>>(rt: &H) -> io::Result<bool> {
     let listener = listen(rt)?;
-    let stream = peer(rt, &listener, b"")?;
-    let patience = Duration::from_secs(PATIENCE);
-    limit_waits(&stream, patience)?;
-    let is_read = stream.read_timeout()? == Some(patience);
-    Ok(is_read && stream.write_timeout()? == Some(patience))
+    let _other = open_peer(rt, &listener, b"a")?;
+    let (stream, _) = listener.accept()?;
+    let clock = StandingClock::at(1000);
+    let peer = Peer::new(&stream, &clock, Limits::of_service())?;
+    let read = PeerReader::new(&peer).read(&mut [0; 9])?;
+    let written = PeerWriter::new(&peer).write(b"ab")?;
+    let patience = Some(Duration::from_secs(PATIENCE));
+    let is_waited = stream.read_timeout()? == patience && stream.write_timeout()? == patience;
+    Ok(read == 1 && written == 2 && is_waited)
 }
 
 #[test]
@@ -64,7 +69,13 @@ fn waits_are_limited_both_ways(rt: HostRuntime) {
     assert!(rt; are_limited(&rt).unwrap_or(false));
 }
 
-/// Whether a timeout that can't be set ends the connection alone.
+/// A service by which a peer has no time.
+const NO_TIME: Limits = Limits {
+    turn: Duration::ZERO,
+    connection: Duration::ZERO,
+};
+
+/// Whether a peer that has no time ends its connection alone.
 fn ends_alone<H: Net<Listener = TcpListener, Stream = TcpStream> + AllocGlobal>(
     rt: &H,
 ) -> io::Result<bool> {
@@ -78,15 +89,51 @@ fn ends_alone<H: Net<Listener = TcpListener, Stream = TcpStream> + AllocGlobal>(
         &mut generator,
         &listener,
         1,
-        Duration::from_secs(0),
+        NO_TIME,
         &mut vault,
     );
     Ok(ended == Ok(()) && is_told(rt.alloc(), asked, ""))
 }
 
 #[test]
-fn a_timeout_that_cant_be_set_ends_the_connection_alone(rt: HostRuntime) {
+fn a_peer_without_time_ends_its_connection_alone(rt: HostRuntime) {
     assert!(rt; ends_alone(&rt).unwrap_or(false));
+}
+
+/// Whether a peer is sent this. A connection that ends with unread bytes is reset, and then it is sent nothing.
+fn is_told_so(alloc: Global, peer: TcpStream, wanted: &str) -> bool {
+    match read_to_string(alloc, peer) {
+        Ok(text) => text.as_str() == wanted,
+        Err(_) => wanted.is_empty(),
+    }
+}
+
+/// Whether the service answers so many of a peer's messages, where so many seconds pass each time that its
+/// clock is asked: once for a connection and for each read, and three times for each message.
+fn are_answered<H: Net<Listener = TcpListener, Stream = TcpStream> + AllocGlobal>(
+    rt: &H,
+    step: u64,
+    answers: u64,
+) -> io::Result<bool> {
+    let listener = listen(rt)?;
+    let asked = repeated(rt.alloc(), "", ASKED, 9)?;
+    let asked = peer(rt, &listener, asked.as_bytes())?;
+    let wanted = repeated(rt.alloc(), "", ANSWERED, answers)?;
+    let mut vault = shop(rt.alloc());
+    let mut generator = StdRng::seed_from_u64(7);
+    let clock = StepClock::of(step);
+    let ended = serve_on(rt.alloc(), &clock, &mut generator, &listener, 1, &mut vault);
+    Ok(ended == Ok(()) && is_told_so(rt.alloc(), asked, wanted.as_str()))
+}
+
+#[test]
+fn a_message_has_5_seconds_and_a_connection_60(rt: HostRuntime) {
+    for (step, answers) in [(1, 9), (4, 5), (5, 0), (6, 0)] {
+        assert!(rt;
+            are_answered(&rt, step, answers).unwrap_or(false),
+            "{step} seconds"
+        );
+    }
 }
 
 /// A text so many times, behind another one.

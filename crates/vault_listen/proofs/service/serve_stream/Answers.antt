@@ -3,8 +3,8 @@ use Rattle.vault_listen.specs.Service.{vault_passing}
 use Rattle.vault_listen.proofs.Ending.{end_kept, end_undecided, lost_kept}
 use Rattle.vault_listen.proofs.service.serve_stream.Goals as goal
 
-pub returns-then-is_err-clause-left : goal.returns-then-is_err-clause-left
-returns-then-is_err-clause-left g c =
+pub returns-in_default-clause-left : goal.returns-in_default-clause-left
+returns-in_default-clause-left g c =
     lost_kept (vault_passing g.T.Tables.is_honest g.T.Tables.holds g.T.Tables.leaves c.args.vault.now
     c.args.vault.now) (λ V b. (b.1, g.met.T.Tables.settled _ V b.1.0 b.0))
 

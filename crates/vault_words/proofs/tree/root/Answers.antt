@@ -1,9 +1,13 @@
-use Rattle.std.proofs.Common.{codes}
-use Rattle.clap.specs.Words.{new_app}
-use Rattle.vault_words.proofs.Added.{with_required}
+use Rattle.std.proofs.Common.{codes, true}
+use Rattle.clap.specs.Words.{App, new_app}
+use Rattle.vault_words.proofs.Added.{with_required, with_version}
 use Rattle.vault_words.proofs.tree.root.Goals as goal
 
 pub returns : goal.returns
 returns c =
+    let bare : App = new_app (codes "vault") in
+    let told = with_version c.command.result c.version-named.result bare _ c.version-named.ensures
+    c.command.ensures in
     let set = c.subcommand_required in
-    with_required c.command.result set.result (new_app (codes "vault")) set.ensures c.command.ensures
+    with_required c.version-named.result set.result (record bare { top = record bare.top { has_version = true } })
+    set.ensures told

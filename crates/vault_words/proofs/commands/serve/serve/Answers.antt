@@ -3,7 +3,8 @@ use Rattle.vault_words.proofs.commands.serve.serve.Goals as goal
 pub returns : goal.returns
 returns c =
     let h₀ = c.with_notes.ensures _ c.command.ensures in
-    let h₁ = c.add-command.ensures _ _ h₀ c.connections.ensures.rule c.connections.ensures.local in
+    let connections = c.number_after-connections.ensures in
+    let h₁ = c.add-command.ensures _ _ h₀ connections.rule connections.local in
     let port = c.number_after-port.ensures in
     let h₂ = c.add-command-2.ensures _ _ h₁ port.rule port.local in
     let last = c.file.ensures in

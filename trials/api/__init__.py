@@ -1,0 +1,1 @@
+"""The description of the API against what the service answers."""

@@ -1,0 +1,1 @@
+"""A front over TLS before two vaults."""

@@ -1,0 +1,52 @@
+"""Clients of the front, each with the certificate of a caller."""
+
+import http.client
+import json
+import ssl
+from typing import NamedTuple
+
+NUMBER = "4111111111111111"
+
+
+class Answer(NamedTuple):
+    status: int
+    fields: dict
+    body: bytes
+
+    def json(self):
+        return json.loads(self.body)
+
+
+class Client:
+    """One connection to the front, which is made anew where it was ended."""
+
+    def __init__(self, port, caller=None):
+        self.port = port
+        self.context = ssl.create_default_context(cafile="callers.pem")
+        if caller:
+            self.context.load_cert_chain(f"{caller}.pem", f"{caller}.key")
+        self.connection = None
+
+    def connect(self):
+        self.connection = http.client.HTTPSConnection(
+            "localhost", self.port, context=self.context, timeout=60
+        )
+
+    def ask(self, method, target, body=None, **fields):
+        """Sends one request, over the same connection as the one before where it is still open."""
+        if self.connection is None:
+            self.connect()
+        try:
+            self.connection.request(method, target, body, fields)
+            found = self.connection.getresponse()
+            return Answer(found.status, dict(found.getheaders()), found.read())
+        except (http.client.HTTPException, OSError):
+            self.connection.close()
+            self.connection = None
+            raise
+
+    def token(self, merchant, request, **fields):
+        """Asks for a token of one card number."""
+        body = json.dumps({"number": NUMBER, "use": "single"})
+        fields["X-Vault-Request"] = str(request)
+        return self.ask("POST", f"/v1/merchants/{merchant}/tokens", body, **fields)

@@ -1,0 +1,84 @@
+"""The two vaults and the front before them."""
+
+import os
+import re
+import socket
+import subprocess
+import time
+
+from shared.runs import must
+
+LISTENING = re.compile(rb"listening ([0-9]+)\n")
+
+
+def free_port():
+    """A port that nobody listens on just now."""
+    with socket.create_server(("127.0.0.1", 0)) as listening:
+        return listening.getsockname()[1]
+
+
+class Vault:
+    """A vault with one merchant, served on a port of its own; it can be killed and started again."""
+
+    def __init__(self, program, merchant, till):
+        self.program, self.file, self.port = program, f"{merchant}.db", free_port()
+        must(program, "merchant", self.file, merchant, 86400, 0)
+        must(program, "grant", self.file, till, merchant, "tokenize")
+        for right in ("detokenize", "audit"):
+            must(program, "grant", self.file, "back", merchant, right)
+        self.start()
+
+    def start(self):
+        """Starts it as the unit does: without a number of connections."""
+        words = [self.program, "serve", "--port", str(self.port), self.file]
+        self.process = subprocess.Popen(words, stdout=subprocess.PIPE)
+        line = self.process.stdout.readline()
+        if not LISTENING.fullmatch(line):
+            raise SystemExit(f"the vault said {line!r}\n0 passed, 1 failed")
+
+    def kill(self):
+        """Ends it as nothing can prevent."""
+        self.process.kill()
+        self.process.wait()
+        self.process.stdout.close()
+
+
+class Front:
+    """nginx by the file that an installation starts from, with this machine's ports and folders."""
+
+    def __init__(self, configuration, first, second):
+        self.port = free_port()
+        folder = os.getcwd()
+        text = open(configuration).read()
+        for old, new in (
+            ("/etc/vault/", f"{folder}/"),
+            ("/var/log/nginx/", f"{folder}/"),
+            ("/run/nginx.pid", f"{folder}/nginx.pid"),
+            ("listen 8443 ssl", f"listen 127.0.0.1:{self.port} ssl"),
+            ("127.0.0.1:8087", f"127.0.0.1:{first.port}"),
+            ("# ~^/v1/merchants/shop2/ 127.0.0.1:8088", f"~^/v1/merchants/shop2/ 127.0.0.1:{second.port}"),
+        ):
+            if text.count(old) < 1:
+                raise SystemExit(f"nginx.conf hasn't {old}\n0 passed, 1 failed")
+            text = text.replace(old, new)
+        with open("nginx.conf", "w") as file:
+            file.write(text)
+        os.chmod(folder, 0o755)
+        words = ["nginx", "-c", f"{folder}/nginx.conf", "-g", "daemon off;"]
+        self.process = subprocess.Popen(words, stderr=subprocess.PIPE)
+        self.wait()
+
+    def wait(self):
+        """Until it takes connections."""
+        for _ in range(100):
+            try:
+                socket.create_connection(("127.0.0.1", self.port)).close()
+                return
+            except OSError:
+                time.sleep(0.05)
+        self.process.kill()
+        raise SystemExit(f"the front didn't start: {self.process.stderr.read()}\n0 passed, 1 failed")
+
+    def end(self):
+        self.process.terminate()
+        self.process.communicate()

@@ -1,0 +1,1 @@
+"""The blocks of the page for operators, run as they stand."""

@@ -1,0 +1,76 @@
+#!/bin/sh
+# The package and the unit: built, looked at by lintian and systemd-analyze, and installed, run and removed
+# where that is allowed. sh trials/package.sh [PROGRAM]
+set -eu
+. "$(dirname "$0")/shared/begin.sh"
+. "$here/shared/need.sh"
+passed=0
+failed=0
+
+# One step: its name, and whether it holds.
+step() {
+    if [ "$2" = yes ]; then
+        passed=$((passed + 1))
+    else
+        failed=$((failed + 1))
+        echo "FAILED  $1${3:+: $3}"
+    fi
+}
+
+# yes or no, by a command's status.
+holds() { if "$@" > said 2>&1; then echo yes; else echo no; fi; }
+
+deploy=$here/../deploy
+step "the package is built" "$(holds sh "$deploy/package.sh" "$program" .)" "$(cat said 2> /dev/null || :)"
+package=$(echo vault_*_amd64.deb)
+if need lintian lintian; then
+    step "lintian finds no error" "$(holds lintian --fail-on error --allow-root "$package")" "$(cat said)"
+else
+    echo "lintian isn't there: that step is left out"
+fi
+
+# The unit, with a program that is there.
+mkdir unit
+sed "s#/usr/bin/vault#$program#" "$deploy/vault.service" > unit/vault.service
+if need systemd-analyze systemd; then
+    step "the unit is verified" "$(holds systemd-analyze verify --man=no unit/vault.service)" "$(cat said)"
+    step "nothing is said of it" "$([ -s said ] && echo no || echo yes)" "$(cat said)"
+    systemd-analyze security --offline=yes unit/vault.service > said
+    level=$(sed -n 's/.*exposure level.*: \([0-9.]*\) .*/\1/p' said)
+    small=$(awk -v it="$level" 'BEGIN { print it != "" && it <= 1.5 ? "yes" : "no" }')
+    step "its exposure is at most 1.5" "$small" "$level"
+else
+    echo "systemd-analyze isn't there: those steps are left out"
+fi
+
+# The words of the completions are those of the help.
+words=$("$program" help | sed -n 's/^  \([a-z]*\)  .*/\1/p' | tr '\n' ' ')
+completed=$(sed -n 's/^    local commands="\(.*\)"$/\1/p' "$deploy/vault.bash-completion")
+step "the commands are completed" "$([ "$words" = "$completed " ] && echo yes || echo no)" "$words"
+for command in $completed; do
+    [ "$command" != help ] || continue
+    "$program" help "$command" | sed -n 's/^ *\(-h, \)\{0,1\}\(--[a-z]*\).*/\2/p' | sort > options
+    bash -c '. "$1"; COMP_WORDS=(vault "$2" -) COMP_CWORD=2; _vault; printf "%s\n" "${COMPREPLY[@]}"' \
+        bash "$deploy/vault.bash-completion" "$command" | sort > offered
+    step "the options of $command are completed" "$(holds diff options offered)" "$(cat said)"
+done
+
+# Installed, run and removed, by root and where no vault is: nothing of one that is there is touched.
+is_free() { [ ! -e /usr/bin/vault ] && [ ! -e /var/lib/vault ] && ! getent passwd vault > /dev/null; }
+may_install() { [ "$(id -u)" = 0 ] && [ -w /usr/bin ] && [ -w /var/lib/dpkg ]; }
+if may_install && [ "${TRY_INSTALL:-1}" = 1 ] && is_free; then
+    step "it is installed" "$(holds apt-get install -y "./$package")" "$(tail -n 3 said)"
+    step "its program runs" "$(holds /usr/bin/vault --version)" "$(cat said)"
+    owner=$(stat -c '%U %a' /var/lib/vault)
+    step "its folder is its user's" "$([ "$owner" = "vault 700" ] && echo yes || echo no)" "$owner"
+    runuser -u vault -- vault merchant /var/lib/vault/trial.db shop1 60 0 > /dev/null
+    step "it is removed" "$(holds apt-get purge -y vault)" "$(tail -n 3 said)"
+    step "its program is gone" "$([ ! -e /usr/bin/vault ] && echo yes || echo no)"
+    step "and a vault's file stays" "$([ -s /var/lib/vault/trial.db ] && echo yes || echo no)"
+    rm -rf /var/lib/vault
+    deluser --quiet vault > said 2>&1 || :
+else
+    echo "it isn't installed here: root does that too, where there is no vault and TRY_INSTALL isn't 0"
+fi
+echo "$passed passed, $failed failed"
+[ "$failed" -eq 0 ]

@@ -1,0 +1,1 @@
+"""Peers of a service that are slow, idle or without an end."""

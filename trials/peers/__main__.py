@@ -1,0 +1,137 @@
+"""The whole trial: python3 -m peers PROGRAM"""
+
+import os
+import socket
+import sys
+import threading
+import time
+
+from peers import slow
+from peers.shop import Service, asked, made, token_of
+from shared.runs import run
+from shared.tally import Tally
+
+# A peer, and within how many seconds another one has its answer.
+PEERS = (
+    (slow.a_byte_a_second, 6),
+    (slow.idle, 6),
+    (slow.takes_a_byte_a_second, 6),
+    (slow.a_message_each_four_seconds, 65),
+)
+
+
+def unlike(found, wanted):
+    """The fault of a value that isn't the wanted one."""
+    return "" if found == wanted else f"{found!r}, not {wanted!r}"
+
+
+def behind(program, tally, work, most):
+    """Another peer behind a slow one."""
+    file = f"{work.__name__}.db"
+    made(program, file)
+    with Service(program, file) as service:
+        stop = threading.Event()
+        thread = threading.Thread(target=work, args=(service, stop))
+        thread.start()
+        time.sleep(0.5)
+        seconds, answer = service.answered(7)
+        stop.set()
+        fault = "no token" if token_of(answer) is None else ""
+        if seconds > most:
+            fault = f"{seconds:.1f} s"
+        tally.judge(f"behind {work.__name__}: within {most} s", fault)
+        print(f"behind {work.__name__}: {seconds:.1f} s", flush=True)
+    thread.join()
+
+
+def patience(program, tally):
+    """A peer that begins late, and one that pauses, are answered."""
+    made(program, "patience.db")
+    with Service(program, "patience.db") as service, service.connect() as peer:
+        time.sleep(2)
+        peer.sendall(asked(1)[:40])
+        time.sleep(2)
+        peer.sendall(asked(1)[40:])
+        peer.shutdown(socket.SHUT_WR)
+        tally.judge("4 seconds are not too long", "" if token_of(peer.recv(65536)) else "no token")
+
+
+def tokens(program, tally):
+    """No two messages, services and pipes draw alike."""
+    made(program, "drawn.db")
+    found = []
+    for turn in range(2):
+        with Service(program, "drawn.db") as service, service.connect() as peer:
+            for request in (2 * turn + 1, 2 * turn + 2):
+                peer.sendall(asked(request))
+                found.append(token_of(peer.recv(65536)))
+    for turn in range(2):
+        out = run(program, "pipe", "drawn.db", given=asked(5 + turn)).out
+        found.append(token_of(out))
+    tally.judge("six tokens, each drawn anew", unlike(len(set(found) - {None}), 6))
+    # tokens of fresh vaults too: the same request, twice
+    first = []
+    for file in ("one.db", "two.db"):
+        made(program, file)
+        with Service(program, file) as service:
+            first.append(token_of(service.answered(1)[1]))
+        first.append(token_of(run(program, "pipe", file, given=asked(2)).out))
+    tally.judge("and four of two more vaults", unlike(len(set(first) - {None}), 4))
+
+
+def listening_at(port):
+    """The local addresses at which somebody listens on a port, as the kernel writes them."""
+    found = set()
+    for table in ("/proc/net/tcp", "/proc/net/tcp6"):
+        if not os.path.exists(table):
+            continue
+        for line in open(table).read().splitlines()[1:]:
+            address, state = line.split()[1], line.split()[3]
+            if state == "0A" and address.endswith(f":{port:04X}"):
+                found.add(address.split(":")[0])
+    return found
+
+
+def address(program, tally):
+    """The service listens on 127.0.0.1 alone."""
+    made(program, "address.db")
+    with Service(program, "address.db") as service:
+        tally.judge("127.0.0.1 alone", unlike(listening_at(service.port), {"0100007F"}))
+
+
+def unchecked(program, tally):
+    """A check makes nothing, and the version is told."""
+    os.mkdir("empty")
+    before = os.stat("empty").st_mtime_ns
+    ran = run(program, "check", "empty/typo.db")
+    tally.judge("a check of a file that isn't there", unlike((ran.status, ran.out), (0, b"sound 0 0 0\n")))
+    tally.judge("makes nothing", unlike((os.listdir("empty"), os.stat("empty").st_mtime_ns), ([], before)))
+    for word in ("--version", "-V"):
+        ran = run(program, word)
+        tally.judge(word, unlike((ran.status, ran.out, ran.err), (0, b"vault 0.4.0, schema 4\n", b"")))
+
+
+def ended(program, tally):
+    """A service that is ended by a signal loses nothing."""
+    made(program, "ended.db")
+    with Service(program, "ended.db") as service:
+        token = token_of(service.answered(1)[1])
+        service.process.terminate()
+        service.process.wait()
+    again = token_of(run(program, "pipe", "ended.db", given=asked(1)).out)
+    tally.judge("a service that a signal ended", unlike(again, token))
+
+
+def main(program):
+    tally = Tally()
+    for part in (patience, tokens, address, unchecked, ended):
+        part(program, tally)
+    threads = [threading.Thread(target=behind, args=(program, tally, *pair)) for pair in PEERS]
+    for thread in threads:
+        thread.start()
+    for thread in threads:
+        thread.join()
+    tally.end()
+
+
+main(*sys.argv[1:])

@@ -1,0 +1,73 @@
+"""A service of the program on a free port, without a last connection, and messages to it."""
+
+import json
+import re
+import socket
+import subprocess
+import time
+
+from shared.runs import must
+
+NUMBER = "4111111111111111"
+
+
+def made(program, file):
+    """A vault with a shop whose till may ask for tokens."""
+    must(program, "merchant", file, "shop1", 86400, 0)
+    must(program, "grant", file, "till-1", "shop1", "tokenize")
+
+
+def asked(request):
+    """The message that asks for a token."""
+    body = json.dumps({"number": NUMBER, "use": "single"})
+    head = f"POST /v1/merchants/shop1/tokens HTTP/1.1\r\nX-Vault-Caller: till-1\r\nX-Vault-Request: {request}"
+    return f"{head}\r\nContent-Length: {len(body)}\r\n\r\n{body}".encode()
+
+
+class Service:
+    """The program as it serves a file; it is ended at the end of a `with`."""
+
+    def __init__(self, program, file):
+        words = [program, "serve", "--port", "0", file]
+        self.process = subprocess.Popen(words, stdout=subprocess.PIPE)
+        line = self.process.stdout.readline()
+        found = re.fullmatch(rb"listening ([0-9]+)\n", line)
+        if not found:
+            raise SystemExit(f"the service said {line!r}\n0 passed, 1 failed")
+        self.port = int(found[1])
+
+    def __enter__(self):
+        return self
+
+    def __exit__(self, *_):
+        self.process.kill()
+        self.process.communicate()
+
+    def connect(self, room=None):
+        """A connection; with `room` it takes little before somebody reads."""
+        peer = socket.socket()
+        if room:
+            peer.setsockopt(socket.SOL_SOCKET, socket.SO_RCVBUF, room)
+        peer.settimeout(100)
+        peer.connect(("127.0.0.1", self.port))
+        peer.setsockopt(socket.IPPROTO_TCP, socket.TCP_NODELAY, 1)
+        return peer
+
+    def answered(self, request):
+        """After how many seconds another peer has the answer to its message, and the answer."""
+        begun = time.monotonic()
+        with self.connect() as peer:
+            peer.sendall(asked(request))
+            peer.shutdown(socket.SHUT_WR)
+            found = b""
+            while piece := peer.recv(65536):
+                found += piece
+        return time.monotonic() - begun, found
+
+
+def token_of(answer):
+    """The token of an answer that gives one."""
+    head, _, body = answer.partition(b"\r\n\r\n")
+    if not head.startswith(b"HTTP/1.1 200 OK"):
+        return None
+    return json.loads(body)["token"]
