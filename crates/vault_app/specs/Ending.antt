@@ -45,8 +45,8 @@ not_opened_line f =
 abbrev pub stop_line : ℕ → List ℕ
 stop_line n = codes "vault: stopped " ++ decimal n ++ codes "\n"
 
--- A version and a refusal are said on the output, and what else stands in the way of a job on the errors; the other stream
--- stays as it was, and at the end of a job, and of a batch with refused rows, both do.
+-- A version and a refusal are said on the output, and what else stands in the way of a job on the errors; the
+-- other stream stays as it was, and at the end of a job, and of a batch with refused rows, both do.
 abbrev pub Says : Ending → Type 0 → Type 0 → (List ℕ → Type 0) → (List ℕ → Type 0) → Type 0
 Says Done same_output same_errors output errors = same_output × same_errors
 Says Version same_output same_errors output errors = output version_line × same_errors

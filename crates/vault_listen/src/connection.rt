@@ -26,8 +26,9 @@ pub const MESSAGES: u64 = 1000;
 /// Answers the messages of one connection, at most 1000, each with the clock's second and digits of its own.
 /// None is taken up from `end` on, by the monotonic clock.
 ///
-/// 60 Source: the 1001st message, one after `end`, or a clock that can't be read. 61 Read and 62 Write: the reader or the
-/// writer failed. 63 Store: the store failed, or the vault was broken before. 64 Memory: memory was refused.
+/// 60 Source: the 1001st message, one after `end`, or a clock that can't be read. 61 Read and 62 Write: the
+/// reader or the writer failed. 63 Store: the store failed, or the vault was broken before. 64 Memory: memory
+/// was refused.
 pub fn serve_connection<C: Clock, G: Rng, R: Read, W: Write, T: Tables>(
     alloc: Global,
     clock: &C,

@@ -67,8 +67,8 @@ impl<'c, C: Clock, G: Rng> LiveSource<'c, C, G> {
         }
     }
 
-    /// A source that gives this many pairs, and none from this moment of the monotonic clock on, where there is
-    /// one.
+    /// A source that gives this many pairs, and none from this moment of the monotonic clock on, where there
+    /// is one.
     pub fn ending(
         alloc: Global,
         clock: &'c C,

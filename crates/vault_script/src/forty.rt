@@ -36,13 +36,13 @@ fn asked(alloc: Global, round: Round) -> Result<String, AllocError> {
     let (request, token, _, _) = round;
     let body = "{\"number\":\"4111111111111111\",\"use\":\"single\"}";
     let size = body.len();
+    let place = "/v1/merchants/shop1/tokens";
+    let caller = "HTTP/1.1\r\nX-Vault-Caller: till-1\r\n";
     let once = format!(in alloc;
-        "POST /v1/merchants/shop1/tokens HTTP/1.1\r\nX-Vault-Caller: till-1\r\nX-Vault-Request: {request}\r\nContent-Length: {size}\r\n\r\n{body}"
+        "POST {place} {caller}X-Vault-Request: {request}\r\nContent-Length: {size}\r\n\r\n{body}"
     )?;
     let once = once.as_str();
-    format!(in alloc;
-        "{once}{once}POST /v1/merchants/shop1/tokens/{token}/number HTTP/1.1\r\nX-Vault-Caller: till-1\r\n\r\n"
-    )
+    format!(in alloc; "{once}{once}POST {place}/{token}/number {caller}\r\n")
 }
 
 /// An answer with this status line and this body.

@@ -100,7 +100,8 @@ fn a_peer_without_time_ends_its_connection_alone(rt: HostRuntime) {
     assert!(rt; ends_alone(&rt).unwrap_or(false));
 }
 
-/// Whether a peer is sent this. A connection that ends with unread bytes is reset, and then it is sent nothing.
+/// Whether a peer is sent this. A connection that ends with unread bytes is reset, and then it is sent
+/// nothing.
 fn is_told_so(alloc: Global, peer: TcpStream, wanted: &str) -> bool {
     match read_to_string(alloc, peer) {
         Ok(text) => text.as_str() == wanted,

@@ -9,5 +9,5 @@ returns c =
     let told = with_version c.command.result c.version-named.result bare _ c.version-named.ensures
     c.command.ensures in
     let set = c.subcommand_required in
-    with_required c.version-named.result set.result (record bare { top = record bare.top { has_version = true } })
-    set.ensures told
+    let versioned = record bare { top = record bare.top { has_version = true } } in
+    with_required c.version-named.result set.result versioned set.ensures told
