@@ -1,3 +1,5 @@
+pub mod Files
 pub mod Lines
 pub mod Refusing
+pub mod Running
 pub mod Saying

@@ -1,12 +1,39 @@
 -- What is done with the vault in a file.
-use Rattle.std.specs.Prelude.{◌≡◌, false}
+use Rattle.std.specs.Prelude.{◌≡◌, [], Option, Some, None, Result, Ok, Err, Bool, false}
+use Rattle.sqlite.specs.Files.{file_state}
+use Rattle.sqlite.specs.Held.{Held}
+use Rattle.sqlite.specs.State.{HasCleanDisk}
+use Rattle.sqlite.specs.View.{IsClean}
+use Rattle.sqlite_disk.specs.declared.Disk.{Ghosts}
+use Rattle.sqlite_store.specs.FileStore.{view}
+use Rattle.sqlite_store.specs.declared.store.FileStore.{FileStore}
+use Rattle.sqlite_wal.specs.Recovery.{Image}
+use Rattle.vault_core.specs.Sound.{Sound}
+use Rattle.vault_core.specs.Vault.{Vault as Content}
+use Rattle.vault_recover.specs.Crashed.{Keeps, Reopens, ReopensEither}
+use Rattle.vault_schema.specs.Holds.{Holds}
+use Rattle.vault_file.specs.Found.{IsNoVerdict, OpensFrom, Stays}
+use Rattle.vault_file.specs.declared.fault.NotOpened.{NotOpened as FileFault}
+use Rattle.vault_file.specs.declared.fault.NotOpened.TheVariants as file
+use Rattle.vault_http.specs.Passing.{Passage}
 use Rattle.vault_jobs.specs.Causes.{IsCauseOf}
+use Rattle.vault_jobs.specs.Doing.{Does}
 use Rattle.vault_jobs.specs.Streams.{Streams}
 use Rattle.vault_jobs.specs.Tasks.{IsOfCommands, IsRefusedInPart, IsTaskBegun, IsTaskDone}
+use Rattle.vault_jobs.specs.declared.stop.Stop.{Stop}
+use Rattle.vault_jobs.specs.declared.task.Outcome.{Outcome}
+use Rattle.vault_jobs.specs.declared.task.Outcome.TheVariants as outcome
 use Rattle.vault_jobs.specs.declared.task.Task.{Task}
 use Rattle.vault_app.specs.declared.ending.Ending.{Ending}
 use Rattle.vault_app.specs.declared.ending.Ending.TheVariants.{Done, Version, Refused, SomeRefused}
 use Rattle.vault_app.specs.declared.ending.Ending.TheVariants.{BadWords, NotOpened, Stopped}
+
+-- how a job ends whose task came to this
+abbrev pub ending_for : Result Outcome Stop → Ending
+ending_for (Ok outcome.Done) = Done
+ending_for (Ok (outcome.Refused n)) = Refused n
+ending_for (Ok outcome.SomeRefused) = SomeRefused
+ending_for (Err stop) = Stopped stop
 
 -- how a task ends on the vault in a file; where that isn't opened both streams stay as they were
 abbrev pub FileEnds : Task → Ending → Type 0 → Type 0 → Streams → Type 0
@@ -17,3 +44,54 @@ FileEnds task SomeRefused unread unsent s = (s.writer ≡ false) × IsRefusedInP
 FileEnds task BadWords unread unsent s = ⊥
 FileEnds task (NotOpened f) unread unsent s = unread × unsent
 FileEnds task (Stopped stop) unread unsent s = IsCauseOf stop s × IsTaskBegun task unread
+
+module _ {D : Type 0} {g : Ghosts D} where
+  -- The passage of the vault in files that were opened by this connection, and are left, closed. All of it
+  -- has the premise that the disk is clean in the end. A vault that is kept is one that whoever opens the
+  -- files finds, whatever a crash may have left of them.
+  abbrev pub file_passing : Held (FileStore D g) → FileStore D g → Passage
+  file_passing opened left = record {
+    given_old = [];
+    given_new = [];
+    sent_old = None;
+    sent_new = None;
+    honest = IsClean (view left);
+    held_old = λ V. Holds (file_state opened) V × Sound V;
+    held_new = λ V. Reopens left V × Sound V;
+    left_new = ReopensEither left;
+  }
+
+  -- The vault in files with these bytes was opened, this was done with it, and these files are left. A vault
+  -- that the bytes keep was held, and of two that they may keep one.
+  pub record WorksOn (image : Image) (left : FileStore D g) (Done : Passage → Bool → Type 0) : Type 0 where
+    pub opened : Held (FileStore D g)
+    pub broken : Bool
+    pub found : OpensFrom image opened
+    pub clean : IsClean (view left) → HasCleanDisk (file_state opened)
+    pub done : Done (file_passing opened left) broken
+
+  -- Files with these bytes weren't opened, and these are left. Where they kept a sound vault, that isn't
+  -- told of their schema or rows; and what they kept they keep.
+  pub record RefusesFile (image : Image) (left : FileStore D g) (why : FileFault) : Type 0 where
+    pub never : IsClean (view left) → (V : Content) → Sound V → Keeps image V → IsNoVerdict why
+    pub stays : Stays image left
+
+  -- what was done with the vault in files with these bytes, by how a task on it ended
+  abbrev pub DoesOnFile : Image → FileStore D g → Task → Ending → Type 0 → Type 0 → Streams → Type 0
+  DoesOnFile image left task Done unread unsent s =
+      WorksOn image left (λ p broken. Does task p broken (Ok outcome.Done) unread unsent s)
+  DoesOnFile image left task Version unread unsent s = ⊥
+  DoesOnFile image left task (Refused n) unread unsent s =
+      WorksOn image left (λ p broken. Does task p broken (Ok (outcome.Refused n)) unread unsent s)
+  DoesOnFile image left task SomeRefused unread unsent s =
+      WorksOn image left (λ p broken. Does task p broken (Ok outcome.SomeRefused) unread unsent s)
+  DoesOnFile image left task BadWords unread unsent s = ⊥
+  DoesOnFile image left task (NotOpened why) unread unsent s = RefusesFile image left why × unread × unsent
+  DoesOnFile image left task (Stopped stop) unread unsent s =
+      WorksOn image left (λ p broken. Does task p broken (Err stop) unread unsent s)
+
+  -- The same, where files are left only if they were opened, or refused with a connection: none are where the
+  -- host or the database refuses the file itself.
+  abbrev pub EndsOnFile : Image → Option (FileStore D g) → Task → Ending → Type 0 → Type 0 → Streams → Type 0
+  EndsOnFile image (Some left) task ending unread unsent s = DoesOnFile image left task ending unread unsent s
+  EndsOnFile image None task ending unread unsent s = (ending ≡ NotOpened file.Refused) × unread × unsent

@@ -172,14 +172,18 @@ AsksHelp words = IsAmong DisplayHelp (fault_of program_app words)
 abbrev pub AsksVersion : List Text → Type 0
 AsksVersion words = IsAmong DisplayVersion (fault_of program_app words)
 
--- How the program ends: as the job of the words does; with help, which is done; with its version; with words
--- that ask for no job; or for want of memory before there is a job.
+-- How the program ends without a job: with help, which is done; with its version; with words that ask for no
+-- job; or for want of memory before there is a job.
+abbrev pub Unasked : List Text → Ending → Type 0 → Type 0 → Type 0
+Unasked words ending unread unsent =
+    (AsksHelp words × (ending ≡ Done) ⊎ AsksVersion words × (ending ≡ Version) × unsent) × unread
+    ⊎ (((job : Job) → ¬ (IsAsked program_app words job)) × (ending ≡ BadWords) × unread × unsent
+    ⊎ (ending ≡ Stopped (Vault vault.Memory)) × unread × unsent)
+
+-- how the program ends: as the job of the words does, or without one
 abbrev pub Ran : List Text → Ending → Type 0 → Type 0 → Streams → Type 0
 Ran words ending unread unsent s =
-    AsksFor words (λ job. Ends job ending unread unsent s)
-    ⊎ ((AsksHelp words × (ending ≡ Done) ⊎ AsksVersion words × (ending ≡ Version) × unsent) × unread
-    ⊎ (((job : Job) → ¬ (IsAsked program_app words job)) × (ending ≡ BadWords) × unread × unsent
-    ⊎ (ending ≡ Stopped (Vault vault.Memory)) × unread × unsent))
+    AsksFor words (λ job. Ends job ending unread unsent s) ⊎ Unasked words ending unread unsent
 
 -- the same, after the program has said how it ended
 abbrev pub Said : List Text → Ending → Type 0 → Type 0 → Type 0 → Streams → (List ℕ → Type 0)

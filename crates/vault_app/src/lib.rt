@@ -4,6 +4,8 @@
 mod asker;
 mod commands;
 pub mod ending;
+mod line;
 mod on_file;
+pub mod plan;
 mod report;
 pub mod run;

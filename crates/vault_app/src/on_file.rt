@@ -1,32 +1,28 @@
 //! What is done with the vault in a file.
-ghost use Rattle.std.specs.Prelude.{◌≡◌, false};
-ghost use Rattle.vault_store.specs.Applied.{is_broken};
+ghost use Rattle.std.specs.Prelude.{◌≡◌, Result, false};
+ghost use Rattle.sqlite_wal.specs.Recovery.{Image};
+ghost use Rattle.vault_store.specs.Applied.{is_broken, tables_of};
+ghost use Rattle.vault_file.specs.Found.{OpensFrom};
 ghost use Rattle.vault_jobs.specs.Streams.{Streams, streams};
 ghost use Rattle.vault_jobs.specs.Tasks.{IsProper};
-ghost use Rattle.vault_app.specs.Files.{FileEnds};
+ghost use Rattle.vault_app.specs.Files.{DoesOnFile, FileEnds, ending_for};
 
 use crate::ending::Ending;
+use sqlite::FileStore;
+use sqlite_disk::Disk;
 use std::io::{Read, Write};
-use vault_file::open::{close_vault, open_vault};
+use vault_file::open::close_files;
+use vault_jobs::stop::Stop;
 use vault_jobs::task::{Outcome, Task, do_task};
-use vault_store::tables::Tables;
+use vault_sql::tables::SqlTables;
 use vault_store::vault::Vault;
 use vault_wire::watched::Watched;
 
-/// Does a task on a vault.
-fn do_on_vault<R: Read, W: Write, T: Tables>(
-    rt: &HostRuntime,
-    vault: &mut Vault<T>,
-    task: &Task<'_>,
-    input: &mut Watched<R>,
-    output: &mut Watched<W>,
-) -> Ending
-    requires proper { IsProper task.now }
-    requires unbroken { is_broken vault.old ≡ false }
-    ensures { let s : Streams = streams R.remaining input.old input.new W.contents output.old output.new in
-        FileEnds task.now result (input.new ≡ input.old) (output.new ≡ output.old) s }
+/// How a job ends whose task came to this.
+fn ending_of(outcome: Result<Outcome, Stop>) -> Ending
+    ensures { result ≡ ending_for outcome }
 {
-    match do_task(rt, task, vault, input, output) {
+    match outcome {
         Ok(Outcome::Done) => Ending::Done,
         Ok(Outcome::Refused(number)) => Ending::Refused(number),
         Ok(Outcome::SomeRefused) => Ending::SomeRefused,
@@ -34,23 +30,27 @@ fn do_on_vault<R: Read, W: Write, T: Tables>(
     }
 }
 
-/// Does a task on the vault in the file at a path.
-pub(crate) fn do_on_file<R: Read, W: Write>(
+/// Does a task with the vault in files, and closes them.
+pub(crate) fn do_on_file<D: Disk + Drop, R: Read, W: Write>(
     rt: &HostRuntime,
-    path: &str,
-    task: &Task<'_>,
+    vault: Vault<SqlTables<FileStore<D>>>,
+    task: &Task,
     input: &mut Watched<R>,
     output: &mut Watched<W>,
-) -> Ending
-    requires { IsProper task.now }
-    ensures { let s : Streams = streams R.remaining input.old input.new W.contents output.old output.new in
-        FileEnds task.now result (input.new ≡ input.old) (output.new ≡ output.old) s }
+) -> (Ending, FileStore<D>)
+    requires proper { IsProper task.now }
+    requires unbroken { is_broken vault ≡ false }
+    requires fresh { (tables_of vault).failed ≡ false }
+    ensures ends { let s : Streams =
+        streams R.remaining input.old input.new W.contents output.old output.new in
+        FileEnds task.now result.0 (input.new ≡ input.old) (output.new ≡ output.old) s }
+    ensures does { let s : Streams =
+        streams R.remaining input.old input.new W.contents output.old output.new in
+        (image : Image) → OpensFrom image (tables_of vault).conn
+        → DoesOnFile image result.1 task.now result.0 (input.new ≡ input.old) (output.new ≡ output.old) s }
 {
-    let mut vault = match open_vault(rt, path) {
-        Ok(vault) => vault,
-        Err(fault) => return Ending::NotOpened(fault),
-    };
-    let ended = do_on_vault(rt, &mut vault, task, input, output);
-    close_vault(vault);
-    ended
+    let mut vault = vault;
+    let outcome = do_task(rt, task, &mut vault, input, output);
+    let left = close_files(vault);
+    (ending_of(outcome), left)
 }

@@ -1,108 +1,159 @@
 //! The program, but for what the process gives it.
-ghost use Rattle.std.specs.Prelude.{◌≡◌, ◌≢◌, ◌↔◌, ◌⊎◌, map};
+ghost use Rattle.std.specs.Prelude.{◌≡◌, ◌≢◌, ◌↔◌, ◌⊎◌, IfErr, IfOk, map};
 ghost use Rattle.std.specs.IoError.{error_kind};
+ghost use Rattle.sqlite_wal.specs.Files.{image_at};
 ghost use Rattle.vault_wire.specs.Watching.{inner_of, is_stopped};
-ghost use Rattle.vault_app.specs.Ending.{bad_words_line, stop_line};
+ghost use Rattle.vault_wire.specs.declared.watched.Watched.{Watched};
 ghost use Rattle.vault_jobs.specs.Streams.{Streams, streams};
 ghost use Rattle.vault_jobs.specs.Told.{Tells};
-ghost use Rattle.vault_app.specs.Ran.{AsksFor, Ends, EndsBy, HasLives, IsBatch, Ran};
+ghost use Rattle.vault_app.specs.Ending.{bad_words_line, stop_line};
+ghost use Rattle.vault_app.specs.Jobs.{Does, DoesPlan, DoesRun};
+ghost use Rattle.vault_app.specs.Plans.{EndsPlanless, IsPlanOf, IsProperPlan, PlanEnds};
+ghost use Rattle.vault_app.specs.Ran.{AsksFor, EndsBy, IsBatch, Ran};
 
-use crate::commands::batch::batch;
-use crate::commands::check::check;
-use crate::commands::merchant::merchant;
-use crate::commands::migrate::migrate;
-use crate::commands::pipe::pipe;
-use crate::commands::rights::{grant, withdraw};
-use crate::commands::rights_file::rights;
-use crate::commands::serve::serve;
-use crate::commands::sweep::sweep;
-use crate::commands::trial::trial;
+use crate::commands::check::tell_sizes;
+use crate::commands::migrate::tell_moved;
+use crate::commands::trial;
 use crate::ending::Ending;
+use crate::on_file::do_on_file;
+use crate::plan::{Plan, plan_of};
 use crate::report::report;
+use sqlite::{FileFrom, FileStore, Start};
 use std::convert::AsStr;
 use std::io::{Error, ErrorKind, Read, Write};
+use vault_file::check::check_file;
+use vault_file::migrate::migrate_file;
+use vault_file::open::open_vault;
 use vault_jobs::stop::Stop;
 use vault_jobs::told::tell;
 use vault_store::vault::Fault;
 use vault_wire::watched::Watched;
 use vault_words::job::job;
-use vault_words::jobs::{Job, JobFault};
+use vault_words::jobs::JobFault;
 
-/// Does a job.
-fn do_job<R: Read, W: Write>(
-    rt: &HostRuntime,
-    asked: &Job<'_>,
-    input: &mut Watched<R>,
-    output: &mut Watched<W>,
-) -> Ending
-    requires { HasLives asked.now }
-    ensures { let s : Streams = streams R.remaining input.old input.new W.contents output.old output.new in
-        Ends asked.now result (input.new ≡ input.old) (output.new ≡ output.old) s }
-{
-    match asked {
-        Job::Trial(job) => trial(rt, job, input, output),
-        Job::Merchant(job) => merchant(rt, job, input, output),
-        Job::Grant(job) => grant(rt, job, input, output),
-        Job::Withdraw(job) => withdraw(rt, job, input, output),
-        Job::Rights(job) => rights(rt, job, input, output),
-        Job::Pipe(job) => pipe(rt, job, input, output),
-        Job::Batch(job) => batch(rt, job, input, output),
-        Job::Serve(job) => serve(rt, job, input, output),
-        Job::Sweep(job) => sweep(rt, job, input, output),
-        Job::Check(job) => check(rt, job, input, output),
-        Job::Migrate(job) => migrate(rt, job, input, output),
-    }
-}
+/// The files that a run leaves, closed, where it had some.
+pub type Left<S> = Option<FileStore<FileFrom<S>>>;
 
-/// Does the job that the words ask for.
-fn ended<S: AsStr, R: Read, W: Write>(
+/// What is to be done for the words, or how the program ends without it.
+fn planned<'a, A: AsStr, W: Write>(
     rt: &HostRuntime,
-    words: &[S],
-    input: &mut Watched<R>,
+    words: &'a [A],
     output: &mut Watched<W>,
-) -> Ending
-    ensures { let s : Streams = streams R.remaining input.old input.new W.contents output.old output.new in
-        Ran (map S.text words.now) result (input.new ≡ input.old) (output.new ≡ output.old) s }
+) -> Result<Plan<'a>, Ending>
+    ensures planned { IfOk result (λ plan. (output.new ≡ output.old)
+        × AsksFor (map A.text words.now) (λ job. IsPlanOf job plan)) }
+    ensures proper { IfOk result IsProperPlan }
+    ensures planless { IfErr result
+        (λ ending. EndsPlanless (map A.text words.now) ending (output.new ≡ output.old)) }
 {
     match job(rt.alloc(), words) {
-        Ok(asked) => do_job(rt, &asked, input, output),
+        Ok(asked) => plan_of(rt, &asked),
         Err(JobFault::Help(text)) => {
             tell(output, &[text.as_str()]);
-            Ending::Done
+            Err(Ending::Done)
         }
-        Err(JobFault::Version) => Ending::Version,
-        Err(JobFault::BadWords) => Ending::BadWords,
-        Err(JobFault::Memory) => Ending::Stopped(Stop::Vault(Fault::Memory)),
+        Err(JobFault::Version) => Err(Ending::Version),
+        Err(JobFault::BadWords) => Err(Ending::BadWords),
+        Err(JobFault::Memory) => Err(Ending::Stopped(Stop::Vault(Fault::Memory))),
     }
 }
 
-/// Reads the words, does their job over the three streams, says how it ended and answers the exit status.
+/// Carries out a plan over the files at its path.
+fn carry_out<S: Start, R: Read, W: Write>(
+    rt: &HostRuntime,
+    start: S,
+    plan: Plan<'_>,
+    input: &mut Watched<R>,
+    output: &mut Watched<W>,
+) -> (Ending, Left<S>)
+    requires { IsProperPlan plan }
+    ensures ends { let s : Streams =
+        streams R.remaining input.old input.new W.contents output.old output.new in
+        PlanEnds plan.entry result.0 (input.new ≡ input.old) (output.new ≡ output.old) s }
+    ensures does { let s : Streams =
+        streams R.remaining input.old input.new W.contents output.old output.new in
+        DoesPlan (image_at S.Start) result.1 plan.entry result.0
+        (input.new ≡ input.old) (output.new ≡ output.old) s }
+{
+    match plan {
+        Plan::Trial(trial) => (trial::serve(rt, &trial, input, output), None),
+        Plan::Check(path) => {
+            let (checked, left) = check_file(rt, path, start);
+            (tell_sizes(checked, output), left)
+        }
+        Plan::Migrate(path) => {
+            let (moved, left) = migrate_file(rt, path, start);
+            (tell_moved(moved, output), left)
+        }
+        Plan::Do(path, task) => match open_vault(rt, path, start) {
+            Ok(vault) => {
+                let (ending, left) = do_on_file(rt, vault, &task, input, output);
+                (ending, Some(left))
+            }
+            Err((fault, left)) => (Ending::NotOpened(fault), left),
+        },
+    }
+}
+
+/// Does what the words ask for.
+fn ended<S: Start, A: AsStr, R: Read, W: Write>(
+    rt: &HostRuntime,
+    start: S,
+    words: &[A],
+    input: &mut Watched<R>,
+    output: &mut Watched<W>,
+) -> (Ending, Left<S>)
+    ensures ran { let s : Streams =
+        streams R.remaining input.old input.new W.contents output.old output.new in
+        Ran (map A.text words.now) result.0 (input.new ≡ input.old) (output.new ≡ output.old) s }
+    ensures does { let s : Streams =
+        streams R.remaining input.old input.new W.contents output.old output.new in
+        Does (image_at S.Start) result.1 (map A.text words.now) result.0
+        (input.new ≡ input.old) (output.new ≡ output.old) s }
+{
+    match planned(rt, words, output) {
+        Ok(plan) => carry_out(rt, start, plan, input, output),
+        Err(ending) => (ending, None),
+    }
+}
+
+/// Reads the words, does their job over the three streams, says how it ended, and answers the exit status and
+/// the files that it leaves. `start` stands for what the files at the job's path hold.
 ///
 /// The first word is the program's name. A line on the output or on the errors goes with each status but 0:
 /// `refused n`, `vault: bad words`, `vault: file not opened n` or `n m`, `vault: stopped n`.
-pub fn run<S: AsStr, R: Read, W: Write, E: Write>(
+pub fn run<S: Start, A: AsStr, R: Read, W: Write, E: Write>(
     rt: &HostRuntime,
-    words: &[S],
+    start: S,
+    words: &[A],
     input: &mut Watched<R>,
     output: &mut Watched<W>,
     errors: &mut Watched<E>,
-) -> u8
+) -> (u8, Left<S>)
     ensures ended { let s : Streams =
         streams R.remaining input.old input.new W.contents output.old output.new in
-        EndsBy (map S.text words.now) result
+        EndsBy (map A.text words.now) result.0
         (input.new ≡ input.old) (output.new ≡ output.old) (errors.new ≡ errors.old) s
         (Tells (W.contents (inner_of output.old)) (W.contents (inner_of output.new))
         (is_stopped output.new))
         (Tells (E.contents (inner_of errors.old)) (E.contents (inner_of errors.new))
         (is_stopped errors.new)) }
-    ensures status { (result ≡ 0) ⊎ (result ≡ 1) ⊎ (result ≡ 2) ⊎ (result ≡ 3) ⊎ (result ≡ 4) }
-    ensures silent { (result ≡ 0) ⊎ (result ≡ 1) → errors.new ≡ errors.old }
-    ensures unread { (result ≡ 2) ⊎ (result ≡ 3) → input.new ≡ input.old }
-    ensures unread_refused { result ≡ 1 → (input.new ≡ input.old) ⊎ AsksFor (map S.text words.now) IsBatch }
-    ensures unsent { (result ≡ 2) ⊎ (result ≡ 3) → output.new ≡ output.old }
+    ensures does { (told : Watched W) × (let s : Streams =
+        streams R.remaining input.old input.new W.contents output.old told in
+        DoesRun (image_at S.Start) result.1 (map A.text words.now) result.0
+        (input.new ≡ input.old) (told ≡ output.old) s (output.new ≡ told) (errors.new ≡ errors.old)
+        (Tells (W.contents (inner_of told)) (W.contents (inner_of output.new)) (is_stopped output.new))
+        (Tells (E.contents (inner_of errors.old)) (E.contents (inner_of errors.new))
+        (is_stopped errors.new))) }
+    ensures status { (result.0 ≡ 0) ⊎ (result.0 ≡ 1) ⊎ (result.0 ≡ 2) ⊎ (result.0 ≡ 3) ⊎ (result.0 ≡ 4) }
+    ensures silent { (result.0 ≡ 0) ⊎ (result.0 ≡ 1) → errors.new ≡ errors.old }
+    ensures unread { (result.0 ≡ 2) ⊎ (result.0 ≡ 3) → input.new ≡ input.old }
+    ensures unread_refused { result.0 ≡ 1
+        → (input.new ≡ input.old) ⊎ AsksFor (map A.text words.now) IsBatch }
+    ensures unsent { (result.0 ≡ 2) ⊎ (result.0 ≡ 3) → output.new ≡ output.old }
 {
-    let ending = ended(rt, words, input, output);
-    report(&ending, output, errors)
+    let (ending, left) = ended(rt, start, words, input, output);
+    (report(&ending, output, errors), left)
 }
 
 /// Says why there are no words: memory was refused, or one of them isn't UTF-8.

@@ -1,6 +1,7 @@
 //! The program `vault`: tokens in place of card numbers.
 #![tactic(auto)]
 
+use sqlite::Unknown;
 use std::process::ExitCode;
 use std::{env, io};
 use vault_app::run::{no_words, run};
@@ -16,7 +17,10 @@ fn main(rt: HostRuntime) -> ExitCode {
     let mut output = Watched::new(rt.stdout());
     let mut errors = Watched::new(rt.stderr());
     let status = match words(&rt) {
-        Ok(words) => run(&rt, words.as_slice(), &mut input, &mut output, &mut errors),
+        Ok(words) => {
+            let words = words.as_slice();
+            run(&rt, Unknown, words, &mut input, &mut output, &mut errors).0
+        }
         Err(error) => no_words(&error, &mut output, &mut errors),
     };
     ExitCode::from(status)

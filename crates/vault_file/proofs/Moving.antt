@@ -5,8 +5,9 @@ use Rattle.sqlite.specs.Files.{file_state}
 use Rattle.sqlite.specs.Held.{Held}
 use Rattle.sqlite.specs.State.{HasCleanDisk}
 use Rattle.sqlite.specs.Tree.{Trees}
-use Rattle.sqlite.specs.View.{doubt}
+use Rattle.sqlite.specs.View.{IsClean, doubt}
 use Rattle.sqlite_disk.specs.declared.Disk.{Ghosts}
+use Rattle.sqlite_store.specs.FileStore.{view}
 use Rattle.sqlite_store.specs.declared.store.FileStore.{FileStore}
 use Rattle.sqlite_wal.specs.Recovery.{Image}
 use Rattle.sql_maps.specs.Schema.{no_schema}
@@ -14,13 +15,14 @@ use Rattle.vault_core.specs.Sound.{Sound}
 use Rattle.vault_core.specs.Vault.{Vault, empty_vault}
 use Rattle.vault_file.proofs.Opening.{no_verdict}
 use Rattle.vault_file.specs.Found.{IsNoVerdict}
-use Rattle.vault_file.specs.Moved.{LeavesOld, MovesFrom}
+use Rattle.vault_file.specs.Moved.{LeavesOld, MovesAs, MovesFrom, StaysOld}
+use Rattle.vault_file.specs.declared.fault.NotOpened.{NotOpened}
 use Rattle.vault_file.specs.declared.fault.NotOpened.TheVariants.{Fault}
 use Rattle.vault_file.proofs.Reopened.{in_again, some_again}
 use Rattle.vault_migrate.specs.Moved.{HoldsSoundIn, IsMovable, IsOlder, LeavesIn, LeavesSome}
-use Rattle.vault_file.specs.Reopened.{KeepsIn}
-use Rattle.vault_recover.specs.Crashed.{AreBlank, HoldsFirst, IsOpenOf, KeepsFirst}
-use Rattle.vault_schema.proofs.Newest.{held_by_newest, held_in_newest}
+use Rattle.vault_file.specs.Reopened.{KeepsIn, ReopensIn, ReopensSome}
+use Rattle.vault_recover.specs.Crashed.{AreBlank, HoldsFirst, IsOpenOf, KeepsFirst, Reopens}
+use Rattle.vault_schema.proofs.Newest.{held_by_newest, held_in_newest, ours_in_newest}
 use Rattle.vault_schema.specs.Holds.{HoldsIn}
 use Rattle.vault_schema.specs.Stands.{newest}
 use Rattle.vault_schema.specs.declared.version.Version.{Version}
@@ -105,3 +107,32 @@ module _ {D : Type 0} {g : Ghosts D} (image : Image) (first last : Held (FileSto
 -- a database that is fit can be moved
 pub movable : (db : Database) → IsFit db → IsMovable db
 movable db fit = elim fit [ inl it ↦ inl (newest, it) | inr blank ↦ inr blank ]
+
+-- the connection is closed after a migration that is done
+pub moves_as : {D : Type 0} {g : Ghosts D} (image : Image) (conn : Held (FileStore D g))
+    (left : FileStore D g) → MovesFrom image conn → (IsClean (view left) → HasCleanDisk (file_state conn))
+    → (IsClean (view left) → (V : Vault) → Holds (file_state conn) V → Reopens left V) → MovesAs image left
+moves_as image conn left it was after = record {
+  moved = λ clean v V keeps. after clean V (it.moved (was clean) v V keeps);
+  newest = λ clean V keeps. after clean V
+      (it.moved (was clean) newest V (λ found finds. ours_in_newest V found (keeps found finds)));
+  stopped = λ clean V keeps bytes may found finds. ∥∥₁_map (it.stopped (was clean) V keeps)
+      (λ held. after clean V held bytes may found finds);
+  blank = λ clean before none keeps bytes may found finds.
+      ∥∥₁_map (it.blank (was clean) before none keeps)
+      (λ held. after clean empty_vault held bytes may found finds);
+}
+
+-- and after one that is refused
+pub stays_old : {D : Type 0} {g : Ghosts D} (image : Image) (conn : Held (FileStore D g))
+    (left : FileStore D g) (why : NotOpened) → LeavesOld image why conn
+    → (IsClean (view left) → HasCleanDisk (file_state conn))
+    → (IsClean (view left) → (V : Vault) → LeavesSome V (file_state conn) → ReopensSome left V)
+    → (IsClean (view left) → (v : Version) (V : Vault) → LeavesIn v V (file_state conn) → ReopensIn v left V)
+    → (HasCleanDisk (file_state conn)
+    → (v : Version) (V : Vault) → Sound V → KeepsIn v image V → IsNoVerdict why) → StaysOld image left why
+stays_old image conn left why old was some after never = record {
+  stays = λ clean other v V keeps. after clean v V (old.stays (was clean) other v V keeps);
+  some = λ clean v V keeps. some clean V (old.some (was clean) v V keeps);
+  never = λ clean. never (was clean);
+}

@@ -92,8 +92,10 @@ module _ {D : Type 0} {g : Ghosts D} (image : Image) (first : Held (FileStore D 
         → (HasCleanDisk (file_state first) → (before : Trees) → AreBlank before → KeepsFirst image before
         → HoldsFirst (file_state first) before)
         → (HasCleanDisk (file_state conn) → Opens (file_state first) (file_state conn))
-        → OpensFrom image conn
-    opens_from conn either one opens =
+        → doubt (file_state first).is_clean ≤ doubt (file_state conn).is_clean → OpensFrom image conn
+    opens_from conn either one opens quiet =
+        let was : HasCleanDisk (file_state conn) → HasCleanDisk (file_state first) =
+        λ clean. omega (arith, quiet, clean) in
         let on : HasCleanDisk (file_state conn) → (V : Vault) → Sound V → Holds (file_state first) V
         → Holds (file_state conn) V = λ clean V sound held.
         let ours = full_in newest (file_state first).now (stands_sound (file_state first) V sound held) in
@@ -102,12 +104,14 @@ module _ {D : Type 0} {g : Ghosts D} (image : Image) (first : Held (FileStore D 
           first = first;
           found = found;
           opens = opens;
-          again = λ was clean V sound keeps. on clean V sound (again was V keeps);
-          either = λ was clean V W sound other keeps. ∥∥₁_map (either was V W keeps) (λ held. elim held [
-            | inl one ↦ inl (on clean V sound one)
-            | inr one ↦ inr (on clean W other one)
-          ]);
-          empty = λ was clean before blank keeps. ∥∥₁_map (one was before blank keeps) (λ held. elim held [
+          clean = quiet;
+          again = λ clean V sound keeps. on clean V sound (again (was clean) V keeps);
+          either = λ clean V W sound other keeps.
+              ∥∥₁_map (either (was clean) V W keeps) (λ held. elim held [
+                | inl one ↦ inl (on clean V sound one)
+                | inr one ↦ inr (on clean W other one)
+              ]);
+          empty = λ clean before blank keeps. ∥∥₁_map (one (was clean) before blank keeps) (λ held. elim held [
             | inl none ↦ (opens clean).blank none.ready.is_open none.schema
             | inr one ↦ on clean empty_vault sound-empty one
           ]);

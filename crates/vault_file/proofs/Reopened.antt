@@ -9,7 +9,7 @@ use Rattle.sqlite_store.specs.FileStore as files
 use Rattle.sqlite_store.specs.declared.store.FileStore.{FileStore}
 use Rattle.sqlite_wal.specs.Recovery.{Image}
 use Rattle.vault_core.specs.Vault.{Vault}
-use Rattle.vault_file.specs.Reopened.{HoldsSome, KeepsIn, KeepsSome, ReopensSome}
+use Rattle.vault_file.specs.Reopened.{HoldsSome, KeepsIn, KeepsSome, ReopensIn, ReopensSome}
 use Rattle.vault_recover.proofs.Reopened.{fine, now_trees, one_schema, reopens_such}
 use Rattle.vault_recover.specs.Crashed.{IsOpenOf}
 use Rattle.vault_schema.specs.Holds.{AreIn, HoldsIn}
@@ -24,6 +24,12 @@ pub reopens_some : {D : Type 0} {g : Ghosts D} (it : FileStore D g) → IsTrue (
 reopens_some it numbered V each =
     reopens_such it numbered (AreSome (lookups_of V))
     (λ db was. let found = each db was in (schema_of found.0, found.1.sound)) each
+
+-- in this version
+pub reopens_in : {D : Type 0} {g : Ghosts D} (it : FileStore D g) → IsTrue (files.view it).is_numbered
+    → (v : Version) (V : Vault) → ((db : Trees) → files.recovers it db → AreIn v V db) → ReopensIn v it V
+reopens_in it numbered v V each =
+    reopens_such it numbered (AreIn v V) (λ db was. (schema_of v, (each db was).sound)) each
 
 module _ {D : Type 0} {g : Ghosts D} (image : Image) (c : Held (FileStore D g)) (is : IsOpenOf image c)
     (unlimited : (file_state c).step_limit ≡ None) where

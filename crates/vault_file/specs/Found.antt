@@ -1,11 +1,13 @@
 -- What is found in the files at a path.
-use Rattle.std.specs.Prelude.{◌≡◌, ◌≢◌, ◌⊎◌, ℕ, List, [], codes, take}
+use Rattle.std.specs.Prelude.{◌≡◌, ◌≢◌, ◌⊎◌, ◌≤◌, ℕ, List, [], codes, take}
 use Rattle.sqlite.specs.Effect.{Database, IsDatabase}
 use Rattle.sqlite.specs.Files.{AreFoundIn, file_state}
 use Rattle.sqlite.specs.Held.{Held}
 use Rattle.sqlite.specs.State.{HasCleanDisk}
 use Rattle.sqlite.specs.Tree.{Trees}
+use Rattle.sqlite.specs.View.{IsClean, doubt}
 use Rattle.sqlite_disk.specs.declared.Disk.{Ghosts}
+use Rattle.sqlite_store.specs.FileStore.{view}
 use Rattle.sqlite_store.specs.declared.store.FileStore.{FileStore}
 use Rattle.sqlite_wal.specs.Recovery.{Image}
 use Rattle.vault_core.specs.Sound.{Sound}
@@ -13,8 +15,10 @@ use Rattle.vault_core.specs.Vault.{Vault, empty_vault}
 use Rattle.vault_file.specs.Faults.{number_of}
 use Rattle.vault_file.specs.declared.fault.NotOpened.{NotOpened}
 use Rattle.vault_recover.specs.Crashed.{AreBlank, HoldsEither, IsOpenOf}
-use Rattle.vault_recover.specs.Crashed.{Keeps, KeepsEither, KeepsFirst, MayFind}
+use Rattle.vault_recover.specs.Crashed.{Keeps, KeepsEither, KeepsFirst, MayFind, Reopens, ReopensEither}
+use Rattle.vault_recover.specs.Crashed.{ReopensFirst}
 use Rattle.vault_verdict.specs.Opened.{IsSoundOf, Opens}
+use Rattle.vault_verdict.specs.Reading.{IsFull}
 use Rattle.vault_verdict.specs.Sizes.{sizes_of}
 use Rattle.vault_verdict.specs.declared.sizes.Sizes.{Sizes}
 use Rattle.vault_schema.specs.Holds.{Holds, LeavesEither, LeavesFirst}
@@ -23,10 +27,6 @@ use Rattle.sql_maps.specs.Schema.{no_schema}
 -- no file's name: nothing at all, `:memory:`, and what begins with `file:`
 abbrev pub IsNoPath : List ℕ → Type 0
 IsNoPath path = (path ≡ []) ⊎ ((path ≡ codes ":memory:") ⊎ (take 5 path ≡ codes "file:"))
-
--- a log and a database file without a byte
-abbrev pub no_bytes : Image
-no_bytes = record { log = []; db = [] }
 
 -- the database that an open of files with these bytes finds: the one that the bytes hold
 pub record IsFoundIn (image : Image) (db : Database) : Type 0 where
@@ -52,28 +52,41 @@ module _ {D : Type 0} {g : Ghosts D} where
   -- a stop came while the tables were made, the empty vault.
   pub record OpensFrom (image : Image) (conn : Held (FileStore D g)) : Type 0 where
     pub first : Held (FileStore D g)
+    pub clean : doubt (file_state first).is_clean ≤ doubt (file_state conn).is_clean
     pub found : HasCleanDisk (file_state first) → IsOpenOf image first
     pub opens : HasCleanDisk (file_state conn) → Opens (file_state first) (file_state conn)
-    pub again : HasCleanDisk (file_state first) → HasCleanDisk (file_state conn)
+    pub again : HasCleanDisk (file_state conn)
         → (V : Vault) → Sound V → Keeps image V → Holds (file_state conn) V
-    pub either : HasCleanDisk (file_state first) → HasCleanDisk (file_state conn)
+    pub either : HasCleanDisk (file_state conn)
         → (V W : Vault) → Sound V → Sound W → KeepsEither image V W → HoldsEither (file_state conn) V W
-    pub empty : HasCleanDisk (file_state first) → HasCleanDisk (file_state conn)
-        → (before : Trees) → AreBlank before → KeepsFirst image before
+    pub empty : HasCleanDisk (file_state conn) → (before : Trees) → AreBlank before → KeepsFirst image before
         → ∥ Holds (file_state conn) empty_vault ∥₁
 
   -- A connection was opened over files with these bytes, and this one comes from opening the vault there. A
   -- crash leaves what was found: a vault, or one of two; where there was no table, that or the empty vault.
   pub record LeavesFrom (image : Image) (conn : Held (FileStore D g)) : Type 0 where
     pub first : Held (FileStore D g)
+    pub clean : doubt (file_state first).is_clean ≤ doubt (file_state conn).is_clean
     pub found : HasCleanDisk (file_state first) → IsOpenOf image first
-    pub held : HasCleanDisk (file_state first) → HasCleanDisk (file_state conn)
+    pub held : HasCleanDisk (file_state conn)
         → (V : Vault) → Keeps image V → LeavesEither (file_state conn) V V
-    pub either : HasCleanDisk (file_state first) → HasCleanDisk (file_state conn)
+    pub either : HasCleanDisk (file_state conn)
         → (V W : Vault) → KeepsEither image V W → ∥ LeavesEither (file_state conn) V W ∥₁
-    pub blank : HasCleanDisk (file_state first) → HasCleanDisk (file_state conn)
+    pub blank : HasCleanDisk (file_state conn)
         → (file_state first).now.schema ≡ no_schema → AreBlank (file_state first).committed.trees
         × LeavesFirst (file_state conn) (file_state first).committed.trees
-    pub empty : HasCleanDisk (file_state first) → HasCleanDisk (file_state conn)
-        → (before : Trees) → AreBlank before → KeepsFirst image before
+    pub empty : HasCleanDisk (file_state conn) → (before : Trees) → AreBlank before → KeepsFirst image before
         → ∥ LeavesFirst (file_state conn) before ∥₁
+
+  -- The files that are left where a vault isn't opened. What they kept they keep: a vault, or one of two;
+  -- where there was no table, that or the empty vault.
+  pub record Stays (image : Image) (left : FileStore D g) : Type 0 where
+    pub either : IsClean (view left) → (V W : Vault) → KeepsEither image V W → ReopensEither left V W
+    pub empty : IsClean (view left) → (before : Trees) → AreBlank before → KeepsFirst image before
+        → ReopensFirst left before
+
+  -- The files that are left of a check that came to these sizes: those of the vault that the bytes hold; and
+  -- a vault that the bytes keep they keep.
+  pub record ChecksAs (image : Image) (left : FileStore D g) (sizes : Sizes) : Type 0 where
+    pub sizes_are : IsClean (view left) → HoldsSuch image (λ db. IsFull db → HasSizes db sizes)
+    pub kept : IsClean (view left) → (V : Vault) → Sound V → Keeps image V → Reopens left V

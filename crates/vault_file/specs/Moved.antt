@@ -4,18 +4,22 @@ use Rattle.sqlite.specs.Files.{file_state}
 use Rattle.sqlite.specs.Held.{Held}
 use Rattle.sqlite.specs.State.{HasCleanDisk}
 use Rattle.sqlite.specs.Tree.{Trees}
+use Rattle.sqlite.specs.View.{IsClean}
 use Rattle.sqlite_disk.specs.declared.Disk.{Ghosts}
+use Rattle.sqlite_store.specs.FileStore.{view}
 use Rattle.sqlite_store.specs.declared.store.FileStore.{FileStore}
 use Rattle.sqlite_wal.specs.Recovery.{Image}
+use Rattle.vault_core.specs.Sound.{Sound}
 use Rattle.vault_core.specs.Vault.{Vault, empty_vault}
-use Rattle.vault_file.specs.Reopened.{KeepsIn, KeepsSome}
+use Rattle.vault_file.specs.Found.{IsNoVerdict}
+use Rattle.vault_file.specs.Reopened.{KeepsIn, KeepsSome, ReopensIn, ReopensSome}
 use Rattle.vault_file.specs.declared.fault.NotOpened.{NotOpened}
 use Rattle.vault_file.specs.declared.fault.NotOpened.TheVariants.{Fault}
 use Rattle.vault_migrate.specs.Moved.{HoldsSoundIn, IsOlder, LeavesIn, LeavesSome}
-use Rattle.vault_recover.specs.Crashed.{AreBlank, IsOpenOf, KeepsFirst}
+use Rattle.vault_recover.specs.Crashed.{AreBlank, IsOpenOf, Keeps, KeepsFirst, Reopens, ReopensSuch}
 use Rattle.vault_verdict.specs.ReadAs.{IsFullIn}
 use Rattle.vault_verdict.specs.declared.fault.OpenFault.TheVariants.{Store}
-use Rattle.vault_schema.specs.Holds.{Holds}
+use Rattle.vault_schema.specs.Holds.{AreOurs, Holds}
 use Rattle.vault_schema.specs.Stands.{newest}
 use Rattle.vault_schema.specs.declared.version.Version.{Version}
 
@@ -43,3 +47,22 @@ module _ {D : Type 0} {g : Ghosts D} where
         → (v : Version) (V : Vault) → KeepsIn v image V → LeavesSome V (file_state conn)
     pub stays : HasCleanDisk (file_state conn) → refusal ≢ Fault Store
         → (v : Version) (V : Vault) → KeepsIn v image V → LeavesIn v V (file_state conn)
+
+  -- The files that are left of a migration that is done. A vault that the bytes keep, in whatever version or
+  -- in one on its way, they keep in the newest one; without a table, the empty vault.
+  pub record MovesAs (image : Image) (left : FileStore D g) : Type 0 where
+    pub moved : IsClean (view left) → (v : Version) (V : Vault) → KeepsIn v image V → Reopens left V
+    pub newest : IsClean (view left) → (V : Vault) → Keeps image V → Reopens left V
+    pub stopped : IsClean (view left)
+        → (V : Vault) → KeepsSome image V → ReopensSuch left (λ found. AreOurs found V)
+    pub blank : IsClean (view left) → (before : Trees) → AreBlank before → KeepsFirst image before
+        → ReopensSuch left (λ found. AreOurs found empty_vault)
+
+  -- The files that are left of one that is refused. A vault that the bytes keep in some version they keep in
+  -- that one, and after 33 in some version. A sound vault isn't refused for its schema or its rows.
+  pub record StaysOld (image : Image) (left : FileStore D g) (why : NotOpened) : Type 0 where
+    pub stays : IsClean (view left) → why ≢ Fault Store
+        → (v : Version) (V : Vault) → KeepsIn v image V → ReopensIn v left V
+    pub some : IsClean (view left) → (v : Version) (V : Vault) → KeepsIn v image V → ReopensSome left V
+    pub never : IsClean (view left)
+        → (v : Version) (V : Vault) → Sound V → KeepsIn v image V → IsNoVerdict why

@@ -26,3 +26,7 @@ HoldsSome s V = ∥ ((v : Version) × HoldsIn v V s) ∥₁
 -- whatever bytes a crash may leave of the files now, they keep the vault in some version
 abbrev pub ReopensSome : {D : Type 0} {g : Ghosts D} → FileStore D g → Vault → Type 0
 ReopensSome it V = ReopensSuch it (AreSome (lookups_of V))
+
+-- whatever bytes a crash may leave of the files now, they keep the vault in this version
+abbrev pub ReopensIn : {D : Type 0} {g : Ghosts D} → Version → FileStore D g → Vault → Type 0
+ReopensIn v it V = ReopensSuch it (AreIn v V)

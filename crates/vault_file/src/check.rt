@@ -2,18 +2,21 @@
 ghost use Rattle.std.specs.Prelude.{◌≡◌, ◌↔◌, ℕ, ℤ, None, Err, IfOk, IfErr, IfSome, IsErrAnd};
 ghost use Rattle.sqlite.specs.Files.{file_state};
 ghost use Rattle.sqlite.specs.State.{HasCleanDisk};
+ghost use Rattle.sqlite.specs.View.{IsClean};
+ghost use Rattle.sqlite_store.specs.FileStore.{view};
 ghost use Rattle.sqlite_wal.specs.Files.{image_at};
 ghost use Rattle.vault_core.specs.Sound.{Sound};
-ghost use Rattle.vault_core.specs.Vault.{Vault as Content};
-ghost use Rattle.vault_file.specs.Found.{HasSizes, HoldsSuch, IsNoPath, IsNoVerdict};
+ghost use Rattle.vault_core.specs.Vault.{Vault as Content, empty_vault};
+ghost use Rattle.vault_file.specs.Found.{ChecksAs, HasSizes, HoldsSuch, IsNoPath, IsNoVerdict};
 ghost use Rattle.vault_recover.specs.Crashed.{Keeps};
 ghost use Rattle.vault_verdict.specs.Opened.{IsLeastBroken, IsWrong};
 ghost use Rattle.vault_verdict.specs.Reading.{IsFull};
+ghost use Rattle.vault_verdict.specs.Sizes.{sizes_of};
 ghost use Rattle.vault_schema.specs.Holds.{Holds};
 
 use crate::fault::NotOpened;
 use crate::make::{is_no_path, open_private};
-use sqlite::{Connection, FileFrom, FileStore, Start, Unknown};
+use sqlite::{Connection, FileFrom, FileStore, Start};
 use vault_blank::make::is_missing;
 use vault_recover::reopen::close;
 use vault_verdict::check::check;
@@ -64,19 +67,30 @@ const EMPTY: Sizes = Sizes {
     records: 0,
 };
 
-/// Checks the file at a path whole, as `check_from` does over a file that holds what it may. But a file that
-/// isn't there, in a folder that is, is the empty vault, and nothing is made.
-pub fn check_file(rt: &HostRuntime, path: &str) -> Result<Sizes, NotOpened>
-    ensures no_path { IsNoPath path.now → result ≡ Err NotOpened.Refused }
+/// Checks the file at a path whole, as `check_from` does, and hands out the files, closed, where there are
+/// some. But a file that isn't there, in a folder that is, is the empty vault, and nothing is made.
+pub fn check_file<S: Start>(
+    rt: &HostRuntime,
+    path: &str,
+    start: S,
+) -> (Result<Sizes, NotOpened>, Option<FileStore<FileFrom<S>>>)
+    ensures no_path { IsNoPath path.now → result.0 ≡ Err NotOpened.Refused }
+    ensures empty { result.1 ≡ None → IfOk result.0 (λ sizes. sizes ≡ sizes_of empty_vault) }
+    ensures refused { IfErr result.0 (λ why. (result.1 ≡ None) ↔ (why ≡ NotOpened.Refused)) }
+    ensures sound { IfOk result.0
+        (λ sizes. IfSome result.1 (λ left. ChecksAs (image_at S.Start) left sizes)) }
+    ensures damaged { IfErr result.0 (λ why. IfSome result.1 (λ left. IsClean (view left) → (rule : ℕ)
+        → why ≡ NotOpened.Fault (OpenFault.Damaged rule)
+        → HoldsSuch (image_at S.Start) (λ db. IsFull db → IsLeastBroken db rule))) }
+    ensures never { IfErr result.0 (λ why. IfSome result.1 (λ left. IsClean (view left)
+        → (V : Content) → Sound V → Keeps (image_at S.Start) V → IsNoVerdict why)) }
 {
     if !is_no_path(path) && is_missing(rt, path) {
-        return Ok(EMPTY);
+        return (Ok(EMPTY), None);
     }
-    match check_from(rt, path, Unknown) {
-        Ok(told) => {
-            drop(close(told.1));
-            Ok(told.0)
-        }
-        Err(refusal) => Err(refusal.0),
+    match check_from(rt, path, start) {
+        Ok((sizes, conn)) => (Ok(sizes), Some(close(conn))),
+        Err((fault, Some(conn))) => (Err(fault), Some(close(conn))),
+        Err((fault, None)) => (Err(fault), None),
     }
 }

@@ -6,7 +6,7 @@ ghost use Rattle.sqlite_wal.specs.Files.{image_at};
 ghost use Rattle.vault_core.specs.Sound.{Sound};
 ghost use Rattle.vault_core.specs.Vault.{Vault as Content};
 ghost use Rattle.vault_file.specs.Found.{HoldsSuch, IsNoPath, IsNoVerdict, LeavesFrom};
-ghost use Rattle.vault_file.specs.Moved.{LeavesOld, MovesFrom};
+ghost use Rattle.vault_file.specs.Moved.{LeavesOld, MovesAs, MovesFrom, StaysOld};
 ghost use Rattle.vault_file.specs.Reopened.{KeepsIn};
 ghost use Rattle.vault_migrate.specs.Moved.{FindsBroken, FindsVersion};
 ghost use Rattle.vault_recover.specs.Crashed.{Keeps};
@@ -15,8 +15,9 @@ ghost use Rattle.vault_schema.specs.declared.version.Version.{Version};
 use crate::fault::NotOpened;
 use crate::make::open_private;
 use crate::reopen::close_moved;
-use sqlite::{Connection, FileFrom, FileStore, Start, Unknown};
+use sqlite::{Connection, FileFrom, FileStore, Start};
 use vault_migrate::migrate::migrate_all;
+use vault_recover::reopen::close;
 use vault_verdict::fault::OpenFault;
 
 /// Moves the file at a path to the newest schema, and answers its version, 4. The connection is given back,
@@ -58,16 +59,22 @@ pub fn migrate_from<S: Start>(
     }
 }
 
-/// Moves the file at a path to the newest schema, as `migrate_from` does over a file that holds what it may.
-pub fn migrate_file(rt: &HostRuntime, path: &str) -> Result<i64, NotOpened>
-    ensures no_path { IsNoPath path.now → result ≡ Err NotOpened.Refused }
-    ensures version { IfOk result (λ version. version ≡ pos 4) }
+/// Moves the file at a path to the newest schema, as `migrate_from` does, and hands out the files, closed,
+/// where there are some.
+pub fn migrate_file<S: Start>(
+    rt: &HostRuntime,
+    path: &str,
+    start: S,
+) -> (Result<i64, NotOpened>, Option<FileStore<FileFrom<S>>>)
+    ensures no_path { IsNoPath path.now → result.0 ≡ Err NotOpened.Refused }
+    ensures refused { (result.1 ≡ None) ↔ (result.0 ≡ Err NotOpened.Refused) }
+    ensures version { IfOk result.0 (λ version. version ≡ pos 4) }
+    ensures moved { IfOk result.0 (λ _. IfSome result.1 (MovesAs (image_at S.Start))) }
+    ensures left { IfErr result.0 (λ why. IfSome result.1 (λ left. StaysOld (image_at S.Start) left why)) }
 {
-    match migrate_from(rt, path, Unknown) {
-        Ok(told) => {
-            drop(close_moved(told.1));
-            Ok(told.0)
-        }
-        Err(refusal) => Err(refusal.0),
+    match migrate_from(rt, path, start) {
+        Ok((version, conn)) => (Ok(version), Some(close(conn))),
+        Err((fault, Some(conn))) => (Err(fault), Some(close_moved(conn))),
+        Err((fault, None)) => (Err(fault), None),
     }
 }

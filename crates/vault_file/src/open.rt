@@ -8,7 +8,7 @@ ghost use Rattle.sqlite_wal.specs.Files.{image_at};
 ghost use Rattle.vault_core.specs.Sound.{Sound};
 ghost use Rattle.vault_core.specs.Vault.{Vault as Content};
 ghost use Rattle.vault_file.specs.Found.{HoldsSuch, IsNoPath, IsNoVerdict};
-ghost use Rattle.vault_file.specs.Found.{LeavesFrom, OpensFrom, no_bytes};
+ghost use Rattle.vault_file.specs.Found.{LeavesFrom, OpensFrom, Stays};
 ghost use Rattle.vault_recover.specs.Crashed.{AreHeld, Keeps, Reopens, ReopensEither};
 ghost use Rattle.vault_verdict.specs.Opened.{IsLeastBroken, IsWrong};
 ghost use Rattle.vault_verdict.specs.Reading.{IsFull};
@@ -17,7 +17,7 @@ ghost use Rattle.vault_store.specs.Applied.{Contains, is_broken, tables_of};
 
 use crate::fault::NotOpened;
 use crate::make::open_private;
-use sqlite::{Connection, FileFrom, FileStore, Start, Unknown};
+use sqlite::{Connection, FileFrom, FileStore, Start};
 use sqlite_disk::Disk;
 use vault_recover::open::open;
 use vault_recover::reopen::close;
@@ -27,9 +27,6 @@ use vault_verdict::fault::OpenFault;
 
 /// The tables in a file that held what `S` says.
 pub type TablesFrom<S> = SqlTables<FileStore<FileFrom<S>>>;
-
-/// The tables in the file at a path.
-pub type FileTables = TablesFrom<Unknown>;
 
 /// Opens the vault in the file at a path. A file that isn't there is made, empty, for its owner alone to
 /// read and write, and so is its log; a file that is there keeps its mode. An empty file gets the tables
@@ -68,17 +65,25 @@ pub fn open_from<S: Start>(
     }
 }
 
-/// Opens the vault in the file at a path, and refuses as `open_from` does. Torn writes are read as SQLite
-/// reads them: each byte is the old one or the new one. `found` is said here of a file that was empty;
-/// `open_from` says it of every other.
-pub fn open_vault(rt: &HostRuntime, path: &str) -> Result<Vault<FileTables>, NotOpened>
-    ensures no_path { IsNoPath path.now → result ≡ Err NotOpened.Refused }
+/// Opens the vault in the file at a path, and refuses as `open_from` does; a refusal comes with the files,
+/// closed, where there are some.
+pub fn open_vault<S: Start>(
+    rt: &HostRuntime,
+    path: &str,
+    start: S,
+) -> Result<Vault<TablesFrom<S>>, (NotOpened, Option<FileStore<FileFrom<S>>>)>
+    ensures no_path { IsNoPath path.now → IsErrAnd result (λ e. e.0 ≡ NotOpened.Refused) }
     ensures fresh { IfOk result (λ vault. (is_broken vault ≡ false) × ((tables_of vault).failed ≡ false)) }
-    ensures found { IfOk result (λ vault. OpensFrom no_bytes (tables_of vault).conn) }
+    ensures found { IfOk result (λ vault. OpensFrom (image_at S.Start) (tables_of vault).conn) }
+    ensures refused { IfErr result (λ e. (e.0 ≡ NotOpened.Refused) ↔ (e.1 ≡ None)) }
+    ensures never { IfErr result (λ e. IfSome e.1 (λ left. IsClean (view left)
+        → (V : Content) → Sound V → Keeps (image_at S.Start) V → IsNoVerdict e.0)) }
+    ensures left { IfErr result (λ e. IfSome e.1 (Stays (image_at S.Start))) }
 {
-    match open_from(rt, path, Unknown) {
+    match open_from(rt, path, start) {
         Ok(vault) => Ok(vault),
-        Err(refusal) => Err(refusal.0),
+        Err((fault, Some(conn))) => Err((fault, Some(close(conn)))),
+        Err((fault, None)) => Err((fault, None)),
     }
 }
 
@@ -96,9 +101,4 @@ pub fn close_files<D: Disk + Drop>(vault: Vault<SqlTables<FileStore<D>>>) -> Fil
         → LeavesEither (file_state (tables_of vault).conn) V W → ReopensEither result V W }
 {
     close(vault.into_tables().into_connection())
-}
-
-/// Ends a vault, and closes its files, so that they may be opened again.
-pub fn close_vault(vault: Vault<FileTables>) {
-    drop(close_files(vault));
 }

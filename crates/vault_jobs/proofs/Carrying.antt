@@ -10,7 +10,7 @@ use Rattle.vault_http.specs.Faults.{Failures, Tells, failures}
 use Rattle.vault_http.specs.Passing.{Passage}
 use Rattle.vault_http.specs.declared.fault.ServeFault.{ServeFault}
 use Rattle.vault_http.specs.declared.fault.ServeFault.TheVariants as fault
-use Rattle.vault_listen.specs.Service.{AllKept, Ends, OneUndecided, all_of}
+use Rattle.vault_listen.specs.Service.{AllKept, Leaves, OneUndecided, all_of}
 use Rattle.vault_listen.specs.declared.fault.ListenFault.{ListenFault}
 use Rattle.vault_listen.specs.declared.fault.ListenFault.TheVariants as listen
 use Rattle.vault_listen.proofs.Ending.{served_kept, stopped_kept, stopped_undecided, vault_part}
@@ -93,15 +93,17 @@ no_store fault.Store s r w v s' r' w' v' t b is =
 no_store fault.Memory s r w v s' r' w' v' t b is = absurd (cc (is))
 
 -- connections that are not all served
-pub listen_kept : (f : ListenFault) (n : ℕ) (w : Passage) → f ≢ listen.Store → Ends n w f → IsKept w
-listen_kept listen.Store n w other a = absurd (other refl)
-listen_kept listen.Memory n w other a = kept_of 0 w a
-listen_kept listen.Accept n w other (count, below, a) = kept_of count w a
+pub listen_kept : (f : ListenFault) (most came : ℕ) (w : Passage) → f ≢ listen.Store
+    → Leaves most came w (Err f) → IsKept w
+listen_kept listen.Store most came w other a = absurd (other refl)
+listen_kept listen.Memory most came w other a = kept_of 0 w a.1
+listen_kept listen.Accept most came w other a = kept_of came w a.1
 
-pub listen_torn : (f : ListenFault) (n : ℕ) (w : Passage) → f ≡ listen.Store → Ends n w f → IsTorn w
-listen_torn listen.Store n w is a = torn_of n w a
-listen_torn listen.Memory n w is a = absurd (cc (is))
-listen_torn listen.Accept n w is a = absurd (cc (is))
+pub listen_torn : (f : ListenFault) (most came : ℕ) (w : Passage) → f ≡ listen.Store
+    → Leaves most came w (Err f) → IsTorn w
+listen_torn listen.Store most came w is a = torn_of came w a.1
+listen_torn listen.Memory most came w is a = absurd (cc (is))
+listen_torn listen.Accept most came w is a = absurd (cc (is))
 
 -- a service that leaves a whole vault wasn't stopped by its store, and one that leaves a broken one was
 pub listen_other : (f : ListenFault) (r : Result (Unit {0}) ListenFault) (new : Bool) → r ≡ Err f

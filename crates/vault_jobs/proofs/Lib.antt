@@ -1,9 +1,11 @@
+pub mod Along
 pub mod Batching
 pub mod Carrying
 pub mod Flushing
 pub mod Giving
 pub mod Moments
 pub mod Purging
+pub mod Refining
 pub mod Stops
 pub mod Sweeping
 pub mod Telling

@@ -1,5 +1,5 @@
 -- A service as a trial, and a service that stopped as a beginning of one.
-use Rattle.std.proofs.Common.{◌≡◌, ℕ, ◌+◌, List, [], ◌∷◌, ◌++◌, length, take, Bool, true}
+use Rattle.std.proofs.Common.{◌≡◌, ℕ, ◌+◌, ◌≤◌, List, [], ◌∷◌, ◌++◌, length, take, Bool, true}
 use Rattle.std.proofs.Common.{false, cond, Option, Some, None, inl, inr, sym, ◌∙◌, ap, subst, refl}
 use Rattle.std.proofs.Common.{append-nil, arith}
 use Rattle.std.proofs.Math.Seq.{take-append-add, take-append_seam, take-length}
@@ -270,7 +270,14 @@ fixed_pairs old new now digits none fixes goes =
     let nothing : All (IsPairOf now digits) [] = λ k p below.
     let never : ⊥ = omega (arith, below) in
     absurd never in
-    (goes now digits fixes).1 (subst (λ (ps : List Pair). All (IsPairOf now digits) ps) (sym none) nothing)
+    (goes.fixed now digits fixes).1
+    (subst (λ (ps : List Pair). All (IsPairOf now digits) ps) (sym none) nothing)
+
+-- and they are no more than it was to give
+pub few_pairs : {C G : Type 0} (old new : LiveSource C G) (most : ℕ) → pairs_of old ≡ [] → old.left ≡ most
+    → Continues old new → length (pairs_of new) ≤ most
+few_pairs old new most none left goes =
+    omega (arith, goes.counted, left, ap (λ (pairs : List Pair). length pairs) none)
 
 -- what stops the answering of an input is a beginning of a trial
 pub cut_piping : (w : Passage) (V : Content) (now : Option ℕ) (digits : Option (List ℕ)) → IsBefore w V

@@ -1,6 +1,7 @@
 pub mod Batched
 pub mod Carried
 pub mod Causes
+pub mod Doing
 pub mod Grants
 pub mod Moments
 pub mod Piped

@@ -4,17 +4,13 @@ use Rattle.std.specs.Prelude.{decimal}
 use Rattle.std.specs.Io.KnownBytes.{Appends}
 use Rattle.vault_core.specs.Proper.{HasLivesInRange}
 use Rattle.vault_http.specs.declared.fault.ServeFault.TheVariants as service
-use Rattle.vault_http.specs.Passing.{Passage}
-use Rattle.vault_batch.specs.declared.asker.Asker.{Asker}
 use Rattle.vault_batch.specs.declared.counts.Counts.{Counts}
 use Rattle.vault_jobs.specs.Batched.{IsTabled}
 use Rattle.vault_jobs.specs.Causes.{IsCauseOf}
 use Rattle.vault_jobs.specs.Streams.{IsHeard, Known, Streams, Writes}
-use Rattle.vault_jobs.specs.Sweeps.{Sweeps}
 use Rattle.vault_jobs.specs.declared.stop.Stop.{Stop}
 use Rattle.vault_jobs.specs.declared.stop.Stop.TheVariants.{Vault, Service, Listener, Rights}
 use Rattle.vault_jobs.specs.declared.stop.Stop.TheVariants as stop
-use Rattle.vault_jobs.specs.declared.sweep.Swept.TheVariants.{Purged, Refused}
 use Rattle.vault_jobs.specs.declared.task.Outcome.{Outcome}
 use Rattle.vault_jobs.specs.declared.task.Outcome.TheVariants as outcome
 use Rattle.vault_jobs.specs.declared.task.Task.{Task}
@@ -72,7 +68,7 @@ Says (Err stop) unsent old new writer line = IsListeningStop stop writer
 -- what a task that is done read and wrote
 abbrev pub IsTaskDone : Task → Type 0 → Streams → Type 0
 IsTaskDone (Change c) unread s = unread × Writes s (codes "done\n")
-IsTaskDone (Give rows now) unread s = unread × Writes s (granted_line (length rows.now))
+IsTaskDone (Give rows now) unread s = unread × Writes s (granted_line (length rows.items))
 IsTaskDone (Sweep who now) unread s = unread × ((count : ℕ) × Writes s (purged_line count))
 IsTaskDone (Batch who now digits) unread s = (counts : Counts) × IsTabled s counts × (counts.refused ≡ 0)
 IsTaskDone (Pipe now digits) unread s = IsHeard s
@@ -102,31 +98,3 @@ TaskEnds task (Ok outcome.Done) unread unsent s = (s.writer ≡ false) × IsTask
 TaskEnds task (Ok (outcome.Refused n)) unread unsent s = unread × unsent × IsOfCommands task
 TaskEnds task (Ok outcome.SomeRefused) unread unsent s = (s.writer ≡ false) × IsRefusedInPart task s
 TaskEnds task (Err stop) unread unsent s = IsCauseOf stop s × IsTaskBegun task unread
-
--- how a sweep ends: with Done its line says how many were purged, and went out; with a refusal of a purge
--- nothing went out; where the writer failed all were purged
-abbrev pub SweepEnds : Asker → ℕ → Passage → Bool → Result Outcome Stop
-    → Type 0 → Known → Known → Bool → Type 0
-SweepEnds who now w broken (Ok outcome.Done) unsent old new writer =
-    (writer ≡ false) × ((count : ℕ) × Sweeps who now w broken (Ok (Purged count))
-    × Appends old new (purged_line count))
-SweepEnds who now w broken (Ok (outcome.Refused n)) unsent old new writer =
-    unsent × Sweeps who now w broken (Ok (Refused n))
-SweepEnds who now w broken (Ok outcome.SomeRefused) unsent old new writer = ⊥
-SweepEnds who now w broken (Err (Vault f)) unsent old new writer =
-    unsent × Sweeps who now w broken (Err f)
-SweepEnds who now w broken (Err (Service f)) unsent old new writer =
-    (f ≡ service.Write) × (writer ≡ true) × ((count : ℕ) × Sweeps who now w broken (Ok (Purged count)))
-SweepEnds who now w broken (Err (Listener f)) unsent old new writer = ⊥
-SweepEnds who now w broken (Err (Rights f)) unsent old new writer = ⊥
-SweepEnds who now w broken (Err (stop.Batch f)) unsent old new writer = ⊥
-
--- a task that is a sweep ends as one
-abbrev pub EndsSweep : Task → Passage → Bool → Result Outcome Stop → Type 0 → Streams → Type 0
-EndsSweep (Change c) w broken result unsent s = Unit {0}
-EndsSweep (Give rows now) w broken result unsent s = Unit {0}
-EndsSweep (Sweep who now) w broken result unsent s =
-    SweepEnds who now w broken result unsent s.sent_old s.sent_new s.writer
-EndsSweep (Batch who now digits) w broken result unsent s = Unit {0}
-EndsSweep (Pipe now digits) w broken result unsent s = Unit {0}
-EndsSweep (Serve port connections) w broken result unsent s = Unit {0}

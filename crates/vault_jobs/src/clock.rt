@@ -1,5 +1,5 @@
 //! The moment of a job.
-ghost use Rattle.std.specs.Prelude.{◌≡◌, IfOk, IfErr};
+ghost use Rattle.std.specs.Prelude.{◌≡◌, IfOk, IfErr, None, OnErr};
 ghost use Rattle.vault_jobs.specs.Moments.{IsMomentOf};
 
 use crate::stop::Stop;
@@ -13,6 +13,7 @@ use vault_live::live::moment_of;
 pub fn moment<C: Clock>(clock: &C, fixed: Option<Moment>) -> Result<Moment, Stop>
     ensures moment { IfOk result (IsMomentOf fixed) }
     ensures fault { IfErr result (λ stop. stop ≡ Stop.Service ServeFault.Source) }
+    ensures needed { OnErr result (fixed ≡ None) }
 {
     let found = match fixed {
         Some(moment) => Some(moment),

@@ -1,15 +1,17 @@
 //! A vault served on a port.
-ghost use Rattle.std.specs.Prelude.{◌≡◌, ℕ, IfErr, IsErr, OnOk, false, true};
+ghost use Rattle.std.specs.Prelude.{◌≡◌, ◌≢◌, ℕ, IfErr, IfOk, IsErr, OnOk, false, true};
 ghost use Rattle.std.specs.Io.KnownBytes.{Appends};
-ghost use Rattle.vault_store.specs.Applied.{is_broken};
+ghost use Rattle.vault_store.specs.Applied.{is_broken, tables_of};
 ghost use Rattle.vault_http.specs.Passing.{Passage};
 ghost use Rattle.vault_listen.specs.Service.{vault_passing};
+ghost use Rattle.vault_jobs.specs.Doing.{ServeEnds};
 ghost use Rattle.vault_jobs.specs.Carried.{IsKept, IsTorn};
 ghost use Rattle.vault_wire.specs.Watching.{inner_of, is_stopped};
 ghost use Rattle.vault_jobs.specs.Tasks.{IsListeningStop, listening_line};
 
 use crate::answer::answer;
 use crate::stop::Stop;
+use crate::task::Outcome;
 use itoa::Buffer;
 use rand::make_rng;
 use rand::rngs::StdRng;
@@ -17,6 +19,7 @@ use std::io;
 use std::io::Write;
 use std::net::TcpListener;
 use vault_http::fault::ServeFault;
+use vault_listen::arrivals::Arrivals;
 use vault_listen::fault::ListenFault;
 use vault_listen::service::serve_on;
 use vault_store::tables::Tables;
@@ -27,9 +30,14 @@ use vault_wire::watched::Watched;
 const ADDRESS: &str = "127.0.0.1";
 
 /// Listens on a port, or on any free one where it is 0, and tells which.
-fn listener(rt: &HostRuntime, port: u16) -> io::Result<(TcpListener, u16)> {
+fn listener(rt: &HostRuntime, port: u16) -> io::Result<(TcpListener, u16)>
+    ensures { IfOk result (λ it. port ≢ 0 → it.1 ≡ port) }
+{
     let listener = TcpListener::bind(rt, (ADDRESS, port))?;
-    let port = listener.local_addr()?.port();
+    let port = match port {
+        0 => listener.local_addr()?.port(),
+        _ => port,
+    };
     Ok((listener, port))
 }
 
@@ -43,17 +51,22 @@ pub fn serve_at<W: Write, T: Tables>(
     connections: u64,
     vault: &mut Vault<T>,
     output: &mut Watched<W>,
-) -> Result<(), Stop>
+) -> Result<Outcome, Stop>
     requires { is_broken vault.old ≡ false }
-    ensures listened { OnOk result ((port : ℕ) × Appends (W.contents (inner_of output.old))
-        (W.contents (inner_of output.new)) (listening_line port)) }
+    ensures listened { OnOk result ((bound : ℕ) × Appends (W.contents (inner_of output.old))
+        (W.contents (inner_of output.new)) (listening_line bound)) }
     ensures handed_on { OnOk result (is_stopped output.new ≡ false) }
+    ensures done { IfOk result (λ outcome. outcome ≡ Outcome.Done) }
     ensures stopped { IfErr result (λ stop. IsListeningStop stop (is_stopped output.new)) }
+    ensures does { let w : Passage = vault_passing T.is_honest T.holds T.leaves vault.old vault.new in
+        ServeEnds port connections w result (output.new ≡ output.old) (W.contents (inner_of output.old))
+        (W.contents (inner_of output.new)) (is_stopped output.new) }
     ensures kept { let w : Passage = vault_passing T.is_honest T.holds T.leaves vault.old vault.new in
         is_broken vault.new ≡ false → IsKept w }
     ensures torn { let w : Passage = vault_passing T.is_honest T.holds T.leaves vault.old vault.new in
         is_broken vault.new ≡ true → IsTorn w }
     ensures broken { is_broken vault.new ≡ true → IsErr result }
+    ensures honest { T.is_honest (tables_of vault.new) → T.is_honest (tables_of vault.old) }
 {
     let Ok(mut generator) = make_rng::<StdRng, _>(rt) else {
         return Err(Stop::Service(ServeFault::Source));
@@ -65,15 +78,16 @@ pub fn serve_at<W: Write, T: Tables>(
     if let Err(fault) = answer(output, &["listening ", digits.format(listening.1), "\n"]) {
         return Err(Stop::Service(fault));
     }
+    let mut arrivals = Arrivals::new(&listening.0);
     match serve_on(
         rt.alloc(),
         rt,
         &mut generator,
-        &listening.0,
+        &mut arrivals,
         connections,
         vault,
     ) {
-        Ok(()) => Ok(()),
+        Ok(()) => Ok(Outcome::Done),
         Err(fault) => Err(Stop::Listener(fault)),
     }
 }

@@ -1,15 +1,16 @@
 //! What is done with a vault.
 ghost use Rattle.std.specs.Prelude.{◌≡◌, IsErr, MatchResult, codes, false, length, true};
 ghost use Rattle.vault_core.specs.Proper.{HasLivesInRange};
-ghost use Rattle.vault_store.specs.Applied.{is_broken};
+ghost use Rattle.vault_store.specs.Applied.{is_broken, tables_of};
 ghost use Rattle.vault_http.specs.Passing.{Passage};
 ghost use Rattle.vault_listen.specs.Service.{vault_passing};
-ghost use Rattle.vault_jobs.specs.Carried.{IsKept, IsTorn};
+ghost use Rattle.vault_jobs.specs.Carried.{Carries, IsKept, IsTorn};
 ghost use Rattle.vault_wire.specs.Watching.{inner_of, is_stopped};
 ghost use Rattle.vault_jobs.specs.Causes.{IsCauseOf};
 ghost use Rattle.vault_jobs.specs.Streams.{IsHeard, Streams, streams};
-ghost use Rattle.vault_jobs.specs.Tasks.{EndsSweep, IsProper, Says, SweepEnds, TaskEnds};
-ghost use Rattle.vault_jobs.specs.Tasks.{granted_line};
+ghost use Rattle.vault_jobs.specs.Doing.{BatchEnds, CommandsEnd, Does, PipeEnds, SweepEnds};
+ghost use Rattle.vault_jobs.specs.Grants.{CarriesAll, grants_at};
+ghost use Rattle.vault_jobs.specs.Tasks.{IsProper, Says, TaskEnds, granted_line};
 ghost use Rattle.vault_jobs.specs.declared.task.Task.{Task};
 
 use crate::answer::answer;
@@ -34,12 +35,12 @@ use vault_store::vault::Vault;
 use vault_wire::watched::Watched;
 
 /// What is done with a vault.
-#[derive(Clone, Copy)]
-pub enum Task<'a> {
+#[derive(Drop)]
+pub enum Task {
     /// Carries out one command.
     Change(Command),
     /// Gives rights at a moment, to the first that is refused.
-    Give(&'a [(Caller, MerchantId, Right, Option<Moment>)], Moment),
+    Give(Vec<(Caller, MerchantId, Right, Option<Moment>)>, Moment),
     /// Purges the numbers of a merchant's dead tokens at a moment, until none is left or one is refused.
     Sweep(Asker, Moment),
     /// Answers the rows of the input, with this moment and these digits, where they are fixed.
@@ -71,11 +72,16 @@ fn do_change<W: Write, T: Tables>(
     requires unbroken { is_broken vault.old ≡ false }
     ensures said { Says result (output.new ≡ output.old) (W.contents (inner_of output.old))
         (W.contents (inner_of output.new)) (is_stopped output.new) (codes "done\n") }
+    ensures does { let w : Passage = vault_passing T.is_honest T.holds T.leaves vault.old vault.new in
+        CommandsEnd (Carries command.now w (is_broken vault.new)) (codes "done\n") result
+        (output.new ≡ output.old) (W.contents (inner_of output.old)) (W.contents (inner_of output.new))
+        (is_stopped output.new) }
     ensures kept { let w : Passage = vault_passing T.is_honest T.holds T.leaves vault.old vault.new in
         is_broken vault.new ≡ false → IsKept w }
     ensures torn { let w : Passage = vault_passing T.is_honest T.holds T.leaves vault.old vault.new in
         is_broken vault.new ≡ true → IsTorn w }
     ensures broken { is_broken vault.new ≡ true → IsErr result }
+    ensures honest { T.is_honest (tables_of vault.new) → T.is_honest (tables_of vault.old) }
 {
     match change(vault, command) {
         Ok(Verdict::Done) => match answer(output, &["done\n"]) {
@@ -97,11 +103,16 @@ fn do_give<W: Write, T: Tables>(
     requires { is_broken vault.old ≡ false }
     ensures said { Says result (output.new ≡ output.old) (W.contents (inner_of output.old))
         (W.contents (inner_of output.new)) (is_stopped output.new) (granted_line (length rights.now)) }
+    ensures does { let w : Passage = vault_passing T.is_honest T.holds T.leaves vault.old vault.new in
+        CommandsEnd (CarriesAll (grants_at now rights.now) w (is_broken vault.new))
+        (granted_line (length rights.now)) result (output.new ≡ output.old)
+        (W.contents (inner_of output.old)) (W.contents (inner_of output.new)) (is_stopped output.new) }
     ensures kept { let w : Passage = vault_passing T.is_honest T.holds T.leaves vault.old vault.new in
         is_broken vault.new ≡ false → IsKept w }
     ensures torn { let w : Passage = vault_passing T.is_honest T.holds T.leaves vault.old vault.new in
         is_broken vault.new ≡ true → IsTorn w }
     ensures broken { is_broken vault.new ≡ true → IsErr result }
+    ensures honest { T.is_honest (tables_of vault.new) → T.is_honest (tables_of vault.old) }
 {
     match give_all(vault, rights, now) {
         Ok(Verdict::Done) => {
@@ -132,6 +143,7 @@ fn do_sweep<W: Write, T: Tables>(
     ensures torn { let w : Passage = vault_passing T.is_honest T.holds T.leaves vault.old vault.new in
         is_broken vault.new ≡ true → IsTorn w }
     ensures broken { is_broken vault.new ≡ true → IsErr result }
+    ensures honest { T.is_honest (tables_of vault.new) → T.is_honest (tables_of vault.old) }
 {
     match sweep(vault, &asker, now) {
         Ok(Swept::Purged(count)) => {
@@ -160,11 +172,15 @@ fn do_batch<R: Read, W: Write, T: Tables>(
     ensures ends { let s : Streams =
         streams R.remaining input.old input.new W.contents output.old output.new in
         TaskEnds (Task.Batch asker moment digits) result (input.new ≡ input.old) (output.new ≡ output.old) s }
+    ensures does { let w : Passage = vault_passing T.is_honest T.holds T.leaves vault.old vault.new in
+        let s : Streams = streams R.remaining input.old input.new W.contents output.old output.new in
+        BatchEnds asker moment digits w result (input.new ≡ input.old) (output.new ≡ output.old) s }
     ensures kept { let w : Passage = vault_passing T.is_honest T.holds T.leaves vault.old vault.new in
         is_broken vault.new ≡ false → IsKept w }
     ensures torn { let w : Passage = vault_passing T.is_honest T.holds T.leaves vault.old vault.new in
         is_broken vault.new ≡ true → IsTorn w }
     ensures broken { is_broken vault.new ≡ true → IsErr result }
+    ensures honest { T.is_honest (tables_of vault.new) → T.is_honest (tables_of vault.old) }
 {
     let mut pairs = match row_source(rt, moment, digits) {
         Ok(pairs) => pairs,
@@ -185,23 +201,27 @@ fn do_pipe<R: Read, W: Write, T: Tables>(
     vault: &mut Vault<T>,
     input: &mut Watched<R>,
     output: &mut Watched<W>,
-) -> Result<(), Stop>
+) -> Result<Outcome, Stop>
     requires { is_broken vault.old ≡ false }
     ensures streams { let s : Streams =
         streams R.remaining input.old input.new W.contents output.old output.new in
-        MatchResult result (λ _. (s.writer ≡ false) × IsHeard s) (λ stop. IsCauseOf stop s) }
+        TaskEnds (Task.Pipe moment digits) result (input.new ≡ input.old) (output.new ≡ output.old) s }
+    ensures does { let w : Passage = vault_passing T.is_honest T.holds T.leaves vault.old vault.new in
+        let s : Streams = streams R.remaining input.old input.new W.contents output.old output.new in
+        PipeEnds moment digits w result (input.new ≡ input.old) (output.new ≡ output.old) s }
     ensures kept { let w : Passage = vault_passing T.is_honest T.holds T.leaves vault.old vault.new in
         is_broken vault.new ≡ false → IsKept w }
     ensures torn { let w : Passage = vault_passing T.is_honest T.holds T.leaves vault.old vault.new in
         is_broken vault.new ≡ true → IsTorn w }
     ensures broken { is_broken vault.new ≡ true → IsErr result }
+    ensures honest { T.is_honest (tables_of vault.new) → T.is_honest (tables_of vault.old) }
 {
     let mut pairs = match source(rt, moment, digits) {
         Ok(pairs) => pairs,
         Err(fault) => return Err(Stop::Service(fault)),
     };
     match pipe(rt.alloc(), input, output, vault, &mut pairs) {
-        Ok(()) => Ok(()),
+        Ok(()) => Ok(Outcome::Done),
         Err(fault) => Err(Stop::Service(fault)),
     }
 }
@@ -209,7 +229,7 @@ fn do_pipe<R: Read, W: Write, T: Tables>(
 /// Does a task on a vault.
 pub fn do_task<R: Read, W: Write, T: Tables>(
     rt: &HostRuntime,
-    task: &Task<'_>,
+    task: &Task,
     vault: &mut Vault<T>,
     input: &mut Watched<R>,
     output: &mut Watched<W>,
@@ -219,29 +239,24 @@ pub fn do_task<R: Read, W: Write, T: Tables>(
     ensures ends { let s : Streams =
         streams R.remaining input.old input.new W.contents output.old output.new in
         TaskEnds task.now result (input.new ≡ input.old) (output.new ≡ output.old) s }
-    ensures swept { let w : Passage = vault_passing T.is_honest T.holds T.leaves vault.old vault.new in
+    ensures does { let w : Passage = vault_passing T.is_honest T.holds T.leaves vault.old vault.new in
         let s : Streams = streams R.remaining input.old input.new W.contents output.old output.new in
-        EndsSweep task.now w (is_broken vault.new) result (output.new ≡ output.old) s }
+        Does task.now w (is_broken vault.new) result (input.new ≡ input.old) (output.new ≡ output.old) s }
     ensures kept { let w : Passage = vault_passing T.is_honest T.holds T.leaves vault.old vault.new in
         is_broken vault.new ≡ false → IsKept w }
     ensures torn { let w : Passage = vault_passing T.is_honest T.holds T.leaves vault.old vault.new in
         is_broken vault.new ≡ true → IsTorn w }
     ensures broken { is_broken vault.new ≡ true → IsErr result }
+    ensures honest { T.is_honest (tables_of vault.new) → T.is_honest (tables_of vault.old) }
 {
     match *task {
         Task::Change(ref command) => do_change(vault, command, output),
-        Task::Give(rights, now) => do_give(vault, rights, now, output),
+        Task::Give(ref rights, now) => do_give(vault, rights, now, output),
         Task::Sweep(asker, now) => do_sweep(vault, asker, now, output),
         Task::Batch(asker, moment, digits) => {
             do_batch(rt, asker, moment, digits, vault, input, output)
         }
-        Task::Pipe(moment, digits) => match do_pipe(rt, moment, digits, vault, input, output) {
-            Ok(()) => Ok(Outcome::Done),
-            Err(stop) => Err(stop),
-        },
-        Task::Serve(port, connections) => match serve_at(rt, port, connections, vault, output) {
-            Ok(()) => Ok(Outcome::Done),
-            Err(stop) => Err(stop),
-        },
+        Task::Pipe(moment, digits) => do_pipe(rt, moment, digits, vault, input, output),
+        Task::Serve(port, connections) => serve_at(rt, port, connections, vault, output),
     }
 }

@@ -1,6 +1,7 @@
 -- Connections after connections.
 use Rattle.std.proofs.Common.{◌≡◌, ℕ, ◌+◌, ◌≤◌, List, [], ◌∷◌, ◌++◌, sym, subst, ap, ◌∙◌}
-use Rattle.std.proofs.Common.{append_assoc, arith, length-append}
+use Rattle.std.proofs.Common.{Result, Ok, Err, append_assoc, arith, length-append}
+use Rattle.std.specs.Prelude.{IsErrAnd}
 use Rattle.std.proofs.lemmas.Grind.{flat_map-append}
 use Rattle.std.proofs.lemmas.List.Elements.{All-append}
 use Rattle.vault_core.specs.Vault.{Vault as Content}
@@ -9,22 +10,20 @@ use Rattle.vault_store.specs.declared.vault.Vault.{Vault}
 use Rattle.vault_http.specs.Exchanges.{Exchange, vault_after}
 use Rattle.vault_http.specs.Passing.{Passage, Keeps}
 use Rattle.vault_http.proofs.Exchanging.{vault_after-append}
-use Rattle.vault_listen.specs.Service.{IsConnection, AllKept, OneUndecided, all_of, vault_passing}
+use Rattle.vault_listen.specs.Service.{IsConnection, AllKept, Leaves, OneUndecided, all_of, vault_passing}
+use Rattle.vault_listen.specs.declared.fault.ListenFault.{ListenFault}
+use Rattle.vault_listen.specs.declared.fault.ListenFault.TheVariants.{Store}
 
 all_of-append : (xss yss : List (List Exchange)) → all_of (xss ++ yss) ≡ all_of xss ++ all_of yss
 all_of-append xss yss = flat_map-append (λ (xs : List Exchange). xs) xss yss
 
--- there may be more
-pub fewer : (n m : ℕ) (w : Passage) → n ≤ m → OneUndecided n w → OneUndecided m w
-fewer n m w le a = record {
-  connections = a.connections;
-  last = a.last;
-  undecided = a.undecided;
-  counted = omega (arith, a.counted, le);
-  asked = a.asked;
-  last_asked = a.last_asked;
-  left = a.left;
-}
+-- the store's fault, which is passed on
+pub failed_in : (most came : ℕ) (w : Passage) (r : Result (Unit {0}) ListenFault) (fault : ListenFault)
+    → IsErrAnd r (λ e. e ≡ fault) → fault ≡ Store → came ≤ most → OneUndecided came w
+    → Leaves most came w r
+failed_in most came w (Ok done) fault never is few one = absurd never
+failed_in most came w (Err e) fault same is few one =
+    subst (λ f. Leaves most came w (Err f)) (sym (same ∙ is)) (few, one)
 
 module _ {T : Type 0} (honest : T → Type 0) (holds : T → Content → Type 0)
     (leaves : T → Content → Content → Type 0) (v0 v1 v2 : Vault T)

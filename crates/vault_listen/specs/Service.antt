@@ -1,5 +1,6 @@
 -- What connections leave of a vault.
-use Rattle.std.specs.Prelude.{◌≡◌, ℕ, ◌<◌, List, [], ◌∷◌, ◌++◌, length, map, All, None}
+use Rattle.std.specs.Prelude.{◌≡◌, ℕ, ◌+◌, ◌<◌, ◌≤◌, List, [], ◌∷◌, ◌++◌, length, map, All, None, Result}
+use Rattle.std.specs.Prelude.{Ok, Err}
 use Rattle.std.specs.List.{flat_map}
 use Rattle.vault_core.specs.Vault.{Vault as Content}
 use Rattle.vault_store.specs.Applied.{Contains, tables_of}
@@ -40,21 +41,23 @@ pub record AllKept (count : ℕ) (w : Passage) : Type 0 where
   pub asked : All IsConnection connections
   pub kept : (V : Content) → IsBefore w V → Keeps w (vault_after V (all_of connections))
 
--- the store failed in one connection more: a crash leaves the vault before the exchange at which it failed,
--- or the one after it
-pub record OneUndecided (most : ℕ) (w : Passage) : Type 0 where
+-- so many connections came, and the store failed in the last: a crash leaves the vault before the exchange at
+-- which it failed, or the one after it
+pub record OneUndecided (count : ℕ) (w : Passage) : Type 0 where
   pub connections : List (List Exchange)
   pub last : List Exchange
   pub undecided : Exchange
-  pub counted : length connections < most
+  pub counted : length connections + 1 ≡ count
   pub asked : All IsConnection connections
   pub last_asked : IsConnection (last ++ undecided ∷ [])
   pub left : (V : Content) → IsBefore w V
       → w.left_new (vault_after V (all_of connections ++ last))
       (vault_after V (all_of connections ++ last ++ undecided ∷ []))
 
--- what a fault that ends the service before so many connections leaves
-abbrev pub Ends : ℕ → Passage → ListenFault → Type 0
-Ends most w Store = OneUndecided most w
-Ends most w Memory = AllKept 0 w
-Ends most w Accept = (count : ℕ) × (count < most) × AllKept count w
+-- What a service of so many connections leaves, where this many came. It is done with the last one; the store
+-- fails in the last that came; memory is refused before the first; and where the listener fails, fewer came.
+abbrev pub Leaves : ℕ → ℕ → Passage → Result Unit ListenFault → Type 0
+Leaves most came w (Ok done) = (came ≡ most) × AllKept came w
+Leaves most came w (Err Store) = (came ≤ most) × OneUndecided came w
+Leaves most came w (Err Memory) = (came ≡ 0) × AllKept 0 w
+Leaves most came w (Err Accept) = (came < most) × AllKept came w

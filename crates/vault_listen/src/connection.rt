@@ -1,5 +1,5 @@
 //! One connection, answered with the clock's moments and drawn digits.
-ghost use Rattle.std.specs.Prelude.{◌≡◌, Bool, false, Err, List, [], MatchResult};
+ghost use Rattle.std.specs.Prelude.{◌≡◌, ◌≤◌, Bool, false, Err, List, [], MatchResult, length};
 ghost use Rattle.vault_store.specs.Applied.{is_broken, tables_of};
 ghost use Rattle.vault_wire.specs.Watching.{inner_of, is_stopped};
 ghost use Rattle.vault_http.specs.Exchanges.{Pair};
@@ -39,7 +39,8 @@ pub fn serve_connection<C: Clock, G: Rng, R: Read, W: Write, T: Tables>(
     writer: &mut Watched<W>,
     vault: &mut Vault<T>,
 ) -> Result<Served, ServeFault>
-    ensures answered { (pairs : List Pair) × (let w : Passage = passing (λ ps. ps) [] pairs
+    ensures answered { (pairs : List Pair) × (length pairs ≤ 1000)
+        × (let w : Passage = passing (λ ps. ps) [] pairs
         W.contents writer.old writer.new T.is_honest T.holds T.leaves vault.old vault.new in
         MatchResult result
         (IsServed (R.remaining (inner_of reader.old)) (R.remaining (inner_of reader.new)) w)

@@ -2,15 +2,15 @@
 ghost use Rattle.std.specs.Prelude.{◌≡◌, ◌≢◌, ◌↔◌, false, true, Err, IsTrue, MatchResult};
 ghost use Rattle.vault_store.specs.Applied.{is_broken, tables_of};
 ghost use Rattle.vault_http.specs.Passing.{Passage};
-ghost use Rattle.vault_listen.specs.Service.{AllKept, Ends, vault_passing};
+ghost use Rattle.vault_listen.specs.Service.{AllKept, Leaves, OneUndecided, vault_passing};
 
+use crate::arrivals::Arrivals;
 use crate::connection::serve_connection;
 use crate::fault::ListenFault;
 use crate::linger::linger;
 use crate::peer::{Limits, Peer, PeerReader, PeerWriter};
 use rand_core::Rng;
 use std::alloc::Global;
-use std::io::ErrorKind;
 use std::net::{OpenListener, TcpStream};
 use std::time::Clock;
 use vault_http::fault::ServeFault;
@@ -19,19 +19,6 @@ use vault_routes::route::Routes;
 use vault_store::tables::Tables;
 use vault_store::vault::Vault;
 use vault_wire::watched::Watched;
-
-/// Whether a failed accept lost one connection, and the listener can go on. A signal isn't among them: the
-/// accept of `TcpListener` calls again after one.
-fn loses_one(kind: ErrorKind) -> bool {
-    match kind {
-        ErrorKind::ConnectionAborted
-        | ErrorKind::ConnectionReset
-        | ErrorKind::HostUnreachable
-        | ErrorKind::NetworkDown
-        | ErrorKind::NetworkUnreachable => true,
-        _ => false,
-    }
-}
 
 /// Whether the store failed in a connection that ended so.
 fn store_failed(ended: Result<Served, ServeFault>) -> bool
@@ -57,7 +44,7 @@ fn serve_stream<C: Clock, G: Rng, T: Tables>(
     vault: &mut Vault<T>,
 ) -> Result<(), ListenFault>
     ensures left { let w : Passage = vault_passing T.is_honest T.holds T.leaves vault.old vault.new in
-        MatchResult result (λ _. AllKept 1 w) (Ends 1 w) }
+        MatchResult result (λ _. AllKept 1 w) (λ _. OneUndecided 1 w) }
     ensures store { MatchResult result (λ _. is_broken vault.new ≡ is_broken vault.old)
         (λ fault. (fault ≡ ListenFault.Store) × (is_broken vault.new ≡ true)) }
     ensures sturdy { T.may_fail ≡ false → is_broken vault.old ≡ false → ¬ (result ≡ Err ListenFault.Store) }
@@ -92,13 +79,14 @@ pub fn serve_within<L: OpenListener<Stream = TcpStream>, C: Clock, G: Rng, T: Ta
     alloc: Global,
     clock: &C,
     generator: &mut G,
-    listener: &L,
+    arrivals: &mut Arrivals<'_, L>,
     connections: u64,
     limits: Limits,
     vault: &mut Vault<T>,
 ) -> Result<(), ListenFault>
+    requires { arrivals.old.came ≡ 0 }
     ensures left { let w : Passage = vault_passing T.is_honest T.holds T.leaves vault.old vault.new in
-        MatchResult result (λ _. AllKept connections w) (Ends connections w) }
+        Leaves connections arrivals.new.came w result }
     ensures store { result ≡ Err ListenFault.Store → is_broken vault.new ≡ true }
     ensures others { result ≢ Err ListenFault.Store → is_broken vault.new ≡ is_broken vault.old }
     ensures memory { result ≡ Err ListenFault.Memory → vault.new ≡ vault.old }
@@ -109,22 +97,15 @@ pub fn serve_within<L: OpenListener<Stream = TcpStream>, C: Clock, G: Rng, T: Ta
         return Err(ListenFault::Memory);
     };
     for _ in 0..connections {
-        match listener.accept() {
-            Ok((stream, _)) => {
-                if let Err(fault) = serve_stream(
-                    alloc, clock, generator, &routes, &stream, limits, vault,
-                ) {
-                    return Err(fault);
-                }
-            }
-            Err(error) if loses_one(error.kind()) => {}
-            Err(_) => return Err(ListenFault::Accept),
+        if let Some(stream) = arrivals.next()? {
+            serve_stream(alloc, clock, generator, &routes, &stream, limits, vault)?;
         }
     }
     Ok(())
 }
 
-/// Serves so many connections, one after the other, by one vault.
+/// Serves so many connections, one after the other, by one vault: each that comes, whether it was accepted or
+/// lost before.
 ///
 /// A connection ends with its bytes, or at a message that closes it; after a fault of its bytes, which is
 /// answered; after 1000 messages, or where the clock can't be read (60); where its peer fails (61, 62); where
@@ -132,8 +113,8 @@ pub fn serve_within<L: OpenListener<Stream = TcpStream>, C: Clock, G: Rng, T: Ta
 /// an answer isn't taken within 5 seconds (62); 60 seconds after it was accepted (61, or 60 where the next
 /// message was read before); or for want of memory (64). Unless its reader or writer failed, the peer is told
 /// that no more answers come, and what it still sends is thrown away, so that its answers reach it: at most
-/// 64 KiB, for at most 5 seconds. So a peer holds up the others for at most 70 seconds. A connection that was
-/// lost before it was accepted counts as one. None of these ends the service.
+/// 64 KiB, for at most 5 seconds. So a peer holds up the others for at most 70 seconds. None of these ends
+/// the service.
 ///
 /// 63 Store: the store failed, or the vault was broken before; nothing more is accepted. 64 Memory: memory
 /// was refused before the first connection. 80 Accept: the listener failed.
@@ -141,12 +122,13 @@ pub fn serve_on<L: OpenListener<Stream = TcpStream>, C: Clock, G: Rng, T: Tables
     alloc: Global,
     clock: &C,
     generator: &mut G,
-    listener: &L,
+    arrivals: &mut Arrivals<'_, L>,
     connections: u64,
     vault: &mut Vault<T>,
 ) -> Result<(), ListenFault>
+    requires { arrivals.old.came ≡ 0 }
     ensures left { let w : Passage = vault_passing T.is_honest T.holds T.leaves vault.old vault.new in
-        MatchResult result (λ _. AllKept connections w) (Ends connections w) }
+        Leaves connections arrivals.new.came w result }
     ensures store { result ≡ Err ListenFault.Store → is_broken vault.new ≡ true }
     ensures others { result ≢ Err ListenFault.Store → is_broken vault.new ≡ is_broken vault.old }
     ensures memory { result ≡ Err ListenFault.Memory → vault.new ≡ vault.old }
@@ -157,7 +139,7 @@ pub fn serve_on<L: OpenListener<Stream = TcpStream>, C: Clock, G: Rng, T: Tables
         alloc,
         clock,
         generator,
-        listener,
+        arrivals,
         connections,
         Limits::of_service(),
         vault,

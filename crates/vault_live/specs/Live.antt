@@ -1,5 +1,5 @@
 -- What a live source gave.
-use Rattle.std.specs.Prelude.{◌≡◌, ℕ, List, [], All, Option, Some, false}
+use Rattle.std.specs.Prelude.{◌≡◌, ◌+◌, ℕ, List, [], All, Option, Some, false, length}
 use Rattle.vault_live.specs.declared.live.LiveSource.{LiveSource}
 
 -- a moment, and drawn digits
@@ -25,8 +25,10 @@ pub record IsFresh {C G : Type 0} (s : LiveSource C G) (times : ℕ) : Type 0 wh
 abbrev pub Fixes : {C G : Type 0} → LiveSource C G → Option ℕ → Option (List ℕ) → Type 0
 Fixes s moment digits = (s.moment ≡ moment) × (s.digits ≡ digits)
 
--- what is fixed stays the same, and where all pairs have it, so do all pairs later
-abbrev pub Continues : {C G : Type 0} → LiveSource C G → LiveSource C G → Type 0
-Continues old new = (moment : Option ℕ) → (digits : Option (List ℕ)) → Fixes old moment digits
-    → Fixes new moment digits
-    × (All (IsPairOf moment digits) (pairs_of old) → All (IsPairOf moment digits) (pairs_of new))
+-- The one source is the other one, some calls before: what is fixed stays so, and where all pairs have it, so
+-- do all pairs later; each pair that was given is one fewer to give.
+pub record Continues {C G : Type 0} (old new : LiveSource C G) : Type 0 where
+  pub fixed : (moment : Option ℕ) → (digits : Option (List ℕ)) → Fixes old moment digits
+      → Fixes new moment digits
+      × (All (IsPairOf moment digits) (pairs_of old) → All (IsPairOf moment digits) (pairs_of new))
+  pub counted : length (pairs_of new) + new.left ≡ length (pairs_of old) + old.left

@@ -126,6 +126,7 @@ impl<'c, C: Clock, G: Rng> LiveSource<'c, C, G> {
 
 impl<'c, C: Clock, G: Rng> Source for LiveSource<'c, C, G> {
     ghost use Rattle.vault_live.specs.Live.{Continues, pairs_of};
+    ghost use Rattle.std.proofs.Common.{refl, ◌∙◌};
 
     ghost given = { pairs_of };
 
@@ -161,10 +162,13 @@ impl<'c, C: Clock, G: Rng> Source for LiveSource<'c, C, G> {
         self.refused
     }
 
-    ghost reflexive = { λ s m d f. (f, λ all. all) };
+    ghost reflexive = { λ s. record { fixed = λ m d f. (f, λ all. all); counted = refl } };
 
-    ghost transitive = { λ r s t p q m d f. (
-      (q m d (p m d f).0).0,
-      λ all. (q m d (p m d f).0).1 ((p m d f).1 all),
-    ) };
+    ghost transitive = { λ r s t p q. record {
+      fixed = λ m d f. (
+        (q.fixed m d (p.fixed m d f).0).0,
+        λ all. (q.fixed m d (p.fixed m d f).0).1 ((p.fixed m d f).1 all),
+      );
+      counted = q.counted ∙ p.counted;
+    } };
 }

@@ -1,7 +1,8 @@
 //! A vault is opened from a file.
-ghost use Rattle.std.specs.Prelude.{◌≡◌, ℤ, ℕ, pos, false, None, Err, IfOk, IfErr, IsErrAnd, OnOk};
+ghost use Rattle.std.specs.Prelude.{◌≡◌, ◌≤◌, ℤ, ℕ, pos, false, None, Err, IfOk, IfErr, IsErrAnd, OnOk};
 ghost use Rattle.sqlite.specs.Held.{state};
 ghost use Rattle.sqlite.specs.State.{HasCleanDisk, IsUnchanged};
+ghost use Rattle.sqlite.specs.View.{doubt};
 ghost use Rattle.vault_verdict.specs.Faults.{IsJudged};
 ghost use Rattle.vault_verdict.specs.Names.{IsForeign, IsMixed, vault_names};
 ghost use Rattle.vault_verdict.specs.Opened.{IsFit, IsLeastBroken, IsNoDamage, IsNoRefusal, IsWrong};
@@ -55,6 +56,7 @@ fn ready<S: Alter>(alloc: Global, conn: &mut Connection<S>) -> Result<(), OpenFa
     ensures quiet { ¬ ((state S.Store conn.old).now.schema ≡ no_schema)
         → IsQuietWhere (HasVersion (state S.Store conn.old).now.schema) (state S.Store conn.old)
         (state S.Store conn.new) }
+    ensures clean { doubt (state S.Store conn.old).is_clean ≤ doubt (state S.Store conn.new).is_clean }
     ensures idle { conn.new.in_transaction ≡ false }
 {
     let _settled = conn.is_autocommit();
@@ -117,6 +119,10 @@ pub fn open<S: Alter>(
     ensures quiet { IfErr result (λ e. ¬ ((state S.Store conn).now.schema ≡ no_schema)
         → IsQuietWhere (HasVersion (state S.Store conn).now.schema) (state S.Store conn)
         (state S.Store e.1)) }
+    ensures clean { IfOk result (λ vault. doubt (state S.Store conn).is_clean
+        ≤ doubt (state S.Store (tables_of vault).conn).is_clean) }
+    ensures clean_refused { IfErr result
+        (λ e. doubt (state S.Store conn).is_clean ≤ doubt (state S.Store e.1).is_clean) }
     ensures idle { IfErr result (λ e. e.1.in_transaction ≡ false) }
 {
     let mut conn = conn;

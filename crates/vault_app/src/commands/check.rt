@@ -1,47 +1,41 @@
 //! `check`: the whole check of a file.
 ghost use Rattle.std.specs.Prelude.{◌≡◌};
-ghost use Rattle.vault_wire.specs.Watching.{inner_of};
-ghost use Rattle.vault_jobs.specs.Streams.{Streams, streams};
-ghost use Rattle.vault_app.specs.Ran.{Ends};
-ghost use Rattle.vault_words.specs.declared.jobs.Job.{Job};
+ghost use Rattle.vault_wire.specs.Watching.{inner_of, is_stopped};
+ghost use Rattle.vault_app.specs.Plans.{TellsSizes};
 
 use crate::ending::Ending;
+use crate::line::end_with;
 use itoa::Buffer;
-use std::io::{Read, Write};
-use vault_file::check::check_file;
-use vault_jobs::answer::answer;
-use vault_jobs::stop::Stop;
+use std::io::Write;
+use vault_file::fault::NotOpened;
+use vault_verdict::sizes::Sizes;
 use vault_wire::watched::Watched;
-use vault_words::commands::check::CheckJob;
 
-/// Checks a file whole, and says how many merchants, entries and records its vault has.
-pub(crate) fn check<R: Read, W: Write>(
-    rt: &HostRuntime,
-    job: &CheckJob<'_>,
-    input: &mut Watched<R>,
+/// Says how many merchants, entries and records a file's vault has; or ends as the file isn't opened.
+pub(crate) fn tell_sizes<W: Write>(
+    checked: Result<Sizes, NotOpened>,
     output: &mut Watched<W>,
 ) -> Ending
-    ensures { let s : Streams = streams R.remaining input.old input.new W.contents output.old output.new in
-        Ends (Job.Check job.entry.now) result (input.new ≡ input.old) (output.new ≡ output.old) s }
+    ensures { TellsSizes checked result (output.new ≡ output.old) (W.contents (inner_of output.old))
+        (W.contents (inner_of output.new)) (is_stopped output.new) }
 {
-    let sizes = match check_file(rt, job.file) {
+    let sizes = match checked {
         Ok(sizes) => sizes,
         Err(fault) => return Ending::NotOpened(fault),
     };
     let mut merchants = Buffer::new();
     let mut entries = Buffer::new();
     let mut records = Buffer::new();
-    let parts = [
-        "sound ",
-        merchants.format(sizes.merchants),
-        " ",
-        entries.format(sizes.entries),
-        " ",
-        records.format(sizes.records),
-        "\n",
-    ];
-    match answer(output, &parts) {
-        Ok(()) => Ending::Done,
-        Err(fault) => Ending::Stopped(Stop::Service(fault)),
-    }
+    end_with(
+        output,
+        &[
+            "sound ",
+            merchants.format(sizes.merchants),
+            " ",
+            entries.format(sizes.entries),
+            " ",
+            records.format(sizes.records),
+            "\n",
+        ],
+    )
 }

@@ -1,35 +1,25 @@
 //! `migrate`: a file moves to the newest schema.
-ghost use Rattle.std.specs.Prelude.{◌≡◌};
-ghost use Rattle.vault_jobs.specs.Streams.{Streams, streams};
-ghost use Rattle.vault_app.specs.Ran.{Ends};
-ghost use Rattle.vault_words.specs.declared.jobs.Job.{Job};
+ghost use Rattle.std.specs.Prelude.{◌≡◌, pos, IfOk};
+ghost use Rattle.vault_wire.specs.Watching.{inner_of, is_stopped};
+ghost use Rattle.vault_app.specs.Plans.{TellsMoved};
 
 use crate::ending::Ending;
+use crate::line::end_with;
 use itoa::Buffer;
-use std::io::{Read, Write};
-use vault_file::migrate::migrate_file;
-use vault_jobs::answer::answer;
-use vault_jobs::stop::Stop;
+use std::io::Write;
+use vault_file::fault::NotOpened;
 use vault_wire::watched::Watched;
-use vault_words::commands::migrate::MigrateJob;
 
-/// Moves a file to the newest schema, and says which that is.
-pub(crate) fn migrate<R: Read, W: Write>(
-    rt: &HostRuntime,
-    job: &MigrateJob<'_>,
-    input: &mut Watched<R>,
-    output: &mut Watched<W>,
-) -> Ending
-    ensures { let s : Streams = streams R.remaining input.old input.new W.contents output.old output.new in
-        Ends (Job.Migrate job.entry.now) result (input.new ≡ input.old) (output.new ≡ output.old) s }
+/// Says which schema a file has now, 4; or ends as the file isn't opened.
+pub(crate) fn tell_moved<W: Write>(moved: Result<i64, NotOpened>, output: &mut Watched<W>) -> Ending
+    requires { IfOk moved (λ version. version ≡ pos 4) }
+    ensures { TellsMoved moved result (output.new ≡ output.old) (W.contents (inner_of output.old))
+        (W.contents (inner_of output.new)) (is_stopped output.new) }
 {
-    let version = match migrate_file(rt, job.file) {
+    let version = match moved {
         Ok(version) => version,
         Err(fault) => return Ending::NotOpened(fault),
     };
     let mut digits = Buffer::new();
-    match answer(output, &["schema ", digits.format(version), "\n"]) {
-        Ok(()) => Ending::Done,
-        Err(fault) => Ending::Stopped(Stop::Service(fault)),
-    }
+    end_with(output, &["schema ", digits.format(version), "\n"])
 }

@@ -1,13 +1,12 @@
 //! `grant` and `withdraw`: a caller's right at a merchant.
-ghost use Rattle.std.specs.Prelude.{◌≡◌, MatchResult};
-ghost use Rattle.vault_wire.specs.Watching.{inner_of};
-ghost use Rattle.vault_jobs.specs.Streams.{Streams, streams};
-ghost use Rattle.vault_app.specs.Ran.{AreNames, Ends, IsMisnamed, IsRight};
+ghost use Rattle.std.specs.Prelude.{◌≡◌, IfOk, MatchResult};
+ghost use Rattle.vault_core.specs.Words.{right_word};
 ghost use Rattle.vault_words.specs.declared.jobs.Job.{Job};
+ghost use Rattle.vault_jobs.specs.Tasks.{IsProper};
+ghost use Rattle.vault_app.specs.Plans.{EndsBefore, IsTaskOf};
+ghost use Rattle.vault_app.specs.Ran.{AreNames, IsMisnamed};
 
 use crate::ending::Ending;
-use crate::on_file::do_on_file;
-use std::io::{Read, Write};
 use vault_core::command::Command;
 use vault_core::name::{Caller, MerchantId};
 use vault_core::refusal::BAD_NAME;
@@ -15,7 +14,6 @@ use vault_core::right::Right;
 use vault_jobs::clock::moment;
 use vault_jobs::task::Task;
 use vault_rights::fault::UNKNOWN_RIGHT;
-use vault_wire::watched::Watched;
 use vault_words::commands::rights::{GrantJob, RightJob};
 
 /// Whose right at which merchant.
@@ -28,8 +26,10 @@ struct Entitlement {
 
 /// The names and the right of the words, or the number of their refusal.
 fn read(job: &RightJob<'_>) -> Result<Entitlement, u8>
-    ensures { MatchResult result
-        (λ _. AreNames job.entry.now × IsRight job.entry.now) (IsMisnamed job.entry.now) }
+    ensures names { MatchResult result (λ _. AreNames job.entry.now) (IsMisnamed job.entry.now) }
+    ensures value { IfOk result (λ asked. (asked.caller ≡ job.entry.now.caller.now)
+        × (asked.merchant ≡ job.entry.now.merchant.now)
+        × (job.entry.now.right.now ≡ right_word asked.right)) }
 {
     let Ok(caller) = Caller::read(job.caller.as_bytes()) else {
         return Err(BAD_NAME);
@@ -47,58 +47,48 @@ fn read(job: &RightJob<'_>) -> Result<Entitlement, u8>
     })
 }
 
-/// Gives a caller a right at a merchant, up to an end or for good, in the vault of a file. Refused by 4 where
-/// a name is none, by 71 where the right is none, and by 7 where the merchant isn't known.
-pub(crate) fn grant<R: Read, W: Write>(
-    rt: &HostRuntime,
-    job: &GrantJob<'_>,
-    input: &mut Watched<R>,
-    output: &mut Watched<W>,
-) -> Ending
-    ensures { let s : Streams = streams R.remaining input.old input.new W.contents output.old output.new in
-        Ends (Job.Grant job.entry.now) result (input.new ≡ input.old) (output.new ≡ output.old) s }
+/// A caller gets a right at a merchant, up to an end or for good. Refused by 4 where a name is none, by 71
+/// where the right is none, and when it is done by 7 where the merchant isn't known.
+pub(crate) fn grant(rt: &HostRuntime, job: &GrantJob<'_>) -> Result<Task, Ending>
+    ensures task { MatchResult result
+        (IsTaskOf (Job.Grant job.entry.now)) (EndsBefore (Job.Grant job.entry.now)) }
+    ensures proper { IfOk result IsProper }
 {
     let asked = match read(&job.given) {
         Ok(asked) => asked,
-        Err(number) => return Ending::Refused(number),
+        Err(number) => return Err(Ending::Refused(number)),
     };
     let now = match moment(rt, job.given.now) {
         Ok(now) => now,
-        Err(stop) => return Ending::Stopped(stop),
+        Err(stop) => return Err(Ending::Stopped(stop)),
     };
-    let grant = Command::Grant {
+    Ok(Task::Change(Command::Grant {
         caller: asked.caller,
         merchant: asked.merchant,
         right: asked.right,
         until: job.until,
         now,
-    };
-    do_on_file(rt, job.given.file, &Task::Change(grant), input, output)
+    }))
 }
 
-/// Takes a right of a caller at a merchant away, in the vault of a file. Refused as a grant is.
-pub(crate) fn withdraw<R: Read, W: Write>(
-    rt: &HostRuntime,
-    job: &RightJob<'_>,
-    input: &mut Watched<R>,
-    output: &mut Watched<W>,
-) -> Ending
-    ensures { let s : Streams = streams R.remaining input.old input.new W.contents output.old output.new in
-        Ends (Job.Withdraw job.entry.now) result (input.new ≡ input.old) (output.new ≡ output.old) s }
+/// A right of a caller at a merchant is taken away. Refused as a grant is.
+pub(crate) fn withdraw(rt: &HostRuntime, job: &RightJob<'_>) -> Result<Task, Ending>
+    ensures task { MatchResult result
+        (IsTaskOf (Job.Withdraw job.entry.now)) (EndsBefore (Job.Withdraw job.entry.now)) }
+    ensures proper { IfOk result IsProper }
 {
     let asked = match read(job) {
         Ok(asked) => asked,
-        Err(number) => return Ending::Refused(number),
+        Err(number) => return Err(Ending::Refused(number)),
     };
     let now = match moment(rt, job.now) {
         Ok(now) => now,
-        Err(stop) => return Ending::Stopped(stop),
+        Err(stop) => return Err(Ending::Stopped(stop)),
     };
-    let withdraw = Command::Withdraw {
+    Ok(Task::Change(Command::Withdraw {
         caller: asked.caller,
         merchant: asked.merchant,
         right: asked.right,
         now,
-    };
-    do_on_file(rt, job.file, &Task::Change(withdraw), input, output)
+    }))
 }

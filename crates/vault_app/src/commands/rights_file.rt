@@ -1,15 +1,13 @@
 //! `rights`: the rights that a file lists.
-ghost use Rattle.std.specs.Prelude.{◌≡◌, ◌≢◌, IfErr, IfOk};
-ghost use Rattle.vault_wire.specs.Watching.{inner_of};
+ghost use Rattle.std.specs.Prelude.{◌≡◌, ◌≢◌, IfErr, IfOk, MatchResult};
 ghost use Rattle.vault_words.specs.declared.jobs.Job.{Job};
-ghost use Rattle.vault_jobs.specs.Streams.{Streams, streams};
-ghost use Rattle.vault_app.specs.Ran.{Ends};
+ghost use Rattle.vault_jobs.specs.Tasks.{IsProper};
+ghost use Rattle.vault_app.specs.Plans.{EndsBefore, IsTaskOf};
 ghost use Rattle.vault_app.specs.Rights.{IsListed, IsUnlisted};
 
 use crate::ending::Ending;
-use crate::on_file::do_on_file;
 use std::fs;
-use std::io::{ErrorKind, Read, Write};
+use std::io::ErrorKind;
 use vault_core::moment::Moment;
 use vault_core::name::{Caller, MerchantId};
 use vault_core::right::Right;
@@ -18,7 +16,6 @@ use vault_jobs::stop::{Stop, Unread};
 use vault_jobs::task::Task;
 use vault_rights::fault::RightsFault;
 use vault_rights::read::read_rights;
-use vault_wire::watched::Watched;
 use vault_words::commands::rights_file::RightsFileJob;
 
 /// Why a file isn't read that the host refuses so.
@@ -52,24 +49,16 @@ fn read(
     }
 }
 
-/// Gives the rights that a file lists, each with its end, in the vault of another file, up to the first that
-/// is refused: by 7 where its merchant isn't known. The vault's file isn't touched where the list isn't read.
-pub(crate) fn rights<R: Read, W: Write>(
-    rt: &HostRuntime,
-    job: &RightsFileJob<'_>,
-    input: &mut Watched<R>,
-    output: &mut Watched<W>,
-) -> Ending
-    ensures { let s : Streams = streams R.remaining input.old input.new W.contents output.old output.new in
-        Ends (Job.Rights job.entry.now) result (input.new ≡ input.old) (output.new ≡ output.old) s }
+/// The rights that a file lists are given, each with its end, up to the first that is refused: by 7 where its
+/// merchant isn't known. The vault's file isn't touched where the list isn't read.
+pub(crate) fn task(rt: &HostRuntime, job: &RightsFileJob<'_>) -> Result<Task, Ending>
+    ensures task { MatchResult result
+        (IsTaskOf (Job.Rights job.entry.now)) (EndsBefore (Job.Rights job.entry.now)) }
+    ensures proper { IfOk result IsProper }
 {
-    let rows = match read(rt, job.rights) {
-        Ok(rows) => rows,
-        Err(ending) => return ending,
-    };
-    let now = match moment(rt, job.now) {
-        Ok(now) => now,
-        Err(stop) => return Ending::Stopped(stop),
-    };
-    do_on_file(rt, job.file, &Task::Give(&rows, now), input, output)
+    let rows = read(rt, job.rights)?;
+    match moment(rt, job.now) {
+        Ok(now) => Ok(Task::Give(rows, now)),
+        Err(stop) => Err(Ending::Stopped(stop)),
+    }
 }

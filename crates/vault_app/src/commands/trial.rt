@@ -1,10 +1,10 @@
 //! `trial`: messages answered by a vault in memory.
-ghost use Rattle.std.specs.Prelude.{◌≡◌};
-ghost use Rattle.vault_wire.specs.Watching.{inner_of};
-ghost use Rattle.vault_jobs.specs.Streams.{Streams, streams};
-ghost use Rattle.vault_app.specs.Ran.{Ends};
-ghost use Rattle.vault_words.specs.declared.jobs.Job.{Job};
+ghost use Rattle.std.specs.Prelude.{◌≡◌, IfOk, MatchResult};
 ghost use Rattle.vault_core.specs.Scalar.{IsLife};
+ghost use Rattle.vault_wire.specs.Watching.{inner_of};
+ghost use Rattle.vault_words.specs.declared.jobs.Job.{Job};
+ghost use Rattle.vault_jobs.specs.Streams.{Streams, streams};
+ghost use Rattle.vault_app.specs.Plans.{EndsBefore, IsTrialOf, TrialEnds};
 
 use crate::ending::Ending;
 use std::io::{Read, Write};
@@ -16,36 +16,44 @@ use vault_jobs::trial::{Trial, serve_trial};
 use vault_wire::watched::Watched;
 use vault_words::commands::trial::TrialJob;
 
-/// Answers the messages of the input by a vault in memory. Refused by 4 where a name is none.
-pub(crate) fn trial<R: Read, W: Write>(
-    rt: &HostRuntime,
-    job: &TrialJob<'_>,
-    input: &mut Watched<R>,
-    output: &mut Watched<W>,
-) -> Ending
+/// What the trial is asked with. Refused by 4 where a name is none.
+pub(crate) fn plan(rt: &HostRuntime, job: &TrialJob<'_>) -> Result<Trial, Ending>
     requires { IsLife job.now.life }
-    ensures { let s : Streams = streams R.remaining input.old input.new W.contents output.old output.new in
-        Ends (Job.Trial job.entry.now) result (input.new ≡ input.old) (output.new ≡ output.old) s }
+    ensures trial { MatchResult result (IsTrialOf job.entry.now) (EndsBefore (Job.Trial job.entry.now)) }
+    ensures life { IfOk result (λ trial. IsLife trial.life) }
 {
     let Ok(caller) = Caller::read(job.caller.as_bytes()) else {
-        return Ending::Refused(BAD_NAME);
+        return Err(Ending::Refused(BAD_NAME));
     };
     let Ok(merchant) = MerchantId::read(job.merchant.as_bytes()) else {
-        return Ending::Refused(BAD_NAME);
+        return Err(Ending::Refused(BAD_NAME));
     };
     let made = match moment(rt, job.now) {
         Ok(made) => made,
-        Err(stop) => return Ending::Stopped(stop),
+        Err(stop) => return Err(Ending::Stopped(stop)),
     };
-    let trial = Trial {
+    Ok(Trial {
         caller,
         merchant,
         life: job.life,
         made,
         moment: job.now,
         digits: job.digits,
-    };
-    match serve_trial(rt, &trial, input, output) {
+    })
+}
+
+/// Answers the messages of the input by a vault in memory.
+pub(crate) fn serve<R: Read, W: Write>(
+    rt: &HostRuntime,
+    trial: &Trial,
+    input: &mut Watched<R>,
+    output: &mut Watched<W>,
+) -> Ending
+    requires { IsLife trial.now.life }
+    ensures { let s : Streams = streams R.remaining input.old input.new W.contents output.old output.new in
+        TrialEnds trial.now result s }
+{
+    match serve_trial(rt, trial, input, output) {
         Ok(()) => Ending::Done,
         Err(fault) => Ending::Stopped(Stop::Service(fault)),
     }

@@ -1,4 +1,5 @@
 //! Runs of the program, and what they end with.
+use sqlite::Unknown;
 use std::alloc::Global;
 use std::fs;
 use std::io::{Read, Write};
@@ -41,12 +42,12 @@ pub fn status_of<R: Read, W: Write, E: Write>(
     output: &mut Watched<W>,
     errors: &mut Watched<E>,
 ) -> u8 {
-    run(rt, words, input, output, errors)
+    run(rt, Unknown, words, input, output, errors).0
 }
 
 /// The words of a line, with a space between two, with this file in place of `FILE`, and with a space in the
 /// name `shop_1`.
-fn words_of<'a>(alloc: Global, line: &'a str, file: &'a str) -> Vec<&'a str> {
+pub fn words_of<'a>(alloc: Global, line: &'a str, file: &'a str) -> Vec<&'a str> {
     let mut words = Vec::new(alloc);
     for word in line.split(' ') {
         let _ = words.push(match word {

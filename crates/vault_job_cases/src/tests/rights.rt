@@ -122,7 +122,7 @@ fn granted(rt: &HostRuntime, vault: &mut Vault<MemTables>, text: &str) -> Option
     if vault.broken() {
         return None;
     }
-    match do_task(rt, &Task::Give(&rows, now), vault, &mut reader, &mut writer) {
+    match do_task(rt, &Task::Give(rows, now), vault, &mut reader, &mut writer) {
         Ok(Outcome::Done) => Some(output),
         _ => None,
     }

@@ -11,6 +11,7 @@ use std::io;
 use std::io::{Write, read_to_string};
 use std::net::{Net, OpenListener, Shutdown, TcpListener, TcpStream};
 use std::time::Duration;
+use vault_listen::arrivals::Arrivals;
 use vault_listen::fault::ListenFault;
 use vault_listen::peer::{LONGEST, Limits, PATIENCE};
 use vault_listen::service::{serve_on, serve_within};
@@ -91,11 +92,12 @@ fn serve_at<L: OpenListener<Stream = TcpStream>, T: Tables>(
         turn: Duration::from_millis(200),
         connection: Duration::from_secs(60),
     };
+    let mut arrivals = Arrivals::new(listener);
     serve_within(
         alloc,
         &StandingClock::at(moment),
         &mut generator,
-        listener,
+        &mut arrivals,
         connections,
         limits,
         vault,
@@ -117,7 +119,15 @@ fn is_answered<H: Net<Listener = TcpListener, Stream = TcpStream> + AllocGlobal>
     let mut vault = shop(rt.alloc());
     let mut generator = StdRng::seed_from_u64(7);
     let clock = StandingClock::at(1000);
-    let ended = serve_on(rt.alloc(), &clock, &mut generator, &listener, 1, &mut vault);
+    let mut arrivals = Arrivals::new(&listener);
+    let ended = serve_on(
+        rt.alloc(),
+        &clock,
+        &mut generator,
+        &mut arrivals,
+        1,
+        &mut vault,
+    );
     let are_limits = PATIENCE == 5 && LONGEST == 60;
     Ok(ended == Ok(()) && are_limits && is_told(rt.alloc(), asked, ANSWERED))
 }

@@ -5,15 +5,27 @@ use Rattle.vault_app.proofs.run.run.Goals as goal
 
 pub returns-clause-ended : goal.returns-clause-ended
 returns-clause-ended g c = (
-  c.ended-ending.result,
+  c.ended-ending.result.0,
   c.report.ensures.status,
   said_of g.R.Read.remaining g.W.Write.contents c.args.input.now c.ended-ending.new.input
       c.args.output.now c.ended-ending.new.output c.report.new.output _ _ _
-      c.ended-ending.result c.ended-ending.ensures c.report.ensures.said,
+      c.ended-ending.result.0 c.ended-ending.ensures.ran c.report.ensures.said,
 )
 
 pub returns-clause-unread_refused : goal.returns-clause-unread_refused
 returns-clause-unread_refused g c = λ one.
     let s : Streams = streams g.R.Read.remaining c.args.input.now c.ended-ending.new.input
     g.W.Write.contents c.args.output.now c.ended-ending.new.output in
-    unread_of _ c.ended-ending.result _ _ s c.report.result c.ended-ending.ensures c.report.ensures.status one
+    unread_of _ c.ended-ending.result.0 _ _ s c.report.result c.ended-ending.ensures.ran c.report.ensures.status
+    one
+
+pub returns-clause-does : goal.returns-clause-does
+returns-clause-does g c = (
+  c.ended-ending.new.output,
+  record {
+    ending = c.ended-ending.result.0;
+    exits = c.report.ensures.status;
+    says = c.report.ensures.said;
+    does = c.ended-ending.ensures.does;
+  },
+)

@@ -1,4 +1,24 @@
+use Rattle.std.proofs.Common.{arith}
+use Rattle.sqlite.specs.Files.{file_state}
+use Rattle.sqlite.specs.State.{HasCleanDisk}
+use Rattle.sqlite.specs.View.{IsClean}
+use Rattle.sqlite_store.specs.FileStore.{view}
+use Rattle.sqlite_wal.specs.Files.{image_at}
+use Rattle.vault_file.proofs.Moving.{moves_as, stays_old}
 use Rattle.vault_file.proofs.migrate.migrate_file.Goals as goal
 
 pub returns-in-Ok-clause-no_path : goal.returns-in-Ok-clause-no_path
-returns-in-Ok-clause-no_path c none = absurd (c.in-Ok.ensures.no_path none)
+returns-in-Ok-clause-no_path g c none = absurd (c.in-Ok.ensures.no_path none)
+
+pub returns-in-Ok-clause-moved : goal.returns-in-Ok-clause-moved
+returns-in-Ok-clause-moved g c =
+    moves_as (image_at g.S.Start) c.in-Ok.conn c.close.result c.in-Ok.ensures.moved
+    (λ clean. omega (arith, c.close.ensures.clean, clean)) c.close.ensures.after
+
+pub returns-in-Err-default-Some-clause-left : goal.returns-in-Err-default-Some-clause-left
+returns-in-Err-default-Some-clause-left g c =
+    stays_old (image_at g.S.Start) c.in-Err-default-Some.conn c.close_moved.result c.in-Err-default-Some.fault
+    (rw c.in-Err-default-Some.field-0-1-is at c.in-Err-default-Some.ensures.left_old)
+    (λ clean. omega (arith, c.close_moved.ensures.clean, clean)) c.close_moved.ensures.some_after
+    c.close_moved.ensures.same_after
+    (rw c.in-Err-default-Some.field-0-1-is at c.in-Err-default-Some.ensures.never_in)

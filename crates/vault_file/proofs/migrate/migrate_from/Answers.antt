@@ -53,7 +53,8 @@ returns-in-Err-clause-never g c clean V sound keeps =
 pub returns-in-Err-clause-left : goal.returns-in-Err-clause-left
 returns-in-Err-clause-left g c =
     leaves_from (image_at g.S.Start) c.in-Some.conn c.migrate_all.new.conn c.in-Some.ensures.opened
-    c.in-Some.ensures.unlimited (λ clean. (c.migrate_all.ensures.crash clean).found) c.in-Some.ensures.again
+    c.in-Some.ensures.unlimited (λ clean. (c.migrate_all.ensures.crash clean).found)
+    c.migrate_all.ensures.clean c.in-Some.ensures.again
     c.in-Some.ensures.either c.in-Some.ensures.first
 
 pub returns-in-Err-clause-left_old : goal.returns-in-Err-clause-left_old

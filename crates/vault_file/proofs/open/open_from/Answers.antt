@@ -9,7 +9,8 @@ use Rattle.vault_store.specs.Applied.{tables_of}
 pub returns-in-Ok-clause-found : goal.returns-in-Ok-clause-found
 returns-in-Ok-clause-found g c =
     opens_from (image_at g.S.Start) c.in-Some.conn c.in-Some.ensures.opened c.in-Some.ensures.again
-    (tables_of c.in-Ok.vault).conn c.in-Some.ensures.either c.in-Some.ensures.first c.in-Ok.ensures.opens
+    (tables_of c.in-Ok.vault).conn c.in-Some.ensures.either c.in-Some.ensures.first
+    c.in-Ok.ensures.opens c.in-Ok.ensures.clean
 
 pub returns-in-Ok-clause-no_path : goal.returns-in-Ok-clause-no_path
 returns-in-Ok-clause-no_path g c none = there c.in-Some.conn (c.in-Some.ensures.no_path none)
@@ -47,5 +48,6 @@ returns-in-Err-clause-never g c clean V sound keeps =
 pub returns-in-Err-clause-left : goal.returns-in-Err-clause-left
 returns-in-Err-clause-left g c =
     leaves_from (image_at g.S.Start) c.in-Some.conn c.in-Err.refusal.1 c.in-Some.ensures.opened
-    c.in-Some.ensures.unlimited c.in-Err.ensures.left_refused c.in-Some.ensures.again
+    c.in-Some.ensures.unlimited c.in-Err.ensures.left_refused c.in-Err.ensures.clean_refused
+    c.in-Some.ensures.again
     c.in-Some.ensures.either c.in-Some.ensures.first

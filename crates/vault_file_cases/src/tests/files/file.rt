@@ -1,13 +1,13 @@
 //! What is done with the file at a path, in words.
 use crate::tests::over::changed;
-use sqlite::{Alter, Connection};
+use sqlite::{Alter, Connection, Unknown};
 use std::alloc::Global;
 use std::fs;
 use std::os::unix::fs::{PermissionsExt, symlink};
 use vault_file::check::check_file;
 use vault_file::fault::NotOpened;
 use vault_file::migrate::migrate_file;
-use vault_file::open::{close_vault, open_vault};
+use vault_file::open::{close_files, open_vault};
 use vault_script::case::answer_told;
 use vault_script::told::text;
 
@@ -23,19 +23,19 @@ pub fn refusal(alloc: Global, fault: NotOpened) -> String {
 
 /// What opening a file and closing it again says.
 pub fn opened(rt: &HostRuntime, path: &str) -> String {
-    match open_vault(rt, path) {
+    match open_vault(rt, path, Unknown) {
         Ok(vault) => {
-            close_vault(vault);
+            drop(close_files(vault));
             text(rt.alloc(), "opened")
         }
-        Err(fault) => refusal(rt.alloc(), fault),
+        Err((fault, _)) => refusal(rt.alloc(), fault),
     }
 }
 
 /// What checking a file says: how many merchants, entries and records there are, or why it isn't opened.
 pub fn checked(rt: &HostRuntime, path: &str) -> String {
     let alloc = rt.alloc();
-    match check_file(rt, path) {
+    match check_file(rt, path, Unknown).0 {
         Ok(sizes) => {
             let (merchants, entries, records) = (sizes.merchants, sizes.entries, sizes.records);
             let told = format!(in alloc; "{merchants} {entries} {records}");
@@ -48,7 +48,7 @@ pub fn checked(rt: &HostRuntime, path: &str) -> String {
 /// What moving a file to the newest schema says: its version, or why it isn't opened.
 pub fn migrated(rt: &HostRuntime, path: &str) -> String {
     let alloc = rt.alloc();
-    match migrate_file(rt, path) {
+    match migrate_file(rt, path, Unknown).0 {
         Ok(version) => {
             let told = format!(in alloc; "schema {version}");
             told.unwrap_or(String::new(alloc))
@@ -66,10 +66,10 @@ pub fn is_refused(rt: &HostRuntime, path: &str) -> bool {
 
 /// Whether they are while the file is open.
 pub fn is_busy(rt: &HostRuntime, path: &str) -> bool {
-    match open_vault(rt, path) {
+    match open_vault(rt, path, Unknown) {
         Ok(vault) => {
             let is_refused = is_refused(rt, path);
-            close_vault(vault);
+            drop(close_files(vault));
             is_refused
         }
         Err(_) => false,
@@ -78,13 +78,13 @@ pub fn is_busy(rt: &HostRuntime, path: &str) -> bool {
 
 /// What the vault in a file answers to a line.
 pub fn answered(rt: &HostRuntime, path: &str, line: &str) -> String {
-    match open_vault(rt, path) {
+    match open_vault(rt, path, Unknown) {
         Ok(mut vault) => {
             let told = answer_told(rt.alloc(), &mut vault, line);
-            close_vault(vault);
+            drop(close_files(vault));
             told
         }
-        Err(fault) => refusal(rt.alloc(), fault),
+        Err((fault, _)) => refusal(rt.alloc(), fault),
     }
 }
 

@@ -8,6 +8,7 @@ use std::alloc::Global;
 use std::io;
 use std::io::ErrorKind;
 use std::net::{Net, TcpListener, TcpStream};
+use vault_listen::arrivals::Arrivals;
 use vault_listen::fault::ListenFault;
 use vault_listen::service::serve_on;
 use vault_store::vault::Vault;
@@ -98,7 +99,15 @@ fn ends_alone<H: Net<Listener = TcpListener, Stream = TcpStream> + AllocGlobal>(
     let mut vault = shop(rt.alloc());
     let mut generator = StdRng::seed_from_u64(7);
     let clock = StandingClock::unread(1000, 1);
-    let ended = serve_on(rt.alloc(), &clock, &mut generator, &listener, 2, &mut vault);
+    let mut arrivals = Arrivals::new(&listener);
+    let ended = serve_on(
+        rt.alloc(),
+        &clock,
+        &mut generator,
+        &mut arrivals,
+        2,
+        &mut vault,
+    );
     let are_told = is_told(rt.alloc(), first, "") && is_told(rt.alloc(), second, ANSWERED);
     Ok(ended == Ok(()) && are_told)
 }

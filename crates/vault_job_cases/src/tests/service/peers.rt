@@ -8,6 +8,7 @@ use std::io;
 use std::io::{Read, Write, read_to_string};
 use std::net::{Net, OpenListener, TcpListener, TcpStream};
 use std::time::Duration;
+use vault_listen::arrivals::Arrivals;
 use vault_listen::linger::discard;
 use vault_listen::peer::{Limits, PATIENCE, Peer, PeerReader, PeerWriter};
 use vault_listen::service::{serve_on, serve_within};
@@ -83,11 +84,12 @@ fn ends_alone<H: Net<Listener = TcpListener, Stream = TcpStream> + AllocGlobal>(
     let asked = peer(rt, &listener, b"")?;
     let mut vault = shop(rt.alloc());
     let mut generator = StdRng::seed_from_u64(7);
+    let mut arrivals = Arrivals::new(&listener);
     let ended = serve_within(
         rt.alloc(),
         &StandingClock::at(1000),
         &mut generator,
-        &listener,
+        &mut arrivals,
         1,
         NO_TIME,
         &mut vault,
@@ -123,7 +125,15 @@ fn are_answered<H: Net<Listener = TcpListener, Stream = TcpStream> + AllocGlobal
     let mut vault = shop(rt.alloc());
     let mut generator = StdRng::seed_from_u64(7);
     let clock = StepClock::of(step);
-    let ended = serve_on(rt.alloc(), &clock, &mut generator, &listener, 1, &mut vault);
+    let mut arrivals = Arrivals::new(&listener);
+    let ended = serve_on(
+        rt.alloc(),
+        &clock,
+        &mut generator,
+        &mut arrivals,
+        1,
+        &mut vault,
+    );
     Ok(ended == Ok(()) && is_told_so(rt.alloc(), asked, wanted.as_str()))
 }
 

@@ -7,6 +7,7 @@ abbrev pub invariant-loop : goal.invariant-loop
 invariant-loop g l = record {
   left : AllKept l.counter (vault_passing g.T.Tables.is_honest g.T.Tables.holds g.T.Tables.leaves
       l.initial.vault l.vault);
+  came : l.arrivals.came ≡ l.counter;
   whole : is_broken l.vault ≡ is_broken l.initial.vault;
   honest : g.T.Tables.is_honest (tables_of l.vault) → g.T.Tables.is_honest (tables_of l.initial.vault);
 }

@@ -1,0 +1,105 @@
+-- A task on the vault in files, said of the files.
+use Rattle.std.proofs.Common.{◌≡◌, ◌↔◌, Bool, List, Option, Some, None, Result, Ok, Err, false, ap, refl}
+use Rattle.std.specs.Prelude.{IfErr, IfOk, IfSome}
+use Rattle.sqlite.specs.Files.{file_state}
+use Rattle.sqlite.specs.Held.{Held}
+use Rattle.sqlite.specs.State.{HasCleanDisk}
+use Rattle.sqlite.specs.View.{IsClean}
+use Rattle.sqlite_disk.specs.declared.Disk.{Ghosts}
+use Rattle.sqlite_store.specs.FileStore.{view}
+use Rattle.sqlite_store.specs.declared.store.FileStore.{FileStore}
+use Rattle.sqlite_wal.specs.Recovery.{Image}
+use Rattle.vault_core.specs.Sound.{Sound}
+use Rattle.vault_core.specs.Vault.{Vault as Content, empty_vault}
+use Rattle.vault_file.specs.Found.{ChecksAs, IsNoVerdict, OpensFrom, Stays}
+use Rattle.vault_file.specs.declared.fault.NotOpened.{NotOpened as FileFault}
+use Rattle.vault_file.specs.declared.fault.NotOpened.TheVariants as file
+use Rattle.vault_jobs.proofs.Refining.{refined}
+use Rattle.vault_jobs.specs.Doing.{Does}
+use Rattle.vault_jobs.specs.Streams.{Streams}
+use Rattle.vault_jobs.specs.Tasks.{TaskEnds}
+use Rattle.vault_jobs.specs.declared.stop.Stop.{Stop}
+use Rattle.vault_jobs.specs.declared.task.Outcome.{Outcome}
+use Rattle.vault_jobs.specs.declared.task.Outcome.TheVariants as outcome
+use Rattle.vault_jobs.specs.declared.task.Task.{Task}
+use Rattle.vault_listen.specs.Service.{vault_passing}
+use Rattle.vault_recover.specs.Crashed.{Keeps, Reopens, ReopensEither}
+use Rattle.vault_schema.specs.Holds.{Holds, LeavesEither}
+use Rattle.vault_store.specs.Applied.{Contains}
+use Rattle.vault_store.specs.declared.vault.Vault.{Vault}
+use Rattle.vault_verdict.specs.Sizes.{sizes_of}
+use Rattle.vault_verdict.specs.declared.sizes.Sizes.{Sizes}
+use Rattle.vault_app.specs.Files.{DoesOnFile, EndsOnFile, FileEnds, WorksOn, ending_for}
+use Rattle.vault_app.specs.Jobs.{IsChecked}
+use Rattle.vault_app.specs.declared.ending.Ending.TheVariants.{NotOpened}
+
+module _ {D : Type 0} {g : Ghosts D} {T : Type 0} (conn_of : T → Held (FileStore D g)) (failed : T → Bool) where
+  -- what tables over a connection hold, on an honest disk
+  abbrev pub held : T → Content → Type 0
+  held t V = (failed t ≡ false) × (HasCleanDisk (file_state (conn_of t)) → Holds (file_state (conn_of t)) V)
+
+  pub works : (image : Image) (v v' : Vault T) (left : FileStore D g) (task : Task) (r : Result Outcome Stop)
+      (broken : Bool) (unread unsent : Type 0) (s : Streams)
+      → OpensFrom image (conn_of v.tables) → failed v.tables ≡ false
+      → (HasCleanDisk (file_state (conn_of v'.tables)) → HasCleanDisk (file_state (conn_of v.tables)))
+      → (IsClean (view left) → HasCleanDisk (file_state (conn_of v'.tables)))
+      → (IsClean (view left) → (V : Content) → Contains held v' V → Reopens left V)
+      → (IsClean (view left) → (V W : Content) → LeavesEither (file_state (conn_of v'.tables)) V W
+      → ReopensEither left V W)
+      → Does task (vault_passing (λ t. HasCleanDisk (file_state (conn_of t))) held
+      (λ t V W. LeavesEither (file_state (conn_of t)) V W) v v') broken r unread unsent s
+      → WorksOn image left (λ p b. Does task p b r unread unsent s)
+  works image v v' left task r broken unread unsent s found fresh honest closed after either does = record {
+    opened = conn_of v.tables;
+    broken = broken;
+    found = found;
+    clean = λ clean. honest (closed clean);
+    done = refined (IsClean (view left)) (λ V. Holds (file_state (conn_of v.tables)) V × Sound V)
+        (λ V. Reopens left V × Sound V) (ReopensEither left)
+        (vault_passing (λ t. HasCleanDisk (file_state (conn_of t))) held
+        (λ t V W. LeavesEither (file_state (conn_of t)) V W) v v')
+        (λ V clean was. (closed clean, ((fresh, λ _. was.0), was.1)))
+        (λ clean V kept. ((after clean V kept.0, kept.0.1), either clean V V kept.1))
+        (λ clean V W torn. either clean V W torn)
+        s task broken r unread unsent does;
+  }
+
+-- how a task came out, as an ending
+pub ends_of : (unread unsent : Type 0) (s : Streams) (task : Task) (r : Result Outcome Stop)
+    → TaskEnds task r unread unsent s → FileEnds task (ending_for r) unread unsent s
+ends_of unread unsent s task (Ok outcome.Done) ends = ends
+ends_of unread unsent s task (Ok (outcome.Refused n)) ends = ends
+ends_of unread unsent s task (Ok outcome.SomeRefused) ends = ends
+ends_of unread unsent s task (Err stop) ends = ends
+
+module _ {D : Type 0} {g : Ghosts D} (image : Image) (unread unsent : Type 0) (s : Streams) where
+  pub ended : (left : FileStore D g) (task : Task) (r : Result Outcome Stop)
+      → WorksOn image left (λ p b. Does task p b r unread unsent s)
+      → DoesOnFile image left task (ending_for r) unread unsent s
+  ended left task (Ok outcome.Done) works = works
+  ended left task (Ok (outcome.Refused n)) works = works
+  ended left task (Ok outcome.SomeRefused) works = works
+  ended left task (Err stop) works = works
+
+  pub refused_file : (left : Option (FileStore D g)) (task : Task) (why : FileFault)
+      → (why ≡ file.Refused) ↔ (left ≡ None)
+      → IfSome left (λ it. IsClean (view it) → (V : Content) → Sound V → Keeps image V → IsNoVerdict why)
+      → IfSome left (Stays image) → unread → unsent
+      → EndsOnFile image left task (NotOpened why) unread unsent s
+  refused_file None task why is never stays calm silent = (ap (λ f. NotOpened f) (is.1 refl), calm, silent)
+  refused_file (Some left) task why is never stays calm silent =
+      (record { never = never; stays = stays }, calm, silent)
+
+-- what a check comes to
+pub checked : {D : Type 0} {g : Ghosts D} (image : Image) (left : Option (FileStore D g))
+    (r : Result Sizes FileFault)
+    → (left ≡ None → IfOk r (λ sizes. sizes ≡ sizes_of empty_vault))
+    → IfErr r (λ why. (left ≡ None) ↔ (why ≡ file.Refused))
+    → IfOk r (λ sizes. IfSome left (λ it. ChecksAs image it sizes))
+    → IfErr r (λ why. IfSome left (λ it. IsClean (view it)
+    → (V : Content) → Sound V → Keeps image V → IsNoVerdict why))
+    → IsChecked image left r
+checked image None (Ok sizes) empty refused sound never = empty refl
+checked image None (Err why) empty refused sound never = refused.0 refl
+checked image (Some left) (Ok sizes) empty refused sound never = sound
+checked image (Some left) (Err why) empty refused sound never = never

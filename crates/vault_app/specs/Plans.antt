@@ -1,0 +1,204 @@
+-- What a job comes to: a plan, or an ending before there is one.
+use Rattle.std.specs.Prelude.{◌≡◌, ◌≢◌, ◌⊎◌, ℕ, ℤ, List, Option, None, Bool, true, false, unwrap_or}
+use Rattle.std.specs.Prelude.{Result, Ok, Err}
+use Rattle.std.specs.Io.KnownBytes.{Appends}
+use Rattle.clap.specs.Words.{Text}
+use Rattle.vault_core.specs.Name.{IsName}
+use Rattle.vault_core.specs.Scalar.{IsLife}
+use Rattle.vault_core.specs.Words.{right_word}
+use Rattle.vault_core.specs.declared.command.Command.TheVariants as command
+use Rattle.vault_core.specs.declared.right.Right.{Right}
+use Rattle.vault_batch.specs.declared.asker.Asker.{Asker}
+use Rattle.vault_file.specs.declared.fault.NotOpened.{NotOpened as FileFault}
+use Rattle.vault_http.specs.declared.fault.ServeFault.{ServeFault}
+use Rattle.vault_http.specs.declared.fault.ServeFault.TheVariants as service
+use Rattle.vault_rights.specs.Named.{Row}
+use Rattle.vault_verdict.specs.declared.sizes.Sizes.{Sizes}
+use Rattle.vault_words.specs.declared.commands.trial.TrialJob.{TrialJob}
+use Rattle.vault_words.specs.declared.jobs.Job.{Job}
+use Rattle.vault_words.specs.declared.jobs.Job.TheVariants.{Trial, Merchant, Grant, Withdraw, Rights, Pipe}
+use Rattle.vault_words.specs.declared.jobs.Job.TheVariants.{Batch, Serve, Sweep, Check, Migrate}
+use Rattle.vault_jobs.specs.Causes.{IsCauseOf}
+use Rattle.vault_jobs.specs.Moments.{IsMomentOf}
+use Rattle.vault_jobs.specs.Streams.{Known, Streams}
+use Rattle.vault_jobs.specs.Tasks.{IsProper}
+use Rattle.vault_jobs.specs.Trial as memory
+use Rattle.vault_jobs.specs.declared.stop.Stop.TheVariants as stop
+use Rattle.vault_jobs.specs.declared.stop.Unread.{Unread}
+use Rattle.vault_jobs.specs.declared.task.Task.{Task}
+use Rattle.vault_jobs.specs.declared.task.Task.TheVariants as task
+use Rattle.vault_jobs.specs.declared.trial.Trial.{Trial as Asked}
+use Rattle.vault_app.specs.Files.{FileEnds}
+use Rattle.vault_app.specs.Ran.{AreNames, AsksFor, IsMisnamed, Unasked, schema_line, sound_line}
+use Rattle.vault_app.specs.Rights.{IsListed, IsRefusedText}
+use Rattle.vault_app.specs.declared.ending.Ending.{Ending}
+use Rattle.vault_app.specs.declared.ending.Ending.TheVariants.{Done, Version, Refused, SomeRefused}
+use Rattle.vault_app.specs.declared.ending.Ending.TheVariants.{BadWords, NotOpened, Stopped}
+use Rattle.vault_app.specs.declared.plan.Plan.{Plan}
+use Rattle.vault_app.specs.declared.plan.Plan.TheVariants as plan
+
+-- the connections after which a service ends that goes on until it is ended: more than any lives to see
+abbrev pub without_end : ℕ
+without_end = 18446744073709551615
+
+-- the task that the words of a job ask for, whose names are names, at the moment that they fix, where they
+-- fix one
+abbrev pub IsTaskOf : Job → Task → Type 0
+IsTaskOf (Trial j) t = ⊥
+IsTaskOf (Merchant j) t = IsName j.name.now × ((now : ℕ) × IsMomentOf j.now now
+    × (t ≡ task.Change (command.SetMerchant j.name.now j.single_life j.multi_life j.lead now)))
+IsTaskOf (Grant j) t = AreNames j.given
+    × ((right : Right) × (now : ℕ) × (j.given.right.now ≡ right_word right) × IsMomentOf j.given.now now
+    × (t ≡ task.Change (command.Grant j.given.caller.now j.given.merchant.now right j.until now)))
+IsTaskOf (Withdraw j) t = AreNames j
+    × ((right : Right) × (now : ℕ) × (j.right.now ≡ right_word right) × IsMomentOf j.now now
+    × (t ≡ task.Change (command.Withdraw j.caller.now j.merchant.now right now)))
+IsTaskOf (Rights j) (task.Give rows now) = IsListed rows.items × IsMomentOf j.now now
+IsTaskOf (Rights j) (task.Change c) = ⊥
+IsTaskOf (Rights j) (task.Sweep who now) = ⊥
+IsTaskOf (Rights j) (task.Batch who now digits) = ⊥
+IsTaskOf (Rights j) (task.Pipe now digits) = ⊥
+IsTaskOf (Rights j) (task.Serve port connections) = ⊥
+IsTaskOf (Pipe j) t = t ≡ task.Pipe j.now j.digits
+IsTaskOf (Batch j) t = (IsName j.caller.now × IsName j.merchant.now)
+    × ((who : Asker) × (who.caller ≡ j.caller.now) × (who.merchant ≡ j.merchant.now)
+    × (t ≡ task.Batch who j.now j.digits))
+IsTaskOf (Serve j) t = t ≡ task.Serve j.port (unwrap_or j.connections without_end)
+IsTaskOf (Sweep j) t = (IsName j.caller.now × IsName j.merchant.now)
+    × ((who : Asker) × (now : ℕ) × (who.caller ≡ j.caller.now) × (who.merchant ≡ j.merchant.now)
+    × IsMomentOf j.now now × (t ≡ task.Sweep who now))
+IsTaskOf (Check j) t = ⊥
+IsTaskOf (Migrate j) t = ⊥
+
+-- the trial that the words ask for
+pub record IsTrialOf (j : TrialJob) (t : Asked) : Type 0 where
+  pub caller : t.caller ≡ j.caller.now
+  pub merchant : t.merchant ≡ j.merchant.now
+  pub life : t.life ≡ j.life
+  pub made : IsMomentOf j.now t.made
+  pub moment : t.moment ≡ j.now
+  pub digits : t.digits ≡ j.digits
+
+-- the plan of a job: its task, with the vault in its file
+abbrev pub IsPlanOf : Job → Plan → Type 0
+IsPlanOf (Trial j) p = (t : Asked) × IsTrialOf j t × (p ≡ plan.Trial t)
+IsPlanOf (Merchant j) p = (t : Task) × IsTaskOf (Merchant j) t × (p ≡ plan.Do j.file t)
+IsPlanOf (Grant j) p = (t : Task) × IsTaskOf (Grant j) t × (p ≡ plan.Do j.given.file t)
+IsPlanOf (Withdraw j) p = (t : Task) × IsTaskOf (Withdraw j) t × (p ≡ plan.Do j.file t)
+IsPlanOf (Rights j) p = (t : Task) × IsTaskOf (Rights j) t × (p ≡ plan.Do j.file t)
+IsPlanOf (Pipe j) p = (t : Task) × IsTaskOf (Pipe j) t × (p ≡ plan.Do j.file t)
+IsPlanOf (Batch j) p = (t : Task) × IsTaskOf (Batch j) t × (p ≡ plan.Do j.file t)
+IsPlanOf (Serve j) p = (t : Task) × IsTaskOf (Serve j) t × (p ≡ plan.Do j.file t)
+IsPlanOf (Sweep j) p = (t : Task) × IsTaskOf (Sweep j) t × (p ≡ plan.Do j.file t)
+IsPlanOf (Check j) p = p ≡ plan.Check j.file
+IsPlanOf (Migrate j) p = p ≡ plan.Migrate j.file
+
+-- the lives of its task or of its trial are lives
+abbrev pub IsProperPlan : Plan → Type 0
+IsProperPlan (plan.Trial t) = IsLife t.life
+IsProperPlan (plan.Check path) = Unit {0}
+IsProperPlan (plan.Migrate path) = Unit {0}
+IsProperPlan (plan.Do path t) = IsProper t
+
+-- by which number a job is refused before there is a plan: for a name, a right or a list
+abbrev pub IsRefusedBefore : Job → ℕ → Type 0
+IsRefusedBefore (Trial j) n = (n ≡ 4) × ¬ (IsName j.caller.now × IsName j.merchant.now)
+IsRefusedBefore (Merchant j) n = (n ≡ 4) × ¬ (IsName j.name.now)
+IsRefusedBefore (Grant j) n = IsMisnamed j.given n
+IsRefusedBefore (Withdraw j) n = IsMisnamed j n
+IsRefusedBefore (Rights j) n = IsRefusedText n
+IsRefusedBefore (Pipe j) n = ⊥
+IsRefusedBefore (Batch j) n = (n ≡ 4) × ¬ (IsName j.caller.now × IsName j.merchant.now)
+IsRefusedBefore (Serve j) n = ⊥
+IsRefusedBefore (Sweep j) n = (n ≡ 4) × ¬ (IsName j.caller.now × IsName j.merchant.now)
+IsRefusedBefore (Check j) n = ⊥
+IsRefusedBefore (Migrate j) n = ⊥
+
+-- it may be stopped for want of a moment
+abbrev pub NeedsMoment : Job → Type 0
+NeedsMoment (Trial j) = j.now ≡ None
+NeedsMoment (Merchant j) = j.now ≡ None
+NeedsMoment (Grant j) = j.given.now ≡ None
+NeedsMoment (Withdraw j) = j.now ≡ None
+NeedsMoment (Rights j) = j.now ≡ None
+NeedsMoment (Pipe j) = ⊥
+NeedsMoment (Batch j) = ⊥
+NeedsMoment (Serve j) = ⊥
+NeedsMoment (Sweep j) = j.now ≡ None
+NeedsMoment (Check j) = ⊥
+NeedsMoment (Migrate j) = ⊥
+
+-- its rights stand in a list
+abbrev pub HasList : Job → Type 0
+HasList (Trial j) = ⊥
+HasList (Merchant j) = ⊥
+HasList (Grant j) = ⊥
+HasList (Withdraw j) = ⊥
+HasList (Rights j) = Unit {0}
+HasList (Pipe j) = ⊥
+HasList (Batch j) = ⊥
+HasList (Serve j) = ⊥
+HasList (Sweep j) = ⊥
+HasList (Check j) = ⊥
+HasList (Migrate j) = ⊥
+
+-- How a job ends without a plan: it is refused; its moment is the clock's, and there is none; or its list
+-- isn't read.
+abbrev pub EndsBefore : Job → Ending → Type 0
+EndsBefore job Done = ⊥
+EndsBefore job Version = ⊥
+EndsBefore job (Refused n) = IsRefusedBefore job n
+EndsBefore job SomeRefused = ⊥
+EndsBefore job BadWords = ⊥
+EndsBefore job (NotOpened f) = ⊥
+EndsBefore job (Stopped s) = (s ≡ stop.Service service.Source) × NeedsMoment job
+    ⊎ ((why : Unread) × (s ≡ stop.Rights why)) × HasList job
+
+-- how the words end without a plan: as their job does, or as they ask for none
+abbrev pub EndsPlanless : List Text → Ending → Type 0 → Type 0
+EndsPlanless words ending unsent =
+    AsksFor words (λ job. EndsBefore job ending) × unsent ⊎ Unasked words ending (Unit {0}) unsent
+
+-- how a trial ends: with the answers of its vault, or with the first of them
+abbrev pub TrialEnds : Asked → Ending → Streams → Type 0
+TrialEnds t Done s = (s.writer ≡ false)
+    × memory.IsTrial s.left_old s.left_new s.sent_old s.sent_new
+    (memory.trial_vault t.caller t.merchant t.life t.made) t.moment t.digits
+TrialEnds t Version s = ⊥
+TrialEnds t (Refused n) s = ⊥
+TrialEnds t SomeRefused s = ⊥
+TrialEnds t BadWords s = ⊥
+TrialEnds t (NotOpened f) s = ⊥
+TrialEnds t (Stopped why) s = IsCauseOf why s
+    × ((fault : ServeFault) × (why ≡ stop.Service fault) × (fault ≢ service.Store))
+    × memory.IsCut s.left_old s.left_new s.sent_old s.sent_new
+    (memory.trial_vault t.caller t.merchant t.life t.made) t.moment t.digits
+
+-- a job that is done wrote this line, or the writer failed
+abbrev pub LineEnds : List ℕ → Ending → Known → Known → Bool → Type 0
+LineEnds line Done old new writer = (writer ≡ false) × Appends old new line
+LineEnds line Version old new writer = ⊥
+LineEnds line (Refused n) old new writer = ⊥
+LineEnds line SomeRefused old new writer = ⊥
+LineEnds line BadWords old new writer = ⊥
+LineEnds line (NotOpened f) old new writer = ⊥
+LineEnds line (Stopped why) old new writer = (why ≡ stop.Service service.Write) × (writer ≡ true)
+
+-- a check's line has the sizes of the vault; a file that isn't opened is told so, and nothing went out
+abbrev pub TellsSizes : Result Sizes FileFault → Ending → Type 0 → Known → Known → Bool → Type 0
+TellsSizes (Ok sizes) ending unsent old new writer = LineEnds (sound_line sizes) ending old new writer
+TellsSizes (Err why) ending unsent old new writer = (ending ≡ NotOpened why) × unsent
+
+-- a migration's line says the newest schema
+abbrev pub TellsMoved : Result ℤ FileFault → Ending → Type 0 → Known → Known → Bool → Type 0
+TellsMoved (Ok version) ending unsent old new writer = LineEnds schema_line ending old new writer
+TellsMoved (Err why) ending unsent old new writer = (ending ≡ NotOpened why) × unsent
+
+-- what a plan reads and writes, by how it ends
+abbrev pub PlanEnds : Plan → Ending → Type 0 → Type 0 → Streams → Type 0
+PlanEnds (plan.Trial t) ending unread unsent s = TrialEnds t ending s
+PlanEnds (plan.Check path) ending unread unsent s = unread
+    × ((told : Result Sizes FileFault) × TellsSizes told ending unsent s.sent_old s.sent_new s.writer)
+PlanEnds (plan.Migrate path) ending unread unsent s = unread
+    × ((told : Result ℤ FileFault) × TellsMoved told ending unsent s.sent_old s.sent_new s.writer)
+PlanEnds (plan.Do path t) ending unread unsent s = FileEnds t ending unread unsent s

@@ -1,0 +1,451 @@
+-- What a task does in one passage it does in any that refines it: where what was before and what is kept is
+-- said of other things, as of files in place of tables.
+use Rattle.std.proofs.Common.{◌≡◌, ◌⊎◌, ℕ, List, Bool, Option, Result, Ok, Err, inl, inr}
+use Rattle.vault_core.specs.Vault.{Vault as Content}
+use Rattle.vault_core.specs.declared.command.Command.{Command}
+use Rattle.vault_wire.specs.Parts.{Parts}
+use Rattle.vault_http.specs.Passing.{AllAnswered, IsBefore, Keeps, Passage, Stops}
+use Rattle.vault_http.specs.Served.{IsServed, IsStopped}
+use Rattle.vault_http.specs.declared.fault.ServeFault.{ServeFault}
+use Rattle.vault_http.specs.declared.fault.ServeFault.TheVariants as fault
+use Rattle.vault_http.specs.declared.served.Served.{Served}
+use Rattle.vault_batch.specs.Batched.{Answered, AnsweredBefore, CutAt, FirstLineCut, SilentAt, Unchanged}
+use Rattle.vault_batch.specs.Batched.{UndecidedAt}
+use Rattle.vault_batch.specs.Asking.{Asked}
+use Rattle.vault_batch.specs.Stops as batch
+use Rattle.vault_batch.specs.declared.asker.Asker.{Asker}
+use Rattle.vault_batch.specs.declared.counts.Counts.{Counts}
+use Rattle.vault_batch.specs.declared.fault.BatchFault.{BatchFault}
+use Rattle.vault_batch.specs.declared.fault.BatchFault.TheVariants as row
+use Rattle.vault_listen.specs.Service.{AllKept, Leaves}
+use Rattle.vault_listen.specs.declared.fault.ListenFault.{ListenFault}
+use Rattle.vault_listen.specs.declared.fault.ListenFault.TheVariants as listen
+use Rattle.vault_store.specs.declared.vault.Fault.{Fault}
+use Rattle.vault_store.specs.declared.vault.Fault.TheVariants.{Memory, Store, Reopen}
+use Rattle.vault_jobs.specs.Batched.{StopsBatch}
+use Rattle.vault_jobs.specs.Carried.{Carries}
+use Rattle.vault_jobs.specs.Doing.{Along, BatchEnds, CommandsEnd, Does, IsUntouched, PipeEnds, ServeEnds}
+use Rattle.vault_jobs.specs.Doing.{SweepEnds}
+use Rattle.vault_jobs.specs.Grants.{CarriesAll, grants_at}
+use Rattle.vault_jobs.specs.Piped.{IsPiped, StopsPiping}
+use Rattle.vault_jobs.specs.Streams.{Known, Streams}
+use Rattle.vault_jobs.specs.Sweeps.{Sweeps}
+use Rattle.vault_jobs.specs.declared.change.Verdict.{Verdict}
+use Rattle.vault_jobs.specs.declared.change.Verdict.TheVariants.{Done, Refused}
+use Rattle.vault_jobs.specs.declared.stop.Stop.{Stop}
+use Rattle.vault_jobs.specs.declared.stop.Stop.TheVariants.{Vault, Service, Listener, Rights}
+use Rattle.vault_jobs.specs.declared.stop.Stop.TheVariants as stop
+use Rattle.vault_jobs.specs.declared.sweep.Swept.{Swept}
+use Rattle.vault_jobs.specs.declared.sweep.Swept.TheVariants as swept
+use Rattle.vault_jobs.specs.declared.task.Outcome.{Outcome}
+use Rattle.vault_jobs.specs.declared.task.Outcome.TheVariants as outcome
+use Rattle.vault_jobs.specs.declared.task.Task.{Task}
+use Rattle.vault_jobs.specs.declared.task.Task.TheVariants.{Change, Give, Sweep, Batch, Pipe, Serve}
+
+-- the passage over other things
+abbrev pub over : Type 0 → (Content → Type 0) → (Content → Type 0) → (Content → Content → Type 0)
+    → Passage → Passage
+over H O N L w = record w { honest = H; held_old = O; held_new = N; left_new = L }
+
+module _ (H : Type 0) (O N : Content → Type 0) (L : Content → Content → Type 0) (w : Passage)
+    (was : (V : Content) → H → O V → IsBefore w V)
+    (kept : H → (V : Content) → Keeps w V → N V × L V V)
+    (torn : H → (V W : Content) → w.left_new V W → L V W) where
+  untouched : IsUntouched w → IsUntouched (over H O N L w)
+  untouched same V b = kept b.0 V (same V (was V b.0 b.1))
+
+  carries : (c : Command) (broken : Bool) (r : Result Verdict Fault) → Carries c w broken r
+      → Carries c (over H O N L w) broken r
+  carries c broken (Ok v) h = λ V b. let it = h V (was V b.0 b.1) in (it.0, kept b.0 _ it.1)
+  carries c broken (Err Memory) h = λ V b. kept b.0 _ (h V (was V b.0 b.1))
+  carries c broken (Err Store) h = (
+    λ is V b. torn b.0 _ _ (h.0 is V (was V b.0 b.1)),
+    λ is V b v. h.1 is V (was V b.0 b.1) v,
+  )
+  carries c broken (Err Reopen) h = absurd h
+
+  carries_all : (cs : List Command) (broken : Bool) (r : Result Verdict Fault) → CarriesAll cs w broken r
+      → CarriesAll cs (over H O N L w) broken r
+  carries_all cs broken (Ok Done) h = λ V b. let it = h V (was V b.0 b.1) in (it.0, kept b.0 _ it.1)
+  carries_all cs broken (Ok (Refused n)) (k, below, h) =
+      (k, below, λ V b. let it = h V (was V b.0 b.1) in (it.0, kept b.0 _ it.1))
+  carries_all cs broken (Err Memory) (k, below, h) =
+      (k, below, λ V b. let it = h V (was V b.0 b.1) in (it.0, kept b.0 _ it.1))
+  carries_all cs broken (Err Store) (k, below, h) =
+      (k, below, λ V b. let it = h V (was V b.0 b.1) in (it.0, it.1, torn b.0 _ _ it.2))
+  carries_all cs broken (Err Reopen) h = absurd h
+
+  sweeps : (who : Asker) (now : ℕ) (broken : Bool) (r : Result Swept Fault) → Sweeps who now w broken r
+      → Sweeps who now (over H O N L w) broken r
+  sweeps who now broken (Ok (swept.Purged count)) (tokens, h) =
+      (tokens, λ V b. let it = h V (was V b.0 b.1) in (it.0, it.1, it.2, kept b.0 _ it.3))
+  sweeps who now broken (Ok (swept.Refused n)) (tokens, next, h) =
+      (tokens, next, λ V b. let it = h V (was V b.0 b.1) in (it.0, it.1, it.2, kept b.0 _ it.3))
+  sweeps who now broken (Err Memory) (tokens, h) =
+      (tokens, λ V b. let it = h V (was V b.0 b.1) in (it.0, kept b.0 _ it.1))
+  sweeps who now broken (Err Store) (tokens, next, few, h) = (
+    tokens,
+    next,
+    few,
+    λ V b. let it = h V (was V b.0 b.1) in
+        (it.0, it.1, it.2, torn b.0 _ _ it.3),
+  )
+  sweeps who now broken (Err Reopen) h = absurd h
+
+  all_kept : (n : ℕ) → AllKept n w → AllKept n (over H O N L w)
+  all_kept n a = record {
+    connections = a.connections;
+    counted = a.counted;
+    asked = a.asked;
+    kept = λ V b. kept b.0 _ (a.kept V (was V b.0 b.1));
+  }
+
+  leaves : (n came : ℕ) (f : ListenFault) → Leaves n came w (Err f) → Leaves n came (over H O N L w) (Err f)
+  leaves n came listen.Store (few, a) = (
+    few,
+    record {
+      connections = a.connections;
+      last = a.last;
+      undecided = a.undecided;
+      counted = a.counted;
+      asked = a.asked;
+      last_asked = a.last_asked;
+      left = λ V b. torn b.0 _ _ (a.left V (was V b.0 b.1));
+    },
+  )
+  leaves n came listen.Memory (none, a) = (none, all_kept 0 a)
+  leaves n came listen.Accept (few, a) = (few, all_kept came a)
+
+  all_answered : (ps : List Parts) → AllAnswered w ps → AllAnswered (over H O N L w) ps
+  all_answered ps s = record {
+    pairs = s.pairs;
+    exchanges = s.exchanges;
+    taken = s.taken;
+    asked = s.asked;
+    whole = s.whole;
+    answered = λ V b. let it = s.answered V (was V b.0 b.1) in (it.0, kept b.0 _ it.1);
+  }
+
+  stops : (e : ServeFault) (ps : List Parts) → Stops e w ps → Stops e (over H O N L w) ps
+  stops fault.Source ps s = record {
+    pairs = s.pairs;
+    exchanges = s.exchanges;
+    taken = s.taken;
+    asked = s.asked;
+    more = s.more;
+    answered = λ V b. let it = s.answered V (was V b.0 b.1) in (it.0, kept b.0 _ it.1);
+  }
+  stops fault.Read ps s = all_answered ps s
+  stops fault.Write ps s = record {
+    pairs = s.pairs;
+    exchanges = s.exchanges;
+    cut = s.cut;
+    sent = s.sent;
+    taken = s.taken;
+    asked = s.asked;
+    answered = λ V b. let it = s.answered V (was V b.0 b.1) in (it.0, it.1, kept b.0 _ it.2);
+  }
+  stops fault.Store ps s = record {
+    pairs = s.pairs;
+    exchanges = s.exchanges;
+    undecided = s.undecided;
+    taken = s.taken;
+    asked = s.asked;
+    answered = λ V b. let it = s.answered V (was V b.0 b.1) in (it.0, torn b.0 _ _ it.1);
+  }
+  stops fault.Memory ps (inl s) = inl (record {
+    pairs = s.pairs;
+    unused = s.unused;
+    exchanges = s.exchanges;
+    one = s.one;
+    taken = s.taken;
+    asked = s.asked;
+    answered = λ V b. let it = s.answered V (was V b.0 b.1) in (it.0, kept b.0 _ it.1);
+  })
+  stops fault.Memory ps (inr s) = inr (record {
+    pairs = s.pairs;
+    exchanges = s.exchanges;
+    silent = s.silent;
+    taken = s.taken;
+    asked = s.asked;
+    answered = λ V b. let it = s.answered V (was V b.0 b.1) in (it.0, kept b.0 _ it.1);
+  })
+
+  served : (old new : Known) (n : Served) → IsServed old new w n → IsServed old new (over H O N L w) n
+  served old new n s = record {
+    bytes = s.bytes;
+    messages = s.messages;
+    fault = s.fault;
+    pairs = s.pairs;
+    exchanges = s.exchanges;
+    read = s.read;
+    reads = s.reads;
+    taken = s.taken;
+    asked = s.asked;
+    whole = s.whole;
+    counted = s.counted;
+    told = s.told;
+    ended = s.ended;
+    answered = λ V b. let it = s.answered V (was V b.0 b.1) in (it.0, kept b.0 _ it.1);
+  }
+
+  stopped : (old new : Known) (e : ServeFault) → IsStopped old new w e
+      → IsStopped old new (over H O N L w) e
+  stopped old new fault.Source (f, s) = (
+    f,
+    record {
+      bytes = s.bytes;
+      messages = s.messages;
+      read = s.read;
+      reads = s.reads;
+      stops = stops fault.Source _ s.stops;
+    },
+  )
+  stopped old new fault.Read s = record {
+    bytes = s.bytes;
+    messages = s.messages;
+    read = s.read;
+    reads = s.reads;
+    stops = stops fault.Read _ s.stops;
+  }
+  stopped old new fault.Write (inl (f, s)) = inl (
+    f,
+    record {
+      bytes = s.bytes;
+      messages = s.messages;
+      read = s.read;
+      reads = s.reads;
+      stops = stops fault.Write _ s.stops;
+    },
+  )
+  stopped old new fault.Write (inr s) = inr (record {
+    bytes = s.bytes;
+    messages = s.messages;
+    fault = s.fault;
+    pairs = s.pairs;
+    exchanges = s.exchanges;
+    sent = s.sent;
+    read = s.read;
+    reads = s.reads;
+    open_till = s.open_till;
+    taken = s.taken;
+    asked = s.asked;
+    whole = s.whole;
+    part = s.part;
+    answered = λ V b. let it = s.answered V (was V b.0 b.1) in (it.0, kept b.0 _ it.1);
+  })
+  stopped old new fault.Store (f, s) = (
+    f,
+    record {
+      bytes = s.bytes;
+      messages = s.messages;
+      read = s.read;
+      reads = s.reads;
+      stops = stops fault.Store _ s.stops;
+    },
+  )
+  stopped old new fault.Memory s = record {
+    bytes = s.bytes;
+    messages = s.messages;
+    read = s.read;
+    begins = s.begins;
+    stops = stops fault.Memory _ s.stops;
+  }
+
+  piped : (old new : Known) → IsPiped old new w → IsPiped old new (over H O N L w)
+  piped old new (n, s) = (n, served old new n s)
+
+  stops_piping : (old new : Known) (e : ServeFault) → StopsPiping old new w e
+      → StopsPiping old new (over H O N L w) e
+  stops_piping old new e (inl s) = inl (stopped old new e s)
+  stops_piping old new e (inr (is, s)) = inr (is, piped old new s)
+
+  answered : (who : Asker) (first : List ℕ) (xs : List Asked) → Answered who first w xs
+      → Answered who first (over H O N L w) xs
+  answered who first xs s = record {
+    taken = s.taken;
+    asked = s.asked;
+    answered = λ V b. let it = s.answered V (was V b.0 b.1) in (it.0, kept b.0 _ it.1);
+  }
+
+  batched : (left : Known) (who : Asker) (counts : Counts) → batch.IsBatched left w who counts
+      → batch.IsBatched left (over H O N L w) who counts
+  batched left who counts s = record {
+    rows = s.rows;
+    records = s.records;
+    answered = answered who _ s.rows s.answered;
+    counted = record {
+      rows = s.counted.rows;
+      both = s.counted.both;
+      tokens = λ V b. s.counted.tokens V (was V b.0 b.1);
+    };
+  }
+
+  batch_stops : (left : Known) (who : Asker) (e : BatchFault) → batch.Stops left w who e
+      → batch.Stops left (over H O N L w) who e
+  batch_stops left who row.BadHeader ((sent, (taken, same)), s) = ((sent, (taken, untouched same)), s)
+  batch_stops left who row.Read (inl (sent, (taken, same))) = inl (sent, (taken, untouched same))
+  batch_stops left who row.Read (inr s) =
+      inr (record { rows = s.rows; records = s.records; answered = answered who _ s.rows s.answered })
+  batch_stops left who row.Write (inl s) = inl (record {
+    sent = s.sent;
+    part = s.part;
+    went = s.went;
+    unchanged = (s.unchanged.0, untouched s.unchanged.1);
+  })
+  batch_stops left who row.Write (inr (rows, next, records, s)) = inr (
+    rows,
+    next,
+    records,
+    record {
+      sent = s.sent;
+      taken = s.taken;
+      asked = s.asked;
+      answered = λ V b. let it = s.answered V (was V b.0 b.1) in (it.0, it.1, kept b.0 _ it.2);
+    },
+  )
+  batch_stops left who row.Store (rows, next, records, s) = (
+    rows,
+    next,
+    records,
+    record {
+      taken = s.taken;
+      asked = s.asked;
+      answered = λ V b. let it = s.answered V (was V b.0 b.1) in (it.0, torn b.0 _ _ it.1);
+    },
+  )
+  batch_stops left who row.BadRecord s = record {
+    rows = s.rows;
+    bad = s.bad;
+    records = s.records;
+    wrong = s.wrong;
+    answered = answered who _ s.rows s.answered;
+  }
+  batch_stops left who row.Memory (inl (sent, (taken, same))) = inl (sent, (taken, untouched same))
+  batch_stops left who row.Memory (inr (inl (rows, records, s))) = inr (inl (
+    rows,
+    records,
+    record {
+      unused = s.unused;
+      one = s.one;
+      taken = s.taken;
+      asked = s.asked;
+      answered = λ V b. let it = s.answered V (was V b.0 b.1) in (it.0, kept b.0 _ it.1);
+    },
+  ))
+  batch_stops left who row.Memory (inr (inr (rows, next, records, s))) =
+      inr (inr (
+        rows,
+        next,
+        records,
+        record {
+          taken = s.taken;
+          asked = s.asked;
+          answered = λ V b. let it = s.answered V (was V b.0 b.1) in (it.0, kept b.0 _ it.1);
+        },
+      ))
+  batch_stops left who row.Source s = record {
+    rows = s.rows;
+    next = s.next;
+    records = s.records;
+    answered = answered who _ s.rows s.answered;
+  }
+
+  stops_batch : (left : Known) (who : Asker) (e : BatchFault) → StopsBatch left w who e
+      → StopsBatch left (over H O N L w) who e
+  stops_batch left who e (inl s) = inl (batch_stops left who e s)
+  stops_batch left who e (inr (is, (counts, s))) = inr (is, (counts, batched left who counts s))
+
+  serve_ends : (port n : ℕ) (r : Result Outcome Stop) (unsent : Type 0) (old new : Known) (writer : Bool)
+      → ServeEnds port n w r unsent old new writer → ServeEnds port n (over H O N L w) r unsent old new writer
+  serve_ends port n (Ok outcome.Done) unsent old new writer (calm, told, a) = (calm, told, all_kept n a)
+  serve_ends port n (Ok (outcome.Refused k)) unsent old new writer a = a
+  serve_ends port n (Ok outcome.SomeRefused) unsent old new writer a = a
+  serve_ends port n (Err (Vault f)) unsent old new writer a = a
+  serve_ends port n (Err (Service f)) unsent old new writer (same, why) = (untouched same, why)
+  serve_ends port n (Err (Listener f)) unsent old new writer (inl (is, silent, same)) =
+      inl (is, silent, untouched same)
+  serve_ends port n (Err (Listener f)) unsent old new writer (inr (told, (came, a))) =
+      inr (told, (came, leaves n came f a))
+  serve_ends port n (Err (Rights f)) unsent old new writer a = a
+  serve_ends port n (Err (stop.Batch f)) unsent old new writer a = a
+
+  commands_end : (P Q : Result Verdict Fault → Type 0) → ((r : Result Verdict Fault) → P r → Q r)
+      → (line : List ℕ) (r : Result Outcome Stop) (unsent : Type 0) (old new : Known) (writer : Bool)
+      → CommandsEnd P line r unsent old new writer → CommandsEnd Q line r unsent old new writer
+  commands_end P Q step line (Ok outcome.Done) unsent old new writer (calm, wrote, h) =
+      (calm, wrote, step _ h)
+  commands_end P Q step line (Ok (outcome.Refused n)) unsent old new writer (silent, h) = (silent, step _ h)
+  commands_end P Q step line (Ok outcome.SomeRefused) unsent old new writer h = h
+  commands_end P Q step line (Err (Vault f)) unsent old new writer (silent, h) = (silent, step _ h)
+  commands_end P Q step line (Err (Service f)) unsent old new writer (is, failed, h) = (is, failed, step _ h)
+  commands_end P Q step line (Err (Listener f)) unsent old new writer h = h
+  commands_end P Q step line (Err (Rights f)) unsent old new writer h = h
+  commands_end P Q step line (Err (stop.Batch f)) unsent old new writer h = h
+
+  sweep_ends : (who : Asker) (now : ℕ) (broken : Bool) (r : Result Outcome Stop) (unsent : Type 0)
+      (old new : Known) (writer : Bool) → SweepEnds who now w broken r unsent old new writer
+      → SweepEnds who now (over H O N L w) broken r unsent old new writer
+  sweep_ends who now broken (Ok outcome.Done) unsent old new writer (calm, (count, h, wrote)) =
+      (calm, (count, sweeps who now broken (Ok (swept.Purged count)) h, wrote))
+  sweep_ends who now broken (Ok (outcome.Refused n)) unsent old new writer (silent, h) =
+      (silent, sweeps who now broken (Ok (swept.Refused n)) h)
+  sweep_ends who now broken (Ok outcome.SomeRefused) unsent old new writer h = h
+  sweep_ends who now broken (Err (Vault f)) unsent old new writer (silent, h) =
+      (silent, sweeps who now broken (Err f) h)
+  sweep_ends who now broken (Err (Service f)) unsent old new writer (is, failed, (count, h)) =
+      (is, failed, (count, sweeps who now broken (Ok (swept.Purged count)) h))
+  sweep_ends who now broken (Err (Listener f)) unsent old new writer h = h
+  sweep_ends who now broken (Err (Rights f)) unsent old new writer h = h
+  sweep_ends who now broken (Err (stop.Batch f)) unsent old new writer h = h
+
+module _ (H : Type 0) (O N : Content → Type 0) (L : Content → Content → Type 0) (w : Passage)
+    (was : (V : Content) → H → O V → IsBefore w V)
+    (kept : H → (V : Content) → Keeps w V → N V × L V V)
+    (torn : H → (V W : Content) → w.left_new V W → L V W) (s : Streams) where
+  batch_ends : (who : Asker) (now : Option ℕ) (digits : Option (List ℕ)) (r : Result Outcome Stop)
+      (unread unsent : Type 0) → BatchEnds who now digits w r unread unsent s
+      → BatchEnds who now digits (over H O N L w) r unread unsent s
+  batch_ends who now digits (Ok outcome.Done) unread unsent (counts, none, (pairs, few, fixed, h)) =
+      (counts, none, (pairs, few, fixed, batched H O N L _ was kept torn s.left_old who counts h))
+  batch_ends who now digits (Ok (outcome.Refused n)) unread unsent h = h
+  batch_ends who now digits (Ok outcome.SomeRefused) unread unsent (counts, some, (pairs, few, fixed, h)) =
+      (counts, some, (pairs, few, fixed, batched H O N L _ was kept torn s.left_old who counts h))
+  batch_ends who now digits (Err (Vault f)) unread unsent h = h
+  batch_ends who now digits (Err (Service f)) unread unsent h = h
+  batch_ends who now digits (Err (Listener f)) unread unsent h = h
+  batch_ends who now digits (Err (Rights f)) unread unsent h = h
+  batch_ends who now digits (Err (stop.Batch f)) unread unsent (inl (is, calm, silent, same)) =
+      inl (is, calm, silent, untouched H O N L w was kept torn same)
+  batch_ends who now digits (Err (stop.Batch f)) unread unsent (inr (pairs, few, fixed, h)) =
+      inr (pairs, few, fixed, stops_batch H O N L _ was kept torn s.left_old who f h)
+
+  pipe_ends : (now : Option ℕ) (digits : Option (List ℕ)) (r : Result Outcome Stop)
+      (unread unsent : Type 0) → PipeEnds now digits w r unread unsent s
+      → PipeEnds now digits (over H O N L w) r unread unsent s
+  pipe_ends now digits (Ok outcome.Done) unread unsent (pairs, few, fixed, h) =
+      (pairs, few, fixed, piped H O N L _ was kept torn s.left_old s.left_new h)
+  pipe_ends now digits (Ok (outcome.Refused n)) unread unsent h = h
+  pipe_ends now digits (Ok outcome.SomeRefused) unread unsent h = h
+  pipe_ends now digits (Err (Vault f)) unread unsent h = h
+  pipe_ends now digits (Err (Service f)) unread unsent (inl (is, calm, silent, same)) =
+      inl (is, calm, silent, untouched H O N L w was kept torn same)
+  pipe_ends now digits (Err (Service f)) unread unsent (inr (pairs, few, fixed, h)) =
+      inr (pairs, few, fixed, stops_piping H O N L _ was kept torn s.left_old s.left_new f h)
+  pipe_ends now digits (Err (Listener f)) unread unsent h = h
+  pipe_ends now digits (Err (Rights f)) unread unsent h = h
+  pipe_ends now digits (Err (stop.Batch f)) unread unsent h = h
+
+  pub refined : (task : Task) (broken : Bool) (r : Result Outcome Stop) (unread unsent : Type 0)
+      → Does task w broken r unread unsent s → Does task (over H O N L w) broken r unread unsent s
+  refined (Change c) broken r unread unsent h =
+      commands_end H O N L w was kept torn _ _ (carries H O N L w was kept torn c broken) _ r unsent _ _ _ h
+  refined (Give rows now) broken r unread unsent h =
+      commands_end H O N L w was kept torn _ _
+      (carries_all H O N L w was kept torn (grants_at now rows.items) broken) _ r unsent _ _ _ h
+  refined (Sweep who now) broken r unread unsent h =
+      sweep_ends H O N L w was kept torn who now broken r unsent _ _ _ h
+  refined (Batch who now digits) broken r unread unsent h = batch_ends who now digits r unread unsent h
+  refined (Pipe now digits) broken r unread unsent h = pipe_ends now digits r unread unsent h
+  refined (Serve port connections) broken r unread unsent h =
+      serve_ends H O N L w was kept torn port connections r unsent _ _ _ h

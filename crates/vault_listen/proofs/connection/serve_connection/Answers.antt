@@ -1,0 +1,34 @@
+use Rattle.std.proofs.Common.{List, Result, Ok, Err, length, ap, arith, subst}
+use Rattle.std.specs.Prelude.{IfErr, IfOk, MatchResult}
+use Rattle.vault_http.specs.Exchanges.{Pair}
+use Rattle.vault_http.specs.Passing.{passing}
+use Rattle.vault_http.specs.Served.{IsServed, IsStopped}
+use Rattle.vault_live.specs.Live.{pairs_of}
+use Rattle.vault_listen.proofs.connection.serve_connection.Goals as goal
+
+either_way : {X E : Type 0} (r : Result X E) (P : X → Type 0) (Q : E → Type 0) → IfOk r P → IfErr r Q
+    → MatchResult r P Q
+either_way (Ok x) P Q p q = p
+either_way (Err e) P Q p q = q
+
+pub returns-clause-answered : goal.returns-clause-answered
+returns-clause-answered g c =
+    let left = g.R.Read.remaining c.args.reader.now.inner in
+    let rest = g.R.Read.remaining c.serve_by.new.reader.inner in
+    let pairs = pairs_of c.serve_by.new.source in
+    let gave = c.ending-source.ensures.fresh.gave in
+    let w = λ (given : List Pair). passing (λ (ps : List Pair). ps) given pairs g.W.Write.contents
+    c.args.writer.now c.serve_by.new.writer g.T.Tables.is_honest g.T.Tables.holds g.T.Tables.leaves
+    c.args.vault.now c.serve_by.new.vault in (
+      pairs,
+      omega (
+        arith,
+        c.serve_by.ensures.later.counted,
+        c.ending-source.ensures.fresh.left_is,
+        ap (λ (ps : List Pair). length ps) gave,
+      ),
+      subst
+          (λ given. MatchResult c.serve_by.result (IsServed left rest (w given)) (IsStopped left rest (w given)))
+          gave
+          (either_way c.serve_by.result _ _ c.serve_by.ensures.served c.serve_by.ensures.stopped),
+    )
