@@ -1,5 +1,5 @@
 -- A task on the vault in files, said of the files.
-use Rattle.std.proofs.Common.{◌≡◌, ◌↔◌, Bool, List, Option, Some, None, Result, Ok, Err, false, ap, refl}
+use Rattle.std.proofs.Common.{◌≡◌, ◌↔◌, Bool, Option, Some, None, Result, Ok, Err, false, ap, refl}
 use Rattle.std.specs.Prelude.{IfErr, IfOk, IfSome}
 use Rattle.sqlite.specs.Files.{file_state}
 use Rattle.sqlite.specs.Held.{Held}
@@ -33,7 +33,8 @@ use Rattle.vault_app.specs.Files.{DoesOnFile, EndsOnFile, FileEnds, WorksOn, end
 use Rattle.vault_app.specs.Jobs.{IsChecked}
 use Rattle.vault_app.specs.declared.ending.Ending.TheVariants.{NotOpened}
 
-module _ {D : Type 0} {g : Ghosts D} {T : Type 0} (conn_of : T → Held (FileStore D g)) (failed : T → Bool) where
+module _ {D : Type 0} {g : Ghosts D} {T : Type 0} (conn_of : T → Held (FileStore D g))
+    (failed : T → Bool) where
   -- what tables over a connection hold, on an honest disk
   abbrev pub held : T → Content → Type 0
   held t V = (failed t ≡ false) × (HasCleanDisk (file_state (conn_of t)) → Holds (file_state (conn_of t)) V)

@@ -195,7 +195,8 @@ module _ (unread unsent : Type 0) (s : Streams) where
   -- the ending of a job with a line
   line_ends : (job : Job) (line : List ℕ) (ending : Ending)
       → (Appends s.sent_old s.sent_new line → IsDone job unread s)
-      → IsBegun job (stop.Service service.Write) unread s → LineEnds line ending s.sent_old s.sent_new s.writer
+      → IsBegun job (stop.Service service.Write) unread s
+      → LineEnds line ending s.sent_old s.sent_new s.writer
       → Ends job ending unread unsent s
   line_ends job line Done done begun h = (h.0, done h.1)
   line_ends job line Version done begun h = absurd h

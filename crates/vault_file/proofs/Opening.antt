@@ -111,10 +111,11 @@ module _ {D : Type 0} {g : Ghosts D} (image : Image) (first : Held (FileStore D 
                 | inl one ↦ inl (on clean V sound one)
                 | inr one ↦ inr (on clean W other one)
               ]);
-          empty = λ clean before blank keeps. ∥∥₁_map (one (was clean) before blank keeps) (λ held. elim held [
-            | inl none ↦ (opens clean).blank none.ready.is_open none.schema
-            | inr one ↦ on clean empty_vault sound-empty one
-          ]);
+          empty = λ clean before blank keeps.
+              ∥∥₁_map (one (was clean) before blank keeps) (λ held. elim held [
+                | inl none ↦ (opens clean).blank none.ready.is_open none.schema
+                | inr one ↦ on clean empty_vault sound-empty one
+              ]);
         }
 
     -- An open or a check that fails with this fault. Where the disk is clean after it, and the fault is

@@ -1,6 +1,6 @@
 -- What a task does in one passage it does in any that refines it: where what was before and what is kept is
 -- said of other things, as of files in place of tables.
-use Rattle.std.proofs.Common.{◌≡◌, ◌⊎◌, ℕ, List, Bool, Option, Result, Ok, Err, inl, inr}
+use Rattle.std.proofs.Common.{ℕ, List, Bool, Option, Result, Ok, Err, inl, inr}
 use Rattle.vault_core.specs.Vault.{Vault as Content}
 use Rattle.vault_core.specs.declared.command.Command.{Command}
 use Rattle.vault_wire.specs.Parts.{Parts}
@@ -9,8 +9,7 @@ use Rattle.vault_http.specs.Served.{IsServed, IsStopped}
 use Rattle.vault_http.specs.declared.fault.ServeFault.{ServeFault}
 use Rattle.vault_http.specs.declared.fault.ServeFault.TheVariants as fault
 use Rattle.vault_http.specs.declared.served.Served.{Served}
-use Rattle.vault_batch.specs.Batched.{Answered, AnsweredBefore, CutAt, FirstLineCut, SilentAt, Unchanged}
-use Rattle.vault_batch.specs.Batched.{UndecidedAt}
+use Rattle.vault_batch.specs.Batched.{Answered}
 use Rattle.vault_batch.specs.Asking.{Asked}
 use Rattle.vault_batch.specs.Stops as batch
 use Rattle.vault_batch.specs.declared.asker.Asker.{Asker}
@@ -24,7 +23,7 @@ use Rattle.vault_store.specs.declared.vault.Fault.{Fault}
 use Rattle.vault_store.specs.declared.vault.Fault.TheVariants.{Memory, Store, Reopen}
 use Rattle.vault_jobs.specs.Batched.{StopsBatch}
 use Rattle.vault_jobs.specs.Carried.{Carries}
-use Rattle.vault_jobs.specs.Doing.{Along, BatchEnds, CommandsEnd, Does, IsUntouched, PipeEnds, ServeEnds}
+use Rattle.vault_jobs.specs.Doing.{BatchEnds, CommandsEnd, Does, IsUntouched, PipeEnds, ServeEnds}
 use Rattle.vault_jobs.specs.Doing.{SweepEnds}
 use Rattle.vault_jobs.specs.Grants.{CarriesAll, grants_at}
 use Rattle.vault_jobs.specs.Piped.{IsPiped, StopsPiping}

@@ -1,12 +1,13 @@
 -- The faults of bytes after their last whole message.
-use Rattle.std.proofs.Common.{◌≡◌, ◌⊎◌, ℕ, List, ◌++◌, [], ◌+◌, ◌-◌, length, take, Option, Some, None, Ok, Err}
-use Rattle.std.proofs.Common.{inl, inr, ap, arith, refl, sym, subst, ◌∙◌}
+use Rattle.std.proofs.Common.{◌≡◌, ◌⊎◌, ℕ, List, ◌++◌, [], ◌+◌, ◌-◌, length, take, Option, Some, None, Ok}
+use Rattle.std.proofs.Common.{Err}
+use Rattle.std.proofs.Common.{inl, inr, ap, arith, refl, sym, ◌∙◌}
 use Rattle.std.proofs.Math.Seq.{take-append-add}
 use Rattle.std.proofs.lemmas.List.{append-nil}
-use Rattle.httparse.specs.Grammar.{HasNoRequest, NeverHasRequest, RequestHead, ReadsRequest, print_request}
+use Rattle.httparse.specs.Grammar.{RequestHead, print_request}
 use Rattle.httparse.proofs.GrammarLemmas.{request_unique}
 use Rattle.vault_wire.specs.Fields.{body_size}
-use Rattle.vault_wire.specs.Messages.{BeginsShort, Ends, HasTooManyFields, IsOpen, IsShort, IsTooLong}
+use Rattle.vault_wire.specs.Messages.{BeginsShort, Ends, IsOpen}
 use Rattle.vault_wire.specs.Messages.{SaysNoBody, Stands, pairs_of}
 use Rattle.vault_wire.specs.declared.fault.WireFault.{WireFault}
 use Rattle.vault_wire.specs.declared.fault.WireFault.TheVariants as fault

@@ -1,12 +1,12 @@
 -- What a message wants is one thing.
-use Rattle.std.proofs.Common.{◌≡◌, ℕ, List, [], ◌∷◌, Some, Ok, Err, inl, inr, ap, ap₂, refl, sym, subst, ◌∙◌}
+use Rattle.std.proofs.Common.{◌≡◌, ℕ, List, [], ◌∷◌, Some, Ok, inl, inr, ap, ap₂, refl, sym, subst, ◌∙◌}
 use Rattle.vault_core.specs.Words.{use_word}
-use Rattle.vault_core.specs.declared.command.Command.{Command}
 use Rattle.vault_core.specs.declared.usage.Use.{Use}
 use Rattle.vault_core.specs.declared.usage.Use.TheVariants.{Single, Multi}
 use Rattle.vault_wire.specs.Parts.{Parts}
 use Rattle.vault_routes.specs.Route.{Target}
-use Rattle.vault_routes.specs.Wanted.{Must, Wanted, Wants, WantsAction, WantsAsker, WantsOrder, With, command_for}
+use Rattle.vault_routes.specs.Wanted.{Must, Wanted, Wants, WantsAction, WantsAsker, WantsOrder, With}
+use Rattle.vault_routes.specs.Wanted.{command_for}
 use Rattle.vault_routes.specs.declared.table.Action.{Action}
 use Rattle.vault_routes.specs.declared.table.Action.TheVariants as action
 use Rattle.vault_http.specs.Exchanges.{AskFirst, Exchange, Pair}

@@ -24,7 +24,8 @@ abbrev pub WantsAgree : Type 0
 WantsAgree = (p : Parts) (now : ℕ) (drawn : List ℕ) (one other : Wanted Command)
     → Wants p now drawn one → Wants p now drawn other → one ≡ other
 
--- the first of messages, asked with the same pairs, are the same exchanges; and so are the texts that answer them
+-- the first of messages, asked with the same pairs, are the same exchanges; and so are the texts that answer
+-- them
 abbrev pub ExchangesAgree : Type 0
 ExchangesAgree = (ps : List Parts) (pairs : List Pair) (xs ys : List Exchange)
     → AskFirst ps pairs xs → AskFirst ps pairs ys

@@ -1,6 +1,6 @@
 -- What the end of one connection leaves of a vault.
 use Rattle.std.proofs.Common.{◌≡◌, ◌≢◌, ℕ, List, [], ◌∷◌, ◌++◌, refl, sym, subst, ap}
-use Rattle.std.proofs.Common.{append-nil, arith, inl, inr}
+use Rattle.std.proofs.Common.{append-nil, inl, inr}
 use Rattle.std.specs.Prelude.{Bool, Option, None, Result, Ok, Err, MatchResult}
 use Rattle.std.proofs.lemmas.List.Elements.{All-cons, All-nil}
 use Rattle.vault_core.specs.Vault.{Vault as Content}

@@ -1,15 +1,19 @@
 -- What a live source gave.
 use Rattle.std.specs.Prelude.{◌≡◌, ◌+◌, ℕ, List, [], All, Option, Some, false, length}
+use Rattle.vault_core.specs.Scalar.{IsMoment}
 use Rattle.vault_live.specs.declared.live.LiveSource.{LiveSource}
+use Rattle.vault_pan.specs.Draw.{IsDrawing}
 
 -- a moment, and drawn digits
 abbrev pub Pair : Type 0
 Pair = ℕ × List ℕ
 
--- the pair has this moment and these digits, where they are fixed
-abbrev pub IsPairOf : Option ℕ → Option (List ℕ) → Pair → Type 0
-IsPairOf moment digits pair =
-    ((now : ℕ) → moment ≡ Some now → pair.0 ≡ now) × ((drawn : List ℕ) → digits ≡ Some drawn → pair.1 ≡ drawn)
+-- the pair has this moment and these digits, where they are fixed; it is a moment and a drawing
+pub record IsPairOf (moment : Option ℕ) (digits : Option (List ℕ)) (pair : Pair) : Type 0 where
+  pub moment_is : (now : ℕ) → moment ≡ Some now → pair.0 ≡ now
+  pub digits_are : (drawn : List ℕ) → digits ≡ Some drawn → pair.1 ≡ drawn
+  pub is_moment : IsMoment pair.0
+  pub is_drawing : IsDrawing pair.1
 
 -- the pairs that it gave, in order
 abbrev pub pairs_of : {C G : Type 0} → LiveSource C G → List Pair

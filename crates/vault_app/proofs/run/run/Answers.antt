@@ -16,8 +16,8 @@ pub returns-clause-unread_refused : goal.returns-clause-unread_refused
 returns-clause-unread_refused g c = λ one.
     let s : Streams = streams g.R.Read.remaining c.args.input.now c.ended-ending.new.input
     g.W.Write.contents c.args.output.now c.ended-ending.new.output in
-    unread_of _ c.ended-ending.result.0 _ _ s c.report.result c.ended-ending.ensures.ran c.report.ensures.status
-    one
+    unread_of _ c.ended-ending.result.0 _ _ s c.report.result c.ended-ending.ensures.ran
+    c.report.ensures.status one
 
 pub returns-clause-does : goal.returns-clause-does
 returns-clause-does g c = (

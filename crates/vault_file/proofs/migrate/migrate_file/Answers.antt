@@ -1,8 +1,4 @@
 use Rattle.std.proofs.Common.{arith}
-use Rattle.sqlite.specs.Files.{file_state}
-use Rattle.sqlite.specs.State.{HasCleanDisk}
-use Rattle.sqlite.specs.View.{IsClean}
-use Rattle.sqlite_store.specs.FileStore.{view}
 use Rattle.sqlite_wal.specs.Files.{image_at}
 use Rattle.vault_file.proofs.Moving.{moves_as, stays_old}
 use Rattle.vault_file.proofs.migrate.migrate_file.Goals as goal

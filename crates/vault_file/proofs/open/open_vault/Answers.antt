@@ -1,11 +1,8 @@
 use Rattle.std.proofs.Common.{arith}
 use Rattle.sqlite.specs.Files.{file_state}
 use Rattle.sqlite.specs.State.{HasCleanDisk}
-use Rattle.sqlite.specs.View.{IsClean}
-use Rattle.sqlite_store.specs.FileStore.{view}
 use Rattle.sqlite_wal.specs.Files.{image_at}
 use Rattle.vault_file.proofs.Leaving.{stays}
-use Rattle.vault_file.proofs.open.open_vault.Given.{Over}
 use Rattle.vault_file.proofs.open.open_vault.Goals as goal
 
 pub returns-in-Err-default-Some-clause-never : goal.returns-in-Err-default-Some-clause-never

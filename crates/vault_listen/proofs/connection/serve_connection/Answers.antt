@@ -28,7 +28,8 @@ returns-clause-answered g c =
         ap (λ (ps : List Pair). length ps) gave,
       ),
       subst
-          (λ given. MatchResult c.serve_by.result (IsServed left rest (w given)) (IsStopped left rest (w given)))
+          (λ given. MatchResult c.serve_by.result (IsServed left rest (w given))
+          (IsStopped left rest (w given)))
           gave
           (either_way c.serve_by.result _ _ c.serve_by.ensures.served c.serve_by.ensures.stopped),
     )

@@ -1,5 +1,5 @@
-use Rattle.std.proofs.Common.{◌≡◌, ◌++◌, ◌∷◌, [], ◌∙◌, List, Some, ap, arith, length, length-append, subst}
-use Rattle.std.proofs.Common.{sym}
+use Rattle.std.proofs.Common.{◌≡◌, ◌++◌, ◌∷◌, [], ◌∙◌, List, Some, ap, arith, length, length-append, rules}
+use Rattle.std.proofs.Common.{subst, sym}
 use Rattle.std.specs.Prelude.{All}
 use Rattle.std.proofs.lemmas.List.Elements.{All-append, All-cons, All-nil}
 use Rattle.vault_live.specs.Live.{IsPairOf, Pair}
@@ -26,13 +26,15 @@ returns-clause-later g c =
     (rw c.if-is_err.ensures.negation at c.push.ensures.items) ∙ ap (λ s. s.given.items ++ pair ∷ []) same in
     record {
       fixed = λ moment digits f.
-          let fits : IsPairOf moment digits pair = (
-            λ now is.
+          let fits : IsPairOf moment digits pair = record {
+            moment_is = λ now is.
                 let found : Some c.in-Some.now ≡ Some now =
                 sym c.in-Some.is ∙ c.moment.ensures.fixed now (f.0 ∙ is) in
-                cc (found),
-            λ drawn is. c.digits-digits.ensures.fixed drawn (f.1 ∙ is),
-          ) in (
+                cc (found);
+            digits_are = λ drawn is. c.digits-digits.ensures.fixed drawn (f.1 ∙ is);
+            is_moment = search (rules, c.moment.type_inv, c.in-Some.is);
+            is_drawing = search (rules, c.digits-digits.type_inv);
+          } in (
             (ap (λ s. s.moment) same ∙ f.0, ap (λ s. s.digits) same ∙ f.1),
             λ all. subst (λ (pairs : List Pair). All (IsPairOf moment digits) pairs) (sym more)
                 (All-append (IsPairOf moment digits) c.args.self.now.given.items (pair ∷ []) all
