@@ -1,13 +1,15 @@
 -- What a service does with the bytes of a connection.
-use Rattle.std.specs.Prelude.{◌≡◌, ℕ, ◌<◌, ◌⊎◌, List, ◌++◌, length, take, All, false, Option}
+use Rattle.std.specs.Prelude.{◌≡◌, ℕ, ◌+◌, ◌<◌, ◌⊎◌, List, ◌++◌, length, take, All, false, Option}
 use Rattle.std.specs.Prelude.{Some, None, if◌then◌else◌}
 use Rattle.std.specs.List.{flat_map}
 use Rattle.std.specs.Io.KnownBytes.{Consumes, IsAtEnd}
+use Rattle.vault_core.specs.Keys.{Bytes}
 use Rattle.vault_core.specs.Vault.{Vault as Content}
+use Rattle.vault_core.specs.Yields.{answered_so, given_by, gives_number}
 use Rattle.vault_wire.specs.Messages.{Request, IsMessage, Reads, print_message}
 use Rattle.vault_wire.specs.declared.fault.WireFault.{WireFault}
-use Rattle.vault_http.specs.Exchanges.{Pair, Exchange, AskFirst, fault_text, has_close, last_text, shown}
-use Rattle.vault_http.specs.Exchanges.{texts, up_to_close, vault_after}
+use Rattle.vault_http.specs.Exchanges.{Pair, Exchange, AskFirst, commands_of, fault_text, has_close, last_text}
+use Rattle.vault_http.specs.Exchanges.{shown, texts, up_to_close, vault_after}
 use Rattle.vault_http.specs.Passing.{Passage, IsBefore, Keeps, Sends, Stops, Takes}
 use Rattle.vault_http.specs.declared.fault.ServeFault.{ServeFault}
 use Rattle.vault_http.specs.declared.fault.ServeFault.TheVariants as fault
@@ -39,6 +41,15 @@ pub record IsServed (left_old left_new : Left) (w : Passage) (served : Served) :
   pub ended : has_close (shown messages) ≡ false → fault ≡ None → IsAtEnd left_new
   pub answered : (V : Content) → IsBefore w V
       → Sends w (texts V exchanges ++ last_text served.fault) × Keeps w (vault_after V exchanges)
+
+-- Exchanges were answered, and of each merchant its count of numbers given is the one before and one more for
+-- each of its numbers that went out in their texts.
+pub record IsCounted (w : Passage) (served : Served) : Type 0 where
+  pub exchanges : List Exchange
+  pub answered : (V : Content) → IsBefore w V
+      → Sends w (texts V exchanges ++ last_text served.fault) × Keeps w (vault_after V exchanges)
+  pub given : (V : Content) (m : Bytes) → given_by (vault_after V exchanges) m
+      ≡ given_by V m + answered_so (λ c. gives_number) m (commands_of exchanges) V
 
 -- bytes begin with messages
 pub record Begins (bytes : List ℕ) (ms : List Request) : Type 0 where

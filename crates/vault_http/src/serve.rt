@@ -6,7 +6,7 @@ ghost use Rattle.vault_http.specs.Exchanges.{fault_text, has_close, up_to_close}
 ghost use Rattle.vault_http.specs.Faults.{Tells, failures};
 ghost use Rattle.vault_http.specs.Passing.{AllAnswered, Passage, Stops, passing};
 ghost use Rattle.vault_http.specs.Refusing.{IsRefused};
-ghost use Rattle.vault_http.specs.Served.{IsServed, IsStopped};
+ghost use Rattle.vault_http.specs.Served.{IsCounted, IsServed, IsStopped};
 
 use crate::answer::answer_one;
 use crate::fault::ServeFault;
@@ -175,6 +175,8 @@ pub fn serve<R: Read, W: Write, T: Tables, S: Source>(
     ensures served { let w : Passage = passing S.given source.old source.new W.contents writer.old writer.new
         T.is_honest T.holds T.leaves vault.old vault.new in
         IfOk result (IsServed (R.remaining (inner_of reader.old)) (R.remaining (inner_of reader.new)) w) }
+    ensures counted { let w : Passage = passing S.given source.old source.new W.contents writer.old writer.new
+        T.is_honest T.holds T.leaves vault.old vault.new in IfOk result (IsCounted w) }
     ensures stopped { let w : Passage = passing S.given source.old source.new W.contents writer.old writer.new
         T.is_honest T.holds T.leaves vault.old vault.new in
         IfErr result (IsStopped (R.remaining (inner_of reader.old)) (R.remaining (inner_of reader.new)) w) }

@@ -4,6 +4,7 @@ use Rattle.vault_wire.specs.Messages.{IsMessage}
 use Rattle.vault_http.specs.Passing.{passing}
 use Rattle.vault_http.proofs.Answering.{all_nothing}
 use Rattle.vault_http.proofs.Bytes.{appends_nothing, consumes_nothing}
+use Rattle.vault_http.proofs.Counting.{counted_of}
 use Rattle.vault_http.proofs.Serving.{before_of}
 use Rattle.vault_http.proofs.serve.serve.Goals as goal
 
@@ -21,3 +22,6 @@ returns-in_default-clause-stopped g c =
           inl (before_of w [] (all_nothing w refl (appends_nothing _)
           (λ V b. (b.1, g.met.T.Tables.settled _ V b.1.0 b.0))));
     }
+
+pub returns-clause-counted : goal.returns-clause-counted
+returns-clause-counted g c = counted_of _ _ _ c.serve_by.result c.serve_by.ensures.served
