@@ -1,6 +1,6 @@
 -- The promise over two runs is kept.
-use Rattle.std.proofs.Common.{◌≡◌, ◌⊎◌, ◌≤◌, ℕ, List, [], ◌∷◌, ◌++◌, Option, Some, None, Ok, true}
-use Rattle.std.proofs.Common.{false, take}
+use Rattle.std.proofs.Common.{◌≡◌, ◌⊎◌, ◌≤◌, ℕ, List, [], ◌∷◌, ◌++◌, Option, Some, None, true}
+use Rattle.std.proofs.Common.{take}
 use Rattle.std.proofs.Common.{is_some, inl, inr, sym, ap, subst, ◌∙◌, append-nil, append_assoc, refl, length}
 use Rattle.std.proofs.Math.Logic.{∥∥₁_map}
 use Rattle.std.proofs.lemmas.Grind.{flat_map-append}
@@ -9,20 +9,17 @@ use Rattle.sqlite.specs.Files.{file_state}
 use Rattle.sqlite.specs.Held.{Held}
 use Rattle.sqlite_disk.specs.declared.Disk.{Ghosts}
 use Rattle.sqlite_store.specs.declared.store.FileStore.{FileStore}
-use Rattle.vault_pan.specs.Luhn.{passes_check}
 use Rattle.vault_core.proofs.Kept.{never_share}
 use Rattle.vault_core.proofs.Repeats.{repeats}
 use Rattle.vault_core.proofs.StaysSound.{stays_sound}
 use Rattle.vault_core.proofs.Yielded.{live_tokens_yield}
-use Rattle.vault_core.specs.Keys.{Bytes}
-use Rattle.vault_core.specs.Laws.{HasOrPurged, IsSameRequest}
+use Rattle.vault_core.specs.Laws.{HasOrPurged}
 use Rattle.vault_core.specs.Proper.{AllProper}
 use Rattle.vault_core.specs.Runs.{run}
 use Rattle.vault_core.specs.Sound.{Sound}
 use Rattle.vault_core.specs.Table.{after, command_of, reply}
 use Rattle.vault_core.specs.Vault.{Vault as Content, entry_at}
 use Rattle.vault_core.specs.declared.command.Command.{Command}
-use Rattle.vault_core.specs.declared.command.TokenRequest.{TokenRequest}
 use Rattle.vault_core.specs.declared.reply.Reply.TheVariants.{Token}
 use Rattle.vault_core.specs.declared.row.Entry.{Entry}
 use Rattle.vault_schema.specs.Holds.{Holds}
@@ -35,6 +32,7 @@ use Rattle.vault_jobs.specs.Streams.{Known, Streams, streams}
 use Rattle.vault_app.specs.Files.{file_passing}
 use Rattle.vault_promise.proofs.Answering.{Answers, answers_of}
 use Rattle.vault_promise.proofs.Proper.{proper-first, proper-last}
+use Rattle.vault_promise.specs.Lasting.{AnswersAgain, NumbersStand, TokensFailIn}
 use Rattle.vault_promise.specs.Promise.{IsKept, IsPromise}
 
 commands-append : (xs ys : List Exchange) → commands_of (xs ++ ys) ≡ commands_of xs ++ commands_of ys
@@ -71,9 +69,7 @@ module _ (V : Content) (sound : Sound V) (xs later : List Exchange)
         ap (vault_after V) all ∙ vault_after-append V before (rest ++ later),
       )
 
-  apart : (before rest : List Exchange) → xs ≡ before ++ rest
-      → (m token number : Bytes) (entry : Entry) → entry_at (vault_after V before) m token ≡ Some entry
-      → entry.number ≡ Some number → HasOrPurged number (entry_at W m token)
+  apart : NumbersStand V xs W
   apart before rest is m token number entry found has =
       let it = whole before rest is in
       let U : Content = vault_after V before in
@@ -82,10 +78,7 @@ module _ (V : Content) (sound : Sound V) (xs later : List Exchange)
       (never_share U (commands_of (rest ++ later)) (sound_after V sound before it.0) it.1 m token number entry
       found has)
 
-  again : (before rest : List Exchange) (x : Exchange) → xs ≡ before ++ x ∷ rest
-      → (a b : TokenRequest) (token : Bytes) (expires : ℕ) → x.wanted ≡ Ok (command_of a)
-      → reply (vault_after V before) (command_of a) ≡ Token token expires
-      → IsSameRequest a b → reply W (command_of b) ≡ Token token expires
+  again : AnswersAgain V xs W
   again before rest x is a b token expires asked answered same =
       let it = whole before (x ∷ rest) is in
       let U : Content = vault_after V before in
@@ -98,7 +91,7 @@ module _ (V : Content) (sound : Sound V) (xs later : List Exchange)
       subst (λ X. reply X (command_of b) ≡ Token token expires) (sym last)
       (repeats U a b cs token expires (sound_after V sound before it.0) all.0 all.1 same answered)
 
-  checked : (m token : Bytes) → is_some (entry_at W m token) ≡ true → passes_check token ≡ false
+  checked : TokensFailIn W
   checked m token is =
       let found = there (entry_at W m token) is in
       ((sound_after V sound (xs ++ later) proper).entries m token found.0 found.1).2.token_fails.1

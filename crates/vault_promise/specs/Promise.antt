@@ -1,7 +1,5 @@
 -- The promise over two runs, of which the second begins with bytes that a stop of the first may leave.
-use Rattle.std.specs.Prelude.{◌≡◌, ◌⊎◌, ◌<◌, ◌≤◌, ℕ, List, ◌∷◌, ◌++◌, length, take, Bool, true, false}
-use Rattle.std.specs.Prelude.{is_some}
-use Rattle.std.specs.Prelude.{Option, Some, Result, Ok}
+use Rattle.std.specs.Prelude.{◌≡◌, ◌⊎◌, ◌≤◌, ℕ, List, ◌++◌, length, take, Bool, Option, Result}
 use Rattle.std.specs.Io.KnownBytes.{Appends}
 use Rattle.sqlite.specs.Files.{file_state}
 use Rattle.sqlite.specs.Held.{Held}
@@ -10,20 +8,8 @@ use Rattle.sqlite_disk.specs.declared.Disk.{Ghosts}
 use Rattle.sqlite_store.specs.FileStore as files
 use Rattle.sqlite_store.specs.declared.store.FileStore.{FileStore}
 use Rattle.sqlite_wal.specs.Recovery.{Image}
-use Rattle.vault_pan.specs.Luhn.{passes_check}
-use Rattle.vault_core.specs.Keys.{Bytes}
-use Rattle.vault_core.specs.Laws.{HasOrPurged, IsSameRequest}
 use Rattle.vault_core.specs.Sound.{Sound}
-use Rattle.vault_core.specs.Table.{command_of, reply}
-use Rattle.vault_core.specs.Vault.{Vault as Content, entitled, entry_at, is_live}
-use Rattle.vault_core.specs.Window.{moment_at}
-use Rattle.vault_core.specs.Yields.{given_by}
-use Rattle.vault_core.specs.declared.command.Command.TheVariants.{Detokenize as Redeem}
-use Rattle.vault_core.specs.declared.command.TokenRequest.{TokenRequest}
-use Rattle.vault_core.specs.declared.limit.TheConstants.{MOST_COUNT}
-use Rattle.vault_core.specs.declared.reply.Reply.TheVariants.{Number, Token}
-use Rattle.vault_core.specs.declared.right.Right.TheVariants.{Detokenize}
-use Rattle.vault_core.specs.declared.row.Entry.{Entry}
+use Rattle.vault_core.specs.Vault.{Vault as Content}
 use Rattle.vault_schema.specs.Holds.{Holds}
 use Rattle.vault_recover.specs.Crashed.{Keeps}
 use Rattle.vault_http.specs.Exchanges.{Exchange, last_text, texts, vault_after}
@@ -37,6 +23,7 @@ use Rattle.vault_jobs.specs.declared.task.Outcome.{Outcome}
 use Rattle.vault_jobs.specs.declared.task.Task.{Task}
 use Rattle.vault_jobs.specs.declared.task.Task.TheVariants.{Pipe}
 use Rattle.vault_app.specs.Files.{WorksOn}
+use Rattle.vault_promise.specs.Lasting.{AnswersAgain, LiveTokensYieldIn, NumbersStand, TokensFailIn}
 
 -- Two runs worked on a file, whose bytes were these; the second began with bytes that a stop may leave of the
 -- files that the first left. Both disks are clean in the end.
@@ -50,9 +37,8 @@ pub record AreTwoRuns {D D' : Type 0} {g : Ghosts D} {g' : Ghosts D'} (image ima
 
 -- Messages were answered from the vault V, in order, and one more at most was undecided; of their texts a
 -- beginning went out. The vault W that the second run opened is the one after them, with the undecided one or
--- without. It is sound; a number that a merchant's token had at any time it has, or it is purged; no token
--- passes the check; a live token yields its number to those entitled; and a request that was answered a token
--- is answered it again.
+-- without. It is sound: no two numbers share a token, no token passes the check, live tokens yield, and a
+-- request that was answered a token is answered it again.
 pub record IsKept {D' : Type 0} {g' : Ghosts D'} (V : Content) (opened : Held (FileStore D' g')) (s : Streams)
     : Type 0 where
   pub exchanges : List Exchange
@@ -64,19 +50,10 @@ pub record IsKept {D' : Type 0} {g' : Ghosts D'} (V : Content) (opened : Held (F
   pub opens : Holds (file_state opened) W
   pub prefix : (W ≡ vault_after V exchanges) ⊎ (W ≡ vault_after V (exchanges ++ undecided))
   pub sound : Sound W
-  pub apart : (before after : List Exchange) → exchanges ≡ before ++ after
-      → (m token number : Bytes) (entry : Entry) → entry_at (vault_after V before) m token ≡ Some entry
-      → entry.number ≡ Some number → HasOrPurged number (entry_at W m token)
-  pub checked : (m token : Bytes) → is_some (entry_at W m token) ≡ true → passes_check token ≡ false
-  pub yields : (caller m token : Bytes) (now : ℕ) (entry : Entry)
-      → entitled W caller m Detokenize (moment_at W m now) ≡ true → entry_at W m token ≡ Some entry
-      → is_live entry (moment_at W m now) ≡ true → given_by W m < MOST_COUNT
-      → (number : Bytes) × (entry.number ≡ Some number)
-      × (reply W (Redeem caller m token now) ≡ Number number)
-  pub again : (before after : List Exchange) (x : Exchange) → exchanges ≡ before ++ x ∷ after
-      → (a b : TokenRequest) (token : Bytes) (expires : ℕ) → x.wanted ≡ Ok (command_of a)
-      → reply (vault_after V before) (command_of a) ≡ Token token expires
-      → IsSameRequest a b → reply W (command_of b) ≡ Token token expires
+  pub apart : NumbersStand V exchanges W
+  pub checked : TokensFailIn W
+  pub yields : LiveTokensYieldIn W
+  pub again : AnswersAgain V exchanges W
 
 -- The promise. The first run answered messages of its input on its output; whatever the second one did, of a
 -- sound vault that the file kept at first this holds.
