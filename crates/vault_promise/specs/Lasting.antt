@@ -15,7 +15,7 @@ use Rattle.vault_core.specs.declared.right.Right.TheVariants.{Detokenize}
 use Rattle.vault_core.specs.declared.row.Entry.{Entry}
 use Rattle.vault_http.specs.Exchanges.{Exchange, vault_after}
 
--- a number that a merchant's token had in V, or after any of the exchanges, it has in W, or it is purged there
+-- a number that a merchant's token had in V, or after any of the exchanges, it has in W, or it is purged
 abbrev pub NumbersStand : Content → List Exchange → Content → Type 0
 NumbersStand V exchanges W = (before after : List Exchange) → exchanges ≡ before ++ after
     → (m token number : Bytes) (entry : Entry) → entry_at (vault_after V before) m token ≡ Some entry
