@@ -20,8 +20,8 @@ import same  # noqa: E402
 from sides import told  # noqa: E402
 
 FIND_DEAD = (
-    "SELECT token FROM entries2 WHERE merchant = ?1 AND card IS NOT NULL"
-    " AND (revoked IS NOT NULL OR expires <= ?2) ORDER BY token LIMIT ?3"
+    "SELECT token FROM entries2 WHERE merchant = ?1 AND token >= ?2 AND card IS NOT NULL"
+    " AND (revoked IS NOT NULL OR expires <= ?3) ORDER BY token LIMIT ?4"
 )
 NUMBER_OF = "SELECT number FROM cards2 WHERE id = ?1"
 USES = "SELECT uses FROM cards2 WHERE id = ?1"
@@ -90,22 +90,24 @@ def purge(conn, token):
     conn.execute("COMMIT")
 
 
-def list_dead(conn):
-    """The first tokens that are dead, with what a list reads."""
+def list_dead(conn, start):
+    """The first tokens that are dead, from a text on, with what a list reads."""
     _, _, moment, _ = conn.execute(same.LIVES, (same.MERCHANT,)).fetchall()[0]
-    return conn.execute(FIND_DEAD, (same.MERCHANT, max(moment, NOW), LIST)).fetchall()
+    return conn.execute(FIND_DEAD, (same.MERCHANT, start, max(moment, NOW), LIST)).fetchall()
 
 
 def sweep_python(vault, dead):
-    """The seconds of the same statements, without Python's start and the opening; and those of the lists."""
+    """The seconds of the same statements, without Python's start and the opening; and those of the lists,
+    each from the first token of the one before on."""
     conn = same.opened(vault)
-    purged, lists, start = 0, 0, time.perf_counter()
+    first, purged, lists, start = "", 0, 0, time.perf_counter()
     while True:
         listing = time.perf_counter()
-        tokens = list_dead(conn)
+        tokens = list_dead(conn, first)
         lists += time.perf_counter() - listing
         if not tokens:
             break
+        ((first,), *_) = tokens
         for (token,) in tokens:
             purge(conn, token)
         purged += len(tokens)

@@ -34,14 +34,16 @@ use Rattle.vault_app.specs.Jobs.{IsChecked}
 use Rattle.vault_app.specs.declared.ending.Ending.TheVariants.{NotOpened}
 
 module _ {D : Type 0} {g : Ghosts D} {T : Type 0} (conn_of : T → Held (FileStore D g))
-    (failed : T → Bool) where
-  -- what tables over a connection hold, on an honest disk
+    (failed : T → Bool) (Past : T → Content → Type 0) where
+  -- what tables over a connection hold, on an honest disk, where this is so of them too
   abbrev pub held : T → Content → Type 0
-  held t V = (failed t ≡ false) × (HasCleanDisk (file_state (conn_of t)) → Holds (file_state (conn_of t)) V)
+  held t V =
+      (failed t ≡ false)
+      × (HasCleanDisk (file_state (conn_of t)) → Holds (file_state (conn_of t)) V × Past t V)
 
   pub works : (image : Image) (v v' : Vault T) (left : FileStore D g) (task : Task) (r : Result Outcome Stop)
       (broken : Bool) (unread unsent : Type 0) (s : Streams)
-      → OpensFrom image (conn_of v.tables) → failed v.tables ≡ false
+      → OpensFrom image (conn_of v.tables) → (failed v.tables ≡ false) × ((V : Content) → Past v.tables V)
       → (HasCleanDisk (file_state (conn_of v'.tables)) → HasCleanDisk (file_state (conn_of v.tables)))
       → (IsClean (view left) → HasCleanDisk (file_state (conn_of v'.tables)))
       → (IsClean (view left) → (V : Content) → Contains held v' V → Reopens left V)
@@ -59,7 +61,7 @@ module _ {D : Type 0} {g : Ghosts D} {T : Type 0} (conn_of : T → Held (FileSto
         (λ V. Reopens left V × Sound V) (ReopensEither left)
         (vault_passing (λ t. HasCleanDisk (file_state (conn_of t))) held
         (λ t V W. LeavesEither (file_state (conn_of t)) V W) v v')
-        (λ V clean was. (closed clean, ((fresh, λ _. was.0), was.1)))
+        (λ V clean was. (closed clean, ((fresh.0, λ _. (was.0, fresh.1 V)), was.1)))
         (λ clean V kept. ((after clean V kept.0, kept.0.1), either clean V V kept.1))
         (λ clean V W torn. either clean V W torn)
         s task broken r unread unsent does;

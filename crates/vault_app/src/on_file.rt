@@ -3,6 +3,7 @@ ghost use Rattle.std.specs.Prelude.{◌≡◌, Result, false};
 ghost use Rattle.sqlite_wal.specs.Recovery.{Image};
 ghost use Rattle.vault_store.specs.Applied.{is_broken, tables_of};
 ghost use Rattle.vault_file.specs.Found.{OpensFrom};
+ghost use Rattle.vault_sql.specs.Held.{AreFresh};
 ghost use Rattle.vault_jobs.specs.Streams.{Streams, streams};
 ghost use Rattle.vault_jobs.specs.Tasks.{IsProper};
 ghost use Rattle.vault_app.specs.Files.{DoesOnFile, FileEnds, ending_for};
@@ -40,7 +41,7 @@ pub(crate) fn do_on_file<D: Disk + Drop, R: Read, W: Write>(
 ) -> (Ending, FileStore<D>)
     requires proper { IsProper task.now }
     requires unbroken { is_broken vault ≡ false }
-    requires fresh { (tables_of vault).failed ≡ false }
+    requires fresh { AreFresh (tables_of vault) }
     ensures ends { let s : Streams =
         streams R.remaining input.old input.new W.contents output.old output.new in
         FileEnds task.now result.0 (input.new ≡ input.old) (output.new ≡ output.old) s }

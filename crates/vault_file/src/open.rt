@@ -9,10 +9,11 @@ ghost use Rattle.vault_core.specs.Sound.{Sound};
 ghost use Rattle.vault_core.specs.Vault.{Vault as Content};
 ghost use Rattle.vault_file.specs.Found.{HoldsSuch, IsNoPath, IsNoVerdict};
 ghost use Rattle.vault_file.specs.Found.{LeavesFrom, OpensFrom, Stays};
-ghost use Rattle.vault_recover.specs.Crashed.{AreHeld, Keeps, Reopens, ReopensEither};
+ghost use Rattle.vault_recover.specs.Crashed.{Keeps, Reopens, ReopensEither};
 ghost use Rattle.vault_verdict.specs.Opened.{IsLeastBroken, IsWrong};
 ghost use Rattle.vault_verdict.specs.Reading.{IsFull};
 ghost use Rattle.vault_schema.specs.Holds.{LeavesEither};
+ghost use Rattle.vault_sql.specs.Held.{AreFresh, AreHeld};
 ghost use Rattle.vault_store.specs.Applied.{Contains, is_broken, tables_of};
 
 use crate::fault::NotOpened;
@@ -43,7 +44,7 @@ pub fn open_from<S: Start>(
     start: S,
 ) -> Result<Vault<TablesFrom<S>>, (NotOpened, Option<Connection<FileStore<FileFrom<S>>>>)>
     ensures no_path { IsNoPath path.now → IsErrAnd result (λ e. e.0 ≡ NotOpened.Refused) }
-    ensures fresh { IfOk result (λ vault. (is_broken vault ≡ false) × ((tables_of vault).failed ≡ false)) }
+    ensures fresh { IfOk result (λ vault. (is_broken vault ≡ false) × AreFresh (tables_of vault)) }
     ensures found { IfOk result (λ vault. OpensFrom (image_at S.Start) (tables_of vault).conn) }
     ensures refused { IfErr result (λ e. (e.0 ≡ NotOpened.Refused) ↔ (e.1 ≡ None)) }
     ensures damaged { IfErr result (λ e. IfSome e.1 (λ conn. HasCleanDisk (file_state conn)
@@ -73,7 +74,7 @@ pub fn open_vault<S: Start>(
     start: S,
 ) -> Result<Vault<TablesFrom<S>>, (NotOpened, Option<FileStore<FileFrom<S>>>)>
     ensures no_path { IsNoPath path.now → IsErrAnd result (λ e. e.0 ≡ NotOpened.Refused) }
-    ensures fresh { IfOk result (λ vault. (is_broken vault ≡ false) × ((tables_of vault).failed ≡ false)) }
+    ensures fresh { IfOk result (λ vault. (is_broken vault ≡ false) × AreFresh (tables_of vault)) }
     ensures found { IfOk result (λ vault. OpensFrom (image_at S.Start) (tables_of vault).conn) }
     ensures refused { IfErr result (λ e. (e.0 ≡ NotOpened.Refused) ↔ (e.1 ≡ None)) }
     ensures never { IfErr result (λ e. IfSome e.1 (λ left. IsClean (view left)

@@ -1,21 +1,19 @@
 -- What a crash leaves of the files, and what the next open finds in them.
-use Rattle.std.specs.Prelude.{◌≡◌, ◌⊎◌, false}
+use Rattle.std.specs.Prelude.{◌≡◌, ◌⊎◌}
 use Rattle.sqlite.specs.Files.{HoldsDatabase, IsOpened, file_state}
-use Rattle.sqlite.specs.Held.{Held, state}
+use Rattle.sqlite.specs.Held.{Held}
 use Rattle.sqlite.specs.Start.{FindsIn}
-use Rattle.sqlite.specs.State.{State, HasCleanDisk}
+use Rattle.sqlite.specs.State.{State}
 use Rattle.sqlite_catalog.specs.Listing.{IsSound}
 use Rattle.sqlite_disk.specs.declared.Disk.{Ghosts}
 use Rattle.sqlite_store.specs.FileStore as files
 use Rattle.sqlite_store.specs.declared.store.FileStore.{FileStore}
 use Rattle.sqlite_trees.specs.Tree.{Trees}
-use Rattle.sqlite_trees.specs.declared.store.Store as store
 use Rattle.sqlite_wal.specs.Recovery.{Image}
 use Rattle.sql_maps.specs.Schema.{no_schema}
 use Rattle.vault_core.specs.Vault.{Vault, empty_vault}
 use Rattle.vault_schema.specs.Holds.{AreEither, AreFirst, AreOurs, Holds}
 use Rattle.vault_schema.specs.Making.{IsReady}
-use Rattle.vault_sql.specs.declared.tables.SqlTables.{SqlTables}
 
 -- an open of files with these bytes may find these trees: they are those of each database that the bytes hold
 abbrev pub MayFind : Image → Trees → Type 0
@@ -76,7 +74,3 @@ module _ {D : Type 0} {g : Ghosts D} where
   -- they keep these trees or the empty vault
   abbrev pub ReopensFirst : FileStore D g → Trees → Type 0
   ReopensFirst it before = ReopensSuch it (AreFirst before)
-
--- no call of the tables failed, and on an honest disk their connection holds the vault
-abbrev pub AreHeld : {S : Type 0} {g : store.Ghosts S} → SqlTables S g → Vault → Type 0
-AreHeld {S} {g} t V = (t.failed ≡ false) × (HasCleanDisk (state g t.conn) → Holds (state g t.conn) V)

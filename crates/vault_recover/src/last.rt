@@ -7,8 +7,9 @@ ghost use Rattle.sqlite_store.specs.FileStore.{view};
 ghost use Rattle.vault_core.specs.Proper.{HasLivesInRange};
 ghost use Rattle.vault_core.specs.Table.{after as after_lem, reply as reply_lem};
 ghost use Rattle.vault_core.specs.Vault.{Vault as Content};
-ghost use Rattle.vault_recover.specs.Crashed.{AreHeld, ReopensEither};
+ghost use Rattle.vault_recover.specs.Crashed.{ReopensEither};
 ghost use Rattle.vault_schema.specs.Holds.{LeavesEither};
+ghost use Rattle.vault_sql.specs.Held.{AreHeld};
 ghost use Rattle.vault_store.specs.Applied.{Contains};
 ghost use Rattle.vault_store.specs.Left.{LeavesBy};
 

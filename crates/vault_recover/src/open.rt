@@ -10,6 +10,7 @@ ghost use Rattle.vault_verdict.specs.Opened.{LeavesFound, Opens};
 ghost use Rattle.vault_verdict.specs.Reading.{IsFull, IsOurs, IsQuietWhere, IsUnreadFile};
 ghost use Rattle.sql_maps.specs.Schema.{no_schema};
 ghost use Rattle.vault_schema.specs.Versioned.{HasVersion};
+ghost use Rattle.vault_sql.specs.Held.{AreFresh};
 ghost use Rattle.vault_store.specs.Applied.{is_broken, tables_of};
 
 use sqlite::{Alter, Connection};
@@ -91,7 +92,7 @@ pub fn open<S: Alter>(
 ) -> Result<Vault<SqlTables<S>>, (OpenFault, Connection<S>)>
     requires idle { conn.in_transaction ≡ false }
     requires unlimited { conn.step_limit ≡ None }
-    ensures fresh { IfOk result (λ vault. (is_broken vault ≡ false) × ((tables_of vault).failed ≡ false)) }
+    ensures fresh { IfOk result (λ vault. (is_broken vault ≡ false) × AreFresh (tables_of vault)) }
     ensures opens { IfOk result (λ vault. HasCleanDisk (state S.Store (tables_of vault).conn)
         → Opens (state S.Store conn) (state S.Store (tables_of vault).conn)) }
     ensures damaged { IfErr result

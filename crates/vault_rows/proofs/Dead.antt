@@ -2,7 +2,7 @@
 use Rattle.std.proofs.Common.{◌≡◌, ◌∙◌, ◌&&◌, ◌||◌, ℕ, ℤ, pos, List, [], ◌∷◌, map, filter, take, Bool, true}
 use Rattle.std.proofs.Common.{false}
 use Rattle.std.proofs.Common.{Option, Some, None, option_map, option_and_then, is_some, is_none, nat_lt}
-use Rattle.std.proofs.Common.{is_eq, is_lt, is_le, int_cmp, cond}
+use Rattle.std.proofs.Common.{is_eq, is_ge, is_lt, is_le, int_cmp, cond}
 use Rattle.std.proofs.Common.{◌≤◌, length, min, suc, zero}
 use Rattle.std.proofs.Common.{refl, sym, ap, subst, arith, inl, inr, Less, Equal, Greater, T, Ordering, not}
 use Rattle.std.proofs.lemmas.Bool.{and_parts}
@@ -21,11 +21,11 @@ use Rattle.sqlite.specs.State.{State, Shown}
 use Rattle.sqlite.specs.Term.{holds}
 use Rattle.sqlite.specs.declared.types.Value.{Value}
 use Rattle.sqlite.specs.declared.types.Value.TheVariants.{Int, Null, Text}
-use Rattle.sqlite_rules.proofs.ListLemmas.{all_from, has_filtered, has_kept}
+use Rattle.sqlite_rules.proofs.ListLemmas.{all_from, all_has, has_filtered, has_kept}
 use Rattle.sqlite_rules.proofs.ProbeLemmas.{has_mapped, mapped_has}
 use Rattle.sqlite_rules.specs.Lists.{Has}
 use Rattle.sqlite_sql.specs.declared.ops.BinaryOp.TheVariants.{Compare, Is, Or}
-use Rattle.sqlite_sql.specs.declared.ops.CompareOp.TheVariants.{Le}
+use Rattle.sqlite_sql.specs.declared.ops.CompareOp.TheVariants.{Ge, Le}
 use Rattle.sqlite_sql.specs.declared.ops.UnaryOp.TheVariants.{Not}
 use Rattle.sqlite_value.proofs.OrderLemmas.{value_cmp-Int, value_cmp-Text, value_cmp_total}
 use Rattle.sql_maps.proofs.KeyTests.{equal_is, text_eq}
@@ -51,6 +51,7 @@ use Rattle.vault_schema.specs.Version2.Rows.{id_or_null, pointing_row}
 use Rattle.vault_schema.specs.declared.v2.Card.{Card}
 use Rattle.vault_schema.specs.declared.v2.Pointing.{Pointing}
 use Rattle.vault_schema.specs.declared.v2.TheConstants.{FIND_DEAD}
+use Rattle.vault_rows.specs.Before.{HasNoDeadBefore}
 use Rattle.vault_rows.proofs.JoinedEntries.{entry_there, points_there}
 use Rattle.vault_schema.specs.Schema.{newest_schema}
 use Rattle.vault_rows.specs.Shown.{text_column}
@@ -90,21 +91,31 @@ over_is : (o : Option ℕ) (e at : ℕ)
 over_is o e at = rw (null_is o, le_is e at)
     (or_is (is_some o) (is_le (int_cmp (pos e) (pos at))) ∙ ap (λ b. is_some o || b) (low_is e at))
 
--- an entry of this merchant that has a card and isn't live
-abbrev is_good : Bytes → ℕ → Bytes × Bytes → Pointing → Bool
-is_good m at key y =
+text_ge : (a b : List ℕ) → is_true (binary (Compare Ge Binary) (Text a) (Text b)) ≡ is_ge (bytes_cmp a b)
+unfolding binary
+text_ge a b = rw value_cmp-Text (grind arith)
+
+-- an entry of this merchant, not before this text, that has a card and isn't live
+abbrev is_good : Bytes → Bytes → ℕ → Bytes × Bytes → Pointing → Bool
+is_good m from at key y =
     is_eq (bytes_cmp key.0 m)
-    && (is_some y.card && ((is_some y.revoked || not (nat_lt at y.expires)) && true))
+    && (is_ge (bytes_cmp key.1 from)
+    && (is_some y.card && ((is_some y.revoked || not (nat_lt at y.expires)) && true)))
 
 dead_is_over : (number : Option Bytes) (revoked : Option ℕ) (low : Bool)
     → (is_some number && ((is_some revoked || not low) && true))
     ≡ (is_some number && not (is_some number && is_none revoked && low))
 dead_is_over number revoked low = grind arith
 
-dead_hits : (m : Bytes) (at limit : ℕ) (n : _) (q : Bytes × Bytes) (y : Pointing)
-    → list_all (holds ((Text m ∷ Int (pos at) ∷ Int (pos limit) ∷ []) ∷ (Int n ∷ pointing_row q y) ∷ []))
-    dead_tests ≡ is_good m at q y
-dead_hits m at limit n q y = rw (text_eq q.0 m, card_there y.card, over_is y.revoked y.expires at) refl
+-- what a query is given
+abbrev dead_params : Bytes → Bytes → ℕ → ℕ → Row
+dead_params m from at many = Text m ∷ Text from ∷ Int (pos at) ∷ Int (pos many) ∷ []
+
+dead_hits : (m from : Bytes) (at limit : ℕ) (n : _) (q : Bytes × Bytes) (y : Pointing)
+    → list_all (holds (dead_params m from at limit ∷ (Int n ∷ pointing_row q y) ∷ [])) dead_tests
+    ≡ is_good m from at q y
+dead_hits m from at limit n q y =
+    rw (text_eq q.0 m, text_ge q.1 from, card_there y.card, over_is y.revoked y.expires at) refl
 
 -- ---- lists of entries in order
 
@@ -182,6 +193,25 @@ taken_tokens zero es = refl
 taken_tokens (suc n) [] = refl
 taken_tokens (suc n) (e ∷ es) = ap (λ l. text_column e.0.1 ∷ l) (taken_tokens n es)
 
+-- none of them comes before the first
+behind_first : (n : ℕ) (es : List ((Bytes × Bytes) × Entry)) → Rises value_cmp_total (map token_value es)
+    → (token : Bytes) (rest : List Bytes) → token ∷ rest ≡ take n (map (λ e. e.0.1) es)
+    → (e : (Bytes × Bytes) × Entry) → Has es e → bytes_cmp e.0.1 token ≡ Less → ⊥
+behind_first zero es up token rest first e h low = cc
+behind_first (suc n) [] up token rest first e h low = h
+behind_first (suc n) (x ∷ es) up token rest first e (inl same) low =
+    let is : token ≡ x.0.1 = cc in
+    let tie = tied_itself bytes_total x.0.1 in
+    let clash = sym tie ∙ ap (λ (y : (Bytes × Bytes) × Entry). bytes_cmp y.0.1 x.0.1) (sym same)
+    ∙ ap (bytes_cmp e.0.1) (sym is) ∙ low in cc
+behind_first (suc n) (x ∷ es) up token rest first e (inr later) low =
+    let is : token ≡ x.0.1 = cc in
+    let over = all_has _ (map token_value es) (token_value e) up.0 (mapped_has token_value es e later) in
+    let above : bytes_cmp x.0.1 e.0.1 ≡ Less = sym (value_cmp-Text x.0.1 e.0.1) ∙ over in
+    let turned : bytes_cmp e.0.1 x.0.1 ≡ Greater =
+    bytes_total.antisymm e.0.1 x.0.1 ∙ ap ordering_reverse above in
+    let clash = sym turned ∙ ap (bytes_cmp e.0.1) (sym is) ∙ low in cc
+
 fewer_kept : {X : Type 0} (p : X → Bool) (xs : List X) → length (filter p xs) ≤ length xs
 fewer_kept p [] = omega arith
 fewer_kept p (x ∷ xs) =
@@ -236,20 +266,46 @@ module _ (V : Vault) (m : Bytes) where
             let own = are.owned q id (ap (option_and_then (λ (p : Pointing). p.card)) is ∙ some) in
             ap (λ o. is_some (option_map (λ (c : Card). c.number) o)) (sym own.1)
 
-    -- it passes where it is dead
-    passes : (q : Bytes × Bytes) (y : Pointing) → t.pointing q ≡ Some y
-        → is_good m at q y ≡ (is_eq (bytes_cmp q.0 m) && is_dead (joined t.cards y) at)
-    passes q y is =
-        ap (λ b. is_eq (bytes_cmp q.0 m) && (b && ((is_some y.revoked || not (nat_lt at y.expires)) && true)))
-        (numbered q y is)
-        ∙ ap (λ b. is_eq (bytes_cmp q.0 m) && b)
-        (dead_is_over (joined t.cards y).number y.revoked (nat_lt at y.expires))
+    module _ (from : Bytes) (none : HasNoDeadBefore V m at from) where
+      -- it passes where it is dead, and not before the text
+      passes : (q : Bytes × Bytes) (y : Pointing) → t.pointing q ≡ Some y
+          → is_good m from at q y
+          ≡ (is_eq (bytes_cmp q.0 m) && (is_ge (bytes_cmp q.1 from) && is_dead (joined t.cards y) at))
+      passes q y is =
+          ap (λ b. is_eq (bytes_cmp q.0 m) && (is_ge (bytes_cmp q.1 from)
+          && (b && ((is_some y.revoked || not (nat_lt at y.expires)) && true))))
+          (numbered q y is)
+          ∙ ap (λ b. is_eq (bytes_cmp q.0 m) && (is_ge (bytes_cmp q.1 from) && b))
+          (dead_is_over (joined t.cards y).number y.revoked (nat_lt at y.expires))
 
-    alike : (q : Bytes × Bytes) (y : Pointing) → t.pointing q ≡ Some y → is_good m at q y ≡ true
-        → (q.0 ≡ m) × (is_dead (joined t.cards y) at ≡ true)
-    alike q y is good =
-        let parts = and_parts _ _ (sym (passes q y is) ∙ good) in
-        (bytes_exact q.0 m (equal_is _ parts.0), parts.1)
+      alike : (q : Bytes × Bytes) (y : Pointing) → t.pointing q ≡ Some y → is_good m from at q y ≡ true
+          → (q.0 ≡ m) × (is_dead (joined t.cards y) at ≡ true)
+      alike q y is good =
+          let parts = and_parts _ _ (sym (passes q y is) ∙ good) in
+          (bytes_exact q.0 m (equal_is _ parts.0), (and_parts _ _ parts.1).1)
+
+      -- what is dead isn't before the text
+      not_before : (q : Bytes × Bytes) (e : Entry) → q.0 ≡ m → map.get V.entries q ≡ Some e
+          → is_dead e at ≡ true → is_ge (bytes_cmp q.1 from) ≡ true
+      not_before q e own there dead =
+          elim (bytes_cmp q.1 from) as (λ o. bytes_cmp q.1 from ≡ o → is_ge o ≡ true) [
+            | Less ↦ λ low.
+                let at_m = ap (λ (x : Bytes). map.get V.entries (x, q.1)) (sym own) ∙ there in
+                let clash = sym dead ∙ none q.1 e low at_m in cc
+            | Equal ↦ λ tie. refl
+            | Greater ↦ λ high. refl
+          ] refl
+
+      good_dead : (q : Bytes × Bytes) (y : Pointing) → t.pointing q ≡ Some y → q.0 ≡ m
+          → map.get V.entries q ≡ Some (joined t.cards y) → is_dead (joined t.cards y) at ≡ true
+          → is_good m from at q y ≡ true
+      good_dead q y is own there dead =
+          passes q y is
+          ∙ ap (λ x. is_eq (bytes_cmp x m)
+          && (is_ge (bytes_cmp q.1 from) && is_dead (joined t.cards y) at)) own
+          ∙ ap (λ o. is_eq o && (is_ge (bytes_cmp q.1 from) && is_dead (joined t.cards y) at))
+          (tied_itself bytes_total m)
+          ∙ ap (λ b. b && is_dead (joined t.cards y) at) (not_before q _ own there dead) ∙ dead
 
     same_token : (q p : Bytes × Bytes) → q.0 ≡ m → p.0 ≡ m → value_cmp (Text q.1) (Text p.1) ≡ Equal → q ≡ p
     same_token q p own own' tie =
@@ -258,20 +314,21 @@ module _ (V : Vault) (m : Bytes) where
         λ i. (merchant i, token i)
 
     -- what a query shows of them
-    pub shows_dead : (old new : State) → Stands newest_schema (newest_claims t) old.now → (many now : ℕ)
+    pub shows_dead : (from : Bytes) → HasNoDeadBefore V m at from
+        → (old new : State) → Stands newest_schema (newest_claims t) old.now → (many now : ℕ)
         → moment_at V m now ≡ at → (rows : List Row)
-        → Shown FIND_DEAD.now (Text m ∷ Int (pos at) ∷ Int (pos many) ∷ []) old new rows
+        → Shown FIND_DEAD.now (dead_params m from at many) old new rows
         → rows ≡ map text_column (take many (dead_tokens V m now))
     unfolding dead_tokens
-    shows_dead old new it many now is rows shown =
+    shows_dead from none old new it many now is rows shown =
         let test = λ (e : (Bytes × Bytes) × Entry). is_dead e.1 at in
-        shown_first old new it _ (Text m ∷ Int (pos at) ∷ Int (pos many) ∷ []) rows shown pointing_table
+        shown_first old new it _ (dead_params m from at many) rows shown pointing_table
         t.pointing (λ are. are)
-        dead_tests 2 2 (dead_is behind_second indexes_behind_second) (is_good m at) (dead_hits m at many)
-        (λ q y. Text q.1) (λ n q y. refl)
+        dead_tests 2 3 (dead_is behind_second indexes_behind_second) (is_good m from at)
+        (dead_hits m from at many) (λ q y. Text q.1) (λ n q y. refl)
         many refl
         (λ q p y x found good found' good' tie.
-        same_token q p (alike q y found good).0 (alike p x found' good').0 tie)
+        same_token q p (alike from none q y found good).0 (alike from none p x found' good').0 tie)
         (map token_value (filter test own))
         (rising_tokens m test own (map.entries_sorted (entries_of V m)) (λ e h. (own_there e h).0))
         (λ v h.
@@ -282,13 +339,12 @@ module _ (V : Vault) (m : Bytes) where
           e.0.0,
           y.0,
           y.1,
-          passes e.0.0 y.0 y.1 ∙ ap (λ x. is_eq (bytes_cmp x m) && is_dead (joined t.cards y.0) at) there.0
-              ∙ ap (λ o. is_eq o && is_dead (joined t.cards y.0) at) (tied_itself bytes_total m)
-              ∙ ap (λ x. is_dead x at) (sym y.2) ∙ kept.1,
+          good_dead from none e.0.0 y.0 y.1 there.0 (there.1 ∙ ap (λ x. Some x) y.2)
+              (ap (λ x. is_dead x at) (sym y.2) ∙ kept.1),
           e.2,
         ))
         (λ q y found good.
-        let its = alike q y found good in
+        let its = alike from none q y found good in
         let e = joined t.cards y in
         mapped_has token_value (filter test own) (q, e)
         (has_kept test own (q, e) (there_own q e (entry_there are q y found) its.0) its.1))
@@ -310,6 +366,22 @@ module _ (V : Vault) (m : Bytes) where
       → take many (dead_tokens V m now) ≡ take limit (dead_tokens V m now)
   all_dead sound now limit many is = take_enough 1000000 limit many (dead_tokens V m now)
       (few_dead sound now) is
+
+  -- none is dead before the first of them
+  pub first_dead : (now many : ℕ) (token : Bytes) (rest : List Bytes)
+      → token ∷ rest ≡ take many (dead_tokens V m now) → HasNoDeadBefore V m (moment_at V m now) token
+  unfolding dead_tokens
+  first_dead now many token rest first other e low found =
+      let at = moment_at V m now in
+      let test = λ (x : (Bytes × Bytes) × Entry). is_dead x.1 at in
+      elim (is_dead e at) as (λ b. is_dead e at ≡ b → b ≡ false) [
+        | false ↦ λ live. refl
+        | true ↦ λ dead.
+            absurd (behind_first many (filter test own)
+            (rising_tokens m test own (map.entries_sorted (entries_of V m)) (λ x h. (own_there x h).0))
+            token rest first ((m, other), e)
+            (has_kept test own ((m, other), e) (there_own (m, other) e found refl) dead) low)
+      ] refl
 
 -- ---- tokens that are read from rows
 

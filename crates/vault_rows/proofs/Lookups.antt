@@ -1,6 +1,6 @@
 -- What each query shows of a vault: exactly what it has, or nothing.
 use Rattle.std.proofs.Common.{◌≡◌, ◌↔◌, ℕ, ℤ, List, [], ◌∷◌, is_eq, Bool, IsTrue, false}
-use Rattle.std.proofs.Common.{true, true≢false}
+use Rattle.std.proofs.Common.{true≢false}
 use Rattle.std.proofs.Common.{Option, Some, None, option_map, refl, sym, ap, ◌∙◌, arith, inl}
 use Rattle.std.proofs.Common.{inr, max, slice_get}
 use Rattle.std.proofs.lemmas.Bool.Decides.{nat_tests}

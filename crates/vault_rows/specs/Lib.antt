@@ -1,3 +1,4 @@
+pub mod Before
 pub mod Calls
 pub mod Cards
 pub mod Shown

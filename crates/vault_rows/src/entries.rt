@@ -1,5 +1,5 @@
 //! The rows of entries.
-ghost use Rattle.std.specs.Prelude.{◌≡◌, ◌<◌, ◌^◌, ℕ, ℤ, Some, IfOk, option_map, map, take};
+ghost use Rattle.std.specs.Prelude.{◌≡◌, ◌<◌, ◌^◌, ℕ, ℤ, Some, IfOk, option_map, map, min, take};
 ghost use Rattle.sqlite.specs.Held.{state};
 ghost use Rattle.sqlite.specs.Order.{column};
 ghost use Rattle.sqlite.specs.declared.types.Value.TheVariants.{Int};
@@ -11,15 +11,16 @@ ghost use Rattle.vault_core.specs.Repeats.{current as current_lem};
 ghost use Rattle.vault_core.specs.Sound.{Sound};
 ghost use Rattle.vault_core.specs.Vault.{Vault, entry_at};
 ghost use Rattle.vault_core.specs.Window.{moment_at};
+ghost use Rattle.vault_core.specs.declared.limit.TheConstants.{MOST_TOKENS};
 ghost use Rattle.vault_schema.specs.Version2.Joined.{number_of};
 ghost use Rattle.vault_schema.specs.Version2.Rows.{pointing_columns};
+ghost use Rattle.vault_rows.specs.Before.{HasNoDeadBefore};
 ghost use Rattle.vault_rows.specs.Calls.{Tells, TellsTables};
 ghost use Rattle.vault_rows.specs.Cards.{HasCard};
 ghost use Rattle.vault_rows.specs.Shown.{ShowsPointing, text_column};
 
 use crate::cards::{card_rows, number_at};
 use crate::columns::{moment_in, moment_or_null_in, token_in, usage_in};
-use crate::merchants::moment;
 use sql_maps::run::rows_of;
 use sqlite::{Alter, Connection, Error, Row, params};
 use vault_cards::columns::card_in;
@@ -186,34 +187,36 @@ pub fn current<S: Alter>(
     }
 }
 
-/// The first of a merchant's tokens that are dead at a moment, in order.
+/// The first of a merchant's tokens that are dead at a moment, in order, where none before `from` is.
 fn dead_rows<S: Alter>(
     conn: &mut Connection<S>,
     m: &str,
+    from: &str,
     at: u64,
     many: u64,
 ) -> Result<Vec<Row>, Error>
     requires at { at < 2 ^ 63 }
     requires many { many < 2 ^ 63 }
     ensures { Tells result (state S.Store conn.old) (state S.Store conn.new)
-        (λ V rows. (now : ℕ) → moment_at V m.now now ≡ at
+        (λ V rows. HasNoDeadBefore V m.now at from.now → (now : ℕ) → moment_at V m.now now ≡ at
         → rows.items ≡ map text_column (take many (dead_tokens V m.now now))) }
 {
-    rows_of(conn, FIND_DEAD, params![m, at as i64, many as i64])
+    rows_of(conn, FIND_DEAD, params![m, from, at as i64, many as i64])
 }
 
-/// The rows of the first `limit` tokens of a merchant that are dead at the later of its moment and `now`,
-/// in order.
+/// The rows of the first `limit` tokens of a merchant that are dead at a moment, in order, where none before
+/// `from` is. They are no more than a merchant can have.
 pub fn dead<S: Alter>(
     conn: &mut Connection<S>,
     m: &MerchantId,
-    now: Moment,
+    at: Moment,
+    from: &str,
     limit: usize,
 ) -> Result<Vec<Row>, StoreFault>
     ensures { Tells result (state S.Store conn.old) (state S.Store conn.new)
-        (λ V rows. Sound V → rows.items ≡ map text_column (take limit (dead_tokens V m.now now))) }
+        (λ V rows. HasNoDeadBefore V m.now at from.now → (now : ℕ) → moment_at V m.now now ≡ at
+        → rows.items ≡ map text_column (take (min MOST_TOKENS limit) (dead_tokens V m.now now))) }
 {
-    let at = moment(conn, m, now)?;
     let many = MOST_TOKENS.min(limit as u64);
-    Ok(dead_rows(conn, merchant_text(m), at.seconds(), many)?)
+    Ok(dead_rows(conn, merchant_text(m), from, at.seconds(), many)?)
 }

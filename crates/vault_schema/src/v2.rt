@@ -86,11 +86,12 @@ pub const FIND_CURRENT: &str = "\
     SELECT token FROM entries2 \
     WHERE merchant = ?1 AND card = ?2 AND usage = 2 AND revoked IS NULL AND expires > ?3";
 
-/// So many of the tokens of a merchant that are dead at a moment, in order.
+/// So many of the tokens of a merchant that are dead at a moment, in order, from a text on.
 pub const FIND_DEAD: &str = "\
     SELECT token FROM entries2 \
-    WHERE merchant = ?1 AND card IS NOT NULL AND (revoked IS NOT NULL OR expires <= ?2) \
-    ORDER BY token LIMIT ?3";
+    WHERE merchant = ?1 AND token >= ?2 AND card IS NOT NULL \
+    AND (revoked IS NOT NULL OR expires <= ?3) \
+    ORDER BY token LIMIT ?4";
 
 /// Writes a new entry.
 pub const ADD_ENTRY: &str = "INSERT INTO entries2 VALUES (?1, ?2, ?3, ?4, ?5, ?6, ?7)";

@@ -35,7 +35,6 @@ use Rattle.vault_schema.specs.Version1.Tables.{vault}
 use Rattle.vault_schema.specs.Stands.{newest_claims}
 use Rattle.vault_schema.specs.Version2.Joined.{AreJoined, nothing_owed}
 use Rattle.vault_schema.specs.Version2.Rows.{card_columns, pointing_row}
-use Rattle.vault_schema.specs.Version2.Tables.{entries}
 use Rattle.vault_schema.specs.declared.v2.Card.{Card}
 use Rattle.vault_schema.specs.declared.v2.Pointing.{Pointing}
 use Rattle.vault_schema.specs.declared.v4.TheConstants.{PUT_VERSION}

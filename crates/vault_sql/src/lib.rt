@@ -1,6 +1,7 @@
 //! The tables of a vault in SQLite: made, read, and changed in one transaction for each command.
 #![tactic(auto)]
 
+pub mod place;
 pub mod schema;
 pub mod tables;
 mod tokens;

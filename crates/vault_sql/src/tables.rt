@@ -1,7 +1,8 @@
 //! Tables in a database.
 ghost use Rattle.std.specs.Prelude.{◌≡◌, true, false, Err};
 
-use crate::tokens::tokens_of;
+use crate::place::{Place, place_after, place_of};
+use crate::tokens::{dead_from, tokens_of};
 use crate::transaction::{are_storable, write};
 use sqlite::{Alter, Connection};
 use std::alloc::Global;
@@ -13,32 +14,37 @@ use vault_core::right::Right;
 use vault_core::row::{Entry, GrantRow, MerchantRow, Record};
 use vault_pan::pan::Pan;
 use vault_pan::token::Token;
-use vault_rows::entries::{current, dead, entry};
+use vault_rows::entries::{current, entry};
 use vault_rows::merchants::{how_many, merchant};
 use vault_rows::records::recorded;
 use vault_rows::rights::right;
 use vault_store::tables::{Tables, TablesFault};
 
-/// Tables in a database, which fail from the first call on that the database refused.
+/// Tables in a database, which fail from the first call on that the database refused. They remember where
+/// the last list of dead tokens began, since the next one needs to look at none before.
 pub struct SqlTables<S: Alter> {
     alloc: Global,
     conn: Connection<S>,
     failed: bool,
+    place: Option<Place>,
     ghost idle: { conn.in_transaction ≡ false },
 }
 
 impl<S: Alter> SqlTables<S> {
+    ghost use Rattle.vault_sql.specs.Held.{AreFresh};
+
     /// Tables over a connection that is not inside a transaction. Nothing is promised of a database that
     /// holds no vault.
     pub fn on(alloc: Global, conn: Connection<S>) -> SqlTables<S>
         requires { conn.in_transaction ≡ false }
         ensures conn { result.conn ≡ conn }
-        ensures fresh { result.failed ≡ false }
+        ensures fresh { AreFresh result }
     {
         SqlTables {
             alloc,
             conn,
             failed: false,
+            place: None,
         }
     }
 
@@ -50,6 +56,7 @@ impl<S: Alter> SqlTables<S> {
             alloc: _,
             conn,
             failed: _,
+            place: _,
         } = self;
         conn
     }
@@ -69,12 +76,12 @@ impl<S: Alter> Tables for SqlTables<S> {
     ghost use Rattle.std.specs.Prelude.{◌≡◌, true, false};
     ghost use Rattle.sqlite.specs.Held.{state};
     ghost use Rattle.sqlite.specs.State.{HasCleanDisk};
-    ghost use Rattle.vault_schema.specs.Holds.{Holds, LeavesEither};
+    ghost use Rattle.vault_schema.specs.Holds.{LeavesEither};
     ghost use Rattle.std.proofs.Common.{inl, inr};
     ghost use Rattle.vault_schema.specs.Left.{left_alone};
+    ghost use Rattle.vault_sql.specs.Held.{AreHeld};
 
-    ghost holds = { λ t V. (t.failed ≡ false)
-        × (HasCleanDisk (state S.Store t.conn) → Holds (state S.Store t.conn) V) };
+    ghost holds = { λ t V. AreHeld t V };
 
     ghost leaves = { λ t V W. LeavesEither (state S.Store t.conn) V W };
 
@@ -88,8 +95,8 @@ impl<S: Alter> Tables for SqlTables<S> {
 
     ghost unfailed = { λ t V held. held.0 };
 
-    ghost settled = { λ t V held honest. left_alone _ V (held.1 honest)
-        (λ db. S.Store.settled t.conn.store db (held.1 honest).is_open) };
+    ghost settled = { λ t V held honest. left_alone _ V (held.1 honest).0
+        (λ db. S.Store.settled t.conn.store db (held.1 honest).0.is_open) };
 
     ghost widened = { λ t V W left db is. elim (left db is) [ inl held ↦ inl held | inr held ↦ inl held ] };
 
@@ -97,7 +104,7 @@ impl<S: Alter> Tables for SqlTables<S> {
         self.failed
     }
 
-    #[tactic(auto, using(vault_rows::proofs::Calls::left_by, vault_rows::proofs::Calls::still_held))]
+    #[tactic(auto, using(crate::proofs::Places::left_by, crate::proofs::Places::still_held))]
     fn merchant(&mut self, m: MerchantId) -> Result<Option<MerchantRow>, TablesFault> {
         if self.failed {
             return Err(TablesFault::Store);
@@ -108,7 +115,7 @@ impl<S: Alter> Tables for SqlTables<S> {
         }
     }
 
-    #[tactic(auto, using(vault_rows::proofs::Calls::left_by, vault_rows::proofs::Calls::still_held))]
+    #[tactic(auto, using(crate::proofs::Places::left_by, crate::proofs::Places::still_held))]
     fn merchants(&mut self) -> Result<u64, TablesFault> {
         if self.failed {
             return Err(TablesFault::Store);
@@ -119,7 +126,7 @@ impl<S: Alter> Tables for SqlTables<S> {
         }
     }
 
-    #[tactic(auto, using(vault_rows::proofs::Calls::left_by, vault_rows::proofs::Calls::still_held))]
+    #[tactic(auto, using(crate::proofs::Places::left_by, crate::proofs::Places::still_held))]
     fn right(
         &mut self,
         c: Caller,
@@ -135,7 +142,7 @@ impl<S: Alter> Tables for SqlTables<S> {
         }
     }
 
-    #[tactic(auto, using(vault_rows::proofs::Calls::left_by, vault_rows::proofs::Calls::still_held))]
+    #[tactic(auto, using(crate::proofs::Places::left_by, crate::proofs::Places::still_held))]
     fn recorded(&mut self, c: Caller, n: RequestNo) -> Result<Option<Record>, TablesFault> {
         if self.failed {
             return Err(TablesFault::Store);
@@ -146,7 +153,7 @@ impl<S: Alter> Tables for SqlTables<S> {
         }
     }
 
-    #[tactic(auto, using(vault_rows::proofs::Calls::left_by, vault_rows::proofs::Calls::still_held))]
+    #[tactic(auto, using(crate::proofs::Places::left_by, crate::proofs::Places::still_held))]
     fn entry(&mut self, m: MerchantId, t: Token) -> Result<Option<Entry>, TablesFault> {
         if self.failed {
             return Err(TablesFault::Store);
@@ -157,7 +164,7 @@ impl<S: Alter> Tables for SqlTables<S> {
         }
     }
 
-    #[tactic(auto, using(vault_rows::proofs::Calls::left_by, vault_rows::proofs::Calls::still_held))]
+    #[tactic(auto, using(crate::proofs::Places::left_by, crate::proofs::Places::still_held))]
     fn current(&mut self, m: MerchantId, p: Pan, at: Moment) -> Result<Option<Token>, TablesFault> {
         if self.failed {
             return Err(TablesFault::Store);
@@ -168,7 +175,7 @@ impl<S: Alter> Tables for SqlTables<S> {
         }
     }
 
-    #[tactic(auto, using(vault_rows::proofs::Calls::left_by, vault_rows::proofs::Calls::still_held))]
+    #[tactic(auto, using(crate::proofs::Places::left_by, crate::proofs::Places::still_held))]
     fn dead(
         &mut self,
         m: MerchantId,
@@ -178,9 +185,12 @@ impl<S: Alter> Tables for SqlTables<S> {
         if self.failed {
             return Err(TablesFault::Store);
         }
-        match dead(&mut self.conn, &m, now, limit) {
-            Ok(rows) => match tokens_of(self.alloc, &rows) {
-                Ok(tokens) => Ok(tokens),
+        match dead_from(&mut self.conn, &self.place, &m, now, limit) {
+            Ok(found) => match tokens_of(self.alloc, &found.1) {
+                Ok(tokens) => {
+                    self.place = place_of(m, found.0, &tokens);
+                    Ok(tokens)
+                }
                 Err(TablesFault::Memory) => Err(TablesFault::Memory),
                 Err(TablesFault::Store) => self.fail(),
             },
@@ -196,7 +206,10 @@ impl<S: Alter> Tables for SqlTables<S> {
             return self.fail();
         }
         match write(&mut self.conn, ch) {
-            Ok(()) => Ok(()),
+            Ok(()) => {
+                self.place = place_after(&self.place, ch);
+                Ok(())
+            }
             Err(_) => self.fail(),
         }
     }

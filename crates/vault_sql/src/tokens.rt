@@ -1,13 +1,44 @@
-//! The tokens that rows show.
-ghost use Rattle.std.specs.Prelude.{◌≡◌, IfOk, map};
+//! Lists of dead tokens.
+ghost use Rattle.std.specs.Prelude.{◌≡◌, IfOk, map, min, take};
+ghost use Rattle.sqlite.specs.Held.{state};
 ghost use Rattle.sqlite.specs.Order.{column};
 ghost use Rattle.sqlite.specs.declared.types.Value.TheVariants.{Text};
+ghost use Rattle.vault_core.specs.Dead.{dead_tokens};
+ghost use Rattle.vault_core.specs.Window.{moment_at};
+ghost use Rattle.vault_core.specs.declared.limit.TheConstants.{MOST_TOKENS};
+ghost use Rattle.vault_rows.specs.Calls.{Tells};
+ghost use Rattle.vault_rows.specs.Shown.{text_column};
+ghost use Rattle.vault_sql.specs.Places.{IsPast};
 
-use sqlite::Row;
+use crate::place::{Place, start_of};
+use sqlite::{Alter, Connection, Row};
 use std::alloc::{AllocError, Global};
+use vault_cards::fault::StoreFault;
+use vault_core::moment::Moment;
+use vault_core::name::MerchantId;
 use vault_pan::token::Token;
 use vault_rows::columns::token_in;
+use vault_rows::entries::dead;
+use vault_rows::merchants::moment;
 use vault_store::tables::TablesFault;
+
+/// The later one of a merchant's moment and `now`, and the rows of the first `limit` of its tokens that are
+/// dead then, in order. They are no more than a merchant can have.
+pub(crate) fn dead_from<S: Alter>(
+    conn: &mut Connection<S>,
+    place: &Option<Place>,
+    m: &MerchantId,
+    now: Moment,
+    limit: usize,
+) -> Result<(Moment, Vec<Row>), StoreFault>
+    ensures { Tells result (state S.Store conn.old) (state S.Store conn.new)
+        (λ V found. IsPast place.now V → (found.0 ≡ moment_at V m.now now)
+        × (found.1.items ≡ map text_column (take (min MOST_TOKENS limit) (dead_tokens V m.now now)))) }
+{
+    let at = moment(conn, m, now)?;
+    let rows = dead(conn, m, at, start_of(place, m, at), limit)?;
+    Ok((at, rows))
+}
 
 /// The tokens in the first column of these rows.
 pub(crate) fn tokens_of(alloc: Global, rows: &[Row]) -> Result<Vec<Token>, TablesFault>

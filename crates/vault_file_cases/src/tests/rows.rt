@@ -126,6 +126,21 @@ detokenize till-1 shop1 1111111111111111 1065 = 4111111111111111
 dead shop1 1070 1000 = 1 1111111111111111
 audit till-1 shop1 1065 = 3 1 0";
 
+/// A list has the tokens that died before the first one of the last list, too.
+const LISTED: &str = "open till-1 shop1 60 0 1000 = done
+tokenize till-1 shop1 1 single 4111111111111111 1 1000 = 1111111111111111 1060
+tokenize till-1 shop1 2 single 4111111111111111 0 1010 = 0000000000001111 1070
+dead shop1 1060 1000 = 1 1111111111111111
+revoke till-1 shop1 0000000000001111 1060 = done
+dead shop1 1060 1000 = 2 0000000000001111 1111111111111111
+purge till-1 shop1 0000000000001111 1060 = done
+dead shop1 1060 1000 = 1 1111111111111111
+dead shop2 1060 1000 = 0
+tokenize till-1 shop1 3 single 4111111111111111 2 1060 = 2222222222221111 1120
+dead shop1 1060 1000 = 1 1111111111111111
+dead shop1 1120 1000 = 2 1111111111111111 2222222222221111
+dead shop1 1060 1000 = 1 1111111111111111";
+
 /// A View masks by its merchant's lead of now, whenever the token was made.
 const LEADS: &str = "open till-1 shop1 60 0 1000 = done
 open till-1 shop2 60 0 1000 = done
@@ -156,8 +171,9 @@ withdraw back shop1 audit 2000 = done
 grant back shop1 audit 2000 2001 = done
 audit back shop1 2000 = 0 0 0";
 
-const CASES: [&str; 12] = [
-    TAKEN, GIVEN, EXPIRED, MULTI, REUSED, DENIED, SHOWN, WITHDRAWN, PURGED, DEAD, LEADS, ENDING,
+const CASES: [&str; 13] = [
+    TAKEN, GIVEN, EXPIRED, MULTI, REUSED, DENIED, SHOWN, WITHDRAWN, PURGED, DEAD, LISTED, LEADS,
+    ENDING,
 ];
 
 /// What the lines of a case tell over ordered maps.

@@ -9,7 +9,7 @@ use Rattle.sqlite.specs.Term.{Term, lit, col, op1, op2}
 use Rattle.sqlite.specs.declared.types.Value.TheVariants.{Null, Int}
 use Rattle.sqlite_schema.specs.declared.schema.Index.{Index}
 use Rattle.sqlite_sql.specs.declared.ops.BinaryOp.TheVariants.{Compare, Is, Or}
-use Rattle.sqlite_sql.specs.declared.ops.CompareOp.TheVariants.{Gt, Le}
+use Rattle.sqlite_sql.specs.declared.ops.CompareOp.TheVariants.{Ge, Gt, Le}
 use Rattle.sqlite_sql.specs.declared.ops.UnaryOp.TheVariants.{Not}
 use Rattle.sql_maps.specs.Schema.{grown}
 use Rattle.sql_maps.specs.Texts.{IsQuery, IsWrite, query_of, sorted_of, ordered_by, by_id, by_key, eq, update}
@@ -36,11 +36,11 @@ current_tests =
 abbrev present : ℕ → Term
 present place = op1 Not (op2 (Is Binary) (col 1 place) (lit Null))
 
--- the tests of a token that is dead
+-- the tests of a token that is dead, and not before a text
 abbrev pub dead_tests : List Term
 dead_tests =
-    eq (col 1 1) (col 0 0) ∷ present 3
-    ∷ op2 Or (present 7) (op2 (Compare Le Binary) (col 1 6) (col 0 1)) ∷ []
+    eq (col 1 1) (col 0 0) ∷ op2 (Compare Ge Binary) (col 1 2) (col 0 1) ∷ present 3
+    ∷ op2 Or (present 7) (op2 (Compare Le Binary) (col 1 6) (col 0 2)) ∷ []
 
 -- the columns of a card after an update of its uses
 abbrev pub uses_set : List Term
@@ -78,7 +78,7 @@ module _ (ts : List Table) (is : List Index) where
   unfolding understood everything
   current_is = record { names = _; is = refl; plain = (refl, refl); unlisted = refl }
 
-  pub dead_is : IsQuery (grown v2 ts is) FIND_DEAD.now (first_of 14 dead_tests 2 2)
+  pub dead_is : IsQuery (grown v2 ts is) FIND_DEAD.now (first_of 14 dead_tests 2 3)
   unfolding understood everything
   dead_is = record { names = _; is = refl; plain = (refl, refl); unlisted = refl }
 

@@ -1,5 +1,6 @@
 use Rattle.std.proofs.Common.{◌≡◌, arith, subst, sym}
 use Rattle.vault_jobs.specs.Streams.{Streams, streams}
+use Rattle.vault_sql.specs.Places.{IsPast}
 use Rattle.vault_store.specs.Applied.{is_broken}
 use Rattle.vault_app.proofs.Files.{ended, ends_of, works}
 use Rattle.vault_app.specs.Files.{DoesOnFile, FileEnds}
@@ -23,8 +24,10 @@ returns-clause-does g c image found =
     let left = c.close_files-left.result in
     subst (λ e. DoesOnFile image left c.args.task.now e unread unsent s) (sym c.ending_of.ensures)
     (ended image unread unsent s left c.args.task.now c.do_task-outcome.result
-    (works (λ t. t.conn) (λ t. t.failed) image c.args.vault c.do_task-outcome.new.vault left
-    c.args.task.now c.do_task-outcome.result (is_broken c.do_task-outcome.new.vault) unread unsent s found
-    c.requires.fresh c.do_task-outcome.ensures.honest
+    (works (λ t. t.conn) (λ t. t.failed) (λ t V. IsPast t.place V) image c.args.vault
+    c.do_task-outcome.new.vault left c.args.task.now c.do_task-outcome.result
+    (is_broken c.do_task-outcome.new.vault) unread unsent s found
+    (c.requires.fresh.0, λ V. subst (λ place. IsPast place V) (sym c.requires.fresh.1) tt)
+    c.do_task-outcome.ensures.honest
     (λ clean. omega (arith, c.close_files-left.ensures.clean, clean)) c.close_files-left.ensures.after
     c.close_files-left.ensures.either_after c.do_task-outcome.ensures.does))

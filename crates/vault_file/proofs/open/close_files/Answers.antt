@@ -4,8 +4,9 @@ use Rattle.sqlite.specs.State.{HasCleanDisk}
 use Rattle.sqlite.specs.View.{IsClean}
 use Rattle.sqlite_store.specs.FileStore.{view}
 use Rattle.vault_core.specs.Vault.{Vault}
-use Rattle.vault_recover.specs.Crashed.{AreHeld, Reopens, ReopensEither}
+use Rattle.vault_recover.specs.Crashed.{Reopens, ReopensEither}
 use Rattle.vault_schema.specs.Holds.{Holds, LeavesEither}
+use Rattle.vault_sql.specs.Held.{AreHeld}
 use Rattle.vault_store.specs.Applied.{Contains, tables_of}
 use Rattle.vault_file.proofs.open.close_files.Given.{Over}
 use Rattle.vault_file.proofs.open.close_files.Goals as goal
@@ -17,7 +18,8 @@ held : (g : Over) (c : goal.After-close g) → IsClean (view c.close.result)
     → (V : Vault) → Contains AreHeld c.args.vault V
     → Holds (file_state c.into_connection.result) V
 held g c clean V contains =
-    subst (λ h. HasCleanDisk (file_state h) → Holds (file_state h) V) (sym (same g c)) contains.0.1
+    subst (λ h. HasCleanDisk (file_state h) → Holds (file_state h) V) (sym (same g c))
+    (λ honest. (contains.0.1 honest).0)
     (omega (arith, c.close.ensures.clean, clean))
 
 pub returns-clause-before : goal.returns-clause-before

@@ -11,14 +11,15 @@ pub returns : goal.returns
 returns g c =
     tells (dead_is behind_second indexes_behind_second) c.rows_of.ensures.reads
     (λ rows. rows.items) _ c.rows_of.ensures.told
-    (λ V cards pointing rows joined it shown. λ now is.
-    shows_dead V c.args.m.now (tables_of (lookups_of V) cards pointing) joined c.args.at _ _ it c.args.many
-    now is
+    (λ V cards pointing rows joined it shown. λ none now is.
+    shows_dead V c.args.m.now (tables_of (lookups_of V) cards pointing) joined c.args.at c.args.from.now none
+    _ _ it c.args.many now is
     rows.items
     (rw (
       c.params-to_sql.ensures,
       c.params-to_sql-2.ensures,
       c.params-to_sql-3.ensures,
+      c.params-to_sql-4.ensures,
       small _ c.requires.at,
       small _ c.requires.many,
     ) at shown))
