@@ -24,7 +24,7 @@ use Rattle.vault_rules.specs.VaultOf.{HasKeysApart}
 use Rattle.vault_rules.specs.declared.rows.RawCount.{RawCount}
 use Rattle.vault_rules.specs.declared.rows.RawEntry.{RawEntry}
 use Rattle.vault_rules.specs.declared.rows.RawRecord.{RawRecord}
-use Rattle.vault_rules.specs.declared.rows.Rows.{Rows}
+use Rattle.vault_rules.specs.AllRows.{Rows}
 use Rattle.vault_rules.proofs.CardsFrom.{cards_kept}
 use Rattle.vault_rules.proofs.DistinctFrom.{keys_distinct}
 use Rattle.vault_rules.proofs.Ends.{ends_from}
@@ -43,22 +43,22 @@ right_within Purge z is = within_from 1 6 5 z is (omega arith) (omega arith)
 right_within Audit z is = within_from 1 6 6 z is (omega arith) (omega arith)
 
 module _ (rows : Rows) (V : Vault) (shows : Shows rows V) (sound : Sound V) where
-  kept_1 : is_current rows.versions.items rows.replaced ≡ true
+  kept_1 : is_current rows.versions rows.replaced ≡ true
   kept_1 =
       (λ i. is_current (shows.versions i) (shows.replaced i))
       ∙ ap (λ z. (int_eq z (pos 1) && true) && true) shows.id
 
-  kept_2 : are_named rows.merchants.items ≡ true
+  kept_2 : are_named rows.merchants ≡ true
   kept_2 =
-      and_from (nat_lt (length rows.merchants.items) 10001)
-      (list_all (λ m. is_name (string_bytes m.name)) rows.merchants.items)
-      (below_from (length rows.merchants.items) 10001 (omega (arith, shows.many, sound.few)))
-      (test_from (λ m. is_name (string_bytes m.name)) rows.merchants.items (λ m h.
+      and_from (nat_lt (length rows.merchants) 10001)
+      (list_all (λ m. is_name (string_bytes m.name)) rows.merchants)
+      (below_from (length rows.merchants) 10001 (omega (arith, shows.many, sound.few)))
+      (test_from (λ m. is_name (string_bytes m.name)) rows.merchants (λ m h.
       let it = shows.merchants m h in
       name_from (string_bytes m.name) (sound.merchants (string_bytes m.name) it.0 it.1).name))
 
-  kept_3 : list_all is_lasting rows.merchants.items ≡ true
-  kept_3 = test_from is_lasting rows.merchants.items (λ m h.
+  kept_3 : list_all is_lasting rows.merchants ≡ true
+  kept_3 = test_from is_lasting rows.merchants (λ m h.
       let it = shows.merchants m h in
       let fine = sound.merchants (string_bytes m.name) it.0 it.1 in
       and_from _ _ (and_from _ _
@@ -69,7 +69,7 @@ module _ (rows : Rows) (V : Vault) (shows : Shows rows V) (sound : Sound V) wher
   -- what a count's row says
   abbrev CountFine : RawCount → ℕ → ℕ → Type 0
   CountFine c kind total =
-      (is_known rows.merchants.items (string_bytes c.merchant) ≡ true) × (1 ≤ kind) × (kind ≤ 3)
+      (is_known rows.merchants (string_bytes c.merchant) ≡ true) × (1 ≤ kind) × (kind ≤ 3)
       × (total ≤ 4611686018427387903)
 
   count_fine : (c : RawCount) → (it : ShowsCount c V) → CountFine c it.kind it.total
@@ -101,48 +101,48 @@ module _ (rows : Rows) (V : Vault) (shows : Shows rows V) (sound : Sound V) wher
         ]
   ]
 
-  kept_4 : list_all (is_count rows.merchants.items) rows.counts.items ≡ true
-  kept_4 = test_from (is_count rows.merchants.items) rows.counts.items (λ c h.
+  kept_4 : list_all (is_count rows.merchants) rows.counts ≡ true
+  kept_4 = test_from (is_count rows.merchants) rows.counts (λ c h.
       let it = shows.counts c h in
       let fine = count_fine c it in
       and_from _ _ (and_from _ _ fine.0 (within_from 1 3 it.kind c.kind it.kind_is fine.1 fine.2))
       (within_from 1 4611686018427387903 it.total c.total it.total_is (omega (arith, it.some)) fine.3))
 
-  kept_5 : list_all (has_token rows.merchants.items) rows.entries.items ≡ true
-  kept_5 = test_from (has_token rows.merchants.items) rows.entries.items (λ e h.
+  kept_5 : list_all (has_token rows.merchants) rows.entries ≡ true
+  kept_5 = test_from (has_token rows.merchants) rows.entries (λ e h.
       let it = entered rows V shows sound e h in
-      and_from (is_known rows.merchants.items (string_bytes e.merchant)) (is_token (string_bytes e.token))
+      and_from (is_known rows.merchants (string_bytes e.merchant)) (is_token (string_bytes e.token))
       (known rows V shows (string_bytes e.merchant) it.merchant it.merchant_is)
       (token_from (string_bytes e.token) it.sound.token_fails))
 
-  kept_6 : list_all (has_number rows.cards.items) rows.entries.items ≡ true
+  kept_6 : list_all (has_number rows.cards) rows.entries ≡ true
   kept_6 =
-      test_from (has_number rows.cards.items) rows.entries.items (λ e h.
+      test_from (has_number rows.cards) rows.entries (λ e h.
       let it = entered rows V shows sound e h in
-      number_kept rows.cards.items e it.entry it.shown it.merchant it.sound)
+      number_kept rows.cards e it.entry it.shown it.merchant it.sound)
 
-  kept_7 : list_all (at_moments rows.merchants.items is_timed) rows.entries.items ≡ true
-  kept_7 = test_from (at_moments rows.merchants.items is_timed) rows.entries.items (λ e h.
+  kept_7 : list_all (at_moments rows.merchants is_timed) rows.entries ≡ true
+  kept_7 = test_from (at_moments rows.merchants is_timed) rows.entries (λ e h.
       let it = entered rows V shows sound e h in
       tested rows V shows sound is_timed e it
-      (times_kept rows.cards.items e it.entry it.shown it.merchant it.sound))
+      (times_kept rows.cards e it.entry it.shown it.merchant it.sound))
 
-  kept_8 : list_all (at_moments rows.merchants.items is_kept) rows.entries.items ≡ true
-  kept_8 = test_from (at_moments rows.merchants.items is_kept) rows.entries.items (λ e h.
+  kept_8 : list_all (at_moments rows.merchants is_kept) rows.entries ≡ true
+  kept_8 = test_from (at_moments rows.merchants is_kept) rows.entries (λ e h.
       let it = entered rows V shows sound e h in
       tested rows V shows sound is_kept e it
-      (number_or_over rows.cards.items e it.entry it.shown it.merchant it.sound))
+      (number_or_over rows.cards e it.entry it.shown it.merchant it.sound))
 
-  kept_10 : list_all (is_counted rows.counts.items rows.entries.items) rows.merchants.items ≡ true
-  kept_10 = test_from (is_counted rows.counts.items rows.entries.items) rows.merchants.items (λ m h.
+  kept_10 : list_all (is_counted rows.counts rows.entries) rows.merchants ≡ true
+  kept_10 = test_from (is_counted rows.counts rows.entries) rows.merchants (λ m h.
       let name = string_bytes m.name in
-      let held = held_by rows.entries.items name in
-      and_from (int_eq (total_of rows.counts.items name (pos 1)) (pos held)) (nat_lt held 1000001)
-      (int_same (total_of rows.counts.items name (pos 1)) (pos held)
+      let held = held_by rows.entries name in
+      and_from (int_eq (total_of rows.counts name (pos 1)) (pos held)) (nat_lt held 1000001)
+      (int_same (total_of rows.counts name (pos 1)) (pos held)
       (shows.counted name ∙ ap pos (sym (shows.held name))))
       (below_from held 1000001 (let same = shows.held name in omega (arith, sound.made_few name))))
 
-  record_kept : (r : RawRecord) → Has rows.records.items r → is_record rows.entries.items r ≡ true
+  record_kept : (r : RawRecord) → Has rows.records r → is_record rows.entries r ≡ true
   record_kept r h =
       let it = shows.records r h in
       let fine = sound.records (string_bytes r.caller) it.0 it.1 it.3 in
@@ -156,24 +156,24 @@ module _ (rows : Rows) (V : Vault) (shows : Shows rows V) (sound : Sound V) wher
       row.0.first
       ∙ int_same row.0.e.usage r.usage usage)
 
-  kept_11 : list_all (is_record rows.entries.items) rows.records.items ≡ true
-  kept_11 = test_from (is_record rows.entries.items) rows.records.items record_kept
+  kept_11 : list_all (is_record rows.entries) rows.records ≡ true
+  kept_11 = test_from (is_record rows.entries) rows.records record_kept
 
-  kept_12 : list_all (is_right rows.merchants.items) rows.rights.items ≡ true
-  kept_12 = test_from (is_right rows.merchants.items) rows.rights.items (λ r h.
+  kept_12 : list_all (is_right rows.merchants) rows.rights ≡ true
+  kept_12 = test_from (is_right rows.merchants) rows.rights (λ r h.
       let it = shows.rights r h in
       let fine = sound.rights (string_bytes r.caller) (string_bytes r.merchant) it.0 it.1 it.3 in
       and_from _ _ (and_from _ _ (name_from (string_bytes r.caller) fine.0)
       (known rows V shows (string_bytes r.merchant) fine.1 fine.2))
       (right_within it.0 r.what it.2))
 
-  kept_14 : list_all has_lead rows.merchants.items ≡ true
-  kept_14 = test_from has_lead rows.merchants.items (λ m h.
+  kept_14 : list_all has_lead rows.merchants ≡ true
+  kept_14 = test_from has_lead rows.merchants (λ m h.
       let it = shows.merchants m h in
       lead_from it.0.lead m.lead it.2.lead)
 
-  kept_15 : list_all has_end rows.rights.items ≡ true
-  kept_15 = test_from has_end rows.rights.items (λ r h.
+  kept_15 : list_all has_end rows.rights ≡ true
+  kept_15 = test_from has_end rows.rights (λ r h.
       let it = shows.rights r h in
       let fine = sound.rights (string_bytes r.caller) (string_bytes r.merchant) it.0 it.1 it.3 in
       ap (λ o. option_map_or (is_within (pos 0) (pos 253402300799)) o true) it.4 ∙ ends_from it.1.ends fine.3)

@@ -14,7 +14,7 @@ use Rattle.vault_rules.specs.Rules.{is_within, is_timed, live_key, live_number, 
 use Rattle.vault_rules.specs.Showing.{ShowsEntry}
 use Rattle.vault_rules.specs.VaultOf.{vault_of, natural, use_of, entry_value}
 use Rattle.vault_rules.specs.declared.rows.RawEntry.{RawEntry}
-use Rattle.vault_rules.specs.declared.rows.Rows.{Rows}
+use Rattle.vault_rules.specs.AllRows.{Rows}
 use Rattle.vault_rules.proofs.FoundRows.{EntryRow, at_moment, merchant_row, entry_row}
 use Rattle.vault_rules.proofs.Kept as kept
 use Rattle.vault_rules.proofs.Live.{reusable_live, key_is, distinct_once}
@@ -39,14 +39,14 @@ back moment birth (Some at) h = ap (λ x. Some x) (within_is birth moment at h).
 
 module _ (rows : Rows) (keep : (r : ℕ) → keeps rows r ≡ true) where
   -- a row has the columns of its entry
-  pub entry_shown : (e : RawEntry) → Has rows.entries.items e
-      → ShowsEntry rows.cards.items e (entry_value rows.cards.items e)
+  pub entry_shown : (e : RawEntry) → Has rows.entries e
+      → ShowsEntry rows.cards e (entry_value rows.cards e)
   entry_shown e h =
       let row = merchant_of_entry rows keep e h in
       let moment = lasting_moment rows keep (string_bytes e.merchant) row in
       let timed : is_timed (pos (natural row.m.moment)) e ≡ true =
       subst (λ z. is_timed z e ≡ true) moment
-      (sym (at_moment rows.merchants.items is_timed e row.m row.first) ∙ kept.timed rows keep e h) in
+      (sym (at_moment rows.merchants is_timed e row.m row.first) ∙ kept.timed rows keep e h) in
       let times = timely (natural row.m.moment) e timed in
       record {
         number = refl;
@@ -59,22 +59,22 @@ module _ (rows : Rows) (keep : (r : ℕ) → keeps rows r ≡ true) where
 
   live_at : (m pan token : Bytes) (entry : Entry) (merchant : Merchant)
       → merchant_at (vault_of rows) m ≡ Some merchant
-      → (row : EntryRow rows.entries.items m token) → entry_value rows.cards.items row.e ≡ entry
+      → (row : EntryRow rows.entries m token) → entry_value rows.cards row.e ≡ entry
       → is_reusable pan merchant.moment entry ≡ true
-      → live_key rows.merchants.items rows.cards.items row.e ≡ Some (m, pan)
+      → live_key rows.merchants rows.cards row.e ≡ Some (m, pan)
   live_at m pan token entry merchant at row value h =
       let known = merchant_row rows m merchant at in
       let moment : known.0.m.moment ≡ pos merchant.moment =
       lasting_moment rows keep m known.0 ∙ ap (λ (x : Merchant). pos x.moment) known.1 in
       let live =
-      reusable_live rows.cards.items row.e entry
-      (subst (ShowsEntry rows.cards.items row.e) value (entry_shown row.e row.there))
+      reusable_live rows.cards row.e entry
+      (subst (ShowsEntry rows.cards row.e) value (entry_shown row.e row.there))
       merchant.moment pan h in
-      key_is rows.merchants.items rows.cards.items row.e known.0.m
-      (ap (merchant_of rows.merchants.items) row.merchant_is ∙ known.0.first)
+      key_is rows.merchants rows.cards row.e known.0.m
+      (ap (merchant_of rows.merchants) row.merchant_is ∙ known.0.first)
       ∙ ap
       (λ z. option_map (λ number. (string_bytes row.e.merchant, number))
-      (live_number rows.cards.items z row.e))
+      (live_number rows.cards z row.e))
       moment
       ∙ ap (option_map (λ number. (string_bytes row.e.merchant, number))) live
       ∙ ap (λ n. Some (n, pan)) row.merchant_is
@@ -87,7 +87,7 @@ module _ (rows : Rows) (keep : (r : ℕ) → keeps rows r ≡ true) where
   alone m pan token other entry entry' merchant at one live two live' =
       let a = entry_row rows m token entry one in
       let b = entry_row rows m other entry' two in
-      let same = distinct_once (live_key rows.merchants.items rows.cards.items) rows.entries.items
+      let same = distinct_once (live_key rows.merchants rows.cards) rows.entries
       (kept.distinct rows keep) a.0.e b.0.e (m, pan) a.0.there b.0.there
       (live_at m pan token entry merchant at a.0 a.1 live)
       (live_at m pan other entry' merchant at b.0 b.1 live') in

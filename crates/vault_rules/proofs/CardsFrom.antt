@@ -17,7 +17,7 @@ use Rattle.vault_rules.specs.Showing.{Shows}
 use Rattle.vault_rules.specs.VaultOf.{HasKeysApart}
 use Rattle.vault_rules.specs.declared.rows.RawCard.{RawCard}
 use Rattle.vault_rules.specs.declared.rows.RawEntry.{RawEntry}
-use Rattle.vault_rules.specs.declared.rows.Rows.{Rows}
+use Rattle.vault_rules.specs.AllRows.{Rows}
 use Rattle.vault_rules.proofs.Cards.{card_from}
 use Rattle.vault_rules.proofs.Held.{card_held}
 use Rattle.vault_rules.proofs.Numbers.{int_same, le_from}
@@ -42,34 +42,34 @@ pointed (e ∷ entries) id h = by_first (points id e.card) refl h (pointed entri
 
 module _ (rows : Rows) (V : Vault) (shows : Shows rows V) (sound : Sound V) (apart : HasKeysApart rows) where
   -- the merchant of a card row is that of an entry that points at it
-  card_known : (c : RawCard) → Has rows.cards.items c
-      → is_known rows.merchants.items (string_bytes c.merchant) ≡ true
+  card_known : (c : RawCard) → Has rows.cards c
+      → is_known rows.merchants (string_bytes c.merchant) ≡ true
   card_known c h =
-      let one = pointed rows.entries.items c.id (shows.cards c h).used in
+      let one = pointed rows.entries c.id (shows.cards c h).used in
       let it = entered rows V shows sound one.0 one.1 in
       let own = it.shown.card c.id one.2 in
       let same : own.0 ≡ c = some_same (sym own.1 ∙ card_held rows apart c h) in
-      ap (is_known rows.merchants.items) (ap (λ (d : RawCard). string_bytes d.merchant) (sym same) ∙ own.2)
+      ap (is_known rows.merchants) (ap (λ (d : RawCard). string_bytes d.merchant) (sym same) ∙ own.2)
       ∙ known rows V shows (string_bytes one.0.merchant) it.merchant it.merchant_is
 
-  card_kept : (c : RawCard) → Has rows.cards.items c
-      → is_card rows.merchants.items rows.entries.items c ≡ true
+  card_kept : (c : RawCard) → Has rows.cards c
+      → is_card rows.merchants rows.entries c ≡ true
   card_kept c h =
       let shown = shows.cards c h in
-      let used = used_by rows.entries.items c.id in
+      let used = used_by rows.entries c.id in
       and_from
-      (is_known rows.merchants.items (string_bytes c.merchant) && int_le (pos 1) c.uses)
+      (is_known rows.merchants (string_bytes c.merchant) && int_le (pos 1) c.uses)
       (int_eq c.uses (pos used))
-      (and_from (is_known rows.merchants.items (string_bytes c.merchant)) (int_le (pos 1) c.uses)
+      (and_from (is_known rows.merchants (string_bytes c.merchant)) (int_le (pos 1) c.uses)
       (card_known c h)
       (ap (int_le (pos 1)) shown.uses ∙ le_from 1 used (omega (arith, shown.used))))
       (int_same c.uses (pos used) shown.uses)
 
-  pub cards_kept : (list_all (is_card rows.merchants.items rows.entries.items) rows.cards.items
-      && list_all (has_card rows.cards.items) rows.entries.items) ≡ true
+  pub cards_kept : (list_all (is_card rows.merchants rows.entries) rows.cards
+      && list_all (has_card rows.cards) rows.entries) ≡ true
   cards_kept =
-      and_from (list_all (is_card rows.merchants.items rows.entries.items) rows.cards.items)
-      (list_all (has_card rows.cards.items) rows.entries.items)
-      (test_from (is_card rows.merchants.items rows.entries.items) rows.cards.items card_kept)
-      (test_from (has_card rows.cards.items) rows.entries.items (λ e h.
-      card_from rows.cards.items e (entered rows V shows sound e h).shown.card))
+      and_from (list_all (is_card rows.merchants rows.entries) rows.cards)
+      (list_all (has_card rows.cards) rows.entries)
+      (test_from (is_card rows.merchants rows.entries) rows.cards card_kept)
+      (test_from (has_card rows.cards) rows.entries (λ e h.
+      card_from rows.cards e (entered rows V shows sound e h).shown.card))

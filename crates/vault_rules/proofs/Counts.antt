@@ -16,7 +16,7 @@ use Rattle.vault_rules.specs.Rules.{keeps}
 use Rattle.vault_rules.specs.VaultOf.{vault_of, natural, merchant_value, count_key, HasKeysApart}
 use Rattle.vault_rules.specs.declared.rows.RawMerchant.{RawMerchant}
 use Rattle.vault_rules.specs.declared.rows.RawCount.{RawCount}
-use Rattle.vault_rules.specs.declared.rows.Rows.{Rows}
+use Rattle.vault_rules.specs.AllRows.{Rows}
 use Rattle.vault_rules.proofs.Found.{bytes_are, bytes_same, merchant_is, made_is}
 use Rattle.vault_rules.proofs.FoundRows.{merchant_found, merchant_row}
 use Rattle.vault_rules.proofs.Keyed.{find-some, keys_once}
@@ -66,43 +66,43 @@ count_cases counts name kind P none some = by_find (find (counts_at name kind) c
 
 module _ (rows : Rows) where
   -- a row's total is its count's
-  pub count_total : HasKeysApart rows → (c : RawCount) → Has rows.counts.items c
-      → total_of rows.counts.items (string_bytes c.merchant) c.kind ≡ c.total
+  pub count_total : HasKeysApart rows → (c : RawCount) → Has rows.counts c
+      → total_of rows.counts (string_bytes c.merchant) c.kind ≡ c.total
   count_total apart c h =
       let passes =
       and_from (bytes_eq (string_bytes c.merchant) (string_bytes c.merchant)) (int_eq c.kind c.kind)
       (bytes_same (string_bytes c.merchant) (string_bytes c.merchant) refl) (int_same c.kind c.kind refl) in
-      let found = find-some (counts_at (string_bytes c.merchant) c.kind) rows.counts.items c h passes in
-      let row = count_found rows.counts.items (string_bytes c.merchant) c.kind found.0 found.1 in
+      let found = find-some (counts_at (string_bytes c.merchant) c.kind) rows.counts c h passes in
+      let row = count_found rows.counts (string_bytes c.merchant) c.kind found.0 found.1 in
       row.total_is
-      ∙ ap (λ x. x.total) (keys_once count_key rows.counts.items apart.counts found.0 c row.there h
+      ∙ ap (λ x. x.total) (keys_once count_key rows.counts apart.counts found.0 c row.there h
       (λ i. (row.merchant_is i, row.kind_is i)))
 
 module _ (rows : Rows) (keep : (r : ℕ) → keeps rows r ≡ true) where
   pub total_between : (name : Bytes) (kind : ℤ)
-      → IsBetween 0 4611686018427387903 (total_of rows.counts.items name kind)
+      → IsBetween 0 4611686018427387903 (total_of rows.counts name kind)
   total_between name kind =
-      count_cases rows.counts.items name kind (IsBetween 0 4611686018427387903)
+      count_cases rows.counts name kind (IsBetween 0 4611686018427387903)
       (record { is = refl; low_is = omega arith; high_is = omega arith })
       (λ c row.
       let well = (kept.counts_well rows keep c row.there).total in
       record { is = well.is; low_is = omega arith; high_is = well.high_is })
 
   -- a merchant that isn't there has no counts
-  pub total_none : (name : Bytes) (kind : ℤ) → merchant_of rows.merchants.items name ≡ None
-      → total_of rows.counts.items name kind ≡ pos 0
+  pub total_none : (name : Bytes) (kind : ℤ) → merchant_of rows.merchants name ≡ None
+      → total_of rows.counts name kind ≡ pos 0
   total_none name kind none =
-      count_cases rows.counts.items name kind (λ z. z ≡ pos 0) refl (λ c row.
+      count_cases rows.counts name kind (λ z. z ≡ pos 0) refl (λ c row.
       let known =
-      subst (λ n. is_known rows.merchants.items n ≡ true) row.merchant_is
+      subst (λ n. is_known rows.merchants n ≡ true) row.merchant_is
       (kept.counts_well rows keep c row.there).known in
       absurd (true≢false (sym known ∙ ap is_some none)))
 
   -- there is no fourth kind
   total_other : (name : Bytes) (kind : ℕ) → (kind == 1) ≡ false → (kind == 2) ≡ false → (kind == 3) ≡ false
-      → total_of rows.counts.items name (pos kind) ≡ pos 0
+      → total_of rows.counts name (pos kind) ≡ pos 0
   total_other name kind one two three =
-      count_cases rows.counts.items name (pos kind) (λ z. z ≡ pos 0) refl (λ c row.
+      count_cases rows.counts name (pos kind) (λ z. z ≡ pos 0) refl (λ c row.
       let well = subst (IsBetween 1 3) row.kind_is (kept.counts_well rows keep c row.there).kind in
       absurd (none kind one two three well.low_is well.high_is))
     where
@@ -110,66 +110,66 @@ module _ (rows : Rows) (keep : (r : ℕ) → keeps rows r ≡ true) where
       none n a b c low high = grind (arith, nat_tests)
 
   made_total : HasKeysApart rows → (name : Bytes)
-      → total_of rows.counts.items name (pos 1) ≡ pos (made_count (vault_of rows) name)
+      → total_of rows.counts name (pos 1) ≡ pos (made_count (vault_of rows) name)
   made_total apart name =
-      by_merchant (merchant_of rows.merchants.items name) refl ∙ ap pos (sym (made_is rows apart name))
+      by_merchant (merchant_of rows.merchants name) refl ∙ ap pos (sym (made_is rows apart name))
     where
-      by_merchant : (o : Option RawMerchant) → merchant_of rows.merchants.items name ≡ o
-          → total_of rows.counts.items name (pos 1) ≡ pos (held_by rows.entries.items name)
+      by_merchant : (o : Option RawMerchant) → merchant_of rows.merchants name ≡ o
+          → total_of rows.counts name (pos 1) ≡ pos (held_by rows.entries name)
       by_merchant None is = total_none name (pos 1) is ∙ ap pos (sym (held_none rows keep name is))
       by_merchant (Some m) is =
-          let row = merchant_found rows.merchants.items name m is in
-          subst (λ n. total_of rows.counts.items n (pos 1) ≡ pos (held_by rows.entries.items n)) row.name_is
+          let row = merchant_found rows.merchants name m is in
+          subst (λ n. total_of rows.counts n (pos 1) ≡ pos (held_by rows.entries n)) row.name_is
           (kept.counted rows keep row.m row.there).0
 
   merchant_total : (kind : ℕ) (field : Merchant → ℕ)
       → ((m : RawMerchant)
-      → field (merchant_value rows.counts.items m)
-      ≡ natural (total_of rows.counts.items (string_bytes m.name) (pos kind)))
+      → field (merchant_value rows.counts m)
+      ≡ natural (total_of rows.counts (string_bytes m.name) (pos kind)))
       → (name : Bytes)
-      → total_of rows.counts.items name (pos kind)
+      → total_of rows.counts name (pos kind)
       ≡ pos (option_map_or field (merchant_at (vault_of rows) name) 0)
   merchant_total kind field is_field name =
-      by_merchant (merchant_of rows.merchants.items name) refl
+      by_merchant (merchant_of rows.merchants name) refl
       ∙ ap (λ (o : Option Merchant). pos (option_map_or field o 0)) (sym (merchant_is rows name))
     where
-      by_merchant : (o : Option RawMerchant) → merchant_of rows.merchants.items name ≡ o
-          → total_of rows.counts.items name (pos kind)
-          ≡ pos (option_map_or field (option_map (merchant_value rows.counts.items) o) 0)
+      by_merchant : (o : Option RawMerchant) → merchant_of rows.merchants name ≡ o
+          → total_of rows.counts name (pos kind)
+          ≡ pos (option_map_or field (option_map (merchant_value rows.counts) o) 0)
       by_merchant None is = total_none name (pos kind) is
       by_merchant (Some m) is =
-          let row = merchant_found rows.merchants.items name m is in
+          let row = merchant_found rows.merchants name m is in
           (total_between name (pos kind)).is
-          ∙ ap (λ n. pos (natural (total_of rows.counts.items n (pos kind)))) (sym row.name_is)
+          ∙ ap (λ n. pos (natural (total_of rows.counts n (pos kind)))) (sym row.name_is)
           ∙ ap pos (sym (is_field m))
 
   counts_same : HasKeysApart rows → (name : Bytes) (kind : ℕ)
-      → total_of rows.counts.items name (pos kind) ≡ pos (count_of (vault_of rows) name kind)
+      → total_of rows.counts name (pos kind) ≡ pos (count_of (vault_of rows) name kind)
   counts_same apart name kind = by_kind (kind == 1) (kind == 2) (kind == 3) refl refl refl
     where
       by_kind : (a b c : Bool) → (kind == 1) ≡ a → (kind == 2) ≡ b → (kind == 3) ≡ c
-          → total_of rows.counts.items name (pos kind)
+          → total_of rows.counts name (pos kind)
           ≡ pos (cond a (made_count (vault_of rows) name)
           (cond b (option_map_or (λ (m : Merchant). m.given) (merchant_at (vault_of rows) name) 0)
           (cond c (option_map_or (λ (m : Merchant). m.denied) (merchant_at (vault_of rows) name) 0) 0)))
       by_kind true b c one _ _ =
-          subst (λ n. total_of rows.counts.items name (pos n) ≡ pos (made_count (vault_of rows) name))
+          subst (λ n. total_of rows.counts name (pos n) ≡ pos (made_count (vault_of rows) name))
           (sym ((Decides-eqb kind 1).0 one)) (made_total apart name)
       by_kind false true c _ two _ =
-          subst (λ n. total_of rows.counts.items name (pos n)
+          subst (λ n. total_of rows.counts name (pos n)
           ≡ pos (option_map_or (λ (m : Merchant). m.given) (merchant_at (vault_of rows) name) 0))
           (sym ((Decides-eqb kind 2).0 two))
           (merchant_total 2 (λ (m : Merchant). m.given) (λ m. refl) name)
       by_kind false false true _ _ three =
-          subst (λ n. total_of rows.counts.items name (pos n)
+          subst (λ n. total_of rows.counts name (pos n)
           ≡ pos (option_map_or (λ (m : Merchant). m.denied) (merchant_at (vault_of rows) name) 0))
           (sym ((Decides-eqb kind 3).0 three))
           (merchant_total 3 (λ (m : Merchant). m.denied) (λ m. refl) name)
       by_kind false false false one two three = total_other name kind one two three
 
   -- a merchant of rows
-  row_fine : (m : RawMerchant) → Has rows.merchants.items m
-      → IsSoundMerchant (string_bytes m.name) (merchant_value rows.counts.items m)
+  row_fine : (m : RawMerchant) → Has rows.merchants m
+      → IsSoundMerchant (string_bytes m.name) (merchant_value rows.counts m)
   row_fine m h =
       let lasting = kept.lasts rows keep m h in
       record {
@@ -186,11 +186,11 @@ module _ (rows : Rows) (keep : (r : ℕ) → keeps rows r ≡ true) where
   merchants_sound name merchant h =
       let it = merchant_row rows name merchant h in
       subst (IsSoundMerchant name) it.1
-      (subst (λ n. IsSoundMerchant n (merchant_value rows.counts.items it.0.m)) it.0.name_is
+      (subst (λ n. IsSoundMerchant n (merchant_value rows.counts it.0.m)) it.0.name_is
       (row_fine it.0.m it.0.there))
 
 -- the counts of the vault are the totals of the rows
 pub counts_are : (rows : Rows)
     → HasKeysApart rows → ((r : ℕ) → keeps rows r ≡ true) → (name : Bytes) (kind : ℕ)
-    → total_of rows.counts.items name (pos kind) ≡ pos (count_of (vault_of rows) name kind)
+    → total_of rows.counts name (pos kind) ≡ pos (count_of (vault_of rows) name kind)
 counts_are rows apart keep = counts_same rows keep apart

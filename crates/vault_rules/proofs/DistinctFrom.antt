@@ -15,7 +15,7 @@ use Rattle.vault_rules.specs.Rules.{live_number, live_key, are_distinct}
 use Rattle.vault_rules.specs.Showing.{Shows}
 use Rattle.vault_rules.specs.VaultOf.{AreKeysApart, entry_key}
 use Rattle.vault_rules.specs.declared.rows.RawEntry.{RawEntry}
-use Rattle.vault_rules.specs.declared.rows.Rows.{Rows}
+use Rattle.vault_rules.specs.AllRows.{Rows}
 use Rattle.vault_rules.proofs.Found.{bytes_are}
 use Rattle.vault_rules.proofs.Live.{live_reusable, key_is}
 use Rattle.vault_rules.proofs.Options.{mapped_is}
@@ -69,23 +69,23 @@ distinct_from f key (r ∷ rows) apart alone =
 module _ (rows : Rows) (V : Vault) (shows : Shows rows V) (sound : Sound V) where
   -- a row with a live number has an entry that is reused for it
   live_back : (e : RawEntry) (k : Bytes × Bytes)
-      → (it : Entered rows V e) → live_key rows.merchants.items rows.cards.items e ≡ Some k
+      → (it : Entered rows V e) → live_key rows.merchants rows.cards e ≡ Some k
       → (string_bytes e.merchant ≡ k.0) × (is_reusable k.1 it.merchant.moment it.entry ≡ true)
   live_back e k it h =
       let pair = λ (number : Bytes). let made : Bytes × Bytes = (string_bytes e.merchant, number) in made in
       let own =
-      mapped_is pair (live_number rows.cards.items it.row.m.moment e) k
-      (sym (key_is rows.merchants.items rows.cards.items e it.row.m it.row.first) ∙ h) in
+      mapped_is pair (live_number rows.cards it.row.m.moment e) k
+      (sym (key_is rows.merchants rows.cards e it.row.m it.row.first) ∙ h) in
       let number : own.0 ≡ k.1 = ap (λ p. p.1) own.2 in
       let live =
-      ap (λ z. live_number rows.cards.items z e) (sym it.moment) ∙ own.1 ∙ ap (λ n. Some n) number in (
+      ap (λ z. live_number rows.cards z e) (sym it.moment) ∙ own.1 ∙ ap (λ n. Some n) number in (
         ap (λ p. p.0) own.2,
-        live_reusable rows.cards.items e it.entry it.shown it.merchant.moment k.1 live,
+        live_reusable rows.cards e it.entry it.shown it.merchant.moment k.1 live,
       )
 
-  same_key : (a b : RawEntry) → Has rows.entries.items a → Has rows.entries.items b → (k : Bytes × Bytes)
-      → live_key rows.merchants.items rows.cards.items a ≡ Some k
-      → live_key rows.merchants.items rows.cards.items b ≡ Some k
+  same_key : (a b : RawEntry) → Has rows.entries a → Has rows.entries b → (k : Bytes × Bytes)
+      → live_key rows.merchants rows.cards a ≡ Some k
+      → live_key rows.merchants rows.cards b ≡ Some k
       → entry_key a ≡ entry_key b
   same_key a b h g k p q =
       let one = entered rows V shows sound a h in
@@ -102,8 +102,8 @@ module _ (rows : Rows) (V : Vault) (shows : Shows rows V) (sound : Sound V) wher
       one.merchant_is one.at first.1 at live in
       λ i. (sym merchant i, token i)
 
-  pub keys_distinct : AreKeysApart entry_key rows.entries.items
-      → are_distinct (filter_map (live_key rows.merchants.items rows.cards.items) rows.entries.items) ≡ true
+  pub keys_distinct : AreKeysApart entry_key rows.entries
+      → are_distinct (filter_map (live_key rows.merchants rows.cards) rows.entries) ≡ true
   keys_distinct apart =
-      distinct_from (live_key rows.merchants.items rows.cards.items) entry_key rows.entries.items apart
+      distinct_from (live_key rows.merchants rows.cards) entry_key rows.entries apart
       same_key

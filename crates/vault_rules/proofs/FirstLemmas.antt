@@ -62,7 +62,7 @@ pub and_false : (b k : Bool) → k ≡ false → b && k ≡ false
 and_false true k e = e
 and_false false k e = refl
 
-both : (a b : Ordering) → is_eq (ordering_then a b) ≡ is_eq a && is_eq b
+pub both : (a b : Ordering) → is_eq (ordering_then a b) ≡ is_eq a && is_eq b
 both Less b = refl
 both Equal b = refl
 both Greater b = refl

@@ -16,7 +16,7 @@ use Rattle.vault_core.proofs.Maps.{record_exact, right_total, right_exact}
 use Rattle.vault_rules.specs.Lookups.{merchant_of, entry_of, held_by}
 use Rattle.vault_rules.specs.VaultOf.{vault_of, merchant_value, entry_key, entry_value, record_key}
 use Rattle.vault_rules.specs.VaultOf.{record_value, right_key, grant_value, HasKeysApart}
-use Rattle.vault_rules.specs.declared.rows.Rows.{Rows}
+use Rattle.vault_rules.specs.AllRows.{Rows}
 use Rattle.vault_rules.proofs.Keyed.{get_first, len_is, kept_is}
 
 pub bytes_are : (a b : Bytes) → bytes_eq a b ≡ true → a ≡ b
@@ -40,45 +40,45 @@ entries_tie q k =
 module _ (rows : Rows) where
   pub merchant_is : (name : Bytes)
       → merchant_at (vault_of rows) name
-      ≡ option_map (merchant_value rows.counts.items) (merchant_of rows.merchants.items name)
+      ≡ option_map (merchant_value rows.counts) (merchant_of rows.merchants name)
   merchant_is name =
-      get_first bytes_total bytes_exact (λ m. string_bytes m.name) (merchant_value rows.counts.items)
+      get_first bytes_total bytes_exact (λ m. string_bytes m.name) (merchant_value rows.counts)
       (λ q m. bytes_eq (string_bytes m.name) q) (λ q m. bytes_tie q (string_bytes m.name))
-      rows.merchants.items name
+      rows.merchants name
 
   pub entry_is : (m token : Bytes)
       → entry_at (vault_of rows) m token
-      ≡ option_map (entry_value rows.cards.items) (entry_of rows.entries.items m token)
+      ≡ option_map (entry_value rows.cards) (entry_of rows.entries m token)
   entry_is m token =
-      get_first entry_total entry_exact entry_key (entry_value rows.cards.items)
+      get_first entry_total entry_exact entry_key (entry_value rows.cards)
       (λ q e. bytes_eq (string_bytes e.merchant) q.0 && bytes_eq (string_bytes e.token) q.1)
-      (λ q e. entries_tie q (entry_key e)) rows.entries.items (m, token)
+      (λ q e. entries_tie q (entry_key e)) rows.entries (m, token)
 
   pub record_is : (caller : Bytes) (request : ℕ)
       → record_at (vault_of rows) caller request
       ≡ option_map record_value
-      (find (λ r. eq_by_cmp record_cmp (caller, request) (record_key r)) rows.records.items)
+      (find (λ r. eq_by_cmp record_cmp (caller, request) (record_key r)) rows.records)
   record_is caller request =
       get_first record_total record_exact record_key record_value
-      (λ q r. eq_by_cmp record_cmp q (record_key r)) (λ q r. refl) rows.records.items (caller, request)
+      (λ q r. eq_by_cmp record_cmp q (record_key r)) (λ q r. refl) rows.records (caller, request)
 
   pub right_is : (caller m : Bytes) (right : Right)
       → right_at (vault_of rows) caller m right
       ≡ option_map grant_value
-      (find (λ r. eq_by_cmp right_cmp (caller, (m, right)) (right_key r)) rows.rights.items)
+      (find (λ r. eq_by_cmp right_cmp (caller, (m, right)) (right_key r)) rows.rights)
   right_is caller m right =
       get_first right_total right_exact right_key grant_value
-      (λ q r. eq_by_cmp right_cmp q (right_key r)) (λ q r. refl) rows.rights.items (caller, (m, right))
+      (λ q r. eq_by_cmp right_cmp q (right_key r)) (λ q r. refl) rows.rights (caller, (m, right))
 
-  pub many_is : HasKeysApart rows → finite.len (vault_of rows).merchants ≡ length rows.merchants.items
+  pub many_is : HasKeysApart rows → finite.len (vault_of rows).merchants ≡ length rows.merchants
   many_is apart =
-      len_is bytes_total bytes_exact (λ m. string_bytes m.name) (merchant_value rows.counts.items)
-      rows.merchants.items apart.merchants
+      len_is bytes_total bytes_exact (λ m. string_bytes m.name) (merchant_value rows.counts)
+      rows.merchants apart.merchants
 
   pub made_is : HasKeysApart rows → (name : Bytes)
-      → made_count (vault_of rows) name ≡ held_by rows.entries.items name
+      → made_count (vault_of rows) name ≡ held_by rows.entries name
   made_is apart name =
-      kept_is entry_total entry_exact entry_key (entry_value rows.cards.items)
+      kept_is entry_total entry_exact entry_key (entry_value rows.cards)
       (λ key. eq_by_cmp bytes_cmp name key.0)
       (λ e. bytes_eq (string_bytes e.merchant) name) (λ e. bytes_tie name (string_bytes e.merchant))
-      rows.entries.items apart.entries
+      rows.entries apart.entries

@@ -23,7 +23,7 @@ use Rattle.vault_rules.specs.declared.rows.RawMerchant.{RawMerchant}
 use Rattle.vault_rules.specs.declared.rows.RawEntry.{RawEntry}
 use Rattle.vault_rules.specs.declared.rows.RawRecord.{RawRecord}
 use Rattle.vault_rules.specs.declared.rows.RawRight.{RawRight}
-use Rattle.vault_rules.specs.declared.rows.Rows.{Rows}
+use Rattle.vault_rules.specs.AllRows.{Rows}
 use Rattle.vault_rules.proofs.Found.{bytes_are, merchant_is, entry_is, record_is, right_is}
 use Rattle.vault_rules.proofs.Options.{there_is, mapped_is}
 
@@ -81,44 +81,44 @@ at_moment merchants test e m first =
 
 module _ (rows : Rows) where
   -- the value of a merchant's row
-  pub merchant_there : (name : Bytes) (row : MerchantRow rows.merchants.items name)
-      → merchant_at (vault_of rows) name ≡ Some (merchant_value rows.counts.items row.m)
+  pub merchant_there : (name : Bytes) (row : MerchantRow rows.merchants name)
+      → merchant_at (vault_of rows) name ≡ Some (merchant_value rows.counts row.m)
   merchant_there name row =
-      merchant_is rows name ∙ ap (option_map (merchant_value rows.counts.items)) row.first
+      merchant_is rows name ∙ ap (option_map (merchant_value rows.counts)) row.first
 
-  pub entry_there : (merchant token : Bytes) (row : EntryRow rows.entries.items merchant token)
-      → entry_at (vault_of rows) merchant token ≡ Some (entry_value rows.cards.items row.e)
+  pub entry_there : (merchant token : Bytes) (row : EntryRow rows.entries merchant token)
+      → entry_at (vault_of rows) merchant token ≡ Some (entry_value rows.cards row.e)
   entry_there merchant token row =
-      entry_is rows merchant token ∙ ap (option_map (entry_value rows.cards.items)) row.first
+      entry_is rows merchant token ∙ ap (option_map (entry_value rows.cards)) row.first
 
   -- the row of a value
   pub merchant_row : (name : Bytes) (merchant : Merchant) → merchant_at (vault_of rows) name ≡ Some merchant
-      → (row : MerchantRow rows.merchants.items name) × (merchant_value rows.counts.items row.m ≡ merchant)
+      → (row : MerchantRow rows.merchants name) × (merchant_value rows.counts row.m ≡ merchant)
   merchant_row name merchant h =
       let it =
-      mapped_is (merchant_value rows.counts.items) (merchant_of rows.merchants.items name) merchant
+      mapped_is (merchant_value rows.counts) (merchant_of rows.merchants name) merchant
       (sym (merchant_is rows name) ∙ h) in
-      (merchant_found rows.merchants.items name it.0 it.1, it.2)
+      (merchant_found rows.merchants name it.0 it.1, it.2)
 
   pub entry_row : (merchant token : Bytes) (entry : Entry)
       → entry_at (vault_of rows) merchant token ≡ Some entry
-      → (row : EntryRow rows.entries.items merchant token) × (entry_value rows.cards.items row.e ≡ entry)
+      → (row : EntryRow rows.entries merchant token) × (entry_value rows.cards row.e ≡ entry)
   entry_row merchant token entry h =
       let it =
-      mapped_is (entry_value rows.cards.items) (entry_of rows.entries.items merchant token) entry
+      mapped_is (entry_value rows.cards) (entry_of rows.entries merchant token) entry
       (sym (entry_is rows merchant token) ∙ h) in
-      (entry_found rows.entries.items merchant token it.0 it.1, it.2)
+      (entry_found rows.entries merchant token it.0 it.1, it.2)
 
   pub record_row : (caller : Bytes) (request : ℕ) (shown : Record)
       → record_at (vault_of rows) caller request ≡ Some shown
-      → (r : RawRecord) × Has rows.records.items r × (record_key r ≡ (caller, request))
+      → (r : RawRecord) × Has rows.records r × (record_key r ≡ (caller, request))
       × (record_value r ≡ shown)
   record_row caller request shown h =
       let test = λ (r : RawRecord). eq_by_cmp record_cmp (caller, request) (record_key r) in
       let it =
-      mapped_is record_value (find test rows.records.items) shown
+      mapped_is record_value (find test rows.records) shown
       (sym (record_is rows caller request) ∙ h) in
-      let found = has_found test rows.records.items it.0 it.1 in
+      let found = has_found test rows.records it.0 it.1 in
       let same =
       record_exact (caller, request) (record_key it.0)
       ((Equal-is (record_cmp (caller, request) (record_key it.0))).0 found.1) in
@@ -126,13 +126,13 @@ module _ (rows : Rows) where
 
   pub right_row : (caller m : Bytes) (right : Right) (g : GrantRow)
       → right_at (vault_of rows) caller m right ≡ Some g
-      → (r : RawRight) × Has rows.rights.items r × (right_key r ≡ (caller, (m, right)))
+      → (r : RawRight) × Has rows.rights r × (right_key r ≡ (caller, (m, right)))
       × (grant_value r ≡ g)
   right_row caller m right g h =
       let q : Bytes × (Bytes × Right) = (caller, (m, right)) in
       let test = λ (r : RawRight). eq_by_cmp right_cmp q (right_key r) in
       let it =
-      mapped_is grant_value (find test rows.rights.items) g (sym (right_is rows caller m right) ∙ h) in
-      let found = has_found test rows.rights.items it.0 it.1 in
+      mapped_is grant_value (find test rows.rights) g (sym (right_is rows caller m right) ∙ h) in
+      let found = has_found test rows.rights it.0 it.1 in
       let same = right_exact q (right_key it.0) ((Equal-is (right_cmp q (right_key it.0))).0 found.1) in
       (it.0, found.0, sym same, it.2)

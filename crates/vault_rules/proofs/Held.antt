@@ -26,7 +26,7 @@ use Rattle.vault_rules.specs.declared.rows.RawCard.{RawCard}
 use Rattle.vault_rules.specs.declared.rows.RawEntry.{RawEntry}
 use Rattle.vault_rules.specs.declared.rows.RawRecord.{RawRecord}
 use Rattle.vault_rules.specs.declared.rows.RawRight.{RawRight}
-use Rattle.vault_rules.specs.declared.rows.Rows.{Rows}
+use Rattle.vault_rules.specs.AllRows.{Rows}
 use Rattle.vault_rules.proofs.Keyed.{keys_once, find-some, pairs, get_first, len_is}
 use Rattle.vault_rules.proofs.Kept as kept
 use Rattle.vault_rules.proofs.Numbers.{int_is, int_same}
@@ -58,36 +58,36 @@ get_held {R = R} {C = C} total exact key value rows apart r h =
     ∙ ap (option_map value) first.1 ∙ ap (λ s. Some (value s)) same
 
 module _ (rows : Rows) (apart : HasKeysApart rows) where
-  pub merchant_held : (m : RawMerchant) → Has rows.merchants.items m
-      → merchant_at (vault_of rows) (string_bytes m.name) ≡ Some (merchant_value rows.counts.items m)
+  pub merchant_held : (m : RawMerchant) → Has rows.merchants m
+      → merchant_at (vault_of rows) (string_bytes m.name) ≡ Some (merchant_value rows.counts m)
   merchant_held m h =
-      get_held bytes_total bytes_exact (λ n. string_bytes n.name) (merchant_value rows.counts.items)
-      rows.merchants.items apart.merchants m h
+      get_held bytes_total bytes_exact (λ n. string_bytes n.name) (merchant_value rows.counts)
+      rows.merchants apart.merchants m h
 
-  pub entry_held : (e : RawEntry) → Has rows.entries.items e
+  pub entry_held : (e : RawEntry) → Has rows.entries e
       → entry_at (vault_of rows) (string_bytes e.merchant) (string_bytes e.token)
-      ≡ Some (entry_value rows.cards.items e)
+      ≡ Some (entry_value rows.cards e)
   entry_held e h =
-      get_held entry_total entry_exact entry_key (entry_value rows.cards.items) rows.entries.items
+      get_held entry_total entry_exact entry_key (entry_value rows.cards) rows.entries
       apart.entries e h
 
   -- a card row is the one of its id
-  pub card_held : (c : RawCard) → Has rows.cards.items c → card_of rows.cards.items c.id ≡ Some c
+  pub card_held : (c : RawCard) → Has rows.cards c → card_of rows.cards c.id ≡ Some c
   card_held c h =
       let test = λ (d : RawCard). int_eq d.id c.id in
-      let first = find-some test rows.cards.items c h (int_same c.id c.id refl) in
-      let found = has_found test rows.cards.items first.0 first.1 in
+      let first = find-some test rows.cards c h (int_same c.id c.id refl) in
+      let found = has_found test rows.cards first.0 first.1 in
       let same =
-      keys_once (λ d. d.id) rows.cards.items apart.cards first.0 c found.0 h
+      keys_once (λ d. d.id) rows.cards apart.cards first.0 c found.0 h
       (int_is first.0.id c.id found.1) in
       first.1 ∙ ap (λ d. Some d) same
 
   -- requests that are apart have keys that are apart, since they aren't negative
-  requests_apart : ((r : ℕ) → keeps rows r ≡ true) → AreKeysApart record_key rows.records.items
-  requests_apart keep = apart_by request_key record_key rows.records.items numbered apart.records
+  requests_apart : ((r : ℕ) → keeps rows r ≡ true) → AreKeysApart record_key rows.records
+  requests_apart keep = apart_by request_key record_key rows.records numbered apart.records
     where
       numbered : (a b : RawRecord)
-          → Has rows.records.items a → Has rows.records.items b → record_key a ≡ record_key b
+          → Has rows.records a → Has rows.records b → record_key a ≡ record_key b
           → request_key a ≡ request_key b
       numbered a b g k same =
           let request : a.request ≡ b.request =
@@ -95,26 +95,26 @@ module _ (rows : Rows) (apart : HasKeysApart rows) where
           ∙ sym (kept.records_well rows keep b k).request.is in
           λ i. ((same i).0, request i)
 
-  pub record_held : ((r : ℕ) → keeps rows r ≡ true) → (r : RawRecord) → Has rows.records.items r
+  pub record_held : ((r : ℕ) → keeps rows r ≡ true) → (r : RawRecord) → Has rows.records r
       → record_at (vault_of rows) (string_bytes r.caller) (natural r.request) ≡ Some (record_value r)
   record_held keep r h =
-      get_held record_total record_exact record_key record_value rows.records.items (requests_apart keep) r h
+      get_held record_total record_exact record_key record_value rows.records (requests_apart keep) r h
 
-  pub entries_many : finite.len (vault_of rows).entries ≡ length rows.entries.items
+  pub entries_many : finite.len (vault_of rows).entries ≡ length rows.entries
   entries_many =
-      len_is entry_total entry_exact entry_key (entry_value rows.cards.items) rows.entries.items apart.entries
+      len_is entry_total entry_exact entry_key (entry_value rows.cards) rows.entries apart.entries
 
   pub records_many : ((r : ℕ) → keeps rows r ≡ true)
-      → finite.len (vault_of rows).records ≡ length rows.records.items
+      → finite.len (vault_of rows).records ≡ length rows.records
   records_many keep =
-      len_is record_total record_exact record_key record_value rows.records.items (requests_apart keep)
+      len_is record_total record_exact record_key record_value rows.records (requests_apart keep)
 
   -- rights that are apart have keys that are apart, since each has a number of its own
-  rights_apart : ((r : ℕ) → keeps rows r ≡ true) → AreKeysApart right_key rows.rights.items
-  rights_apart keep = apart_by number_key right_key rows.rights.items numbered apart.rights
+  rights_apart : ((r : ℕ) → keeps rows r ≡ true) → AreKeysApart right_key rows.rights
+  rights_apart keep = apart_by number_key right_key rows.rights numbered apart.rights
     where
       numbered : (a b : RawRight)
-          → Has rows.rights.items a → Has rows.rights.items b → right_key a ≡ right_key b
+          → Has rows.rights a → Has rows.rights b → right_key a ≡ right_key b
           → number_key a ≡ number_key b
       numbered a b g k same =
           let what : a.what ≡ b.what =
@@ -123,13 +123,13 @@ module _ (rows : Rows) (apart : HasKeysApart rows) where
           ∙ sym (what_is b.what (kept.rights_well rows keep b k).2) in
           λ i. ((same i).0, ((same i).1.0, what i))
 
-  pub right_held : ((r : ℕ) → keeps rows r ≡ true) → (r : RawRight) → Has rows.rights.items r
+  pub right_held : ((r : ℕ) → keeps rows r ≡ true) → (r : RawRight) → Has rows.rights r
       → right_at (vault_of rows) (string_bytes r.caller) (string_bytes r.merchant) (right_of r.what)
       ≡ Some (grant_value r)
   right_held keep r h =
-      get_held right_total right_exact right_key grant_value rows.rights.items (rights_apart keep) r h
+      get_held right_total right_exact right_key grant_value rows.rights (rights_apart keep) r h
 
   pub rights_many : ((r : ℕ) → keeps rows r ≡ true)
-      → finite.len (vault_of rows).rights ≡ length rows.rights.items
+      → finite.len (vault_of rows).rights ≡ length rows.rights
   rights_many keep =
-      len_is right_total right_exact right_key grant_value rows.rights.items (rights_apart keep)
+      len_is right_total right_exact right_key grant_value rows.rights (rights_apart keep)

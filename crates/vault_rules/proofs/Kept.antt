@@ -22,7 +22,7 @@ use Rattle.vault_rules.specs.declared.rows.RawCard.{RawCard}
 use Rattle.vault_rules.specs.declared.rows.RawEntry.{RawEntry}
 use Rattle.vault_rules.specs.declared.rows.RawRecord.{RawRecord}
 use Rattle.vault_rules.specs.declared.rows.RawRight.{RawRight}
-use Rattle.vault_rules.specs.declared.rows.Rows.{Rows}
+use Rattle.vault_rules.specs.AllRows.{Rows}
 use Rattle.vault_rules.proofs.Cards.{card_is}
 use Rattle.vault_rules.proofs.Numbers.{IsBetween, within_is, below_is, int_is, le_is}
 use Rattle.vault_rules.proofs.TextLemmas.{name_is, token_is}
@@ -49,20 +49,20 @@ pub record CardsWell (merchants : List RawMerchant) (entries : List RawEntry) (c
   pub used : 0 < used_by entries c.id
 
 module _ (rows : Rows) (kept : (r : ℕ) → keeps rows r ≡ true) where
-  pub few : length rows.merchants.items ≤ 10000
+  pub few : length rows.merchants ≤ 10000
   few =
-      let two : are_named rows.merchants.items ≡ true = kept 2 in
-      let h = below_is (length rows.merchants.items) 10001 (and_parts _ _ two).0 in omega arith
+      let two : are_named rows.merchants ≡ true = kept 2 in
+      let h = below_is (length rows.merchants) 10001 (and_parts _ _ two).0 in omega arith
 
-  pub named : (m : RawMerchant) → Has rows.merchants.items m → IsName (string_bytes m.name)
+  pub named : (m : RawMerchant) → Has rows.merchants m → IsName (string_bytes m.name)
   named m h =
-      let two : are_named rows.merchants.items ≡ true = kept 2 in
+      let two : are_named rows.merchants ≡ true = kept 2 in
       name_is (string_bytes m.name)
-      (test_has (λ n. is_name (string_bytes n.name)) rows.merchants.items m (and_parts _ _ two).1 h)
+      (test_has (λ n. is_name (string_bytes n.name)) rows.merchants m (and_parts _ _ two).1 h)
 
-  pub lasts : (m : RawMerchant) → Has rows.merchants.items m → LastsWell m
+  pub lasts : (m : RawMerchant) → Has rows.merchants m → LastsWell m
   lasts m h =
-      let first = and_parts _ _ (test_has is_lasting rows.merchants.items m (kept 3) h) in
+      let first = and_parts _ _ (test_has is_lasting rows.merchants m (kept 3) h) in
       let second = and_parts _ _ first.0 in
       record {
         single = within_is 0 3155760000 m.single_life second.0;
@@ -70,9 +70,9 @@ module _ (rows : Rows) (kept : (r : ℕ) → keeps rows r ≡ true) where
         moment = within_is 0 253402300799 m.moment first.1;
       }
 
-  pub counts_well : (c : RawCount) → Has rows.counts.items c → CountsWell rows.merchants.items c
+  pub counts_well : (c : RawCount) → Has rows.counts c → CountsWell rows.merchants c
   counts_well c h =
-      let first = and_parts _ _ (test_has (is_count rows.merchants.items) rows.counts.items c (kept 4) h) in
+      let first = and_parts _ _ (test_has (is_count rows.merchants) rows.counts c (kept 4) h) in
       let second = and_parts _ _ first.0 in
       record {
         known = second.0;
@@ -80,40 +80,40 @@ module _ (rows : Rows) (kept : (r : ℕ) → keeps rows r ≡ true) where
         total = within_is 1 4611686018427387903 c.total first.1;
       }
 
-  pub tokens : (e : RawEntry) → Has rows.entries.items e
-      → (is_known rows.merchants.items (string_bytes e.merchant) ≡ true) × IsToken (string_bytes e.token)
+  pub tokens : (e : RawEntry) → Has rows.entries e
+      → (is_known rows.merchants (string_bytes e.merchant) ≡ true) × IsToken (string_bytes e.token)
   tokens e h =
-      let parts = and_parts _ _ (test_has (has_token rows.merchants.items) rows.entries.items e (kept 5) h) in
+      let parts = and_parts _ _ (test_has (has_token rows.merchants) rows.entries e (kept 5) h) in
       (parts.0, token_is (string_bytes e.token) parts.1)
 
-  pub numbers : (e : RawEntry) → Has rows.entries.items e → has_number rows.cards.items e ≡ true
-  numbers e h = test_has (has_number rows.cards.items) rows.entries.items e (kept 6) h
+  pub numbers : (e : RawEntry) → Has rows.entries e → has_number rows.cards e ≡ true
+  numbers e h = test_has (has_number rows.cards) rows.entries e (kept 6) h
 
-  pub timed : (e : RawEntry) → Has rows.entries.items e → at_moments rows.merchants.items is_timed e ≡ true
-  timed e h = test_has (at_moments rows.merchants.items is_timed) rows.entries.items e (kept 7) h
+  pub timed : (e : RawEntry) → Has rows.entries e → at_moments rows.merchants is_timed e ≡ true
+  timed e h = test_has (at_moments rows.merchants is_timed) rows.entries e (kept 7) h
 
-  pub live_or_over : (e : RawEntry) → Has rows.entries.items e
-      → at_moments rows.merchants.items is_kept e ≡ true
-  live_or_over e h = test_has (at_moments rows.merchants.items is_kept) rows.entries.items e (kept 8) h
+  pub live_or_over : (e : RawEntry) → Has rows.entries e
+      → at_moments rows.merchants is_kept e ≡ true
+  live_or_over e h = test_has (at_moments rows.merchants is_kept) rows.entries e (kept 8) h
 
   pub distinct : are_distinct
-      (filter_map (live_key rows.merchants.items rows.cards.items) rows.entries.items) ≡ true
+      (filter_map (live_key rows.merchants rows.cards) rows.entries) ≡ true
   distinct = kept 9
 
-  pub counted : (m : RawMerchant) → Has rows.merchants.items m
-      → (total_of rows.counts.items (string_bytes m.name) (pos 1)
-      ≡ pos (held_by rows.entries.items (string_bytes m.name)))
-      × (held_by rows.entries.items (string_bytes m.name) ≤ 1000000)
+  pub counted : (m : RawMerchant) → Has rows.merchants m
+      → (total_of rows.counts (string_bytes m.name) (pos 1)
+      ≡ pos (held_by rows.entries (string_bytes m.name)))
+      × (held_by rows.entries (string_bytes m.name) ≤ 1000000)
   counted m h =
       let parts =
       and_parts _ _
-      (test_has (is_counted rows.counts.items rows.entries.items) rows.merchants.items m (kept 10) h) in
-      let less = below_is (held_by rows.entries.items (string_bytes m.name)) 1000001 parts.1 in
+      (test_has (is_counted rows.counts rows.entries) rows.merchants m (kept 10) h) in
+      let less = below_is (held_by rows.entries (string_bytes m.name)) 1000001 parts.1 in
       (int_is _ _ parts.0, omega arith)
 
-  pub records_well : (r : RawRecord) → Has rows.records.items r → RecordsWell rows.entries.items r
+  pub records_well : (r : RawRecord) → Has rows.records r → RecordsWell rows.entries r
   records_well r h =
-      let first = and_parts _ _ (test_has (is_record rows.entries.items) rows.records.items r (kept 11) h) in
+      let first = and_parts _ _ (test_has (is_record rows.entries) rows.records r (kept 11) h) in
       let second = and_parts _ _ first.0 in
       record {
         caller = name_is (string_bytes r.caller) second.0;
@@ -121,40 +121,40 @@ module _ (rows : Rows) (kept : (r : ℕ) → keeps rows r ≡ true) where
         usage = first.1;
       }
 
-  pub rights_well : (r : RawRight) → Has rows.rights.items r
-      → IsName (string_bytes r.caller) × (is_known rows.merchants.items (string_bytes r.merchant) ≡ true)
+  pub rights_well : (r : RawRight) → Has rows.rights r
+      → IsName (string_bytes r.caller) × (is_known rows.merchants (string_bytes r.merchant) ≡ true)
       × IsBetween 1 6 r.what
   rights_well r h =
-      let first = and_parts _ _ (test_has (is_right rows.merchants.items) rows.rights.items r (kept 12) h) in
+      let first = and_parts _ _ (test_has (is_right rows.merchants) rows.rights r (kept 12) h) in
       let second = and_parts _ _ first.0 in
       (name_is (string_bytes r.caller) second.0, second.1, within_is 1 6 r.what first.1)
 
-  both_cards : (list_all (is_card rows.merchants.items rows.entries.items) rows.cards.items ≡ true)
-      × (list_all (has_card rows.cards.items) rows.entries.items ≡ true)
+  both_cards : (list_all (is_card rows.merchants rows.entries) rows.cards ≡ true)
+      × (list_all (has_card rows.cards) rows.entries ≡ true)
   both_cards =
-      and_parts (list_all (is_card rows.merchants.items rows.entries.items) rows.cards.items)
-      (list_all (has_card rows.cards.items) rows.entries.items) (kept 13)
+      and_parts (list_all (is_card rows.merchants rows.entries) rows.cards)
+      (list_all (has_card rows.cards) rows.entries) (kept 13)
 
-  pub cards_well : (c : RawCard) → Has rows.cards.items c
-      → CardsWell rows.merchants.items rows.entries.items c
+  pub cards_well : (c : RawCard) → Has rows.cards c
+      → CardsWell rows.merchants rows.entries c
   cards_well c h =
       let first =
       and_parts _ _
-      (test_has (is_card rows.merchants.items rows.entries.items) rows.cards.items c both_cards.0 h) in
+      (test_has (is_card rows.merchants rows.entries) rows.cards c both_cards.0 h) in
       let second = and_parts _ _ first.0 in
-      let uses = int_is c.uses (pos (used_by rows.entries.items c.id)) first.1 in
+      let uses = int_is c.uses (pos (used_by rows.entries c.id)) first.1 in
       record {
         known = second.0;
         uses = uses;
-        used = le_is 1 (used_by rows.entries.items c.id) (subst (λ z. int_le (pos 1) z ≡ true) uses second.1);
+        used = le_is 1 (used_by rows.entries c.id) (subst (λ z. int_le (pos 1) z ≡ true) uses second.1);
       }
 
-  pub own_card : (e : RawEntry) → Has rows.entries.items e → HasCard rows.cards.items e
+  pub own_card : (e : RawEntry) → Has rows.entries e → HasCard rows.cards e
   own_card e h =
-      card_is rows.cards.items e (test_has (has_card rows.cards.items) rows.entries.items e both_cards.1 h)
+      card_is rows.cards e (test_has (has_card rows.cards) rows.entries e both_cards.1 h)
 
-  pub led : (m : RawMerchant) → Has rows.merchants.items m → has_lead m ≡ true
-  led m h = test_has has_lead rows.merchants.items m (kept 14) h
+  pub led : (m : RawMerchant) → Has rows.merchants m → has_lead m ≡ true
+  led m h = test_has has_lead rows.merchants m (kept 14) h
 
-  pub ended : (r : RawRight) → Has rows.rights.items r → has_end r ≡ true
-  ended r h = test_has has_end rows.rights.items r (kept 15) h
+  pub ended : (r : RawRight) → Has rows.rights r → has_end r ≡ true
+  ended r h = test_has has_end rows.rights r (kept 15) h

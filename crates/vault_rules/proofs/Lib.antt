@@ -5,6 +5,7 @@ pub mod CardsFrom
 pub mod Counts
 pub mod DistinctFrom
 pub mod Ends
+pub mod EntriesTaken
 pub mod FirstLemmas
 pub mod Found
 pub mod FoundRows
@@ -15,7 +16,10 @@ pub mod Keyed
 pub mod Leads
 pub mod LeastLemmas
 pub mod Live
+pub mod LiveKeys
 pub mod LiveLemmas
+pub mod PackedLemmas
+pub mod RisingLemmas
 pub mod Numbers
 pub mod Options
 pub mod Pointing
@@ -24,7 +28,9 @@ pub mod RowsShow
 pub mod RowsSound
 pub mod ShownRows
 pub mod TextLemmas
+pub mod TokenLemmas
 pub mod Timed
 pub mod TimedFrom
 pub mod UsedLemmas
 pub mod VaultSound
+pub mod Walks

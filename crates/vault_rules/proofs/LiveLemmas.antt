@@ -1,43 +1,34 @@
 -- Keys of which no two are alike, with one key more.
-use Rattle.std.proofs.Common.{◌≡◌, ◌+◌, ◌<◌, ℕ, Bool, true, false, not, ◌&&◌, ◌||◌, cond, List, [], ◌∷◌}
-use Rattle.std.proofs.Common.{◌++◌, length, take, drop, get_or, Option, Some, None, refl, sym, ap, ◌∙◌}
+use Rattle.std.proofs.Common.{◌≡◌, Bool, true, false, not, ◌&&◌, ◌||◌, cond, List, [], ◌∷◌}
+use Rattle.std.proofs.Common.{◌++◌, Option, Some, None, refl, sym, ap, ◌∙◌}
 use Rattle.std.proofs.Common.{bytes_eq}
 use Rattle.std.proofs.Math.Bool.{or-false, and-false}
-use Rattle.std.proofs.lemmas.List.{append-nil, take-append-drop}
+use Rattle.std.proofs.lemmas.List.{append-nil}
 use Rattle.std.proofs.lemmas.List.Elements.{filter_map-append}
 use Rattle.std.proofs.lemmas.List.Folds.{list_any-append}
 use Rattle.std.specs.Cmp.Lexicographic.{nat_list_eq_equiv}
 use Rattle.std.specs.List.{cons_option, filter_map, list_any}
 use Rattle.std.specs.Ordering.{is_eq, ordering_then}
 use Rattle.vault_core.specs.Keys.{Bytes, bytes_cmp}
-use Rattle.vault_rules.specs.Rules.{are_distinct}
-use Rattle.vault_rules.proofs.FirstLemmas.{take_row, pair_ties}
-
--- whether two pairs have the same texts
-abbrev pub alike : Bytes × Bytes → Bytes × Bytes → Bool
-alike a b = bytes_eq a.0 b.0 && bytes_eq a.1 b.1
+use Rattle.vault_rules.specs.Rules.{alike, are_distinct}
+use Rattle.vault_rules.proofs.FirstLemmas.{pair_ties}
 
 alike_sym : (a b : Bytes × Bytes) → alike a b ≡ alike b a
 alike_sym a b =
     ap (λ x. x && bytes_eq a.1 b.1) (nat_list_eq_equiv.symm a.0 b.0)
     ∙ ap (λ x. bytes_eq b.0 a.0 && x) (nat_list_eq_equiv.symm a.1 b.1)
 
--- the keys of the rows up to an index, and of the row that stands there
-pub keys_more : {R : Type 0} (h : R → Option (Bytes × Bytes)) (xs : List R) (i : ℕ) (x : R)
-    (key : Bytes × Bytes)
-    → i < length xs → x ≡ get_or xs i x → h x ≡ Some key
-    → filter_map h (take (i + 1) xs) ≡ filter_map h (take i xs) ++ key ∷ []
-keys_more h xs i x key inside is some =
-    ap (filter_map h) (take_row xs i x inside is) ∙ filter_map-append h (take i xs) (x ∷ [])
-    ∙ ap (λ o. filter_map h (take i xs) ++ cons_option o []) some
+-- the keys of rows and of one more
+pub keys_more : {R : Type 0} (h : R → Option (Bytes × Bytes)) (xs : List R) (x : R) (key : Bytes × Bytes)
+    → h x ≡ Some key → filter_map h (xs ++ x ∷ []) ≡ filter_map h xs ++ key ∷ []
+keys_more h xs x key some =
+    filter_map-append h xs (x ∷ []) ∙ ap (λ o. filter_map h xs ++ cons_option o []) some
 
 -- a row without a key adds none
-pub keys_same : {R : Type 0} (h : R → Option (Bytes × Bytes)) (xs : List R) (i : ℕ) (x : R)
-    → i < length xs → x ≡ get_or xs i x → h x ≡ None
-    → filter_map h (take (i + 1) xs) ≡ filter_map h (take i xs)
-keys_same h xs i x inside is none =
-    ap (filter_map h) (take_row xs i x inside is) ∙ filter_map-append h (take i xs) (x ∷ [])
-    ∙ ap (λ o. filter_map h (take i xs) ++ cons_option o []) none ∙ append-nil _
+pub keys_same : {R : Type 0} (h : R → Option (Bytes × Bytes)) (xs : List R) (x : R) → h x ≡ None
+    → filter_map h (xs ++ x ∷ []) ≡ filter_map h xs
+keys_same h xs x none =
+    filter_map-append h xs (x ∷ []) ∙ ap (λ o. filter_map h xs ++ cons_option o []) none ∙ append-nil _
 
 -- a pair is among the keys and one more
 pub any_more : (keys : List (Bytes × Bytes)) (key q : Bytes × Bytes)
@@ -91,10 +82,9 @@ distinct_front (x ∷ keys) more e =
     ∙ front (list_any (alike x) keys) (are_distinct keys) (list_any (alike x) more) _ e
     (distinct_front keys more)
 
--- two of the keys of all rows are alike, where two of the first rows' are
-pub distinct_whole : {R : Type 0} (h : R → Option (Bytes × Bytes)) (xs : List R) (n : ℕ)
-    → are_distinct (filter_map h (take n xs)) ≡ false → are_distinct (filter_map h xs) ≡ false
-distinct_whole h xs n e =
-    ap (λ ys. are_distinct (filter_map h ys)) (sym (take-append-drop n xs))
-    ∙ ap are_distinct (filter_map-append h (take n xs) (drop n xs))
-    ∙ distinct_front (filter_map h (take n xs)) (filter_map h (drop n xs)) e
+-- two of the keys of rows and one more are alike, where two of the rows' are
+pub distinct_still : {R : Type 0} (h : R → Option (Bytes × Bytes)) (xs : List R) (x : R)
+    → are_distinct (filter_map h xs) ≡ false → are_distinct (filter_map h (xs ++ x ∷ [])) ≡ false
+distinct_still h xs x e =
+    ap are_distinct (filter_map-append h xs (x ∷ []))
+    ∙ distinct_front (filter_map h xs) (filter_map h (x ∷ [])) e

@@ -19,7 +19,7 @@ use Rattle.vault_rules.specs.declared.rows.RawVersion.{RawVersion}
 use Rattle.vault_rules.specs.declared.rows.RawCount.{RawCount}
 use Rattle.vault_rules.specs.declared.rows.RawEntry.{RawEntry}
 use Rattle.vault_rules.specs.declared.rows.RawRecord.{RawRecord}
-use Rattle.vault_rules.specs.declared.rows.Rows.{Rows}
+use Rattle.vault_rules.specs.AllRows.{Rows}
 use Rattle.vault_rules.proofs.Alone.{entry_shown}
 use Rattle.vault_rules.proofs.Counts.{count_of, count_total, counts_are}
 use Rattle.vault_rules.proofs.Ends.{ends_are}
@@ -59,20 +59,20 @@ one_of_three (suc (suc (suc (suc n)))) low high = absurd (omega arith)
 
 module _ (rows : Rows) (apart : HasKeysApart rows) (keep : (r : ℕ) → keeps rows r ≡ true) where
   -- the total of a count's row is the vault's count
-  pub count_held : (c : RawCount) → Has rows.counts.items c
+  pub count_held : (c : RawCount) → Has rows.counts c
       → natural c.total ≡ count_of (vault_of rows) (string_bytes c.merchant) (natural c.kind)
   count_held c h =
       let well = kept.counts_well rows keep c h in
       pos_same (sym well.total.is ∙ sym (count_total rows apart c h)
-      ∙ ap (total_of rows.counts.items (string_bytes c.merchant)) well.kind.is
+      ∙ ap (total_of rows.counts (string_bytes c.merchant)) well.kind.is
       ∙ counts_are rows apart keep (string_bytes c.merchant) (natural c.kind))
 
-  count_shown : (c : RawCount) → Has rows.counts.items c → ShowsCount c (vault_of rows)
+  count_shown : (c : RawCount) → Has rows.counts c → ShowsCount c (vault_of rows)
   count_shown c h =
       let well = kept.counts_well rows keep c h in
       let name = string_bytes c.merchant in
-      let row = merchant_known rows.merchants.items name well.known in
-      let merchant = merchant_value rows.counts.items row.m in
+      let row = merchant_known rows.merchants name well.known in
+      let merchant = merchant_value rows.counts row.m in
       let at = merchant_there rows name row in
       let total = count_held c h in
       let more = λ (kind : ℕ) (is : natural c.kind ≡ kind). total ∙ ap (count_of (vault_of rows) name) is in
@@ -97,13 +97,13 @@ module _ (rows : Rows) (apart : HasKeysApart rows) (keep : (r : ℕ) → keeps r
         ];
       }
 
-  record_shown : (r : RawRecord) → Has rows.records.items r → ShowsRecord r (record_value r)
+  record_shown : (r : RawRecord) → Has rows.records r → ShowsRecord r (record_value r)
   record_shown r h =
       let well = kept.records_well rows keep r h in
       let it =
       tested_is (λ (e : RawEntry). int_eq e.usage r.usage)
-      (entry_of rows.entries.items (string_bytes r.merchant) (string_bytes r.token)) well.usage in
-      let row = entry_found rows.entries.items (string_bytes r.merchant) (string_bytes r.token) it.0 it.1 in
+      (entry_of rows.entries (string_bytes r.merchant) (string_bytes r.token)) well.usage in
+      let row = entry_found rows.entries (string_bytes r.merchant) (string_bytes r.token) it.0 it.1 in
       let same = int_is it.0.usage r.usage it.2 in
       record {
         merchant = refl;
@@ -115,7 +115,7 @@ module _ (rows : Rows) (apart : HasKeysApart rows) (keep : (r : ℕ) → keeps r
 
   pub rows_show : Shows rows (vault_of rows)
   rows_show =
-      let current = current_is rows.versions.items rows.replaced (keep 1) in
+      let current = current_is rows.versions rows.replaced (keep 1) in
       let one = current.0 in
       record {
         version = one.0;
@@ -125,7 +125,7 @@ module _ (rows : Rows) (apart : HasKeysApart rows) (keep : (r : ℕ) → keeps r
         many = sym (many_is rows apart);
         merchants = λ m h.
             let lasting = kept.lasts rows keep m h in (
-              merchant_value rows.counts.items m,
+              merchant_value rows.counts m,
               merchant_held rows apart m h,
               record {
                 single_life = lasting.single.is;
@@ -143,7 +143,7 @@ module _ (rows : Rows) (apart : HasKeysApart rows) (keep : (r : ℕ) → keeps r
         held = λ name. sym (made_is rows apart name);
         entries =
             λ e h. (
-              entry_value rows.cards.items e,
+              entry_value rows.cards e,
               entry_held rows apart e h,
               entry_shown rows keep e h,
             );

@@ -20,7 +20,7 @@ use Rattle.vault_rules.specs.VaultOf.{vault_of, natural, use_of, merchant_value,
 use Rattle.vault_rules.specs.declared.rows.RawMerchant.{RawMerchant}
 use Rattle.vault_rules.specs.declared.rows.RawEntry.{RawEntry}
 use Rattle.vault_rules.specs.declared.rows.RawRecord.{RawRecord}
-use Rattle.vault_rules.specs.declared.rows.Rows.{Rows}
+use Rattle.vault_rules.specs.AllRows.{Rows}
 use Rattle.vault_rules.proofs.Ends.{ends_sound}
 use Rattle.vault_rules.proofs.Found.{bytes_are}
 use Rattle.vault_rules.proofs.FoundRows.{MerchantRow, merchant_known, merchant_found, entry_found}
@@ -39,32 +39,32 @@ none_kept p (x ∷ xs) fails =
     ∙ none_kept p xs (λ y h. fails y (inr h))
 
 module _ (rows : Rows) (keep : (r : ℕ) → keeps rows r ≡ true) where
-  pub lasting_moment : (name : Bytes) (row : MerchantRow rows.merchants.items name)
+  pub lasting_moment : (name : Bytes) (row : MerchantRow rows.merchants name)
       → row.m.moment ≡ pos (natural row.m.moment)
   lasting_moment name row = (kept.lasts rows keep row.m row.there).moment.is
 
   -- the merchant of an entry's row
-  pub merchant_of_entry : (e : RawEntry) → Has rows.entries.items e
-      → MerchantRow rows.merchants.items (string_bytes e.merchant)
+  pub merchant_of_entry : (e : RawEntry) → Has rows.entries e
+      → MerchantRow rows.merchants (string_bytes e.merchant)
   merchant_of_entry e h =
-      merchant_known rows.merchants.items (string_bytes e.merchant) (kept.tokens rows keep e h).0
+      merchant_known rows.merchants (string_bytes e.merchant) (kept.tokens rows keep e h).0
 
-  row_sound : (e : RawEntry) → Has rows.entries.items e
+  row_sound : (e : RawEntry) → Has rows.entries e
       → (merchant : Merchant) × (merchant_at (vault_of rows) (string_bytes e.merchant) ≡ Some merchant)
-      × IsSoundEntry (string_bytes e.token) (entry_value rows.cards.items e) merchant
+      × IsSoundEntry (string_bytes e.token) (entry_value rows.cards e) merchant
   row_sound e h =
       let row = merchant_of_entry e h in
-      let merchant = merchant_value rows.counts.items row.m in
+      let merchant = merchant_value rows.counts row.m in
       let moment = lasting_moment (string_bytes e.merchant) row in
       let timed : is_timed (pos merchant.moment) e ≡ true =
       subst (λ z. is_timed z e ≡ true) moment
-      (sym (at_moment rows.merchants.items is_timed e row.m row.first) ∙ kept.timed rows keep e h) in
+      (sym (at_moment rows.merchants is_timed e row.m row.first) ∙ kept.timed rows keep e h) in
       let over : is_kept (pos merchant.moment) e ≡ true =
       subst (λ z. is_kept z e ≡ true) moment
-      (sym (at_moment rows.merchants.items is_kept e row.m row.first) ∙ kept.live_or_over rows keep e h) in (
+      (sym (at_moment rows.merchants is_kept e row.m row.first) ∙ kept.live_or_over rows keep e h) in (
         merchant,
         merchant_there rows (string_bytes e.merchant) row,
-        entry_sound rows.cards.items e merchant (kept.tokens rows keep e h).1 (kept.numbers rows keep e h)
+        entry_sound rows.cards e merchant (kept.tokens rows keep e h).1 (kept.numbers rows keep e h)
             (kept.own_card rows keep e h) timed over,
       )
 
@@ -76,16 +76,16 @@ module _ (rows : Rows) (keep : (r : ℕ) → keeps rows r ≡ true) where
       let sound = row_sound it.0.e it.0.there in
       let at = subst (λ name. merchant_at (vault_of rows) name ≡ Some sound.0) it.0.merchant_is sound.1 in
       let own =
-      subst (λ t. IsSoundEntry t (entry_value rows.cards.items it.0.e) sound.0) it.0.token_is sound.2 in
+      subst (λ t. IsSoundEntry t (entry_value rows.cards it.0.e) sound.0) it.0.token_is sound.2 in
       (sound.0, at, subst (λ x. IsSoundEntry token x sound.0) it.1 own)
 
-  record_fine : (r : RawRecord) → Has rows.records.items r
+  record_fine : (r : RawRecord) → Has rows.records r
       → IsName (string_bytes r.caller) × IsRequest (natural r.request)
       × IsEntryOf (record_value r)
       (entry_at (vault_of rows) (string_bytes r.merchant) (string_bytes r.token))
   record_fine r h =
       let well = kept.records_well rows keep r h in
-      let entries = rows.entries.items in
+      let entries = rows.entries in
       let it =
       tested_is (λ (e : RawEntry). int_eq e.usage r.usage)
       (entry_of entries (string_bytes r.merchant) (string_bytes r.token)) well.usage in
@@ -93,7 +93,7 @@ module _ (rows : Rows) (keep : (r : ℕ) → keeps rows r ≡ true) where
         well.caller,
         (well.request.low_is, well.request.high_is),
         (
-          entry_value rows.cards.items it.0,
+          entry_value rows.cards it.0,
           entry_there rows (string_bytes r.merchant) (string_bytes r.token) row,
           ap use_of (int_is it.0.usage r.usage it.2),
         ),
@@ -118,8 +118,8 @@ module _ (rows : Rows) (keep : (r : ℕ) → keeps rows r ≡ true) where
   rights_sound caller m right g h =
       let it = right_row rows caller m right g h in
       let well = kept.rights_well rows keep it.0 it.1 in
-      let row = merchant_known rows.merchants.items (string_bytes it.0.merchant) well.1 in
-      let value = merchant_value rows.counts.items row.m in
+      let row = merchant_known rows.merchants (string_bytes it.0.merchant) well.1 in
+      let value = merchant_value rows.counts row.m in
       let at = merchant_there rows (string_bytes it.0.merchant) row in
       let ended = ends_sound it.0.ends (kept.ended rows keep it.0 it.1) in (
         subst (λ (k : Bytes × (Bytes × Right)). IsName k.0) it.2 well.0,
@@ -129,28 +129,28 @@ module _ (rows : Rows) (keep : (r : ℕ) → keeps rows r ≡ true) where
       )
 
   -- a merchant that isn't there has no entries
-  pub held_none : (name : Bytes) → merchant_of rows.merchants.items name ≡ None
-      → held_by rows.entries.items name ≡ 0
+  pub held_none : (name : Bytes) → merchant_of rows.merchants name ≡ None
+      → held_by rows.entries name ≡ 0
   held_none name none =
-      none_kept (λ e. bytes_eq (string_bytes e.merchant) name) rows.entries.items
+      none_kept (λ e. bytes_eq (string_bytes e.merchant) name) rows.entries
       (λ e h. fails e h (bytes_eq (string_bytes e.merchant) name) refl)
     where
       fails : (e : RawEntry)
-          → Has rows.entries.items e → (b : Bool) → bytes_eq (string_bytes e.merchant) name ≡ b → b ≡ false
+          → Has rows.entries e → (b : Bool) → bytes_eq (string_bytes e.merchant) name ≡ b → b ≡ false
       fails e h false is = refl
       fails e h true is =
           let known =
-          subst (λ n. is_known rows.merchants.items n ≡ true)
+          subst (λ n. is_known rows.merchants n ≡ true)
           (bytes_are (string_bytes e.merchant) name is) (kept.tokens rows keep e h).0 in
           absurd (true≢false (sym known ∙ ap is_some none))
 
-  pub held_few : (name : Bytes) → held_by rows.entries.items name ≤ 1000000
-  held_few name = by_merchant (merchant_of rows.merchants.items name) refl
+  pub held_few : (name : Bytes) → held_by rows.entries name ≤ 1000000
+  held_few name = by_merchant (merchant_of rows.merchants name) refl
     where
-      by_merchant : (o : Option RawMerchant) → merchant_of rows.merchants.items name ≡ o
-          → held_by rows.entries.items name ≤ 1000000
+      by_merchant : (o : Option RawMerchant) → merchant_of rows.merchants name ≡ o
+          → held_by rows.entries name ≤ 1000000
       by_merchant None is = let zero_is = held_none name is in omega arith
       by_merchant (Some m) is =
-          let row = merchant_found rows.merchants.items name m is in
-          subst (λ n. held_by rows.entries.items n ≤ 1000000) row.name_is
+          let row = merchant_found rows.merchants name m is in
+          subst (λ n. held_by rows.entries n ≤ 1000000) row.name_is
           (kept.counted rows keep row.m row.there).1

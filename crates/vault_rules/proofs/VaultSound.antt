@@ -3,7 +3,7 @@ use Rattle.std.proofs.Common.{◌≡◌, ℕ, true, arith}
 use Rattle.vault_core.specs.Sound.{Sound}
 use Rattle.vault_rules.specs.Rules.{keeps}
 use Rattle.vault_rules.specs.VaultOf.{vault_of, HasKeysApart}
-use Rattle.vault_rules.specs.declared.rows.Rows.{Rows}
+use Rattle.vault_rules.specs.AllRows.{Rows}
 use Rattle.vault_rules.proofs.Alone as one
 use Rattle.vault_rules.proofs.Counts.{merchants_sound}
 use Rattle.vault_rules.proofs.Found.{many_is, made_is}

@@ -1,6 +1,11 @@
+pub mod AllRows
+pub mod Found
 pub mod Index
 pub mod Lookups
+pub mod Packed
+pub mod Rising
 pub mod Rules
+pub mod Seen
 pub mod Showing
 pub mod Texts
 pub mod VaultOf

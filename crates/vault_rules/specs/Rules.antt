@@ -16,7 +16,7 @@ use Rattle.vault_rules.specs.declared.rows.RawCard.{RawCard}
 use Rattle.vault_rules.specs.declared.rows.RawEntry.{RawEntry}
 use Rattle.vault_rules.specs.declared.rows.RawRecord.{RawRecord}
 use Rattle.vault_rules.specs.declared.rows.RawRight.{RawRight}
-use Rattle.vault_rules.specs.declared.rows.Rows.{Rows}
+use Rattle.vault_rules.specs.AllRows.{Rows}
 use Rattle.vault_rules.specs.Lookups.{is_known, moment_of, total_of, held_by, entry_of, card_of}
 use Rattle.vault_rules.specs.Lookups.{number_of, used_by}
 use Rattle.vault_rules.specs.Texts.{is_name, is_token, is_pan}
@@ -74,12 +74,13 @@ abbrev pub at_moments : List RawMerchant → (ℤ → RawEntry → Bool) → Raw
 at_moments merchants test e =
     option_map_or (λ moment. test moment e) (moment_of merchants (string_bytes e.merchant)) true
 
--- the number of a multi-use entry that is live
+-- a multi-use entry that is live at a moment
+abbrev pub is_live_multi : ℤ → RawEntry → Bool
+is_live_multi moment e = int_eq e.usage (pos 2) && is_none e.revoked && int_lt moment e.expires
+
+-- its number
 abbrev pub live_number : List RawCard → ℤ → RawEntry → Option Bytes
-live_number cards moment e =
-    if int_eq e.usage (pos 2) && is_none e.revoked && int_lt moment e.expires
-    then number_of cards e
-    else None
+live_number cards moment e = if is_live_multi moment e then number_of cards e else None
 
 -- the merchant and the number of a multi-use entry that is live at its merchant's moment
 abbrev pub live_key : List RawMerchant → List RawCard → RawEntry → Option (Bytes × Bytes)
@@ -88,11 +89,14 @@ live_key merchants cards e =
     (λ moment. option_map (λ number. (string_bytes e.merchant, number)) (live_number cards moment e))
     (moment_of merchants (string_bytes e.merchant))
 
+-- whether two pairs have the same texts
+abbrev pub alike : Bytes × Bytes → Bytes × Bytes → Bool
+alike a b = bytes_eq a.0 b.0 && bytes_eq a.1 b.1
+
 -- no pair comes twice
 abbrev pub are_distinct : List (Bytes × Bytes) → Bool
 are_distinct [] = true
-are_distinct (key ∷ keys) =
-    not (list_any (λ other. bytes_eq key.0 other.0 && bytes_eq key.1 other.1) keys) && are_distinct keys
+are_distinct (key ∷ keys) = not (list_any (alike key) keys) && are_distinct keys
 
 -- 10: a merchant's made count is the number of its entries, at most 1000000
 abbrev pub is_counted : List RawCount → List RawEntry → RawMerchant → Bool
@@ -100,13 +104,17 @@ is_counted counts entries m =
     let held = held_by entries (string_bytes m.name) in
     int_eq (total_of counts (string_bytes m.name) (pos 1)) (pos held) && nat_lt held 1000001
 
--- 11: a record's caller is a name, its request is 1 to 9223372036854775807, its entry exists and has
--- its usage
+-- a record's entry exists and has its usage
+abbrev pub has_usage : List RawEntry → RawRecord → Bool
+has_usage entries r =
+    option_map_or (λ (e : RawEntry). int_eq e.usage r.usage)
+    (entry_of entries (string_bytes r.merchant) (string_bytes r.token)) false
+
+-- 11: so it is of each record, whose caller is a name, and its request 1 to 9223372036854775807
 abbrev pub is_record : List RawEntry → RawRecord → Bool
 is_record entries r =
     is_name (string_bytes r.caller) && is_within (pos 1) (pos 9223372036854775807) r.request
-    && option_map_or (λ (e : RawEntry). int_eq e.usage r.usage)
-    (entry_of entries (string_bytes r.merchant) (string_bytes r.token)) false
+    && has_usage entries r
 
 -- 12: a right's caller is a name, its merchant exists, and it is 1 to 6
 abbrev pub is_right : List RawMerchant → RawRight → Bool
@@ -141,24 +149,24 @@ has_end r = option_map_or (is_within (pos 0) (pos 253402300799)) r.ends true
 -- each rule, from 1 to 15
 abbrev pub verdicts : Rows → List Bool
 verdicts rows =
-    let merchants = rows.merchants.items in
-    let cards = rows.cards.items in
-    let entries = rows.entries.items in
-    is_current rows.versions.items rows.replaced
+    let merchants = rows.merchants in
+    let cards = rows.cards in
+    let entries = rows.entries in
+    is_current rows.versions rows.replaced
     ∷ are_named merchants
     ∷ list_all is_lasting merchants
-    ∷ list_all (is_count merchants) rows.counts.items
+    ∷ list_all (is_count merchants) rows.counts
     ∷ list_all (has_token merchants) entries
     ∷ list_all (has_number cards) entries
     ∷ list_all (at_moments merchants is_timed) entries
     ∷ list_all (at_moments merchants is_kept) entries
     ∷ are_distinct (filter_map (live_key merchants cards) entries)
-    ∷ list_all (is_counted rows.counts.items entries) merchants
-    ∷ list_all (is_record entries) rows.records.items
-    ∷ list_all (is_right merchants) rows.rights.items
+    ∷ list_all (is_counted rows.counts entries) merchants
+    ∷ list_all (is_record entries) rows.records
+    ∷ list_all (is_right merchants) rows.rights
     ∷ (list_all (is_card merchants entries) cards && list_all (has_card cards) entries)
     ∷ list_all has_lead merchants
-    ∷ list_all has_end rows.rights.items
+    ∷ list_all has_end rows.rights
     ∷ []
 
 -- whether the rows keep the rule of this number

@@ -19,7 +19,7 @@ use Rattle.vault_rules.specs.declared.rows.RawCard.{RawCard}
 use Rattle.vault_rules.specs.declared.rows.RawEntry.{RawEntry}
 use Rattle.vault_rules.specs.declared.rows.RawRecord.{RawRecord}
 use Rattle.vault_rules.specs.declared.rows.RawRight.{RawRight}
-use Rattle.vault_rules.specs.declared.rows.Rows.{Rows}
+use Rattle.vault_rules.specs.AllRows.{Rows}
 
 -- a row has the lives, the moment and the lead of a merchant
 pub record ShowsMerchant (m : RawMerchant) (merchant : Merchant) : Type 0 where
@@ -68,29 +68,29 @@ pub record ShowsCount (c : RawCount) (V : Vault) : Type 0 where
 -- the rows of each table are the pairs of a vault
 pub record Shows (rows : Rows) (V : Vault) : Type 0 where
   pub version : RawVersion
-  pub versions : rows.versions.items ≡ version ∷ []
+  pub versions : rows.versions ≡ version ∷ []
   pub id : version.id ≡ pos 1
   pub replaced : rows.replaced ≡ 0
-  pub many : length rows.merchants.items ≡ finite.len V.merchants
-  pub merchants : (m : RawMerchant) → Has rows.merchants.items m
+  pub many : length rows.merchants ≡ finite.len V.merchants
+  pub merchants : (m : RawMerchant) → Has rows.merchants m
       → (merchant : Merchant) × (merchant_at V (string_bytes m.name) ≡ Some merchant)
       × ShowsMerchant m merchant
   pub merchants_there : (name : Bytes) (merchant : Merchant) → merchant_at V name ≡ Some merchant
-      → (m : RawMerchant) × Has rows.merchants.items m × (string_bytes m.name ≡ name)
-  pub counts : (c : RawCount) → Has rows.counts.items c → ShowsCount c V
-  pub counted : (name : Bytes) → total_of rows.counts.items name (pos 1) ≡ pos (made_count V name)
-  pub held : (name : Bytes) → held_by rows.entries.items name ≡ made_count V name
-  pub entries : (e : RawEntry) → Has rows.entries.items e
+      → (m : RawMerchant) × Has rows.merchants m × (string_bytes m.name ≡ name)
+  pub counts : (c : RawCount) → Has rows.counts c → ShowsCount c V
+  pub counted : (name : Bytes) → total_of rows.counts name (pos 1) ≡ pos (made_count V name)
+  pub held : (name : Bytes) → held_by rows.entries name ≡ made_count V name
+  pub entries : (e : RawEntry) → Has rows.entries e
       → (entry : Entry) × (entry_at V (string_bytes e.merchant) (string_bytes e.token) ≡ Some entry)
-      × ShowsEntry rows.cards.items e entry
-  pub cards : (c : RawCard) → Has rows.cards.items c → ShowsCard rows.entries.items c
+      × ShowsEntry rows.cards e entry
+  pub cards : (c : RawCard) → Has rows.cards c → ShowsCard rows.entries c
   pub entries_there : (m token : Bytes) (entry : Entry) → entry_at V m token ≡ Some entry
-      → (e : RawEntry) × Has rows.entries.items e × (string_bytes e.merchant ≡ m)
+      → (e : RawEntry) × Has rows.entries e × (string_bytes e.merchant ≡ m)
       × (string_bytes e.token ≡ token)
-  pub records : (r : RawRecord) → Has rows.records.items r
+  pub records : (r : RawRecord) → Has rows.records r
       → (request : ℕ) × (shown : Record) × (r.request ≡ pos request)
       × (record_at V (string_bytes r.caller) request ≡ Some shown) × ShowsRecord r shown
-  pub rights : (r : RawRight) → Has rows.rights.items r
+  pub rights : (r : RawRight) → Has rows.rights r
       → (right : Right) × (g : GrantRow) × (r.what ≡ pos (right_number right))
       × (right_at V (string_bytes r.caller) (string_bytes r.merchant) right ≡ Some g)
       × (r.ends ≡ option_map pos g.ends)

@@ -23,7 +23,7 @@ use Rattle.vault_rules.specs.declared.rows.RawCard.{RawCard}
 use Rattle.vault_rules.specs.declared.rows.RawEntry.{RawEntry}
 use Rattle.vault_rules.specs.declared.rows.RawRecord.{RawRecord}
 use Rattle.vault_rules.specs.declared.rows.RawRight.{RawRight}
-use Rattle.vault_rules.specs.declared.rows.Rows.{Rows}
+use Rattle.vault_rules.specs.AllRows.{Rows}
 
 -- a whole number that isn't negative
 abbrev pub natural : ℤ → ℕ
@@ -95,10 +95,10 @@ abbrev pub vault_of : Rows → Vault
 vault_of rows = record {
   merchants =
       finite.from_entries
-      (map (λ m. (string_bytes m.name, merchant_value rows.counts.items m)) rows.merchants.items);
-  entries = finite.from_entries (map (λ e. (entry_key e, entry_value rows.cards.items e)) rows.entries.items);
-  records = finite.from_entries (map (λ r. (record_key r, record_value r)) rows.records.items);
-  rights = finite.from_entries (map (λ r. (right_key r, grant_value r)) rows.rights.items);
+      (map (λ m. (string_bytes m.name, merchant_value rows.counts m)) rows.merchants);
+  entries = finite.from_entries (map (λ e. (entry_key e, entry_value rows.cards e)) rows.entries);
+  records = finite.from_entries (map (λ r. (record_key r, record_value r)) rows.records);
+  rights = finite.from_entries (map (λ r. (right_key r, grant_value r)) rows.rights);
 }
 
 -- keys as they stand
@@ -124,9 +124,9 @@ AreKeysApart key (row ∷ rows) = ((other : _) → Has rows other → key row �
 
 -- of each table; of the cards no id
 pub record HasKeysApart (rows : Rows) : Type 0 where
-  pub merchants : AreKeysApart (λ m. string_bytes m.name) rows.merchants.items
-  pub counts : AreKeysApart count_key rows.counts.items
-  pub cards : AreKeysApart (λ c. c.id) rows.cards.items
-  pub entries : AreKeysApart entry_key rows.entries.items
-  pub records : AreKeysApart request_key rows.records.items
-  pub rights : AreKeysApart number_key rows.rights.items
+  pub merchants : AreKeysApart (λ m. string_bytes m.name) rows.merchants
+  pub counts : AreKeysApart count_key rows.counts
+  pub cards : AreKeysApart (λ c. c.id) rows.cards
+  pub entries : AreKeysApart entry_key rows.entries
+  pub records : AreKeysApart request_key rows.records
+  pub rights : AreKeysApart number_key rows.rights

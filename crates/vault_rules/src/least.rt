@@ -1,56 +1,70 @@
 //! The least rule that rows break.
-ghost use Rattle.std.specs.Prelude.{◌≡◌, ◌≤◌, ℕ, IfOk, IfNone, IfSome, None, Some, true, length};
+ghost use Rattle.std.specs.Prelude.{◌≡◌, ◌≤◌, ℕ, IfNone, IfSome, None, Some, true, length};
 ghost use Rattle.std.specs.Prelude.{slice_index_or};
-ghost use Rattle.vault_rules.specs.Rules.{IsLeastBroken, keeps, verdicts as verdicts_spec};
-ghost use Rattle.vault_rules.specs.Verdicts.{IsFirstBroken};
+ghost use Rattle.vault_rules.specs.AllRows.{Rows};
+ghost use Rattle.vault_rules.specs.Rules.{IsLeastBroken, keeps};
+ghost use Rattle.vault_rules.specs.Seen.{HasRows};
+ghost use Rattle.vault_rules.specs.Verdicts.{AreVerdicts, IsFirstBroken};
 
-use crate::index::Index;
-use crate::rows::Rows;
-use crate::rules::callers::{are_records, are_rights};
+use crate::records::Records;
+use crate::rows::{RawRight, RawVersion};
+use crate::rules::callers::are_rights;
 use crate::rules::cards::are_cards;
 use crate::rules::counts::{are_counted, are_counts};
 use crate::rules::ends::have_ends;
-use crate::rules::entries::{are_kept, are_timed, have_numbers, have_tokens};
 use crate::rules::leads::have_leads;
-use crate::rules::live::are_alone;
 use crate::rules::merchants::{are_lasting, are_named, is_current};
-use std::alloc::{AllocError, Global};
 
 /// How many rules there are.
 const RULES: usize = 15;
 
-/// The least number of a rule that the rows break, from 1 to 15. Only memory can fail.
-pub fn least_broken(alloc: Global, rows: &Rows) -> Result<Option<u8>, AllocError>
-    ensures none { IfOk result (λ found. found ≡ None → (r : ℕ) → keeps rows.now r ≡ true) }
-    ensures some { IfOk result (λ found. (rule : ℕ) → found ≡ Some rule → IsLeastBroken rows.now rule) }
+/// The least number of a rule that the rows break, from 1 to 15. The records came behind the entries, the
+/// merchants, the counts and the cards.
+pub fn least_broken(
+    versions: &[RawVersion],
+    replaced: u64,
+    records: &Records,
+    rights: &[RawRight],
+) -> Option<u8>
+    ensures none { (rows : Rows) → HasRows rows versions.now replaced records.now rights.now
+        → result ≡ None → (r : ℕ) → keeps rows r ≡ true }
+    ensures some { (rows : Rows) → HasRows rows versions.now replaced records.now rights.now
+        → (rule : ℕ) → result ≡ Some rule → IsLeastBroken rows rule }
 {
-    let index = Index::of(alloc, rows)?;
-    let kept = verdicts(alloc, &index)?;
-    Ok(first_broken(&kept))
+    let kept = verdicts(versions, replaced, records, rights);
+    first_broken(&kept)
 }
 
-/// Whether the rows keep each rule, from 1 to 15.
-fn verdicts(alloc: Global, index: &Index) -> Result<[bool; RULES], AllocError>
-    ensures { IfOk result (λ kept. kept ≡ verdicts_spec index.now.rows.now) }
+/// Whether the rows keep each rule, from 1 to 15, up to the first that they break.
+fn verdicts(
+    versions: &[RawVersion],
+    replaced: u64,
+    records: &Records,
+    rights: &[RawRight],
+) -> [bool; RULES]
+    ensures { (rows : Rows) → HasRows rows versions.now replaced records.now rights.now
+        → AreVerdicts rows result }
 {
-    let rows = index.rows;
-    Ok([
-        is_current(&rows.versions, rows.replaced),
-        are_named(&rows.merchants),
-        are_lasting(&rows.merchants),
+    let entries = &records.entries;
+    let index = &entries.index;
+    let rules = &entries.rules;
+    [
+        is_current(versions, replaced),
+        are_named(index.merchants),
+        are_lasting(index.merchants),
         are_counts(index),
-        have_tokens(index),
-        have_numbers(index),
-        are_timed(index),
-        are_kept(index),
-        are_alone(alloc, index)?,
-        are_counted(index),
-        are_records(index),
-        are_rights(index),
-        are_cards(index),
-        have_leads(&rows.merchants),
-        have_ends(&rows.rights),
-    ])
+        rules.tokens,
+        rules.numbers,
+        rules.timed,
+        rules.kept,
+        entries.live.alone,
+        are_counted(entries),
+        records.kept,
+        are_rights(index, rights),
+        are_cards(entries),
+        have_leads(index.merchants),
+        have_ends(rights),
+    ]
 }
 
 /// The number of the first rule that isn't kept.

@@ -73,17 +73,3 @@ pub struct RawRight {
     /// NULL where the right has no end.
     pub ends: Option<i64>,
 }
-
-/// The rows of all tables. Nothing of them is printed, since cards hold card numbers.
-#[derive(Drop)]
-pub struct Rows {
-    pub versions: Vec<RawVersion>,
-    pub merchants: Vec<RawMerchant>,
-    pub counts: Vec<RawCount>,
-    pub cards: Vec<RawCard>,
-    pub entries: Vec<RawEntry>,
-    pub records: Vec<RawRecord>,
-    pub rights: Vec<RawRight>,
-    /// How many of the tables that a later schema replaced still have rows.
-    pub replaced: u64,
-}

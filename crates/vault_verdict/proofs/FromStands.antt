@@ -44,7 +44,7 @@ use Rattle.vault_rules.specs.declared.rows.RawVersion.{RawVersion}
 use Rattle.vault_rules.specs.declared.rows.RawCard.{RawCard}
 use Rattle.vault_rules.specs.declared.rows.RawCount.{RawCount}
 use Rattle.vault_rules.specs.declared.rows.RawEntry.{RawEntry}
-use Rattle.vault_rules.specs.declared.rows.Rows.{Rows}
+use Rattle.vault_rules.specs.AllRows.{Rows}
 use Rattle.vault_schema.proofs.Version3.Codes.{merchant_coding}
 use Rattle.vault_schema.specs.Version1.Claims.{IsVersion}
 use Rattle.vault_schema.specs.Version1.Rows as row
@@ -103,23 +103,23 @@ pub record AreShared (v : Version) (db : Trees) (V : Vault) (rows : Rows) : Type
   pub counts : AreRowsOf row.count_row (db 3) (lookups_of V).counts
   pub records : AreRowsOf row.record_row (db 8) (lookups_of V).records
   pub rights : AreRowsOf four.right_row (rights_in v db) (lookups_of V).rights
-  pub merchants_are : IsPermutation (merchants_in v db) (map raw.merchant_values rows.merchants.items)
-  pub counts_are : IsPermutation (db 3) (map raw.count_values rows.counts.items)
-  pub records_are : IsPermutation (db 8) (map raw.record_values rows.records.items)
-  pub rights_are : IsPermutation (rights_in v db) (map raw.right_values rows.rights.items)
+  pub merchants_are : IsPermutation (merchants_in v db) (map raw.merchant_values rows.merchants)
+  pub counts_are : IsPermutation (db 3) (map raw.count_values rows.counts)
+  pub records_are : IsPermutation (db 8) (map raw.record_values rows.records)
+  pub rights_are : IsPermutation (rights_in v db) (map raw.right_values rows.rights)
 
 -- each row of an entry shows the entry that the vault has at its key
 abbrev pub ArePairs : Vault → Rows → Type 0
 ArePairs V rows =
-    (e : RawEntry) → Has rows.entries.items e
+    (e : RawEntry) → Has rows.entries e
     → (entry : Entry) × (entry_at V (string_bytes e.merchant) (string_bytes e.token) ≡ Some entry)
-    × ShowsEntry rows.cards.items e entry
+    × ShowsEntry rows.cards e entry
 
 -- and each entry of the vault has its row
 abbrev pub AreThere : Vault → Rows → Type 0
 AreThere V rows =
     (key : Bytes × Bytes) (entry : Entry) → finite.get V.entries key ≡ Some entry
-    → (e : RawEntry) × Has rows.entries.items e × (entry_key e ≡ key)
+    → (e : RawEntry) × Has rows.entries e × (entry_key e ≡ key)
 
 module _ (v : Version) (db : Trees) (V : Vault) (rows : Rows) (claimed : AreShared v db V rows)
     (apart : HasKeysApart rows) (entry_pair : ArePairs V rows)
@@ -127,14 +127,14 @@ module _ (v : Version) (db : Trees) (V : Vault) (rows : Rows) (claimed : AreShar
   abbrev count_of : RawCount → ℕ
   count_of c = count_at V (string_bytes c.merchant) (natural c.kind)
 
-  count_is : (c : RawCount) → Has rows.counts.items c
+  count_is : (c : RawCount) → Has rows.counts c
       → (c.kind ≡ pos (natural c.kind)) × (c.total ≡ pos (count_of c)) × (0 < count_of c)
   count_is c h =
       let it = pair_of tables.counts _ claimed.counts_are claimed.counts c h in
       let some = some_unless (count_of c) it.0 it.2 in
       (grind (arith, it.1), grind (arith, it.1, some.0), some.1)
 
-  count_shown : (c : RawCount) → Has rows.counts.items c → ShowsCount c V
+  count_shown : (c : RawCount) → Has rows.counts c → ShowsCount c V
   count_shown c h =
       let it = count_is c h in
       record {
@@ -146,25 +146,25 @@ module _ (v : Version) (db : Trees) (V : Vault) (rows : Rows) (claimed : AreShar
         counted = which V (string_bytes c.merchant) (natural c.kind) it.2;
       }
 
-  made_counted : (name : Bytes) → total_of rows.counts.items name (pos 1) ≡ pos (made_count V name)
+  made_counted : (name : Bytes) → total_of rows.counts name (pos 1) ≡ pos (made_count V name)
   made_counted name = elim (unless_zero (made_count V name))
       as (λ o. unless_zero (made_count V name) ≡ o
-      → total_of rows.counts.items name (pos 1) ≡ pos (made_count V name)) [
-        | None ↦ λ none. count_cases rows.counts.items name (pos 1) (λ z. z ≡ pos (made_count V name))
+      → total_of rows.counts name (pos 1) ≡ pos (made_count V name)) [
+        | None ↦ λ none. count_cases rows.counts name (pos 1) (λ z. z ≡ pos (made_count V name))
             (ap pos (sym (none_unless (made_count V name) none)))
             (λ c at. (count_is c at.there).1
             ∙ (λ i. pos (count_at V (at.merchant_is i) (natural (at.kind_is i)))))
         | Some x ↦ λ some.
             let it = row_at tables.counts _ claimed.counts_are claimed.counts (name, 1) x some in
             let is = count_is it.0.0 it.0.1 in
-            (λ i. total_of rows.counts.items (sym it.0.2 i).0 (pos (sym it.0.2 i).1))
-            ∙ ap (total_of rows.counts.items _) (sym is.0) ∙ count_total rows apart it.0.0 it.0.1
+            (λ i. total_of rows.counts (sym it.0.2 i).0 (pos (sym it.0.2 i).1))
+            ∙ ap (total_of rows.counts _) (sym is.0) ∙ count_total rows apart it.0.0 it.0.1
             ∙ is.1 ∙ (λ i. pos (count_at V (it.0.2 i).0 (it.0.2 i).1))
       ] refl
 
   -- a row's entry is what it says
-  entry_said : (e : RawEntry) (h : Has rows.entries.items e)
-      → entry_value rows.cards.items e ≡ (entry_pair e h).0
+  entry_said : (e : RawEntry) (h : Has rows.entries e)
+      → entry_value rows.cards e ≡ (entry_pair e h).0
   entry_said e h =
       let it = (entry_pair e h).2 in
       let entry = (entry_pair e h).0 in
@@ -193,12 +193,12 @@ module _ (v : Version) (db : Trees) (V : Vault) (rows : Rows) (claimed : AreShar
       sym (λ i. entry_at V (row.0.merchant_is i) (row.0.token_is i)) ∙ it.1
       ∙ ap (λ v. Some v) (sym (entry_said row.0.e row.0.there) ∙ row.1)))
 
-  held_made : (name : Bytes) → held_by rows.entries.items name ≡ made_count V name
+  held_made : (name : Bytes) → held_by rows.entries name ≡ made_count V name
   held_made name = sym (made_is rows apart name)
       ∙ (λ i. finite.len (finite.retain_keys (sym same_entries i) (λ key. eq_by_cmp bytes_cmp name key.0)))
 
-  pub shows_of : (version : RawVersion) → rows.versions.items ≡ version ∷ [] → version.id ≡ pos 1
-      → rows.replaced ≡ 0 → ((c : RawCard) → Has rows.cards.items c → ShowsCard rows.entries.items c)
+  pub shows_of : (version : RawVersion) → rows.versions ≡ version ∷ [] → version.id ≡ pos 1
+      → rows.replaced ≡ 0 → ((c : RawCard) → Has rows.cards c → ShowsCard rows.entries c)
       → Shows rows V
   shows_of version one id replaced cards =
       let size = length_permutation _ _ claimed.merchants_are in
@@ -208,7 +208,7 @@ module _ (v : Version) (db : Trees) (V : Vault) (rows : Rows) (claimed : AreShar
         versions = one;
         id = id;
         replaced = replaced;
-        many = sym (length-map rows.merchants.items _) ∙ size ∙ many;
+        many = sym (length-map rows.merchants _) ∙ size ∙ many;
         merchants = λ m h.
             let it = pair_of tables.merchants _ claimed.merchants_are claimed.merchants m h in
             let back = mapped_is lives_in (merchant_at V (string_bytes m.name)) it.0 it.2 in

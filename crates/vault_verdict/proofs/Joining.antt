@@ -20,7 +20,7 @@ use Rattle.vault_rules.specs.VaultOf.{AreKeysApart, HasKeysApart, card_key, entr
 use Rattle.vault_rules.specs.VaultOf.{use_of, vault_of}
 use Rattle.vault_rules.specs.declared.rows.RawCard.{RawCard}
 use Rattle.vault_rules.specs.declared.rows.RawEntry.{RawEntry}
-use Rattle.vault_rules.specs.declared.rows.Rows.{Rows}
+use Rattle.vault_rules.specs.AllRows.{Rows}
 use Rattle.vault_schema.specs.Version2.Joined.{AreJoined, AreMany, joined, nothing_owed, number_of}
 use Rattle.vault_schema.specs.Version2.Joined as schema
 use Rattle.vault_schema.specs.declared.v2.Card.{Card}
@@ -100,38 +100,38 @@ points_at None id h = absurd cc
 points_at (Some e) id h = (e, refl, h)
 
 module _ (rows : Rows) (apart : HasKeysApart rows) (shows : Shows rows (vault_of rows))
-    (numbers : AreKeysApart card_key rows.cards.items) where
+    (numbers : AreKeysApart card_key rows.cards) where
   abbrev cards : ℤ → Option Card
-  cards = cards_in rows.cards.items
+  cards = cards_in rows.cards
 
   abbrev pointing : Bytes × Bytes → Option Pointing
-  pointing = pointing_in rows.entries.items
+  pointing = pointing_in rows.entries
 
   -- the row of an entry that points at a card
   pointing_row : (key : Bytes × Bytes) (id : ℤ) → schema.card_of pointing key ≡ Some id
-      → (e : RawEntry) × Has rows.entries.items e × (e.card ≡ Some id) × (key ≡ entry_key e)
+      → (e : RawEntry) × Has rows.entries e × (e.card ≡ Some id) × (key ≡ entry_key e)
   pointing_row key id at =
-      let it = points_at (entry_of rows.entries.items key.0 key.1) id at in
-      let row = entry_found rows.entries.items key.0 key.1 it.0 it.1 in
+      let it = points_at (entry_of rows.entries key.0 key.1) id at in
+      let row = entry_found rows.entries key.0 key.1 it.0 it.1 in
       (it.0, row.there, it.2, λ i. (sym row.merchant_is i, sym row.token_is i))
 
-  pointing_back : (id : ℤ) (e : RawEntry) → Has rows.entries.items e → e.card ≡ Some id
+  pointing_back : (id : ℤ) (e : RawEntry) → Has rows.entries e → e.card ≡ Some id
       → schema.card_of pointing (entry_key e) ≡ Some id
   pointing_back id e h card =
       ap (λ o. option_and_then (λ (p : Pointing). p.card) (option_map pointing_value o))
-      (entry_first rows.entries.items apart.entries e h) ∙ card
+      (entry_first rows.entries apart.entries e h) ∙ card
 
   -- the one card of a number of a merchant
   once : (a b : ℤ) (c d : Card) → cards a ≡ Some c → cards b ≡ Some d → c.merchant ≡ d.merchant
       → c.number ≡ d.number → a ≡ b
   once a b c d is and merchant number =
-      let x = mapped_is card_value (card_of rows.cards.items a) c is in
-      let y = mapped_is card_value (card_of rows.cards.items b) d and in
-      let first = card_there rows.cards.items a x.0 x.1 in
-      let second = card_there rows.cards.items b y.0 y.1 in
+      let x = mapped_is card_value (card_of rows.cards a) c is in
+      let y = mapped_is card_value (card_of rows.cards b) d and in
+      let first = card_there rows.cards a x.0 x.1 in
+      let second = card_there rows.cards b y.0 y.1 in
       let own = ap (λ (z : Card). z.merchant) x.2 ∙ merchant ∙ sym (ap (λ (z : Card). z.merchant) y.2) in
       let digits = ap (λ (z : Card). z.number) x.2 ∙ number ∙ sym (ap (λ (z : Card). z.number) y.2) in
-      let same = keys_once card_key rows.cards.items numbers x.0 y.0 first.0 second.0
+      let same = keys_once card_key rows.cards numbers x.0 y.0 first.0 second.0
       (λ i. (own i, digits i)) in
       sym first.1 ∙ ap (λ (z : RawCard). z.id) same ∙ second.1
 
@@ -139,16 +139,16 @@ module _ (rows : Rows) (apart : HasKeysApart rows) (shows : Shows rows (vault_of
       → (many : ℕ) × AreMany (λ key. schema.card_of pointing key ≡ Some id) many × (c.uses ≡ many + 0)
       × (1 ≤ c.uses)
   used id c is =
-      let x = mapped_is card_value (card_of rows.cards.items id) c is in
-      let there = card_there rows.cards.items id x.0 x.1 in
+      let x = mapped_is card_value (card_of rows.cards id) c is in
+      let there = card_there rows.cards id x.0 x.1 in
       let counted = shows.cards x.0 there.0 in
-      let many = used_by rows.entries.items id in
-      let same : used_by rows.entries.items x.0.id ≡ many = ap (used_by rows.entries.items) there.1 in
-      let uses : c.uses ≡ used_by rows.entries.items x.0.id =
+      let many = used_by rows.entries id in
+      let same : used_by rows.entries x.0.id ≡ many = ap (used_by rows.entries) there.1 in
+      let uses : c.uses ≡ used_by rows.entries x.0.id =
       sym (ap (λ (z : Card). z.uses) x.2) ∙ ap natural counted.uses in
       let some = counted.used in (
         many,
-        pointing_are rows.entries.items id apart.entries (λ key. schema.card_of pointing key ≡ Some id)
+        pointing_are rows.entries id apart.entries (λ key. schema.card_of pointing key ≡ Some id)
             (pointing_back id) (λ key at. pointing_row key id at),
         omega (arith, uses, same),
         omega (arith, uses, some),
@@ -157,7 +157,7 @@ module _ (rows : Rows) (apart : HasKeysApart rows) (shows : Shows rows (vault_of
   pub rows_joined : AreJoined nothing_owed cards pointing (finite.get (vault_of rows).entries)
   rows_joined = record {
     same = λ key. entry_is rows key.0 key.1
-        ∙ value_same rows.cards.items (entry_of rows.entries.items key.0 key.1);
+        ∙ value_same rows.cards (entry_of rows.entries key.0 key.1);
     owned = λ key id at.
         let e = pointing_row key id at in
         let own = (shows.entries e.0 e.1).2.card id e.2 in (

@@ -17,8 +17,12 @@ use Rattle.vault_verdict.proofs.Permuted.{apart_permuted}
 use Rattle.vault_verdict.specs.Apart.{AreApart, AreByRowid}
 use Rattle.vault_verdict.specs.Opened.{AreRaws, AreVersions, IsBrokenIn, IsFit, IsLeastBroken, IsNoRefusal}
 use Rattle.vault_verdict.specs.Opened.{AreOldersIn, IsOtherVersion, IsSoundIn, IsVersionIn, StandsSoundIn}
-use Rattle.vault_verdict.specs.ReadAs.{AreEntries, AreFull, AreLonger, IsFullIn}
-use Rattle.vault_verdict.specs.Reading.{AreAll, AreReadEntries, AreRightsFull, IsOurs}
+use Rattle.vault_verdict.specs.Raw.{count_values, merchant_values}
+use Rattle.vault_verdict.specs.ReadAs.{AreEntries, AreFull, AreLonger, IsFullIn, merchants_in}
+use Rattle.vault_verdict.specs.Judging.{AreOnward}
+use Rattle.vault_verdict.specs.Reading.{AreAll, AreCardsIn, AreEntriesIn, AreFirst, AreRightsFull, AreTable}
+use Rattle.vault_verdict.specs.Reading.{IsAny, IsOurs}
+use Rattle.vault_verdict.specs.declared.first.First.{First}
 use Rattle.vault_verdict.specs.declared.replaced.OldEntry.{OldEntry}
 use Rattle.vault_core.specs.Keys.{Bytes}
 use Rattle.vault_core.specs.declared.right.Right.{Right}
@@ -45,7 +49,7 @@ use Rattle.vault_rules.proofs.VaultSound.{vault_is_sound}
 use Rattle.vault_rules.specs.Rules.{keeps}
 use Rattle.vault_rules.specs.VaultOf.{vault_of}
 use Rattle.vault_rules.specs.declared.rows.RawVersion.{RawVersion}
-use Rattle.vault_rules.specs.declared.rows.Rows.{Rows}
+use Rattle.vault_rules.specs.AllRows.{Rows}
 
 -- the one row of `vault` says this version
 pub version_is : (n : ℤ) (v : RawVersion) → v.id ≡ pos 1 → other_than n (v ∷ []) ≡ None → v.version ≡ n
@@ -54,7 +58,7 @@ version_is n v id none = grind (arith, int_is v.version n, int_same v.id (pos 1)
 pub sound_of : (v : Version) (db : Database) → db.schema ≡ schema_of v → IsDatabase db
     → (olders : List OldEntry) (rows : Rows) → AreRaws v db.trees olders rows
     → ((r : ℕ) → keeps rows r ≡ true) → AreApart rows
-    → other_than (number_of v) rows.versions.items ≡ None → IsSoundIn v db (counts_of rows)
+    → other_than (number_of v) rows.versions ≡ None → IsSoundIn v db (counts_of rows)
 sound_of v db ours sound olders rows raws keep apart says =
     let keys = apart_keys v db ours sound olders rows raws apart in
     let shows = rows_show rows keys keep in
@@ -80,15 +84,16 @@ sound_of v db ours sound olders rows raws keep apart says =
 -- ---- what was read
 
 entries_are : (v : Version) (db : Database) (olders : List OldEntry) (rows : Rows) → AreFull v db.trees
-    → AreReadEntries v db olders rows.cards.items rows.entries.items → AreEntries v db.trees olders rows
-entries_are One db olders rows full read =
-    record { stand = read.read.all full; entries = read.made_entries; cards = read.made_cards }
-entries_are Two db olders rows full read =
-    record { cards = read.read_cards.all tt; entries = read.read_entries.all full }
-entries_are Three db olders rows full read =
-    record { cards = read.read_cards.all tt; entries = read.read_entries.all full }
-entries_are Four db olders rows full read =
-    record { cards = read.read_cards.all tt; entries = read.read_entries.all full.0 }
+    → AreCardsIn v db olders rows.cards → AreEntriesIn v db olders rows.entries
+    → AreEntries v db.trees olders rows
+entries_are One db olders rows full cards entries =
+    record { stand = cards.read.all full; entries = entries; cards = cards.made }
+entries_are Two db olders rows full cards entries =
+    record { cards = cards.all tt; entries = entries.all full }
+entries_are Three db olders rows full cards entries =
+    record { cards = cards.all tt; entries = entries.all full }
+entries_are Four db olders rows full cards entries =
+    record { cards = cards.all tt; entries = entries.all full.0 }
 
 rights_full : (v : Version) (db : Database) → AreFull v db.trees → AreRightsFull v db
 rights_full One db full = tt
@@ -103,7 +108,7 @@ pub record AreRead (v : Version) (db : Database) (olders : List OldEntry) (rows 
   pub all : AreAll v db olders rows
 
 pub are_read : (v : Version) (old mid : State) (versions : List RawVersion) (olders : List OldEntry)
-    (rows : Rows) → rows.versions.items ≡ versions
+    (rows : Rows) → rows.versions ≡ versions
     → (HasVersion old.now.schema → IsUnchanged old mid) → (HasVersion old.now.schema → IsDatabase old.now)
     → (HasVersion old.now.schema → AreVersions old.now.trees versions)
     → (mid.now.schema ≡ schema_of v → AreAll v mid.now olders rows) → IsFullIn v old.now
@@ -119,13 +124,30 @@ are_read v old mid versions olders rows is same sound are told ours =
         versions = subst (AreVersions old.now.trees) (sym is) (are has);
         merchants = all.merchants.all tt;
         counts = all.counts.all tt;
-        entries = entries_are v old.now olders rows ours.full all.entries;
+        entries = entries_are v old.now olders rows ours.full all.cards all.entries;
         records = all.records.all tt;
         rights = all.rights.all (rights_full v old.now ours.full);
         replaced = all.replaced;
       };
       all = all;
     }
+
+-- the first rows and those behind them are all
+pub all_of : (v : Version) (db : Database) (first : First) (versions : List RawVersion) (rows : Rows)
+    → AreFirst v db first
+    → AreOnward v first.olders.items versions first.merchants.items first.counts.items first.cards.items db
+    rows
+    → AreAll v db first.olders.items rows
+all_of v db first versions rows are onward = record {
+  merchants = subst (AreTable IsAny (merchants_in v) merchant_values (λ m. m.rowid) db) (sym onward.merchants)
+      are.merchants;
+  counts = subst (AreTable IsAny (λ t. t 3) count_values (λ c. c.rowid) db) (sym onward.counts) are.counts;
+  cards = subst (AreCardsIn v db first.olders.items) (sym onward.cards) are.cards;
+  entries = onward.entries;
+  records = onward.records;
+  rights = onward.rights;
+  replaced = onward.replaced;
+}
 
 -- those of schema 1 as they stand
 pub olders_in : (v : Version) (db : Database) (olders : List OldEntry) (rows : Rows)
@@ -142,8 +164,8 @@ pub by_rowid : (db : Database) (olders : List OldEntry) (rows : Rows) → AreRea
 by_rowid db olders rows read = record {
   merchants = read.all.merchants.ordered;
   counts = read.all.counts.ordered;
-  cards = read.all.entries.read_cards.ordered;
-  entries = read.all.entries.read_entries.ordered;
+  cards = read.all.cards.ordered;
+  entries = read.all.entries.ordered;
   records = read.all.records.ordered;
   rights = read.all.rights.ordered;
 }

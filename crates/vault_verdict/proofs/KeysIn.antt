@@ -31,7 +31,7 @@ use Rattle.vault_verdict.specs.declared.replaced.OldEntry.{OldEntry}
 use Rattle.vault_rules.specs.VaultOf.{AreKeysApart, HasKeysApart, entry_key, number_key}
 use Rattle.vault_rules.specs.declared.rows.RawMerchant.{RawMerchant}
 use Rattle.vault_rules.specs.declared.rows.RawRight.{RawRight}
-use Rattle.vault_rules.specs.declared.rows.Rows.{Rows}
+use Rattle.vault_rules.specs.AllRows.{Rows}
 
 -- ---- merchants and rights of the older tables
 
@@ -103,7 +103,7 @@ rights_apart Four db ours sound items are up = keys_apart tables.rights db ours 
 -- the rows of entries and cards, of which no rowid comes twice
 abbrev pub AreCardsApart : Rows → Type 0
 AreCardsApart rows =
-    IsApart (map raw.card_row rows.cards.items) × IsApart (map raw.entry_values rows.entries.items)
+    IsApart (map raw.card_row rows.cards) × IsApart (map raw.entry_values rows.entries)
 
 abbrev pub AreEntriesApart : Version → List OldEntry → Rows → Type 0
 AreEntriesApart One olders rows = IsApart (map raw.old_entry_values olders)
@@ -113,7 +113,7 @@ AreEntriesApart Four olders rows = AreCardsApart rows
 
 abbrev AreKeyed : Rows → Type 0
 AreKeyed rows =
-    AreKeysApart (λ c. c.id) rows.cards.items × AreKeysApart entry_key rows.entries.items
+    AreKeysApart (λ c. c.id) rows.cards × AreKeysApart entry_key rows.entries
 
 module _ (db : Database) (sound : IsDatabase db) (olders : List OldEntry) (rows : Rows) where
   first_apart : db.schema ≡ schema_of One → AreOlders db.trees olders rows
@@ -123,8 +123,8 @@ module _ (db : Database) (sound : IsDatabase db) (olders : List OldEntry) (rows 
     old.entries_apart db.trees olders rows are up (old_keys db.trees olders rows are up db ours sound refl),
   )
 
-  later_apart : AreCards db.trees rows → AreKeysApart entry_key rows.entries.items
-      → IsApart (map raw.card_row rows.cards.items) → AreKeyed rows
+  later_apart : AreCards db.trees rows → AreKeysApart entry_key rows.entries
+      → IsApart (map raw.card_row rows.cards) → AreKeyed rows
   later_apart are entries up = (ids_apart db _ are.cards up, entries)
 
 entries_keyed : (v : Version) (db : Database) → db.schema ≡ schema_of v → IsDatabase db
@@ -144,9 +144,9 @@ entries_keyed Four db ours sound olders rows raws up =
 
 pub keys_in : (v : Version) (db : Database) → db.schema ≡ schema_of v → IsDatabase db
     → (olders : List OldEntry) (rows : Rows) → AreRaws v db.trees olders rows
-    → IsApart (map raw.merchant_values rows.merchants.items)
-    → IsApart (map raw.count_values rows.counts.items) → AreEntriesApart v olders rows
-    → IsApart (map raw.record_values rows.records.items) → IsApart (map raw.right_values rows.rights.items)
+    → IsApart (map raw.merchant_values rows.merchants)
+    → IsApart (map raw.count_values rows.counts) → AreEntriesApart v olders rows
+    → IsApart (map raw.record_values rows.records) → IsApart (map raw.right_values rows.rights)
     → HasKeysApart rows
 keys_in v db ours sound olders rows raws merchants counts entries records rights =
     let keyed = entries_keyed v db ours sound olders rows raws entries in

@@ -1,3 +1,4 @@
+pub mod AllApart
 pub mod Backs
 pub mod CardRows
 pub mod FromStands
@@ -12,6 +13,7 @@ pub mod KeysIn
 pub mod More
 pub mod OldEntries
 pub mod OldRows
+pub mod Onward
 pub mod Opening
 pub mod Permuted
 pub mod Pointers

@@ -28,7 +28,7 @@ use Rattle.vault_verdict.specs.ReadAs.{AreOlders}
 use Rattle.vault_verdict.specs.declared.replaced.OldEntry.{OldEntry}
 use Rattle.vault_rules.specs.Showing.{Shows, ShowsEntry}
 use Rattle.vault_rules.specs.VaultOf.{AreKeysApart, vault_of}
-use Rattle.vault_rules.specs.declared.rows.Rows.{Rows}
+use Rattle.vault_rules.specs.AllRows.{Rows}
 use Rattle.vault_schema.specs.Version1.Rows.{entry_row, number_or_null, text_or_null}
 use Rattle.vault_schema.specs.Version1.Tables.{v1}
 
@@ -68,7 +68,7 @@ old_told o k x e = record {
 
 module _ (db : Trees) (olders : List OldEntry) (rows : Rows) (are : AreOlders db olders rows) where
   -- entries that were made of old ones have their rowids
-  pub olders_apart : IsApart (map entry_values rows.entries.items) → IsApart (map old_entry_values olders)
+  pub olders_apart : IsApart (map entry_values rows.entries) → IsApart (map old_entry_values olders)
   olders_apart apart = apart_as as_entry old_entry_values (λ o. refl) olders
       (subst IsApart (sym are.entries) apart)
 
@@ -124,7 +124,7 @@ module _ (db : Trees) (olders : List OldEntry) (rows : Rows) (are : AreOlders db
           let merchant = o.2.merchant ∙ told.merchant in
           let token = o.2.token ∙ told.token in
           let revoked = moment_told e.revoked it.1.revoked (o.2.revoked ∙ told.revoked) in
-          let shown : ShowsEntry rows.cards.items e it.1 = record {
+          let shown : ShowsEntry rows.cards e it.1 = record {
             number = number_made db olders rows are up e o.0 o.1 o.2
                 ∙ text_told o.0.number it.1.number told.number;
             card = card_made db olders rows are up e o.0 o.1 o.2;

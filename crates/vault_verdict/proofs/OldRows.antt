@@ -27,7 +27,7 @@ use Rattle.vault_rules.specs.Showing.{HasCard, ShowsCard}
 use Rattle.vault_rules.specs.VaultOf.{AreKeysApart, entry_key}
 use Rattle.vault_rules.specs.declared.rows.RawCard.{RawCard}
 use Rattle.vault_rules.specs.declared.rows.RawEntry.{RawEntry}
-use Rattle.vault_rules.specs.declared.rows.Rows.{Rows}
+use Rattle.vault_rules.specs.AllRows.{Rows}
 use Rattle.vault_schema.specs.Version2.Joined.{AreMany}
 use Rattle.vault_verdict.proofs.KeptApart.{apart_by, has_kept, kept_apart, kept_has, same_apart}
 use Rattle.vault_verdict.specs.Made.{as_card, as_entry, own_card}
@@ -100,24 +100,24 @@ module _ (db : Trees) (olders : List OldEntry) (rows : Rows) (made : AreOlders d
       (λ a b h g e. ap (λ n. value_cmp (Int n) (Int b.rowid)) e ∙ tied_itself value_cmp_total (Int b.rowid))
 
   -- each entry row was made of an old entry, and each old entry has its row
-  pub old_of : (e : RawEntry) → Has rows.entries.items e → (o : OldEntry) × Has olders o × IsEntryOf e o
+  pub old_of : (e : RawEntry) → Has rows.entries e → (o : OldEntry) × Has olders o × IsEntryOf e o
   old_of e h =
       let shown = subst (λ l. Has l (entry_values e)) (sym made.entries)
-      (mapped_has entry_values rows.entries.items e h) in
+      (mapped_has entry_values rows.entries e h) in
       let it = has_mapped as_entry olders (entry_values e) shown in
       (it.0, it.1, entry_is e it.0 it.2)
 
-  pub row_of : (o : OldEntry) → Has olders o → (e : RawEntry) × Has rows.entries.items e × IsEntryOf e o
+  pub row_of : (o : OldEntry) → Has olders o → (e : RawEntry) × Has rows.entries e × IsEntryOf e o
   row_of o h =
       let shown = subst (λ l. Has l (as_entry o)) made.entries (mapped_has as_entry olders o h) in
-      let it = has_mapped entry_values rows.entries.items (as_entry o) shown in
+      let it = has_mapped entry_values rows.entries (as_entry o) shown in
       (it.0, it.1, entry_is it.0 o (sym it.2))
 
   -- each card row was made of an old entry
-  pub old_of_card : (c : RawCard) → Has rows.cards.items c → (o : OldEntry) × Has olders o × IsCardOf c o
+  pub old_of_card : (c : RawCard) → Has rows.cards c → (o : OldEntry) × Has olders o × IsCardOf c o
   old_of_card c h =
       let shown = subst (λ l. Has l (card_values c)) (sym made.cards)
-      (mapped_has card_values rows.cards.items c h) in
+      (mapped_has card_values rows.cards c h) in
       let it = has_kept as_card olders (card_values c) shown in
       (it.0, it.1, card_is c it.0 it.2)
 
@@ -136,20 +136,20 @@ module _ (db : Trees) (olders : List OldEntry) (rows : Rows) (made : AreOlders d
         sym (ap shown_id is)
   ] refl
 
-  pub ids_apart : AreKeysApart (λ (c : RawCard). c.id) rows.cards.items
+  pub ids_apart : AreKeysApart (λ (c : RawCard). c.id) rows.cards
   ids_apart =
       let kept = kept_apart as_card (λ (o : OldEntry). o.rowid) shown_id id_told olders rowids_apart in
-      same_apart shown_id (λ (r : Row). r) card_values _ rows.cards.items (mapped_same _ ∙ made.cards) kept
+      same_apart shown_id (λ (r : Row). r) card_values _ rows.cards (mapped_same _ ∙ made.cards) kept
     where
       mapped_same : (rs : List Row) → map (λ (r : Row). r) rs ≡ rs
       mapped_same [] = refl
       mapped_same (r ∷ rs) = ap (λ l. r ∷ l) (mapped_same rs)
 
   -- a key comes once
-  pub entries_apart : AreKeysApart old_key olders → AreKeysApart entry_key rows.entries.items
+  pub entries_apart : AreKeysApart old_key olders → AreKeysApart entry_key rows.entries
   entries_apart apart =
-      apart_by (λ e. key_in (entry_values e)) entry_key (λ a b e. shown a b e) rows.entries.items
-      (same_apart key_in as_entry entry_values olders rows.entries.items made.entries
+      apart_by (λ e. key_in (entry_values e)) entry_key (λ a b e. shown a b e) rows.entries
+      (same_apart key_in as_entry entry_values olders rows.entries made.entries
       (apart_by old_key (λ o. key_in (as_entry o)) (λ a b e. told a b e) olders apart))
     where
       told : (a b : OldEntry) → key_in (as_entry a) ≡ key_in (as_entry b) → old_key a ≡ old_key b
@@ -160,27 +160,27 @@ module _ (db : Trees) (olders : List OldEntry) (rows : Rows) (made : AreOlders d
       shown a b e = λ i. Text (e i).0 ∷ Text (e i).1 ∷ []
 
   -- the card of an id is the first row of it
-  pub card_found : (c : RawCard) → Has rows.cards.items c → card_of rows.cards.items c.id ≡ Some c
+  pub card_found : (c : RawCard) → Has rows.cards c → card_of rows.cards c.id ≡ Some c
   card_found c h =
       let first =
-      find-some (λ (d : RawCard). int_eq d.id c.id) rows.cards.items c h (int_same c.id c.id refl) in
-      let there = card_there rows.cards.items c.id first.0 first.1 in
+      find-some (λ (d : RawCard). int_eq d.id c.id) rows.cards c h (int_same c.id c.id refl) in
+      let there = card_there rows.cards c.id first.0 first.1 in
       first.1 ∙ ap (λ x. Some x)
-      (keys_once (λ (d : RawCard). d.id) rows.cards.items ids_apart first.0 c there.0 h there.1)
+      (keys_once (λ (d : RawCard). d.id) rows.cards ids_apart first.0 c there.0 h there.1)
 
   -- one entry points at each card
-  pub cards_shown : AreKeysApart old_key olders → (c : RawCard) → Has rows.cards.items c
-      → ShowsCard rows.entries.items c
+  pub cards_shown : AreKeysApart old_key olders → (c : RawCard) → Has rows.cards c
+      → ShowsCard rows.entries c
   cards_shown apart c h =
       let it = old_of_card c h in
       let own = row_of it.0 it.1 in
       let key = entry_key own.0 in
-      let points : (e : RawEntry) → Has rows.entries.items e → e.card ≡ Some c.id → entry_key e ≡ key =
+      let points : (e : RawEntry) → Has rows.entries e → e.card ≡ Some c.id → entry_key e ≡ key =
       λ e there at. same_entry e there it.0 it.1 own.0 own.2 (at ∙ ap (λ n. Some n) it.2.id) in
       let back : (k : Bytes × Bytes) → k ≡ key
-      → (e : RawEntry) × Has rows.entries.items e × (e.card ≡ Some c.id) × (k ≡ entry_key e) =
+      → (e : RawEntry) × Has rows.entries e × (e.card ≡ Some c.id) × (k ≡ entry_key e) =
       λ k is. (own.0, own.1, own.2.card ∙ it.2.own ∙ ap (λ n. Some n) (sym it.2.id), is) in
-      let many = pointing_are rows.entries.items c.id (entries_apart apart) (λ k. k ≡ key) points back in
+      let many = pointing_are rows.entries c.id (entries_apart apart) (λ k. k ≡ key) points back in
       let alone : AreMany (λ (k : Bytes × Bytes). k ≡ key) 1 = record {
         these = key ∷ [];
         apart = (λ none. none, tt);
@@ -188,7 +188,7 @@ module _ (db : Trees) (olders : List OldEntry) (rows : Rows) (made : AreOlders d
         sound = λ x there. elim there [ inl is ↦ is | inr none ↦ absurd none ];
         complete = λ x is. inl is;
       } in
-      let one : used_by rows.entries.items c.id ≡ 1 = one_number many alone in
+      let one : used_by rows.entries c.id ≡ 1 = one_number many alone in
       record { uses = it.2.uses ∙ ap pos (sym one); used = omega (arith, one) }
     where
       rowid_of : (o : OldEntry) (n : ℤ) → own_card o ≡ Some n → o.rowid ≡ n
@@ -197,7 +197,7 @@ module _ (db : Trees) (olders : List OldEntry) (rows : Rows) (made : AreOlders d
         | Some text ↦ λ some. let it = rw some at own in cc
       ] refl
 
-      same_entry : (e : RawEntry) → Has rows.entries.items e → (o : OldEntry) → Has olders o
+      same_entry : (e : RawEntry) → Has rows.entries e → (o : OldEntry) → Has olders o
           → (own : RawEntry) → IsEntryOf own o → e.card ≡ Some o.rowid → entry_key e ≡ entry_key own
       same_entry e h o there own is at =
           let old = old_of e h in
@@ -210,20 +210,20 @@ module _ (db : Trees) (olders : List OldEntry) (rows : Rows) (made : AreOlders d
 
   -- a number has its card
   pub card_of_old : (o : OldEntry) → Has olders o → (text : String Global) → o.number ≡ Some text
-      → (c : RawCard) × Has rows.cards.items c × IsCardOf c o
+      → (c : RawCard) × Has rows.cards c × IsCardOf c o
   card_of_old o h text some =
       let r : Row =
       Int o.rowid ∷ Text (string_bytes o.merchant) ∷ Text (string_bytes text) ∷ Int (pos 1) ∷ [] in
       let given : as_card o ≡ Some r = rw some refl in
-      let it = has_mapped card_values rows.cards.items r
+      let it = has_mapped card_values rows.cards r
       (subst (λ l. Has l r) made.cards (kept_has as_card olders o r h given)) in
       (it.0, it.1, card_is it.0 o (given ∙ ap (λ x. Some x) it.2))
 
   -- the number of an entry's card is that of the old entry
   pub number_made : (e : RawEntry) (o : OldEntry) → Has olders o → IsEntryOf e o
-      → number_of rows.cards.items e ≡ option_map (λ text. string_bytes text) o.number
+      → number_of rows.cards e ≡ option_map (λ text. string_bytes text) o.number
   number_made e o h is = elim o.number
-      as (λ n. o.number ≡ n → number_of rows.cards.items e ≡ option_map (λ text. string_bytes text) n) [
+      as (λ n. o.number ≡ n → number_of rows.cards e ≡ option_map (λ text. string_bytes text) n) [
         | None ↦ λ none.
             let at : e.card ≡ None = is.card ∙ rw none refl in
             rw at refl
@@ -234,10 +234,10 @@ module _ (db : Trees) (olders : List OldEntry) (rows : Rows) (made : AreOlders d
       ] refl
 
   -- and that card is of the entry's merchant
-  pub card_made : (e : RawEntry) (o : OldEntry) → Has olders o → IsEntryOf e o → HasCard rows.cards.items e
+  pub card_made : (e : RawEntry) (o : OldEntry) → Has olders o → IsEntryOf e o → HasCard rows.cards e
   card_made e o h is id at = elim o.number
       as (λ n. o.number ≡ n
-      → (c : RawCard) × (card_of rows.cards.items id ≡ Some c)
+      → (c : RawCard) × (card_of rows.cards id ≡ Some c)
       × (string_bytes c.merchant ≡ string_bytes e.merchant)) [
         | None ↦ λ none. absurd (
             let own : own_card o ≡ None = rw none refl in
@@ -247,5 +247,5 @@ module _ (db : Trees) (olders : List OldEntry) (rows : Rows) (made : AreOlders d
             let c = card_of_old o h text some in
             let same : Some id ≡ Some c.0.id = sym at ∙ is.card ∙ c.2.own ∙ ap (λ n. Some n) (sym c.2.id) in
             let one : id ≡ c.0.id = cc in
-            (c.0, ap (card_of rows.cards.items) one ∙ card_found c.0 c.1, c.2.merchant ∙ sym is.merchant)
+            (c.0, ap (card_of rows.cards) one ∙ card_found c.0 c.1, c.2.merchant ∙ sym is.merchant)
       ] refl

@@ -27,7 +27,7 @@ use Rattle.sql_maps.specs.Schema.{Descriptor, table_of}
 use Rattle.sql_maps.proofs.Reading.{reads_all}
 use Rattle.sql_maps.specs.Texts.{IsQuery, ordered_by, sorted_of}
 use Rattle.vault_verdict.specs.ReadAs.{any_left}
-use Rattle.vault_verdict.specs.Reading.{ReadsRows, ReadsTable, TellsAny}
+use Rattle.vault_verdict.specs.Reading.{AreTable, ReadsRows, ReadsTable, TakesRows, TakesTable, TellsAny}
 use Rattle.vault_verdict.specs.declared.fault.ReadFault.{ReadFault}
 
 -- what a query orders by the rowid is in the order of the raw rows' rowids
@@ -84,6 +84,37 @@ module _ {S : Type 0} (g : Ghosts S) {R : Type 0} {s : Schema} {text : List ℕ}
     (old new : Held S) where
   module _ {tree : ℕ} (more : List Term)
       (means : IsQuery s text (sorted_of tree [] (col 1 0 ∷ more) [] (ordered_by (0 ∷ [])))) where
+    pub takes_table : {K : Type 0} {Has : K → List R → Type 0} {Full : Database → Type 0}
+        {rows : Trees → List Row} {stands : R → Row} {id : R → ℤ}
+        → ((m : R) → rowid (values m) ≡ Int (id m)) → ((t : Trees) → length (rows t) ≡ length (t tree))
+        → (result : Result K ReadFault) → TakesRows g text values s Has result old new
+        → ((raws : List R) → (state g old).now.schema ≡ s → IsDatabase (state g old).now
+        → Full (state g old).now → Shown text [] (state g old) (state g new) (map values raws)
+        → IsPermutation (rows (state g old).now.trees) (map stands raws))
+        → TakesTable g text values s Has Full rows stands id result old new
+    takes_table {id = id} is many (Ok k) takes whole = record {
+      reads = takes.reads;
+      told = λ clean has.
+          let it = takes.told clean has in (
+            it.0,
+            it.1,
+            record {
+              sound = takes.sound clean has;
+              many = many_read (state g old) (state g new) more means has values it.0 it.2
+                  ∙ sym (many (state g old).now.trees);
+              all = λ full. whole it.0 has (takes.sound clean has) full it.2;
+              ordered = ids_ascend id values is it.0
+                  (shown_by_rowid _ more means (state g old) (state g new) has _ it.2);
+            },
+          );
+      refused = takes.refused;
+    }
+    takes_table is many (Err fault) takes whole = record {
+      reads = takes.reads;
+      told = λ clean has. tt;
+      refused = takes.refused;
+    }
+
     pub reads_table : {Full : Database → Type 0} {rows : Trees → List Row} {stands : R → Row} {id : R → ℤ}
         → ((m : R) → rowid (values m) ≡ Int (id m)) → ((t : Trees) → length (rows t) ≡ length (t tree))
         → (result : Result (Vec R) ReadFault) → ReadsRows g text values s result old new
@@ -91,18 +122,19 @@ module _ {S : Type 0} (g : Ghosts S) {R : Type 0} {s : Schema} {text : List ℕ}
         → Full (state g old).now → Shown text [] (state g old) (state g new) (map values raws)
         → IsPermutation (rows (state g old).now.trees) (map stands raws))
         → ReadsTable g text values s Full rows stands id result old new
-    reads_table {id = id} is many (Ok raws) read whole = record {
-      reads = read.reads;
-      told = λ clean has. record {
-        sound = read.sound clean has;
-        many = many_read (state g old) (state g new) more means has values raws.items (read.told clean has)
-            ∙ sym (many (state g old).now.trees);
-        all = λ full. whole raws.items has (read.sound clean has) full (read.told clean has);
-        ordered = ids_ascend id values is raws.items
-            (shown_by_rowid _ more means (state g old) (state g new) has _ (read.told clean has));
-      };
-      refused = read.refused;
-    }
+    reads_table {id = id} is many (Ok raws) read whole =
+        let it = takes_table {Has = λ (v : Vec R) l. v.items ≡ l} {id = id} is many (Ok raws) (record {
+          reads = read.reads;
+          told = λ clean has. (raws.items, refl, read.told clean has);
+          sound = read.sound;
+          refused = read.refused;
+        }) whole in
+        record {
+          reads = read.reads;
+          told = λ clean has.
+              let all = it.told clean has in subst (AreTable _ _ _ id (state g old).now) (sym all.1) all.2;
+          refused = read.refused;
+        }
     reads_table is many (Err fault) read whole = record {
       reads = read.reads;
       told = λ clean has. tt;

@@ -1,13 +1,13 @@
 -- What holds of a result, from what holds of it.
 use Rattle.std.proofs.Common.{◌≡◌, ◌≢◌, ◌∙◌, refl, subst, sym, ℕ, ℤ, Ok, Err, Result, IfOk, IfErr, IsErrAnd}
-use Rattle.std.proofs.Common.{OnOk}
+use Rattle.std.proofs.Common.{◌+◌, ◌-◌, ◌<◌, ◌^◌, arith, OnOk}
 use Rattle.sqlite.specs.Schema.{Schema}
 use Rattle.sqlite.specs.State.{State}
 use Rattle.sql_maps.specs.States.{Reads}
 use Rattle.vault_verdict.specs.Faults.{IsJudged, failure}
 use Rattle.vault_verdict.specs.Reading.{IsQuietWhere}
 use Rattle.vault_verdict.specs.declared.fault.OpenFault.{OpenFault}
-use Rattle.vault_verdict.specs.declared.fault.OpenFault.TheVariants.{WrongSchema, Damaged, Store}
+use Rattle.vault_verdict.specs.declared.fault.OpenFault.TheVariants.{WrongSchema, Damaged, Memory, Store}
 use Rattle.vault_verdict.specs.declared.fault.ReadFault.{ReadFault}
 use Rattle.vault_verdict.specs.declared.fault.ReadFault.TheVariants as read
 
@@ -51,6 +51,12 @@ pub unread : (fault : ReadFault) → failure fault ≡ Store → fault ≡ read.
 unread read.Memory e = absurd cc
 unread read.Store e = refl
 
+-- one more leaves room for one less
+pub less_on : {A E : Type 0} (r : Result A E) (old new : ℕ) → OnOk r (new ≡ old + 1) → OnOk r (new < 2 ^ 64)
+    → OnOk r (2 ^ 64 - new < 2 ^ 64 - old)
+less_on (Ok a) old new more few = omega (arith, more, few)
+less_on (Err e) old new more few = tt
+
 pub if_so : {A E P Q : Type 0} (r : Result A E) → (P → Q) → OnOk r P → OnOk r Q
 if_so (Ok a) f h = f h
 if_so (Err e) f h = h
@@ -83,3 +89,24 @@ pub passed_as : {A E : Type 0} (P : E → Type 0) (r : Result A E) (fault : E) �
     → P fault → IfErr r P
 passed_as P (Ok a) fault same p = tt
 passed_as P (Err e) fault same p = subst P (sym same) p
+
+-- rows that weren't read are judged by nothing
+pub failed_read : {A P : Type 0} (r : Result A OpenFault) (fault : ReadFault)
+    → IsErrAnd r (λ e. e ≡ failure fault) → (fault ≡ read.Store → P)
+    → IsErrAnd r (λ e. (IsJudged e → ⊥) × (e ≡ Store → P))
+failed_read (Ok a) fault same none = absurd same
+failed_read (Err e) fault same none =
+    (λ is. unjudged fault (subst IsJudged same is), λ store. none (unread fault (sym same ∙ store)))
+
+-- nor are those for which memory ran out
+pub failed_memory : {A : Type 0} (P : Type 0) (r : Result A OpenFault) → IsErrAnd r (λ e. e ≡ Memory)
+    → IsErrAnd r (λ e. (IsJudged e → ⊥) × (e ≡ Store → P))
+failed_memory P (Ok a) same = absurd same
+failed_memory P (Err e) same =
+    (λ is. subst IsJudged same is, λ store. absurd (let clash = sym same ∙ store in cc))
+
+-- and neither says another version
+pub failed_version : {A : Type 0} (r : Result A OpenFault) (fault : ReadFault)
+    → IsErrAnd r (λ e. e ≡ failure fault) → IfErr r (λ e. (n : ℤ) → e ≢ WrongSchema n)
+failed_version (Ok a) fault same = tt
+failed_version (Err e) fault same = λ n is. unversioned fault n (sym same ∙ is)

@@ -1,7 +1,7 @@
 -- Rows whose rowids rise are apart, and rows in the order of their rowids that are apart rise.
 use Rattle.std.proofs.Common.{◌≡◌, ℕ, ◌+◌, ◌<◌, ℤ, List, [], ◌∷◌, map, length, get_or, sym, ap, ap₂, subst}
 use Rattle.std.proofs.Common.{zero, suc, ◌∙◌}
-use Rattle.std.proofs.Common.{arith, Bool, true, false, Less, Equal, Greater, refl}
+use Rattle.std.proofs.Common.{◌&&◌, arith, Bool, true, false, Less, Equal, Greater, refl}
 use Rattle.std.specs.FinMap.{int_cmp-IsAntisymmetric}
 use Rattle.std.specs.List.{IsAllAdjacentAnswer}
 use Rattle.std.specs.Ordering.{int_cmp, is_lt}
@@ -17,6 +17,7 @@ use Rattle.sqlite_rules.proofs.ProbeLemmas.{has_mapped}
 use Rattle.sqlite_value.proofs.OrderLemmas.{value_cmp-Int}
 use Rattle.sql_maps.specs.Rows.{IsApart}
 use Rattle.vault_verdict.specs.Apart.{TellsApart}
+use Rattle.vault_rules.specs.Rising.{are_rising}
 
 -- what is below isn't tied, and what isn't below and isn't above is
 never_tied : (a b : ℤ) → a <ℤ b → value_cmp (Int a) (Int b) ≢ Equal
@@ -96,3 +97,38 @@ module _ {R : Type 0} (id : R → ℤ) where
           (ap₂ value_cmp (ap rowid this ∙ is _) (ap rowid next ∙ is _)
           ∙ tied _ _ (sym (told.2 m)) (sorted k m (omega arith) told.1)));
     }
+
+-- what is told of numbers that came one after the other is what is answered of each row and the next
+rising_answer : {R : Type 0} (id : R → ℤ) (raws : List R) → IsRisingAnswer id raws (are_rising (map id raws))
+rising_answer id [] = λ k d low. absurd (omega (arith, low))
+rising_answer id (m ∷ []) = λ k d low. absurd (omega (arith, low))
+rising_answer {R} id (m ∷ n ∷ raws) =
+    go (int_lt (id m) (id n)) refl (are_rising (map id (n ∷ raws))) (rising_answer id (n ∷ raws))
+  where
+    go : (b : Bool) → int_lt (id m) (id n) ≡ b → (rest : Bool) → IsRisingAnswer id (n ∷ raws) rest
+        → IsRisingAnswer id (m ∷ n ∷ raws) (b && rest)
+    go true is true told = step
+      where
+        step : (k : ℕ) (d : R) → k + 1 < length (m ∷ n ∷ raws)
+            → true ≡ int_lt (id (get_or (m ∷ n ∷ raws) k d)) (id (get_or (m ∷ n ∷ raws) (k + 1) d))
+        step zero d low = sym is
+        step (suc k) d low =
+            let next : suc (k + 1) ≡ suc k + 1 = omega arith in
+            subst (λ j. true ≡ int_lt (id (get_or (n ∷ raws) k d)) (id (get_or (m ∷ n ∷ raws) j d))) next
+            (told k d (omega (arith, low)))
+    go true is false told = (
+      suc told.0,
+      omega (arith, told.1),
+      λ d.
+          let next : suc (told.0 + 1) ≡ suc told.0 + 1 = omega arith in
+          subst (λ j. false ≡ int_lt (id (get_or (n ∷ raws) told.0 d)) (id (get_or (m ∷ n ∷ raws) j d))) next
+          (told.2 d),
+    )
+    go false is rest told = (zero, omega arith, λ d. sym is)
+
+-- so it tells that the rows are apart
+pub rising_apart : {R : Type 0} (id : R → ℤ) (values : R → Row) → ((m : R) → rowid (values m) ≡ Int (id m))
+    → (raws : List R) (b : Bool) → b ≡ are_rising (map id raws) → TellsApart values id raws b
+rising_apart id values is raws b same =
+    subst (TellsApart values id raws) (sym same)
+    (tells_apart id values is raws (are_rising (map id raws)) (rising_answer id raws))

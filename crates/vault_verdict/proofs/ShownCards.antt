@@ -22,7 +22,7 @@ use Rattle.vault_rules.specs.Showing.{ShowsCard, ShowsEntry}
 use Rattle.vault_rules.specs.VaultOf.{HasKeysApart, entry_key}
 use Rattle.vault_rules.specs.declared.rows.RawCard.{RawCard}
 use Rattle.vault_rules.specs.declared.rows.RawEntry.{RawEntry}
-use Rattle.vault_rules.specs.declared.rows.Rows.{Rows}
+use Rattle.vault_rules.specs.AllRows.{Rows}
 use Rattle.vault_schema.proofs.Version2.Codes.{id_same}
 use Rattle.vault_schema.specs.Version2.Joined.{AreJoined, joined, nothing_owed, number_of}
 use Rattle.vault_schema.specs.Version2.Joined as schema
@@ -65,17 +65,17 @@ module _ (db : Trees) {cards : ℤ → Option Card} {pointing : Bytes × Bytes �
     (rows : Rows) (raws : AreCards db rows) (apart : HasKeysApart rows) where
   -- the row of a card
   card_at : (id : ℤ) (c : Card) → cards id ≡ Some c
-      → (x : RawCard) × (card_of rows.cards.items id ≡ Some x) × IsCardRow x id c
+      → (x : RawCard) × (card_of rows.cards id ≡ Some x) × IsCardRow x id c
   card_at id c is =
-      let it = in_items card_row rows.cards.items raws.cards _ (card_rows.complete id c is) in
+      let it = in_items card_row rows.cards raws.cards _ (card_rows.complete id c is) in
       let told = card_told it.0 id c (sym it.2) in
-      (it.0, sym (ap (card_of rows.cards.items) told.at) ∙ card_held rows apart it.0 it.1, told)
+      (it.0, sym (ap (card_of rows.cards) told.at) ∙ card_held rows apart it.0 it.1, told)
 
   -- the card of a row
-  card_of_row : (x : RawCard) → Has rows.cards.items x
+  card_of_row : (x : RawCard) → Has rows.cards x
       → (c : Card) × (cards x.id ≡ Some c) × IsCardRow x x.id c
   card_of_row x h =
-      let it = card_rows.sound (card_row x) (in_tree card_row rows.cards.items raws.cards x h) in
+      let it = card_rows.sound (card_row x) (in_tree card_row rows.cards raws.cards x h) in
       let told = card_told x it.0 it.1 it.2 in (
         it.1,
         ap cards told.at ∙ it.3,
@@ -83,7 +83,7 @@ module _ (db : Trees) {cards : ℤ → Option Card} {pointing : Bytes × Bytes �
       )
 
   -- the entry of a row, as it points
-  pub pointing_of : (e : RawEntry) → Has rows.entries.items e
+  pub pointing_of : (e : RawEntry) → Has rows.entries e
       → (x : Pointing) × (pointing (entry_key e) ≡ Some x) × (e.card ≡ x.card)
       × (drop 1 (raw.entry_values e) ≡ pointing_row (entry_key e) x)
   pointing_of e h =
@@ -91,8 +91,8 @@ module _ (db : Trees) {cards : ℤ → Option Card} {pointing : Bytes × Bytes �
       (it.0, it.2, card_in e (entry_key e) it.0 it.1, it.1)
 
   -- the card of an entry's row is that of its number
-  owned : (e : RawEntry) → Has rows.entries.items e → (id : ℤ) → e.card ≡ Some id
-      → (c : Card) × (x : RawCard) × (cards id ≡ Some c) × (card_of rows.cards.items id ≡ Some x)
+  owned : (e : RawEntry) → Has rows.entries e → (id : ℤ) → e.card ≡ Some id
+      → (c : Card) × (x : RawCard) × (cards id ≡ Some c) × (card_of rows.cards id ≡ Some x)
       × IsCardRow x id c × (c.merchant ≡ string_bytes e.merchant)
   owned e h id is =
       let p = pointing_of e h in
@@ -101,8 +101,8 @@ module _ (db : Trees) {cards : ℤ → Option Card} {pointing : Bytes × Bytes �
       let x = card_at id own.0 own.1 in
       (own.0, x.0, own.1, x.1, x.2, own.2)
 
-  number_seen : (e : RawEntry) → Has rows.entries.items e → (card : Option ℤ) → e.card ≡ card
-      → option_map (λ (c : RawCard). string_bytes c.number) (option_and_then (card_of rows.cards.items) card)
+  number_seen : (e : RawEntry) → Has rows.entries e → (card : Option ℤ) → e.card ≡ card
+      → option_map (λ (c : RawCard). string_bytes c.number) (option_and_then (card_of rows.cards) card)
       ≡ option_and_then (number_of cards) card
   number_seen e h None is = refl
   number_seen e h (Some id) is =
@@ -110,8 +110,8 @@ module _ (db : Trees) {cards : ℤ → Option Card} {pointing : Bytes × Bytes �
       ap (option_map (λ (c : RawCard). string_bytes c.number)) it.3 ∙ ap (λ n. Some n) it.4.number
       ∙ sym (ap (option_map (λ (c : Card). c.number)) it.2)
 
-  pub entry_shown : (e : RawEntry) (h : Has rows.entries.items e)
-      → ShowsEntry rows.cards.items e (joined cards (pointing_of e h).0)
+  pub entry_shown : (e : RawEntry) (h : Has rows.entries e)
+      → ShowsEntry rows.cards e (joined cards (pointing_of e h).0)
   entry_shown e h =
       let it = pointing_of e h in
       let listed = it.3 in
@@ -128,16 +128,16 @@ module _ (db : Trees) {cards : ℤ → Option Card} {pointing : Bytes × Bytes �
 
   -- an entry of the vault has its row
   pub entry_pointing : (key : Bytes × Bytes) (entry : Entry) → entries key ≡ Some entry
-      → (e : RawEntry) × Has rows.entries.items e × (entry_key e ≡ key)
+      → (e : RawEntry) × Has rows.entries e × (entry_key e ≡ key)
   entry_pointing key entry is =
       let x = mapped_is (joined cards) (pointing key) entry (sym (all.same key) ∙ is) in
       (row_at tables.entries _ raws.entries entry_rows key x.0 x.1).0
 
-  pub cards_shown : (x : RawCard) → Has rows.cards.items x → ShowsCard rows.entries.items x
+  pub cards_shown : (x : RawCard) → Has rows.cards x → ShowsCard rows.entries x
   cards_shown x h =
       let c = card_of_row x h in
       let used = all.used x.id c.0 c.1 in
-      let many = one_number used.1 (pointing_are rows.entries.items x.id apart.entries
+      let many = one_number used.1 (pointing_are rows.entries x.id apart.entries
       (λ key. schema.card_of pointing key ≡ Some x.id)
       (λ e there is.
       let p = pointing_of e there in
@@ -148,5 +148,5 @@ module _ (db : Trees) {cards : ℤ → Option Card} {pointing : Bytes × Bytes �
       (row.0.0, row.0.1, card_in row.0.0 key p.0 row.1 ∙ p.2, sym row.0.2))) in
       let uses = used.2 in
       let some = used.3 in
-      let same : c.0.uses ≡ used_by rows.entries.items x.id = omega (arith, uses, many) in
+      let same : c.0.uses ≡ used_by rows.entries x.id = omega (arith, uses, many) in
       record { uses = c.2.uses ∙ ap pos same; used = omega (arith, same, some) }

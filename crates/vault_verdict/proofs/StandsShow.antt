@@ -41,7 +41,7 @@ use Rattle.vault_rules.specs.Showing.{Shows, ShowsCard}
 use Rattle.vault_rules.specs.VaultOf.{HasKeysApart, entry_key}
 use Rattle.vault_rules.specs.declared.rows.RawCard.{RawCard}
 use Rattle.vault_rules.specs.declared.rows.RawVersion.{RawVersion}
-use Rattle.vault_rules.specs.declared.rows.Rows.{Rows}
+use Rattle.vault_rules.specs.AllRows.{Rows}
 
 abbrev natural_of : Version → ℕ
 natural_of One = 1
@@ -151,7 +151,7 @@ module _ (db : Database) (V : Vault) (olders : List OldEntry) (rows : Rows) wher
   record AreShown : Type 0 where
     pairs : ArePairs V rows
     there : AreThere V rows
-    cards : (c : RawCard) → Has rows.cards.items c → ShowsCard rows.entries.items c
+    cards : (c : RawCard) → Has rows.cards c → ShowsCard rows.entries c
 
   joined_shown : {v : Version} (j : StandJoined v db.trees (lookups_of V)) → AreCards db.trees rows
       → AreRowsById card_columns (db.trees 12) j.cards → AreRowsOf pointing_row (db.trees 14) j.pointing
@@ -222,7 +222,7 @@ module _ (v : Version) (db : Database) (ours : db.schema ≡ schema_of v) (sound
 
   pub stands_shows : Shows rows V
   stands_shows =
-      let version = version_of (natural_of v) db.trees claims.version rows.versions.items raws.versions in
+      let version = version_of (natural_of v) db.trees claims.version rows.versions raws.versions in
       let shared : AreShared v db.trees V rows = record {
         merchants = claims.merchants;
         counts = claims.counts;

@@ -42,7 +42,7 @@ use Rattle.vault_rules.specs.declared.rows.RawCount.{RawCount}
 use Rattle.vault_rules.specs.declared.rows.RawEntry.{RawEntry}
 use Rattle.vault_rules.specs.declared.rows.RawMerchant.{RawMerchant}
 use Rattle.vault_rules.specs.declared.rows.RawRight.{RawRight}
-use Rattle.vault_rules.specs.declared.rows.Rows.{Rows}
+use Rattle.vault_rules.specs.AllRows.{Rows}
 use Rattle.vault_schema.specs.Stands.{count_at, lives_in, lookups_of, unless_zero}
 use Rattle.vault_schema.specs.Version1.Rows as one
 use Rattle.vault_schema.specs.Version1.Rows.{number_or_null}
@@ -86,19 +86,19 @@ module _ (rows : Rows) (apart : HasKeysApart rows) (keep : (r : ℕ) → keeps r
   shows = rows_show rows apart keep
 
   abbrev HasRow : Bytes × ℕ → Type 0
-  HasRow k = (c : RawCount) × Has rows.counts.items c × ((string_bytes c.merchant, natural c.kind) ≡ k)
+  HasRow k = (c : RawCount) × Has rows.counts c × ((string_bytes c.merchant, natural c.kind) ≡ k)
 
   counts_there : (k : Bytes × ℕ) (x : ℕ) → unless_zero (count_at (vault_of rows) k.0 k.1) ≡ Some x → HasRow k
   counts_there k x h =
       let it = some_unless (count_at (vault_of rows) k.0 k.1) x h in
-      count_cases rows.counts.items k.0 (pos k.1) (λ z. z ≡ pos x → HasRow k)
+      count_cases rows.counts k.0 (pos k.1) (λ z. z ≡ pos x → HasRow k)
       (λ e. let none : zero ≡ x = pos_same e in absurd (omega (arith, none, it.0, it.1)))
       (λ c row e. (c, row.there, λ i. (row.merchant_is i, natural (row.kind_is i))))
       (counts_are rows apart keep k.0 k.1 ∙ ap pos it.0)
 
   -- ---- what older versions can't hold has its default
 
-  pub are_six : ((m : RawMerchant) → Has rows.merchants.items m → Int m.lead ≡ Int (pos 6)) → AreSix h
+  pub are_six : ((m : RawMerchant) → Has rows.merchants m → Int m.lead ≡ Int (pos 6)) → AreSix h
   are_six six name x is =
       let merchant = mapped_is lives_in (merchant_at (vault_of rows) name) x is in
       let row = shows.merchants_there name merchant.0 merchant.1 in
@@ -108,7 +108,7 @@ module _ (rows : Rows) (apart : HasKeysApart rows) (keep : (r : ℕ) → keeps r
       let lead = six_told it.0.lead (digits_of it.0.lead row.0.lead it.2.lead (six row.0 row.1)) in
       sym (ap (λ (y : _). y.lead) merchant.2) ∙ sym (ap (λ (y : Merchant). y.lead) same) ∙ lead
 
-  pub are_endless : ((r : RawRight) → Has rows.rights.items r → raw.int_value r.ends ≡ Null) → AreEndless h
+  pub are_endless : ((r : RawRight) → Has rows.rights r → raw.int_value r.ends ≡ Null) → AreEndless h
   are_endless endless key g is =
       let row = right_row rows key.0 key.1.0 key.1.1 g is in
       let it = shows.rights row.0 row.1 in
@@ -119,8 +119,8 @@ module _ (rows : Rows) (apart : HasKeysApart rows) (keep : (r : ℕ) → keeps r
     -- ---- the tables that each version has
 
     module _ (v : Version) (ours : db.schema ≡ schema_of v) where
-      pub counts_stand : IsPermutation (db.trees 3) (map raw.count_values rows.counts.items)
-          → IsApart (map raw.count_values rows.counts.items) → AreRowsOf one.count_row (db.trees 3) h.counts
+      pub counts_stand : IsPermutation (db.trees 3) (map raw.count_values rows.counts)
+          → IsApart (map raw.count_values rows.counts) → AreRowsOf one.count_row (db.trees 3) h.counts
       counts_stand are up =
           stand_for (tables.counts_in (behind v) (indexes_behind v) (counts_free v)) db (ours ∙ schema_is v)
           sound _ are up
@@ -131,8 +131,8 @@ module _ (rows : Rows) (apart : HasKeysApart rows) (keep : (r : ℕ) → keeps r
           (_, _, (λ i. Text name ∷ Int (it.kind.is i) ∷ Int (it.total.is i) ∷ []), at))
           counts_there
 
-      pub records_stand : IsPermutation (db.trees 8) (map raw.record_values rows.records.items)
-          → IsApart (map raw.record_values rows.records.items)
+      pub records_stand : IsPermutation (db.trees 8) (map raw.record_values rows.records)
+          → IsApart (map raw.record_values rows.records)
           → AreRowsOf one.record_row (db.trees 8) h.records
       records_stand are up =
           stand_for (tables.records_in (behind v) (indexes_behind v) (records_free v)) db (ours ∙ schema_is v)
@@ -144,8 +144,8 @@ module _ (rows : Rows) (apart : HasKeysApart rows) (keep : (r : ℕ) → keeps r
           (λ k x h. let it = record_row rows k.0 k.1 x h in (it.0, it.1, it.2))
 
       pub old_merchants_stand : IsPermutation (db.trees 1)
-          (map tables.old_merchant_values rows.merchants.items)
-          → IsApart (map tables.old_merchant_values rows.merchants.items)
+          (map tables.old_merchant_values rows.merchants)
+          → IsApart (map tables.old_merchant_values rows.merchants)
           → AreRowsOf one.merchant_row (db.trees 1) (λ m. option_map three.older (h.merchants m))
       old_merchants_stand are up =
           stand_for (tables.old_merchants_in (behind v) (indexes_behind v) (merchants_free v)) db
@@ -166,8 +166,8 @@ module _ (rows : Rows) (apart : HasKeysApart rows) (keep : (r : ℕ) → keeps r
           let it = mapped_is lives_in (merchant_at (vault_of rows) name) lives.0 lives.1 in
           shows.merchants_there name it.0 it.1)
 
-      pub old_rights_stand : IsPermutation (db.trees 10) (map tables.old_right_values rows.rights.items)
-          → IsApart (map tables.old_right_values rows.rights.items)
+      pub old_rights_stand : IsPermutation (db.trees 10) (map tables.old_right_values rows.rights)
+          → IsApart (map tables.old_right_values rows.rights)
           → AreRowsOf one.right_row (db.trees 10) (λ key. option_map four.older (h.rights key))
       old_rights_stand are up =
           stand_for (tables.old_rights_in (behind v) (indexes_behind v) (rights_free v)) db (ours
@@ -191,8 +191,8 @@ module _ (rows : Rows) (apart : HasKeysApart rows) (keep : (r : ℕ) → keeps r
     pub merchants_stand : (others : List SqlTable) (indexes : List Index)
         → guards_of indexes (table_of v3.merchants) (columns_to 1) ≡ []
         → db.schema ≡ grown third_schema others indexes
-        → IsPermutation (db.trees 17) (map raw.merchant_values rows.merchants.items)
-        → IsApart (map raw.merchant_values rows.merchants.items)
+        → IsPermutation (db.trees 17) (map raw.merchant_values rows.merchants)
+        → IsApart (map raw.merchant_values rows.merchants)
         → AreRowsOf three.merchant_row (db.trees 17) h.merchants
     merchants_stand others indexes free ours are up =
         stand_for (tables.merchants_in others indexes free) db ours sound _ are up
@@ -206,8 +206,8 @@ module _ (rows : Rows) (apart : HasKeysApart rows) (keep : (r : ℕ) → keeps r
         let it = mapped_is lives_in (merchant_at (vault_of rows) name) x is in
         shows.merchants_there name it.0 it.1)
 
-    pub rights_stand : db.schema ≡ v4 → IsPermutation (db.trees 19) (map raw.right_values rows.rights.items)
-        → IsApart (map raw.right_values rows.rights.items) → AreRowsOf four.right_row (db.trees 19) h.rights
+    pub rights_stand : db.schema ≡ v4 → IsPermutation (db.trees 19) (map raw.right_values rows.rights)
+        → IsApart (map raw.right_values rows.rights) → AreRowsOf four.right_row (db.trees 19) h.rights
     rights_stand ours are up =
         stand_for tables.rights db ours sound _ are up
         (λ r there.
@@ -227,28 +227,28 @@ module _ (rows : Rows) (apart : HasKeysApart rows) (keep : (r : ℕ) → keeps r
         (free : guards_of indexes (table_of v2.entries) (columns_to 2) ≡ [])
         (guarded : IsGuarded (grown second_schema others indexes).indexes (table_of v2.cards) (2 ∷ 3 ∷ []))
         (ours : db.schema ≡ grown second_schema others indexes) (are : AreCards db.trees rows)
-        (cards_up : IsApart (map raw.card_row rows.cards.items))
-        (entries_up : IsApart (map raw.entry_values rows.entries.items)) where
-      pub cards_stand : AreRowsById card_columns (db.trees 12) (cards_in rows.cards.items)
+        (cards_up : IsApart (map raw.card_row rows.cards))
+        (entries_up : IsApart (map raw.entry_values rows.entries)) where
+      pub cards_stand : AreRowsById card_columns (db.trees 12) (cards_in rows.cards)
       cards_stand = cards_by_id db _ are.cards cards_up (card_held rows apart)
           (λ c there. let it = (shows.cards c there).uses in it ∙ ap (λ z. pos (natural z)) (sym it))
 
-      pub pointing_stand : AreRowsOf pointing_row (db.trees 14) (pointing_in rows.entries.items)
+      pub pointing_stand : AreRowsOf pointing_row (db.trees 14) (pointing_in rows.entries)
       pointing_stand = stand_for (tables.entries_in others indexes free) db ours sound _ are.entries
           entries_up
           (λ e there.
           let it = (shows.entries e there).2 in (
             entry_key e,
             pointing_value e,
-            entry_listed rows.cards.items e _ it,
-            ap (option_map pointing_value) (entry_first rows.entries.items apart.entries e there),
+            entry_listed rows.cards e _ it,
+            ap (option_map pointing_value) (entry_first rows.entries apart.entries e there),
           ))
           (λ k x is.
           let it = mapped_is pointing_value _ x is in
-          let found = entry_found rows.entries.items k.0 k.1 it.0 it.1 in
+          let found = entry_found rows.entries k.0 k.1 it.0 it.1 in
           (it.0, found.there, λ i. (found.merchant_is i, found.token_is i)))
 
-      pub joined_stand : AreJoined nothing_owed (cards_in rows.cards.items) (pointing_in rows.entries.items)
+      pub joined_stand : AreJoined nothing_owed (cards_in rows.cards) (pointing_in rows.entries)
           h.entries
       joined_stand = rows_joined rows apart shows (numbers_apart db _ are.cards cards_up
           (grown second_schema others indexes) ours sound refl guarded)

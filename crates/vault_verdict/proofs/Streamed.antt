@@ -1,11 +1,10 @@
 -- What a reading row by row comes to.
 use Rattle.std.proofs.Common.{◌≡◌, ◌≢◌, ◌↔◌, ◌∙◌, ◌++◌, ◌∷◌, ℕ, List, [], map, sym, ap, subst, false}
-use Rattle.std.proofs.Common.{Result, Ok, Err, IfErr, IfOk, IsErrAnd}
+use Rattle.std.proofs.Common.{Result, Ok, Err, IfErr, IfOk, IsErrAnd, OnOk}
 use Rattle.std.specs.Global.{Vec}
 use Rattle.sqlite.proofs.Callers.{IsPlain, unchanged_then}
 use Rattle.sqlite.proofs.StateLemmas.{survives_then}
 use Rattle.sqlite.specs.Clock.{timed}
-use Rattle.sqlite.specs.Effect.{Database}
 use Rattle.sqlite.specs.Held.{Held, state}
 use Rattle.sqlite.specs.Listing.{IsSourceOf, reads_listing, understood}
 use Rattle.sqlite.specs.Order.{Row}
@@ -18,9 +17,10 @@ use Rattle.sqlite.specs.declared.error.Error.TheVariants.{SqliteFailure}
 use Rattle.sqlite.specs.declared.error.ErrorCode.TheVariants.{OutOfMemory}
 use Rattle.sqlite_trees.specs.declared.store.Store.{Ghosts}
 use Rattle.sql_maps.proofs.Calls.{reads, was_sound}
+use Rattle.sqlite.specs.Effect.{Database, IsDatabase}
 use Rattle.sql_maps.specs.States.{Reads}
 use Rattle.vault_verdict.specs.Raw.{IsStrange}
-use Rattle.vault_verdict.specs.Reading.{IsUnread, ReadsRows}
+use Rattle.vault_verdict.specs.Reading.{IsUnread, ReadsRows, TakesRows}
 use Rattle.vault_verdict.specs.declared.fault.ReadFault.{ReadFault}
 use Rattle.vault_verdict.specs.declared.fault.ReadFault.TheVariants.{Memory, Store}
 
@@ -72,14 +72,14 @@ after g Unread old mid {new} is read clean has unread =
     subst (λ db. Unread db new) same (unread (ap (λ (d : Database). d.schema) same ∙ has))
 
 -- the connection is what the rows lent
-pub settled : {S : Type 0} {g : Ghosts S} {R : Type 0} {s : Schema} {text : List ℕ} {values : R → Row}
-    {result : Result (Vec R) ReadFault} {old now new : Held S} → ReadsRows g text values s result old now
-    → now ≡ new → ReadsRows g text values s result old new
-settled {g = g} {s = s} {text = text} {values = values} {result = result} {old = old} reads same =
-    subst (ReadsRows g text values s result old) same reads
+pub settled : {S : Type 0} {g : Ghosts S} {R K : Type 0} {s : Schema} {text : List ℕ} {values : R → Row}
+    {Has : K → List R → Type 0} {result : Result K ReadFault} {old now new : Held S}
+    → TakesRows g text values s Has result old now → now ≡ new → TakesRows g text values s Has result old new
+settled {g = g} {s = s} {text = text} {values = values} {Has = Has} {result = result} {old = old} takes same =
+    subst (TakesRows g text values s Has result old) same takes
 
-module _ {S : Type 0} (g : Ghosts S) {R : Type 0} (s : Schema) (text : List ℕ) (values : R → Row)
-    (old new : Held S) (plain : IsPlain (understood s text))
+module _ {S : Type 0} (g : Ghosts S) {R K : Type 0} (s : Schema) (text : List ℕ) (values : R → Row)
+    (Has : K → List R → Type 0) (old new : Held S) (plain : IsPlain (understood s text))
     (mode : (state g old).in_transaction ≡ false → (state g new).in_transaction ≡ false)
     (survives : Survives (state g old) (state g new) (CommitsShowing text [] (state g old)))
     (live : IsLive (state g old)) where
@@ -92,35 +92,82 @@ module _ {S : Type 0} (g : Ghosts S) {R : Type 0} (s : Schema) (text : List ℕ)
   plain_in : was.now.schema ≡ s → IsPlain (understood was.now.schema text)
   plain_in known = subst (λ (x : Schema). IsPlain (understood x text)) (sym known) plain
 
-  streamed : (result : Result (Vec R) ReadFault)
+  -- what is said of rows that were shown
+  abbrev IsShown : List R → Type 0
+  IsShown raws = Shown text [] was is (map values raws)
+
+  takes_kept : HasCleanDisk is → was.now.schema ≡ s → (result : Result K ReadFault)
+      → IfOk result (λ k. (raws : List R) × Has k raws × IsShown raws) → OnOk result (IsUnchanged was is)
+  takes_kept clean known (Err e) told = tt
+  takes_kept clean known (Ok k) told =
+      let it : Result (List Row) ReadFault = Ok (map values told.0) in
+      (reads (λ rows. rows) s text [] was is it plain mode survives (λ c h. told.2)).kept clean known
+
+  takes_sound : was.now.schema ≡ s → (result : Result K ReadFault)
+      → IfOk result (λ k. (raws : List R) × Has k raws × IsShown raws) → OnOk result (IsDatabase was.now)
+  takes_sound known (Err e) told = tt
+  takes_sound known (Ok k) told =
+      let it : Result (List Row) ReadFault = Ok (map values told.0) in
+      was_sound (λ rows. rows) s text [] was is it plain known live told.2
+
+  streamed : (result : Result K ReadFault)
       → (HasCleanDisk is → was.now.schema ≡ s
-      → IfOk result (λ raws. Shown text [] was is (map values raws.items)))
+      → IfOk result (λ k. (raws : List R) × Has k raws × IsShown raws))
       → (HasCleanDisk is → was.now.schema ≡ s
       → IfErr result (λ e. e ≡ Store → IsUnread g text values was.now new))
-      → ReadsRows g text values s result old new
-  streamed result told refused = record {
-    reads = reads (λ raws. map values raws.items) s text [] was is result plain mode survives told;
-    told = told;
-    sound =
-        λ clean has. was_sound (λ raws. map values raws.items) s text [] was is result plain has live
-        (told clean has);
-    refused = refused;
-  }
+      → TakesRows g text values s Has result old new
+  streamed result told refused =
+      let none : Result (List Row) ReadFault = Err Store in
+      let it = reads (λ rows. rows) s text [] was is none plain mode survives (λ clean has. tt) in
+      record {
+        reads = record {
+          clean = it.clean;
+          mode = it.mode;
+          limit = it.limit;
+          left = it.left;
+          kept = λ clean has. takes_kept clean has result (told clean has);
+        };
+        told = told;
+        sound = λ clean has. takes_sound has result (told clean has);
+        refused = refused;
+      }
 
   -- it stopped before the end
-  pub stopped : {P : ReadFault → Type 0} (result : Result (Vec R) ReadFault) → IsErrAnd result P
+  pub stopped : {P : ReadFault → Type 0} (result : Result K ReadFault) → IsErrAnd result P
       → ((fault : ReadFault) → P fault → HasCleanDisk is → IsPlain (understood was.now.schema text)
       → fault ≡ Store → IsUnread g text values was.now new)
-      → ReadsRows g text values s result old new
-  stopped (Ok raws) failed why = absurd failed
+      → TakesRows g text values s Has result old new
+  stopped (Ok k) failed why = absurd failed
   stopped (Err fault) failed why =
       streamed (Err fault) (λ clean has. tt) (λ clean has. why fault failed clean (plain_in has))
 
   -- it came to the end
-  pub ended : (raws : Vec R) (at : State)
+  pub ended : (k : K) (raws : List R) → Has k raws → (at : State)
       → (HasCleanDisk is → IsPlain (understood was.now.schema text) → IsUnchanged was at)
-      → (HasCleanDisk is → IsPlain (understood was.now.schema text)
-      → Shown text [] at is (map values raws.items))
-      → ReadsRows g text values s (Ok raws) old new
-  ended raws at same shown = streamed (Ok raws) (λ clean has. let fine = plain_in has in
-      shown_from text was at is _ fine (same clean fine) (shown clean fine)) (λ clean has. tt)
+      → (HasCleanDisk is → IsPlain (understood was.now.schema text) → Shown text [] at is (map values raws))
+      → TakesRows g text values s Has (Ok k) old new
+  ended k raws has at same shown = streamed (Ok k)
+      (λ clean known. let fine = plain_in known in
+      (raws, has, shown_from text was at is _ fine (same clean fine) (shown clean fine)))
+      (λ clean known. tt)
+
+-- rows that were taken into a vector are the vector's
+pub as_vector : {S : Type 0} (g : Ghosts S) {R : Type 0} {s : Schema} {text : List ℕ} {values : R → Row}
+    (start : Vec R) → start.items ≡ [] → (result : Result (Vec R) ReadFault) {old new : Held S}
+    → TakesRows g text values s (λ (now : Vec R) raws. now.items ≡ start.items ++ raws) result old new
+    → ReadsRows g text values s result old new
+as_vector g {text = text} {values = values} start empty (Err fault) {old = old} {new = new} takes = record {
+  reads = takes.reads;
+  told = λ clean has. tt;
+  sound = takes.sound;
+  refused = takes.refused;
+}
+as_vector g {text = text} {values = values} start empty (Ok v) {old = old} {new = new} takes = record {
+  reads = takes.reads;
+  told = λ clean has.
+      let it = takes.told clean has in
+      let same = it.1 ∙ ap (λ l. l ++ it.0) empty in
+      subst (λ l. Shown text [] (state g old) (state g new) (map values l)) (sym same) it.2;
+  sound = takes.sound;
+  refused = takes.refused;
+}

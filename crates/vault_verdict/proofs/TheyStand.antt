@@ -28,7 +28,7 @@ use Rattle.vault_rules.proofs.RowsShow.{rows_show}
 use Rattle.vault_rules.specs.Rules.{keeps}
 use Rattle.vault_rules.specs.VaultOf.{HasKeysApart, vault_of}
 use Rattle.vault_rules.specs.declared.rows.RawVersion.{RawVersion}
-use Rattle.vault_rules.specs.declared.rows.Rows.{Rows}
+use Rattle.vault_rules.specs.AllRows.{Rows}
 
 -- where none is left, there is none
 none_left : (rows : List Row) → any_left rows ≡ 0 → rows ≡ []
@@ -50,7 +50,7 @@ guarded_fourth = record { index = _; only = refl; order = refl; columns = refl }
 
 module _ (db : Database) (sound : IsDatabase db) (olders : List OldEntry) (rows : Rows) (up : AreApart rows)
     (keys : HasKeysApart rows) (keep : (r : ℕ) → keeps rows r ≡ true) (row : RawVersion)
-    (alone : rows.versions.items ≡ row ∷ []) (id : row.id ≡ pos 1) where
+    (alone : rows.versions ≡ row ∷ []) (id : row.id ≡ pos 1) where
   first_stands : db.schema ≡ schema_of One → AreRaws One db.trees olders rows → row.version ≡ pos 1
       → Stand One db.trees (lookups_of (vault_of rows))
   first_stands ours raws is = record {
@@ -87,8 +87,8 @@ module _ (db : Database) (sound : IsDatabase db) (olders : List OldEntry) (rows 
       → rows.replaced ≡ 0 → Stand Two db.trees (lookups_of (vault_of rows))
   second_stands ours raws is none = record {
     rows = record {
-      cards = cards_in rows.cards.items;
-      pointing = pointing_in rows.entries.items;
+      cards = cards_in rows.cards;
+      pointing = pointing_in rows.entries;
       rows = (
         version_stands Two db ours sound _ raws.versions row alone id 2 is,
         (
@@ -134,8 +134,8 @@ module _ (db : Database) (sound : IsDatabase db) (olders : List OldEntry) (rows 
       let left : any_left (db.trees 5) + any_left (db.trees 1) ≡ 0 = sym raws.replaced ∙ none in
       record {
         rows = record {
-          cards = cards_in rows.cards.items;
-          pointing = pointing_in rows.entries.items;
+          cards = cards_in rows.cards;
+          pointing = pointing_in rows.entries;
           rows = (
             version_stands Three db ours sound _ raws.versions row alone id 3 is,
             (
@@ -184,8 +184,8 @@ module _ (db : Database) (sound : IsDatabase db) (olders : List OldEntry) (rows 
       sym raws.replaced ∙ none in
       record {
         rows = record {
-          cards = cards_in rows.cards.items;
-          pointing = pointing_in rows.entries.items;
+          cards = cards_in rows.cards;
+          pointing = pointing_in rows.entries;
           rows = (
             version_stands Four db ours sound _ raws.versions row alone id 4 is,
             (
@@ -229,7 +229,7 @@ module _ (db : Database) (sound : IsDatabase db) (olders : List OldEntry) (rows 
 -- so the database stands for the vault
 pub they_stand : (v : Version) (db : Database) → db.schema ≡ schema_of v → IsDatabase db
     → (olders : List OldEntry) (rows : Rows) → AreRaws v db.trees olders rows → AreApart rows
-    → (keep : (r : ℕ) → keeps rows r ≡ true) → (row : RawVersion) → rows.versions.items ≡ row ∷ []
+    → (keep : (r : ℕ) → keeps rows r ≡ true) → (row : RawVersion) → rows.versions ≡ row ∷ []
     → row.id ≡ pos 1 → row.version ≡ number_of v → Stand v db.trees (lookups_of (vault_of rows))
 they_stand One db ours sound olders rows raws up keep row alone id is =
     let keys = apart_keys One db ours sound olders rows raws up in

@@ -6,7 +6,7 @@ use Rattle.sqlite.specs.Order.{Row}
 use Rattle.sqlite.specs.Tree.{Trees}
 use Rattle.vault_verdict.specs.Raw.{merchant_values, count_values, card_row, entry_values, record_values}
 use Rattle.vault_verdict.specs.Raw.{right_values}
-use Rattle.vault_rules.specs.declared.rows.Rows.{Rows}
+use Rattle.vault_rules.specs.AllRows.{Rows}
 use Rattle.sql_maps.specs.Rows.{IsApart}
 
 -- That no rowid comes twice is told: with true it is so, and of rows in the order of their rowids only with
@@ -18,12 +18,12 @@ pub record TellsApart {R : Type 0} (values : R → Row) (id : R → ℤ) (rows :
 
 -- in no table a rowid comes twice
 pub record AreApart (rows : Rows) : Type 0 where
-  pub merchants : IsApart (map merchant_values rows.merchants.items)
-  pub counts : IsApart (map count_values rows.counts.items)
-  pub cards : IsApart (map card_row rows.cards.items)
-  pub entries : IsApart (map entry_values rows.entries.items)
-  pub records : IsApart (map record_values rows.records.items)
-  pub rights : IsApart (map right_values rows.rights.items)
+  pub merchants : IsApart (map merchant_values rows.merchants)
+  pub counts : IsApart (map count_values rows.counts)
+  pub cards : IsApart (map card_row rows.cards)
+  pub entries : IsApart (map entry_values rows.entries)
+  pub records : IsApart (map record_values rows.records)
+  pub rights : IsApart (map right_values rows.rights)
 
 -- in some table of the newest schema a rowid comes twice
 abbrev pub SharesRowid : Trees → Type 0
@@ -33,9 +33,9 @@ SharesRowid db =
 
 -- the rows of each table ascend by their rowids
 pub record AreByRowid (rows : Rows) : Type 0 where
-  pub merchants : IsSortedByKey (λ m. m.rowid) int_cmp rows.merchants.items
-  pub counts : IsSortedByKey (λ c. c.rowid) int_cmp rows.counts.items
-  pub cards : IsSortedByKey (λ c. c.id) int_cmp rows.cards.items
-  pub entries : IsSortedByKey (λ e. e.rowid) int_cmp rows.entries.items
-  pub records : IsSortedByKey (λ r. r.rowid) int_cmp rows.records.items
-  pub rights : IsSortedByKey (λ r. r.rowid) int_cmp rows.rights.items
+  pub merchants : IsSortedByKey (λ m. m.rowid) int_cmp rows.merchants
+  pub counts : IsSortedByKey (λ c. c.rowid) int_cmp rows.counts
+  pub cards : IsSortedByKey (λ c. c.id) int_cmp rows.cards
+  pub entries : IsSortedByKey (λ e. e.rowid) int_cmp rows.entries
+  pub records : IsSortedByKey (λ r. r.rowid) int_cmp rows.records
+  pub rights : IsSortedByKey (λ r. r.rowid) int_cmp rows.rights

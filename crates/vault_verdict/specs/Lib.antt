@@ -1,5 +1,6 @@
 pub mod Apart
 pub mod Faults
+pub mod Judging
 pub mod Made
 pub mod Names
 pub mod Opened
@@ -7,4 +8,5 @@ pub mod Raw
 pub mod ReadAs
 pub mod Reading
 pub mod Sizes
+pub mod Taken
 pub mod Versions

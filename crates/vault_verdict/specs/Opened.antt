@@ -19,7 +19,7 @@ use Rattle.vault_verdict.specs.declared.fault.OpenFault.TheVariants.{WrongSchema
 use Rattle.vault_verdict.specs.declared.sizes.Sizes.{Sizes}
 use Rattle.vault_rules.specs.Rules as rules
 use Rattle.vault_rules.specs.declared.rows.RawVersion.{RawVersion}
-use Rattle.vault_rules.specs.declared.rows.Rows.{Rows}
+use Rattle.vault_rules.specs.AllRows.{Rows}
 use Rattle.vault_schema.specs.Versioned.{HasVersion}
 use Rattle.vault_schema.specs.Holds.{Holds, LeavesEither, LeavesFirst}
 use Rattle.vault_schema.specs.Making.{IsReady}
@@ -37,12 +37,12 @@ AreVersions db versions = IsPermutation (map (shown_by version_columns) (db 0)) 
 -- the rows of all tables of a version, read as those of the newest one, each in some order; of the tables
 -- that were replaced, how many still have rows
 pub record AreRaws (v : Version) (db : Trees) (olders : List OldEntry) (rows : Rows) : Type 0 where
-  pub versions : AreVersions db rows.versions.items
-  pub merchants : IsPermutation (merchants_in v db) (map merchant_values rows.merchants.items)
-  pub counts : IsPermutation (db 3) (map count_values rows.counts.items)
+  pub versions : AreVersions db rows.versions
+  pub merchants : IsPermutation (merchants_in v db) (map merchant_values rows.merchants)
+  pub counts : IsPermutation (db 3) (map count_values rows.counts)
   pub entries : AreEntries v db olders rows
-  pub records : IsPermutation (db 8) (map record_values rows.records.items)
-  pub rights : IsPermutation (rights_in v db) (map right_values rows.rights.items)
+  pub records : IsPermutation (db 8) (map record_values rows.records)
+  pub rights : IsPermutation (rights_in v db) (map right_values rows.rights)
   pub replaced : rows.replaced ≡ replaced_in v db
 
 -- the rows of `entries`, the table of schema 1, as they stand; a later schema has none
@@ -58,7 +58,7 @@ pub record IsBrokenIn (v : Version) (db : Database) (rule : ℕ) : Type 0 where
   pub rows : Rows
   pub is : IsDatabase db
   pub are : AreRaws v db.trees olders rows
-  pub version : other_than (number_of v) rows.versions.items ≡ None
+  pub version : other_than (number_of v) rows.versions ≡ None
   pub least : rules.IsLeastBroken rows rule
 
 -- so in the newest version

@@ -7,7 +7,7 @@ use Rattle.sqlite.specs.Order.{Row}
 use Rattle.sqlite.specs.Tree.{Trees}
 use Rattle.sqlite.specs.declared.types.Value.TheVariants.{Null, Int}
 use Rattle.sqlite_rules.specs.Lists.{Has}
-use Rattle.vault_rules.specs.declared.rows.Rows.{Rows}
+use Rattle.vault_rules.specs.AllRows.{Rows}
 use Rattle.vault_schema.specs.Versions.{schema_of}
 use Rattle.vault_schema.specs.declared.version.Version.{Version}
 use Rattle.vault_schema.specs.declared.version.Version.TheVariants.{One, Two, Three, Four}
@@ -53,14 +53,14 @@ replaced_in v db = left_in v (any_left (db 5)) (any_left (db 1)) (any_left (db 1
 
 -- the rows of `cards2` and `entries2`
 pub record AreCards (db : Trees) (rows : Rows) : Type 0 where
-  pub cards : IsPermutation (db 12) (map card_row rows.cards.items)
-  pub entries : IsPermutation (db 14) (map entry_values rows.entries.items)
+  pub cards : IsPermutation (db 12) (map card_row rows.cards)
+  pub entries : IsPermutation (db 14) (map entry_values rows.entries)
 
 -- the rows of `entries`, the table of schema 1, and what they are with cards
 pub record AreOlders (db : Trees) (olders : List OldEntry) (rows : Rows) : Type 0 where
   pub stand : IsPermutation (db 5) (map old_entry_values olders)
-  pub entries : map as_entry olders ≡ map entry_values rows.entries.items
-  pub cards : filter_map as_card olders ≡ map card_values rows.cards.items
+  pub entries : map as_entry olders ≡ map entry_values rows.entries
+  pub cards : filter_map as_card olders ≡ map card_values rows.cards
 
 -- the entries and their cards: those of schema 1 have a card each of their own
 abbrev pub AreEntries : Version → Trees → List OldEntry → Rows → Type 0

@@ -25,12 +25,20 @@ use Rattle.vault_verdict.specs.Raw.{entry_values, id_values, old_entry_values, r
 use Rattle.vault_verdict.specs.Raw.{version_values}
 use Rattle.vault_verdict.specs.ReadAs.{AreFull, AreLonger, IsFullIn, any_left, merchants_in, replaced_in}
 use Rattle.vault_verdict.specs.ReadAs.{rights_in}
-use Rattle.vault_verdict.specs.declared.read.WithCards.{WithCards}
+use Rattle.vault_verdict.specs.Taken.{EntriesTaken}
+use Rattle.vault_verdict.specs.declared.behind.Behind.{Behind}
+use Rattle.vault_verdict.specs.declared.first.First.{First}
+use Rattle.vault_verdict.specs.declared.read.CardRows.{CardRows}
 use Rattle.vault_verdict.specs.declared.fault.ReadFault.{ReadFault}
 use Rattle.vault_verdict.specs.declared.fault.ReadFault.TheVariants.{Store}
 use Rattle.vault_rules.specs.declared.rows.RawCard.{RawCard}
+use Rattle.vault_rules.specs.Seen.{HasEntries, HasRecords}
+use Rattle.vault_rules.specs.declared.entries.Entries.{Entries}
+use Rattle.vault_rules.specs.declared.index.Index.{Index}
+use Rattle.vault_rules.specs.declared.records.Records.{Records}
 use Rattle.vault_rules.specs.declared.rows.RawEntry.{RawEntry}
-use Rattle.vault_rules.specs.declared.rows.Rows.{Rows}
+use Rattle.vault_rules.specs.declared.rows.RawRecord.{RawRecord}
+use Rattle.vault_rules.specs.AllRows.{Rows}
 use Rattle.vault_verdict.specs.declared.replaced.OldEntry.{OldEntry}
 use Rattle.vault_schema.specs.declared.v1.TheConstants as v1
 use Rattle.vault_schema.specs.declared.v2.TheConstants as v2
@@ -103,6 +111,19 @@ module _ {S : Type 0} (g : Ghosts S) {R : Type 0} (text : List ℕ) (values : R 
     pub why : Failed text (state g at) (state g new) ⊎ ShowsStrange text values (state g at)
 
   module _ (s : Schema) where
+    -- the rows that a query shows in this schema are taken, each as it comes, and nothing else is done
+    pub record TakesRows {K : Type 0} (Has : K → List R → Type 0) (result : Result K ReadFault)
+        (old new : Held S) : Type 0
+      where
+        pub reads : Reads s result (state g old) (state g new)
+        pub told : HasCleanDisk (state g new) → (state g old).now.schema ≡ s
+            → IfOk result (λ k. (raws : List R) × Has k raws
+            × Shown text [] (state g old) (state g new) (map values raws))
+        pub sound : HasCleanDisk (state g new) → (state g old).now.schema ≡ s
+            → OnOk result (IsDatabase (state g old).now)
+        pub refused : HasCleanDisk (state g new) → (state g old).now.schema ≡ s
+            → IfErr result (λ e. e ≡ Store → IsUnread (state g old).now new)
+
     -- the rows that a query shows in this schema are read, each as it comes, and nothing else is done
     pub record ReadsRows (result : Result (Vec R) ReadFault) (old new : Held S) : Type 0 where
       pub reads : Reads s result (state g old) (state g new)
@@ -120,6 +141,18 @@ module _ {S : Type 0} (g : Ghosts S) {R : Type 0} (text : List ℕ) (values : R 
         pub reads : Reads s result (state g old) (state g new)
         pub told : HasCleanDisk (state g new) → (state g old).now.schema ≡ s
             → IfOk result (λ raws. AreTable Full rows stands id (state g old).now raws.items)
+        pub refused : HasCleanDisk (state g new) → (state g old).now.schema ≡ s
+            → IfErr result (λ e. e ≡ Store → IsUnread (state g old).now new)
+
+    -- a table of this schema is taken by the text, row by row, and nothing else is done
+    pub record TakesTable {K : Type 0} (Has : K → List R → Type 0) (Full : Database → Type 0)
+        (rows : Trees → List Row) (stands : R → Row) (id : R → ℤ) (result : Result K ReadFault)
+        (old new : Held S) : Type 0
+      where
+        pub reads : Reads s result (state g old) (state g new)
+        pub told : HasCleanDisk (state g new) → (state g old).now.schema ≡ s
+            → IfOk result (λ k. (raws : List R) × Has k raws
+            × AreTable Full rows stands id (state g old).now raws)
         pub refused : HasCleanDisk (state g new) → (state g old).now.schema ≡ s
             → IfErr result (λ e. e ≡ Store → IsUnread (state g old).now new)
 
@@ -145,23 +178,53 @@ rights_text Two = v4.READ_OLD_RIGHTS.now
 rights_text Three = v4.READ_OLD_RIGHTS.now
 rights_text Four = v4.READ_RIGHTS.now
 
--- what was read of the entries of schema 1, and what they are with cards
-pub record AreReadOlders (db : Database) (olders : List OldEntry) (cards : List RawCard)
-    (entries : List RawEntry) : Type 0 where
+-- what was read of the entries of schema 1, and the cards of them
+pub record AreOldCards (db : Database) (olders : List OldEntry) (cards : List RawCard) : Type 0 where
   pub read : AreTable AreOldFull (λ t. t 5) old_entry_values (λ o. o.rowid) db olders
-  pub made_entries : map as_entry olders ≡ map entry_values entries
-  pub made_cards : filter_map as_card olders ≡ map card_values cards
+  pub made : filter_map as_card olders ≡ map card_values cards
 
--- what was read of the entries of a later one, and of the cards
-pub record AreReadCards (db : Database) (cards : List RawCard) (entries : List RawEntry) : Type 0 where
-  pub read_cards : AreTable IsAny (λ t. t 12) card_row (λ c. c.id) db cards
-  pub read_entries : AreTable ArePointingFull (λ t. t 14) entry_values (λ e. e.rowid) db entries
+-- the cards of a version, with the entries of schema 1
+abbrev pub AreCardsIn : Version → Database → List OldEntry → List RawCard → Type 0
+AreCardsIn One db olders cards = AreOldCards db olders cards
+AreCardsIn Two db olders cards = AreTable IsAny (λ t. t 12) card_row (λ c. c.id) db cards
+AreCardsIn Three db olders cards = AreTable IsAny (λ t. t 12) card_row (λ c. c.id) db cards
+AreCardsIn Four db olders cards = AreTable IsAny (λ t. t 12) card_row (λ c. c.id) db cards
 
-abbrev pub AreReadEntries : Version → Database → List OldEntry → List RawCard → List RawEntry → Type 0
-AreReadEntries One db olders cards entries = AreReadOlders db olders cards entries
-AreReadEntries Two db olders cards entries = AreReadCards db cards entries
-AreReadEntries Three db olders cards entries = AreReadCards db cards entries
-AreReadEntries Four db olders cards entries = AreReadCards db cards entries
+-- the entries of a version: those of schema 1 are made of the old ones
+abbrev pub AreEntriesIn : Version → Database → List OldEntry → List RawEntry → Type 0
+AreEntriesIn One db olders entries = map as_entry olders ≡ map entry_values entries
+AreEntriesIn Two db olders entries =
+    AreTable ArePointingFull (λ t. t 14) entry_values (λ e. e.rowid) db entries
+AreEntriesIn Three db olders entries =
+    AreTable ArePointingFull (λ t. t 14) entry_values (λ e. e.rowid) db entries
+AreEntriesIn Four db olders entries =
+    AreTable ArePointingFull (λ t. t 14) entry_values (λ e. e.rowid) db entries
+
+-- the rows of a version that entries name
+pub record AreFirst (v : Version) (db : Database) (it : First) : Type 0 where
+  pub merchants : AreTable IsAny (merchants_in v) merchant_values (λ m. m.rowid) db it.merchants.items
+  pub counts : AreTable IsAny (λ t. t 3) count_values (λ c. c.rowid) db it.counts.items
+  pub cards : AreCardsIn v db it.olders.items it.cards.items
+
+-- the entries and the records of a version, of which these were taken
+pub record AreTaken (v : Version) (db : Database) (olders : List OldEntry) (start : Entries) (it : Records)
+    (entries : List RawEntry) (records : List RawRecord) : Type 0 where
+  pub index_is : HasEntries start [] → it.entries.index ≡ start.index
+  pub entries_came : HasEntries start [] → HasEntries it.entries entries
+  pub records_came : HasRecords it records
+  pub entries_are : AreEntriesIn v db olders entries
+  pub records_are : AreTable IsAny (λ t. t 8) record_values (λ r. r.rowid) db records
+
+-- the rows of a version behind the first ones, of which these entries and records were taken
+pub record AreBehind (v : Version) (db : Database) (olders : List OldEntry) (index : Index) (it : Behind)
+    (entries : List RawEntry) (records : List RawRecord) : Type 0 where
+  pub index_is : it.records.entries.index ≡ index
+  pub entries_came : HasEntries it.records.entries entries
+  pub records_came : HasRecords it.records records
+  pub entries_are : AreEntriesIn v db olders entries
+  pub records_are : AreTable IsAny (λ t. t 8) record_values (λ r. r.rowid) db records
+  pub rights : AreTable (AreRightsFull v) (rights_in v) right_values (λ r. r.rowid) db it.rights.items
+  pub replaced : it.replaced ≡ replaced_in v db.trees
 
 module _ {S : Type 0} (g : Ghosts S) where
   -- why the cards or the entries that point at them aren't read, though memory is there
@@ -169,19 +232,28 @@ module _ {S : Type 0} (g : Ghosts S) where
   IsUnreadCards db new =
       IsUnread g v2.READ_CARDS.now card_values db new ⊎ IsUnread g v2.READ_ENTRIES.now entry_values db new
 
-  -- why the entries of a version aren't
+  -- why the entries of a version, or their cards, aren't
   abbrev pub IsUnreadEntries : Version → Database → Held S → Type 0
   IsUnreadEntries One db new = Unit {0}
   IsUnreadEntries Two db new = IsUnreadCards db new
   IsUnreadEntries Three db new = IsUnreadCards db new
   IsUnreadEntries Four db new = IsUnreadCards db new
 
-  -- the entries of a version are read, with their cards, and nothing else is done
-  pub record ReadsEntries (v : Version) (result : Result WithCards ReadFault)
-      (old new : Held S) : Type 0 where
+  -- the cards of a version are read, with the entries of schema 1, and nothing else is done
+  pub record ReadsCards (v : Version) (result : Result CardRows ReadFault) (old new : Held S) : Type 0 where
     pub reads : Reads (schema_of v) result (state g old) (state g new)
     pub told : HasCleanDisk (state g new) → (state g old).now.schema ≡ schema_of v
-        → IfOk result (λ e. AreReadEntries v (state g old).now e.olders.items e.cards.items e.entries.items)
+        → IfOk result (λ it. AreCardsIn v (state g old).now it.olders.items it.cards.items)
+    pub refused : HasCleanDisk (state g new) → (state g old).now.schema ≡ schema_of v
+        → IfErr result (λ e. e ≡ Store → IsUnreadEntries v (state g old).now new)
+
+  -- the entries of a version are taken, one after the other: those of schema 1 without the database
+  pub record TakesEntries (v : Version) (olders : List OldEntry) (start : Entries)
+      (result : Result Entries ReadFault) (old new : Held S) : Type 0 where
+    pub reads : Reads (schema_of v) result (state g old) (state g new) ⊎ (new ≡ old)
+    pub told : HasCleanDisk (state g new) → (state g old).now.schema ≡ schema_of v
+        → IfOk result (λ it. (raws : List RawEntry) × EntriesTaken start it raws
+        × AreEntriesIn v (state g old).now olders raws)
     pub refused : HasCleanDisk (state g new) → (state g old).now.schema ≡ schema_of v
         → IfErr result (λ e. e ≡ Store → IsUnreadEntries v (state g old).now new)
 
@@ -211,11 +283,12 @@ IsUnreadFile g db new =
 -- these are the rows of all tables of a version beside `vault`; of the tables that were replaced, how many
 -- still have rows
 pub record AreAll (v : Version) (db : Database) (olders : List OldEntry) (rows : Rows) : Type 0 where
-  pub merchants : AreTable IsAny (merchants_in v) merchant_values (λ m. m.rowid) db rows.merchants.items
-  pub counts : AreTable IsAny (λ t. t 3) count_values (λ c. c.rowid) db rows.counts.items
-  pub entries : AreReadEntries v db olders rows.cards.items rows.entries.items
-  pub records : AreTable IsAny (λ t. t 8) record_values (λ r. r.rowid) db rows.records.items
-  pub rights : AreTable (AreRightsFull v) (rights_in v) right_values (λ r. r.rowid) db rows.rights.items
+  pub merchants : AreTable IsAny (merchants_in v) merchant_values (λ m. m.rowid) db rows.merchants
+  pub counts : AreTable IsAny (λ t. t 3) count_values (λ c. c.rowid) db rows.counts
+  pub cards : AreCardsIn v db olders rows.cards
+  pub entries : AreEntriesIn v db olders rows.entries
+  pub records : AreTable IsAny (λ t. t 8) record_values (λ r. r.rowid) db rows.records
+  pub rights : AreTable (AreRightsFull v) (rights_in v) right_values (λ r. r.rowid) db rows.rights
   pub replaced : rows.replaced ≡ replaced_in v db.trees
 
 -- Whether or not it failed, a call made no doubt of the disk go away, no transaction and no limit; and where

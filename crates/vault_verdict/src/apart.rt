@@ -1,10 +1,14 @@
 //! No rowid comes twice: rows that were read in the order of their rowids show it themselves.
-ghost use Rattle.std.specs.Prelude.{IsTrue};
+ghost use Rattle.std.specs.Prelude.{◌≡◌, IsTrue, List};
+ghost use Rattle.std.specs.List.{list_all};
 ghost use Rattle.vault_verdict.specs.Apart.{AreApart, AreByRowid, TellsApart};
-ghost use Rattle.vault_verdict.specs.Raw.{merchant_values, count_values, card_row, entry_values};
-ghost use Rattle.vault_verdict.specs.Raw.{record_values, right_values};
+ghost use Rattle.vault_verdict.specs.Raw.{merchant_values, count_values, card_row, right_values};
+ghost use Rattle.vault_verdict.specs.Taken.{HasJudged};
+ghost use Rattle.vault_rules.specs.AllRows.{Rows};
+ghost use Rattle.vault_rules.specs.declared.rows.RawVersion.{RawVersion as VersionRow};
 
-use vault_rules::rows::{RawCard, RawCount, RawEntry, RawMerchant, RawRecord, RawRight, Rows};
+use crate::behind::Behind;
+use vault_rules::rows::{RawCard, RawCount, RawMerchant, RawRight};
 
 /// Whether each rowid of `merchants` is below the next.
 fn merchants(rows: &[RawMerchant]) -> bool
@@ -27,20 +31,6 @@ fn cards(rows: &[RawCard]) -> bool
     rows.is_sorted_by(|earlier, later| earlier.id < later.id)
 }
 
-/// Whether each rowid of `entries2` is below the next.
-fn entries(rows: &[RawEntry]) -> bool
-    ensures { TellsApart entry_values (λ raw. raw.rowid) rows.now result }
-{
-    rows.is_sorted_by(|earlier, later| earlier.rowid < later.rowid)
-}
-
-/// Whether each rowid of `records` is below the next.
-fn records(rows: &[RawRecord]) -> bool
-    ensures { TellsApart record_values (λ raw. raw.rowid) rows.now result }
-{
-    rows.is_sorted_by(|earlier, later| earlier.rowid < later.rowid)
-}
-
 /// Whether each rowid of `rights` is below the next.
 fn rights(rows: &[RawRight]) -> bool
     ensures { TellsApart right_values (λ raw. raw.rowid) rows.now result }
@@ -48,16 +38,30 @@ fn rights(rows: &[RawRight]) -> bool
     rows.is_sorted_by(|earlier, later| earlier.rowid < later.rowid)
 }
 
-/// Whether no rowid of a table comes twice, where the rows are in the order of their rowids; rows in another
-/// order may be told apart or not.
-pub(crate) fn are_apart(rows: &Rows) -> bool
-    ensures apart { IsTrue result → AreApart rows.now }
-    ensures only { AreByRowid rows.now → AreApart rows.now → IsTrue result }
+/// Whether all of these are so.
+fn all_of(told: [bool; 6]) -> bool
+    ensures { result ≡ list_all (λ is. is) told }
 {
-    merchants(&rows.merchants)
-        && counts(&rows.counts)
-        && cards(&rows.cards)
-        && entries(&rows.entries)
-        && records(&rows.records)
-        && rights(&rows.rights)
+    told.iter().all(|is| *is)
+}
+
+/// Whether no rowid of a table comes twice, where the rows came in the order of their rowids; rows in another
+/// order may be told apart or not.
+pub(crate) fn are_apart(behind: &Behind) -> bool
+    ensures apart { (rows : Rows) (versions : List VersionRow) → HasJudged rows versions behind.now
+        → IsTrue result → AreApart rows }
+    ensures only { (rows : Rows) (versions : List VersionRow) → HasJudged rows versions behind.now
+        → AreByRowid rows → AreApart rows → IsTrue result }
+{
+    let records = &behind.records;
+    let entries = records.entries();
+    let index = entries.index();
+    all_of([
+        merchants(index.merchants()),
+        counts(index.counts()),
+        cards(index.cards()),
+        entries.rowids().rises(),
+        records.rowids().rises(),
+        rights(&behind.rights),
+    ])
 }

@@ -1,17 +1,17 @@
 //! Whether rows are those of a sound vault.
-ghost use Rattle.std.specs.Prelude.{◌≡◌, ◌≢◌, ℤ, ℕ, true, IfErr, IfOk, OnOk};
-ghost use Rattle.vault_verdict.specs.Apart.{AreApart, AreByRowid};
-ghost use Rattle.vault_verdict.specs.Sizes.{counts_of};
+ghost use Rattle.std.specs.Prelude.{◌≡◌, ◌≢◌, ℤ, IfErr};
+ghost use Rattle.vault_verdict.specs.Judging.{IsVerdictOf};
 ghost use Rattle.vault_verdict.specs.Versions.{is_other, other_than, other_version};
-ghost use Rattle.vault_rules.specs.Rules.{IsLeastBroken, keeps};
+ghost use Rattle.vault_verdict.specs.Taken.{HasJudged};
+ghost use Rattle.vault_rules.specs.AllRows.{Rows};
 ghost use Rattle.vault_schema.specs.Versions.{number_of};
 
 use crate::apart::are_apart;
+use crate::behind::Behind;
 use crate::fault::OpenFault;
 use crate::sizes::Sizes;
-use std::alloc::Global;
 use vault_rules::least::least_broken;
-use vault_rules::rows::{RawVersion, Rows};
+use vault_rules::rows::RawVersion;
 use vault_schema::version::{NEWEST, Version};
 
 /// Whether this is the row with the id 1, and says another version than this one.
@@ -46,21 +46,16 @@ pub(crate) fn other_version(versions: &[RawVersion]) -> Option<i64>
 }
 
 /// The sizes of rows that keep each rule; 31 names the least that they break.
-pub fn judge(alloc: Global, rows: &Rows) -> Result<Sizes, OpenFault>
-    ensures sizes { IfOk result (λ sizes. sizes ≡ counts_of rows.now) }
-    ensures kept { OnOk result ((r : ℕ) → keeps rows.now r ≡ true) }
-    ensures apart { OnOk result (AreApart rows.now) }
-    ensures damaged { IfErr result
-        (λ e. (rule : ℕ) → e ≡ OpenFault.Damaged rule → IsLeastBroken rows.now rule) }
-    ensures shared { IfErr result (λ e. e ≡ OpenFault.Store → AreByRowid rows.now → ¬ AreApart rows.now) }
-    ensures unbroken { IfErr result (λ e. e ≡ OpenFault.Store → (r : ℕ) → keeps rows.now r ≡ true) }
+pub(crate) fn judge(versions: &[RawVersion], behind: &Behind) -> Result<Sizes, OpenFault>
+    ensures verdict { (rows : Rows) → HasJudged rows versions.now behind.now → IsVerdictOf rows result }
     ensures versioned { IfErr result (λ e. (n : ℤ) → e ≢ OpenFault.WrongSchema n) }
 {
-    if let Some(rule) = least_broken(alloc, rows)? {
+    let records = &behind.records;
+    if let Some(rule) = least_broken(versions, behind.replaced, records, &behind.rights) {
         return Err(OpenFault::Damaged(rule));
     }
-    if !are_apart(rows) {
+    if !are_apart(behind) {
         return Err(OpenFault::Store);
     }
-    Ok(Sizes::of(rows))
+    Ok(Sizes::of(records))
 }

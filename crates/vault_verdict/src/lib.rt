@@ -2,16 +2,18 @@
 #![tactic(auto)]
 
 mod apart;
+mod behind;
 pub mod check;
 mod columns;
 pub mod fault;
+mod first;
 pub mod judge;
 mod made;
 pub mod names;
 mod raws;
 pub mod read;
 pub mod replaced;
-mod rows;
 pub mod sizes;
+mod taken;
 pub mod verdict;
 pub mod version;

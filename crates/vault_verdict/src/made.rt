@@ -1,12 +1,15 @@
 //! Old entries as rows of schema 2, in which each number is a card of its own.
-ghost use Rattle.std.specs.Prelude.{◌≡◌, IfOk, map, option_map};
+ghost use Rattle.std.specs.Prelude.{◌≡◌, IfOk, List, map, option_map};
 ghost use Rattle.std.specs.List.{filter_map};
 ghost use Rattle.vault_verdict.specs.Made.{as_card, as_entry, own_card};
 ghost use Rattle.vault_verdict.specs.Raw.{card_values, entry_values};
+ghost use Rattle.vault_verdict.specs.Taken.{EntriesTaken};
+ghost use Rattle.vault_rules.specs.declared.rows.RawEntry.{RawEntry as EntryRow};
 
 use crate::fault::ReadFault;
 use crate::replaced::OldEntry;
 use std::alloc::{AllocError, Global};
+use vault_rules::entries::Entries;
 use vault_rules::rows::{RawCard, RawEntry};
 
 /// The id of an entry's own card, where it has a number.
@@ -35,13 +38,15 @@ fn entry_of(older: &OldEntry) -> Result<RawEntry, AllocError>
     })
 }
 
-/// The entries of old ones.
-pub(crate) fn entries(alloc: Global, olders: &[OldEntry]) -> Result<Vec<RawEntry>, ReadFault>
-    ensures { IfOk result (λ entries. map as_entry olders.now ≡ map entry_values entries.items) }
+/// What takes the entries of old ones.
+pub(crate) fn entries<'a>(olders: &[OldEntry], start: Entries<'a>) -> Result<Entries<'a>, ReadFault>
+    ensures { IfOk result (λ it. (raws : List EntryRow) × EntriesTaken start.entry it raws
+        × (map as_entry olders.now ≡ map entry_values raws)) }
 {
-    let mut entries = Vec::new(alloc);
+    let mut entries = start;
     for older in olders {
-        entries.push(entry_of(older)?)?;
+        let entry = entry_of(older)?;
+        entries.take(&entry)?;
     }
     Ok(entries)
 }

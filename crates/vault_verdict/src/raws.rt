@@ -10,6 +10,7 @@ ghost use Rattle.vault_verdict.specs.Raw.{card_values, entry_values, record_valu
 
 use crate::columns::Columns;
 use crate::fault::ReadFault;
+use crate::taken::taken;
 use sqlite::{Alter, Connection, Row};
 use std::alloc::Global;
 use vault_rules::rows::{
@@ -153,12 +154,5 @@ pub(crate) fn shown<S: Alter, R: Raw>(
     ensures { (s : Schema) → IsPlain (understood s sql.now)
         → ReadsRows S.Store sql.now R.values s result conn.old conn.new }
 {
-    // a database whose schema can be asked for is sound
-    let _live = conn.schema();
-    let mut raws = Vec::new(alloc);
-    let mut rows = conn.query(sql, &[])?;
-    'rows: while let Some(row) = rows.next()? {
-        raws.push(R::read(row)?)?;
-    }
-    Ok(raws)
+    taken(conn, sql, Vec::new(alloc))
 }

@@ -15,9 +15,10 @@ ghost use Rattle.vault_verdict.specs.Raw.{record_values, right_values, version_v
 ghost use Rattle.vault_verdict.specs.ReadAs.{any_left as any_left_spec, endless, merchants_in};
 ghost use Rattle.vault_verdict.specs.ReadAs.{left_in as left_spec, replaced_in, rights_in, with_six};
 ghost use Rattle.vault_verdict.specs.Reading.{AreOldFull, ArePointingFull, AreRightsFull, IsUnreadReplaced};
-ghost use Rattle.vault_verdict.specs.Reading.{AreReadCards, AreReadOlders, IsAny, IsQuietWhere, IsUnread};
-ghost use Rattle.vault_verdict.specs.Reading.{IsUnreadCards, ReadsEntries, ReadsTable};
-ghost use Rattle.vault_verdict.specs.Reading.{TellsAny, merchants_text, rights_text};
+ghost use Rattle.vault_verdict.specs.Reading.{AreOldCards, AreTable, IsAny, IsQuietWhere, IsUnread};
+ghost use Rattle.vault_verdict.specs.Reading.{IsUnreadCards, ReadsCards, ReadsTable, TakesEntries};
+ghost use Rattle.vault_verdict.specs.Reading.{TakesTable, TellsAny, merchants_text, rights_text};
+ghost use Rattle.vault_verdict.specs.Taken.{EntriesTaken, RecordsTaken};
 ghost use Rattle.vault_schema.specs.declared.v1.TheConstants.{READ_COUNTS, READ_ENTRY_IDS, READ_RECORDS};
 ghost use Rattle.vault_schema.specs.declared.v1.TheConstants.{READ_ENTRIES as READ_OLD_ENTRIES};
 ghost use Rattle.vault_schema.specs.declared.v1.TheConstants.{READ_VERSIONS};
@@ -34,9 +35,12 @@ ghost use Rattle.vault_schema.specs.Versions.{schema_of};
 
 use crate::fault::ReadFault;
 use crate::replaced::{OldEntry, RowId};
+use crate::taken::taken;
 use crate::{made, raws};
 use sqlite::{Alter, Connection};
 use std::alloc::Global;
+use vault_rules::entries::Entries;
+use vault_rules::records::Records;
 use vault_rules::rows::{
     RawCard, RawCount, RawEntry, RawMerchant, RawRecord, RawRight, RawVersion,
 };
@@ -120,15 +124,16 @@ pub(crate) fn counts<S: Alter>(
     raws::shown(alloc, conn, READ_COUNTS)
 }
 
-/// The rows of `records`, in each version.
-pub(crate) fn records<S: Alter>(
-    alloc: Global,
+/// What takes the rows of `records`, in each version.
+pub(crate) fn records<'a, S: Alter>(
     conn: &mut Connection<S>,
-) -> Result<Vec<RawRecord>, ReadFault>
-    ensures { (v : Version) → ReadsTable S.Store READ_RECORDS.now record_values (schema_of v) IsAny (λ t. t 8)
-        record_values (λ raw. raw.rowid) result conn.old conn.new }
+    start: Records<'a>,
+) -> Result<Records<'a>, ReadFault>
+    ensures { (v : Version) → TakesTable S.Store READ_RECORDS.now record_values (schema_of v)
+        (RecordsTaken start.entry) IsAny (λ t. t 8) record_values (λ raw. raw.rowid) result conn.old
+        conn.new }
 {
-    raws::shown(alloc, conn, READ_RECORDS)
+    taken::<S, RawRecord, _>(conn, READ_RECORDS, start)
 }
 
 /// The rows of `rights`, in each schema that begins with schema 1: none of them ends.
@@ -168,14 +173,6 @@ pub(crate) fn rights<S: Alter>(
     }
 }
 
-/// Entries, and the cards that they point at; with those of schema 1, as they stand there.
-#[derive(Drop)]
-pub(crate) struct WithCards {
-    pub olders: Vec<OldEntry>,
-    pub cards: Vec<RawCard>,
-    pub entries: Vec<RawEntry>,
-}
-
 /// The rows of `entries`, the table of schema 1.
 fn old_entries<S: Alter>(
     alloc: Global,
@@ -188,76 +185,96 @@ fn old_entries<S: Alter>(
 }
 
 /// The rows of `cards2`, in each schema that begins with schema 2.
-fn cards<S: Alter>(alloc: Global, conn: &mut Connection<S>) -> Result<Vec<RawCard>, ReadFault>
+fn standing_cards<S: Alter>(
+    alloc: Global,
+    conn: &mut Connection<S>,
+) -> Result<Vec<RawCard>, ReadFault>
     ensures { (others : List Table) (indexes : List Index) → ReadsTable S.Store READ_CARDS.now card_values
         (grown v2 others indexes) IsAny (λ t. t 12) card_row (λ raw. raw.id) result conn.old conn.new }
 {
     raws::shown(alloc, conn, READ_CARDS)
 }
 
-/// The rows of `entries2`, in each of these.
-fn pointing_entries<S: Alter>(
-    alloc: Global,
-    conn: &mut Connection<S>,
-) -> Result<Vec<RawEntry>, ReadFault>
-    ensures { (others : List Table) (indexes : List Index) → ReadsTable S.Store READ_ENTRIES.now entry_values
-        (grown v2 others indexes) ArePointingFull (λ t. t 14) entry_values (λ raw. raw.rowid) result conn.old
-        conn.new }
-{
-    raws::shown(alloc, conn, READ_ENTRIES)
+/// Cards; with them the entries of schema 1, as they stand there.
+#[derive(Drop)]
+pub(crate) struct CardRows {
+    pub olders: Vec<OldEntry>,
+    pub cards: Vec<RawCard>,
 }
 
-/// The entries of schema 1, each with a card of its own.
-fn first_entries<S: Alter>(alloc: Global, conn: &mut Connection<S>) -> Result<WithCards, ReadFault>
+/// The entries of schema 1, and a card for each number of them.
+fn first_cards<S: Alter>(alloc: Global, conn: &mut Connection<S>) -> Result<CardRows, ReadFault>
     ensures reads { Reads v1 result (state S.Store conn.old) (state S.Store conn.new) }
     ensures told { HasCleanDisk (state S.Store conn.new) → (state S.Store conn.old).now.schema ≡ v1
-        → IfOk result (λ e. AreReadOlders (state S.Store conn.old).now e.olders.items e.cards.items
-        e.entries.items) }
+        → IfOk result (λ it. AreOldCards (state S.Store conn.old).now it.olders.items it.cards.items) }
 {
     let olders = old_entries(alloc, conn)?;
     let cards = made::cards(alloc, &olders)?;
-    let entries = made::entries(alloc, &olders)?;
-    Ok(WithCards {
-        olders,
-        cards,
-        entries,
-    })
+    Ok(CardRows { olders, cards })
 }
 
-/// The entries of a later schema, and the cards.
-fn later_entries<S: Alter>(alloc: Global, conn: &mut Connection<S>) -> Result<WithCards, ReadFault>
+/// The cards of a later schema.
+fn later_cards<S: Alter>(alloc: Global, conn: &mut Connection<S>) -> Result<CardRows, ReadFault>
     ensures reads { (others : List Table) (indexes : List Index) → Reads (grown v2 others indexes) result
         (state S.Store conn.old) (state S.Store conn.new) }
     ensures told { (others : List Table) (indexes : List Index) → HasCleanDisk (state S.Store conn.new)
         → (state S.Store conn.old).now.schema ≡ grown v2 others indexes
-        → IfOk result (λ e. AreReadCards (state S.Store conn.old).now e.cards.items e.entries.items) }
+        → IfOk result (λ it. AreTable IsAny (λ t. t 12) card_row (λ c. c.id) (state S.Store conn.old).now
+        it.cards.items) }
     ensures refused { (others : List Table) (indexes : List Index) → HasCleanDisk (state S.Store conn.new)
         → (state S.Store conn.old).now.schema ≡ grown v2 others indexes
         → IfErr result (λ e. e ≡ ReadFault.Store
         → IsUnreadCards S.Store (state S.Store conn.old).now conn.new) }
 {
-    let cards = cards(alloc, conn)?;
-    let entries = pointing_entries(alloc, conn)?;
-    Ok(WithCards {
+    let cards = standing_cards(alloc, conn)?;
+    Ok(CardRows {
         olders: Vec::new(alloc),
         cards,
-        entries,
     })
 }
 
-/// The entries of a version, and their cards.
-pub(crate) fn entries<S: Alter>(
+/// The cards of a version.
+pub(crate) fn cards<S: Alter>(
     alloc: Global,
     conn: &mut Connection<S>,
     version: Version,
-) -> Result<WithCards, ReadFault>
-    ensures { ReadsEntries S.Store version result conn.old conn.new }
+) -> Result<CardRows, ReadFault>
+    ensures { ReadsCards S.Store version result conn.old conn.new }
 {
     match version {
-        Version::One => first_entries(alloc, conn),
-        Version::Two => later_entries(alloc, conn),
-        Version::Three => later_entries(alloc, conn),
-        Version::Four => later_entries(alloc, conn),
+        Version::One => first_cards(alloc, conn),
+        Version::Two => later_cards(alloc, conn),
+        Version::Three => later_cards(alloc, conn),
+        Version::Four => later_cards(alloc, conn),
+    }
+}
+
+/// What takes the rows of `entries2`, in each of these.
+fn pointing_entries<'a, S: Alter>(
+    conn: &mut Connection<S>,
+    start: Entries<'a>,
+) -> Result<Entries<'a>, ReadFault>
+    ensures { (others : List Table) (indexes : List Index) → TakesTable S.Store READ_ENTRIES.now entry_values
+        (grown v2 others indexes) (EntriesTaken start.entry) ArePointingFull (λ t. t 14) entry_values
+        (λ raw. raw.rowid) result conn.old conn.new }
+{
+    taken::<S, RawEntry, _>(conn, READ_ENTRIES, start)
+}
+
+/// What takes the entries of a version, of which those of schema 1 are given.
+pub(crate) fn entries<'a, S: Alter>(
+    conn: &mut Connection<S>,
+    version: Version,
+    olders: &[OldEntry],
+    start: Entries<'a>,
+) -> Result<Entries<'a>, ReadFault>
+    ensures { TakesEntries S.Store version olders.now start.entry result conn.old conn.new }
+{
+    match version {
+        Version::One => made::entries(olders, start),
+        Version::Two => pointing_entries(conn, start),
+        Version::Three => pointing_entries(conn, start),
+        Version::Four => pointing_entries(conn, start),
     }
 }
 

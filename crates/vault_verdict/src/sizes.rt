@@ -1,7 +1,7 @@
 //! How much a vault holds.
-ghost use Rattle.vault_verdict.specs.Sizes.{counts_of};
+ghost use Rattle.vault_verdict.specs.Sizes.{counted_in};
 
-use vault_rules::rows::Rows;
+use vault_rules::records::Records;
 
 /// How many merchants, entries and records a vault has.
 #[derive(Clone, Copy, PartialEq, Eq)]
@@ -21,14 +21,15 @@ impl Sizes {
         records: 0,
     };
 
-    /// The sizes of a vault with these rows.
-    pub(crate) fn of(rows: &Rows) -> Sizes
-        ensures { result ≡ counts_of rows.now }
+    /// The sizes of a vault whose rows came.
+    pub(crate) fn of(records: &Records) -> Sizes
+        ensures { result ≡ counted_in records.now }
     {
+        let entries = records.entries();
         Sizes {
-            merchants: rows.merchants.len(),
-            entries: rows.entries.len(),
-            records: rows.records.len(),
+            merchants: entries.index().merchants().len(),
+            entries: entries.many(),
+            records: records.many(),
         }
     }
 }

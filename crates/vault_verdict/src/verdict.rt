@@ -1,8 +1,9 @@
 //! Whether a file's rows are those of a sound vault.
-ghost use Rattle.std.specs.Prelude.{◌≡◌, ℤ, ℕ, IfOk, IfErr, OnOk};
+ghost use Rattle.std.specs.Prelude.{◌≡◌, ◌≢◌, ℤ, ℕ, IfOk, IfErr, OnOk};
 ghost use Rattle.sqlite.specs.Held.{state};
 ghost use Rattle.sqlite.specs.State.{HasCleanDisk, IsUnchanged};
 ghost use Rattle.vault_verdict.specs.Faults.{IsJudged};
+ghost use Rattle.vault_verdict.specs.Judging.{Judges};
 ghost use Rattle.vault_verdict.specs.Opened.{AreOldersIn, IsBrokenIn, IsLeastBroken, IsOtherVersion};
 ghost use Rattle.vault_verdict.specs.Opened.{IsSoundIn, IsSoundOf, IsVersionIn};
 ghost use Rattle.vault_verdict.specs.ReadAs.{IsFullIn};
@@ -11,14 +12,17 @@ ghost use Rattle.vault_schema.specs.Schema.{newest_schema};
 ghost use Rattle.vault_schema.specs.Stands.{newest};
 ghost use Rattle.vault_schema.specs.Versions.{schema_of};
 
+use crate::behind::read_behind;
 use crate::fault::OpenFault;
+use crate::first::{First, read_first};
 use crate::judge::{judge, other_in};
 use crate::read::version_rows;
 use crate::replaced::OldEntry;
-use crate::rows::rows;
 use crate::sizes::Sizes;
 use sqlite::{Alter, Connection};
 use std::alloc::Global;
+use vault_rules::index::Index;
+use vault_rules::rows::RawVersion;
 use vault_schema::version::{NEWEST, Version};
 
 /// A vault that was judged to be sound: how much it holds, and the entries of schema 1 as they stand there.
@@ -26,6 +30,47 @@ use vault_schema::version::{NEWEST, Version};
 pub struct Judged {
     pub sizes: Sizes,
     pub olders: Vec<OldEntry>,
+}
+
+/// What rows come to that an index has, and those behind them.
+fn judge_behind<'a, S: Alter>(
+    alloc: Global,
+    conn: &mut Connection<S>,
+    version: Version,
+    versions: &[RawVersion],
+    olders: &[OldEntry],
+    index: Index<'a>,
+) -> Result<Sizes, OpenFault>
+    ensures told { HasCleanDisk (state S.Store conn.new)
+        → (state S.Store conn.old).now.schema ≡ schema_of version
+        → Judges version olders.now versions.now index.entry.merchants.now index.entry.counts.now
+        index.entry.cards.now S.Store result conn.old conn.new }
+    ensures versioned { IfErr result (λ e. (n : ℤ) → e ≢ OpenFault.WrongSchema n) }
+    ensures quiet { IsQuietWhere ((state S.Store conn.old).now.schema ≡ schema_of version)
+        (state S.Store conn.old) (state S.Store conn.new) }
+{
+    let behind = read_behind(alloc, conn, version, olders, index)?;
+    judge(versions, &behind)
+}
+
+/// What the first rows come to, and those behind them.
+fn judge_first<S: Alter>(
+    alloc: Global,
+    conn: &mut Connection<S>,
+    version: Version,
+    versions: &[RawVersion],
+    first: &First,
+) -> Result<Sizes, OpenFault>
+    ensures told { HasCleanDisk (state S.Store conn.new)
+        → (state S.Store conn.old).now.schema ≡ schema_of version
+        → Judges version first.now.olders.items versions.now first.now.merchants.items
+        first.now.counts.items first.now.cards.items S.Store result conn.old conn.new }
+    ensures versioned { IfErr result (λ e. (n : ℤ) → e ≢ OpenFault.WrongSchema n) }
+    ensures quiet { IsQuietWhere ((state S.Store conn.old).now.schema ≡ schema_of version)
+        (state S.Store conn.old) (state S.Store conn.new) }
+{
+    let index = Index::of(alloc, &first.merchants, &first.counts, &first.cards)?;
+    judge_behind(alloc, conn, version, versions, &first.olders, index)
 }
 
 /// Reads all tables of a version as those of the newest one, and says what they hold where they stand for a
@@ -65,8 +110,9 @@ pub fn verdict<S: Alter>(
     if let Some(other) = other_in(&versions, version) {
         return Err(OpenFault::WrongSchema(other));
     }
-    let (olders, rows) = rows(alloc, conn, version, versions)?;
-    let sizes = judge(alloc, &rows)?;
+    let first = read_first(alloc, conn, version)?;
+    let sizes = judge_first(alloc, conn, version, &versions, &first)?;
+    let First { olders, .. } = first;
     Ok(Judged { sizes, olders })
 }
 

@@ -1,67 +1,57 @@
 //! The rule of card rows, and of the entries that point at them.
-ghost use Rattle.std.specs.Prelude.{◌≡◌, ◌&&◌, false, bytes_eq, string_bytes};
+ghost use Rattle.std.specs.Prelude.{◌≡◌, ◌&&◌, List};
 ghost use Rattle.std.specs.List.{list_all};
-ghost use Rattle.std.specs.Option.{option_copied, option_map_or};
+ghost use Rattle.vault_rules.specs.Found.{IsFoundIn};
 ghost use Rattle.vault_rules.specs.Rules as rules;
+ghost use Rattle.vault_rules.specs.Seen.{HasEntries};
 ghost use Rattle.vault_rules.specs.declared.rows.RawCard.{RawCard as CardRow};
+ghost use Rattle.vault_rules.specs.declared.rows.RawEntry.{RawEntry as EntryRow};
+ghost use Rattle.vault_rules.specs.declared.rows.RawMerchant.{RawMerchant as MerchantRow};
 
-use crate::index::Index;
-use crate::rows::{RawCard, RawEntry};
+use crate::entries::Entries;
+use crate::index::found::Found;
+use crate::rows::RawCard;
 
-/// Rule 13: each card row's merchant exists, and its uses are the number of entries that point at
-/// it, 1 or more; the card of each entry that isn't purged is a card row of its merchant.
-pub fn are_cards(index: &Index) -> bool
-    ensures { result
-        ≡ (list_all (rules.is_card index.now.rows.now.merchants.items index.now.rows.now.entries.items)
-        index.now.rows.now.cards.items
-        && list_all (rules.has_card index.now.rows.now.cards.items) index.now.rows.now.entries.items) }
+/// Rule 13: each card row's merchant exists, and its uses are the number of entries that point at it, 1 or
+/// more; the card of each entry that isn't purged is a card row of its merchant.
+pub fn are_cards(entries: &Entries) -> bool
+    ensures { (raws : List EntryRow) → HasEntries entries.now raws → result
+        ≡ (list_all (rules.is_card entries.now.index.merchants.now raws) entries.now.index.cards.now
+        && list_all (rules.has_card entries.now.index.cards.now) raws) }
 {
-    have_uses(index) && have_cards(index)
+    have_uses(entries) && entries.rules.pointed
 }
 
 /// Whether each card row keeps its half of the rule.
-fn have_uses(index: &Index) -> bool
-    ensures { result
-        ≡ list_all (rules.is_card index.now.rows.now.merchants.items index.now.rows.now.entries.items)
-        index.now.rows.now.cards.items }
+fn have_uses(entries: &Entries) -> bool
+    ensures { (raws : List EntryRow) → HasEntries entries.now raws → result
+        ≡ list_all (rules.is_card entries.now.index.merchants.now raws) entries.now.index.cards.now }
 {
-    index.rows.cards.iter().all(|c| is_card(index, c))
+    for card in entries.index.cards {
+        if !is_card(entries, card) {
+            return false;
+        }
+    }
+    true
 }
 
 /// Whether a card row's merchant exists, and its uses are the number of entries that point at it.
-fn is_card(index: &Index, c: &RawCard) -> bool
-    ensures { result
-        ≡ rules.is_card index.now.rows.now.merchants.items index.now.rows.now.entries.items c.now }
+fn is_card(entries: &Entries, c: &RawCard) -> bool
+    ensures { (raws : List EntryRow) → HasEntries entries.now raws
+        → result ≡ rules.is_card entries.now.index.merchants.now raws c.now }
 {
-    index.is_known(c.merchant.as_str()) && 1 <= c.uses && c.uses as u64 == index.used(c.id) as u64
-}
-
-/// Whether each entry keeps its half of the rule.
-fn have_cards(index: &Index) -> bool
-    ensures { result
-        ≡ list_all (rules.has_card index.now.rows.now.cards.items) index.now.rows.now.entries.items }
-{
-    index.rows.entries.iter().all(|e| has_card(index, e))
+    entries.index.is_known(c.merchant.as_str())
+        && 1 <= c.uses
+        && c.uses as u64 == entries.used(c.id) as u64
 }
 
 /// Whether an entry's card, unless it is purged, is a card row of its merchant.
-fn has_card(index: &Index, e: &RawEntry) -> bool
-    ensures { result ≡ rules.has_card index.now.rows.now.cards.items e.now }
+pub(crate) fn has_card(found: &Found) -> bool
+    ensures { (merchants : List MerchantRow) (cards : List CardRow) → IsFoundIn merchants cards found.now
+        → result ≡ rules.has_card cards found.now.entry.now }
 {
-    match e.card {
-        Some(id) => is_of(index.card(id), e.merchant.as_str()),
-        None => true,
-    }
-}
-
-/// Whether a card row is there and of this merchant.
-fn is_of(card: Option<&RawCard>, merchant: &str) -> bool
-    ensures { result
-        ≡ option_map_or (λ (c : CardRow). bytes_eq (string_bytes c.merchant) merchant.now)
-        (option_copied card.entry) false }
-{
-    match card {
-        Some(card) => card.merchant.as_str() == merchant,
-        None => false,
+    match found.card {
+        Some(card) => card.merchant.as_str() == found.entry.merchant.as_str(),
+        None => found.entry.card.is_none(),
     }
 }

@@ -1,64 +1,95 @@
-//! The rules of entries.
-ghost use Rattle.std.specs.Prelude.{◌≡◌, pos, ◌+ℤ◌, ◌&&◌, true};
-ghost use Rattle.std.specs.List.{list_all};
+//! The rules of entries, of one after the other.
+ghost use Rattle.std.specs.Prelude.{◌≡◌, pos, ◌+ℤ◌, ◌&&◌, true, List, [], ◌∷◌, ◌++◌};
 ghost use Rattle.std.specs.Option.{option_map_or};
+ghost use Rattle.vault_rules.specs.Found.{IsFoundIn};
 ghost use Rattle.vault_rules.specs.Rules as rules;
+ghost use Rattle.vault_rules.specs.declared.rows.RawCard.{RawCard as CardRow};
+ghost use Rattle.vault_rules.specs.declared.rows.RawEntry.{RawEntry as EntryRow};
+ghost use Rattle.vault_rules.specs.declared.rows.RawMerchant.{RawMerchant as MerchantRow};
 
-use crate::index::Index;
+use crate::index::found::Found;
 use crate::rows::RawEntry;
 use crate::rules::bounds::{LONGEST_LIFE, is_within};
+use crate::rules::cards::has_card;
 use crate::texts::{fits, is_pan, is_token};
 
-/// Rule 5: each entry's merchant exists, and its token is 10 to 19 digits that fail the check.
-pub fn have_tokens(index: &Index) -> bool
-    ensures { result
-        ≡ list_all (rules.has_token index.now.rows.now.merchants.items) index.now.rows.now.entries.items }
-{
-    index.rows.entries.iter().all(|e| has_token(index, e))
+/// Which of the rules of entries all that came keep.
+#[derive(Clone, Copy, Drop)]
+pub struct EntryRules {
+    /// 5: the merchant exists, and the token is 10 to 19 digits that fail the check.
+    pub(crate) tokens: bool,
+    /// 6: the number of the card row, where there is one, is a card number, as long as the token and with its
+    /// last four digits.
+    pub(crate) numbers: bool,
+    /// 7: where the merchant exists, the usage, the birth, the time of expiry and that of the revocation are
+    /// within their bounds.
+    pub(crate) timed: bool,
+    /// 8: where it is purged, and its merchant exists, it is revoked or has expired.
+    pub(crate) kept: bool,
+    /// Of 13: the card, unless it is purged, is a card row of its merchant.
+    pub(crate) pointed: bool,
+}
+
+impl EntryRules {
+    ghost use Rattle.vault_rules.specs.Seen.{KeepRules};
+
+    /// None came yet.
+    pub(crate) fn new() -> EntryRules
+        ensures { (merchants : List MerchantRow) (cards : List CardRow)
+            → KeepRules merchants cards result [] }
+    {
+        EntryRules {
+            tokens: true,
+            numbers: true,
+            timed: true,
+            kept: true,
+            pointed: true,
+        }
+    }
+
+    /// Takes the next entry.
+    pub(crate) fn take(&mut self, found: &Found)
+        ensures { (merchants : List MerchantRow) (cards : List CardRow) (raws : List EntryRow)
+            → IsFoundIn merchants cards found.now → KeepRules merchants cards self.old raws
+            → KeepRules merchants cards self.new (raws ++ found.now.entry.now ∷ []) }
+    {
+        self.tokens = self.tokens && has_token(found);
+        self.numbers = self.numbers && has_number(found);
+        self.timed = self.timed && is_timed_there(found);
+        self.kept = self.kept && is_kept_there(found);
+        self.pointed = self.pointed && has_card(found);
+    }
 }
 
 /// Whether an entry's merchant exists and its token is one.
-fn has_token(index: &Index, e: &RawEntry) -> bool
-    ensures { result ≡ rules.has_token index.now.rows.now.merchants.items e.now }
+fn has_token(found: &Found) -> bool
+    ensures { (merchants : List MerchantRow) (cards : List CardRow) → IsFoundIn merchants cards found.now
+        → result ≡ rules.has_token merchants found.now.entry.now }
 {
-    index.is_known(e.merchant.as_str()) && is_token(e.token.as_str())
-}
-
-/// Rule 6: the number of each entry's card row, where there is one, is a card number, as long as
-/// the token and with its last four digits.
-pub fn have_numbers(index: &Index) -> bool
-    ensures { result
-        ≡ list_all (rules.has_number index.now.rows.now.cards.items) index.now.rows.now.entries.items }
-{
-    index.rows.entries.iter().all(|e| has_number(index, e))
+    found.merchant.is_some() && is_token(found.entry.token.as_str())
 }
 
 /// Whether an entry's number, where there is one, is a card number that its token fits.
-fn has_number(index: &Index, e: &RawEntry) -> bool
-    ensures { result ≡ rules.has_number index.now.rows.now.cards.items e.now }
+fn has_number(found: &Found) -> bool
+    ensures { (merchants : List MerchantRow) (cards : List CardRow) → IsFoundIn merchants cards found.now
+        → result ≡ rules.has_number cards found.now.entry.now }
 {
-    match index.number(e) {
-        Some(number) => is_pan(number) && fits(e.token.as_str(), number),
+    match found.card {
+        Some(card) => {
+            let number = card.number.as_str();
+            is_pan(number) && fits(found.entry.token.as_str(), number)
+        }
         None => true,
     }
 }
 
-/// Rule 7: of each entry whose merchant exists, the usage, the birth, the time of expiry and that
-/// of its revocation are within their bounds.
-pub fn are_timed(index: &Index) -> bool
-    ensures { result
-        ≡ list_all (rules.at_moments index.now.rows.now.merchants.items rules.is_timed)
-        index.now.rows.now.entries.items }
+/// Whether an entry keeps rule 7 at its merchant's moment.
+fn is_timed_there(found: &Found) -> bool
+    ensures { (merchants : List MerchantRow) (cards : List CardRow) → IsFoundIn merchants cards found.now
+        → result ≡ rules.at_moments merchants rules.is_timed found.now.entry.now }
 {
-    index.rows.entries.iter().all(|e| is_timed_there(index, e))
-}
-
-/// Whether an entry keeps that rule at its merchant's moment.
-fn is_timed_there(index: &Index, e: &RawEntry) -> bool
-    ensures { result ≡ rules.at_moments index.now.rows.now.merchants.items rules.is_timed e.now }
-{
-    match index.moment(e.merchant.as_str()) {
-        Some(moment) => is_timed(moment, e),
+    match found.merchant {
+        Some(merchant) => is_timed(merchant.moment, found.entry),
         None => true,
     }
 }
@@ -99,21 +130,16 @@ fn is_revoked_in_time(moment: i64, e: &RawEntry) -> bool
     }
 }
 
-/// Rule 8: each entry that is purged, and whose merchant exists, is revoked or has expired.
-pub fn are_kept(index: &Index) -> bool
-    ensures { result
-        ≡ list_all (rules.at_moments index.now.rows.now.merchants.items rules.is_kept)
-        index.now.rows.now.entries.items }
+/// Whether an entry keeps rule 8 at its merchant's moment.
+fn is_kept_there(found: &Found) -> bool
+    ensures { (merchants : List MerchantRow) (cards : List CardRow) → IsFoundIn merchants cards found.now
+        → result ≡ rules.at_moments merchants rules.is_kept found.now.entry.now }
 {
-    index.rows.entries.iter().all(|e| is_kept_there(index, e))
-}
-
-/// Whether an entry keeps that rule at its merchant's moment.
-fn is_kept_there(index: &Index, e: &RawEntry) -> bool
-    ensures { result ≡ rules.at_moments index.now.rows.now.merchants.items rules.is_kept e.now }
-{
-    match index.moment(e.merchant.as_str()) {
-        Some(moment) => e.card.is_some() || e.revoked.is_some() || e.expires <= moment,
+    let e = found.entry;
+    match found.merchant {
+        Some(merchant) => {
+            e.card.is_some() || e.revoked.is_some() || e.expires <= merchant.moment
+        }
         None => true,
     }
 }

@@ -1,10 +1,13 @@
 //! The rule of live multi-use entries.
-ghost use Rattle.std.specs.Prelude.{◌≡◌, IfOk, option_map};
-ghost use Rattle.std.specs.List.{filter_map};
+ghost use Rattle.std.specs.Prelude.{◌≡◌, List, [], ◌∷◌, ◌++◌, OnOk, option_map};
 ghost use Rattle.std.specs.Option.{option_copied};
+ghost use Rattle.vault_rules.specs.Found.{IsFoundIn};
 ghost use Rattle.vault_rules.specs.Rules as rules;
+ghost use Rattle.vault_rules.specs.declared.rows.RawCard.{RawCard as CardRow};
+ghost use Rattle.vault_rules.specs.declared.rows.RawEntry.{RawEntry as EntryRow};
+ghost use Rattle.vault_rules.specs.declared.rows.RawMerchant.{RawMerchant as MerchantRow};
 
-use crate::index::Index;
+use crate::index::found::Found;
 use crate::rows::RawEntry;
 use std::alloc::{AllocError, Global};
 use std::collections::BTreeSet;
@@ -12,41 +15,61 @@ use std::collections::BTreeSet;
 /// The usage of an entry that is for many purchases.
 const MULTI: i64 = 2;
 
-/// Rule 9: no number has two live multi-use entries at one merchant. Only memory can fail.
-pub fn are_alone(alloc: Global, index: &Index) -> Result<bool, AllocError>
-    ensures { IfOk result (λ alone. alone
-        ≡ rules.are_distinct
-        (filter_map (rules.live_key index.now.rows.now.merchants.items index.now.rows.now.cards.items)
-        index.now.rows.now.entries.items)) }
-{
-    let mut keys = BTreeSet::new(alloc);
-    let rows = index.rows;
-    for entry in &rows.entries {
-        if let Some(key) = live_key(index, entry) {
-            if !keys.insert(key)? {
-                return Ok(false);
-            }
+/// The merchants and the numbers of the live multi-use entries that came, up to the first that came twice.
+#[derive(Drop)]
+pub struct Live<'a> {
+    /// Rule 9: no number has two live multi-use entries at one merchant.
+    pub(crate) alone: bool,
+    keys: BTreeSet<(&'a str, &'a str)>,
+}
+
+impl<'a> Live<'a> {
+    ghost use Rattle.vault_rules.specs.Seen.{AreLive};
+
+    /// None came yet.
+    pub(crate) fn new(alloc: Global) -> Live<'a>
+        ensures { (merchants : List MerchantRow) (cards : List CardRow) → AreLive merchants cards result [] }
+    {
+        Live {
+            alone: true,
+            keys: BTreeSet::new(alloc),
         }
     }
-    Ok(true)
+
+    /// Takes the next entry. Only memory can fail.
+    pub(crate) fn take(&mut self, found: &Found<'a, '_>) -> Result<(), AllocError>
+        ensures { OnOk result ((merchants : List MerchantRow) (cards : List CardRow) (raws : List EntryRow)
+            → IsFoundIn merchants cards found.now → AreLive merchants cards self.old raws
+            → AreLive merchants cards self.new (raws ++ found.now.entry.now ∷ [])) }
+    {
+        if !self.alone {
+            return Ok(());
+        }
+        if let Some(key) = live_key(found) {
+            self.alone = self.keys.insert(key)?;
+        }
+        Ok(())
+    }
 }
 
 /// The merchant and the number of a multi-use entry that is live at its merchant's moment.
-fn live_key<'a>(index: &Index<'a>, e: &'a RawEntry) -> Option<(&'a str, &'a str)>
-    ensures { option_map (λ key. (key.0.now, key.1.now)) result
-        ≡ rules.live_key index.now.rows.now.merchants.items index.now.rows.now.cards.items e.now }
+fn live_key<'a>(found: &Found<'a, '_>) -> Option<(&'a str, &'a str)>
+    ensures { (merchants : List MerchantRow) (cards : List CardRow) → IsFoundIn merchants cards found.now
+        → option_map (λ key. (key.0.now, key.1.now)) result
+        ≡ rules.live_key merchants cards found.now.entry.now }
 {
-    let moment = index.moment(e.merchant.as_str())?;
-    let number = live_number(index, moment, e)?;
-    Some((e.merchant.as_str(), number))
+    let merchant = found.merchant?;
+    let card = found.card?;
+    if is_live(merchant.moment, found.entry) {
+        Some((merchant.name.as_str(), card.number.as_str()))
+    } else {
+        None
+    }
 }
 
-/// The number of a multi-use entry that is live at a moment.
-fn live_number<'a>(index: &Index<'a>, moment: i64, e: &RawEntry) -> Option<&'a str>
-    ensures { option_copied result ≡ rules.live_number index.now.rows.now.cards.items moment e.now }
+/// Whether an entry is a multi-use one that is live at a moment.
+fn is_live(moment: i64, e: &RawEntry) -> bool
+    ensures { result ≡ rules.is_live_multi moment e.now }
 {
-    if e.usage != MULTI || e.revoked.is_some() || e.expires <= moment {
-        return None;
-    }
-    index.number(e)
+    e.usage == MULTI && e.revoked.is_none() && moment < e.expires
 }

@@ -2,10 +2,13 @@
 //!
 //! An edit puts a row behind those of a table, as `card 1,shop1,4111111111111111,1` does with its columns, or
 //! clears a table. Edits are parted by `; `.
-use std::alloc::Global;
+use std::alloc::{AllocError, Global};
+use vault_rules::entries::Entries;
+use vault_rules::index::Index;
 use vault_rules::least::least_broken;
+use vault_rules::records::Records;
 use vault_rules::rows::{
-    RawCard, RawCount, RawEntry, RawMerchant, RawRecord, RawRight, RawVersion, Rows,
+    RawCard, RawCount, RawEntry, RawMerchant, RawRecord, RawRight, RawVersion,
 };
 use vault_script::told::text;
 
@@ -13,6 +16,19 @@ use vault_script::told::text;
 const SOUND: &str = "version 1,1; merchant shop1,60,0,1000; count shop1,1,1; \
 card 1,shop1,4111111111111111,1; entry shop1,0000000000001111,1,1,1000,1060,-; \
 record till-1,7,shop1,0000000000001111,1; right till-1,shop1,1";
+
+/// The rows of a store, and how many the tables have that a later schema replaced.
+#[derive(Drop)]
+struct Rows {
+    versions: Vec<RawVersion>,
+    merchants: Vec<RawMerchant>,
+    counts: Vec<RawCount>,
+    cards: Vec<RawCard>,
+    entries: Vec<RawEntry>,
+    records: Vec<RawRecord>,
+    rights: Vec<RawRight>,
+    replaced: u64,
+}
 
 /// The column at a place of an edit.
 fn column<'a>(edit: &'a str, place: usize) -> Option<&'a str> {
@@ -235,9 +251,23 @@ fn no_rows(alloc: Global) -> Rows {
     }
 }
 
+/// The least rule that rows break, which come one after the other.
+fn least(alloc: Global, rows: &Rows) -> Result<Option<u8>, AllocError> {
+    let index = Index::of(alloc, &rows.merchants, &rows.counts, &rows.cards)?;
+    let mut entries = Entries::new(alloc, index);
+    for entry in &rows.entries {
+        entries.take(entry)?;
+    }
+    let mut records = Records::new(entries);
+    for record in &rows.records {
+        records.take(record)?;
+    }
+    Ok(least_broken(&rows.versions, rows.replaced, &records, &rows.rights))
+}
+
 /// The number of the least rule that rows break, or `none`.
 fn told(alloc: Global, rows: &Rows) -> String {
-    match least_broken(alloc, rows) {
+    match least(alloc, rows) {
         Ok(None) => text(alloc, "none"),
         Ok(Some(rule)) => format!(in alloc; "{rule}").unwrap_or(String::new(alloc)),
         Err(_) => text(alloc, "no memory"),

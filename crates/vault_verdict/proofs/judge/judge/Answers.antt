@@ -1,9 +1,16 @@
-use Rattle.std.proofs.Common.{subst}
+use Rattle.std.proofs.Common.{refl, subst}
+use Rattle.vault_verdict.proofs.AllApart.{rights_as}
 use Rattle.vault_verdict.proofs.Results.{same_rule}
 use Rattle.vault_verdict.proofs.judge.judge.Goals as goal
 use Rattle.vault_rules.specs.Rules.{IsLeastBroken}
 
-pub returns-in-Some-clause-damaged : goal.returns-in-Some-clause-damaged
-returns-in-Some-clause-damaged c rule same =
-    subst (IsLeastBroken c.args.rows.now) (same_rule _ _ same)
-    (c.in_ok-rule.ensures.some c.in-Some.rule c.in-Some.is)
+pub returns-in-Some-clause-verdict : goal.returns-in-Some-clause-verdict
+returns-in-Some-clause-verdict c rows has = record {
+  sizes = tt;
+  kept = tt;
+  apart = tt;
+  damaged = λ rule same. subst (IsLeastBroken rows) (same_rule _ _ same)
+      (c.in-Some.ensures.some rows (rights_as rows _ _ _ _ _ has c.deref.ensures.value) c.in-Some.rule refl);
+  shared = λ store. absurd cc;
+  unbroken = λ store. absurd cc;
+}

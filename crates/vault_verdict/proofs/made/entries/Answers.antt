@@ -1,4 +1,6 @@
-use Rattle.std.proofs.Common.{◌≡◌, ap, arith, map, sym, take, ◌∙◌}
+use Rattle.std.proofs.Common.{◌≡◌, ◌<◌, ◌++◌, ◌∷◌, [], ap, arith, length, map, sym, take, ◌∙◌}
+use Rattle.std.proofs.lemmas.List.{map-append, take_more}
+use Rattle.vault_verdict.specs.Raw.{entry_values}
 use Rattle.std.proofs.Math.Seq.{take-length}
 use Rattle.vault_verdict.specs.Made.{as_entry}
 use Rattle.vault_verdict.proofs.made.entries.Goals as goal
@@ -6,8 +8,30 @@ use Rattle.vault_verdict.proofs.made.entries.Goals as goal
 pub returns : goal.returns
 returns c =
     let all = c.args.olders.now in
+    let inv = c.loop-older.invariant in
     let whole : take c.loop-older.older-index all ≡ all =
     ap (λ i. take i all)
     (let last = c.loop-older.auto.older-index-end in let past = c.loop-older-test.false in
     omega (arith, last, past)) ∙ take-length all in
-    ap (map as_entry) (sym whole) ∙ c.loop-older.invariant
+    (inv.0, inv.1, ap (map as_entry) (sym whole) ∙ inv.2)
+
+pub loop-older-preserved : goal.loop-older-preserved
+loop-older-preserved c =
+    let olders = c.args.olders.now in
+    let i = c.loop-older.older-index in
+    let o = c.older-item.result in
+    let e = c.in_ok-entry.entry in
+    let inv = c.loop-older.invariant in
+    let raws = inv.0 in
+    let inside : i < length olders =
+    omega (arith, c.loop-older-test.true, c.loop-older.auto.older-index-end) in (
+      raws ++ e ∷ [],
+      λ none.
+          let before = inv.1 none in
+          (c.in_ok-take.ensures.index ∙ before.0, c.in_ok-take.ensures.taken raws before.1),
+      ap (map as_entry)
+          (take_more olders i o inside ∙ ap (λ y. take i olders ++ y ∷ []) (sym c.older-item.is))
+          ∙ map-append as_entry (take i olders) (o ∷ [])
+          ∙ (λ j. inv.2 j ++ sym c.in_ok-entry.ensures j ∷ [])
+          ∙ sym (map-append entry_values raws (e ∷ [])),
+    )

@@ -1,26 +1,33 @@
-use Rattle.std.proofs.Common.{map, refl, subst, arith, IsPermutation}
-use Rattle.sqlite.specs.Held.{state}
-use Rattle.sql_maps.proofs.Limited.{mapped_twice}
-use Rattle.sql_maps.proofs.SoundById.{reads_ids, with_null}
-use Rattle.sql_maps.specs.Schema.{grown}
-use Rattle.vault_schema.specs.Version2.Tables.{v2}
-use Rattle.vault_schema.specs.Version2.Tables as tables
-use Rattle.vault_schema.proofs.Version2.Texts.{read_cards_is}
-use Rattle.vault_verdict.proofs.Readings.{reads_table}
+use Rattle.std.proofs.Common.{[]}
+use Rattle.vault_schema.proofs.Newest.{behind_second, indexes_behind_second}
+use Rattle.vault_schema.specs.Version3.Tables.{tables3, indexes3}
+use Rattle.vault_verdict.proofs.Joined.{none_said}
 use Rattle.vault_verdict.proofs.read.cards.Goals as goal
-use Rattle.vault_verdict.specs.Raw.{card_values}
-use Rattle.sql_maps.proofs.ById.{ById}
-use Rattle.vault_schema.specs.Version2.Rows.{card_columns}
 
-pub returns : goal.returns
-returns g c others indexes =
-    let means = read_cards_is others indexes in
-    let old = state g.S.Store c.args.conn.now in
-    let table : ById (grown v2 others indexes) card_columns =
-    record { table = tables.cards; place = 6; here = refl; fits = λ c. refl } in
-    reads_table g.S.Store c.args.conn.now c.shown.new.conn _ means (λ m. refl) (λ t. refl) c.shown.result
-    (c.shown.ensures (grown v2 others indexes) means.plain)
-    (λ raws has sound full shown.
-    subst (IsPermutation (old.now.trees 12)) (mapped_twice with_null card_values raws)
-    (reads_ids table old (state g.S.Store c.shown.new.conn) has sound _ (map card_values raws) _ means
-    shown refl (omega arith) refl))
+pub returns-in-One : goal.returns-in-One
+returns-in-One g c = rw (c.in-One.is) (record {
+  reads = c.first_cards.ensures.reads;
+  told = c.first_cards.ensures.told;
+  refused = λ clean has. none_said _ c.first_cards.result;
+})
+
+pub returns-in-Two : goal.returns-in-Two
+returns-in-Two g c = rw (c.in-Two.is) (record {
+  reads = c.later_cards.ensures.reads [] [];
+  told = c.later_cards.ensures.told [] [];
+  refused = c.later_cards.ensures.refused [] [];
+})
+
+pub returns-in-Three : goal.returns-in-Three
+returns-in-Three g c = rw (c.in-Three.is) (record {
+  reads = c.later_cards-in-Three.ensures.reads tables3 indexes3;
+  told = c.later_cards-in-Three.ensures.told tables3 indexes3;
+  refused = c.later_cards-in-Three.ensures.refused tables3 indexes3;
+})
+
+pub returns-in-Four : goal.returns-in-Four
+returns-in-Four g c = rw (c.in-Four.is) (record {
+  reads = c.later_cards-in-Four.ensures.reads behind_second indexes_behind_second;
+  told = c.later_cards-in-Four.ensures.told behind_second indexes_behind_second;
+  refused = c.later_cards-in-Four.ensures.refused behind_second indexes_behind_second;
+})

@@ -1,33 +1,35 @@
-use Rattle.std.proofs.Common.{[]}
+use Rattle.std.proofs.Common.{[], inl, inr, refl}
 use Rattle.vault_schema.proofs.Newest.{behind_second, indexes_behind_second}
 use Rattle.vault_schema.specs.Version3.Tables.{tables3, indexes3}
-use Rattle.vault_verdict.proofs.Joined.{none_said}
+use Rattle.vault_verdict.proofs.Joined.{none_said, unread_entries}
 use Rattle.vault_verdict.proofs.read.entries.Goals as goal
 
 pub returns-in-One : goal.returns-in-One
 returns-in-One g c = rw (c.in-One.is) (record {
-  reads = c.first_entries.ensures.reads;
-  told = c.first_entries.ensures.told;
-  refused = λ clean has. none_said _ c.first_entries.result;
+  reads = inr refl;
+  told = λ clean has. c.entries.ensures;
+  refused = λ clean has. none_said _ c.entries.result;
 })
 
 pub returns-in-Two : goal.returns-in-Two
 returns-in-Two g c = rw (c.in-Two.is) (record {
-  reads = c.later_entries.ensures.reads [] [];
-  told = c.later_entries.ensures.told [] [];
-  refused = c.later_entries.ensures.refused [] [];
+  reads = inl ((c.pointing_entries.ensures [] []).reads);
+  told = (c.pointing_entries.ensures [] []).told;
+  refused = λ clean has. unread_entries _ _ _ _ ((c.pointing_entries.ensures [] []).refused clean has);
 })
 
 pub returns-in-Three : goal.returns-in-Three
 returns-in-Three g c = rw (c.in-Three.is) (record {
-  reads = c.later_entries-in-Three.ensures.reads tables3 indexes3;
-  told = c.later_entries-in-Three.ensures.told tables3 indexes3;
-  refused = c.later_entries-in-Three.ensures.refused tables3 indexes3;
+  reads = inl ((c.pointing_entries-in-Three.ensures tables3 indexes3).reads);
+  told = (c.pointing_entries-in-Three.ensures tables3 indexes3).told;
+  refused = λ clean has. unread_entries _ _ _ _
+      ((c.pointing_entries-in-Three.ensures tables3 indexes3).refused clean has);
 })
 
 pub returns-in-Four : goal.returns-in-Four
 returns-in-Four g c = rw (c.in-Four.is) (record {
-  reads = c.later_entries-in-Four.ensures.reads behind_second indexes_behind_second;
-  told = c.later_entries-in-Four.ensures.told behind_second indexes_behind_second;
-  refused = c.later_entries-in-Four.ensures.refused behind_second indexes_behind_second;
+  reads = inl ((c.pointing_entries-in-Four.ensures behind_second indexes_behind_second).reads);
+  told = (c.pointing_entries-in-Four.ensures behind_second indexes_behind_second).told;
+  refused = λ clean has. unread_entries _ _ _ _
+      ((c.pointing_entries-in-Four.ensures behind_second indexes_behind_second).refused clean has);
 })

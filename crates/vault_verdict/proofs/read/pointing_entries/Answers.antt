@@ -4,14 +4,14 @@ use Rattle.sql_maps.proofs.Reading.{reads_long}
 use Rattle.sql_maps.specs.Schema.{grown}
 use Rattle.vault_schema.specs.Version2.Tables.{v2, entries}
 use Rattle.vault_schema.proofs.Version2.Texts.{read_entries_is}
-use Rattle.vault_verdict.proofs.Readings.{reads_table}
+use Rattle.vault_verdict.proofs.Readings.{takes_table}
 use Rattle.vault_verdict.proofs.read.pointing_entries.Goals as goal
 
 pub returns : goal.returns
 returns g c others indexes =
     let means = read_entries_is others indexes in
     let s = grown v2 others indexes in
-    reads_table g.S.Store c.args.conn.now c.shown.new.conn _ means (λ m. refl) (λ t. refl) c.shown.result
-    (c.shown.ensures s means.plain)
+    takes_table g.S.Store c.args.conn.now c.taken.new.conn _ means (λ m. refl) (λ t. refl) c.taken.result
+    (c.taken.ensures s means.plain)
     (λ raws has sound full shown. reads_long s (state g.S.Store c.args.conn.now)
-    (state g.S.Store c.shown.new.conn) has sound _ _ entries 7 refl _ means shown refl full)
+    (state g.S.Store c.taken.new.conn) has sound _ _ entries 7 refl _ means shown refl full)

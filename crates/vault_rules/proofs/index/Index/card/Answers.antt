@@ -7,5 +7,5 @@ use Rattle.vault_rules.proofs.index.Index.card.Goals as goal
 pub returns : goal.returns
 returns c =
     ap option_copied (c.copied.ensures ∙ c.get.ensures.value)
-    ∙ ap (λ z. option_copied (at_id c.args.self.now.cards z)) (to_z-of_z w64 c.args.id c.ranges.id)
+    ∙ ap (λ z. option_copied (at_id c.args.self.now.by_id z)) (to_z-of_z w64 c.args.id c.ranges.id)
     ∙ c.args.self.now.is_index.cards_are c.args.id

@@ -1,0 +1,62 @@
+use Rattle.std.proofs.Common.{◌∙◌, ◌+◌, ◌∷◌, ◌++◌, [], ap, sym, map, subst, rules, w64, SFits}
+use Rattle.std.proofs.Common.{cond, unwrap_or}
+use Rattle.std.proofs.lemmas.Int.{to_z-of_z}
+use Rattle.std.proofs.lemmas.List.{length-append, map-append}
+use Rattle.std.specs.Ordering.{int_eq}
+use Rattle.vault_rules.proofs.EntriesTaken.{card_used, card_unused}
+use Rattle.vault_rules.proofs.entries.Entries.take.Goals as goal
+use Rattle.vault_rules.specs.Index.{at_id}
+use Rattle.vault_rules.specs.Rising.{IsRisingOver}
+use Rattle.vault_rules.specs.Seen.{AreLive, HoldTokens, KeepRules}
+use Rattle.vault_rules.specs.declared.rows.RawEntry.{RawEntry}
+
+pub returns-in_ok-count_one-clause-taken : goal.returns-in_ok-count_one-clause-taken
+returns-in_ok-count_one-clause-taken c raws has =
+    let e = c.args.entry.now in
+    let merchants = c.args.self.now.index.merchants.now in
+    let cards = c.args.self.now.index.cards.now in
+    let is = c.found-found.ensures.entry in
+    let found = c.found-found.ensures.found in
+    let numbered : SFits w64 e.rowid = search rules in
+    let card = c.in-Some.card in
+    let fits : SFits w64 card = search rules in
+    record {
+      many = c.in_ok-self.ensures ∙ ap (λ n. n + 1) has.many ∙ sym (length-append raws (e ∷ []));
+      rowids = subst (IsRisingOver c.take.new.self)
+          (sym (map-append (λ (e : RawEntry). e.rowid) raws (e ∷ [])))
+          (subst (λ z. IsRisingOver c.take.new.self (map (λ (e : RawEntry). e.rowid) raws ++ z ∷ []))
+          (to_z-of_z w64 e.rowid numbered) (c.take.ensures _ has.rowids));
+      rules = subst (λ x. KeepRules merchants cards c.take-2.new.self (raws ++ x ∷ [])) is
+          (c.take-2.ensures merchants cards raws found has.rules);
+      live = subst (λ x. AreLive merchants cards c.take-3.new.self (raws ++ x ∷ [])) is
+          (c.in_ok-take.ensures merchants cards raws found has.live);
+      tokens = subst (λ x. HoldTokens merchants c.take-4.new.self (raws ++ x ∷ [])) is
+          (c.in_ok-take-2.ensures merchants cards raws found has.tokens);
+      used = λ id. card_used raws e card id _ _ c.in-Some.is
+          (c.in_ok-count_one.ensures id
+          ∙ ap (λ z. unwrap_or (at_id c.args.self.now.used id) 0 + cond (int_eq z id) 1 0)
+          (to_z-of_z w64 card fits)) (has.used id);
+    }
+
+pub returns-in_default-clause-taken : goal.returns-in_default-clause-taken
+returns-in_default-clause-taken c raws has =
+    let e = c.args.entry.now in
+    let merchants = c.args.self.now.index.merchants.now in
+    let cards = c.args.self.now.index.cards.now in
+    let is = c.found-found.ensures.entry in
+    let found = c.found-found.ensures.found in
+    let numbered : SFits w64 e.rowid = search rules in
+    record {
+      many = c.in_ok-self.ensures ∙ ap (λ n. n + 1) has.many ∙ sym (length-append raws (e ∷ []));
+      rowids = subst (IsRisingOver c.take.new.self)
+          (sym (map-append (λ (e : RawEntry). e.rowid) raws (e ∷ [])))
+          (subst (λ z. IsRisingOver c.take.new.self (map (λ (e : RawEntry). e.rowid) raws ++ z ∷ []))
+          (to_z-of_z w64 e.rowid numbered) (c.take.ensures _ has.rowids));
+      rules = subst (λ x. KeepRules merchants cards c.take-2.new.self (raws ++ x ∷ [])) is
+          (c.take-2.ensures merchants cards raws found has.rules);
+      live = subst (λ x. AreLive merchants cards c.take-3.new.self (raws ++ x ∷ [])) is
+          (c.in_ok-take.ensures merchants cards raws found has.live);
+      tokens = subst (λ x. HoldTokens merchants c.take-4.new.self (raws ++ x ∷ [])) is
+          (c.in_ok-take-2.ensures merchants cards raws found has.tokens);
+      used = λ id. card_unused raws e id _ c.in_default.is (has.used id);
+    }

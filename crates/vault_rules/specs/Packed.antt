@@ -1,0 +1,8 @@
+-- Texts of digits as numbers.
+use Rattle.std.specs.Prelude.{ℕ, ◌+◌, ◌-◌, ◌*◌, [], ◌∷◌}
+use Rattle.vault_core.specs.Keys.{Bytes}
+
+-- the digits from the last one to the first, behind a 1
+abbrev pub packed : Bytes → ℕ
+packed [] = 1
+packed (digit ∷ digits) = packed digits * 10 + (digit - 48)

@@ -1,0 +1,116 @@
+//! What the rules need of entries, which come one after the other.
+ghost use Rattle.std.specs.Prelude.{◌≡◌, ◌+◌, ◌<◌, ◌^◌, true, List, [], ◌∷◌, ◌++◌, OnOk, option_map};
+ghost use Rattle.vault_rules.specs.Lookups.{entry_of, held_by, is_known, used_by};
+ghost use Rattle.vault_rules.specs.declared.rows.RawEntry.{RawEntry as EntryRow};
+
+mod tokens;
+
+use crate::entries::tokens::Tokens;
+use crate::index::Index;
+use crate::index::counted::{count_one, one_more};
+use crate::rising::Rising;
+use crate::rows::RawEntry;
+use crate::rules::entries::EntryRules;
+use crate::rules::live::Live;
+use std::alloc::{AllocError, Global};
+use std::collections::BTreeMap;
+
+/// The entries that came, as far as the rules need them: none of their rows is kept.
+#[derive(Drop)]
+pub struct Entries<'a> {
+    pub(crate) index: Index<'a>,
+    many: usize,
+    rowids: Rising,
+    pub(crate) rules: EntryRules,
+    pub(crate) live: Live<'a>,
+    tokens: Tokens<'a>,
+    used: BTreeMap<i64, usize>,
+}
+
+impl<'a> Entries<'a> {
+    ghost use Rattle.vault_rules.specs.Seen.{HasEntries};
+
+    /// None came yet.
+    pub fn new(alloc: Global, index: Index<'a>) -> Entries<'a>
+        ensures index { result.index ≡ index.entry }
+        ensures none { HasEntries result [] }
+    {
+        Entries {
+            index,
+            many: 0,
+            rowids: Rising::new(),
+            rules: EntryRules::new(),
+            live: Live::new(alloc),
+            tokens: Tokens::new(alloc),
+            used: BTreeMap::new(alloc),
+        }
+    }
+
+    /// Takes the next entry. Only memory can fail.
+    pub fn take(&mut self, entry: &RawEntry) -> Result<(), AllocError>
+        ensures index { self.new.index ≡ self.old.index }
+        ensures counted { OnOk result (self.new.many ≡ self.old.many + 1) }
+        ensures few { OnOk result (self.new.many < 2 ^ 64) }
+        ensures taken { OnOk result ((raws : List EntryRow) → HasEntries self.old raws
+            → HasEntries self.new (raws ++ entry.now ∷ [])) }
+    {
+        let found = self.index.found(entry);
+        self.many = one_more(self.many)?;
+        self.rowids.take(entry.rowid);
+        self.rules.take(&found);
+        self.live.take(&found)?;
+        self.tokens.take(&found)?;
+        if let Some(card) = entry.card {
+            count_one(&mut self.used, card)?;
+        }
+        Ok(())
+    }
+
+    /// The rows that they name.
+    pub fn index(&self) -> &Index<'a>
+        ensures { result.now ≡ self.now.index }
+    {
+        &self.index
+    }
+
+    /// How many came.
+    pub fn many(&self) -> usize
+        ensures { result ≡ self.now.many }
+    {
+        self.many
+    }
+
+    /// Their rowids.
+    pub fn rowids(&self) -> &Rising
+        ensures { result.now ≡ self.now.rowids }
+    {
+        &self.rowids
+    }
+
+    /// How many entries a merchant that exists has.
+    pub(crate) fn held(&self, merchant: &str) -> usize
+        ensures { (raws : List EntryRow) → HasEntries self.now raws
+            → is_known self.now.index.merchants.now merchant.now ≡ true
+            → result ≡ held_by raws merchant.now }
+    {
+        self.tokens.held(merchant)
+    }
+
+    /// How many entries point at the card row of an id.
+    pub(crate) fn used(&self, id: i64) -> usize
+        ensures { (raws : List EntryRow) → HasEntries self.now raws → result ≡ used_by raws id }
+    {
+        self.used.get(&id).copied().unwrap_or(0)
+    }
+
+    /// The usage of a merchant's token, where each entry has a merchant and a token.
+    pub(crate) fn usage(&self, merchant: &str, token: &str) -> Option<i64>
+        ensures { (raws : List EntryRow) → HasEntries self.now raws → self.now.rules.tokens ≡ true
+            → result ≡ option_map (λ (e : EntryRow). e.usage) (entry_of raws merchant.now token.now) }
+    {
+        match self.index.merchant(merchant) {
+            Some(merchant) => self.tokens.usage(merchant, token),
+            None => None,
+        }
+    }
+}

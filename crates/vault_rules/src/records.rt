@@ -1,0 +1,73 @@
+//! What the rules need of records, which come one after the other.
+ghost use Rattle.std.specs.Prelude.{◌≡◌, ◌+◌, ◌<◌, ◌^◌, List, [], ◌∷◌, ◌++◌, OnOk};
+ghost use Rattle.vault_rules.specs.declared.rows.RawRecord.{RawRecord as RecordRow};
+
+use crate::entries::Entries;
+use crate::index::counted::one_more;
+use crate::rising::Rising;
+use crate::rows::RawRecord;
+use crate::rules::callers::is_record;
+use std::alloc::AllocError;
+
+/// The records that came behind all entries, as far as the rules need them: none of their rows is kept.
+#[derive(Drop)]
+pub struct Records<'a> {
+    pub(crate) entries: Entries<'a>,
+    many: usize,
+    rowids: Rising,
+    /// Rule 11: each record is of a caller with a name, of a request from 1 on, and of an entry that exists
+    /// and has the record's usage.
+    pub(crate) kept: bool,
+}
+
+impl<'a> Records<'a> {
+    ghost use Rattle.vault_rules.specs.Seen.{HasRecords};
+
+    /// None came yet.
+    pub fn new(entries: Entries<'a>) -> Records<'a>
+        ensures entries { result.entries ≡ entries.entry }
+        ensures none { HasRecords result [] }
+    {
+        Records {
+            entries,
+            many: 0,
+            rowids: Rising::new(),
+            kept: true,
+        }
+    }
+
+    /// Takes the next record. Only memory can fail.
+    pub fn take(&mut self, record: &RawRecord) -> Result<(), AllocError>
+        ensures entries { self.new.entries ≡ self.old.entries }
+        ensures counted { OnOk result (self.new.many ≡ self.old.many + 1) }
+        ensures few { OnOk result (self.new.many < 2 ^ 64) }
+        ensures taken { OnOk result ((raws : List RecordRow) → HasRecords self.old raws
+            → HasRecords self.new (raws ++ record.now ∷ [])) }
+    {
+        self.many = one_more(self.many)?;
+        self.rowids.take(record.rowid);
+        self.kept = self.kept && is_record(&self.entries, record);
+        Ok(())
+    }
+
+    /// The entries that they came behind.
+    pub fn entries(&self) -> &Entries<'a>
+        ensures { result.now ≡ self.now.entries }
+    {
+        &self.entries
+    }
+
+    /// How many came.
+    pub fn many(&self) -> usize
+        ensures { result ≡ self.now.many }
+    {
+        self.many
+    }
+
+    /// Their rowids.
+    pub fn rowids(&self) -> &Rising
+        ensures { result.now ≡ self.now.rowids }
+    {
+        &self.rowids
+    }
+}

@@ -1,0 +1,22 @@
+-- What takes rows, and what it took.
+use Rattle.std.specs.Prelude.{◌≡◌, List, []}
+use Rattle.vault_verdict.specs.declared.behind.Behind.{Behind}
+use Rattle.vault_rules.specs.AllRows.{Rows}
+use Rattle.vault_rules.specs.Seen.{HasEntries, HasRecords, HasRows}
+use Rattle.vault_rules.specs.declared.entries.Entries.{Entries}
+use Rattle.vault_rules.specs.declared.records.Records.{Records}
+use Rattle.vault_rules.specs.declared.rows.RawVersion.{RawVersion}
+use Rattle.vault_rules.specs.declared.rows.RawEntry.{RawEntry}
+use Rattle.vault_rules.specs.declared.rows.RawRecord.{RawRecord}
+
+-- after these entries, from none
+abbrev pub EntriesTaken : Entries → Entries → List RawEntry → Type 0
+EntriesTaken start now raws = HasEntries start [] → (now.index ≡ start.index) × HasEntries now raws
+
+-- after these records, from none
+abbrev pub RecordsTaken : Records → Records → List RawRecord → Type 0
+RecordsTaken start now raws = HasRecords start [] → (now.entries ≡ start.entries) × HasRecords now raws
+
+-- the rows of all tables were taken, these of `vault` beside them
+abbrev pub HasJudged : Rows → List RawVersion → Behind → Type 0
+HasJudged rows versions behind = HasRows rows versions behind.replaced behind.records behind.rights.items

@@ -1,0 +1,78 @@
+//! The rows behind those that entries name: entries, records and rights.
+ghost use Rattle.std.specs.Prelude.{◌≡◌, IfErr, IfOk, List};
+ghost use Rattle.sqlite.specs.Held.{state};
+ghost use Rattle.sqlite.specs.State.{HasCleanDisk};
+ghost use Rattle.sql_maps.specs.States.{Reads};
+ghost use Rattle.vault_verdict.specs.Reading.{AreBehind, AreTaken, IsUnreadOne};
+ghost use Rattle.vault_schema.specs.Versions.{schema_of};
+ghost use Rattle.vault_rules.specs.declared.rows.RawEntry.{RawEntry as EntryRow};
+ghost use Rattle.vault_rules.specs.declared.rows.RawRecord.{RawRecord as RecordRow};
+
+use crate::fault::ReadFault;
+use crate::read;
+use crate::replaced::OldEntry;
+use sqlite::{Alter, Connection};
+use std::alloc::Global;
+use vault_rules::entries::Entries;
+use vault_rules::index::Index;
+use vault_rules::records::Records;
+use vault_rules::rows::RawRight;
+use vault_schema::version::Version;
+
+/// The entries and the records, as far as the rules need them; the rights; and of the tables that were
+/// replaced, how many still have rows.
+#[derive(Drop)]
+pub(crate) struct Behind<'a> {
+    pub records: Records<'a>,
+    pub rights: Vec<RawRight>,
+    pub replaced: u64,
+}
+
+/// What takes the entries and the records of a version.
+fn taken<'a, S: Alter>(
+    conn: &mut Connection<S>,
+    version: Version,
+    olders: &[OldEntry],
+    start: Entries<'a>,
+) -> Result<Records<'a>, ReadFault>
+    ensures told { HasCleanDisk (state S.Store conn.new)
+        → (state S.Store conn.old).now.schema ≡ schema_of version
+        → IfOk result (λ it. (entries : List EntryRow) × (records : List RecordRow)
+        × AreTaken version (state S.Store conn.old).now olders.now start.entry it entries records) }
+    ensures refused { HasCleanDisk (state S.Store conn.new)
+        → (state S.Store conn.old).now.schema ≡ schema_of version
+        → IfErr result (λ e. e ≡ ReadFault.Store
+        → IsUnreadOne S.Store version (state S.Store conn.old).now conn.new) }
+    ensures reads { Reads (schema_of version) result (state S.Store conn.old) (state S.Store conn.new) }
+{
+    let entries = read::entries(conn, version, olders, start)?;
+    read::records(conn, Records::new(entries))
+}
+
+/// The rows of a version behind those that entries name, as those of the newest one.
+pub(crate) fn read_behind<'a, S: Alter>(
+    alloc: Global,
+    conn: &mut Connection<S>,
+    version: Version,
+    olders: &[OldEntry],
+    index: Index<'a>,
+) -> Result<Behind<'a>, ReadFault>
+    ensures told { HasCleanDisk (state S.Store conn.new)
+        → (state S.Store conn.old).now.schema ≡ schema_of version
+        → IfOk result (λ it. (entries : List EntryRow) × (records : List RecordRow)
+        × AreBehind version (state S.Store conn.old).now olders.now index.entry it entries records) }
+    ensures refused { HasCleanDisk (state S.Store conn.new)
+        → (state S.Store conn.old).now.schema ≡ schema_of version
+        → IfErr result (λ e. e ≡ ReadFault.Store
+        → IsUnreadOne S.Store version (state S.Store conn.old).now conn.new) }
+    ensures reads { Reads (schema_of version) result (state S.Store conn.old) (state S.Store conn.new) }
+{
+    let records = taken(conn, version, olders, Entries::new(alloc, index))?;
+    let rights = read::rights(alloc, conn, version)?;
+    let replaced = read::replaced(alloc, conn, version)?;
+    Ok(Behind {
+        records,
+        rights,
+        replaced,
+    })
+}

@@ -1,0 +1,50 @@
+//! The rows that entries name: merchants, their counts and cards.
+ghost use Rattle.std.specs.Prelude.{◌≡◌, IfErr, IfOk};
+ghost use Rattle.sqlite.specs.Held.{state};
+ghost use Rattle.sqlite.specs.State.{HasCleanDisk};
+ghost use Rattle.sql_maps.specs.States.{Reads};
+ghost use Rattle.vault_verdict.specs.Reading.{AreFirst, IsUnreadOne};
+ghost use Rattle.vault_schema.specs.Versions.{schema_of};
+
+use crate::fault::ReadFault;
+use crate::read::{self, CardRows};
+use crate::replaced::OldEntry;
+use sqlite::{Alter, Connection};
+use std::alloc::Global;
+use vault_rules::rows::{RawCard, RawCount, RawMerchant};
+use vault_schema::version::Version;
+
+/// The rows that entries name; with them the entries of schema 1 as they stand.
+#[derive(Drop)]
+pub(crate) struct First {
+    pub merchants: Vec<RawMerchant>,
+    pub counts: Vec<RawCount>,
+    pub cards: Vec<RawCard>,
+    pub olders: Vec<OldEntry>,
+}
+
+/// The rows of a version that entries name, as those of the newest one.
+pub(crate) fn read_first<S: Alter>(
+    alloc: Global,
+    conn: &mut Connection<S>,
+    version: Version,
+) -> Result<First, ReadFault>
+    ensures told { HasCleanDisk (state S.Store conn.new)
+        → (state S.Store conn.old).now.schema ≡ schema_of version
+        → IfOk result (λ it. AreFirst version (state S.Store conn.old).now it) }
+    ensures refused { HasCleanDisk (state S.Store conn.new)
+        → (state S.Store conn.old).now.schema ≡ schema_of version
+        → IfErr result (λ e. e ≡ ReadFault.Store
+        → IsUnreadOne S.Store version (state S.Store conn.old).now conn.new) }
+    ensures reads { Reads (schema_of version) result (state S.Store conn.old) (state S.Store conn.new) }
+{
+    let merchants = read::merchants(alloc, conn, version)?;
+    let counts = read::counts(alloc, conn)?;
+    let CardRows { olders, cards } = read::cards(alloc, conn, version)?;
+    Ok(First {
+        merchants,
+        counts,
+        cards,
+        olders,
+    })
+}
