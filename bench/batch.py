@@ -17,23 +17,20 @@ import tempfile
 import time
 
 sys.dont_write_bytecode = True
-import figures  # noqa: E402, without leaving a folder of its bytecode here
+import cards  # noqa: E402, without leaving a folder of its bytecode here
+import figures  # noqa: E402
 import pipe  # noqa: E402
 import same  # noqa: E402
+import settings  # noqa: E402
+from sides import assert_sound  # noqa: E402
 
 HEADER = ["request", "number", "use"]
 FIRST_LINE = ["request", "answer", "detail"]
 
 
-def card(place):
-    """The card number of a row: 16 digits that pass the check, others for each place below 10 ** 9."""
-    front = f"411111{place * 618033989 % 10**9:09}"
-    return next(front + last for last in "0123456789" if same.passes(front + last))
-
-
 def write_rows(path, first, many):
     """Rows that each ask for a single-use token of another card number, by the requests from `first` on."""
-    rows = ((first + place, card(place), "single") for place in range(many))
+    rows = ((first + place, cards.number_of(place), "single") for place in range(many))
     with open(path, "w", newline="") as file:
         csv.writer(file, lineterminator="\n").writerows((HEADER, *rows))
 
@@ -47,11 +44,10 @@ def batch(program, vault, asked, answers):
 
 
 def tokenize(conn, request, number):
-    """One row's statements, which same.py has for a single card number, with the row's own in its place."""
-    same.NUMBER = number
-    token = same.token_for(request)
+    """One row's statements."""
+    token = cards.token_for(request, number)
     lives = same.read(conn, request, token)
-    same.write(conn, request, token, lives)
+    same.write(conn, request, token, lives, number)
     single_life, _, moment, _ = lives
     return request, token, moment + single_life
 
@@ -63,7 +59,7 @@ def answer_rows(conn, asked, answers):
         assert next(reader) == HEADER
         writer.writerow(FIRST_LINE)
         for request, number, use in reader:
-            assert same.passes(number) and use == "single"
+            assert cards.passes(number) and use == "single"
             writer.writerow(tokenize(conn, int(request), number))
 
 
@@ -73,9 +69,8 @@ def assert_answered(program, vault, asked, answers):
         rows, lines = list(csv.reader(given))[1:], list(csv.reader(taken))
     assert lines.pop(0) == FIRST_LINE and len(lines) == len(rows)
     for (request, number, _), (answered, token, _) in zip(rows, lines):
-        assert answered == request and token[-4:] == number[-4:] and not same.passes(token)
-    checked = subprocess.run([program, "check", vault], stdout=subprocess.PIPE, check=True)
-    assert checked.stdout == f"sound 1 {len(rows) + 1} {len(rows) + 1}\n".encode()
+        assert answered == request and token[-4:] == number[-4:] and not cards.passes(token)
+    assert_sound(program, vault, len(rows) + 1)
 
 
 def time_vault(program, folder, asked, many):
@@ -105,7 +100,7 @@ def time_python(program, folder, asked, many):
 
 
 def main(program):
-    many, rounds = (int(os.environ.get(k, v)) for k, v in (("N", 10000), ("ROUNDS", 5)))
+    many, rounds = settings.number("N", 10000), settings.number("ROUNDS", 5)
     ours, theirs, ratios, disk, openings, loads = [], [], [], [], [], []
     for _ in range(rounds):
         with tempfile.TemporaryDirectory() as name:
@@ -118,7 +113,7 @@ def main(program):
             theirs.append(time_python(program, folder, asked, many))
             ratios.append(ours[-1] / theirs[-1])
             disk.append(figures.time_disk(folder, many))
-            loads.append(os.getloadavg()[0])
+            loads.append(figures.load())
     print("| Rows | Vault, a second | Python, a second | Ratio | Syncs, a second | Opening, ms | Load |")
     print("|---|---|---|---|---|---|---|")
     digits = ((ours, 0), (theirs, 0), (ratios, 2), (disk, 0), (openings, 1), (loads, 1))
@@ -126,4 +121,4 @@ def main(program):
 
 
 if __name__ == "__main__":
-    main(os.path.abspath(sys.argv[1] if len(sys.argv) > 1 else pipe.BUILT))
+    main(settings.program())

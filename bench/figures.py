@@ -43,20 +43,24 @@ def stolen():
         return int(file.readline().split()[8]) / os.sysconf("SC_CLK_TCK")
 
 
+def watched(side, *words):
+    """What a side answers, and the share of the processors' time that the host took meanwhile, in
+    hundredths."""
+    start, before = time.perf_counter(), stolen()
+    answer = side(*words)
+    spent = (time.perf_counter() - start) * os.cpu_count()
+    return answer, 100 * (stolen() - before) / spent
+
+
 def undisturbed(side, *words):
-    """What a side answers, and the share of the processors' time that the host took meanwhile, in hundredths.
-    It runs anew while the host took more than MOST_STOLEN, TRIES times at most; the try with the least of it
-    counts, whatever it answers."""
+    """The same of a side that runs anew while the host took more than MOST_STOLEN, TRIES times at most. The
+    try with the least of it counts, whatever it answers."""
     tries = []
     while len(tries) < TRIES:
-        start, before = time.perf_counter(), stolen()
-        answer = side(*words)
-        spent = (time.perf_counter() - start) * os.cpu_count()
-        tries.append((100 * (stolen() - before) / spent, answer))
-        if tries[-1][0] <= MOST_STOLEN:
+        tries.append(watched(side, *words))
+        if tries[-1][1] <= MOST_STOLEN:
             break
-    share, answer = min(tries, key=lambda it: it[0])
-    return answer, share
+    return min(tries, key=lambda it: it[1])
 
 
 def print_head(title, *columns):

@@ -20,10 +20,11 @@ import tempfile
 import time
 
 sys.dont_write_bytecode = True
-import figures  # noqa: E402, without leaving a folder of its bytecode here
-import pipe  # noqa: E402
+import cards  # noqa: E402, without leaving a folder of its bytecode here
+import figures  # noqa: E402
 import same  # noqa: E402
-from sides import timed, told  # noqa: E402
+import settings  # noqa: E402
+from sides import assert_sound, timed, told  # noqa: E402
 
 TABLES = """
 CREATE TABLE vault (id INTEGER PRIMARY KEY, version INTEGER NOT NULL) STRICT;
@@ -69,19 +70,6 @@ UPDATE vault SET version = 4 WHERE id = 1;
 READ = "SELECT rowid, merchant, token, number, usage, birth, expires, revoked FROM entries ORDER BY rowid"
 
 
-def number_of(place):
-    """A card number of 16 digits, another one for each place."""
-    front = f"4{place:014}"
-    return next(front + last for last in "0123456789" if same.passes(front + last))
-
-
-def token_for(place, number):
-    """A token of the number's last four digits, another one for each place."""
-    front = f"{place:011}"[::-1]
-    first = front + "0" + number[-4:]
-    return front + "1" + number[-4:] if same.passes(first) else first
-
-
 def make_file(path, many):
     """A file of schema 1: a merchant, and two tokens for each number."""
     conn = sqlite3.connect(path, isolation_level=None)
@@ -89,8 +77,8 @@ def make_file(path, many):
     conn.execute("BEGIN")
     conn.execute("INSERT INTO counts VALUES ('shop1', 1, ?1)", (many,))
     for place in range(1, many + 1):
-        number = number_of(place // 2)
-        token = token_for(place, number)
+        number = cards.number_of(place // 2)
+        token = cards.token_for(place, number)
         conn.execute("INSERT INTO entries VALUES ('shop1', ?1, ?2, 1, 1000, 1060, NULL)", (token, number))
         conn.execute("INSERT INTO records VALUES ('till-1', ?1, 'shop1', ?2, 1)", (place, token))
     conn.execute("COMMIT")
@@ -135,15 +123,15 @@ def time_round(program, base, folder, many):
     os.sync()
     python_spent, python_peak = told(sys.executable, __file__, "move", theirs).split()
     for path in (ours, theirs):
-        assert told(program, "check", path) == f"sound 1 {many} {many}\n"
+        assert_sound(program, path, many)
     return spent, float(python_spent), peak, int(python_peak) / 1024
 
 
 def main(program):
-    rounds = int(os.environ.get("ROUNDS", 5))
+    rounds = settings.number("ROUNDS", 5)
     print("| Entries | Vault, seconds | Python, seconds | Ratio | Vault, peak MiB | Python, peak MiB |")
     print("|---|---|---|---|---|---|")
-    for many in map(int, os.environ.get("ENTRIES", "1000 10000 100000").split()):
+    for many in settings.numbers("ENTRIES", "1000 10000 100000"):
         with tempfile.TemporaryDirectory() as name:
             folder = pathlib.Path(name)
             make_file(folder / "base.db", many)
@@ -159,4 +147,4 @@ if __name__ == "__main__":
     if sys.argv[1:2] == ["move"]:
         move(sys.argv[2])
     else:
-        main(os.path.abspath(sys.argv[1] if len(sys.argv) > 1 else pipe.BUILT))
+        main(settings.program())

@@ -1,11 +1,9 @@
 """Messages through the program: they stand on standard input, a vault in a file, answers go to standard
-output. What run.py, batch.py, sweep.py and migrate.py have of it.
+output. What run.py and batch.py have of it.
 """
-import pathlib
+
 import subprocess
 
-HERE = pathlib.Path(__file__).resolve().parent
-BUILT = HERE.parent / "crates" / "vault_cli" / "out" / "vault_cli"
 BODY = '{"number":"4111111111111111","use":"single"}'
 
 

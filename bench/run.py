@@ -4,9 +4,8 @@ over libsqlite3: run.sh builds what it wants, and calls it.
 
 N is how many commands are timed, BEFORE how many entries stand before them, CHECKED how many entries a file
 has that is checked, COUNTED how many commands are counted by valgrind and strace (0: none; 1000 at most, as
-many as a pipe answers), and ROUNDS how
-often each side is timed, in turn with the others and on a copy of the same file. PROGRAM, VAULT and SAME are
-the built programs.
+many as a pipe answers), and ROUNDS how often each side is timed, in turn with the others and on a copy of the
+same file. PROGRAM, VAULT and SAME are the built programs.
 """
 
 import os
@@ -17,22 +16,13 @@ import tempfile
 sys.dont_write_bytecode = True
 import figures  # noqa: E402, without leaving a folder of its bytecode here
 import traces  # noqa: E402
+from settings import number, numbers  # noqa: E402
 from sides import Sides  # noqa: E402
 
 DISK = ("Syncs, a second", "Load")
 STOLEN = "Taken by the host, %"
 RATES = ("alone", "whole", "python", "peer")
 NAMES = {"alone": "Vault, alone", "whole": "Vault, whole way", "python": "Python", "peer": "C"}
-
-
-def number(name, otherwise):
-    """A setting that is a number."""
-    return int(os.environ.get(name) or otherwise)
-
-
-def numbers(name, otherwise):
-    """A setting that is some numbers, or none."""
-    return [int(word) for word in os.environ.get(name, otherwise).split()]
 
 
 def machine(sides):

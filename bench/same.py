@@ -14,6 +14,9 @@ import sqlite3
 import sys
 import time
 
+sys.dont_write_bytecode = True
+import cards  # noqa: E402, without leaving a folder of its bytecode here
+
 LIVES = "SELECT single_life, multi_life, moment, lead_digits FROM merchants3 WHERE name = ?1"
 COUNTS = "SELECT kind, total FROM counts WHERE merchant = ?1"
 RIGHT = "SELECT ends FROM rights4 WHERE caller = ?1 AND merchant = ?2 AND what = ?3"
@@ -27,6 +30,7 @@ PUT_MERCHANT = (
 RAISE = "UPDATE counts SET total = total + 1 WHERE merchant = ?1 AND kind = ?2"
 ADD_COUNT = "INSERT INTO counts VALUES (?1, ?2, 1)"
 ADD_CARD = "INSERT INTO cards2 VALUES (NULL, ?1, ?2, 1)"
+PUT_CARD = "INSERT INTO cards2 VALUES (?1, ?2, ?3, ?4)"
 SET_USES = "UPDATE cards2 SET uses = ?2 WHERE id = ?1"
 ADD_ENTRY = "INSERT INTO entries2 VALUES (?1, ?2, ?3, ?4, ?5, ?6, ?7)"
 PUT_ENTRY = (
@@ -41,22 +45,6 @@ NUMBER = "4111111111111111"
 MADE = 1
 
 
-def passes(digits):
-    """Whether digits pass the card check."""
-    total = 0
-    for place, digit in enumerate(reversed(digits)):
-        value = int(digit) * (1 + place % 2)
-        total += value - 9 if value > 9 else value
-    return total % 10 == 0
-
-
-def token_for(number):
-    """The first good candidate: the number's digits backwards, one more digit, and the card's last four."""
-    front = f"{number:011}"[::-1]
-    first = front + "0" + NUMBER[-4:]
-    return front + "1" + NUMBER[-4:] if passes(first) else first
-
-
 def opened(file):
     """The file as the vault has it: a log, a sync at each commit, as much in memory, and as long a log."""
     conn = sqlite3.connect(file, isolation_level=None)
@@ -69,21 +57,21 @@ def opened(file):
     return conn
 
 
-def read(conn, number, token):
+def read(conn, request, token):
     """What one Tokenize reads, each row fetched: the merchant's lives, its moment and its lead."""
     lives = conn.execute(LIVES, (MERCHANT,)).fetchall()[0]
     conn.execute(COUNTS, (MERCHANT,)).fetchall()
     assert conn.execute(RIGHT, (CALLER, MERCHANT, 1)).fetchall() == [(None,)]
-    assert not conn.execute(RECORD, (CALLER, number)).fetchall()
+    assert not conn.execute(RECORD, (CALLER, request)).fetchall()
     assert not conn.execute(ENTRY, (MERCHANT, token)).fetchall()
     return lives
 
 
 def add_entry(conn, token, number, rest):
     """A new entry, and a use more of its number's card."""
-    cards = conn.execute(CARD, (MERCHANT, number)).fetchall()
-    if cards:
-        card, uses = cards[0]
+    found = conn.execute(CARD, (MERCHANT, number)).fetchall()
+    if found:
+        card, uses = found[0]
         conn.execute(SET_USES, (card, uses + 1))
     else:
         conn.execute(ADD_CARD, (MERCHANT, number))
@@ -103,21 +91,21 @@ def raise_count(conn, kind):
         conn.execute(ADD_COUNT, (MERCHANT, kind))
 
 
-def write(conn, number, token, lives):
-    """What one Tokenize writes, in one transaction."""
+def write(conn, request, token, lives, number=NUMBER):
+    """What one Tokenize of a card number writes, in one transaction."""
     single_life, _, moment, _ = lives
     conn.execute("BEGIN")
     put_merchant(conn, lives)
     raise_count(conn, MADE)
-    add_entry(conn, token, NUMBER, (1, moment, moment + single_life, None))
-    conn.execute(ADD_RECORD, (CALLER, number, MERCHANT, token, 1))
+    add_entry(conn, token, number, (1, moment, moment + single_life, None))
+    conn.execute(ADD_RECORD, (CALLER, request, MERCHANT, token, 1))
     conn.execute("COMMIT")
 
 
 def tokenize_many(conn, first, many):
-    for number in range(first, first + many):
-        token = token_for(number)
-        write(conn, number, token, read(conn, number, token))
+    for request in range(first, first + many):
+        token = cards.token_for(request, NUMBER)
+        write(conn, request, token, read(conn, request, token))
 
 
 def microseconds(start):

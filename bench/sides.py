@@ -1,5 +1,5 @@
 """The sides that take turns, each over a copy of a file that the vault made; the program finds each copy
-sound afterwards, with as many tokens as were asked for."""
+sound afterwards, with as many tokens as were asked for. And processes: what they say and what they take."""
 
 import os
 import pathlib
@@ -25,15 +25,39 @@ def told(*words):
     return subprocess.run([str(word) for word in words], stdout=subprocess.PIPE, check=True).stdout.decode()
 
 
-def timed(words, asked, answers):
-    """The seconds of a process, and its peak memory in MiB. A small program between this one and it says the
-    peak, since what a process took before it became the program counts too; it takes about a millisecond."""
+def timed(words, asked, answers, status=0):
+    """The seconds of a process that ends with this status, and its peak memory in MiB. Where the status tells
+    a fault, what stands on standard error is among the answers.
+    A small program between this one and it says the peak, since what a process took before it became the
+    program counts too; it takes about a millisecond."""
     with tempfile.NamedTemporaryFile() as peak, open(asked) as given, open(answers, "w") as taken:
-        watch = ["/usr/bin/time", "-f", "%M", "-o", peak.name]
+        watch = ["/usr/bin/time", "-q", "-f", "%M", "-o", peak.name]
+        errors = taken if status else None
         start = time.perf_counter()
-        subprocess.run([*watch, *(str(word) for word in words)], stdin=given, stdout=taken, check=True)
+        words = [*watch, *(str(word) for word in words)]
+        ran = subprocess.run(words, stdin=given, stdout=taken, stderr=errors)
         spent = time.perf_counter() - start
+        assert ran.returncode == status, f"{words} ended with {ran.returncode}"
         return spent, int(peak.read()) / 1024
+
+
+def assert_sound(program, path, entries):
+    """The program finds a merchant in a file, so many tokens and a record of each."""
+    assert told(program, "check", path) == f"sound 1 {entries} {entries}\n", f"not {entries} tokens"
+
+
+def timed_check(program, path, entries, answers):
+    """The seconds and the peak of `vault check`, which finds so many tokens."""
+    found = timed((program, "check", path), os.devnull, answers)
+    assert pathlib.Path(answers).read_text() == f"sound 1 {entries} {entries}\n", f"not {entries} tokens"
+    return found
+
+
+def timed_python_check(path, entries):
+    """The seconds of PRAGMA integrity_check on an open file, and the peak of Python's process."""
+    said = told(sys.executable, HERE / "same.py", "check", path)
+    spent, peak = re.fullmatch(rf"{entries} entries in (\d+) microseconds, (\d+) KiB\n", said).groups()
+    return int(spent) / 1000000, int(peak) / 1024
 
 
 def growth(ran, file):
@@ -83,14 +107,11 @@ class Sides:
         os.sync()
         return path
 
-    def assert_sound(self, path, entries):
-        assert told(self.vault, "check", path) == f"sound 1 {entries} {entries}\n", f"not {entries} tokens"
-
     def rate(self, words, path, entries, many):
         """The rate that the line of a side says, which must have made its tokens."""
         said = told(*words)
         spent = re.fullmatch(rf"{many} commands in (\d+) microseconds, \d+ a second\n", said)
-        self.assert_sound(path, entries + many)
+        assert_sound(self.vault, path, entries + many)
         return many * 1000000 / max(1, int(spent[1]))
 
     def alone(self, entries, many):
@@ -140,20 +161,16 @@ class Sides:
         for messages in parts(many):
             seconds, answers = self.answering(path, self.messages(first, messages))
             spent, answered, first = spent + seconds, answered + answers, first + messages
-        self.assert_sound(path, entries + many)
+        assert_sound(self.vault, path, entries + many)
         return answered / spent if spent > 0 else None, *opening
 
     def check(self, entries):
         """The seconds and the peak of `vault check`, and the seconds of the check alone."""
-        path = self.copy(entries)
-        found = timed((self.vault, "check", path), os.devnull, self.folder / "answers")
-        assert (self.folder / "answers").read_text() == f"sound 1 {entries} {entries}\n"
+        found = timed_check(self.vault, self.copy(entries), entries, self.folder / "answers")
         said = told(self.bench, "check", self.copy(entries))
         alone = re.fullmatch(rf"{entries} entries in (\d+) microseconds\n", said)
         return *found, int(alone[1]) / 1000000
 
     def python_check(self, entries):
-        """The seconds of PRAGMA integrity_check on an open file, and the peak of Python's process."""
-        said = told(sys.executable, HERE / "same.py", "check", self.copy(entries))
-        spent, peak = re.fullmatch(rf"{entries} entries in (\d+) microseconds, (\d+) KiB\n", said).groups()
-        return int(spent) / 1000000, int(peak) / 1024
+        """The seconds and the peak of the same by Python's sqlite3."""
+        return timed_python_check(self.copy(entries), entries)

@@ -14,10 +14,12 @@ import tempfile
 import time
 
 sys.dont_write_bytecode = True
-import figures  # noqa: E402, without leaving a folder of its bytecode here
-import pipe  # noqa: E402
+import cards  # noqa: E402, without leaving a folder of its bytecode here
+import figures  # noqa: E402
+import filled  # noqa: E402
 import same  # noqa: E402
-from sides import told  # noqa: E402
+import settings  # noqa: E402
+from sides import assert_sound, told  # noqa: E402
 
 FIND_DEAD = (
     "SELECT token FROM entries2 WHERE merchant = ?1 AND token >= ?2 AND card IS NOT NULL"
@@ -38,30 +40,16 @@ def rows_of(dead):
     """The rows of a merchant's entries, every other one dead, all of the card with the id 1, and of their
     records."""
     for number in range(1, 2 * dead + 1):
-        token, birth = same.token_for(number), BORN_DEAD if number % 2 else BORN_LIVE
+        token, birth = cards.token_for(number, same.NUMBER), BORN_DEAD if number % 2 else BORN_LIVE
         entry = (same.MERCHANT, token, 1, 1, birth, birth + LIFE, None)
         yield entry, (same.CALLER, number, same.MERCHANT, token, 1)
 
 
 def make_file(program, vault, dead):
-    """The program's own file, in which the tokens are put in one transaction; the program checks it."""
-    now = ("--now", str(BORN_LIVE))
-    assert told(program, "merchant", *now, vault, same.MERCHANT, str(LIFE), "0") == "done\n"
-    assert told(program, "grant", *now, vault, CALLER, same.MERCHANT, "purge") == "done\n"
-    entries, records = zip(*rows_of(dead))
-    conn = same.opened(vault)
-    conn.execute("BEGIN")
-    conn.execute("INSERT INTO counts VALUES (?1, 1, ?2)", (same.MERCHANT, 2 * dead))
-    conn.execute("INSERT INTO cards2 VALUES (1, ?1, ?2, ?3)", (same.MERCHANT, same.NUMBER, 2 * dead))
-    conn.executemany(same.ADD_ENTRY, entries)
-    conn.executemany(same.ADD_RECORD, records)
-    conn.execute("COMMIT")
-    conn.close()
-    assert_sound(program, vault, dead)
-
-
-def assert_sound(program, vault, dead):
-    assert told(program, "check", vault) == f"sound 1 {2 * dead} {2 * dead}\n"
+    """The program's own file with such a merchant."""
+    filled.make_vault(program, vault, BORN_LIVE, (LIFE, 0), (CALLER, "purge"))
+    card = (1, same.MERCHANT, same.NUMBER, 2 * dead)
+    filled.fill(program, vault, 2 * dead, ([card], *zip(*rows_of(dead))))
 
 
 def sweep(program, vault, merchant, purged):
@@ -126,10 +114,10 @@ def time_round(program, folder, dead):
     os.sync()
     opening = sweep(program, ours, "none", 0)
     swept = sweep(program, ours, same.MERCHANT, dead) - opening
-    assert_sound(program, ours, dead)
+    assert_sound(program, ours, 2 * dead)
     os.sync()
     spent, lists = sweep_python(theirs, dead)
-    assert_sound(program, theirs, dead)
+    assert_sound(program, theirs, 2 * dead)
     return swept, spent, lists, opening, figures.time_disk(folder, min(dead, 1000))
 
 
@@ -148,10 +136,10 @@ def print_line(dead, rounds):
 
 
 def main(program):
-    rounds = int(os.environ.get("ROUNDS", 3))
+    rounds = settings.number("ROUNDS", 3)
     print("| Dead | Vault, a second | Python, a second | Ratio | Lists, % | Syncs, a second | Opening, s |")
     print("|---|---|---|---|---|---|---|")
-    for dead in map(int, os.environ.get("DEAD", "10000 30000 100000").split()):
+    for dead in settings.numbers("DEAD", "10000 30000 100000"):
         timed = []
         for _ in range(rounds):
             with tempfile.TemporaryDirectory() as name:
@@ -160,4 +148,4 @@ def main(program):
 
 
 if __name__ == "__main__":
-    main(os.path.abspath(sys.argv[1] if len(sys.argv) > 1 else pipe.BUILT))
+    main(settings.program())
