@@ -32,7 +32,7 @@ NOT_OPENED = 3
 
 COLUMNS = (
     ("Entries", "File, MiB")
-    + ("`vault check`, s", "Its opening alone, s", "The rest, %", "Python, s", "`vault check` / Python")
+    + ("`vault check`, s", "Its opening alone, s", "Python, s", "`vault check` / Python", "The rest / Python")
     + ("`vault check`, MiB", "Bytes a token", "Its opening alone, MiB", "Python, MiB")
     + ("Load", "Taken by the host, %")
 )
@@ -105,10 +105,10 @@ def print_line(many, rounds, size):
     """The middle figures of some rounds, with the least and the greatest; of peaks the greatest."""
     sides, loads, shares = zip(*rounds)
     (ours, most), (openings, opening_most), (theirs, python_most) = map(seconds_and_peak, zip(*sides))
-    rests = [100 * (whole - opening) / whole for whole, opening in zip(ours, openings)]
     ratios = [whole / python for whole, python in zip(ours, theirs)]
+    rests = [(ours[i] - openings[i]) / theirs[i] for i in range(len(theirs))]
     cells = [many, f"{size / MIB:.1f}", figures.middle(ours, 3), figures.middle(openings, 3)]
-    cells += [figures.middle(rests), figures.middle(theirs, 3), figures.middle(ratios, 2)]
+    cells += [figures.middle(theirs, 3), figures.middle(ratios, 2), figures.middle(rests, 2)]
     cells += [f"{most:.1f}", f"{most * MIB / many:.0f}", f"{opening_most:.1f}", f"{python_most:.1f}"]
     figures.print_line(*cells, figures.middle(loads, 1), figures.middle(shares, 2))
 

@@ -1,13 +1,14 @@
 #!/usr/bin/env python3
 """Times how a file of schema 1 moves to the newest schema, by the program and by Python's sqlite3 with the
-same statements, each on a copy of the same file, in turn.
+same statements, each on a copy of the same file, in turn. Of both the opening is timed alone too: what the
+program does until it has read a version that no schema has, and PRAGMA integrity_check.
 
 migrate.py [PROGRAM] times the built program, which is crates/vault_cli/out/vault_cli if it is left out.
 ENTRIES says how many entries a file has, one line each (1000 10000 100000), and ROUNDS how many rounds there
 are (5).
 
-migrate.py move FILE moves a file by Python alone, and prints its seconds and the peak of its own memory in
-KiB.
+migrate.py move FILE moves a file by Python alone, and prints its seconds, those of integrity_check, and the
+peak of its own memory in KiB.
 """
 
 import os
@@ -25,6 +26,17 @@ import figures  # noqa: E402
 import same  # noqa: E402
 import settings  # noqa: E402
 from sides import assert_sound, timed, told  # noqa: E402
+
+MIB = 1048576
+# A version that no schema has, as short in its row as one that is known; and how the program refuses it.
+NO_VERSION = 99
+NOT_OPENED = 3
+
+COLUMNS = (
+    ("Entries", "Vault, s", "Python, s", "Vault / Python")
+    + ("Vault, opening, s", "Python, opening, s", "The rest, vault / Python")
+    + ("Vault, MiB", "Bytes a token", "Python, MiB")
+)
 
 TABLES = """
 CREATE TABLE vault (id INTEGER PRIMARY KEY, version INTEGER NOT NULL) STRICT;
@@ -100,47 +112,72 @@ def move(path):
     start = time.perf_counter()
     conn = same.opened(path)
     assert conn.execute("PRAGMA integrity_check").fetchall() == [("ok",)]
+    checked = time.perf_counter() - start
     rows = conn.execute(READ).fetchall()
     step(conn, CARDS, (row[2:] for row in rows))
     step(conn, LEADS)
     step(conn, ENDS)
     conn.close()
     spent = time.perf_counter() - start
-    print(spent, resource.getrusage(resource.RUSAGE_SELF).ru_maxrss)
+    print(spent, checked, resource.getrusage(resource.RUSAGE_SELF).ru_maxrss)
+
+
+def copied(base, path):
+    """A new copy of a file, without what was left of an earlier one."""
+    for old in path.parent.glob(path.name + "*"):
+        old.unlink()
+    shutil.copy(base, path)
+    return path
+
+
+def timed_opening(program, base, folder):
+    """The seconds of the program on a copy whose version no schema has, which it doesn't move."""
+    path, answers = copied(base, folder / "refused.db"), folder / "answers"
+    conn = same.opened(path)
+    conn.execute("UPDATE vault SET version = ?1", (NO_VERSION,))
+    conn.close()
+    os.sync()
+    spent, _ = timed((program, "migrate", path), os.devnull, answers, NOT_OPENED)
+    assert answers.read_text() == f"vault: file not opened 30 {NO_VERSION}\n"
+    return spent
 
 
 def time_round(program, base, folder, many):
-    """Seconds and peaks of both sides, each on a copy of the file; the program finds both copies sound
-    afterwards."""
-    ours, theirs = folder / "ours.db", folder / "theirs.db"
-    for path in (ours, theirs):
-        for old in folder.glob(path.name + "*"):
-            old.unlink()
-        shutil.copy(base, path)
+    """The seconds of each side, those of its opening, and its peak, each on a copy of the file; the program
+    finds both copies sound afterwards."""
+    ours, theirs = (copied(base, folder / name) for name in ("ours.db", "theirs.db"))
+    answers = folder / "answers"
+    opening = timed_opening(program, base, folder)
     os.sync()
-    spent, peak = timed((program, "migrate", ours), os.devnull, folder / "answers")
-    assert (folder / "answers").read_text() == "schema 4\n"
+    spent, peak = timed((program, "migrate", ours), os.devnull, answers)
+    assert answers.read_text() == "schema 4\n"
     os.sync()
-    python_spent, python_peak = told(sys.executable, __file__, "move", theirs).split()
+    python_spent, checked, python_peak = map(float, told(sys.executable, __file__, "move", theirs).split())
     for path in (ours, theirs):
         assert_sound(program, path, many)
-    return spent, float(python_spent), peak, int(python_peak) / 1024
+    return (spent, opening, peak), (python_spent, checked, python_peak / 1024)
+
+
+def print_line(many, rounds):
+    """The middle figures of some rounds, with the least and the greatest; of peaks the greatest."""
+    ours, theirs = zip(*rounds)
+    (spent, opened, peaks), (python, checked, python_peaks) = zip(*ours), zip(*theirs)
+    ratios = [mine / its for mine, its in zip(spent, python)]
+    rests = [(mine[0] - mine[1]) / (its[0] - its[1]) for mine, its in rounds]
+    cells = [figures.middle(cell, 2) for cell in (spent, python, ratios, opened, checked, rests)]
+    most = max(peaks)
+    cells += [f"{most:.1f}", f"{most * MIB / many:.0f}", f"{max(python_peaks):.1f}"]
+    figures.print_line(many, *cells)
 
 
 def main(program):
     rounds = settings.number("ROUNDS", 5)
-    print("| Entries | Vault, seconds | Python, seconds | Ratio | Vault, peak MiB | Python, peak MiB |")
-    print("|---|---|---|---|---|---|")
+    figures.print_head(f"How a file of schema 1 moves, {rounds} rounds", *COLUMNS)
     for many in settings.numbers("ENTRIES", "1000 10000 100000"):
         with tempfile.TemporaryDirectory() as name:
             folder = pathlib.Path(name)
             make_file(folder / "base.db", many)
-            all_rounds = [time_round(program, folder / "base.db", folder, many) for _ in range(rounds)]
-        ours, theirs, our_peaks, their_peaks = zip(*all_rounds)
-        ratios = [ours[i] / theirs[i] for i in range(rounds)]
-        cells = [figures.middle(ours, 2), figures.middle(theirs, 2), figures.middle(ratios, 2)]
-        cells += [f"{max(our_peaks):.1f}", f"{max(their_peaks):.1f}"]
-        print(f"| {many} | {' | '.join(cells)} |", flush=True)
+            print_line(many, [time_round(program, folder / "base.db", folder, many) for _ in range(rounds)])
 
 
 if __name__ == "__main__":

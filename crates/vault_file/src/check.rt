@@ -18,6 +18,7 @@ use crate::fault::NotOpened;
 use crate::make::{is_no_path, open_private};
 use sqlite::{Connection, FileFrom, FileStore, Start};
 use vault_blank::make::is_missing;
+use vault_recover::options::Cache;
 use vault_recover::reopen::close;
 use vault_verdict::check::check;
 use vault_verdict::fault::OpenFault;
@@ -51,7 +52,7 @@ pub fn check_from<S: Start>(
     ensures never { IfErr result (λ e. IfSome e.1 (λ conn. HasCleanDisk (file_state conn)
         → (V : Content) → Sound V → Keeps (image_at S.Start) V → IsNoVerdict e.0)) }
 {
-    let Some(mut conn) = open_private(rt, path, start) else {
+    let Some(mut conn) = open_private(rt, path, start, Cache::Small) else {
         return Err((NotOpened::Refused, None));
     };
     match check(rt.alloc(), &mut conn) {

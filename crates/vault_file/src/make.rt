@@ -12,6 +12,7 @@ ghost use Rattle.vault_schema.specs.Holds.{Holds};
 
 use sqlite::{Connection, FileFrom, FileStore, Start};
 use vault_blank::make::make_blank;
+use vault_recover::options::Cache;
 use vault_recover::reopen::open_path;
 
 /// Whether the words name no file: the database keeps `:memory:` and what begins with `file:` for itself.
@@ -26,6 +27,7 @@ pub(crate) fn open_private<S: Start>(
     rt: &HostRuntime,
     path: &str,
     start: S,
+    cache: Cache,
 ) -> Option<Connection<FileStore<FileFrom<S>>>>
     ensures no_path { IsNoPath path.now → result ≡ None }
     ensures idle { IfSome result (λ c. c.in_transaction ≡ false) }
@@ -43,7 +45,7 @@ pub(crate) fn open_private<S: Start>(
         return None;
     }
     match make_blank(rt, path) {
-        Ok(_) => open_path(rt, path, start),
+        Ok(_) => open_path(rt, path, start, cache),
         Err(_) => None,
     }
 }

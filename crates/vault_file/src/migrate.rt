@@ -17,6 +17,7 @@ use crate::make::open_private;
 use crate::reopen::close_moved;
 use sqlite::{Connection, FileFrom, FileStore, Start};
 use vault_migrate::migrate::migrate_all;
+use vault_recover::options::Cache;
 use vault_recover::reopen::close;
 use vault_verdict::fault::OpenFault;
 
@@ -50,7 +51,7 @@ pub fn migrate_from<S: Start>(
     ensures left { IfErr result (λ e. IfSome e.1 (LeavesFrom (image_at S.Start))) }
     ensures left_old { IfErr result (λ e. IfSome e.1 (LeavesOld (image_at S.Start) e.0)) }
 {
-    let Some(mut conn) = open_private(rt, path, start) else {
+    let Some(mut conn) = open_private(rt, path, start, Cache::Large) else {
         return Err((NotOpened::Refused, None));
     };
     match migrate_all(rt.alloc(), &mut conn) {

@@ -21,6 +21,7 @@ use crate::make::open_private;
 use sqlite::{Connection, FileFrom, FileStore, Start};
 use sqlite_disk::Disk;
 use vault_recover::open::open;
+use vault_recover::options::Cache;
 use vault_recover::reopen::close;
 use vault_sql::tables::SqlTables;
 use vault_store::vault::Vault;
@@ -57,7 +58,7 @@ pub fn open_from<S: Start>(
         → (V : Content) → Sound V → Keeps (image_at S.Start) V → IsNoVerdict e.0)) }
     ensures left { IfErr result (λ e. IfSome e.1 (LeavesFrom (image_at S.Start))) }
 {
-    let Some(conn) = open_private(rt, path, start) else {
+    let Some(conn) = open_private(rt, path, start, Cache::Large) else {
         return Err((NotOpened::Refused, None));
     };
     match open(rt.alloc(), conn) {

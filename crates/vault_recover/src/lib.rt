@@ -5,5 +5,5 @@ mod cached;
 pub mod last;
 pub mod laws;
 pub mod open;
-mod options;
+pub mod options;
 pub mod reopen;

@@ -8,9 +8,25 @@ use std::io::{ErrorKind, Read};
 use std::rt::HostRuntime;
 use std::{fs, io};
 
-/// How many bytes of pages that were read are kept in memory, 16 MiB, and as many of pages that were written
-/// before they go to the log.
-const CACHE_BYTES: usize = 16_777_216;
+/// How much of a file is kept in memory.
+#[derive(Clone, Copy)]
+pub enum Cache {
+    /// 16 MiB, for a file that is read at many places and written.
+    Large,
+    /// 2 MiB, as the command-line shell of SQLite has, for a file that is read through once.
+    Small,
+}
+
+impl Cache {
+    /// How many bytes of pages that were read are kept, and as many of pages that were written before they go
+    /// to the log.
+    fn bytes(self) -> usize {
+        match self {
+            Cache::Large => 16_777_216,
+            Cache::Small => 2_097_152,
+        }
+    }
+}
 
 /// How many bytes of pages the log grows by before they are copied into the database file: six times the
 /// thousand pages of 4096 bytes that are usual.
@@ -44,15 +60,16 @@ fn header_of(rt: &HostRuntime, path: &str) -> io::Result<[u8; 18]> {
 
 /// The options for the database at a path, by the size of its pages. The salts of the log begin from a random
 /// number.
-pub(crate) fn options_for(rt: &HostRuntime, path: &str) -> io::Result<Options> {
+pub(crate) fn options_for(rt: &HostRuntime, path: &str, cache: Cache) -> io::Result<Options> {
     let size = match header_of(rt, path) {
         Ok(header) => page_size_in(&header),
         Err(_) => NEW_PAGE,
     };
     let seed = RandomState::new(rt)?.hash_one(&0u8);
+    let pages = cache.bytes() / size;
     Ok(Options {
-        cache_pages: CACHE_BYTES / size,
-        spill_pages: CACHE_BYTES / size,
+        cache_pages: pages,
+        spill_pages: pages,
         checkpoint_frames: LOG_BYTES / size,
         seed,
     })

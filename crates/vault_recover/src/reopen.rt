@@ -18,7 +18,7 @@ ghost use Rattle.vault_recover.specs.Crashed.{Reopens, ReopensEither, ReopensFir
 ghost use Rattle.vault_schema.specs.Holds.{AreOurs, Holds, LeavesEither, LeavesFirst};
 
 use crate::cached::keep_both_in_pages;
-use crate::options::options_for;
+use crate::options::{Cache, options_for};
 use sqlite::{Connection, FileFrom, FileStore, Files, Options, Start};
 use sqlite_disk::Disk;
 use std::alloc::Global;
@@ -80,11 +80,12 @@ fn connect<S: Start>(
     rt: &HostRuntime,
     path: &str,
     start: S,
+    cache: Cache,
 ) -> Option<Connection<FileStore<FileFrom<S>>>>
     ensures fresh { IfSome result IsNew }
     ensures opened { IfSome result (λ c. HasCleanDisk (file_state c) → IsOpenOf (image_at S.Start) c) }
 {
-    let Ok(options) = options_for(rt, path) else {
+    let Ok(options) = options_for(rt, path, cache) else {
         return None;
     };
     let Ok(files) = sqlite_std_file::open(rt, path, start) else {
@@ -106,6 +107,7 @@ pub fn open_path<S: Start>(
     rt: &HostRuntime,
     path: &str,
     start: S,
+    cache: Cache,
 ) -> Option<Connection<FileStore<FileFrom<S>>>>
     ensures idle { IfSome result (λ c. c.in_transaction ≡ false) }
     ensures unlimited { IfSome result (λ c. c.step_limit ≡ None) }
@@ -120,7 +122,7 @@ pub fn open_path<S: Start>(
         → (before : Trees) → AreBlank before → KeepsFirst (image_at S.Start) before
         → HoldsFirst (file_state c) before) }
 {
-    match connect(rt, path, start) {
+    match connect(rt, path, start, cache) {
         Some(opened) => Some(opened),
         None => None,
     }

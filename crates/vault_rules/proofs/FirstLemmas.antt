@@ -1,11 +1,9 @@
 -- The first row of a key, among one row more.
 use Rattle.std.proofs.Common.{◌≡◌, ◌+◌, ◌<◌, ℕ, Bool, true, false, cond, List, [], ◌∷◌, ◌++◌, length, take}
-use Rattle.std.proofs.Common.{get_or, Option, Some, None, Bor, refl, sym, ap, ◌∙◌, ◌&&◌, bytes_eq}
-use Rattle.std.specs.Cmp.Lexicographic.{texts_ties}
+use Rattle.std.proofs.Common.{get_or, Option, Some, None, Bor, refl, sym, ap, ◌∙◌, ◌&&◌}
 use Rattle.std.specs.Ordering.{is_eq, ordering_then}
 use Rattle.std.specs.declared.cmp.Ordering.{Ordering}
 use Rattle.std.specs.declared.cmp.Ordering.TheVariants.{Less, Equal, Greater}
-use Rattle.vault_core.specs.Keys.{bytes_cmp}
 use Rattle.std.proofs.lemmas.List.{take_more}
 use Rattle.std.proofs.lemmas.List.Folds.{find-append}
 use Rattle.std.specs.List.{find}
@@ -66,11 +64,3 @@ pub both : (a b : Ordering) → is_eq (ordering_then a b) ≡ is_eq a && is_eq b
 both Less b = refl
 both Equal b = refl
 both Greater b = refl
-
--- pairs that compare alike have the same texts
-pub pair_ties : (a b c d : List ℕ)
-    → is_eq (ordering_then (bytes_cmp a c) (bytes_cmp b d)) ≡ bytes_eq a c && bytes_eq b d
-pair_ties a b c d =
-    both (bytes_cmp a c) (bytes_cmp b d)
-    ∙ sym (ap (λ x. x && bytes_eq b d) (texts_ties a c)
-    ∙ ap (λ x. is_eq (bytes_cmp a c) && x) (texts_ties b d))

@@ -6,23 +6,26 @@ use Rattle.vault_rules.specs.AllRows.{Rows}
 use Rattle.vault_rules.specs.Rules.{IsLeastBroken, keeps, verdicts}
 use Rattle.vault_rules.specs.Verdicts.{AreVerdicts, IsFirstBroken}
 
--- five verdicts, and the others where the fifth is true
-pub verdicts_from : (rows : Rows) (a b c d e : Bool) (told are : List Bool)
-    → verdicts rows ≡ a ∷ b ∷ c ∷ d ∷ e ∷ are → (e ≡ true → told ≡ are)
-    → AreVerdicts rows (a ∷ b ∷ c ∷ d ∷ e ∷ told)
-verdicts_from rows a b c d e told are is rest zero before = ap (λ l. slice_index_or l 0 true) (sym is)
-verdicts_from rows a b c d e told are is rest (suc zero) before =
+-- six verdicts, and the others where the fifth and the sixth are true
+pub verdicts_from : (rows : Rows) (a b c d e f : Bool) (told are : List Bool)
+    → verdicts rows ≡ a ∷ b ∷ c ∷ d ∷ e ∷ f ∷ are → (e ≡ true → f ≡ true → told ≡ are)
+    → AreVerdicts rows (a ∷ b ∷ c ∷ d ∷ e ∷ f ∷ told)
+verdicts_from rows a b c d e f told are is rest zero before = ap (λ l. slice_index_or l 0 true) (sym is)
+verdicts_from rows a b c d e f told are is rest (suc zero) before =
     ap (λ l. slice_index_or l 1 true) (sym is)
-verdicts_from rows a b c d e told are is rest (suc (suc zero)) before =
+verdicts_from rows a b c d e f told are is rest (suc (suc zero)) before =
     ap (λ l. slice_index_or l 2 true) (sym is)
-verdicts_from rows a b c d e told are is rest (suc (suc (suc zero))) before =
+verdicts_from rows a b c d e f told are is rest (suc (suc (suc zero))) before =
     ap (λ l. slice_index_or l 3 true) (sym is)
-verdicts_from rows a b c d e told are is rest (suc (suc (suc (suc zero)))) before =
+verdicts_from rows a b c d e f told are is rest (suc (suc (suc (suc zero)))) before =
     ap (λ l. slice_index_or l 4 true) (sym is)
-verdicts_from rows a b c d e told are is rest (suc (suc (suc (suc (suc n))))) before =
+verdicts_from rows a b c d e f told are is rest (suc (suc (suc (suc (suc zero))))) before =
+    ap (λ l. slice_index_or l 5 true) (sym is)
+verdicts_from rows a b c d e f told are is rest (suc (suc (suc (suc (suc (suc n)))))) before =
     let fifth = ap (λ l. slice_index_or l 4 true) (sym is) ∙ before 4 (omega arith) in
-    ap (λ l. slice_index_or l n true) (rest fifth)
-    ∙ ap (λ l. slice_index_or l (suc (suc (suc (suc (suc n))))) true) (sym is)
+    let sixth = ap (λ l. slice_index_or l 5 true) (sym is) ∙ before 5 (omega arith) in
+    ap (λ l. slice_index_or l n true) (rest fifth sixth)
+    ∙ ap (λ l. slice_index_or l (suc (suc (suc (suc (suc (suc n)))))) true) (sym is)
 
 -- where all that is told before a place is true, so are the verdicts
 kept_before : (rows : Rows) (kept : List Bool) → AreVerdicts rows kept → (n : ℕ)

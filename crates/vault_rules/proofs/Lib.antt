@@ -1,5 +1,6 @@
 pub mod AllKept
 pub mod Alone
+pub mod CardRows
 pub mod Cards
 pub mod CardsFrom
 pub mod Counts

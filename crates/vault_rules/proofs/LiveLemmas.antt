@@ -1,5 +1,5 @@
 -- Keys of which no two are alike, with one key more.
-use Rattle.std.proofs.Common.{◌≡◌, Bool, true, false, not, ◌&&◌, ◌||◌, cond, List, [], ◌∷◌}
+use Rattle.std.proofs.Common.{◌≡◌, ℕ, Bool, true, false, not, ◌&&◌, ◌||◌, cond, List, [], ◌∷◌}
 use Rattle.std.proofs.Common.{◌++◌, Option, Some, None, refl, sym, ap, ◌∙◌}
 use Rattle.std.proofs.Common.{bytes_eq}
 use Rattle.std.proofs.Math.Bool.{or-false, and-false}
@@ -8,10 +8,14 @@ use Rattle.std.proofs.lemmas.List.Elements.{filter_map-append}
 use Rattle.std.proofs.lemmas.List.Folds.{list_any-append}
 use Rattle.std.specs.Cmp.Lexicographic.{nat_list_eq_equiv}
 use Rattle.std.specs.List.{cons_option, filter_map, list_any}
-use Rattle.std.specs.Ordering.{is_eq, ordering_then}
+use Rattle.std.specs.Ordering.{is_eq, nat_cmp, ordering_then}
 use Rattle.vault_core.specs.Keys.{Bytes, bytes_cmp}
 use Rattle.vault_rules.specs.Rules.{alike, are_distinct}
-use Rattle.vault_rules.proofs.FirstLemmas.{pair_ties}
+use Rattle.std.specs.Cmp.Lexicographic.{texts_ties}
+use Rattle.vault_rules.specs.Packed.{packed}
+use Rattle.vault_rules.specs.Texts.{is_number}
+use Rattle.vault_rules.proofs.FirstLemmas.{both}
+use Rattle.vault_rules.proofs.TokenLemmas.{digits_tie}
 
 alike_sym : (a b : Bytes × Bytes) → alike a b ≡ alike b a
 alike_sym a b =
@@ -44,13 +48,29 @@ or_cond false true = refl
 or_cond false false = refl
 
 -- what a set has of the keys and one more
-pub set_more : (keys : List (Bytes × Bytes)) (key q : Bytes × Bytes) (old new : Bool)
-    → new ≡ cond (is_eq (ordering_then (bytes_cmp key.0 q.0) (bytes_cmp key.1 q.1))) true old
+pub set_more : (keys : List (Bytes × Bytes)) (key q : Bytes × Bytes) (number : ℕ) (text : Bytes) (old new : Bool)
+    → is_number key.1 ≡ true → is_number q.1 ≡ true → packed key.1 ≡ number → key.0 ≡ text
+    → new ≡ cond (is_eq (ordering_then (nat_cmp number (packed q.1)) (bytes_cmp text q.0))) true old
     → old ≡ list_any (alike q) keys → new ≡ list_any (alike q) (keys ++ key ∷ [])
-set_more keys key q old new put before =
-    put ∙ ap (λ b. cond b true old) (pair_ties key.0 key.1 q.0 q.1 ∙ alike_sym key q)
+set_more keys key q number text old new is it numbered named put before =
+    put
+    ∙ (λ i. cond (is_eq (ordering_then (nat_cmp (sym numbered i) (packed q.1)) (bytes_cmp (sym named i) q.0)))
+    true old)
+    ∙ ap (λ b. cond b true old) (ties ∙ alike_sym key q)
     ∙ or_cond (alike q key) old ∙ ap (λ b. b || alike q key) before
     ∙ sym (any_more keys key q)
+  where
+    turned : (a b : Bool) → a && b ≡ b && a
+    turned true true = refl
+    turned true false = refl
+    turned false true = refl
+    turned false false = refl
+
+    ties : is_eq (ordering_then (nat_cmp (packed key.1) (packed q.1)) (bytes_cmp key.0 q.0)) ≡ alike key q
+    ties =
+        both (nat_cmp (packed key.1) (packed q.1)) (bytes_cmp key.0 q.0)
+        ∙ (let names = sym (texts_ties key.0 q.0) in λ i. digits_tie key.1 q.1 is it i && names i)
+        ∙ turned (bytes_eq key.1 q.1) (bytes_eq key.0 q.0)
 
 regroup : (p q d r : Bool) → not (p || q) && (d && not r) ≡ (not p && d) && not (q || r)
 regroup true q d r = refl

@@ -9,7 +9,7 @@ last_more [] x = refl
 last_more (first ∷ []) x = refl
 last_more (first ∷ next ∷ rest) x = last_more (next ∷ rest) x
 
-regroup : (a b c : Bool) → a && (b && c) ≡ (a && b) && c
+pub regroup : (a b c : Bool) → a && (b && c) ≡ (a && b) && c
 regroup true b c = refl
 regroup false b c = refl
 

@@ -1,7 +1,7 @@
 -- The tokens of entries and of one more.
 use Rattle.std.proofs.Common.{◌≡◌, ◌∙◌, ◌+◌, ◌&&◌, ℕ, ℤ, Bool, true, false, cond, List, [], ◌∷◌, ◌++◌}
 use Rattle.std.proofs.Common.{Option, Some, None, option_map, length, filter, refl, sym, ap, arith}
-use Rattle.std.proofs.Common.{true≢false, is_some}
+use Rattle.std.proofs.Common.{true≢false, is_some, not}
 use Rattle.std.specs.Prelude.{bytes_eq, string_bytes}
 use Rattle.std.proofs.lemmas.Bool.{and_parts}
 use Rattle.std.proofs.lemmas.List.{length-append}
@@ -20,7 +20,8 @@ use Rattle.vault_core.specs.Keys.{Bytes, bytes_cmp}
 use Rattle.vault_rules.specs.Lookups.{entry_of, held_by, is_known, merchant_of, used_by}
 use Rattle.vault_rules.specs.Packed.{packed}
 use Rattle.vault_rules.specs.Rules.{has_token}
-use Rattle.vault_rules.specs.Texts.{is_token}
+use Rattle.vault_pan.specs.Luhn.{passes_check}
+use Rattle.vault_rules.specs.Texts.{is_number, is_pan, is_token}
 use Rattle.vault_rules.specs.declared.rows.RawMerchant.{RawMerchant}
 use Rattle.vault_rules.specs.declared.rows.RawEntry.{RawEntry}
 use Rattle.vault_rules.proofs.FirstLemmas.{both}
@@ -88,13 +89,19 @@ usage_more entries e name token =
     mapped None false = refl
     mapped (Some x) b = refl
 
--- tokens of one number are one
-pub packed_same : (a b : Bytes) → is_token a ≡ true → is_token b ≡ true → packed a ≡ packed b → a ≡ b
-packed_same a b is it same =
-    packed_apart a b (number_parts a (and_parts _ _ is).0).1 (number_parts b (and_parts _ _ it).0).1 same
+-- a token and a card number are numbers
+pub token_number : (text : Bytes) → is_token text ≡ true → is_number text ≡ true
+token_number text is = (and_parts (is_number text) (not (passes_check text)) is).0
+
+pub pan_number : (text : Bytes) → is_pan text ≡ true → is_number text ≡ true
+pan_number text is = (and_parts (is_number text) (passes_check text) is).0
+
+-- texts of one number are one
+packed_same : (a b : Bytes) → is_number a ≡ true → is_number b ≡ true → packed a ≡ packed b → a ≡ b
+packed_same a b is it same = packed_apart a b (number_parts a is).1 (number_parts b it).1 same
 
 -- and compare as their texts do
-digits_tie : (a b : Bytes) → is_token a ≡ true → is_token b ≡ true
+pub digits_tie : (a b : Bytes) → is_number a ≡ true → is_number b ≡ true
     → is_eq (nat_cmp (packed a) (packed b)) ≡ bytes_eq a b
 digits_tie a b is it =
     elim (bytes_eq a b) as (λ t. bytes_eq a b ≡ t → is_eq (nat_cmp (packed a) (packed b)) ≡ t) [
@@ -170,31 +177,5 @@ usage_step merchants entries e m key name token number usage old new found keyed
     ties =
         both (nat_cmp (packed (string_bytes e.token)) (packed token)) (bytes_cmp (string_bytes m.name) name)
         ∙ (let names = sym (texts_ties (string_bytes m.name) name) in
-        λ i. digits_tie (string_bytes e.token) token is it i && names i)
+        λ i. digits_tie (string_bytes e.token) token (token_number (string_bytes e.token) is) (token_number token it) i && names i)
         ∙ turned (bytes_eq (string_bytes e.token) token) (bytes_eq (string_bytes m.name) name)
-
--- where entries and one more have merchants and tokens, so have the entries, and the last one
-both_have : (merchants : List RawMerchant) (entries : List RawEntry) (e : RawEntry)
-    → list_all (has_token merchants) (entries ++ e ∷ [])
-    ≡ list_all (has_token merchants) entries && has_token merchants e
-both_have merchants [] e = with_true (has_token merchants e)
-  where
-    with_true : (b : Bool) → b && true ≡ b
-    with_true true = refl
-    with_true false = refl
-both_have merchants (x ∷ entries) e =
-    ap (λ b. has_token merchants x && b) (both_have merchants entries e)
-    ∙ regroup (has_token merchants x) (list_all (has_token merchants) entries) (has_token merchants e)
-  where
-    regroup : (a b c : Bool) → a && (b && c) ≡ (a && b) && c
-    regroup true b c = refl
-    regroup false b c = refl
-
-pub has_first : (merchants : List RawMerchant) (entries : List RawEntry) (e : RawEntry)
-    → list_all (has_token merchants) (entries ++ e ∷ []) ≡ true
-    → list_all (has_token merchants) entries ≡ true
-has_first merchants entries e all = (and_parts _ _ (sym (both_have merchants entries e) ∙ all)).0
-
-pub has_last : (merchants : List RawMerchant) (entries : List RawEntry) (e : RawEntry)
-    → list_all (has_token merchants) (entries ++ e ∷ []) ≡ true → has_token merchants e ≡ true
-has_last merchants entries e all = (and_parts _ _ (sym (both_have merchants entries e) ∙ all)).1

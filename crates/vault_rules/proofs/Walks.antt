@@ -1,7 +1,9 @@
 -- Rows of which each is tested, one after the other.
-use Rattle.std.proofs.Common.{◌≡◌, ◌∙◌, ◌+◌, ◌<◌, ◌&&◌, ℕ, zero, suc, Bool, true, false, cond, List, [], ◌∷◌}
+use Rattle.std.proofs.Common.{◌≡◌, ◌∙◌, ◌+◌, ◌<◌, ◌&&◌, ℕ, zero, suc, Bool, true, false, cond, List, [], ◌∷◌, ◌++◌}
 use Rattle.std.proofs.Common.{length, drop, get_or, is_some, Some, refl, sym, ap, arith}
 use Rattle.std.proofs.Math.Seq.{drop-cons}
+use Rattle.std.proofs.lemmas.Bool.{and_parts}
+use Rattle.vault_rules.proofs.RisingLemmas.{regroup, with_true}
 use Rattle.std.specs.Prelude.{bytes_eq, string_bytes}
 use Rattle.std.specs.List.{list_all}
 use Rattle.vault_rules.specs.Lookups.{is_known, merchant_of}
@@ -40,3 +42,17 @@ known_there (x ∷ merchants) (suc i) m inside is =
       | true ↦ refl
       | false ↦ rest
     ]
+
+-- all of some and one more
+pub all_more : {X : Type 0} (p : X → Bool) (xs : List X) (x : X)
+    → list_all p (xs ++ x ∷ []) ≡ list_all p xs && p x
+all_more p [] x = with_true (p x)
+all_more p (y ∷ xs) x = ap (λ b. p y && b) (all_more p xs x) ∙ regroup (p y) (list_all p xs) (p x)
+
+pub all_first : {X : Type 0} (p : X → Bool) (xs : List X) (x : X) → list_all p (xs ++ x ∷ []) ≡ true
+    → list_all p xs ≡ true
+all_first p xs x all = (and_parts _ _ (sym (all_more p xs x) ∙ all)).0
+
+pub all_last : {X : Type 0} (p : X → Bool) (xs : List X) (x : X) → list_all p (xs ++ x ∷ []) ≡ true
+    → p x ≡ true
+all_last p xs x all = (and_parts _ _ (sym (all_more p xs x) ∙ all)).1

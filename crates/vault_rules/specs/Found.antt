@@ -1,6 +1,8 @@
 -- An entry beside the rows that it names.
-use Rattle.std.specs.Prelude.{◌≡◌, List, option_and_then, string_bytes}
+use Rattle.std.specs.Prelude.{◌≡◌, List, option_and_then, option_map, string_bytes}
 use Rattle.std.specs.Option.{option_copied}
+use Rattle.vault_rules.specs.Held.{seen_card}
+use Rattle.vault_rules.specs.Kept.{kept_card}
 use Rattle.vault_rules.specs.Lookups.{card_of, merchant_of}
 use Rattle.vault_rules.specs.declared.index.found.Found.{Found}
 use Rattle.vault_rules.specs.declared.rows.RawMerchant.{RawMerchant}
@@ -9,4 +11,5 @@ use Rattle.vault_rules.specs.declared.rows.RawCard.{RawCard}
 -- its merchant and its card row among these
 pub record IsFoundIn (merchants : List RawMerchant) (cards : List RawCard) (it : Found) : Type 0 where
   pub merchant : option_copied it.merchant ≡ merchant_of merchants (string_bytes it.entry.now.merchant)
-  pub card : option_copied it.card ≡ option_and_then (card_of cards) it.entry.now.card
+  pub card : option_map seen_card it.card
+      ≡ option_map (kept_card merchants) (option_and_then (card_of cards) it.entry.now.card)

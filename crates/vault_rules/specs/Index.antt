@@ -7,10 +7,9 @@ use Rattle.std.specs.List.{find}
 use Rattle.std.specs.Option.{option_copied}
 use Rattle.std.specs.Ordering.{int_cmp, int_eq, nat_cmp, ordering_then}
 use Rattle.vault_core.specs.Keys.{Bytes, bytes_cmp}
-use Rattle.vault_rules.specs.Lookups.{merchant_of, card_of}
+use Rattle.vault_rules.specs.Lookups.{merchant_of}
 use Rattle.vault_rules.specs.declared.rows.RawMerchant.{RawMerchant}
 use Rattle.vault_rules.specs.declared.rows.RawCount.{RawCount}
-use Rattle.vault_rules.specs.declared.rows.RawCard.{RawCard}
 
 -- a text as it lies in memory
 abbrev pub Text : Type 0
@@ -33,16 +32,17 @@ at_id map id = get int_cmp map id
 abbrev pub made_of : List RawCount → Bytes → Option RawCount
 made_of counts name = find (λ c. bytes_eq (string_bytes c.merchant) name && int_eq c.kind (pos 1)) counts
 
--- Maps that have what the rows have: the merchant of a name, its count of tokens made, and the card row of an
--- id.
+-- maps that have what the rows have: the merchant of a name, and its count of tokens made
 pub record IsIndexOf (by_name : BTreeMap Text (Bor RawMerchant)) (made : BTreeMap Text (Bor RawCount))
-    (by_id : BTreeMap ℤ (Bor RawCard)) (merchants : List RawMerchant) (counts : List RawCount)
-    (cards : List RawCard) : Type 0 where
+    (merchants : List RawMerchant) (counts : List RawCount) : Type 0 where
   pub merchants_are : (name : Bytes) → option_copied (at_text by_name name) ≡ merchant_of merchants name
   pub made_are : (name : Bytes) → option_copied (at_text made name) ≡ made_of counts name
-  pub cards_are : (id : ℤ) → option_copied (at_id by_id id) ≡ card_of cards id
 
--- whether a set has a pair of texts
-abbrev pub has_pair : BTreeSet (Text × Text) → Bytes → Bytes → Bool
-has_pair keys first second =
-    contains_by (λ key. ordering_then (bytes_cmp first key.0.now) (bytes_cmp second key.1.now)) keys
+-- whether a set has a number and a text
+abbrev pub has_pair : BTreeSet (ℕ × Text) → ℕ → Bytes → Bool
+has_pair keys number text =
+    contains_by (λ key. ordering_then (nat_cmp number key.0) (bytes_cmp text key.1.now)) keys
+
+-- a number and a text, as they lie in memory
+abbrev pub seen_key : ℕ × Text → ℕ × Bytes
+seen_key key = (key.0, key.1.now)

@@ -1,6 +1,8 @@
 pub mod AllRows
 pub mod Found
+pub mod Held
 pub mod Index
+pub mod Kept
 pub mod Lookups
 pub mod Packed
 pub mod Rising

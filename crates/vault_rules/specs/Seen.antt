@@ -3,13 +3,14 @@ use Rattle.std.specs.Prelude.{◌≡◌, ℕ, ℤ, true, List, length, map, opti
 use Rattle.std.specs.List.{filter_map, list_all, list_any}
 use Rattle.vault_core.specs.Keys.{Bytes}
 use Rattle.vault_rules.specs.AllRows.{Rows}
+use Rattle.vault_rules.specs.Held.{HoldCards}
 use Rattle.vault_rules.specs.Index.{at_id, at_pair, at_text, has_pair}
 use Rattle.vault_rules.specs.Lookups.{entry_of, held_by, is_known, used_by}
 use Rattle.vault_rules.specs.Packed.{packed}
 use Rattle.vault_rules.specs.Rising.{IsRisingOver}
 use Rattle.vault_rules.specs.Rules.{alike, are_distinct, at_moments, has_card, has_number, has_token}
 use Rattle.vault_rules.specs.Rules.{is_kept, is_record, is_timed, live_key}
-use Rattle.vault_rules.specs.Texts.{is_token}
+use Rattle.vault_rules.specs.Texts.{is_pan, is_token}
 use Rattle.vault_rules.specs.declared.entries.Entries.{Entries}
 use Rattle.vault_rules.specs.declared.entries.tokens.Tokens.{Tokens}
 use Rattle.vault_rules.specs.declared.records.Records.{Records}
@@ -22,20 +23,23 @@ use Rattle.vault_rules.specs.declared.rows.RawRight.{RawRight}
 use Rattle.vault_rules.specs.declared.rules.entries.EntryRules.{EntryRules}
 use Rattle.vault_rules.specs.declared.rules.live.Live.{Live}
 
--- whether all entries keep each rule of entries
+-- whether all entries keep each rule of entries; that of their cards, where each has a merchant
 pub record KeepRules (merchants : List RawMerchant) (cards : List RawCard) (it : EntryRules)
     (entries : List RawEntry) : Type 0 where
   pub tokens : it.tokens ≡ list_all (has_token merchants) entries
   pub numbers : it.numbers ≡ list_all (has_number cards) entries
   pub timed : it.timed ≡ list_all (at_moments merchants is_timed) entries
   pub kept : it.kept ≡ list_all (at_moments merchants is_kept) entries
-  pub pointed : it.pointed ≡ list_all (has_card cards) entries
+  pub pointed : it.tokens ≡ true → it.pointed ≡ list_all (has_card cards) entries
 
--- whether no live key comes twice; as long as none did, the keys
+-- where the number of each entry is a card number, whether no live key comes twice; as long as none did, the
+-- keys
 pub record AreLive (merchants : List RawMerchant) (cards : List RawCard) (it : Live)
     (entries : List RawEntry) : Type 0 where
-  pub alone : it.alone ≡ are_distinct (filter_map (live_key merchants cards) entries)
-  pub keys : it.alone ≡ true → (merchant number : Bytes) → has_pair it.keys merchant number
+  pub alone : list_all (has_number cards) entries ≡ true
+      → it.alone ≡ are_distinct (filter_map (live_key merchants cards) entries)
+  pub keys : list_all (has_number cards) entries ≡ true → it.alone ≡ true → (merchant number : Bytes)
+      → is_pan number ≡ true → has_pair it.keys (packed number) merchant
       ≡ list_any (alike (merchant, number)) (filter_map (live_key merchants cards) entries)
 
 -- of merchants that exist, how many entries each has; where each entry has a merchant and a token, the usage
@@ -47,12 +51,13 @@ pub record HoldTokens (merchants : List RawMerchant) (it : Tokens) (entries : Li
       → is_known merchants name ≡ true → is_token token ≡ true → at_pair it.usages (packed token) name
       ≡ option_map (λ (e : RawEntry). e.usage) (entry_of entries name token)
 
--- these entries came
-pub record HasEntries (it : Entries) (entries : List RawEntry) : Type 0 where
+-- these entries came behind these cards
+pub record HasEntries (it : Entries) (cards : List RawCard) (entries : List RawEntry) : Type 0 where
   pub many : it.many ≡ length entries
+  pub held : HoldCards it.index.merchants.now it.index.cards cards
   pub rowids : IsRisingOver it.rowids (map (λ e. e.rowid) entries)
-  pub rules : KeepRules it.index.merchants.now it.index.cards.now it.rules entries
-  pub live : AreLive it.index.merchants.now it.index.cards.now it.live entries
+  pub rules : KeepRules it.index.merchants.now cards it.rules entries
+  pub live : AreLive it.index.merchants.now cards it.live entries
   pub tokens : HoldTokens it.index.merchants.now it.tokens entries
   pub used : (id : ℤ) → unwrap_or (at_id it.used id) 0 ≡ used_by entries id
 
@@ -60,7 +65,7 @@ pub record HasEntries (it : Entries) (entries : List RawEntry) : Type 0 where
 pub record HasRecords (it : Records) (records : List RawRecord) : Type 0 where
   pub many : it.many ≡ length records
   pub rowids : IsRisingOver it.rowids (map (λ r. r.rowid) records)
-  pub kept : (entries : List RawEntry) → HasEntries it.entries entries
+  pub kept : (cards : List RawCard) (entries : List RawEntry) → HasEntries it.entries cards entries
       → it.entries.rules.tokens ≡ true → it.kept ≡ list_all (is_record entries) records
 
 -- the rows of all tables came
@@ -70,7 +75,6 @@ pub record HasRows (rows : Rows) (versions_read : List RawVersion) (replaced_rea
   pub replaced : replaced_read ≡ rows.replaced
   pub merchants : it.entries.index.merchants.now ≡ rows.merchants
   pub counts : it.entries.index.counts.now ≡ rows.counts
-  pub cards : it.entries.index.cards.now ≡ rows.cards
-  pub entries : HasEntries it.entries rows.entries
+  pub entries : HasEntries it.entries rows.cards rows.entries
   pub records : HasRecords it rows.records
   pub rights : rights_read ≡ rows.rights

@@ -1,6 +1,7 @@
 //! What the rules need of entries, which come one after the other.
 ghost use Rattle.std.specs.Prelude.{◌≡◌, ◌+◌, ◌<◌, ◌^◌, true, List, [], ◌∷◌, ◌++◌, OnOk, option_map};
 ghost use Rattle.vault_rules.specs.Lookups.{entry_of, held_by, is_known, used_by};
+ghost use Rattle.vault_rules.specs.declared.rows.RawCard.{RawCard as CardRow};
 ghost use Rattle.vault_rules.specs.declared.rows.RawEntry.{RawEntry as EntryRow};
 
 mod tokens;
@@ -28,12 +29,14 @@ pub struct Entries<'a> {
 }
 
 impl<'a> Entries<'a> {
+    ghost use Rattle.vault_rules.specs.Held.{HoldCards};
     ghost use Rattle.vault_rules.specs.Seen.{HasEntries};
 
     /// None came yet.
     pub fn new(alloc: Global, index: Index<'a>) -> Entries<'a>
         ensures index { result.index ≡ index.entry }
-        ensures none { HasEntries result [] }
+        ensures none { (cards : List CardRow) → HoldCards index.entry.merchants.now index.entry.cards cards
+            → HasEntries result cards [] }
     {
         Entries {
             index,
@@ -51,8 +54,8 @@ impl<'a> Entries<'a> {
         ensures index { self.new.index ≡ self.old.index }
         ensures counted { OnOk result (self.new.many ≡ self.old.many + 1) }
         ensures few { OnOk result (self.new.many < 2 ^ 64) }
-        ensures taken { OnOk result ((raws : List EntryRow) → HasEntries self.old raws
-            → HasEntries self.new (raws ++ entry.now ∷ [])) }
+        ensures taken { OnOk result ((cards : List CardRow) (raws : List EntryRow)
+            → HasEntries self.old cards raws → HasEntries self.new cards (raws ++ entry.now ∷ [])) }
     {
         let found = self.index.found(entry);
         self.many = one_more(self.many)?;
@@ -89,7 +92,7 @@ impl<'a> Entries<'a> {
 
     /// How many entries a merchant that exists has.
     pub(crate) fn held(&self, merchant: &str) -> usize
-        ensures { (raws : List EntryRow) → HasEntries self.now raws
+        ensures { (cards : List CardRow) (raws : List EntryRow) → HasEntries self.now cards raws
             → is_known self.now.index.merchants.now merchant.now ≡ true
             → result ≡ held_by raws merchant.now }
     {
@@ -98,18 +101,20 @@ impl<'a> Entries<'a> {
 
     /// How many entries point at the card row of an id.
     pub(crate) fn used(&self, id: i64) -> usize
-        ensures { (raws : List EntryRow) → HasEntries self.now raws → result ≡ used_by raws id }
+        ensures { (cards : List CardRow) (raws : List EntryRow) → HasEntries self.now cards raws
+            → result ≡ used_by raws id }
     {
         self.used.get(&id).copied().unwrap_or(0)
     }
 
     /// The usage of a merchant's token, where each entry has a merchant and a token.
     pub(crate) fn usage(&self, merchant: &str, token: &str) -> Option<i64>
-        ensures { (raws : List EntryRow) → HasEntries self.now raws → self.now.rules.tokens ≡ true
+        ensures { (cards : List CardRow) (raws : List EntryRow) → HasEntries self.now cards raws
+            → self.now.rules.tokens ≡ true
             → result ≡ option_map (λ (e : EntryRow). e.usage) (entry_of raws merchant.now token.now) }
     {
         match self.index.merchant(merchant) {
-            Some(merchant) => self.tokens.usage(merchant, token),
+            Some(merchant) => self.tokens.usage(merchant, token.as_bytes()),
             None => None,
         }
     }

@@ -1,8 +1,8 @@
 //! Ordered maps over the rows that entries name.
-ghost use Rattle.std.specs.Prelude.{◌≡◌, IfOk};
+ghost use Rattle.std.specs.Prelude.{◌≡◌, ◌+◌, List, [], ◌∷◌, ◌++◌, IfOk, OnOk, length};
 ghost use Rattle.std.specs.Option.{option_copied};
-ghost use Rattle.vault_rules.specs.Found.{IsFoundIn};
 ghost use Rattle.vault_rules.specs.Index.{IsIndexOf, made_of};
+ghost use Rattle.vault_rules.specs.declared.rows.RawCard.{RawCard as CardRow};
 ghost use Rattle.vault_rules.specs.Lookups as lookups;
 
 pub(crate) mod counted;
@@ -10,48 +10,62 @@ pub(crate) mod first;
 pub(crate) mod found;
 mod maps;
 
+use crate::card_rows::Cards;
 use crate::index::found::Found;
-use crate::index::maps::{cards_by_id, made_by_merchant, merchants_by_name};
+use crate::index::maps::{made_by_merchant, merchants_by_name};
 use crate::rows::{RawCard, RawCount, RawEntry, RawMerchant};
 use std::alloc::{AllocError, Global};
 use std::collections::BTreeMap;
 
-/// The merchants, their counts and the cards, with ordered maps over them for the look-ups that the rules
-/// need. Of several rows at a key the first is found.
+/// The merchants and their counts, with ordered maps over them for the look-ups that the rules need, and the
+/// cards that came. Of several rows at a key the first is found.
 #[derive(Drop)]
 pub struct Index<'a> {
     pub(crate) merchants: &'a [RawMerchant],
     pub(crate) counts: &'a [RawCount],
-    pub(crate) cards: &'a [RawCard],
+    pub(crate) cards: Cards<'a>,
     by_name: BTreeMap<&'a str, &'a RawMerchant>,
     made: BTreeMap<&'a str, &'a RawCount>,
-    by_id: BTreeMap<i64, &'a RawCard>,
-    ghost is_index: { IsIndexOf by_name made by_id merchants.now counts.now cards.now },
+    ghost is_index: { IsIndexOf by_name made merchants.now counts.now },
 }
 
 impl<'a> Index<'a> {
-    /// Makes the maps of the rows. Only memory can fail.
+    ghost use Rattle.vault_rules.specs.Found.{IsFoundIn};
+    ghost use Rattle.vault_rules.specs.Held.{HoldCards};
+
+    /// Makes the maps of the rows; no card came yet. Only memory can fail.
     pub fn of(
         alloc: Global,
         merchants: &'a [RawMerchant],
         counts: &'a [RawCount],
-        cards: &'a [RawCard],
     ) -> Result<Index<'a>, AllocError>
         ensures merchants { IfOk result (λ index. index.merchants.now ≡ merchants.now) }
         ensures counts { IfOk result (λ index. index.counts.now ≡ counts.now) }
-        ensures cards { IfOk result (λ index. index.cards.now ≡ cards.now) }
+        ensures cards { IfOk result (λ index. HoldCards merchants.now index.cards []) }
     {
         let by_name = merchants_by_name(alloc, merchants)?;
         let made = made_by_merchant(alloc, counts)?;
-        let by_id = cards_by_id(alloc, cards)?;
         Ok(Index {
             merchants,
             counts,
-            cards,
+            cards: Cards::new(alloc),
             by_name,
             made,
-            by_id,
         })
+    }
+
+    /// Takes the next card row. Only memory can fail.
+    pub fn take(&mut self, card: &RawCard) -> Result<(), AllocError>
+        ensures merchants { self.new.merchants ≡ self.old.merchants }
+        ensures counts { self.new.counts ≡ self.old.counts }
+        ensures counted { OnOk result
+            (length self.new.cards.kept.items ≡ length self.old.cards.kept.items + 1) }
+        ensures taken { OnOk result ((raws : List CardRow)
+            → HoldCards self.old.merchants.now self.old.cards raws
+            → HoldCards self.new.merchants.now self.new.cards (raws ++ card.now ∷ [])) }
+    {
+        let merchant = self.merchant(card.merchant.as_str());
+        self.cards.take(merchant, card)
     }
 
     /// The merchants.
@@ -68,11 +82,11 @@ impl<'a> Index<'a> {
         self.counts
     }
 
-    /// The cards.
-    pub fn cards(&self) -> &'a [RawCard]
-        ensures { result.now ≡ self.now.cards.now }
+    /// The cards that came.
+    pub fn cards(&self) -> &Cards<'a>
+        ensures { result.now ≡ self.now.cards }
     {
-        self.cards
+        &self.cards
     }
 
     /// The merchant of a name.
@@ -96,23 +110,17 @@ impl<'a> Index<'a> {
         self.made.get(merchant).copied()
     }
 
-    /// The card row of an id.
-    fn card(&self, id: i64) -> Option<&'a RawCard>
-        ensures { option_copied result ≡ lookups.card_of self.now.cards.now id }
-    {
-        self.by_id.get(&id).copied()
-    }
-
     /// An entry with its merchant and its card row.
     pub(crate) fn found<'b>(&self, entry: &'b RawEntry) -> Found<'a, 'b>
         ensures entry { result.entry.now ≡ entry.now }
-        ensures found { IsFoundIn self.now.merchants.now self.now.cards.now result }
+        ensures found { (cards : List CardRow) → HoldCards self.now.merchants.now self.now.cards cards
+            → IsFoundIn self.now.merchants.now cards result }
     {
         Found {
             entry,
             merchant: self.merchant(entry.merchant.as_str()),
             card: match entry.card {
-                Some(id) => self.card(id),
+                Some(id) => self.cards.card(id),
                 None => None,
             },
         }

@@ -1,6 +1,7 @@
 //! The rules that the rows of a sound vault keep.
 #![tactic(auto)]
 
+pub mod card_rows;
 pub mod entries;
 pub mod index;
 pub mod least;

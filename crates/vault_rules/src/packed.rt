@@ -5,11 +5,10 @@ ghost use Rattle.vault_rules.specs.Texts.{is_number};
 
 /// The number that stands for a text of 10 to 19 digits: its digits from the last one to the first, behind
 /// a 1. No two texts have the same number.
-pub(crate) fn packed(text: &str) -> u128
-    requires { is_number text.now ≡ true }
-    ensures { result ≡ packed_spec text.now }
+pub(crate) fn packed(digits: &[u8]) -> u128
+    requires { is_number digits.now ≡ true }
+    ensures { result ≡ packed_spec digits.now }
 {
-    let digits = text.as_bytes();
     let mut number: u128 = 1;
     let mut left = digits.len();
     while left > 0 {

@@ -10,10 +10,10 @@ use vault_pan::luhn::passes;
 use vault_pan::pan::{LEAST_DIGITS, MOST_DIGITS};
 
 /// Whether a text is a name: 1 to 16 small letters, digits and hyphens.
-pub fn is_name(text: &str) -> bool
+pub fn is_name(text: &[u8]) -> bool
     ensures { result ≡ texts.is_name text.now }
 {
-    !text.is_empty() && text.len() < 17 && are_name_bytes(text.as_bytes())
+    !text.is_empty() && text.len() < 17 && are_name_bytes(text)
 }
 
 /// Whether bytes are small letters, digits and hyphens.
@@ -24,11 +24,11 @@ fn are_name_bytes(bytes: &[u8]) -> bool
 }
 
 /// Whether a text is 10 to 19 digits.
-fn is_number(text: &str) -> bool
+fn is_number(text: &[u8]) -> bool
     ensures value { result ≡ texts.is_number text.now }
     ensures digits { result ≡ true → All IsAsciiDigit text.now }
 {
-    (LEAST_DIGITS..=MOST_DIGITS).contains(&text.len()) && are_digits(text.as_bytes())
+    (LEAST_DIGITS..=MOST_DIGITS).contains(&text.len()) && are_digits(text)
 }
 
 /// Whether bytes are digits.
@@ -39,25 +39,23 @@ fn are_digits(bytes: &[u8]) -> bool
 }
 
 /// Whether a text is a card number: 10 to 19 digits that pass the check.
-pub fn is_pan(text: &str) -> bool
+pub fn is_pan(text: &[u8]) -> bool
     ensures { result ≡ texts.is_pan text.now }
 {
-    is_number(text) && passes(text.as_bytes())
+    is_number(text) && passes(text)
 }
 
 /// Whether a text is a token: 10 to 19 digits that fail the check.
-pub fn is_token(text: &str) -> bool
+pub fn is_token(text: &[u8]) -> bool
     ensures { result ≡ texts.is_token text.now }
 {
-    is_number(text) && !passes(text.as_bytes())
+    is_number(text) && !passes(text)
 }
 
 /// Whether a token has a number's length and its last four digits. Shorter texts are compared whole.
-pub fn fits(token: &str, number: &str) -> bool
+pub fn fits(token: &[u8], number: &[u8]) -> bool
     ensures { result ≡ fits_spec token.now number.now }
 {
-    let token = token.as_bytes();
-    let number = number.as_bytes();
     let hidden = token.len().saturating_sub(4);
     token.len() == number.len() && token[hidden..] == number[hidden..]
 }

@@ -1,5 +1,5 @@
 -- One reading after another, and one that failed.
-use Rattle.std.proofs.Common.{◌≡◌, true, false, IsErr, IfErr, IfOk, OnOk, Ok, Err, Result, sym, true≢false}
+use Rattle.std.proofs.Common.{◌≡◌, IsErr, IfErr, IfOk, OnOk, Ok, Err, Result, sym, true≢false}
 use Rattle.std.proofs.Common.{◌⊎◌, List, [], ap, arith, inl, inr, refl, subst, ◌∙◌}
 use Rattle.sqlite.specs.Effect.{Database}
 use Rattle.sqlite.specs.Held.{Held, state}
@@ -129,8 +129,8 @@ taken_both v db now olders start mid begun (Ok it) entries took are is none same
       entries,
       told.0,
       record {
-        index_is = λ fresh. ap (λ (e : Entries). e.index) whose ∙ (took fresh).0;
-        entries_came = λ fresh. subst (λ e. HasEntries e entries) (sym whose) (took fresh).1;
+        index_is = λ cards fresh. ap (λ (e : Entries). e.index) whose ∙ (took cards fresh).0;
+        entries_came = λ cards fresh. subst (λ e. HasEntries e cards entries) (sym whose) (took cards fresh).1;
         records_came = came.1;
         entries_are = are;
         records_are =

@@ -132,17 +132,16 @@ are_read v old mid versions olders rows is same sound are told ours =
       all = all;
     }
 
--- the first rows and those behind them are all
-pub all_of : (v : Version) (db : Database) (first : First) (versions : List RawVersion) (rows : Rows)
-    → AreFirst v db first
-    → AreOnward v first.olders.items versions first.merchants.items first.counts.items first.cards.items db
-    rows
-    → AreAll v db first.olders.items rows
-all_of v db first versions rows are onward = record {
+-- the first rows, the cards and those behind them are all
+pub all_of : (v : Version) (db : Database) (first : First) (olders : List OldEntry)
+    (versions : List RawVersion) (rows : Rows) → AreFirst v db first → AreCardsIn v db olders rows.cards
+    → AreOnward v olders versions first.merchants.items first.counts.items rows.cards db rows
+    → AreAll v db olders rows
+all_of v db first olders versions rows are cards onward = record {
   merchants = subst (AreTable IsAny (merchants_in v) merchant_values (λ m. m.rowid) db) (sym onward.merchants)
       are.merchants;
   counts = subst (AreTable IsAny (λ t. t 3) count_values (λ c. c.rowid) db) (sym onward.counts) are.counts;
-  cards = subst (AreCardsIn v db first.olders.items) (sym onward.cards) are.cards;
+  cards = cards;
   entries = onward.entries;
   records = onward.records;
   rights = onward.rights;

@@ -1,60 +1,112 @@
 -- What the first rows and those behind them come to.
-use Rattle.std.proofs.Common.{◌≡◌, ◌⊎◌, List, Ok, Err, Result, inl, inr, subst}
-use Rattle.sqlite.specs.Effect.{Database, IsDatabase}
+use Rattle.std.proofs.Common.{◌≡◌, List, Ok, Err, Result, IfOk, IsErrAnd, inl, inr, subst, sym, ap}
+use Rattle.sqlite.proofs.Callers.{unchanged_then}
+use Rattle.sqlite.specs.Effect.{IsDatabase}
 use Rattle.sqlite.specs.Held.{Held, state}
 use Rattle.sqlite.specs.State.{State, IsUnchanged}
 use Rattle.sqlite_trees.specs.declared.store.Store.{Ghosts}
 use Rattle.vault_schema.specs.Versioned.{HasVersion}
-use Rattle.vault_schema.specs.Versions.{schema_of}
 use Rattle.vault_schema.specs.declared.version.Version.{Version}
 use Rattle.vault_verdict.proofs.Judged.{AreRead, all_of, are_read}
 use Rattle.vault_verdict.specs.Faults.{IsJudged}
-use Rattle.vault_verdict.specs.Judging.{AreOnward, IsVerdictOf, Judges}
+use Rattle.vault_verdict.specs.Judging.{AreOnward, IsUnjudged, IsVerdictOf, Judges, JudgesAll, sizes_in}
 use Rattle.vault_verdict.specs.Opened.{AreVersions}
 use Rattle.vault_verdict.specs.ReadAs.{IsFullIn}
-use Rattle.vault_verdict.specs.Reading.{AreFirst}
+use Rattle.vault_verdict.specs.Reading.{AreCardsIn, AreFirst, IsUnreadOne}
 use Rattle.vault_verdict.specs.declared.fault.OpenFault.{OpenFault}
 use Rattle.vault_verdict.specs.declared.first.First.{First}
 use Rattle.vault_verdict.specs.declared.replaced.OldEntry.{OldEntry}
 use Rattle.vault_verdict.specs.declared.sizes.Sizes.{Sizes}
+use Rattle.vault_verdict.specs.declared.verdict.Judged.{Judged}
 use Rattle.vault_rules.specs.AllRows.{Rows}
 use Rattle.vault_rules.specs.declared.rows.RawVersion.{RawVersion}
 use Rattle.vault_rules.specs.declared.rows.RawMerchant.{RawMerchant}
 use Rattle.vault_rules.specs.declared.rows.RawCount.{RawCount}
 use Rattle.vault_rules.specs.declared.rows.RawCard.{RawCard}
 
-module _ {S : Type 0} (g : Ghosts S) (v : Version) (result : Result Sizes OpenFault) (old new : Held S) where
-  -- rows that are equal come to the same
-  pub judges_as : (olders olders' : List OldEntry) (versions versions' : List RawVersion)
-      (merchants merchants' : List RawMerchant) (counts counts' : List RawCount) (cards cards' : List RawCard)
-      → olders ≡ olders' → versions ≡ versions' → merchants ≡ merchants' → counts ≡ counts' → cards ≡ cards'
-      → Judges v olders versions merchants counts cards g result old new
-      → Judges v olders' versions' merchants' counts' cards' g result old new
-  judges_as olders olders' versions versions' merchants merchants' counts counts' cards cards' o w m n k it =
-      subst (λ x. Judges v x versions' merchants' counts' cards' g result old new) o
-      (subst (λ x. Judges v olders x merchants' counts' cards' g result old new) w
-      (subst (λ x. Judges v olders versions x counts' cards' g result old new) m
-      (subst (λ x. Judges v olders versions merchants x cards' g result old new) n
-      (subst (λ x. Judges v olders versions merchants counts x g result old new) k it))))
+-- a judgment that failed has the fault of its sizes, and no olders
+pub sizes_failed : (whole : Result Judged OpenFault) (fault : OpenFault) → IsErrAnd whole (λ e. e ≡ fault)
+    → sizes_in whole ≡ Err fault
+sizes_failed (Ok it) fault same = absurd same
+sizes_failed (Err e) fault same = ap Err same
 
-module _ {S : Type 0} (g : Ghosts S) (v : Version) (olders : List OldEntry) (versions : List RawVersion)
-    (merchants : List RawMerchant) (counts : List RawCount) (cards : List RawCard) (old new : Held S) where
-  abbrev pub AreJudged : Result Sizes OpenFault → Type 0
+pub none_of : (whole : Result Judged OpenFault) (fault : OpenFault) (P : Judged → Type 0)
+    → IsErrAnd whole (λ e. e ≡ fault) → IfOk whole P
+none_of (Ok it) fault P same = absurd same
+none_of (Err e) fault P same = tt
+
+-- equal lists come to equal things
+pub judges_same : {S : Type 0} (g : Ghosts S) (v : Version) (old new : Held S) (versions : List RawVersion)
+    (cards : List RawCard) (m m' : List RawMerchant) (n n' : List RawCount) (olders olders' : List OldEntry)
+    (result result' : Result Sizes OpenFault) → m ≡ m' → n ≡ n' → olders ≡ olders' → result ≡ result'
+    → Judges g v versions m n olders cards result old new
+    → Judges g v versions m' n' olders' cards result' old new
+judges_same g v old new versions cards m m' n n' olders olders' result result' a b c d it =
+    subst (λ x. Judges g v versions x n' olders' cards result' old new) a
+    (subst (λ x. Judges g v versions m x olders' cards result' old new) b
+    (subst (λ x. Judges g v versions m n x cards result' old new) c
+    (subst (λ x. Judges g v versions m n olders cards x old new) d it)))
+
+module _ {S : Type 0} (g : Ghosts S) (v : Version) (old mid new : Held S)
+    (same : IsUnchanged (state g old) (state g mid)) where
+  unjudged_all : (whole : Result Judged OpenFault) → IsUnjudged g v (sizes_in whole) mid new
+      → IsUnjudged g v whole old new
+  unjudged_all (Ok it) failed = absurd failed
+  unjudged_all (Err e) failed =
+      (failed.0, λ store. subst (λ db. IsUnreadOne g v db new) same.0.now_is (failed.1 store))
+
+  module _ (versions : List RawVersion) (merchants : List RawMerchant) (counts : List RawCount)
+      (olders : List OldEntry) (cards : List RawCard)
+      (are : AreCardsIn v (state g old).now olders cards) where
+    -- what the rows behind the cards come to is what all rows come to
+    pub all_onward : (whole : Result Judged OpenFault) → IfOk whole (λ it. it.olders.items ≡ olders)
+        → Judges g v versions merchants counts olders cards (sizes_in whole) mid new
+        → JudgesAll g v versions merchants counts whole old new
+    all_onward whole stays told = elim told as (λ _. JudgesAll g v versions merchants counts whole old new) [
+      | inl failed ↦ inl (unjudged_all whole failed)
+      | inr it ↦
+          let rows = it.1 in
+          inr (
+            unchanged_then _ _ _ same it.0,
+            olders,
+            rows,
+            subst (AreCardsIn v (state g old).now olders) (sym it.2.cards) are,
+            subst (λ x. AreOnward v olders versions merchants counts x (state g old).now rows) (sym it.2.cards)
+                (subst (λ db. AreOnward v olders versions merchants counts cards db rows) same.0.now_is it.2),
+            it.3,
+            stays,
+          )
+    ]
+
+module _ {S : Type 0} (g : Ghosts S) (v : Version) (result : Result Judged OpenFault) (old new : Held S) where
+  -- rows that are equal come to the same
+  pub judges_as : (versions versions' : List RawVersion) (merchants merchants' : List RawMerchant)
+      (counts counts' : List RawCount) → versions ≡ versions' → merchants ≡ merchants' → counts ≡ counts'
+      → JudgesAll g v versions merchants counts result old new
+      → JudgesAll g v versions' merchants' counts' result old new
+  judges_as versions versions' merchants merchants' counts counts' w m n it =
+      subst (λ x. JudgesAll g v x merchants' counts' result old new) w
+      (subst (λ x. JudgesAll g v versions x counts' result old new) m
+      (subst (λ x. JudgesAll g v versions merchants x result old new) n it))
+
+module _ {S : Type 0} (g : Ghosts S) (v : Version) (versions : List RawVersion)
+    (merchants : List RawMerchant) (counts : List RawCount) (old new : Held S) where
+  abbrev pub AreJudged : Result Judged OpenFault → Type 0
   AreJudged result =
-      IsUnchanged (state g old) (state g new)
-      × (rows : Rows) × AreOnward v olders versions merchants counts cards (state g old).now rows
-      × IsVerdictOf rows result
+      IsUnchanged (state g old) (state g new) × (olders : List OldEntry) × (rows : Rows)
+      × AreCardsIn v (state g old).now olders rows.cards
+      × AreOnward v olders versions merchants counts rows.cards (state g old).now rows
+      × IsVerdictOf rows (sizes_in result) × IfOk result (λ it. it.olders.items ≡ olders)
 
   -- what came out well, and what was judged, was read
-  pub judged_ok : (sizes : Sizes) → Judges v olders versions merchants counts cards g (Ok sizes) old new
-      → AreJudged (Ok sizes)
-  judged_ok sizes told = elim told as (λ _. AreJudged (Ok sizes)) [
+  pub judged_ok : (it : Judged) → JudgesAll g v versions merchants counts (Ok it) old new → AreJudged (Ok it)
+  judged_ok it told = elim told as (λ _. AreJudged (Ok it)) [
     | inl failed ↦ absurd failed
     | inr it ↦ it
   ]
 
   pub judged_err : (fault : OpenFault) → IsJudged fault
-      → Judges v olders versions merchants counts cards g (Err fault) old new → AreJudged (Err fault)
+      → JudgesAll g v versions merchants counts (Err fault) old new → AreJudged (Err fault)
   judged_err fault is told = elim told as (λ _. AreJudged (Err fault)) [
     | inl failed ↦ absurd (failed.0 is)
     | inr it ↦ it
@@ -62,14 +114,15 @@ module _ {S : Type 0} (g : Ghosts S) (v : Version) (olders : List OldEntry) (ver
 
 -- the first rows and those behind them are all that the database has
 pub read_onward : (v : Version) (old mid last : State) (versions : List RawVersion) (first : First)
-    (rows : Rows) → (HasVersion old.now.schema → IsUnchanged old mid)
+    (olders : List OldEntry) (rows : Rows) → (HasVersion old.now.schema → IsUnchanged old mid)
     → (HasVersion old.now.schema → IsDatabase old.now)
     → (HasVersion old.now.schema → AreVersions old.now.trees versions) → last.now ≡ mid.now
-    → AreFirst v mid.now first
-    → AreOnward v first.olders.items versions first.merchants.items first.counts.items first.cards.items
-    last.now rows → IsFullIn v old.now → AreRead v old.now first.olders.items rows
-read_onward v old mid last versions first rows same sound are now firsts onward ours =
-    are_read v old mid versions first.olders.items rows onward.versions same sound are
-    (λ has. all_of v mid.now first versions rows firsts
-    (subst (λ db. AreOnward v first.olders.items versions first.merchants.items first.counts.items
-    first.cards.items db rows) now onward)) ours
+    → AreFirst v mid.now first → AreCardsIn v last.now olders rows.cards
+    → AreOnward v olders versions first.merchants.items first.counts.items rows.cards last.now rows
+    → IsFullIn v old.now → AreRead v old.now olders rows
+read_onward v old mid last versions first olders rows same sound are now firsts cards onward ours =
+    are_read v old mid versions olders rows onward.versions same sound are
+    (λ has. all_of v mid.now first olders versions rows firsts
+    (subst (λ db. AreCardsIn v db olders rows.cards) now cards)
+    (subst (λ db. AreOnward v olders versions first.merchants.items first.counts.items rows.cards db rows) now
+    onward)) ours

@@ -20,6 +20,19 @@ pub if_err : {A E : Type 0} {P Q : E → Type 0} (r : Result A E) → ((e : E) �
 if_err (Ok a) f h = tt
 if_err (Err e) f h = f e h
 
+-- what holds of that which came out holds of the result
+pub ok_where : {A E : Type 0} {P : A → Type 0} (r : Result A E) → ((a : A) → r ≡ Ok a → P a) → IfOk r P
+ok_where (Ok a) f = f a refl
+ok_where (Err e) f = tt
+
+pub on_where : {A E P : Type 0} (r : Result A E) → ((a : A) → r ≡ Ok a → P) → OnOk r P
+on_where (Ok a) f = f a refl
+on_where (Err e) f = tt
+
+pub err_where : {A E : Type 0} {P : E → Type 0} (r : Result A E) → ((e : E) → r ≡ Err e → P e) → IfErr r P
+err_where (Ok a) f = tt
+err_where (Err e) f = f e refl
+
 pub on_ok : {A E P : Type 0} (r : Result A E) → P → OnOk r P
 on_ok (Ok a) h = h
 on_ok (Err e) h = tt

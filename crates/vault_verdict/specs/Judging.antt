@@ -1,5 +1,5 @@
 -- What the rows of a version come to.
-use Rattle.std.specs.Prelude.{◌≡◌, ◌⊎◌, ℕ, true, List, Result, IfErr, IfOk, IsErrAnd, OnOk}
+use Rattle.std.specs.Prelude.{◌≡◌, ◌⊎◌, ℕ, true, List, Result, Ok, Err, IfErr, IfOk, IsErrAnd, OnOk}
 use Rattle.sqlite.specs.Effect.{Database}
 use Rattle.sqlite.specs.Held.{Held, state}
 use Rattle.sqlite.specs.State.{IsUnchanged}
@@ -8,12 +8,13 @@ use Rattle.vault_verdict.specs.Apart.{AreApart, AreByRowid}
 use Rattle.vault_verdict.specs.Faults.{IsJudged}
 use Rattle.vault_verdict.specs.Raw.{record_values, right_values}
 use Rattle.vault_verdict.specs.ReadAs.{replaced_in, rights_in}
-use Rattle.vault_verdict.specs.Reading.{AreEntriesIn, AreRightsFull, AreTable, IsAny, IsUnreadOne}
+use Rattle.vault_verdict.specs.Reading.{AreCardsIn, AreEntriesIn, AreRightsFull, AreTable, IsAny, IsUnreadOne}
 use Rattle.vault_verdict.specs.Sizes.{counts_of}
 use Rattle.vault_verdict.specs.declared.fault.OpenFault.{OpenFault}
 use Rattle.vault_verdict.specs.declared.fault.OpenFault.TheVariants.{Damaged, Store}
 use Rattle.vault_verdict.specs.declared.replaced.OldEntry.{OldEntry}
 use Rattle.vault_verdict.specs.declared.sizes.Sizes.{Sizes}
+use Rattle.vault_verdict.specs.declared.verdict.Judged.{Judged}
 use Rattle.vault_rules.specs.AllRows.{Rows}
 use Rattle.vault_rules.specs.Rules.{IsLeastBroken, keeps}
 use Rattle.vault_rules.specs.declared.rows.RawVersion.{RawVersion}
@@ -31,22 +32,43 @@ pub record IsVerdictOf (rows : Rows) (result : Result Sizes OpenFault) : Type 0 
   pub shared : IfErr result (λ e. e ≡ Store → AreByRowid rows → ¬ AreApart rows)
   pub unbroken : IfErr result (λ e. e ≡ Store → (r : ℕ) → keeps rows r ≡ true)
 
-module _ (v : Version) (olders : List OldEntry) (versions_read : List RawVersion)
-    (merchants_read : List RawMerchant) (counts_read : List RawCount) (cards_read : List RawCard) where
-  -- these rows are those that were read, and all behind them
-  pub record AreOnward (db : Database) (rows : Rows) : Type 0 where
-    pub versions : rows.versions ≡ versions_read
-    pub merchants : rows.merchants ≡ merchants_read
-    pub counts : rows.counts ≡ counts_read
-    pub cards : rows.cards ≡ cards_read
-    pub entries : AreEntriesIn v db olders rows.entries
-    pub records : AreTable IsAny (λ t. t 8) record_values (λ r. r.rowid) db rows.records
-    pub rights : AreTable (AreRightsFull v) (rights_in v) right_values (λ r. r.rowid) db rows.rights
-    pub replaced : rows.replaced ≡ replaced_in v db.trees
+-- these rows are those that were read, and all behind them
+pub record AreOnward (v : Version) (olders : List OldEntry) (versions_read : List RawVersion)
+    (merchants_read : List RawMerchant) (counts_read : List RawCount) (cards_read : List RawCard)
+    (db : Database) (rows : Rows) : Type 0 where
+  pub versions : rows.versions ≡ versions_read
+  pub merchants : rows.merchants ≡ merchants_read
+  pub counts : rows.counts ≡ counts_read
+  pub cards : rows.cards ≡ cards_read
+  pub entries : AreEntriesIn v db olders rows.entries
+  pub records : AreTable IsAny (λ t. t 8) record_values (λ r. r.rowid) db rows.records
+  pub rights : AreTable (AreRightsFull v) (rights_in v) right_values (λ r. r.rowid) db rows.rights
+  pub replaced : rows.replaced ≡ replaced_in v db.trees
 
-  -- the rows behind those that were read aren't read; or nothing changed, and this is what all come to
-  abbrev pub Judges : {S : Type 0} → Ghosts S → Result Sizes OpenFault → Held S → Held S → Type 0
-  Judges g result old new =
+-- what a judgment says of sizes
+abbrev pub sizes_in : Result Judged OpenFault → Result Sizes OpenFault
+sizes_in (Ok it) = Ok it.sizes
+sizes_in (Err e) = Err e
+
+module _ {S : Type 0} (g : Ghosts S) (v : Version) where
+  -- rows that weren't read are judged by nothing
+  abbrev pub IsUnjudged : {A : Type 0} → Result A OpenFault → Held S → Held S → Type 0
+  IsUnjudged result old new =
       IsErrAnd result (λ e. (IsJudged e → ⊥) × (e ≡ Store → IsUnreadOne g v (state g old).now new))
-      ⊎ (IsUnchanged (state g old) (state g new) × (rows : Rows) × AreOnward (state g old).now rows
-      × IsVerdictOf rows result)
+
+  module _ (versions : List RawVersion) (merchants : List RawMerchant) (counts : List RawCount) where
+    -- the rows behind the cards aren't read; or nothing changed, and this is what all come to
+    abbrev pub Judges : List OldEntry → List RawCard → Result Sizes OpenFault → Held S → Held S → Type 0
+    Judges olders cards result old new =
+        IsUnjudged result old new
+        ⊎ (IsUnchanged (state g old) (state g new) × (rows : Rows)
+        × AreOnward v olders versions merchants counts cards (state g old).now rows × IsVerdictOf rows result)
+
+    -- so it is of the rows behind the counts, with the entries of schema 1
+    abbrev pub JudgesAll : Result Judged OpenFault → Held S → Held S → Type 0
+    JudgesAll result old new =
+        IsUnjudged result old new
+        ⊎ (IsUnchanged (state g old) (state g new) × (olders : List OldEntry) × (rows : Rows)
+        × AreCardsIn v (state g old).now olders rows.cards
+        × AreOnward v olders versions merchants counts rows.cards (state g old).now rows
+        × IsVerdictOf rows (sizes_in result) × IfOk result (λ it. it.olders.items ≡ olders))

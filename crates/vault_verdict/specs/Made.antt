@@ -4,7 +4,6 @@ use Rattle.sqlite.specs.Order.{Row}
 use Rattle.sqlite.specs.declared.types.Value.TheVariants.{Int, Text}
 use Rattle.vault_verdict.specs.Raw.{int_value}
 use Rattle.vault_verdict.specs.declared.replaced.OldEntry.{OldEntry}
-use Rattle.vault_rules.specs.AllRows.{Rows}
 
 -- the card of an entry that has a number: its own, by the entry's rowid
 abbrev pub own_card : OldEntry → Option ℤ

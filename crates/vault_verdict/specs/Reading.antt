@@ -25,13 +25,14 @@ use Rattle.vault_verdict.specs.Raw.{entry_values, id_values, old_entry_values, r
 use Rattle.vault_verdict.specs.Raw.{version_values}
 use Rattle.vault_verdict.specs.ReadAs.{AreFull, AreLonger, IsFullIn, any_left, merchants_in, replaced_in}
 use Rattle.vault_verdict.specs.ReadAs.{rights_in}
-use Rattle.vault_verdict.specs.Taken.{EntriesTaken}
+use Rattle.vault_verdict.specs.Taken.{CardsTaken, EntriesTaken}
 use Rattle.vault_verdict.specs.declared.behind.Behind.{Behind}
 use Rattle.vault_verdict.specs.declared.first.First.{First}
-use Rattle.vault_verdict.specs.declared.read.CardRows.{CardRows}
+use Rattle.vault_verdict.specs.declared.read.WithCards.{WithCards}
 use Rattle.vault_verdict.specs.declared.fault.ReadFault.{ReadFault}
 use Rattle.vault_verdict.specs.declared.fault.ReadFault.TheVariants.{Store}
 use Rattle.vault_rules.specs.declared.rows.RawCard.{RawCard}
+use Rattle.vault_rules.specs.Held.{HoldCards}
 use Rattle.vault_rules.specs.Seen.{HasEntries, HasRecords}
 use Rattle.vault_rules.specs.declared.entries.Entries.{Entries}
 use Rattle.vault_rules.specs.declared.index.Index.{Index}
@@ -200,17 +201,16 @@ AreEntriesIn Three db olders entries =
 AreEntriesIn Four db olders entries =
     AreTable ArePointingFull (λ t. t 14) entry_values (λ e. e.rowid) db entries
 
--- the rows of a version that entries name
+-- the rows of a version that cards and entries name
 pub record AreFirst (v : Version) (db : Database) (it : First) : Type 0 where
   pub merchants : AreTable IsAny (merchants_in v) merchant_values (λ m. m.rowid) db it.merchants.items
   pub counts : AreTable IsAny (λ t. t 3) count_values (λ c. c.rowid) db it.counts.items
-  pub cards : AreCardsIn v db it.olders.items it.cards.items
 
 -- the entries and the records of a version, of which these were taken
 pub record AreTaken (v : Version) (db : Database) (olders : List OldEntry) (start : Entries) (it : Records)
     (entries : List RawEntry) (records : List RawRecord) : Type 0 where
-  pub index_is : HasEntries start [] → it.entries.index ≡ start.index
-  pub entries_came : HasEntries start [] → HasEntries it.entries entries
+  pub index_is : (cards : List RawCard) → HasEntries start cards [] → it.entries.index ≡ start.index
+  pub entries_came : (cards : List RawCard) → HasEntries start cards [] → HasEntries it.entries cards entries
   pub records_came : HasRecords it records
   pub entries_are : AreEntriesIn v db olders entries
   pub records_are : AreTable IsAny (λ t. t 8) record_values (λ r. r.rowid) db records
@@ -218,8 +218,10 @@ pub record AreTaken (v : Version) (db : Database) (olders : List OldEntry) (star
 -- the rows of a version behind the first ones, of which these entries and records were taken
 pub record AreBehind (v : Version) (db : Database) (olders : List OldEntry) (index : Index) (it : Behind)
     (entries : List RawEntry) (records : List RawRecord) : Type 0 where
-  pub index_is : it.records.entries.index ≡ index
-  pub entries_came : HasEntries it.records.entries entries
+  pub index_is : (cards : List RawCard) → HoldCards index.merchants.now index.cards cards
+      → it.records.entries.index ≡ index
+  pub entries_came : (cards : List RawCard) → HoldCards index.merchants.now index.cards cards
+      → HasEntries it.records.entries cards entries
   pub records_came : HasRecords it.records records
   pub entries_are : AreEntriesIn v db olders entries
   pub records_are : AreTable IsAny (λ t. t 8) record_values (λ r. r.rowid) db records
@@ -239,11 +241,13 @@ module _ {S : Type 0} (g : Ghosts S) where
   IsUnreadEntries Three db new = IsUnreadCards db new
   IsUnreadEntries Four db new = IsUnreadCards db new
 
-  -- the cards of a version are read, with the entries of schema 1, and nothing else is done
-  pub record ReadsCards (v : Version) (result : Result CardRows ReadFault) (old new : Held S) : Type 0 where
+  -- the cards of a version are taken, with the entries of schema 1, and nothing else is done
+  pub record ReadsCards (v : Version) (start : Index) (result : Result WithCards ReadFault)
+      (old new : Held S) : Type 0 where
     pub reads : Reads (schema_of v) result (state g old) (state g new)
     pub told : HasCleanDisk (state g new) → (state g old).now.schema ≡ schema_of v
-        → IfOk result (λ it. AreCardsIn v (state g old).now it.olders.items it.cards.items)
+        → IfOk result (λ it. (raws : List RawCard) × CardsTaken start it.index raws
+        × AreCardsIn v (state g old).now it.olders.items raws)
     pub refused : HasCleanDisk (state g new) → (state g old).now.schema ≡ schema_of v
         → IfErr result (λ e. e ≡ Store → IsUnreadEntries v (state g old).now new)
 

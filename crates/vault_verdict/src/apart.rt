@@ -2,13 +2,13 @@
 ghost use Rattle.std.specs.Prelude.{◌≡◌, IsTrue, List};
 ghost use Rattle.std.specs.List.{list_all};
 ghost use Rattle.vault_verdict.specs.Apart.{AreApart, AreByRowid, TellsApart};
-ghost use Rattle.vault_verdict.specs.Raw.{merchant_values, count_values, card_row, right_values};
+ghost use Rattle.vault_verdict.specs.Raw.{merchant_values, count_values, right_values};
 ghost use Rattle.vault_verdict.specs.Taken.{HasJudged};
 ghost use Rattle.vault_rules.specs.AllRows.{Rows};
 ghost use Rattle.vault_rules.specs.declared.rows.RawVersion.{RawVersion as VersionRow};
 
 use crate::behind::Behind;
-use vault_rules::rows::{RawCard, RawCount, RawMerchant, RawRight};
+use vault_rules::rows::{RawCount, RawMerchant, RawRight};
 
 /// Whether each rowid of `merchants` is below the next.
 fn merchants(rows: &[RawMerchant]) -> bool
@@ -22,13 +22,6 @@ fn counts(rows: &[RawCount]) -> bool
     ensures { TellsApart count_values (λ raw. raw.rowid) rows.now result }
 {
     rows.is_sorted_by(|earlier, later| earlier.rowid < later.rowid)
-}
-
-/// Whether each id of `cards2` is below the next.
-fn cards(rows: &[RawCard]) -> bool
-    ensures { TellsApart card_row (λ raw. raw.id) rows.now result }
-{
-    rows.is_sorted_by(|earlier, later| earlier.id < later.id)
 }
 
 /// Whether each rowid of `rights` is below the next.
@@ -59,7 +52,7 @@ pub(crate) fn are_apart(behind: &Behind) -> bool
     all_of([
         merchants(index.merchants()),
         counts(index.counts()),
-        cards(index.cards()),
+        index.cards().rowids().rises(),
         entries.rowids().rises(),
         records.rowids().rises(),
         rights(&behind.rights),

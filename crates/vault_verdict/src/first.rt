@@ -1,4 +1,4 @@
-//! The rows that entries name: merchants, their counts and cards.
+//! The rows that cards and entries name: merchants, and their counts.
 ghost use Rattle.std.specs.Prelude.{◌≡◌, IfErr, IfOk};
 ghost use Rattle.sqlite.specs.Held.{state};
 ghost use Rattle.sqlite.specs.State.{HasCleanDisk};
@@ -7,23 +7,20 @@ ghost use Rattle.vault_verdict.specs.Reading.{AreFirst, IsUnreadOne};
 ghost use Rattle.vault_schema.specs.Versions.{schema_of};
 
 use crate::fault::ReadFault;
-use crate::read::{self, CardRows};
-use crate::replaced::OldEntry;
+use crate::read;
 use sqlite::{Alter, Connection};
 use std::alloc::Global;
-use vault_rules::rows::{RawCard, RawCount, RawMerchant};
+use vault_rules::rows::{RawCount, RawMerchant};
 use vault_schema::version::Version;
 
-/// The rows that entries name; with them the entries of schema 1 as they stand.
+/// The rows that cards and entries name.
 #[derive(Drop)]
 pub(crate) struct First {
     pub merchants: Vec<RawMerchant>,
     pub counts: Vec<RawCount>,
-    pub cards: Vec<RawCard>,
-    pub olders: Vec<OldEntry>,
 }
 
-/// The rows of a version that entries name, as those of the newest one.
+/// The merchants of a version and their counts, as those of the newest one.
 pub(crate) fn read_first<S: Alter>(
     alloc: Global,
     conn: &mut Connection<S>,
@@ -40,11 +37,5 @@ pub(crate) fn read_first<S: Alter>(
 {
     let merchants = read::merchants(alloc, conn, version)?;
     let counts = read::counts(alloc, conn)?;
-    let CardRows { olders, cards } = read::cards(alloc, conn, version)?;
-    Ok(First {
-        merchants,
-        counts,
-        cards,
-        olders,
-    })
+    Ok(First { merchants, counts })
 }

@@ -3,13 +3,15 @@ ghost use Rattle.std.specs.Prelude.{◌≡◌, IfOk, List, map, option_map};
 ghost use Rattle.std.specs.List.{filter_map};
 ghost use Rattle.vault_verdict.specs.Made.{as_card, as_entry, own_card};
 ghost use Rattle.vault_verdict.specs.Raw.{card_values, entry_values};
-ghost use Rattle.vault_verdict.specs.Taken.{EntriesTaken};
+ghost use Rattle.vault_verdict.specs.Taken.{CardsTaken, EntriesTaken};
+ghost use Rattle.vault_rules.specs.declared.rows.RawCard.{RawCard as CardRow};
 ghost use Rattle.vault_rules.specs.declared.rows.RawEntry.{RawEntry as EntryRow};
 
 use crate::fault::ReadFault;
 use crate::replaced::OldEntry;
-use std::alloc::{AllocError, Global};
+use std::alloc::AllocError;
 use vault_rules::entries::Entries;
+use vault_rules::index::Index;
 use vault_rules::rows::{RawCard, RawEntry};
 
 /// The id of an entry's own card, where it has a number.
@@ -66,15 +68,16 @@ fn card_of(older: &OldEntry) -> Result<Option<RawCard>, AllocError>
     }))
 }
 
-/// The cards of old entries.
-pub(crate) fn cards(alloc: Global, olders: &[OldEntry]) -> Result<Vec<RawCard>, ReadFault>
-    ensures { IfOk result (λ cards. filter_map as_card olders.now ≡ map card_values cards.items) }
+/// What takes the cards of old entries.
+pub(crate) fn cards<'a>(olders: &[OldEntry], start: Index<'a>) -> Result<Index<'a>, ReadFault>
+    ensures { IfOk result (λ it. (raws : List CardRow) × CardsTaken start.entry it raws
+        × (filter_map as_card olders.now ≡ map card_values raws)) }
 {
-    let mut cards = Vec::new(alloc);
+    let mut index = start;
     for older in olders {
         if let Some(card) = card_of(older)? {
-            cards.push(card)?;
+            index.take(&card)?;
         }
     }
-    Ok(cards)
+    Ok(index)
 }

@@ -5,7 +5,7 @@ ghost use Rattle.sqlite.specs.Effect.{IsDatabase};
 ghost use Rattle.sqlite.specs.Held.{state};
 ghost use Rattle.sqlite.specs.State.{HasCleanDisk, IsUnchanged};
 ghost use Rattle.sqlite.specs.Table.{Table};
-ghost use Rattle.sqlite_schema.specs.declared.schema.Index.{Index};
+ghost use Rattle.sqlite_schema.specs.declared.schema.Index.{Index as SqlIndex};
 ghost use Rattle.sql_maps.specs.Schema.{grown};
 ghost use Rattle.sql_maps.specs.States.{Reads};
 ghost use Rattle.vault_verdict.specs.Opened.{AreVersions};
@@ -18,7 +18,8 @@ ghost use Rattle.vault_verdict.specs.Reading.{AreOldFull, ArePointingFull, AreRi
 ghost use Rattle.vault_verdict.specs.Reading.{AreOldCards, AreTable, IsAny, IsQuietWhere, IsUnread};
 ghost use Rattle.vault_verdict.specs.Reading.{IsUnreadCards, ReadsCards, ReadsTable, TakesEntries};
 ghost use Rattle.vault_verdict.specs.Reading.{TakesTable, TellsAny, merchants_text, rights_text};
-ghost use Rattle.vault_verdict.specs.Taken.{EntriesTaken, RecordsTaken};
+ghost use Rattle.vault_verdict.specs.Taken.{CardsTaken, EntriesTaken, RecordsTaken};
+ghost use Rattle.vault_rules.specs.declared.rows.RawCard.{RawCard as CardRow};
 ghost use Rattle.vault_schema.specs.declared.v1.TheConstants.{READ_COUNTS, READ_ENTRY_IDS, READ_RECORDS};
 ghost use Rattle.vault_schema.specs.declared.v1.TheConstants.{READ_ENTRIES as READ_OLD_ENTRIES};
 ghost use Rattle.vault_schema.specs.declared.v1.TheConstants.{READ_VERSIONS};
@@ -40,6 +41,7 @@ use crate::{made, raws};
 use sqlite::{Alter, Connection};
 use std::alloc::Global;
 use vault_rules::entries::Entries;
+use vault_rules::index::Index;
 use vault_rules::records::Records;
 use vault_rules::rows::{
     RawCard, RawCount, RawEntry, RawMerchant, RawRecord, RawRight, RawVersion,
@@ -77,7 +79,7 @@ fn old_merchants<S: Alter>(
     alloc: Global,
     conn: &mut Connection<S>,
 ) -> Result<Vec<RawMerchant>, ReadFault>
-    ensures { (others : List Table) (indexes : List Index) → ReadsTable S.Store READ_OLD_MERCHANTS.now
+    ensures { (others : List Table) (indexes : List SqlIndex) → ReadsTable S.Store READ_OLD_MERCHANTS.now
         merchant_values (grown v1 others indexes) IsAny (λ t. map with_six (t 1)) merchant_values
         (λ raw. raw.rowid) result conn.old conn.new }
 {
@@ -89,7 +91,7 @@ fn led_merchants<S: Alter>(
     alloc: Global,
     conn: &mut Connection<S>,
 ) -> Result<Vec<RawMerchant>, ReadFault>
-    ensures { (others : List Table) (indexes : List Index) → ReadsTable S.Store READ_MERCHANTS.now
+    ensures { (others : List Table) (indexes : List SqlIndex) → ReadsTable S.Store READ_MERCHANTS.now
         merchant_values (grown v3 others indexes) IsAny (λ t. t 17) merchant_values (λ raw. raw.rowid) result
         conn.old conn.new }
 {
@@ -138,7 +140,7 @@ pub(crate) fn records<'a, S: Alter>(
 
 /// The rows of `rights`, in each schema that begins with schema 1: none of them ends.
 fn old_rights<S: Alter>(alloc: Global, conn: &mut Connection<S>) -> Result<Vec<RawRight>, ReadFault>
-    ensures { (others : List Table) (indexes : List Index) → ReadsTable S.Store READ_OLD_RIGHTS.now
+    ensures { (others : List Table) (indexes : List SqlIndex) → ReadsTable S.Store READ_OLD_RIGHTS.now
         right_values (grown v1 others indexes) IsAny (λ t. map endless (t 10)) right_values
         (λ raw. raw.rowid) result conn.old conn.new }
 {
@@ -184,68 +186,79 @@ fn old_entries<S: Alter>(
     raws::shown(alloc, conn, READ_OLD_ENTRIES)
 }
 
-/// The rows of `cards2`, in each schema that begins with schema 2.
-fn standing_cards<S: Alter>(
+/// What takes the rows of `cards2`, in each schema that begins with schema 2.
+fn standing_cards<'a, S: Alter>(
+    conn: &mut Connection<S>,
+    start: Index<'a>,
+) -> Result<Index<'a>, ReadFault>
+    ensures { (others : List Table) (indexes : List SqlIndex) → TakesTable S.Store READ_CARDS.now card_values
+        (grown v2 others indexes) (CardsTaken start.entry) IsAny (λ t. t 12) card_row (λ raw. raw.id) result
+        conn.old conn.new }
+{
+    taken::<S, RawCard, _>(conn, READ_CARDS, start)
+}
+
+/// What took cards; with it the entries of schema 1, as they stand there.
+#[derive(Drop)]
+pub(crate) struct WithCards<'a> {
+    pub olders: Vec<OldEntry>,
+    pub index: Index<'a>,
+}
+
+/// The entries of schema 1, and what takes a card for each number of them.
+fn first_cards<'a, S: Alter>(
     alloc: Global,
     conn: &mut Connection<S>,
-) -> Result<Vec<RawCard>, ReadFault>
-    ensures { (others : List Table) (indexes : List Index) → ReadsTable S.Store READ_CARDS.now card_values
-        (grown v2 others indexes) IsAny (λ t. t 12) card_row (λ raw. raw.id) result conn.old conn.new }
-{
-    raws::shown(alloc, conn, READ_CARDS)
-}
-
-/// Cards; with them the entries of schema 1, as they stand there.
-#[derive(Drop)]
-pub(crate) struct CardRows {
-    pub olders: Vec<OldEntry>,
-    pub cards: Vec<RawCard>,
-}
-
-/// The entries of schema 1, and a card for each number of them.
-fn first_cards<S: Alter>(alloc: Global, conn: &mut Connection<S>) -> Result<CardRows, ReadFault>
+    start: Index<'a>,
+) -> Result<WithCards<'a>, ReadFault>
     ensures reads { Reads v1 result (state S.Store conn.old) (state S.Store conn.new) }
     ensures told { HasCleanDisk (state S.Store conn.new) → (state S.Store conn.old).now.schema ≡ v1
-        → IfOk result (λ it. AreOldCards (state S.Store conn.old).now it.olders.items it.cards.items) }
+        → IfOk result (λ it. (raws : List CardRow) × CardsTaken start.entry it.index raws
+        × AreOldCards (state S.Store conn.old).now it.olders.items raws) }
 {
     let olders = old_entries(alloc, conn)?;
-    let cards = made::cards(alloc, &olders)?;
-    Ok(CardRows { olders, cards })
+    let index = made::cards(&olders, start)?;
+    Ok(WithCards { olders, index })
 }
 
-/// The cards of a later schema.
-fn later_cards<S: Alter>(alloc: Global, conn: &mut Connection<S>) -> Result<CardRows, ReadFault>
-    ensures reads { (others : List Table) (indexes : List Index) → Reads (grown v2 others indexes) result
+/// What takes the cards of a later schema.
+fn later_cards<'a, S: Alter>(
+    alloc: Global,
+    conn: &mut Connection<S>,
+    start: Index<'a>,
+) -> Result<WithCards<'a>, ReadFault>
+    ensures reads { (others : List Table) (indexes : List SqlIndex) → Reads (grown v2 others indexes) result
         (state S.Store conn.old) (state S.Store conn.new) }
-    ensures told { (others : List Table) (indexes : List Index) → HasCleanDisk (state S.Store conn.new)
+    ensures told { (others : List Table) (indexes : List SqlIndex) → HasCleanDisk (state S.Store conn.new)
         → (state S.Store conn.old).now.schema ≡ grown v2 others indexes
-        → IfOk result (λ it. AreTable IsAny (λ t. t 12) card_row (λ c. c.id) (state S.Store conn.old).now
-        it.cards.items) }
-    ensures refused { (others : List Table) (indexes : List Index) → HasCleanDisk (state S.Store conn.new)
+        → IfOk result (λ it. (raws : List CardRow) × CardsTaken start.entry it.index raws
+        × AreTable IsAny (λ t. t 12) card_row (λ c. c.id) (state S.Store conn.old).now raws) }
+    ensures refused { (others : List Table) (indexes : List SqlIndex) → HasCleanDisk (state S.Store conn.new)
         → (state S.Store conn.old).now.schema ≡ grown v2 others indexes
         → IfErr result (λ e. e ≡ ReadFault.Store
         → IsUnreadCards S.Store (state S.Store conn.old).now conn.new) }
 {
-    let cards = standing_cards(alloc, conn)?;
-    Ok(CardRows {
+    let index = standing_cards(conn, start)?;
+    Ok(WithCards {
         olders: Vec::new(alloc),
-        cards,
+        index,
     })
 }
 
-/// The cards of a version.
-pub(crate) fn cards<S: Alter>(
+/// What takes the cards of a version.
+pub(crate) fn cards<'a, S: Alter>(
     alloc: Global,
     conn: &mut Connection<S>,
     version: Version,
-) -> Result<CardRows, ReadFault>
-    ensures { ReadsCards S.Store version result conn.old conn.new }
+    start: Index<'a>,
+) -> Result<WithCards<'a>, ReadFault>
+    ensures { ReadsCards S.Store version start.entry result conn.old conn.new }
 {
     match version {
-        Version::One => first_cards(alloc, conn),
-        Version::Two => later_cards(alloc, conn),
-        Version::Three => later_cards(alloc, conn),
-        Version::Four => later_cards(alloc, conn),
+        Version::One => first_cards(alloc, conn, start),
+        Version::Two => later_cards(alloc, conn, start),
+        Version::Three => later_cards(alloc, conn, start),
+        Version::Four => later_cards(alloc, conn, start),
     }
 }
 
@@ -254,7 +267,7 @@ fn pointing_entries<'a, S: Alter>(
     conn: &mut Connection<S>,
     start: Entries<'a>,
 ) -> Result<Entries<'a>, ReadFault>
-    ensures { (others : List Table) (indexes : List Index) → TakesTable S.Store READ_ENTRIES.now entry_values
+    ensures { (others : List Table) (indexes : List SqlIndex) → TakesTable S.Store READ_ENTRIES.now entry_values
         (grown v2 others indexes) (EntriesTaken start.entry) ArePointingFull (λ t. t 14) entry_values
         (λ raw. raw.rowid) result conn.old conn.new }
 {
@@ -291,7 +304,7 @@ fn any_left(ids: &[RowId]) -> u64
 /// 1 where `entries` has rows, whatever they hold, in each schema that begins with schema 1.
 fn entries_left<S: Alter>(alloc: Global, conn: &mut Connection<S>) -> Result<u64, ReadFault>
     ensures small { IfOk result (λ n. n ≤ 1) }
-    ensures told { (others : List Table) (indexes : List Index) → TellsAny S.Store READ_ENTRY_IDS.now
+    ensures told { (others : List Table) (indexes : List SqlIndex) → TellsAny S.Store READ_ENTRY_IDS.now
         id_values (grown v1 others indexes) (λ t. t 5) result conn.old conn.new }
 {
     let ids: Vec<RowId> = raws::shown(alloc, conn, READ_ENTRY_IDS)?;
@@ -301,7 +314,7 @@ fn entries_left<S: Alter>(alloc: Global, conn: &mut Connection<S>) -> Result<u64
 /// 1 where `merchants` has rows, whatever they hold, in each of these.
 fn merchants_left<S: Alter>(alloc: Global, conn: &mut Connection<S>) -> Result<u64, ReadFault>
     ensures small { IfOk result (λ n. n ≤ 1) }
-    ensures told { (others : List Table) (indexes : List Index) → TellsAny S.Store READ_MERCHANT_IDS.now
+    ensures told { (others : List Table) (indexes : List SqlIndex) → TellsAny S.Store READ_MERCHANT_IDS.now
         id_values (grown v1 others indexes) (λ t. t 1) result conn.old conn.new }
 {
     let ids: Vec<RowId> = raws::shown(alloc, conn, READ_MERCHANT_IDS)?;
@@ -311,7 +324,7 @@ fn merchants_left<S: Alter>(alloc: Global, conn: &mut Connection<S>) -> Result<u
 /// 1 where `rights` has rows, whatever they hold, in each of these.
 fn rights_left<S: Alter>(alloc: Global, conn: &mut Connection<S>) -> Result<u64, ReadFault>
     ensures small { IfOk result (λ n. n ≤ 1) }
-    ensures told { (others : List Table) (indexes : List Index) → TellsAny S.Store READ_RIGHT_IDS.now
+    ensures told { (others : List Table) (indexes : List SqlIndex) → TellsAny S.Store READ_RIGHT_IDS.now
         id_values (grown v1 others indexes) (λ t. t 10) result conn.old conn.new }
 {
     let ids: Vec<RowId> = raws::shown(alloc, conn, READ_RIGHT_IDS)?;

@@ -4,15 +4,16 @@ ghost use Rattle.sqlite.proofs.Callers.{IsPlain};
 ghost use Rattle.sqlite.specs.Listing.{understood};
 ghost use Rattle.sqlite.specs.Schema.{Schema};
 ghost use Rattle.vault_verdict.specs.Reading.{TakesRows};
-ghost use Rattle.vault_verdict.specs.Taken.{EntriesTaken, RecordsTaken};
+ghost use Rattle.vault_verdict.specs.Taken.{CardsTaken, EntriesTaken, RecordsTaken};
 
 use crate::fault::ReadFault;
 use crate::raws::Raw;
 use sqlite::{Alter, Connection};
 use std::alloc::AllocError;
 use vault_rules::entries::Entries;
+use vault_rules::index::Index;
 use vault_rules::records::Records;
-use vault_rules::rows::{RawEntry, RawRecord};
+use vault_rules::rows::{RawCard, RawEntry, RawRecord};
 
 /// What takes rows, one after the other.
 pub(crate) trait Taker<R>: Sized + Drop {
@@ -47,12 +48,26 @@ impl<R: Drop> Taker<R> for Vec<R> {
     }
 }
 
+impl<'a> Taker<RawCard> for Index<'a> {
+    ghost use Rattle.std.specs.Prelude.{◌-◌, ◌^◌, length, refl};
+
+    ghost took = { CardsTaken };
+
+    ghost fresh = { λ start none. (refl, refl, none) };
+
+    ghost room = { λ now. 2 ^ 63 - length now.cards.kept.items };
+
+    fn take(&mut self, raw: RawCard) -> Result<(), AllocError> {
+        Index::take(self, &raw)
+    }
+}
+
 impl<'a> Taker<RawEntry> for Entries<'a> {
     ghost use Rattle.std.specs.Prelude.{◌-◌, ◌^◌, refl};
 
     ghost took = { EntriesTaken };
 
-    ghost fresh = { λ start none. (refl, none) };
+    ghost fresh = { λ start cards none. (refl, none) };
 
     ghost room = { λ now. 2 ^ 64 - now.many };
 

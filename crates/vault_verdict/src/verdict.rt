@@ -1,13 +1,15 @@
 //! Whether a file's rows are those of a sound vault.
-ghost use Rattle.std.specs.Prelude.{◌≡◌, ◌≢◌, ℤ, ℕ, IfOk, IfErr, OnOk};
+ghost use Rattle.std.specs.Prelude.{◌≡◌, ◌≢◌, ℤ, ℕ, List, [], IfOk, IfErr, OnOk};
 ghost use Rattle.sqlite.specs.Held.{state};
 ghost use Rattle.sqlite.specs.State.{HasCleanDisk, IsUnchanged};
 ghost use Rattle.vault_verdict.specs.Faults.{IsJudged};
-ghost use Rattle.vault_verdict.specs.Judging.{Judges};
 ghost use Rattle.vault_verdict.specs.Opened.{AreOldersIn, IsBrokenIn, IsLeastBroken, IsOtherVersion};
 ghost use Rattle.vault_verdict.specs.Opened.{IsSoundIn, IsSoundOf, IsVersionIn};
 ghost use Rattle.vault_verdict.specs.ReadAs.{IsFullIn};
 ghost use Rattle.vault_verdict.specs.Reading.{IsOurs, IsQuiet, IsQuietWhere, IsUnreadFile};
+ghost use Rattle.vault_verdict.specs.Judging.{Judges, JudgesAll};
+ghost use Rattle.vault_rules.specs.Held.{HoldCards};
+ghost use Rattle.vault_rules.specs.declared.rows.RawCard.{RawCard as CardRow};
 ghost use Rattle.vault_schema.specs.Schema.{newest_schema};
 ghost use Rattle.vault_schema.specs.Stands.{newest};
 ghost use Rattle.vault_schema.specs.Versions.{schema_of};
@@ -16,7 +18,7 @@ use crate::behind::read_behind;
 use crate::fault::OpenFault;
 use crate::first::{First, read_first};
 use crate::judge::{judge, other_in};
-use crate::read::version_rows;
+use crate::read::{self, WithCards, version_rows};
 use crate::replaced::OldEntry;
 use crate::sizes::Sizes;
 use sqlite::{Alter, Connection};
@@ -32,7 +34,7 @@ pub struct Judged {
     pub olders: Vec<OldEntry>,
 }
 
-/// What rows come to that an index has, and those behind them.
+/// What rows come to of which the cards were taken.
 fn judge_behind<'a, S: Alter>(
     alloc: Global,
     conn: &mut Connection<S>,
@@ -43,14 +45,37 @@ fn judge_behind<'a, S: Alter>(
 ) -> Result<Sizes, OpenFault>
     ensures told { HasCleanDisk (state S.Store conn.new)
         → (state S.Store conn.old).now.schema ≡ schema_of version
-        → Judges version olders.now versions.now index.entry.merchants.now index.entry.counts.now
-        index.entry.cards.now S.Store result conn.old conn.new }
+        → (cards : List CardRow) → HoldCards index.entry.merchants.now index.entry.cards cards
+        → Judges S.Store version versions.now index.entry.merchants.now index.entry.counts.now olders.now
+        cards result conn.old conn.new }
     ensures versioned { IfErr result (λ e. (n : ℤ) → e ≢ OpenFault.WrongSchema n) }
     ensures quiet { IsQuietWhere ((state S.Store conn.old).now.schema ≡ schema_of version)
         (state S.Store conn.old) (state S.Store conn.new) }
 {
     let behind = read_behind(alloc, conn, version, olders, index)?;
     judge(versions, &behind)
+}
+
+/// What rows come to of which no card was taken yet.
+fn judge_cards<'a, S: Alter>(
+    alloc: Global,
+    conn: &mut Connection<S>,
+    version: Version,
+    versions: &[RawVersion],
+    index: Index<'a>,
+) -> Result<Judged, OpenFault>
+    ensures told { HasCleanDisk (state S.Store conn.new)
+        → (state S.Store conn.old).now.schema ≡ schema_of version
+        → HoldCards index.entry.merchants.now index.entry.cards []
+        → JudgesAll S.Store version versions.now index.entry.merchants.now index.entry.counts.now result
+        conn.old conn.new }
+    ensures versioned { IfErr result (λ e. (n : ℤ) → e ≢ OpenFault.WrongSchema n) }
+    ensures quiet { IsQuietWhere ((state S.Store conn.old).now.schema ≡ schema_of version)
+        (state S.Store conn.old) (state S.Store conn.new) }
+{
+    let WithCards { olders, index } = read::cards(alloc, conn, version, index)?;
+    let sizes = judge_behind(alloc, conn, version, versions, &olders, index)?;
+    Ok(Judged { sizes, olders })
 }
 
 /// What the first rows come to, and those behind them.
@@ -60,17 +85,17 @@ fn judge_first<S: Alter>(
     version: Version,
     versions: &[RawVersion],
     first: &First,
-) -> Result<Sizes, OpenFault>
+) -> Result<Judged, OpenFault>
     ensures told { HasCleanDisk (state S.Store conn.new)
         → (state S.Store conn.old).now.schema ≡ schema_of version
-        → Judges version first.now.olders.items versions.now first.now.merchants.items
-        first.now.counts.items first.now.cards.items S.Store result conn.old conn.new }
+        → JudgesAll S.Store version versions.now first.now.merchants.items first.now.counts.items result
+        conn.old conn.new }
     ensures versioned { IfErr result (λ e. (n : ℤ) → e ≢ OpenFault.WrongSchema n) }
     ensures quiet { IsQuietWhere ((state S.Store conn.old).now.schema ≡ schema_of version)
         (state S.Store conn.old) (state S.Store conn.new) }
 {
-    let index = Index::of(alloc, &first.merchants, &first.counts, &first.cards)?;
-    judge_behind(alloc, conn, version, versions, &first.olders, index)
+    let index = Index::of(alloc, &first.merchants, &first.counts)?;
+    judge_cards(alloc, conn, version, versions, index)
 }
 
 /// Reads all tables of a version as those of the newest one, and says what they hold where they stand for a
@@ -111,9 +136,7 @@ pub fn verdict<S: Alter>(
         return Err(OpenFault::WrongSchema(other));
     }
     let first = read_first(alloc, conn, version)?;
-    let sizes = judge_first(alloc, conn, version, &versions, &first)?;
-    let First { olders, .. } = first;
-    Ok(Judged { sizes, olders })
+    judge_first(alloc, conn, version, &versions, &first)
 }
 
 /// The verdict over a file in the newest version.

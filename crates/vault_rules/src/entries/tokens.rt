@@ -50,7 +50,7 @@ impl<'a> Tokens<'a> {
         };
         let name = merchant.name.as_str();
         count_one(&mut self.held, name)?;
-        let token = found.entry.token.as_str();
+        let token = found.entry.token.as_bytes();
         if is_token(token) {
             put_first(&mut self.usages, (packed(token), name), found.entry.usage)?;
         }
@@ -65,7 +65,7 @@ impl<'a> Tokens<'a> {
     }
 
     /// The usage of a merchant's token, where each entry has a merchant and a token.
-    pub(crate) fn usage(&self, merchant: &'a RawMerchant, token: &str) -> Option<i64>
+    pub(crate) fn usage(&self, merchant: &'a RawMerchant, token: &[u8]) -> Option<i64>
         ensures { (merchants : List MerchantRow) (raws : List EntryRow) → HoldTokens merchants self.now raws
             → is_known merchants (string_bytes merchant.now.name) ≡ true
             → list_all (has_token merchants) raws ≡ true → result

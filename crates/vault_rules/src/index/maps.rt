@@ -1,13 +1,13 @@
 //! Ordered maps over the rows, each made in one pass.
-ghost use Rattle.std.specs.Prelude.{◌≡◌, ℤ, IfOk, pos};
+ghost use Rattle.std.specs.Prelude.{◌≡◌, IfOk, pos};
 ghost use Rattle.std.specs.Option.{option_copied};
 ghost use Rattle.std.specs.Ordering.{int_eq};
 ghost use Rattle.vault_core.specs.Keys.{Bytes};
-ghost use Rattle.vault_rules.specs.Index.{at_id, at_text, made_of};
-ghost use Rattle.vault_rules.specs.Lookups.{merchant_of, card_of};
+ghost use Rattle.vault_rules.specs.Index.{at_text, made_of};
+ghost use Rattle.vault_rules.specs.Lookups.{merchant_of};
 
 use crate::index::first::put_first;
-use crate::rows::{RawCard, RawCount, RawMerchant};
+use crate::rows::{RawCount, RawMerchant};
 use std::alloc::{AllocError, Global};
 use std::collections::BTreeMap;
 use vault_core::changes::Count;
@@ -49,18 +49,4 @@ fn counts_made(row: &RawCount) -> bool
     ensures { result ≡ int_eq row.now.kind (pos 1) }
 {
     row.kind == Count::Made.number() as i64
-}
-
-/// The first card row of each id.
-pub(crate) fn cards_by_id<'a>(
-    alloc: Global,
-    cards: &'a [RawCard],
-) -> Result<BTreeMap<i64, &'a RawCard>, AllocError>
-    ensures { IfOk result (λ map. (id : ℤ) → option_copied (at_id map id) ≡ card_of cards.now id) }
-{
-    let mut map = BTreeMap::new(alloc);
-    for row in cards {
-        put_first(&mut map, row.id, row)?;
-    }
-    Ok(map)
 }

@@ -3,6 +3,7 @@ ghost use Rattle.std.specs.Prelude.{◌≡◌, List, true};
 ghost use Rattle.std.specs.List.{list_all};
 ghost use Rattle.vault_rules.specs.Rules as rules;
 ghost use Rattle.vault_rules.specs.Seen.{HasEntries};
+ghost use Rattle.vault_rules.specs.declared.rows.RawCard.{RawCard as CardRow};
 ghost use Rattle.vault_rules.specs.declared.rows.RawEntry.{RawEntry as EntryRow};
 
 use crate::entries::Entries;
@@ -13,15 +14,17 @@ use crate::texts::is_name;
 
 /// Whether a record keeps rule 11, where each entry has a merchant and a token.
 pub(crate) fn is_record(entries: &Entries, r: &RawRecord) -> bool
-    ensures { (raws : List EntryRow) → HasEntries entries.now raws → entries.now.rules.tokens ≡ true
+    ensures { (cards : List CardRow) (raws : List EntryRow)
+        → HasEntries entries.now cards raws → entries.now.rules.tokens ≡ true
         → result ≡ rules.is_record raws r.now }
 {
-    is_name(r.caller.as_str()) && 1 <= r.request && has_usage(entries, r)
+    is_name(r.caller.as_bytes()) && 1 <= r.request && has_usage(entries, r)
 }
 
 /// Whether the entry of a record exists and has its usage.
 fn has_usage(entries: &Entries, r: &RawRecord) -> bool
-    ensures { (raws : List EntryRow) → HasEntries entries.now raws → entries.now.rules.tokens ≡ true
+    ensures { (cards : List CardRow) (raws : List EntryRow)
+        → HasEntries entries.now cards raws → entries.now.rules.tokens ≡ true
         → result ≡ rules.has_usage raws r.now }
 {
     entries.usage(r.merchant.as_str(), r.token.as_str()) == Some(r.usage)
@@ -38,5 +41,5 @@ pub fn are_rights(index: &Index, rights: &[RawRight]) -> bool
 fn is_right(index: &Index, r: &RawRight) -> bool
     ensures { result ≡ rules.is_right index.now.merchants.now r.now }
 {
-    is_name(r.caller.as_str()) && index.is_known(r.merchant.as_str()) && is_within(1, 6, r.what)
+    is_name(r.caller.as_bytes()) && index.is_known(r.merchant.as_str()) && is_within(1, 6, r.what)
 }

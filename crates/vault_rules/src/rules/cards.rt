@@ -1,33 +1,36 @@
 //! The rule of card rows, and of the entries that point at them.
-ghost use Rattle.std.specs.Prelude.{◌≡◌, ◌&&◌, List};
+ghost use Rattle.std.specs.Prelude.{◌≡◌, ◌&&◌, List, is_some, true};
 ghost use Rattle.std.specs.List.{list_all};
 ghost use Rattle.vault_rules.specs.Found.{IsFoundIn};
+ghost use Rattle.vault_rules.specs.Held.{seen_card};
+ghost use Rattle.vault_rules.specs.Kept.{is_used};
 ghost use Rattle.vault_rules.specs.Rules as rules;
 ghost use Rattle.vault_rules.specs.Seen.{HasEntries};
 ghost use Rattle.vault_rules.specs.declared.rows.RawCard.{RawCard as CardRow};
 ghost use Rattle.vault_rules.specs.declared.rows.RawEntry.{RawEntry as EntryRow};
 ghost use Rattle.vault_rules.specs.declared.rows.RawMerchant.{RawMerchant as MerchantRow};
 
+use crate::card_rows::Card;
 use crate::entries::Entries;
 use crate::index::found::Found;
-use crate::rows::RawCard;
 
 /// Rule 13: each card row's merchant exists, and its uses are the number of entries that point at it, 1 or
 /// more; the card of each entry that isn't purged is a card row of its merchant.
 pub fn are_cards(entries: &Entries) -> bool
-    ensures { (raws : List EntryRow) → HasEntries entries.now raws → result
-        ≡ (list_all (rules.is_card entries.now.index.merchants.now raws) entries.now.index.cards.now
-        && list_all (rules.has_card entries.now.index.cards.now) raws) }
+    ensures { (rows : List CardRow) (raws : List EntryRow) → HasEntries entries.now rows raws
+        → entries.now.rules.tokens ≡ true → result
+        ≡ (list_all (rules.is_card entries.now.index.merchants.now raws) rows
+        && list_all (rules.has_card rows) raws) }
 {
     have_uses(entries) && entries.rules.pointed
 }
 
 /// Whether each card row keeps its half of the rule.
 fn have_uses(entries: &Entries) -> bool
-    ensures { (raws : List EntryRow) → HasEntries entries.now raws → result
-        ≡ list_all (rules.is_card entries.now.index.merchants.now raws) entries.now.index.cards.now }
+    ensures { (rows : List CardRow) (raws : List EntryRow) → HasEntries entries.now rows raws
+        → result ≡ list_all (rules.is_card entries.now.index.merchants.now raws) rows }
 {
-    for card in entries.index.cards {
+    for card in &entries.index.cards.kept {
         if !is_card(entries, card) {
             return false;
         }
@@ -36,22 +39,23 @@ fn have_uses(entries: &Entries) -> bool
 }
 
 /// Whether a card row's merchant exists, and its uses are the number of entries that point at it.
-fn is_card(entries: &Entries, c: &RawCard) -> bool
-    ensures { (raws : List EntryRow) → HasEntries entries.now raws
-        → result ≡ rules.is_card entries.now.index.merchants.now raws c.now }
+fn is_card(entries: &Entries, c: &Card) -> bool
+    ensures { (rows : List CardRow) (raws : List EntryRow) → HasEntries entries.now rows raws
+        → result ≡ is_used raws (seen_card c.now) }
 {
-    entries.index.is_known(c.merchant.as_str())
-        && 1 <= c.uses
-        && c.uses as u64 == entries.used(c.id) as u64
+    c.merchant.is_some() && 1 <= c.uses && c.uses as u64 == entries.used(c.id) as u64
 }
 
-/// Whether an entry's card, unless it is purged, is a card row of its merchant.
+/// Whether an entry's card, unless it is purged, is a card row of its merchant, which exists.
 pub(crate) fn has_card(found: &Found) -> bool
     ensures { (merchants : List MerchantRow) (cards : List CardRow) → IsFoundIn merchants cards found.now
-        → result ≡ rules.has_card cards found.now.entry.now }
+        → is_some found.now.merchant ≡ true → result ≡ rules.has_card cards found.now.entry.now }
 {
-    match found.card {
-        Some(card) => card.merchant.as_str() == found.entry.merchant.as_str(),
+    match &found.card {
+        Some(card) => match card.merchant {
+            Some(merchant) => merchant.name.as_str() == found.entry.merchant.as_str(),
+            None => false,
+        },
         None => found.entry.card.is_none(),
     }
 }

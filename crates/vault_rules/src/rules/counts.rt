@@ -7,6 +7,7 @@ ghost use Rattle.vault_rules.specs.Lookups.{is_known};
 ghost use Rattle.vault_rules.specs.Rules as rules;
 ghost use Rattle.vault_rules.specs.Seen.{HasEntries};
 ghost use Rattle.vault_rules.specs.declared.rows.RawCount.{RawCount as CountRow};
+ghost use Rattle.vault_rules.specs.declared.rows.RawCard.{RawCard as CardRow};
 ghost use Rattle.vault_rules.specs.declared.rows.RawEntry.{RawEntry as EntryRow};
 
 use crate::entries::Entries;
@@ -32,7 +33,8 @@ fn is_count(index: &Index, c: &RawCount) -> bool
 
 /// Rule 10: each merchant's count of tokens made is the number of its entries, at most 1000000.
 pub fn are_counted(entries: &Entries) -> bool
-    ensures { (raws : List EntryRow) → HasEntries entries.now raws → result
+    ensures { (cards : List CardRow) (raws : List EntryRow)
+        → HasEntries entries.now cards raws → result
         ≡ list_all (rules.is_counted entries.now.index.counts.now raws)
         entries.now.index.merchants.now }
 {
@@ -46,7 +48,8 @@ pub fn are_counted(entries: &Entries) -> bool
 
 /// Whether a merchant keeps the rule of its count.
 fn is_counted(entries: &Entries, m: &RawMerchant) -> bool
-    ensures { (raws : List EntryRow) → HasEntries entries.now raws
+    ensures { (cards : List CardRow) (raws : List EntryRow)
+        → HasEntries entries.now cards raws
         → is_known entries.now.index.merchants.now (string_bytes m.now.name) ≡ true
         → result ≡ rules.is_counted entries.now.index.counts.now raws m.now }
 {

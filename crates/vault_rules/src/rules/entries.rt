@@ -66,7 +66,7 @@ fn has_token(found: &Found) -> bool
     ensures { (merchants : List MerchantRow) (cards : List CardRow) → IsFoundIn merchants cards found.now
         → result ≡ rules.has_token merchants found.now.entry.now }
 {
-    found.merchant.is_some() && is_token(found.entry.token.as_str())
+    found.merchant.is_some() && is_token(found.entry.token.as_bytes())
 }
 
 /// Whether an entry's number, where there is one, is a card number that its token fits.
@@ -74,10 +74,10 @@ fn has_number(found: &Found) -> bool
     ensures { (merchants : List MerchantRow) (cards : List CardRow) → IsFoundIn merchants cards found.now
         → result ≡ rules.has_number cards found.now.entry.now }
 {
-    match found.card {
+    match &found.card {
         Some(card) => {
-            let number = card.number.as_str();
-            is_pan(number) && fits(found.entry.token.as_str(), number)
+            let number = card.number.bytes();
+            is_pan(number) && fits(found.entry.token.as_bytes(), number)
         }
         None => true,
     }

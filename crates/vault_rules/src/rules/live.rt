@@ -1,14 +1,17 @@
 //! The rule of live multi-use entries.
-ghost use Rattle.std.specs.Prelude.{◌≡◌, List, [], ◌∷◌, ◌++◌, OnOk, option_map};
-ghost use Rattle.std.specs.Option.{option_copied};
+ghost use Rattle.std.specs.Prelude.{◌≡◌, List, [], ◌∷◌, ◌++◌, OnOk, option_map, true};
 ghost use Rattle.vault_rules.specs.Found.{IsFoundIn};
+ghost use Rattle.vault_rules.specs.Index.{seen_key};
+ghost use Rattle.vault_rules.specs.Packed.{key_number};
 ghost use Rattle.vault_rules.specs.Rules as rules;
 ghost use Rattle.vault_rules.specs.declared.rows.RawCard.{RawCard as CardRow};
 ghost use Rattle.vault_rules.specs.declared.rows.RawEntry.{RawEntry as EntryRow};
 ghost use Rattle.vault_rules.specs.declared.rows.RawMerchant.{RawMerchant as MerchantRow};
 
 use crate::index::found::Found;
+use crate::packed::packed;
 use crate::rows::RawEntry;
+use crate::texts::is_pan;
 use std::alloc::{AllocError, Global};
 use std::collections::BTreeSet;
 
@@ -20,7 +23,7 @@ const MULTI: i64 = 2;
 pub struct Live<'a> {
     /// Rule 9: no number has two live multi-use entries at one merchant.
     pub(crate) alone: bool,
-    keys: BTreeSet<(&'a str, &'a str)>,
+    keys: BTreeSet<(u128, &'a str)>,
 }
 
 impl<'a> Live<'a> {
@@ -52,16 +55,21 @@ impl<'a> Live<'a> {
     }
 }
 
-/// The merchant and the number of a multi-use entry that is live at its merchant's moment.
-fn live_key<'a>(found: &Found<'a, '_>) -> Option<(&'a str, &'a str)>
+/// The number and the merchant of a multi-use entry that is live at its merchant's moment, where the number is a
+/// card number.
+fn live_key<'a>(found: &Found<'a, '_>) -> Option<(u128, &'a str)>
     ensures { (merchants : List MerchantRow) (cards : List CardRow) → IsFoundIn merchants cards found.now
-        → option_map (λ key. (key.0.now, key.1.now)) result
-        ≡ rules.live_key merchants cards found.now.entry.now }
+        → rules.has_number cards found.now.entry.now ≡ true
+        → option_map seen_key result
+        ≡ option_map key_number (rules.live_key merchants cards found.now.entry.now) }
 {
     let merchant = found.merchant?;
-    let card = found.card?;
-    if is_live(merchant.moment, found.entry) {
-        Some((merchant.name.as_str(), card.number.as_str()))
+    let Some(card) = &found.card else {
+        return None;
+    };
+    let number = card.number.bytes();
+    if is_live(merchant.moment, found.entry) && is_pan(number) {
+        Some((packed(number), merchant.name.as_str()))
     } else {
         None
     }

@@ -26,7 +26,7 @@ pub fn are_named(merchants: &[RawMerchant]) -> bool
 fn have_names(merchants: &[RawMerchant]) -> bool
     ensures { result ≡ list_all (λ m. is_name_spec (string_bytes m.name)) merchants.now }
 {
-    merchants.iter().all(|m| is_name(m.name.as_str()))
+    merchants.iter().all(|m| is_name(m.name.as_bytes()))
 }
 
 /// Whether a merchant's lives and moment are within their bounds.

@@ -253,7 +253,10 @@ fn no_rows(alloc: Global) -> Rows {
 
 /// The least rule that rows break, which come one after the other.
 fn least(alloc: Global, rows: &Rows) -> Result<Option<u8>, AllocError> {
-    let index = Index::of(alloc, &rows.merchants, &rows.counts, &rows.cards)?;
+    let mut index = Index::of(alloc, &rows.merchants, &rows.counts)?;
+    for card in &rows.cards {
+        index.take(card)?;
+    }
     let mut entries = Entries::new(alloc, index);
     for entry in &rows.entries {
         entries.take(entry)?;

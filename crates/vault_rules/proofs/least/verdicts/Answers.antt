@@ -8,29 +8,27 @@ pub returns : goal.returns
 returns c rows has =
     let said : List Bool = rules.verdicts rows in
     let m = has.merchants in
-    let k = has.cards in
+    let k = rows.cards in
     let e = has.entries in
     let one = c.is_current.ensures ∙ (λ i. rules.is_current (has.versions i) (has.replaced i)) in
     let two = c.are_named.ensures ∙ ap rules.are_named m in
     let three = c.are_lasting.ensures ∙ ap (list_all rules.is_lasting) m in
     let four = c.are_counts.ensures ∙ (λ i. list_all (rules.is_count (m i)) (has.counts i)) in
     let five = e.rules.tokens ∙ ap (λ ms. list_all (rules.has_token ms) rows.entries) m in
-    verdicts_from rows _ _ _ _ _ _ (drop 5 said)
-    (λ i. sym one i ∷ sym two i ∷ sym three i ∷ sym four i ∷ sym five i ∷ drop 5 said)
-    (λ tokens.
-    let six = e.rules.numbers ∙ ap (λ cs. list_all (rules.has_number cs) rows.entries) k in
+    let six = e.rules.numbers in
+    verdicts_from rows _ _ _ _ _ _ _ (drop 6 said)
+    (λ i. sym one i ∷ sym two i ∷ sym three i ∷ sym four i ∷ sym five i ∷ sym six i ∷ drop 6 said)
+    (λ tokens numbers.
     let seven = e.rules.timed ∙ ap (λ ms. list_all (rules.at_moments ms rules.is_timed) rows.entries) m in
     let eight = e.rules.kept ∙ ap (λ ms. list_all (rules.at_moments ms rules.is_kept) rows.entries) m in
-    let nine = e.live.alone
-    ∙ (λ i. rules.are_distinct (filter_map (rules.live_key (m i) (k i)) rows.entries)) in
-    let ten = c.are_counted.ensures rows.entries e
+    let nine = e.live.alone (sym six ∙ numbers)
+    ∙ (λ i. rules.are_distinct (filter_map (rules.live_key (m i) k) rows.entries)) in
+    let ten = c.are_counted.ensures k rows.entries e
     ∙ (λ i. list_all (rules.is_counted (has.counts i) rows.entries) (m i)) in
-    let eleven = has.records.kept rows.entries e tokens in
+    let eleven = has.records.kept k rows.entries e tokens in
     let twelve = c.are_rights.ensures ∙ (λ i. list_all (rules.is_right (m i)) (has.rights i)) in
-    let thirteen = c.are_cards.ensures rows.entries e
-    ∙ (λ i. list_all (rules.is_card (m i) rows.entries) (k i)
-    && list_all (rules.has_card (k i)) rows.entries) in
+    let thirteen = c.are_cards.ensures k rows.entries e tokens
+    ∙ (λ i. list_all (rules.is_card (m i) rows.entries) k && list_all (rules.has_card k) rows.entries) in
     let fourteen = c.have_leads.ensures ∙ ap (list_all rules.has_lead) m in
     let fifteen = c.have_ends.ensures ∙ ap (list_all rules.has_end) has.rights in
-    λ i. six i ∷ seven i ∷ eight i ∷ nine i ∷ ten i ∷ eleven i ∷ twelve i ∷ thirteen i ∷ fourteen i
-    ∷ fifteen i ∷ [])
+    λ i. seven i ∷ eight i ∷ nine i ∷ ten i ∷ eleven i ∷ twelve i ∷ thirteen i ∷ fourteen i ∷ fifteen i ∷ [])

@@ -5,18 +5,18 @@ use Rattle.vault_rules.proofs.packed.packed.Goals as goal
 
 pub overflow_mul-number : goal.overflow_mul-number
 overflow_mul-number c =
-    let parts = number_parts c.args.text.now c.requires in
-    let short = length-drop c.loop-left.left c.args.text.now in
-    let low = packed_small (drop c.loop-left.left c.args.text.now)
-    (digits_behind c.args.text.now c.loop-left.left parts.1) (omega (arith, short, parts.0)) in
+    let parts = number_parts c.args.digits.now c.requires in
+    let short = length-drop c.loop-left.left c.args.digits.now in
+    let low = packed_small (drop c.loop-left.left c.args.digits.now)
+    (digits_behind c.args.digits.now c.loop-left.left parts.1) (omega (arith, short, parts.0)) in
     let is = c.loop-left.invariant.number in
     omega (arith, low, is)
 
 pub overflow_add-number : goal.overflow_add-number
 overflow_add-number c =
-    let parts = number_parts c.args.text.now c.requires in
-    let short = length-drop c.loop-left.left c.args.text.now in
-    let low = packed_small (drop c.loop-left.left c.args.text.now)
-    (digits_behind c.args.text.now c.loop-left.left parts.1) (omega (arith, short, parts.0)) in
+    let parts = number_parts c.args.digits.now c.requires in
+    let short = length-drop c.loop-left.left c.args.digits.now in
+    let low = packed_small (drop c.loop-left.left c.args.digits.now)
+    (digits_behind c.args.digits.now c.loop-left.left parts.1) (omega (arith, short, parts.0)) in
     let is = c.loop-left.invariant.number in
     omega (arith, low, is)

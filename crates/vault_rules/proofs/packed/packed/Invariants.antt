@@ -4,8 +4,8 @@ use Rattle.vault_rules.proofs.packed.packed.Given as goal
 
 abbrev pub invariant-loop-left : goal.invariant-loop-left
 invariant-loop-left l = record {
-  within : l.left ≤ length l.text;
-  number : l.number ≡ packed (drop l.left l.text);
+  within : l.left ≤ length l.digits;
+  number : l.number ≡ packed (drop l.left l.digits);
 }
 
 abbrev pub decreases-loop-left : goal.decreases-loop-left

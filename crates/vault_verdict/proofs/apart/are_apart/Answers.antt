@@ -1,11 +1,11 @@
 use Rattle.std.proofs.Common.{◌∙◌, ap, refl, subst, IsTrue, sym}
-use Rattle.std.specs.List.{list_all}
 use Rattle.vault_verdict.proofs.AllApart.{apart_by, told_by}
 use Rattle.vault_verdict.proofs.Rising.{rising_apart}
 use Rattle.vault_verdict.proofs.apart.are_apart.Goals as goal
 use Rattle.vault_verdict.specs.Apart.{TellsApart}
 use Rattle.vault_verdict.specs.Raw.{card_row, count_values, entry_values, merchant_values, record_values}
 use Rattle.vault_verdict.specs.Raw.{right_values}
+use Rattle.vault_rules.specs.declared.card_rows.Cards.{Cards}
 use Rattle.vault_rules.specs.declared.entries.Entries.{Entries}
 use Rattle.vault_rules.specs.declared.index.Index.{Index}
 use Rattle.vault_rules.specs.declared.rising.Rising.{Rising}
@@ -19,13 +19,15 @@ returns-clause-apart c rows versions has told =
     (c.merchants.ensures ∙ ap (λ (i : Index). i.merchants.now) index ∙ has.merchants) c.merchants-2.ensures)
     (subst (λ l. TellsApart count_values (λ n. n.rowid) l c.counts-2.result)
     (c.counts.ensures ∙ ap (λ (i : Index). i.counts.now) index ∙ has.counts) c.counts-2.ensures)
-    (subst (λ l. TellsApart card_row (λ k. k.id) l c.cards-2.result)
-    (c.cards.ensures ∙ ap (λ (i : Index). i.cards.now) index ∙ has.cards) c.cards-2.ensures)
-    (rising_apart (λ e. e.rowid) entry_values (λ m. refl) rows.entries c.rises.result
+    (rising_apart (λ k. k.id) card_row (λ m. refl) rows.cards c.rises.result
     (c.rises.ensures ∙ ap (λ (r : Rising). r.rises) (c.rowids.ensures
+    ∙ ap (λ (k : Cards). k.rowids) (c.cards.ensures ∙ ap (λ (i : Index). i.cards) index))
+    ∙ has.entries.held.rowids.rises))
+    (rising_apart (λ e. e.rowid) entry_values (λ m. refl) rows.entries c.rises-2.result
+    (c.rises-2.ensures ∙ ap (λ (r : Rising). r.rises) (c.rowids-2.ensures
     ∙ ap (λ (e : Entries). e.rowids) entries) ∙ has.entries.rowids.rises))
-    (rising_apart (λ r. r.rowid) record_values (λ m. refl) rows.records c.rises-2.result
-    (c.rises-2.ensures ∙ ap (λ (r : Rising). r.rises) c.rowids-2.ensures ∙ has.records.rowids.rises))
+    (rising_apart (λ r. r.rowid) record_values (λ m. refl) rows.records c.rises-3.result
+    (c.rises-3.ensures ∙ ap (λ (r : Rising). r.rises) c.rowids-3.ensures ∙ has.records.rowids.rises))
     (subst (λ l. TellsApart right_values (λ r. r.rowid) l c.rights.result)
     (c.deref.ensures.value ∙ has.rights) c.rights.ensures)
     (subst IsTrue c.all_of.ensures told)
@@ -39,13 +41,15 @@ returns-clause-only c rows versions has ordered apart =
     (c.merchants.ensures ∙ ap (λ (i : Index). i.merchants.now) index ∙ has.merchants) c.merchants-2.ensures)
     (subst (λ l. TellsApart count_values (λ n. n.rowid) l c.counts-2.result)
     (c.counts.ensures ∙ ap (λ (i : Index). i.counts.now) index ∙ has.counts) c.counts-2.ensures)
-    (subst (λ l. TellsApart card_row (λ k. k.id) l c.cards-2.result)
-    (c.cards.ensures ∙ ap (λ (i : Index). i.cards.now) index ∙ has.cards) c.cards-2.ensures)
-    (rising_apart (λ e. e.rowid) entry_values (λ m. refl) rows.entries c.rises.result
+    (rising_apart (λ k. k.id) card_row (λ m. refl) rows.cards c.rises.result
     (c.rises.ensures ∙ ap (λ (r : Rising). r.rises) (c.rowids.ensures
+    ∙ ap (λ (k : Cards). k.rowids) (c.cards.ensures ∙ ap (λ (i : Index). i.cards) index))
+    ∙ has.entries.held.rowids.rises))
+    (rising_apart (λ e. e.rowid) entry_values (λ m. refl) rows.entries c.rises-2.result
+    (c.rises-2.ensures ∙ ap (λ (r : Rising). r.rises) (c.rowids-2.ensures
     ∙ ap (λ (e : Entries). e.rowids) entries) ∙ has.entries.rowids.rises))
-    (rising_apart (λ r. r.rowid) record_values (λ m. refl) rows.records c.rises-2.result
-    (c.rises-2.ensures ∙ ap (λ (r : Rising). r.rises) c.rowids-2.ensures ∙ has.records.rowids.rises))
+    (rising_apart (λ r. r.rowid) record_values (λ m. refl) rows.records c.rises-3.result
+    (c.rises-3.ensures ∙ ap (λ (r : Rising). r.rises) c.rowids-3.ensures ∙ has.records.rowids.rises))
     (subst (λ l. TellsApart right_values (λ r. r.rowid) l c.rights.result)
     (c.deref.ensures.value ∙ has.rights) c.rights.ensures)
     ordered apart)

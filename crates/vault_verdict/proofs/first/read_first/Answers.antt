@@ -3,7 +3,7 @@ use Rattle.vault_verdict.proofs.Results.{passed}
 use Rattle.vault_verdict.proofs.Streamed.{after}
 use Rattle.vault_verdict.proofs.first.read_first.Goals as goal
 use Rattle.vault_verdict.specs.Raw.{count_values}
-use Rattle.vault_verdict.specs.Reading.{IsUnread, IsUnreadEntries}
+use Rattle.vault_verdict.specs.Reading.{IsUnread}
 use Rattle.vault_schema.specs.declared.v1.TheConstants.{READ_COUNTS}
 
 pub returns-in_err-counts-clause-refused : goal.returns-in_err-counts-clause-refused
@@ -14,12 +14,3 @@ returns-in_err-counts-clause-refused g c clean has =
     c.merchants.new.conn c.in_ok-merchants.was (search rules)
     (omega (arith, (c.counts.ensures v).reads.clean, clean)) has
     (λ same. (c.in_err-counts.ensures v).refused clean same store))))
-
-pub returns-in_err-olders-clause-refused : goal.returns-in_err-olders-clause-refused
-returns-in_err-olders-clause-refused g c clean has =
-    let v = c.args.version in
-    passed c.from_residual-in_err-olders.result _ c.from_residual-in_err-olders.ensures.1 (λ store.
-    inr (inr (inl (after g.S.Store (IsUnreadEntries g.S.Store v) c.args.conn.now c.counts.new.conn
-    c.in_ok-counts.was (search rules)
-    (omega (arith, c.cards.ensures.reads.clean, clean)) has
-    (λ same. c.in_err-olders.ensures.refused clean same store)))))

@@ -26,9 +26,9 @@ loop-older-preserved c =
     let inside : i < length olders =
     omega (arith, c.loop-older-test.true, c.loop-older.auto.older-index-end) in (
       raws ++ e ∷ [],
-      λ none.
-          let before = inv.1 none in
-          (c.in_ok-take.ensures.index ∙ before.0, c.in_ok-take.ensures.taken raws before.1),
+      λ cards none.
+          let before = inv.1 cards none in
+          (c.in_ok-take.ensures.index ∙ before.0, c.in_ok-take.ensures.taken cards raws before.1),
       ap (map as_entry)
           (take_more olders i o inside ∙ ap (λ y. take i olders ++ y ∷ []) (sym c.older-item.is))
           ∙ map-append as_entry (take i olders) (o ∷ [])

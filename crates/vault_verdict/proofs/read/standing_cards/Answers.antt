@@ -6,7 +6,7 @@ use Rattle.sql_maps.specs.Schema.{grown}
 use Rattle.vault_schema.specs.Version2.Tables.{v2}
 use Rattle.vault_schema.specs.Version2.Tables as tables
 use Rattle.vault_schema.proofs.Version2.Texts.{read_cards_is}
-use Rattle.vault_verdict.proofs.Readings.{reads_table}
+use Rattle.vault_verdict.proofs.Readings.{takes_table}
 use Rattle.vault_verdict.proofs.read.standing_cards.Goals as goal
 use Rattle.vault_verdict.specs.Raw.{card_values}
 use Rattle.sql_maps.proofs.ById.{ById}
@@ -18,9 +18,9 @@ returns g c others indexes =
     let old = state g.S.Store c.args.conn.now in
     let table : ById (grown v2 others indexes) card_columns =
     record { table = tables.cards; place = 6; here = refl; fits = λ c. refl } in
-    reads_table g.S.Store c.args.conn.now c.shown.new.conn _ means (λ m. refl) (λ t. refl) c.shown.result
-    (c.shown.ensures (grown v2 others indexes) means.plain)
+    takes_table g.S.Store c.args.conn.now c.taken.new.conn _ means (λ m. refl) (λ t. refl) c.taken.result
+    (c.taken.ensures (grown v2 others indexes) means.plain)
     (λ raws has sound full shown.
     subst (IsPermutation (old.now.trees 12)) (mapped_twice with_null card_values raws)
-    (reads_ids table old (state g.S.Store c.shown.new.conn) has sound _ (map card_values raws) _ means
+    (reads_ids table old (state g.S.Store c.taken.new.conn) has sound _ (map card_values raws) _ means
     shown refl (omega arith) refl))

@@ -5,12 +5,12 @@ use Rattle.vault_rules.specs.AllRows.{Rows}
 use Rattle.vault_rules.specs.declared.index.Index.{Index}
 
 pub returns-in_err-behind-clause-told : goal.returns-in_err-behind-clause-told
-returns-in_err-behind-clause-told g c clean has =
+returns-in_err-behind-clause-told g c clean has cards held =
     inl (failed_read c.from_residual.result _ c.from_residual.ensures.1
     (c.in_err-behind.ensures.refused clean has))
 
 pub returns-clause-told : goal.returns-clause-told
-returns-clause-told g c clean has =
+returns-clause-told g c clean has cards held =
     let it = c.in_ok-behind.ensures.told clean has in
     let are = it.2 in
     let behind = c.in_ok-behind.behind in
@@ -19,7 +19,7 @@ returns-clause-told g c clean has =
       versions = c.args.versions.now;
       merchants = index.merchants.now;
       counts = index.counts.now;
-      cards = index.cards.now;
+      cards = cards;
       entries = it.0;
       records = it.1;
       rights = behind.rights.items;
@@ -41,10 +41,9 @@ returns-clause-told g c clean has =
       c.judge.ensures.verdict rows (record {
         versions = refl;
         replaced = refl;
-        merchants = ap (λ (i : Index). i.merchants.now) are.index_is;
-        counts = ap (λ (i : Index). i.counts.now) are.index_is;
-        cards = ap (λ (i : Index). i.cards.now) are.index_is;
-        entries = are.entries_came;
+        merchants = ap (λ (i : Index). i.merchants.now) (are.index_is cards held);
+        counts = ap (λ (i : Index). i.counts.now) (are.index_is cards held);
+        entries = are.entries_came cards held;
         records = are.records_came;
         rights = refl;
       }),

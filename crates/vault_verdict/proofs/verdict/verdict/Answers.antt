@@ -1,8 +1,8 @@
-use Rattle.std.proofs.Common.{◌≡◌, ◌∙◌, ◌⊎◌, None, Err, inl, inr, refl, sym, ap, subst, arith, IfErr}
+use Rattle.std.proofs.Common.{◌≡◌, ◌∙◌, List, None, Result, inl, inr, refl, sym, ap, subst, arith}
 use Rattle.sqlite.proofs.Callers.{unchanged_then}
 use Rattle.sqlite.specs.Effect.{Database}
 use Rattle.sqlite.specs.Held.{state}
-use Rattle.sqlite.specs.State.{HasCleanDisk, IsUnchanged}
+use Rattle.sqlite.specs.State.{HasCleanDisk}
 use Rattle.vault_schema.specs.Stands.{newest}
 use Rattle.vault_schema.specs.Versions.{number_of, schema_of}
 use Rattle.vault_schema.specs.declared.version.Version.{Version}
@@ -10,116 +10,122 @@ use Rattle.vault_verdict.specs.Faults.{IsJudged}
 use Rattle.vault_verdict.proofs.InVersion.{has_version_in}
 use Rattle.vault_verdict.proofs.Judged.{AreRead, apart_of, by_rowid, olders_in, sound_of}
 use Rattle.vault_verdict.proofs.Onward.{judged_err, judged_ok, judges_as, read_onward}
-use Rattle.vault_verdict.proofs.Results.{passed_as, passed_on}
+use Rattle.vault_verdict.proofs.Results.{err_where, ok_where, on_where, passed_on}
+use Rattle.vault_verdict.proofs.verdict.verdict.Given.{Over}
 use Rattle.vault_verdict.proofs.verdict.verdict.Goals as goal
-use Rattle.vault_verdict.specs.Opened.{IsSoundIn}
+use Rattle.vault_verdict.specs.Judging.{AreOnward, JudgesAll}
+use Rattle.vault_verdict.specs.Opened.{AreOldersIn, IsSoundIn}
 use Rattle.vault_verdict.specs.ReadAs.{AreFull, IsFullIn}
-use Rattle.vault_verdict.specs.Reading.{IsUnreadFile, IsUnreadOne}
+use Rattle.vault_verdict.specs.Reading.{AreCardsIn, IsUnreadFile, IsUnreadOne}
 use Rattle.vault_verdict.specs.Versions.{other_than}
-use Rattle.vault_verdict.specs.declared.fault.OpenFault.TheVariants.{Damaged, Store}
-use Rattle.vault_rules.specs.Rules.{IsLeastBroken}
+use Rattle.vault_verdict.specs.declared.fault.OpenFault.{OpenFault}
+use Rattle.vault_verdict.specs.declared.replaced.OldEntry.{OldEntry}
+use Rattle.vault_verdict.specs.declared.verdict.Judged.{Judged}
+use Rattle.vault_rules.specs.AllRows.{Rows}
+
+module _ (g : Over) (c : goal.After-drop-versions-2 g)
+    (clean : HasCleanDisk (state g.S.Store c.judge_first.new.conn)) where
+  abbrev Comes : Result Judged OpenFault → Type 0
+  Comes result =
+      JudgesAll g.S.Store c.args.version c.in_ok-versions.versions.items c.in_ok-first.first.merchants.items
+      c.in_ok-first.first.counts.items result c.read_first.new.conn c.judge_first.new.conn
+
+  middle : HasCleanDisk (state g.S.Store c.read_first.new.conn)
+  middle = omega (arith, c.judge_first.ensures.quiet.clean, clean)
+
+  early : HasCleanDisk (state g.S.Store c.version_rows.new.conn)
+  early = let disk = middle in omega (arith, c.in_ok-first.ensures.reads.clean, disk)
+
+  module _ (schema : (state g.S.Store c.args.conn.now).now.schema ≡ schema_of c.args.version) where
+    there : (state g.S.Store c.version_rows.new.conn).now.schema ≡ schema_of c.args.version
+    there =
+        ap (λ (d : Database). d.schema)
+        (c.in_ok-versions.ensures.kept early (has_version_in c.args.version _ schema)).0.now_is ∙ schema
+
+    next : (state g.S.Store c.read_first.new.conn).now ≡ (state g.S.Store c.version_rows.new.conn).now
+    next = (c.in_ok-first.ensures.reads.kept middle there).0.now_is
+
+    -- what all rows come to
+    came : Comes c.judge_first.result
+    came =
+        judges_as g.S.Store c.args.version c.judge_first.result c.read_first.new.conn c.judge_first.new.conn
+        _ c.in_ok-versions.versions.items _ _ _ _ c.deref-2.ensures.value refl refl
+        (c.judge_first.ensures.told clean (ap (λ (d : Database). d.schema) next ∙ there))
+
+  -- they are those of the file
+  read_of : IsFullIn c.args.version (state g.S.Store c.args.conn.now).now → (olders : List OldEntry)
+      (rows : Rows) → AreCardsIn c.args.version (state g.S.Store c.read_first.new.conn).now olders rows.cards
+      → AreOnward c.args.version olders c.in_ok-versions.versions.items c.in_ok-first.first.merchants.items
+      c.in_ok-first.first.counts.items rows.cards (state g.S.Store c.read_first.new.conn).now rows
+      → AreRead c.args.version (state g.S.Store c.args.conn.now).now olders rows
+  read_of ours olders rows cards onward =
+      read_onward c.args.version (state g.S.Store c.args.conn.now) (state g.S.Store c.version_rows.new.conn)
+      (state g.S.Store c.read_first.new.conn) c.in_ok-versions.versions.items c.in_ok-first.first olders rows
+      (c.in_ok-versions.ensures.kept early) (c.in_ok-versions.ensures.live early)
+      (c.in_ok-versions.ensures.told early) (next ours.schema)
+      (c.in_ok-first.ensures.told middle (there ours.schema)) cards onward ours
+
+  -- none says another version
+  same_version : (rows : Rows) → rows.versions ≡ c.in_ok-versions.versions.items
+      → other_than (number_of c.args.version) rows.versions ≡ None
+  same_version rows are =
+      ap (other_than (number_of c.args.version)) (are ∙ sym c.deref.ensures.value)
+      ∙ sym c.other_in.ensures ∙ c.in_default.is
 
 pub returns-clause-sound : goal.returns-clause-sound
-returns-clause-sound g c clean ours =
+returns-clause-sound g c clean = ok_where c.judge_first.result (λ result is ours.
     let v = c.args.version in
-    let old = state g.S.Store c.args.conn.now in
-    let mid = state g.S.Store c.version_rows.new.conn in
-    let last = state g.S.Store c.read_first.new.conn in
-    let first = c.in_ok-first.first in
-    let middle : HasCleanDisk last = omega (arith, c.judge_first.ensures.quiet.clean, clean) in
-    let early : HasCleanDisk mid = omega (arith, c.in_ok-first.ensures.reads.clean, middle) in
-    let same = (c.in_ok-versions.ensures.kept early (has_version_in v _ ours.schema)).0.now_is in
-    let there = ap (λ (d : Database). d.schema) same ∙ ours.schema in
-    let next = (c.in_ok-first.ensures.reads.kept middle there).0.now_is in
-    let told = judges_as g.S.Store v c.judge_first.result c.read_first.new.conn c.judge_first.new.conn _ _ _
-    c.in_ok-versions.versions.items _ _ _ _ _ _ refl c.deref-2.ensures.value refl refl refl
-    (c.judge_first.ensures.told clean (ap (λ (d : Database). d.schema) next ∙ there)) in
-    let it = judged_ok g.S.Store v _ _ _ _ _ c.read_first.new.conn c.judge_first.new.conn _
-    (rw c.in_ok-sizes.was at told) in
-    let rows = it.1 in
-    let read = read_onward v old mid last c.in_ok-versions.versions.items first rows
-    (c.in_ok-versions.ensures.kept early) (c.in_ok-versions.ensures.live early)
-    (c.in_ok-versions.ensures.told early) next (c.in_ok-first.ensures.told middle there) it.2 ours in
-    let this : other_than (number_of v) rows.versions ≡ None =
-    ap (other_than (number_of v)) (it.2.versions ∙ sym c.deref.ensures.value)
-    ∙ sym c.other_in.ensures ∙ c.in_default.is in
-    subst (IsSoundIn v old.now) (sym it.3.sizes)
-    (sound_of v old.now ours.schema read.sound first.olders.items rows read.raws it.3.kept it.3.apart this)
+    let db = (state g.S.Store c.args.conn.now).now in
+    let it = judged_ok g.S.Store v c.in_ok-versions.versions.items _ _ c.read_first.new.conn
+    c.judge_first.new.conn result (subst (Comes g c clean) is (came g c clean ours.schema)) in
+    let rows = it.2 in
+    let read = read_of g c clean ours it.1 rows it.3 it.4 in
+    subst (IsSoundIn v db) (sym it.5.sizes)
+    (sound_of v db ours.schema read.sound it.1 rows read.raws it.5.kept it.5.apart
+    (same_version g c clean rows it.4.versions)))
 
 pub returns-clause-olders : goal.returns-clause-olders
-returns-clause-olders g c clean ours =
+returns-clause-olders g c clean = ok_where c.judge_first.result (λ result is ours.
     let v = c.args.version in
-    let old = state g.S.Store c.args.conn.now in
-    let mid = state g.S.Store c.version_rows.new.conn in
-    let last = state g.S.Store c.read_first.new.conn in
-    let first = c.in_ok-first.first in
-    let middle : HasCleanDisk last = omega (arith, c.judge_first.ensures.quiet.clean, clean) in
-    let early : HasCleanDisk mid = omega (arith, c.in_ok-first.ensures.reads.clean, middle) in
-    let same = (c.in_ok-versions.ensures.kept early (has_version_in v _ ours.schema)).0.now_is in
-    let there = ap (λ (d : Database). d.schema) same ∙ ours.schema in
-    let next = (c.in_ok-first.ensures.reads.kept middle there).0.now_is in
-    let told = judges_as g.S.Store v c.judge_first.result c.read_first.new.conn c.judge_first.new.conn _ _ _
-    c.in_ok-versions.versions.items _ _ _ _ _ _ refl c.deref-2.ensures.value refl refl refl
-    (c.judge_first.ensures.told clean (ap (λ (d : Database). d.schema) next ∙ there)) in
-    let it = judged_ok g.S.Store v _ _ _ _ _ c.read_first.new.conn c.judge_first.new.conn _
-    (rw c.in_ok-sizes.was at told) in
-    let rows = it.1 in
-    let read = read_onward v old mid last c.in_ok-versions.versions.items first rows
-    (c.in_ok-versions.ensures.kept early) (c.in_ok-versions.ensures.live early)
-    (c.in_ok-versions.ensures.told early) next (c.in_ok-first.ensures.told middle there) it.2 ours in
-    olders_in v old.now first.olders.items rows read
+    let db = (state g.S.Store c.args.conn.now).now in
+    let it = judged_ok g.S.Store v c.in_ok-versions.versions.items _ _ c.read_first.new.conn
+    c.judge_first.new.conn result (subst (Comes g c clean) is (came g c clean ours.schema)) in
+    subst (AreOldersIn v db.trees) (sym it.6)
+    (olders_in v db it.1 it.2 (read_of g c clean ours it.1 it.2 it.3 it.4)))
 
-pub returns-in_err-sizes-clause-damaged : goal.returns-in_err-sizes-clause-damaged
-returns-in_err-sizes-clause-damaged g c clean =
-    passed_as _ c.from_residual-in_err-sizes.result _ c.from_residual-in_err-sizes.ensures.1
-    (λ rule is ours.
+pub returns-clause-kept : goal.returns-clause-kept
+returns-clause-kept g c clean = on_where c.judge_first.result (λ result is schema.
     let v = c.args.version in
-    let old = state g.S.Store c.args.conn.now in
-    let mid = state g.S.Store c.version_rows.new.conn in
-    let last = state g.S.Store c.read_first.new.conn in
-    let first = c.in_ok-first.first in
-    let middle : HasCleanDisk last = omega (arith, c.judge_first.ensures.quiet.clean, clean) in
-    let early : HasCleanDisk mid = omega (arith, c.in_ok-first.ensures.reads.clean, middle) in
-    let same = (c.in_ok-versions.ensures.kept early (has_version_in v _ ours.schema)).0.now_is in
-    let there = ap (λ (d : Database). d.schema) same ∙ ours.schema in
-    let next = (c.in_ok-first.ensures.reads.kept middle there).0.now_is in
-    let told = judges_as g.S.Store v c.judge_first.result c.read_first.new.conn c.judge_first.new.conn _ _ _
-    c.in_ok-versions.versions.items _ _ _ _ _ _ refl c.deref-2.ensures.value refl refl refl
-    (c.judge_first.ensures.told clean (ap (λ (d : Database). d.schema) next ∙ there)) in
-    let judged = subst IsJudged (sym is) tt in
-    let it = judged_err g.S.Store v _ _ _ _ _ c.read_first.new.conn c.judge_first.new.conn _ judged
-    (rw c.in_err-sizes.was at told) in
-    let rows = it.1 in
-    let read = read_onward v old mid last c.in_ok-versions.versions.items first rows
-    (c.in_ok-versions.ensures.kept early) (c.in_ok-versions.ensures.live early)
-    (c.in_ok-versions.ensures.told early) next (c.in_ok-first.ensures.told middle there) it.2 ours in
-    let this : other_than (number_of v) rows.versions ≡ None =
-    ap (other_than (number_of v)) (it.2.versions ∙ sym c.deref.ensures.value)
-    ∙ sym c.other_in.ensures ∙ c.in_default.is in
+    let one = c.in_ok-versions.ensures.kept (early g c clean) (has_version_in v _ schema) in
+    let two = c.in_ok-first.ensures.reads.kept (middle g c clean) (there g c clean schema) in
+    let it = judged_ok g.S.Store v c.in_ok-versions.versions.items _ _ c.read_first.new.conn
+    c.judge_first.new.conn result (subst (Comes g c clean) is (came g c clean schema)) in
+    unchanged_then _ _ _ (unchanged_then _ _ _ one two) it.0)
+
+pub returns-clause-damaged : goal.returns-clause-damaged
+returns-clause-damaged g c clean = err_where c.judge_first.result (λ fault is rule broken ours.
+    let v = c.args.version in
+    let judged = subst IsJudged (sym broken) tt in
+    let it = judged_err g.S.Store v c.in_ok-versions.versions.items _ _ c.read_first.new.conn
+    c.judge_first.new.conn fault judged (subst (Comes g c clean) is (came g c clean ours.schema)) in
+    let rows = it.2 in
+    let read = read_of g c clean ours it.1 rows it.3 it.4 in
     record {
-      olders = first.olders.items;
+      olders = it.1;
       rows = rows;
       is = read.sound;
       are = read.raws;
-      version = this;
-      least = it.3.damaged rule is;
+      version = same_version g c clean rows it.4.versions;
+      least = it.5.damaged rule broken;
     })
 
-pub returns-in_err-sizes-clause-sees : goal.returns-in_err-sizes-clause-sees
-returns-in_err-sizes-clause-sees g c clean =
-    passed_as _ c.from_residual-in_err-sizes.result _ c.from_residual-in_err-sizes.ensures.1
-    (λ judged schema.
+pub returns-clause-sees : goal.returns-clause-sees
+returns-clause-sees g c clean = err_where c.judge_first.result (λ fault is judged schema.
     let v = c.args.version in
-    let mid = state g.S.Store c.version_rows.new.conn in
-    let last = state g.S.Store c.read_first.new.conn in
-    let middle : HasCleanDisk last = omega (arith, c.judge_first.ensures.quiet.clean, clean) in
-    let early : HasCleanDisk mid = omega (arith, c.in_ok-first.ensures.reads.clean, middle) in
-    let one = c.in_ok-versions.ensures.kept early (has_version_in v _ schema) in
-    let there = ap (λ (d : Database). d.schema) one.0.now_is ∙ schema in
-    let two = c.in_ok-first.ensures.reads.kept middle there in
-    let onward = ap (λ (d : Database). d.schema) two.0.now_is ∙ there in
-    let it = judged_err g.S.Store v _ _ _ _ _ c.read_first.new.conn c.judge_first.new.conn _ judged
-    (rw c.in_err-sizes.was at (c.judge_first.ensures.told clean onward)) in
+    let one = c.in_ok-versions.ensures.kept (early g c clean) (has_version_in v _ schema) in
+    let two = c.in_ok-first.ensures.reads.kept (middle g c clean) (there g c clean schema) in
+    let it = judged_err g.S.Store v c.in_ok-versions.versions.items _ _ c.read_first.new.conn
+    c.judge_first.new.conn fault judged (subst (Comes g c clean) is (came g c clean schema)) in
     unchanged_then _ _ _ (unchanged_then _ _ _ one two) it.0)
 
 pub returns-in_err-versions-clause-unread : goal.returns-in_err-versions-clause-unread
@@ -138,39 +144,24 @@ returns-in_err-first-clause-unread g c is clean =
     (subst (λ (v : Version). IsUnreadOne g.S.Store v (state g.S.Store c.version_rows.new.conn).now
     c.read_first.new.conn) is (c.in_err-first.ensures.refused clean there store)))))
 
-pub returns-in_err-sizes-clause-unread : goal.returns-in_err-sizes-clause-unread
-returns-in_err-sizes-clause-unread g c is clean =
-    passed_as _ c.from_residual-in_err-sizes.result _ c.from_residual-in_err-sizes.ensures.1
-    (λ store newer.
-    let ours : IsFullIn c.args.version (state g.S.Store c.args.conn.now).now = record {
-      schema = newer.schema ∙ ap schema_of (sym is);
-      full =
-          subst (λ (v : Version). AreFull v (state g.S.Store c.args.conn.now).now.trees) (sym is) newer.full;
-    } in
+pub returns-clause-unread : goal.returns-clause-unread
+returns-clause-unread g c is clean = err_where c.judge_first.result (λ fault failed store newer.
     let v = c.args.version in
-    let old = state g.S.Store c.args.conn.now in
-    let mid = state g.S.Store c.version_rows.new.conn in
-    let last = state g.S.Store c.read_first.new.conn in
-    let first = c.in_ok-first.first in
-    let middle : HasCleanDisk last = omega (arith, c.judge_first.ensures.quiet.clean, clean) in
-    let early : HasCleanDisk mid = omega (arith, c.in_ok-first.ensures.reads.clean, middle) in
-    let same = (c.in_ok-versions.ensures.kept early (has_version_in v _ ours.schema)).0.now_is in
-    let there = ap (λ (d : Database). d.schema) same ∙ ours.schema in
-    let next = (c.in_ok-first.ensures.reads.kept middle there).0.now_is in
-    let told = judges_as g.S.Store v c.judge_first.result c.read_first.new.conn c.judge_first.new.conn _ _ _
-    c.in_ok-versions.versions.items _ _ _ _ _ _ refl c.deref-2.ensures.value refl refl refl
-    (c.judge_first.ensures.told clean (ap (λ (d : Database). d.schema) next ∙ there)) in
-    elim (rw c.in_err-sizes.was at told) as (λ _. IsUnreadFile g.S.Store old.now c.judge_first.new.conn) [
-      | inl failed ↦ inr (inl
-          (subst (λ db. IsUnreadOne g.S.Store newest db c.judge_first.new.conn) (next ∙ same)
-          (subst (λ (v : Version). IsUnreadOne g.S.Store v last.now c.judge_first.new.conn) is
-          (failed.1 store))))
+    let new = c.judge_first.new.conn in
+    let old = (state g.S.Store c.args.conn.now).now in
+    let ours : IsFullIn v old = record {
+      schema = newer.schema ∙ ap schema_of (sym is);
+      full = subst (λ (v : Version). AreFull v old.trees) (sym is) newer.full;
+    } in
+    let same = (c.in_ok-versions.ensures.kept (early g c clean) (has_version_in v _ ours.schema)).0.now_is in
+    elim (subst (Comes g c clean) failed (came g c clean ours.schema)) as (λ _. IsUnreadFile g.S.Store old new) [
+      | inl none ↦ inr (inl (subst (λ db. IsUnreadOne g.S.Store newest db new)
+          (next g c clean ours.schema ∙ same)
+          (subst (λ (v : Version). IsUnreadOne g.S.Store v (state g.S.Store c.read_first.new.conn).now new) is
+          (none.1 store))))
       | inr it ↦ inr (inr (λ apart.
-          let rows = it.1 in
-          let read = read_onward v old mid last c.in_ok-versions.versions.items first rows
-          (c.in_ok-versions.ensures.kept early) (c.in_ok-versions.ensures.live early)
-          (c.in_ok-versions.ensures.told early) next (c.in_ok-first.ensures.told middle there) it.2 ours in
-          let now = subst (λ (v : Version). AreRead v old.now first.olders.items rows) is read in
-          it.3.shared store (by_rowid old.now first.olders.items rows now)
-          (apart_of old.now.trees first.olders.items rows now.raws apart)))
+          let rows = it.2 in
+          let read = read_of g c clean ours it.1 rows it.3 it.4 in
+          let now = subst (λ (v : Version). AreRead v old it.1 rows) is read in
+          it.5.shared store (by_rowid old it.1 rows now) (apart_of old.trees it.1 rows now.raws apart)))
     ])

@@ -2,8 +2,9 @@ use Rattle.std.proofs.Common.{refl, rules}
 use Rattle.vault_rules.proofs.entries.Entries.new.Goals as goal
 
 pub returns-clause-none : goal.returns-clause-none
-returns-clause-none c = record {
+returns-clause-none c cards held = record {
   many = refl;
+  held = held;
   rowids = c.new.ensures;
   rules = c.new-2.ensures _ _;
   live = c.new-3.ensures _ _;

@@ -11,16 +11,16 @@ use Rattle.vault_rules.specs.Seen.{AreLive, HoldTokens, KeepRules}
 use Rattle.vault_rules.specs.declared.rows.RawEntry.{RawEntry}
 
 pub returns-in_ok-count_one-clause-taken : goal.returns-in_ok-count_one-clause-taken
-returns-in_ok-count_one-clause-taken c raws has =
+returns-in_ok-count_one-clause-taken c cards raws has =
     let e = c.args.entry.now in
     let merchants = c.args.self.now.index.merchants.now in
-    let cards = c.args.self.now.index.cards.now in
     let is = c.found-found.ensures.entry in
-    let found = c.found-found.ensures.found in
+    let found = c.found-found.ensures.found cards has.held in
     let numbered : SFits w64 e.rowid = search rules in
     let card = c.in-Some.card in
     let fits : SFits w64 card = search rules in
     record {
+      held = has.held;
       many = c.in_ok-self.ensures ∙ ap (λ n. n + 1) has.many ∙ sym (length-append raws (e ∷ []));
       rowids = subst (IsRisingOver c.take.new.self)
           (sym (map-append (λ (e : RawEntry). e.rowid) raws (e ∷ [])))
@@ -39,14 +39,14 @@ returns-in_ok-count_one-clause-taken c raws has =
     }
 
 pub returns-in_default-clause-taken : goal.returns-in_default-clause-taken
-returns-in_default-clause-taken c raws has =
+returns-in_default-clause-taken c cards raws has =
     let e = c.args.entry.now in
     let merchants = c.args.self.now.index.merchants.now in
-    let cards = c.args.self.now.index.cards.now in
     let is = c.found-found.ensures.entry in
-    let found = c.found-found.ensures.found in
+    let found = c.found-found.ensures.found cards has.held in
     let numbered : SFits w64 e.rowid = search rules in
     record {
+      held = has.held;
       many = c.in_ok-self.ensures ∙ ap (λ n. n + 1) has.many ∙ sym (length-append raws (e ∷ []));
       rowids = subst (IsRisingOver c.take.new.self)
           (sym (map-append (λ (e : RawEntry). e.rowid) raws (e ∷ [])))

@@ -8,7 +8,7 @@ use Rattle.vault_rules.specs.Texts.{is_token}
 use Rattle.vault_rules.specs.declared.rows.RawEntry.{RawEntry}
 
 pub returns-in-None : goal.returns-in-None
-returns-in-None c raws has tokens =
+returns-in-None c cards raws has tokens =
     let merchants = c.args.self.now.index.merchants.now in
     let unknown = sym c.merchant.ensures ∙ ap option_copied c.in-None.is in
     sym (ap (option_map (λ (e : RawEntry). e.usage))
@@ -16,11 +16,12 @@ returns-in-None c raws has tokens =
     (ap (λ o. is_some o && is_token c.args.token.now) unknown)))
 
 pub returns-in-Some : goal.returns-in-Some
-returns-in-Some c raws has tokens =
+returns-in-Some c cards raws has tokens =
     let merchants = c.args.self.now.index.merchants.now in
     let m = c.in-Some.merchant.now in
     let found = sym c.merchant.ensures ∙ ap option_copied c.in-Some.is in
     let named = merchant_named merchants c.args.merchant.now m found in
+    let text = c.as_bytes.ensures.value in
     c.usage.ensures merchants raws has.tokens (ap (is_known merchants) named ∙ ap is_some found)
     (sym has.rules.tokens ∙ tokens)
-    ∙ ap (λ name. option_map (λ (e : RawEntry). e.usage) (entry_of raws name c.args.token.now)) named
+    ∙ (λ i. option_map (λ (e : RawEntry). e.usage) (entry_of raws (named i) (text i)))

@@ -1,20 +1,42 @@
-use Rattle.std.proofs.Common.{◌<◌, ◌∙◌, sym, arith, length}
-use Rattle.vault_rules.specs.Rules.{is_card}
+use Rattle.std.proofs.Common.{◌<◌, ◌≤◌, ◌∙◌, ap, sym, arith, length}
+use Rattle.std.proofs.lemmas.List.{drop_all}
+use Rattle.std.specs.List.{list_all}
+use Rattle.vault_rules.specs.Held.{seen_card}
+use Rattle.vault_rules.specs.Kept.{is_used}
+use Rattle.vault_rules.proofs.CardRows.{all_used}
 use Rattle.vault_rules.proofs.Walks.{all_on, all_off}
 use Rattle.vault_rules.proofs.rules.cards.have_uses.Goals as goal
 
 pub returns-then-not-is_card : goal.returns-then-not-is_card
-returns-then-not-is_card c raws has =
-    let index = c.args.entries.now.index in
-    let inside : c.loop-card.card-index < length index.cards.now = omega arith in
-    all_off (is_card index.merchants.now raws) index.cards.now c.loop-card.card-index c.card-item.result
-    inside c.card-item.is (sym (c.is_card.ensures raws has) ∙ search (c.if-not-is_card.true))
-    (c.loop-card.invariant raws has)
+returns-then-not-is_card c cards raws has =
+    let kept = c.args.entries.now.index.cards.kept.items in
+    let same = c.deref-card-items.ensures.value in
+    let is = rw same at c.card-item.is in
+    let inside : c.loop-card.card-index < length kept = omega arith in
+    all_off (λ c. is_used raws (seen_card c)) kept c.loop-card.card-index c.card-item.result
+    inside is (sym (c.is_card.ensures cards raws has) ∙ search (c.if-not-is_card.true))
+    (c.loop-card.invariant cards raws has)
+    ∙ all_used _ _ cards raws has.held
 
 pub loop-card-preserved : goal.loop-card-preserved
-loop-card-preserved c raws has =
-    let index = c.args.entries.now.index in
-    let inside : c.loop-card.card-index < length index.cards.now = omega arith in
-    all_on (is_card index.merchants.now raws) index.cards.now c.loop-card.card-index c.card-item.result
-    inside c.card-item.is (sym (c.is_card.ensures raws has) ∙ search (c.if-not-is_card.false))
-    (c.loop-card.invariant raws has)
+loop-card-preserved c cards raws has =
+    let kept = c.args.entries.now.index.cards.kept.items in
+    let same = c.deref-card-items.ensures.value in
+    let is = rw same at c.card-item.is in
+    let inside : c.loop-card.card-index < length kept = omega arith in
+    all_on (λ c. is_used raws (seen_card c)) kept c.loop-card.card-index c.card-item.result
+    inside is (sym (c.is_card.ensures cards raws has) ∙ search (c.if-not-is_card.false))
+    (c.loop-card.invariant cards raws has)
+
+pub returns : goal.returns
+returns c cards raws has =
+    let kept = c.args.entries.now.index.cards.kept.items in
+    let i = c.loop-card.card-index in
+    let over : length kept ≤ i = omega (
+      arith,
+      c.loop-card-test.false,
+      c.loop-card.auto.card-index-end,
+      c.deref-card-items.ensures.len,
+    ) in
+    ap (list_all (λ c. is_used raws (seen_card c))) (sym (drop_all i kept over))
+    ∙ c.loop-card.invariant cards raws has ∙ all_used _ _ cards raws has.held

@@ -7,10 +7,10 @@ use Rattle.vault_rules.specs.declared.rows.RawCount.{RawCount}
 use Rattle.vault_rules.proofs.rules.counts.is_counted.Goals as goal
 
 pub returns : goal.returns
-returns c raws has known =
+returns c cards raws has known =
     let index = c.args.entries.now.index in
     let named = c.as_str-name.ensures.value in
-    let held = c.held.ensures raws has (ap (is_known index.merchants.now) named ∙ known)
+    let held = c.held.ensures cards raws has (ap (is_known index.merchants.now) named ∙ known)
     ∙ ap (held_by raws) named in
     let made = c.made.ensures ∙ ap (made_of index.counts.now) named in
     c.are_as_many.ensures

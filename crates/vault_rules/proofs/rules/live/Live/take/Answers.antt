@@ -1,8 +1,14 @@
 use Rattle.std.proofs.Common.{◌≡◌, ◌∙◌, ◌&&◌, true, false, not, ap, sym}
 use Rattle.std.specs.List.{filter_map, list_any}
 use Rattle.vault_core.specs.Keys.{Bytes}
-use Rattle.vault_rules.specs.Rules.{alike, are_distinct, live_key}
+use Rattle.vault_rules.specs.Index.{has_pair}
+use Rattle.vault_rules.specs.Packed.{key_number, packed}
+use Rattle.vault_rules.specs.Rules.{alike, are_distinct, has_number, live_key}
+use Rattle.vault_rules.proofs.LiveKeys.{live_pan, no_key}
 use Rattle.vault_rules.proofs.LiveLemmas.{distinct_more, distinct_still, keys_more, keys_same, set_more}
+use Rattle.vault_rules.proofs.Options.{mapped_is}
+use Rattle.vault_rules.proofs.Walks.{all_first, all_last}
+use Rattle.vault_rules.proofs.TokenLemmas.{pan_number}
 use Rattle.vault_rules.proofs.rules.live.Live.take.Goals as goal
 
 pub returns-then-not-self : goal.returns-then-not-self
@@ -10,37 +16,58 @@ returns-then-not-self c merchants cards raws is were =
     let e = c.args.found.now.entry.now in
     let off : c.args.self.now.alone ≡ false = search (c.if-not-self.true) in
     record {
-      alone = off ∙ sym (distinct_still (live_key merchants cards) raws e (sym were.alone ∙ off));
-      keys = λ on. absurd (let clash = sym off ∙ on in cc);
+      alone = λ all.
+          let before = were.alone (all_first (has_number cards) raws e all) in
+          off ∙ sym (distinct_still (live_key merchants cards) raws e (sym before ∙ off));
+      keys = λ all on. absurd (let clash = sym off ∙ on in cc);
     }
 
 pub returns-in_ok-self : goal.returns-in_ok-self
 returns-in_ok-self c merchants cards raws is were =
     let e = c.args.found.now.entry.now in
     let h = live_key merchants cards in
-    let key : Bytes × Bytes = (c.in-Some.key.0.now, c.in-Some.key.1.now) in
     let on : c.args.self.now.alone ≡ true = search (c.if-not-self.false) in
     let so_far = filter_map h raws in
-    let more = keys_more h raws e key (sym (c.in-Some.ensures merchants cards is)) in
     record {
-      alone =
-          c.in_ok-self.ensures.added ∙ ap not (were.keys on key.0 key.1)
-          ∙ ap (λ b. b && not (list_any (alike key) so_far)) (sym on ∙ were.alone)
+      alone = λ all.
+          let first = all_first (has_number cards) raws e all in
+          let fits = all_last (has_number cards) raws e all in
+          let it = mapped_is key_number (h e) _ (sym (c.in-Some.ensures merchants cards is fits)) in
+          let key = it.0 in
+          let pan = live_pan merchants cards e key.0 key.1 fits it.1 in
+          let more = keys_more h raws e key it.1 in
+          c.in_ok-self.ensures.added
+          ∙ ap not (ap (λ (q : _ × Bytes). has_pair c.args.self.now.keys q.0 q.1) (sym it.2)
+          ∙ were.keys first on key.0 key.1 pan)
+          ∙ ap (λ b. b && not (list_any (alike key) so_far)) (sym on ∙ were.alone first)
           ∙ sym (distinct_more so_far key) ∙ sym (ap are_distinct more);
-      keys = λ still merchant number.
-          set_more so_far key (merchant, number) _ _
-          (c.in_ok-self.ensures.updates.0
-          (record { ref_ptr = (0, 0); now = merchant }, record { ref_ptr = (0, 0); now = number }))
-          (were.keys on merchant number)
+      keys = λ all still merchant number valid.
+          let first = all_first (has_number cards) raws e all in
+          let fits = all_last (has_number cards) raws e all in
+          let it = mapped_is key_number (h e) _ (sym (c.in-Some.ensures merchants cards is fits)) in
+          let key = it.0 in
+          let pan = live_pan merchants cards e key.0 key.1 fits it.1 in
+          let more = keys_more h raws e key it.1 in
+          set_more so_far key (merchant, number) _ _ _ _ (pan_number key.1 pan)
+          (pan_number number valid)
+          (ap (λ (q : _ × Bytes). q.0) it.2) (ap (λ (q : _ × Bytes). q.1) it.2)
+          (c.in_ok-self.ensures.updates.0 (packed number, record { ref_ptr = (0, 0); now = merchant }))
+          (were.keys first on merchant number valid)
           ∙ sym (ap (list_any (alike (merchant, number))) more);
     }
 
 pub returns-in_default : goal.returns-in_default
 returns-in_default c merchants cards raws is were =
     let e = c.args.found.now.entry.now in
-    let same = keys_same (live_key merchants cards) raws e (sym (c.in_default.ensures merchants cards is)) in
+    let h = live_key merchants cards in
     record {
-      alone = were.alone ∙ sym (ap are_distinct same);
-      keys = λ on merchant number.
-          were.keys on merchant number ∙ sym (ap (list_any (alike (merchant, number))) same);
+      alone = λ all.
+          let fits = all_last (has_number cards) raws e all in
+          let same = keys_same h raws e (no_key (h e) (sym (c.in_default.ensures merchants cards is fits))) in
+          were.alone (all_first (has_number cards) raws e all) ∙ sym (ap are_distinct same);
+      keys = λ all on merchant number valid.
+          let fits = all_last (has_number cards) raws e all in
+          let same = keys_same h raws e (no_key (h e) (sym (c.in_default.ensures merchants cards is fits))) in
+          were.keys (all_first (has_number cards) raws e all) on merchant number valid
+          ∙ sym (ap (list_any (alike (merchant, number))) same);
     }

@@ -1,0 +1,39 @@
+-- What is kept of a card row.
+use Rattle.std.specs.Prelude.{◌&&◌, ℕ, ℤ, pos, suc, Bool, is_some, List, [], ◌∷◌, Option, Some, None, length, nat_lt, option_map}
+use Rattle.std.specs.Prelude.{string_bytes, if◌then◌else◌}
+use Rattle.std.specs.Int.RustNames.{int_le}
+use Rattle.std.specs.Ordering.{int_eq}
+use Rattle.vault_core.specs.Keys.{Bytes}
+use Rattle.vault_rules.specs.Lookups.{merchant_of, used_by}
+use Rattle.vault_rules.specs.declared.rows.RawCard.{RawCard}
+use Rattle.vault_rules.specs.declared.rows.RawEntry.{RawEntry}
+use Rattle.vault_rules.specs.declared.rows.RawMerchant.{RawMerchant}
+
+-- its id and its uses, its merchant, where it exists, and its number
+pub record KeptCard : Type 0 where
+  pub id : ℤ
+  pub uses : ℤ
+  pub merchant : Option RawMerchant
+  pub number : Bytes
+
+-- a text of at most 19 bytes, and nothing of a longer one
+abbrev pub short_text : Bytes → Bytes
+short_text text = if nat_lt (length text) 20 then text else []
+
+abbrev pub kept_card : List RawMerchant → RawCard → KeptCard
+kept_card merchants c = record {
+  id = c.id;
+  uses = c.uses;
+  merchant = merchant_of merchants (string_bytes c.merchant);
+  number = short_text (string_bytes c.number);
+}
+
+-- the place of the first card row of an id
+abbrev pub place_of : List RawCard → ℤ → Option ℕ
+place_of [] id = None
+place_of (c ∷ cards) id = if int_eq c.id id then Some 0 else option_map suc (place_of cards id)
+
+-- its merchant exists, and its uses are the number of entries that point at it, 1 or more
+abbrev pub is_used : List RawEntry → KeptCard → Bool
+is_used entries c =
+    is_some c.merchant && int_le (pos 1) c.uses && int_eq c.uses (pos (used_by entries c.id))

@@ -1,0 +1,112 @@
+//! What the rules need of card rows, which come one after the other.
+ghost use Rattle.std.specs.Prelude.{◌≡◌, ◌+◌, List, [], ◌∷◌, ◌++◌, OnOk, length, option_map};
+ghost use Rattle.std.specs.Prelude.{slice_get, string_bytes};
+ghost use Rattle.std.specs.Option.{option_copied};
+ghost use Rattle.vault_rules.specs.Kept as kept;
+ghost use Rattle.vault_rules.specs.Lookups.{card_of, merchant_of};
+ghost use Rattle.vault_rules.specs.declared.rows.RawCard.{RawCard as CardRow};
+ghost use Rattle.vault_rules.specs.declared.rows.RawMerchant.{RawMerchant as MerchantRow};
+
+use crate::index::first::put_first;
+use crate::rising::Rising;
+use crate::rows::{RawCard, RawMerchant};
+use std::alloc::{AllocError, Global};
+use std::collections::BTreeMap;
+use vault_pan::pan::MOST_DIGITS;
+use vault_pan::short::Short;
+
+/// A card row as the rules need it.
+#[derive(Clone, Copy)]
+pub struct Card<'a> {
+    pub(crate) id: i64,
+    pub(crate) uses: i64,
+    /// The merchant, where there is one of its name.
+    pub(crate) merchant: Option<&'a RawMerchant>,
+    /// The number; none where the text is longer than a number.
+    pub(crate) number: Short<MOST_DIGITS>,
+}
+
+/// A text of as many bytes as a number may have; the empty one in place of a longer one.
+fn short_text(text: &str) -> Short<MOST_DIGITS>
+    ensures { result ≡ kept.short_text text.now }
+{
+    let mut short = Short::new();
+    if text.len() <= MOST_DIGITS {
+        short.extend(text.as_bytes());
+    }
+    short
+}
+
+/// The card at a place, where there is one.
+fn card_at<'a>(kept: &[Card<'a>], place: usize) -> Option<Card<'a>>
+    ensures { result ≡ slice_get kept.now place }
+{
+    kept.get(place).copied()
+}
+
+/// The card rows that came, as far as the rules need them. Of several at an id the first is found.
+#[derive(Drop)]
+pub struct Cards<'a> {
+    pub(crate) kept: Vec<Card<'a>>,
+    by_id: BTreeMap<i64, usize>,
+    rowids: Rising,
+}
+
+impl<'a> Cards<'a> {
+    ghost use Rattle.vault_rules.specs.Held.{HoldCards, seen_card};
+
+    /// None came yet.
+    pub(crate) fn new(alloc: Global) -> Cards<'a>
+        ensures { (merchants : List MerchantRow) → HoldCards merchants result [] }
+    {
+        Cards {
+            kept: Vec::new(alloc),
+            by_id: BTreeMap::new(alloc),
+            rowids: Rising::new(),
+        }
+    }
+
+    /// Takes the next card row, with its merchant. Only memory can fail.
+    pub(crate) fn take(
+        &mut self,
+        merchant: Option<&'a RawMerchant>,
+        card: &RawCard,
+    ) -> Result<(), AllocError>
+        ensures counted { OnOk result (length self.new.kept.items ≡ length self.old.kept.items + 1) }
+        ensures taken { OnOk result ((merchants : List MerchantRow) (raws : List CardRow)
+            → option_copied merchant.entry ≡ merchant_of merchants (string_bytes card.now.merchant)
+            → HoldCards merchants self.old raws → HoldCards merchants self.new (raws ++ card.now ∷ [])) }
+    {
+        put_first(&mut self.by_id, card.id, self.kept.len())?;
+        let kept = Card {
+            id: card.id,
+            uses: card.uses,
+            merchant,
+            number: short_text(card.number.as_str()),
+        };
+        match self.kept.push(kept) {
+            Ok(()) => {}
+            Err(_) => return Err(AllocError),
+        }
+        self.rowids.take(card.id);
+        Ok(())
+    }
+
+    /// The card row of an id.
+    pub(crate) fn card(&self, id: i64) -> Option<Card<'a>>
+        ensures { (merchants : List MerchantRow) (raws : List CardRow) → HoldCards merchants self.now raws
+            → option_map seen_card result ≡ option_map (kept.kept_card merchants) (card_of raws id) }
+    {
+        match self.by_id.get(&id) {
+            Some(place) => card_at(&self.kept, *place),
+            None => None,
+        }
+    }
+
+    /// Their ids.
+    pub fn rowids(&self) -> &Rising
+        ensures { result.now ≡ self.now.rowids }
+    {
+        &self.rowids
+    }
+}
