@@ -62,6 +62,11 @@ CREATE TABLE entries2 (merchant TEXT NOT NULL, token TEXT NOT NULL, card INTEGER
 usage INTEGER NOT NULL, birth INTEGER NOT NULL, expires INTEGER NOT NULL, revoked INTEGER, \
 PRIMARY KEY (merchant, token)) STRICT;
 CREATE INDEX entries2_card ON entries2 (merchant, card);
+"""
+# How many entries go by one statement.
+PIECE = 1000
+PIECES = "DELETE FROM entries WHERE rowid <= ?1"
+EMPTY = """
 DELETE FROM entries;
 UPDATE vault SET version = 2 WHERE id = 1;
 """
@@ -97,13 +102,27 @@ def make_file(path, many):
     conn.close()
 
 
-def step(conn, statements, entries=()):
-    """One transaction: the statements of a step, and then new entries."""
-    conn.execute("BEGIN")
+def run(conn, statements):
     for statement in statements.strip().split(";\n"):
         conn.execute(statement)
-    for token, number, *rest in entries:
+
+
+def move_entries(conn, rows):
+    """The step to schema 2, in one transaction: tables, the entries away in pieces, and in anew."""
+    conn.execute("BEGIN")
+    run(conn, CARDS)
+    for last in range(PIECE, len(rows) + 1, PIECE):
+        conn.execute(PIECES, (last,))
+    run(conn, EMPTY)
+    for _, _, token, number, *rest in rows:
         same.add_entry(conn, token, number, rest)
+    conn.execute("COMMIT")
+
+
+def step(conn, statements):
+    """Another step, in one transaction."""
+    conn.execute("BEGIN")
+    run(conn, statements)
     conn.execute("COMMIT")
 
 
@@ -113,8 +132,7 @@ def move(path):
     conn = same.opened(path)
     assert conn.execute("PRAGMA integrity_check").fetchall() == [("ok",)]
     checked = time.perf_counter() - start
-    rows = conn.execute(READ).fetchall()
-    step(conn, CARDS, (row[2:] for row in rows))
+    move_entries(conn, conn.execute(READ).fetchall())
     step(conn, LEADS)
     step(conn, ENDS)
     conn.close()

@@ -51,7 +51,7 @@ pub fn migrate_from<S: Start>(
     ensures left { IfErr result (λ e. IfSome e.1 (LeavesFrom (image_at S.Start))) }
     ensures left_old { IfErr result (λ e. IfSome e.1 (LeavesOld (image_at S.Start) e.0)) }
 {
-    let Some(mut conn) = open_private(rt, path, start, Cache::Large) else {
+    let Some(mut conn) = open_private(rt, path, start, Cache::Moved) else {
         return Err((NotOpened::Refused, None));
     };
     match migrate_all(rt.alloc(), &mut conn) {

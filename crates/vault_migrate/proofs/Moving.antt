@@ -9,7 +9,7 @@ use Rattle.sql_maps.specs.Schema.{no_schema}
 use Rattle.sql_maps.specs.States.{LeavesNoMore}
 use Rattle.vault_core.specs.Vault.{Vault}
 use Rattle.vault_migrate.specs.Moved.{FindsBroken, FindsVersion, IsMovable, IsNoOlder, IsOlder}
-use Rattle.vault_migrate.specs.Moved.{LeavesIn, LeavesSome, LeavesStep}
+use Rattle.vault_migrate.specs.Moved.{LeavesIn}
 use Rattle.vault_schema.proofs.Newest.{held_by_newest, ours_in_newest}
 use Rattle.vault_schema.proofs.Versions.{last_commit}
 use Rattle.vault_schema.specs.Holds.{Holds, HoldsIn, LeavesEither}
@@ -87,9 +87,6 @@ each_err (Err e) f = f e
 pub is_newest : (db : Database) → IsNoOlder db → (v : Version) → db.schema ≡ schema_of v → v ≡ newest
 is_newest db none v is = elim (older_or v) [ inl older ↦ absurd (none v older is) | inr same ↦ same ]
 
-pub no_older : (db : Database) (v : Version) → db.schema ≡ schema_of v → IsOlder v → IsNoOlder db → ⊥
-no_older db v is older none = none v older is
-
 -- ---- a vault that is held
 
 -- it has full rows
@@ -112,12 +109,6 @@ pub left_in : (v : Version) (V : Vault) (old new : State) → HoldsIn v V old
     → ((db : Trees) → old.may_leave db → db ≡ old.committed.trees) → LeavesNoMore old new → LeavesIn v V new
 left_in v V old new h alone no_more db left = last_commit v (lookups_of V) old db h
     (alone db (no_more db left))
-
-pub left_some : (v : Version) (V : Vault) (s : State) → LeavesIn v V s → LeavesSome V s
-left_some v V s left db there = (v, left db there)
-
-pub left_step : (v : Version) (V : Vault) (s : State) → LeavesIn v V s → LeavesStep v V s
-left_step v V s left db there = inl (left db there)
 
 -- a sound vault that the database stands for is held, where nothing changed since
 pub holds_sound : (v : Version) (old new : State) (autocommit : Bool) (it : StandsSoundIn v old.now)

@@ -23,7 +23,7 @@ use vault_core::row::Entry;
 use vault_pan::token::Token;
 use vault_schema::version::Version;
 use vault_verdict::fault::OpenFault;
-use vault_verdict::verdict::verdict;
+use vault_verdict::verdict::{Judged, verdict};
 
 /// The older version whose schema this is.
 pub(crate) fn older_in(schema: &Schema) -> Option<Version>
@@ -69,6 +69,6 @@ pub(crate) fn judged<S: Alter>(
     ensures quiet { IsQuietWhere ((state S.Store conn.old).now.schema ≡ schema_of version)
         (state S.Store conn.old) (state S.Store conn.new) }
 {
-    let it = verdict(alloc, conn, version)?;
-    Ok(typed_entries(alloc, &it.olders)?)
+    let Judged { sizes: _, olders } = verdict(alloc, conn, version)?;
+    Ok(typed_entries(alloc, olders)?)
 }

@@ -145,19 +145,35 @@ fn typed(
     Ok((merchant, token, entry))
 }
 
-/// Old entries, each with its merchant and its token; one that can't be read so is refused.
+/// How many old entries go until the memory that they took is given back.
+const PIECE: usize = 1000;
+
+/// Gives the memory back that old entries took which went, once a piece of them did.
+fn give_back(left: &mut Vec<OldEntry>)
+    ensures { left.new.items ≡ left.old.items }
+{
+    if left.len() % PIECE == 0 {
+        left.shrink_to_fit();
+    }
+}
+
+/// Old entries, each with its merchant and its token; one that can't be read so is refused. An old entry goes
+/// as soon as it was read, so that no more is kept than either of the lists.
 pub(crate) fn typed_entries(
     alloc: Global,
-    olders: &[OldEntry],
+    olders: Vec<OldEntry>,
 ) -> Result<Vec<(MerchantId, Token, Entry)>, ReadFault>
-    ensures rows { IfOk result (λ xs. map old_columns olders.now ≡ map typed_columns xs.items) }
+    ensures rows { IfOk result (λ xs. map old_columns olders.items ≡ map typed_columns xs.items) }
     ensures storable { IfOk result (λ xs. All (λ x. x.2.expires < 2 ^ 63) xs.items) }
 {
+    let mut left = olders;
     let mut entries = Vec::new(alloc);
-    for older in olders {
+    while let Some(older) = left.pop() {
         let number = maybe_number_of(&older.number)?;
         let revoked = maybe_moment_of(older.revoked)?;
-        entries.push(typed(older, number, revoked)?)?;
+        entries.push(typed(&older, number, revoked)?)?;
+        give_back(&mut left);
     }
+    entries.reverse();
     Ok(entries)
 }

@@ -15,15 +15,31 @@ pub enum Cache {
     Large,
     /// 2 MiB, as the command-line shell of SQLite has, for a file that is read through once.
     Small,
+    /// 2 MiB of pages that were read and 16 MiB of written ones, for a file that is read through once and then
+    /// written anew.
+    Moved,
 }
 
+const LARGE: usize = 16_777_216;
+
+const SMALL: usize = 2_097_152;
+
 impl Cache {
-    /// How many bytes of pages that were read are kept, and as many of pages that were written before they go
-    /// to the log.
-    fn bytes(self) -> usize {
+    /// How many bytes of pages that were read are kept.
+    fn read(self) -> usize {
         match self {
-            Cache::Large => 16_777_216,
-            Cache::Small => 2_097_152,
+            Cache::Large => LARGE,
+            Cache::Small => SMALL,
+            Cache::Moved => SMALL,
+        }
+    }
+
+    /// How many bytes of pages that were written are kept before they go to the log.
+    fn written(self) -> usize {
+        match self {
+            Cache::Large => LARGE,
+            Cache::Small => SMALL,
+            Cache::Moved => LARGE,
         }
     }
 }
@@ -66,10 +82,9 @@ pub(crate) fn options_for(rt: &HostRuntime, path: &str, cache: Cache) -> io::Res
         Err(_) => NEW_PAGE,
     };
     let seed = RandomState::new(rt)?.hash_one(&0u8);
-    let pages = cache.bytes() / size;
     Ok(Options {
-        cache_pages: pages,
-        spill_pages: pages,
+        cache_pages: cache.read() / size,
+        spill_pages: cache.written() / size,
         checkpoint_frames: LOG_BYTES / size,
         seed,
     })

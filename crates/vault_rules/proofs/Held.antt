@@ -128,8 +128,3 @@ module _ (rows : Rows) (apart : HasKeysApart rows) where
       ≡ Some (grant_value r)
   right_held keep r h =
       get_held right_total right_exact right_key grant_value rows.rights (rights_apart keep) r h
-
-  pub rights_many : ((r : ℕ) → keeps rows r ≡ true)
-      → finite.len (vault_of rows).rights ≡ length rows.rights
-  rights_many keep =
-      len_is right_total right_exact right_key grant_value rows.rights (rights_apart keep)

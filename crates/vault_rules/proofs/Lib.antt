@@ -11,7 +11,6 @@ pub mod FirstLemmas
 pub mod Found
 pub mod FoundRows
 pub mod Held
-pub mod HeldLemmas
 pub mod Kept
 pub mod Keyed
 pub mod Leads
@@ -23,6 +22,7 @@ pub mod PackedLemmas
 pub mod RisingLemmas
 pub mod Numbers
 pub mod Options
+pub mod Places
 pub mod Pointing
 pub mod RightNumbers
 pub mod RowsShow

@@ -48,7 +48,8 @@ or_cond false true = refl
 or_cond false false = refl
 
 -- what a set has of the keys and one more
-pub set_more : (keys : List (Bytes × Bytes)) (key q : Bytes × Bytes) (number : ℕ) (text : Bytes) (old new : Bool)
+pub set_more : (keys : List (Bytes × Bytes)) (key q : Bytes × Bytes) (number : ℕ) (text : Bytes)
+    (old new : Bool)
     → is_number key.1 ≡ true → is_number q.1 ≡ true → packed key.1 ≡ number → key.0 ≡ text
     → new ≡ cond (is_eq (ordering_then (nat_cmp number (packed q.1)) (bytes_cmp text q.0))) true old
     → old ≡ list_any (alike q) keys → new ≡ list_any (alike q) (keys ++ key ∷ [])

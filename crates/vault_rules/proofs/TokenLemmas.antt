@@ -177,5 +177,6 @@ usage_step merchants entries e m key name token number usage old new found keyed
     ties =
         both (nat_cmp (packed (string_bytes e.token)) (packed token)) (bytes_cmp (string_bytes m.name) name)
         ∙ (let names = sym (texts_ties (string_bytes m.name) name) in
-        λ i. digits_tie (string_bytes e.token) token (token_number (string_bytes e.token) is) (token_number token it) i && names i)
+        λ i. digits_tie (string_bytes e.token) token (token_number (string_bytes e.token) is)
+        (token_number token it) i && names i)
         ∙ turned (bytes_eq (string_bytes e.token) token) (bytes_eq (string_bytes m.name) name)

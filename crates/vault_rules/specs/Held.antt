@@ -1,8 +1,7 @@
 -- Card rows that came one after the other.
-use Rattle.std.specs.Prelude.{◌≡◌, ℤ, List, map}
+use Rattle.std.specs.Prelude.{◌≡◌, List, map}
 use Rattle.std.specs.Option.{option_copied}
-use Rattle.vault_rules.specs.Index.{at_id}
-use Rattle.vault_rules.specs.Kept.{KeptCard, kept_card, place_of}
+use Rattle.vault_rules.specs.Kept.{KeptCard, kept_card}
 use Rattle.vault_rules.specs.Rising.{IsRisingOver}
 use Rattle.vault_rules.specs.declared.card_rows.Card.{Card}
 use Rattle.vault_rules.specs.declared.card_rows.Cards.{Cards}
@@ -14,8 +13,7 @@ abbrev pub seen_card : Card → KeptCard
 seen_card c =
     record { id = c.id; uses = c.uses; merchant = option_copied c.merchant; number = c.number }
 
--- what is kept of each, and the place of the first of each id
+-- what is kept of each, and whether their ids rise
 pub record HoldCards (merchants : List RawMerchant) (it : Cards) (cards : List RawCard) : Type 0 where
   pub kept : map seen_card it.kept.items ≡ map (kept_card merchants) cards
-  pub places : (id : ℤ) → at_id it.by_id id ≡ place_of cards id
   pub rowids : IsRisingOver it.rowids (map (λ c. c.id) cards)

@@ -1,11 +1,11 @@
 -- What ordered maps over the rows have at each key.
-use Rattle.std.specs.Prelude.{◌≡◌, ℕ, ℤ, pos, ◌&&◌, Bool, List, Option, bytes_eq, string_bytes}
+use Rattle.std.specs.Prelude.{◌≡◌, ℕ, pos, ◌&&◌, Bool, List, Option, bytes_eq, string_bytes}
 use Rattle.std.specs.Borrow.{Bor}
-use Rattle.std.specs.BTreeMap.{BTreeMap, get, get_by}
+use Rattle.std.specs.BTreeMap.{BTreeMap, get_by}
 use Rattle.std.specs.BTreeSet.{BTreeSet, contains_by}
 use Rattle.std.specs.List.{find}
 use Rattle.std.specs.Option.{option_copied}
-use Rattle.std.specs.Ordering.{int_cmp, int_eq, nat_cmp, ordering_then}
+use Rattle.std.specs.Ordering.{int_eq, nat_cmp, ordering_then}
 use Rattle.vault_core.specs.Keys.{Bytes, bytes_cmp}
 use Rattle.vault_rules.specs.Lookups.{merchant_of}
 use Rattle.vault_rules.specs.declared.rows.RawMerchant.{RawMerchant}
@@ -23,10 +23,6 @@ at_text map text = get_by (λ key. bytes_cmp text key.now) map
 abbrev pub at_pair : {X : Type 0} → BTreeMap (ℕ × Text) X → ℕ → Bytes → Option X
 at_pair map number text =
     get_by (λ key. ordering_then (nat_cmp number key.0) (bytes_cmp text key.1.now)) map
-
--- what a map has at a number
-abbrev pub at_id : {X : Type 0} → BTreeMap ℤ X → ℤ → Option X
-at_id map id = get int_cmp map id
 
 -- a merchant's first count of tokens made
 abbrev pub made_of : List RawCount → Bytes → Option RawCount

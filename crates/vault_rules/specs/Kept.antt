@@ -1,6 +1,6 @@
 -- What is kept of a card row.
-use Rattle.std.specs.Prelude.{◌&&◌, ℕ, ℤ, pos, suc, Bool, is_some, List, [], ◌∷◌, Option, Some, None, length, nat_lt, option_map}
-use Rattle.std.specs.Prelude.{string_bytes, if◌then◌else◌}
+use Rattle.std.specs.Prelude.{◌&&◌, ℕ, ℤ, pos, Bool, is_some, List, [], Option, if◌then◌else◌, length}
+use Rattle.std.specs.Prelude.{nat_lt, position, string_bytes}
 use Rattle.std.specs.Int.RustNames.{int_le}
 use Rattle.std.specs.Ordering.{int_eq}
 use Rattle.vault_core.specs.Keys.{Bytes}
@@ -30,8 +30,7 @@ kept_card merchants c = record {
 
 -- the place of the first card row of an id
 abbrev pub place_of : List RawCard → ℤ → Option ℕ
-place_of [] id = None
-place_of (c ∷ cards) id = if int_eq c.id id then Some 0 else option_map suc (place_of cards id)
+place_of cards id = position (λ c. int_eq c.id id) cards
 
 -- its merchant exists, and its uses are the number of entries that point at it, 1 or more
 abbrev pub is_used : List RawEntry → KeptCard → Bool

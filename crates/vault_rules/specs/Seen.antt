@@ -1,10 +1,12 @@
 -- What is known of rows that came one after the other.
-use Rattle.std.specs.Prelude.{◌≡◌, ℕ, ℤ, true, List, length, map, option_map, unwrap_or}
+use Rattle.std.specs.Prelude.{◌≡◌, ℕ, ℤ, true, List, length, map, Some, option_map, slice_index_or}
+use Rattle.std.specs.Prelude.{unwrap_or}
 use Rattle.std.specs.List.{filter_map, list_all, list_any}
 use Rattle.vault_core.specs.Keys.{Bytes}
 use Rattle.vault_rules.specs.AllRows.{Rows}
 use Rattle.vault_rules.specs.Held.{HoldCards}
-use Rattle.vault_rules.specs.Index.{at_id, at_pair, at_text, has_pair}
+use Rattle.vault_rules.specs.Index.{at_pair, at_text, has_pair}
+use Rattle.vault_rules.specs.Kept.{place_of}
 use Rattle.vault_rules.specs.Lookups.{entry_of, held_by, is_known, used_by}
 use Rattle.vault_rules.specs.Packed.{packed}
 use Rattle.vault_rules.specs.Rising.{IsRisingOver}
@@ -59,7 +61,8 @@ pub record HasEntries (it : Entries) (cards : List RawCard) (entries : List RawE
   pub rules : KeepRules it.index.merchants.now cards it.rules entries
   pub live : AreLive it.index.merchants.now cards it.live entries
   pub tokens : HoldTokens it.index.merchants.now it.tokens entries
-  pub used : (id : ℤ) → unwrap_or (at_id it.used id) 0 ≡ used_by entries id
+  pub used : (id : ℤ) (place : ℕ) → place_of cards id ≡ Some place
+      → slice_index_or it.used.items place 0 ≡ used_by entries id
 
 -- these records came, and whether all keep their rule, where each entry has a merchant and a token
 pub record HasRecords (it : Records) (records : List RawRecord) : Type 0 where

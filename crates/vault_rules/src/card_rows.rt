@@ -1,17 +1,18 @@
 //! What the rules need of card rows, which come one after the other.
 ghost use Rattle.std.specs.Prelude.{◌≡◌, ◌+◌, List, [], ◌∷◌, ◌++◌, OnOk, length, option_map};
-ghost use Rattle.std.specs.Prelude.{slice_get, string_bytes};
+ghost use Rattle.std.specs.Prelude.{map, position, slice_get, string_bytes, true};
 ghost use Rattle.std.specs.Option.{option_copied};
+ghost use Rattle.std.specs.Ordering.{int_eq};
 ghost use Rattle.vault_rules.specs.Kept as kept;
+ghost use Rattle.vault_rules.specs.Kept.{place_of};
 ghost use Rattle.vault_rules.specs.Lookups.{card_of, merchant_of};
+ghost use Rattle.vault_rules.specs.Rising.{are_rising};
 ghost use Rattle.vault_rules.specs.declared.rows.RawCard.{RawCard as CardRow};
 ghost use Rattle.vault_rules.specs.declared.rows.RawMerchant.{RawMerchant as MerchantRow};
 
-use crate::index::first::put_first;
 use crate::rising::Rising;
 use crate::rows::{RawCard, RawMerchant};
 use std::alloc::{AllocError, Global};
-use std::collections::BTreeMap;
 use vault_pan::pan::MOST_DIGITS;
 use vault_pan::short::Short;
 
@@ -44,11 +45,25 @@ fn card_at<'a>(kept: &[Card<'a>], place: usize) -> Option<Card<'a>>
     kept.get(place).copied()
 }
 
+/// The place of the first card of an id.
+fn first_of(kept: &[Card], id: i64) -> Option<usize>
+    ensures { result ≡ position (λ c. int_eq c.id id) kept.now }
+{
+    kept.iter().position(|card| card.id == id)
+}
+
+/// The place of the card of an id, where the ids rise.
+fn searched(kept: &[Card], id: i64) -> Option<usize>
+    ensures { are_rising (map (λ c. c.id) kept.now) ≡ true
+        → result ≡ position (λ c. int_eq c.id id) kept.now }
+{
+    kept.binary_search_by_key(&id, |card| card.id).ok()
+}
+
 /// The card rows that came, as far as the rules need them. Of several at an id the first is found.
 #[derive(Drop)]
 pub struct Cards<'a> {
     pub(crate) kept: Vec<Card<'a>>,
-    by_id: BTreeMap<i64, usize>,
     rowids: Rising,
 }
 
@@ -61,7 +76,6 @@ impl<'a> Cards<'a> {
     {
         Cards {
             kept: Vec::new(alloc),
-            by_id: BTreeMap::new(alloc),
             rowids: Rising::new(),
         }
     }
@@ -77,7 +91,6 @@ impl<'a> Cards<'a> {
             → option_copied merchant.entry ≡ merchant_of merchants (string_bytes card.now.merchant)
             → HoldCards merchants self.old raws → HoldCards merchants self.new (raws ++ card.now ∷ [])) }
     {
-        put_first(&mut self.by_id, card.id, self.kept.len())?;
         let kept = Card {
             id: card.id,
             uses: card.uses,
@@ -92,13 +105,25 @@ impl<'a> Cards<'a> {
         Ok(())
     }
 
+    /// The place of the card row of an id.
+    pub(crate) fn place(&self, id: i64) -> Option<usize>
+        ensures { (merchants : List MerchantRow) (raws : List CardRow) → HoldCards merchants self.now raws
+            → result ≡ place_of raws id }
+    {
+        if self.rowids.rises() {
+            searched(&self.kept, id)
+        } else {
+            first_of(&self.kept, id)
+        }
+    }
+
     /// The card row of an id.
     pub(crate) fn card(&self, id: i64) -> Option<Card<'a>>
         ensures { (merchants : List MerchantRow) (raws : List CardRow) → HoldCards merchants self.now raws
             → option_map seen_card result ≡ option_map (kept.kept_card merchants) (card_of raws id) }
     {
-        match self.by_id.get(&id) {
-            Some(place) => card_at(&self.kept, *place),
+        match self.place(id) {
+            Some(place) => card_at(&self.kept, place),
             None => None,
         }
     }

@@ -1,6 +1,8 @@
 //! What the rules need of entries, which come one after the other.
-ghost use Rattle.std.specs.Prelude.{◌≡◌, ◌+◌, ◌<◌, ◌^◌, true, List, [], ◌∷◌, ◌++◌, OnOk, option_map};
-ghost use Rattle.vault_rules.specs.Lookups.{entry_of, held_by, is_known, used_by};
+ghost use Rattle.std.specs.Prelude.{◌≡◌, ◌+◌, ◌<◌, ◌^◌, true, List, [], ◌∷◌, ◌++◌, OnOk, is_some};
+ghost use Rattle.std.specs.Prelude.{option_and_then, option_map};
+ghost use Rattle.vault_rules.specs.Kept.{place_of};
+ghost use Rattle.vault_rules.specs.Lookups.{card_of, entry_of, held_by, is_known, used_by};
 ghost use Rattle.vault_rules.specs.declared.rows.RawCard.{RawCard as CardRow};
 ghost use Rattle.vault_rules.specs.declared.rows.RawEntry.{RawEntry as EntryRow};
 
@@ -8,13 +10,12 @@ mod tokens;
 
 use crate::entries::tokens::Tokens;
 use crate::index::Index;
-use crate::index::counted::{count_one, one_more};
+use crate::index::counted::{count_at, count_of, one_more};
 use crate::rising::Rising;
 use crate::rows::RawEntry;
 use crate::rules::entries::EntryRules;
 use crate::rules::live::Live;
 use std::alloc::{AllocError, Global};
-use std::collections::BTreeMap;
 
 /// The entries that came, as far as the rules need them: none of their rows is kept.
 #[derive(Drop)]
@@ -25,7 +26,8 @@ pub struct Entries<'a> {
     pub(crate) rules: EntryRules,
     pub(crate) live: Live<'a>,
     tokens: Tokens<'a>,
-    used: BTreeMap<i64, usize>,
+    /// How many entries point at the card row of each place.
+    used: Vec<usize>,
 }
 
 impl<'a> Entries<'a> {
@@ -45,7 +47,18 @@ impl<'a> Entries<'a> {
             rules: EntryRules::new(),
             live: Live::new(alloc),
             tokens: Tokens::new(alloc),
-            used: BTreeMap::new(alloc),
+            used: Vec::new(alloc),
+        }
+    }
+
+    /// The place of the card row that an entry points at.
+    fn pointed(&self, entry: &RawEntry) -> Option<usize>
+        ensures { (cards : List CardRow) → HoldCards self.now.index.merchants.now self.now.index.cards cards
+            → result ≡ option_and_then (place_of cards) entry.now.card }
+    {
+        match entry.card {
+            Some(id) => self.index.cards.place(id),
+            None => None,
         }
     }
 
@@ -63,8 +76,8 @@ impl<'a> Entries<'a> {
         self.rules.take(&found);
         self.live.take(&found)?;
         self.tokens.take(&found)?;
-        if let Some(card) = entry.card {
-            count_one(&mut self.used, card)?;
+        if let Some(place) = self.pointed(entry) {
+            count_at(&mut self.used, place)?;
         }
         Ok(())
     }
@@ -102,9 +115,12 @@ impl<'a> Entries<'a> {
     /// How many entries point at the card row of an id.
     pub(crate) fn used(&self, id: i64) -> usize
         ensures { (cards : List CardRow) (raws : List EntryRow) → HasEntries self.now cards raws
-            → result ≡ used_by raws id }
+            → is_some (card_of cards id) ≡ true → result ≡ used_by raws id }
     {
-        self.used.get(&id).copied().unwrap_or(0)
+        match self.index.cards.place(id) {
+            Some(place) => count_of(&self.used, place),
+            None => 0,
+        }
     }
 
     /// The usage of a merchant's token, where each entry has a merchant and a token.

@@ -1,16 +1,31 @@
 -- The step from schema 1 to schema 2, statement by statement.
 use Rattle.std.proofs.Common.{◌≡◌, ◌++◌, ℤ, pos, List, [], ◌∷◌, Option, None, refl}
-use Rattle.std.proofs.Common.{sym, subst}
+use Rattle.std.proofs.Common.{sym, subst, ℕ, not, Ok, IsTrue}
+use Rattle.sqlite.specs.Collation.TheVariants.{Binary}
+use Rattle.sqlite.specs.Edit.{without_all}
 use Rattle.sqlite.specs.Effect.{Database}
-use Rattle.sqlite.specs.State.{State}
-use Rattle.sqlite.specs.Tree.{Trees}
+use Rattle.sqlite.specs.Listing.{understood}
+use Rattle.sqlite.specs.Order.{Row}
+use Rattle.sqlite.specs.State.{ExecutesInside, HasCleanDisk, State}
+use Rattle.sqlite.specs.Term.{col, op2}
+use Rattle.sqlite.specs.Tree.{Trees, has_rowid, without_rowid}
 use Rattle.sqlite.specs.declared.types.Value.TheVariants.{Null, Int}
 use Rattle.sql_maps.specs.Rows.{AreRowsById}
 use Rattle.sql_maps.specs.States.{Claim, IsEmpty, StandsIn, Steps, Within, at_place}
 use Rattle.sql_maps.proofs.ByKey.{no_rows}
 use Rattle.sql_maps.proofs.KeyTests.{int_eq}
 use Rattle.sql_maps.proofs.Moves.{change_one, empty_in}
-use Rattle.sql_maps.proofs.Statements.{retold}
+use Rattle.sql_maps.proofs.Plain.{claimed}
+use Rattle.sql_maps.proofs.Statements.{Ran, retold, written}
+use Rattle.sql_maps.proofs.Steps.{delete_wrote}
+use Rattle.sql_maps.specs.Schema.{table_of}
+use Rattle.sql_maps.specs.Texts.{IsWrite, delete}
+use Rattle.sqlite_rules.proofs.ListLemmas.{has_filtered}
+use Rattle.sqlite_rules.specs.Calls.{ids_of}
+use Rattle.sqlite_rules.specs.Lists.{Has}
+use Rattle.sqlite_sql.specs.declared.ops.BinaryOp.TheVariants.{Compare}
+use Rattle.sqlite_sql.specs.declared.ops.CompareOp.TheVariants.{Le}
+use Rattle.sqlite_tied.specs.Compute.{everything}
 use Rattle.vault_core.specs.Keys.{Bytes}
 use Rattle.vault_core.specs.declared.row.Entry.{Entry}
 use Rattle.vault_schema.specs.Version1.Tables as one
@@ -29,18 +44,23 @@ use Rattle.vault_schema.proofs.Version2.Making.{with_cards, with_entries}
 use Rattle.vault_schema.proofs.Version2.Texts.{empty_entries_is, set_version_is}
 use Rattle.vault_cards.specs.Calls.{IsWithin}
 use Rattle.vault_steps.specs.Entries.{AreEntriesOf, with_all, without_entries}
+use Rattle.vault_steps.specs.Room.{AreNumbered, entries_going, tables_made}
+use Rattle.vault_steps.specs.declared.room.TheConstants.{DROP_ENTRIES}
 use Rattle.vault_steps.proofs.Entered.{all_entered}
 use Rattle.vault_steps.proofs.Inside.{Did, closed, index_in, ran_in, table_in}
 
--- both tables are there, and then the entries are gone, and then the version is that of schema 2
-abbrev made : Lookups → List Claim
-made h = (first_claims h ++ IsEmpty ∷ []) ++ IsEmpty ∷ []
-
+-- the entries are gone, and then the version is that of schema 2
 abbrev emptied : Lookups → List Claim
-emptied h = at_place (made h) 3 IsEmpty
+emptied h = at_place (entries_going h) 3 IsEmpty
 
 abbrev versioned : Lookups → List Claim
 versioned h = at_place (emptied h) 0 (λ rows. rows ≡ (Int (pos 1) ∷ Null ∷ Int (pos 2) ∷ []) ∷ [])
+
+-- the statement that takes entries away
+drop_entries_is : IsWrite v2 DROP_ENTRIES.now
+    (delete 3 5 (op2 (Compare Le Binary) (col 1 0) (col 0 0) ∷ []))
+unfolding understood everything
+drop_entries_is = record { is = refl; plain = (refl, refl) }
 
 -- no cards, and no entries
 abbrev no_cards : ℤ → Option Card
@@ -84,11 +104,10 @@ none_joined = record {
   used = λ id c h. absurd cc;
 }
 
-module _ {h : Lookups} {base : Database} {a b c d e f : State} (w : WithinOf One h base a)
-    (one' : Steps a b) (two' : Steps b c) (three' : Steps c d) (four' : Steps d e) (five' : Steps e f)
+module _ {h : Lookups} {base : Database} {a b c d : State} (w : WithinOf One h base a)
+    (one' : Steps a b) (two' : Steps b c) (three' : Steps c d)
     (cards : Did CREATE_CARDS.now a b) (entries : Did CREATE_ENTRIES.now b c)
-    (index : Did CREATE_ENTRIES_CARD.now c d) (empty : Did EMPTY_ENTRIES.now d e)
-    (version : Did SET_VERSION.now e f) where
+    (index : Did CREATE_ENTRIES_CARD.now c d) where
   first : Within v1 (first_claims h) base a
   first = record {
     free = w.free;
@@ -100,15 +119,52 @@ module _ {h : Lookups} {base : Database} {a b c d e f : State} (w : WithinOf One
   after_cards : Within with_cards (first_claims h ++ IsEmpty ∷ []) base b
   after_cards = table_in refl makes_cards (ran_in one' cards first)
 
-  after_entries : Within with_entries (made h) base c
+  after_entries : Within with_entries (tables_made h) base c
   after_entries = table_in refl makes_entries (ran_in two' entries after_cards)
 
-  after_index : Within v2 (made h) base d
-  after_index = index_in all_made makes_entries_card (ran_in three' index after_entries)
+  -- both tables are there
+  pub tabled : Within v2 (tables_made h) base d
+  tabled = index_in all_made makes_entries_card (ran_in three' index after_entries)
 
+-- rows that are left were there
+left_of : (ids : List ℤ) (rows : List Row) (r : Row) → Has (without_all rows ids) r → Has rows r
+left_of [] rows r h = h
+left_of (id ∷ ids) rows r h =
+    (has_filtered (λ r. not (has_rowid id r)) rows r (left_of ids (without_rowid id rows) r h)).0
+
+module _ (h : Lookups) (base : Database) where
+  -- and the entries may go
+  pub going : {st : State} → Within v2 (tables_made h) base st → Within v2 (entries_going h) base st
+  going {st} = retold v2 (tables_made h) (entries_going h) base st
+      (λ db s. (s.0, (s.1.0, (s.1.1.0, (s.1.1.1.0.keyed, s.1.1.1.1)))))
+
+  -- some of them go
+  pub dropped : (params : Row) {old new : State} → Within v2 (entries_going h) base old → Steps old new
+      → (IsTrue old.in_transaction → (count : ℕ) × ExecutesInside 0 DROP_ENTRIES.now params old new (Ok count))
+      → Within v2 (entries_going h) base new
+  dropped params {old} {new} w steps ran =
+      let did = ran w.inside in
+      let run : Ran v2 (entries_going h) base old new DROP_ENTRIES.now params =
+      record { within = w; count = did.0; ran = did.1; limit = steps.limit } in
+      let wrote = delete_wrote v2 refl one.entries DROP_ENTRIES.now params old new did.0 3 refl
+      w.stands.schema did.1.0 _ drop_entries_is in
+      let numbered = claimed v2.tables (entries_going h) 3 (table_of one.entries) old.now.trees refl
+      w.stands.rows in
+      written refl run wrote.3 one.entries 3 refl (ids_of wrote.0) [] AreNumbered wrote.2
+      (λ r there. numbered r (left_of (ids_of wrote.0) (old.now.trees 5) r there))
+
+-- entries went, and nothing else was done
+abbrev pub AreDropped : State → State → Type 0
+AreDropped old new =
+    Steps old new × (HasCleanDisk new → (base : Database) (h : Lookups)
+    → Within v2 (entries_going h) base old → Within v2 (entries_going h) base new)
+
+module _ (h : Lookups) {base : Database} {d e f : State} (w : Within v2 (entries_going h) base d)
+    (four' : Steps d e) (five' : Steps e f) (empty : Did EMPTY_ENTRIES.now d e)
+    (version : Did SET_VERSION.now e f) where
   after_empty : Within v2 (emptied h) base e
-  after_empty = empty_in refl (ran_in four' empty after_index) one.entries 3 refl (empty_entries_is [] [])
-      (λ said r there. said.keyed r there)
+  after_empty = empty_in refl (ran_in four' empty w) one.entries 3 refl (empty_entries_is [] [])
+      (λ said r there. said r there)
 
   after_version : Within v2 (versioned h) base f
   after_version =

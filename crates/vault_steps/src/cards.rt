@@ -4,37 +4,19 @@ ghost use Rattle.std.specs.List.{All};
 ghost use Rattle.sqlite.specs.Held.{state};
 ghost use Rattle.sqlite.specs.State.{HasCleanDisk};
 ghost use Rattle.sql_maps.specs.States.{Steps};
-ghost use Rattle.vault_cards.specs.Calls.{IsWithin, Makes};
+ghost use Rattle.vault_cards.specs.Calls.{Makes};
 ghost use Rattle.vault_schema.specs.Versions.{WithinOf};
-ghost use Rattle.vault_steps.specs.Entries.{AreEntriesOf, with_all, without_entries};
+ghost use Rattle.vault_steps.specs.Entries.{AreEntriesOf, with_all};
 
-use sql_maps::run::step;
-use sqlite::{Alter, Error, Transaction};
+use crate::room::make_room;
+use sqlite::{Alter, Transaction};
 use vault_cards::fault::StoreFault;
 use vault_cards::pointing::add_entry;
 use vault_cards::text::merchant_text;
 use vault_core::name::MerchantId;
 use vault_core::row::Entry;
 use vault_pan::token::Token;
-use vault_schema::v2::{
-    CREATE_CARDS, CREATE_ENTRIES, CREATE_ENTRIES_CARD, EMPTY_ENTRIES, SET_VERSION,
-};
 use vault_schema::version::Version;
-
-/// Makes the tables that come with schema 2, takes the entries away and says the version.
-fn make_room<S: Alter>(tx: &mut Transaction<'_, S>) -> Result<(), Error>
-    ensures same_reference { tx.new.conn.ghost_name ≡ tx.old.conn.ghost_name }
-    ensures steps { Steps (state S.Store tx.old.conn.now) (state S.Store tx.new.conn.now) }
-    ensures done { HasCleanDisk (state S.Store tx.new.conn.now) → OnOk result ((base : _) (h : _)
-        → WithinOf Version.One h base (state S.Store tx.old.conn.now)
-        → IsWithin Version.Two (state S.Store tx.new.conn.now) base (without_entries h)) }
-{
-    step(tx, CREATE_CARDS, &[])?;
-    step(tx, CREATE_ENTRIES, &[])?;
-    step(tx, CREATE_ENTRIES_CARD, &[])?;
-    step(tx, EMPTY_ENTRIES, &[])?;
-    step(tx, SET_VERSION, &[])
-}
 
 /// Writes new entries, one after the other.
 pub(crate) fn put_entries<S: Alter>(
@@ -64,6 +46,6 @@ pub(crate) fn step_up<S: Alter>(
         → WithinOf Version.One h base (state S.Store tx.old.conn.now) → AreEntriesOf entries.now h
         → WithinOf Version.Two h base (state S.Store tx.new.conn.now)) }
 {
-    make_room(tx)?;
+    make_room(tx, entries.len())?;
     put_entries(tx, entries)
 }

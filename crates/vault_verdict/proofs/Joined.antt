@@ -130,7 +130,8 @@ taken_both v db now olders start mid begun (Ok it) entries took are is none same
       told.0,
       record {
         index_is = λ cards fresh. ap (λ (e : Entries). e.index) whose ∙ (took cards fresh).0;
-        entries_came = λ cards fresh. subst (λ e. HasEntries e cards entries) (sym whose) (took cards fresh).1;
+        entries_came = λ cards fresh.
+            subst (λ e. HasEntries e cards entries) (sym whose) (took cards fresh).1;
         records_came = came.1;
         entries_are = are;
         records_are =

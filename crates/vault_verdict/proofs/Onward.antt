@@ -71,7 +71,8 @@ module _ {S : Type 0} (g : Ghosts S) (v : Version) (old mid new : Held S)
             olders,
             rows,
             subst (AreCardsIn v (state g old).now olders) (sym it.2.cards) are,
-            subst (λ x. AreOnward v olders versions merchants counts x (state g old).now rows) (sym it.2.cards)
+            subst (λ x. AreOnward v olders versions merchants counts x (state g old).now rows)
+                (sym it.2.cards)
                 (subst (λ db. AreOnward v olders versions merchants counts cards db rows) same.0.now_is it.2),
             it.3,
             stays,

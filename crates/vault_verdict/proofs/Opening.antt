@@ -3,7 +3,6 @@ use Rattle.std.proofs.Common.{◌≡◌, inr, not, false, Bool, None, IsTrue, sy
 use Rattle.sqlite.specs.Effect.{Database, IsDatabase}
 use Rattle.sqlite.specs.Schema.{Schema}
 use Rattle.sqlite.specs.State.{State, IsUnchanged}
-use Rattle.sqlite.specs.Tree.{Trees}
 use Rattle.vault_core.specs.Vault.{Vault}
 use Rattle.vault_verdict.specs.Opened.{IsSoundOf, Opens}
 use Rattle.vault_verdict.specs.Reading.{IsOurs}
@@ -12,10 +11,6 @@ use Rattle.vault_schema.specs.Holds.{Holds}
 use Rattle.sql_maps.specs.Schema.{no_schema}
 use Rattle.vault_schema.specs.Schema.{newest_schema}
 use Rattle.vault_schema.specs.Stands.{Stands}
-
--- only the last commit may be left
-abbrev pub IsSettled : State → Type 0
-IsSettled s = (db : Trees) → IsTrue s.is_open → s.may_leave db → db ≡ s.committed.trees
 
 -- a schema that holds a vault, and one that holds nothing
 pub apart : no_schema ≡ newest_schema → ⊥

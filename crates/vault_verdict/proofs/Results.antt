@@ -117,9 +117,3 @@ pub failed_memory : {A : Type 0} (P : Type 0) (r : Result A OpenFault) → IsErr
 failed_memory P (Ok a) same = absurd same
 failed_memory P (Err e) same =
     (λ is. subst IsJudged same is, λ store. absurd (let clash = sym same ∙ store in cc))
-
--- and neither says another version
-pub failed_version : {A : Type 0} (r : Result A OpenFault) (fault : ReadFault)
-    → IsErrAnd r (λ e. e ≡ failure fault) → IfErr r (λ e. (n : ℤ) → e ≢ WrongSchema n)
-failed_version (Ok a) fault same = tt
-failed_version (Err e) fault same = λ n is. unversioned fault n (sym same ∙ is)

@@ -66,10 +66,6 @@ no_end : (ends : Option ℤ) → raw.int_value ends ≡ Null → ends ≡ None
 no_end None is = refl
 no_end (Some n) is = absurd cc
 
-none_back : (o : Option ℕ) → option_map pos o ≡ None → o ≡ None
-none_back None is = refl
-none_back (Some n) is = absurd cc
-
 digits_of : (lead : Lead) (n : ℤ) → n ≡ pos (lead_digits lead) → Int n ≡ Int (pos 6) → lead_digits lead ≡ 6
 digits_of lead n shown six = let same : n ≡ pos 6 = cc in pos_same (sym shown ∙ same)
 

@@ -1,7 +1,6 @@
 -- What a reading row by row comes to.
 use Rattle.std.proofs.Common.{◌≡◌, ◌≢◌, ◌↔◌, ◌∙◌, ◌++◌, ◌∷◌, ℕ, List, [], map, sym, ap, subst, false}
 use Rattle.std.proofs.Common.{Result, Ok, Err, IfErr, IfOk, IsErrAnd, OnOk}
-use Rattle.std.specs.Global.{Vec}
 use Rattle.sqlite.proofs.Callers.{IsPlain, unchanged_then}
 use Rattle.sqlite.proofs.StateLemmas.{survives_then}
 use Rattle.sqlite.specs.Clock.{timed}
@@ -20,7 +19,7 @@ use Rattle.sql_maps.proofs.Calls.{reads, was_sound}
 use Rattle.sqlite.specs.Effect.{Database, IsDatabase}
 use Rattle.sql_maps.specs.States.{Reads}
 use Rattle.vault_verdict.specs.Raw.{IsStrange}
-use Rattle.vault_verdict.specs.Reading.{IsUnread, ReadsRows, TakesRows}
+use Rattle.vault_verdict.specs.Reading.{IsUnread, TakesRows}
 use Rattle.vault_verdict.specs.declared.fault.ReadFault.{ReadFault}
 use Rattle.vault_verdict.specs.declared.fault.ReadFault.TheVariants.{Memory, Store}
 
@@ -150,24 +149,3 @@ module _ {S : Type 0} (g : Ghosts S) {R K : Type 0} (s : Schema) (text : List �
       (λ clean known. let fine = plain_in known in
       (raws, has, shown_from text was at is _ fine (same clean fine) (shown clean fine)))
       (λ clean known. tt)
-
--- rows that were taken into a vector are the vector's
-pub as_vector : {S : Type 0} (g : Ghosts S) {R : Type 0} {s : Schema} {text : List ℕ} {values : R → Row}
-    (start : Vec R) → start.items ≡ [] → (result : Result (Vec R) ReadFault) {old new : Held S}
-    → TakesRows g text values s (λ (now : Vec R) raws. now.items ≡ start.items ++ raws) result old new
-    → ReadsRows g text values s result old new
-as_vector g {text = text} {values = values} start empty (Err fault) {old = old} {new = new} takes = record {
-  reads = takes.reads;
-  told = λ clean has. tt;
-  sound = takes.sound;
-  refused = takes.refused;
-}
-as_vector g {text = text} {values = values} start empty (Ok v) {old = old} {new = new} takes = record {
-  reads = takes.reads;
-  told = λ clean has.
-      let it = takes.told clean has in
-      let same = it.1 ∙ ap (λ l. l ++ it.0) empty in
-      subst (λ l. Shown text [] (state g old) (state g new) (map values l)) (sym same) it.2;
-  sound = takes.sound;
-  refused = takes.refused;
-}

@@ -267,8 +267,9 @@ fn pointing_entries<'a, S: Alter>(
     conn: &mut Connection<S>,
     start: Entries<'a>,
 ) -> Result<Entries<'a>, ReadFault>
-    ensures { (others : List Table) (indexes : List SqlIndex) → TakesTable S.Store READ_ENTRIES.now entry_values
-        (grown v2 others indexes) (EntriesTaken start.entry) ArePointingFull (λ t. t 14) entry_values
+    ensures { (others : List Table) (indexes : List SqlIndex)
+        → TakesTable S.Store READ_ENTRIES.now entry_values (grown v2 others indexes)
+        (EntriesTaken start.entry) ArePointingFull (λ t. t 14) entry_values
         (λ raw. raw.rowid) result conn.old conn.new }
 {
     taken::<S, RawEntry, _>(conn, READ_ENTRIES, start)

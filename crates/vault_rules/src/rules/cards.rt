@@ -4,6 +4,7 @@ ghost use Rattle.std.specs.List.{list_all};
 ghost use Rattle.vault_rules.specs.Found.{IsFoundIn};
 ghost use Rattle.vault_rules.specs.Held.{seen_card};
 ghost use Rattle.vault_rules.specs.Kept.{is_used};
+ghost use Rattle.vault_rules.specs.Lookups.{card_of};
 ghost use Rattle.vault_rules.specs.Rules as rules;
 ghost use Rattle.vault_rules.specs.Seen.{HasEntries};
 ghost use Rattle.vault_rules.specs.declared.rows.RawCard.{RawCard as CardRow};
@@ -41,7 +42,7 @@ fn have_uses(entries: &Entries) -> bool
 /// Whether a card row's merchant exists, and its uses are the number of entries that point at it.
 fn is_card(entries: &Entries, c: &Card) -> bool
     ensures { (rows : List CardRow) (raws : List EntryRow) → HasEntries entries.now rows raws
-        → result ≡ is_used raws (seen_card c.now) }
+        → is_some (card_of rows c.now.id) ≡ true → result ≡ is_used raws (seen_card c.now) }
 {
     c.merchant.is_some() && 1 <= c.uses && c.uses as u64 == entries.used(c.id) as u64
 }

@@ -55,8 +55,8 @@ impl<'a> Live<'a> {
     }
 }
 
-/// The number and the merchant of a multi-use entry that is live at its merchant's moment, where the number is a
-/// card number.
+/// The number and the merchant of a multi-use entry that is live at its merchant's moment, where the number
+/// is a card number.
 fn live_key<'a>(found: &Found<'a, '_>) -> Option<(u128, &'a str)>
     ensures { (merchants : List MerchantRow) (cards : List CardRow) → IsFoundIn merchants cards found.now
         → rules.has_number cards found.now.entry.now ≡ true

@@ -8,7 +8,6 @@ use Rattle.vault_migrate.proofs.migrate.migrate.Goals as goal
 use Rattle.vault_migrate.specs.Moved.{HoldsSoundIn, IsNoOlder, IsOlder, LeavesIn, LeavesStep}
 use Rattle.vault_schema.proofs.Newest.{held_in_newest}
 use Rattle.vault_schema.specs.Holds.{AreIn, HoldsIn}
-use Rattle.vault_schema.specs.Stands.{newest}
 use Rattle.vault_schema.specs.Versions.{next_of, number_of, schema_of}
 use Rattle.vault_schema.specs.declared.version.Version.{Version}
 use Rattle.vault_verdict.proofs.Results.{if_err, if_ok, if_so, on_ok}

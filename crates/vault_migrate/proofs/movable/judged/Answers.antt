@@ -1,24 +1,22 @@
-use Rattle.std.proofs.Common.{◌∙◌, ap, map, sym}
 use Rattle.sqlite.specs.Held.{state}
 use Rattle.vault_migrate.proofs.Entries.{are_for}
 use Rattle.vault_migrate.proofs.Moving.{full_held, still_held}
 use Rattle.vault_migrate.proofs.movable.judged.Goals as goal
-use Rattle.vault_migrate.specs.Typed.{old_columns}
 
 pub returns-clause-given : goal.returns-clause-given
 returns-clause-given g c clean V h =
     let old = state g.S.Store c.args.conn.now in
-    are_for c.args.version old.now.trees V h.is.stand c.in_ok-it.it.olders.items _
-    (c.in_ok-it.ensures.olders clean (full_held c.args.version V old h))
-    (ap (map old_columns) (sym c.deref.ensures.value) ∙ c.in_ok-typed_entries.ensures.rows)
+    are_for c.args.version old.now.trees V h.is.stand c.in_ok-olders.field-0.olders.items _
+    (c.in_ok-olders.ensures.olders clean (full_held c.args.version V old h))
+    c.in_ok-typed_entries.ensures.rows
 
 pub returns-clause-held : goal.returns-clause-held
 returns-clause-held g c clean V h =
     still_held c.args.version V (state g.S.Store c.args.conn.now) (state g.S.Store c.verdict.new.conn) h
-    (c.in_ok-it.ensures.kept clean h.is.schema) c.verdict.ensures.quiet.limit
+    (c.in_ok-olders.ensures.kept clean h.is.schema) c.verdict.ensures.quiet.limit
 
 pub returns-clause-live : goal.returns-clause-live
-returns-clause-live g c clean full = (c.in_ok-it.ensures.sound clean full).is
+returns-clause-live g c clean full = (c.in_ok-olders.ensures.sound clean full).is
 
 pub returns-clause-sound : goal.returns-clause-sound
-returns-clause-sound g c clean full = (c.in_ok-it.ensures.sound clean full).it
+returns-clause-sound g c clean full = (c.in_ok-olders.ensures.sound clean full).it

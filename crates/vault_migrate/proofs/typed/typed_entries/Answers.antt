@@ -1,34 +1,32 @@
-use Rattle.std.proofs.Common.{◌≡◌, ◌<◌, ◌^◌, ap, arith, length, map, subst, sym, take, ◌∙◌}
-use Rattle.std.proofs.Math.Seq.{take-length}
-use Rattle.std.proofs.lemmas.List.Elements.{All-push}
-use Rattle.std.specs.List.{All}
-use Rattle.vault_core.specs.Keys.{Bytes}
-use Rattle.vault_core.specs.declared.row.Entry.{Entry}
-use Rattle.vault_migrate.proofs.More.{typed_more}
+use Rattle.std.proofs.Common.{◌≡◌, ◌∙◌, ◌++◌, ◌∷◌, [], List, ap, arith, length, map, refl, reverse, sym}
+use Rattle.vault_migrate.proofs.More.{read_more}
 use Rattle.vault_migrate.specs.Typed.{old_columns, typed_columns}
+use Rattle.vault_verdict.specs.declared.replaced.OldEntry.{OldEntry}
 use Rattle.vault_migrate.proofs.typed.typed_entries.Goals as goal
+
+pub loop-older-preserved-in_ok-push : goal.loop-older-preserved-in_ok-push
+loop-older-preserved-in_ok-push c =
+    read_more c.args.olders.items c.loop-older.left.items c.give_back.new.left.items c.in-Some.older
+    c.loop-older.entries.items c.push.new.self.items c.in_ok-typed.field-0
+    (c.in-Some.ensures.items ∙ ap (λ l. l ++ c.in-Some.older ∷ []) (sym c.give_back.ensures))
+    c.in_ok-push.ensures.items c.loop-older.invariant c.in_ok-typed.ensures.row c.in_ok-typed.ensures.small
 
 pub loop-older-preserved : goal.loop-older-preserved
 loop-older-preserved c =
-    let olders = c.args.olders.now in
-    let i = c.loop-older.older-index in
-    let inside : i < length olders =
-    omega (arith, c.loop-older-test.true, c.loop-older.auto.older-index-end) in
-    let held = c.loop-older.entries.items in
-    let x = c.in_ok-typed.field-0 in
-    let pushed = c.in_ok-push.ensures.items in
-    let Small : Bytes × Bytes × Entry → Type 0 = λ e. e.2.expires < 2 ^ 63 in (
-      typed_more olders i c.older-item.result inside c.older-item.is held x c.loop-older.invariant.0
-          c.in_ok-typed.ensures.row ∙ ap (map typed_columns) (sym pushed),
-      subst (All Small) (sym pushed)
-          (All-push Small held x c.loop-older.invariant.1 c.in_ok-typed.ensures.small),
-    )
+    let left = c.give_back.new.left.items in
+    read_more c.args.olders.items c.loop-older.left.items left c.in-Some.older
+    c.loop-older.entries.items c.push.new.self.items c.in_ok-typed.field-0
+    (c.in-Some.ensures.items ∙ ap (λ l. l ++ c.in-Some.older ∷ []) (sym c.give_back.ensures))
+    c.in_ok-push.ensures.items c.loop-older.invariant c.in_ok-typed.ensures.row c.in_ok-typed.ensures.small
 
 pub returns-clause-rows : goal.returns-clause-rows
 returns-clause-rows c =
-    let all = c.args.olders.now in
-    let whole : take c.loop-older.older-index all ≡ all =
-    ap (λ i. take i all)
-    (let last = c.loop-older.auto.older-index-end in let past = c.loop-older-test.false in
-    omega (arith, last, past)) ∙ take-length all in
-    ap (map old_columns) (sym whole) ∙ c.loop-older.invariant.0
+    let none : c.loop-older.left.items ≡ [] = empty c.loop-older.left.items
+    (sym c.loop-older.left.ok.0 ∙ c.in_default.ensures.cases.0) in
+    c.loop-older.invariant.0
+    ∙ (λ i. map old_columns (none i) ++ map typed_columns (reverse c.loop-older.entries.items))
+    ∙ ap (map typed_columns) (sym c.reverse.ensures.items)
+  where
+    empty : (l : List OldEntry) → length l ≡ 0 → l ≡ []
+    empty [] none = refl
+    empty (o ∷ l) none = absurd (omega (arith, none))

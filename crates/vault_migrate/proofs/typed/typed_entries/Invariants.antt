@@ -1,12 +1,9 @@
-use Rattle.std.proofs.Common.{◌≡◌, ◌<◌, ◌^◌, map, take}
-use Rattle.std.specs.List.{All}
-use Rattle.vault_core.specs.Keys.{Bytes}
-use Rattle.vault_core.specs.declared.row.Entry.{Entry}
-use Rattle.vault_migrate.specs.Typed.{old_columns, typed_columns}
+use Rattle.std.proofs.Common.{length}
+use Rattle.vault_migrate.proofs.More.{AreRead}
 use Rattle.vault_migrate.proofs.typed.typed_entries.Given as goal
 
--- the entries so far are those of the old ones so far
 abbrev pub invariant-loop-older : goal.invariant-loop-older
-invariant-loop-older l =
-    (map old_columns (take l.older-index l.olders) ≡ map typed_columns l.entries.items)
-    × All (λ (x : Bytes × Bytes × Entry). x.2.expires < 2 ^ 63) l.entries.items
+invariant-loop-older l = AreRead l.fn.olders.items l.left.items l.entries.items
+
+abbrev pub decreases-loop-older : goal.decreases-loop-older
+decreases-loop-older l = length l.left.items

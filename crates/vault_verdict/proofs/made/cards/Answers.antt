@@ -1,4 +1,5 @@
-use Rattle.std.proofs.Common.{◌≡◌, ◌<◌, ◌∙◌, ◌∷◌, ◌+◌, ◌++◌, List, [], ap, arith, length, map, sym, subst, take}
+use Rattle.std.proofs.Common.{◌≡◌, ◌<◌, ◌∙◌, ◌∷◌, ◌+◌, ◌++◌, List, [], ap, arith, length, map, sym}
+use Rattle.std.proofs.Common.{subst, take}
 use Rattle.std.proofs.Math.Seq.{take-length}
 use Rattle.std.specs.List.{filter_map}
 use Rattle.vault_verdict.specs.Raw.{card_values}

@@ -24,7 +24,8 @@ returns-in_err-sizes-clause-told g c clean has none =
     let whole = c.from_residual-in_err-sizes.result in
     let failed = c.from_residual-in_err-sizes.ensures.1 in
     all_onward g.S.Store c.args.version c.args.conn.now c.cards.new.conn c.judge_behind.new.conn same
-    c.args.versions.now c.args.index.merchants.now c.args.index.counts.now c.in_ok-olders.field-0.olders.items it.0 it.2
+    c.args.versions.now c.args.index.merchants.now c.args.index.counts.now
+    c.in_ok-olders.field-0.olders.items it.0 it.2
     whole (none_of whole _ _ failed)
     (judges_same g.S.Store c.args.version c.cards.new.conn c.judge_behind.new.conn c.args.versions.now it.0
     _ _ _ _ _ _ _ _ (λ j. (held.0 j).now) (λ j. (held.1 j).now)
@@ -46,7 +47,8 @@ returns-clause-told g c clean has none =
       olders = c.in_ok-olders.field-0.olders;
     }) in
     all_onward g.S.Store c.args.version c.args.conn.now c.cards.new.conn c.judge_behind.new.conn same
-    c.args.versions.now c.args.index.merchants.now c.args.index.counts.now c.in_ok-olders.field-0.olders.items it.0 it.2
+    c.args.versions.now c.args.index.merchants.now c.args.index.counts.now
+    c.in_ok-olders.field-0.olders.items it.0 it.2
     whole refl
     (judges_same g.S.Store c.args.version c.cards.new.conn c.judge_behind.new.conn c.args.versions.now it.0
     _ _ _ _ _ _ _ _ (λ j. (held.0 j).now) (λ j. (held.1 j).now)

@@ -15,4 +15,5 @@ returns-clause-told g c clean has =
     refl (c.in_ok-index.ensures.merchants ∙ c.deref.ensures.value)
     (c.in_ok-index.ensures.counts ∙ c.deref-2.ensures.value)
     (c.judge_cards.ensures.told clean has
-    (subst (λ m. HoldCards m index.cards []) (sym c.in_ok-index.ensures.merchants) c.in_ok-index.ensures.cards))
+    (subst (λ m. HoldCards m index.cards []) (sym c.in_ok-index.ensures.merchants)
+    c.in_ok-index.ensures.cards))

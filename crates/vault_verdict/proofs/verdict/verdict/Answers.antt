@@ -154,7 +154,8 @@ returns-clause-unread g c is clean = err_where c.judge_first.result (λ fault fa
       full = subst (λ (v : Version). AreFull v old.trees) (sym is) newer.full;
     } in
     let same = (c.in_ok-versions.ensures.kept (early g c clean) (has_version_in v _ ours.schema)).0.now_is in
-    elim (subst (Comes g c clean) failed (came g c clean ours.schema)) as (λ _. IsUnreadFile g.S.Store old new) [
+    let all = subst (Comes g c clean) failed (came g c clean ours.schema) in
+    elim all as (λ _. IsUnreadFile g.S.Store old new) [
       | inl none ↦ inr (inl (subst (λ db. IsUnreadOne g.S.Store newest db new)
           (next g c clean ours.schema ∙ same)
           (subst (λ (v : Version). IsUnreadOne g.S.Store v (state g.S.Store c.read_first.new.conn).now new) is

@@ -1,24 +1,20 @@
 use Rattle.std.proofs.Common.{◌∙◌, ◌+◌, ◌∷◌, ◌++◌, [], ap, sym, map, subst, rules, w64, SFits}
-use Rattle.std.proofs.Common.{cond, unwrap_or}
 use Rattle.std.proofs.lemmas.Int.{to_z-of_z}
 use Rattle.std.proofs.lemmas.List.{length-append, map-append}
-use Rattle.std.specs.Ordering.{int_eq}
 use Rattle.vault_rules.proofs.EntriesTaken.{card_used, card_unused}
 use Rattle.vault_rules.proofs.entries.Entries.take.Goals as goal
-use Rattle.vault_rules.specs.Index.{at_id}
 use Rattle.vault_rules.specs.Rising.{IsRisingOver}
 use Rattle.vault_rules.specs.Seen.{AreLive, HoldTokens, KeepRules}
 use Rattle.vault_rules.specs.declared.rows.RawEntry.{RawEntry}
 
-pub returns-in_ok-count_one-clause-taken : goal.returns-in_ok-count_one-clause-taken
-returns-in_ok-count_one-clause-taken c cards raws has =
+pub returns-in_ok-count_at-clause-taken : goal.returns-in_ok-count_at-clause-taken
+returns-in_ok-count_at-clause-taken c cards raws has =
     let e = c.args.entry.now in
     let merchants = c.args.self.now.index.merchants.now in
     let is = c.found-found.ensures.entry in
     let found = c.found-found.ensures.found cards has.held in
     let numbered : SFits w64 e.rowid = search rules in
-    let card = c.in-Some.card in
-    let fits : SFits w64 card = search rules in
+    let pointed = sym (c.pointed.ensures cards has.held) in
     record {
       held = has.held;
       many = c.in_ok-self.ensures ∙ ap (λ n. n + 1) has.many ∙ sym (length-append raws (e ∷ []));
@@ -32,10 +28,8 @@ returns-in_ok-count_one-clause-taken c cards raws has =
           (c.in_ok-take.ensures merchants cards raws found has.live);
       tokens = subst (λ x. HoldTokens merchants c.take-4.new.self (raws ++ x ∷ [])) is
           (c.in_ok-take-2.ensures merchants cards raws found has.tokens);
-      used = λ id. card_used raws e card id _ _ c.in-Some.is
-          (c.in_ok-count_one.ensures id
-          ∙ ap (λ z. unwrap_or (at_id c.args.self.now.used id) 0 + cond (int_eq z id) 1 0)
-          (to_z-of_z w64 card fits)) (has.used id);
+      used = λ id place there. card_used cards id place there raws e c.in-Some.place _ _
+          (pointed ∙ c.in-Some.is) (c.in_ok-count_at.ensures place) (has.used id place there);
     }
 
 pub returns-in_default-clause-taken : goal.returns-in_default-clause-taken
@@ -58,5 +52,6 @@ returns-in_default-clause-taken c cards raws has =
           (c.in_ok-take.ensures merchants cards raws found has.live);
       tokens = subst (λ x. HoldTokens merchants c.take-4.new.self (raws ++ x ∷ [])) is
           (c.in_ok-take-2.ensures merchants cards raws found has.tokens);
-      used = λ id. card_unused raws e id _ c.in_default.is (has.used id);
+      used = λ id place there. card_unused cards id place there raws e _
+          (sym (c.pointed.ensures cards has.held) ∙ c.in_default.is) (has.used id place there);
     }

@@ -3,7 +3,7 @@ use Rattle.std.proofs.lemmas.List.{drop_all}
 use Rattle.std.specs.List.{list_all}
 use Rattle.vault_rules.specs.Held.{seen_card}
 use Rattle.vault_rules.specs.Kept.{is_used}
-use Rattle.vault_rules.proofs.CardRows.{all_used}
+use Rattle.vault_rules.proofs.CardRows.{all_used, row_there}
 use Rattle.vault_rules.proofs.Walks.{all_on, all_off}
 use Rattle.vault_rules.proofs.rules.cards.have_uses.Goals as goal
 
@@ -13,8 +13,9 @@ returns-then-not-is_card c cards raws has =
     let same = c.deref-card-items.ensures.value in
     let is = rw same at c.card-item.is in
     let inside : c.loop-card.card-index < length kept = omega arith in
+    let there = row_there _ kept cards has.held.kept c.loop-card.card-index c.card-item.result inside is in
     all_off (λ c. is_used raws (seen_card c)) kept c.loop-card.card-index c.card-item.result
-    inside is (sym (c.is_card.ensures cards raws has) ∙ search (c.if-not-is_card.true))
+    inside is (sym (c.is_card.ensures cards raws has there) ∙ search (c.if-not-is_card.true))
     (c.loop-card.invariant cards raws has)
     ∙ all_used _ _ cards raws has.held
 
@@ -24,8 +25,9 @@ loop-card-preserved c cards raws has =
     let same = c.deref-card-items.ensures.value in
     let is = rw same at c.card-item.is in
     let inside : c.loop-card.card-index < length kept = omega arith in
+    let there = row_there _ kept cards has.held.kept c.loop-card.card-index c.card-item.result inside is in
     all_on (λ c. is_used raws (seen_card c)) kept c.loop-card.card-index c.card-item.result
-    inside is (sym (c.is_card.ensures cards raws has) ∙ search (c.if-not-is_card.false))
+    inside is (sym (c.is_card.ensures cards raws has there) ∙ search (c.if-not-is_card.false))
     (c.loop-card.invariant cards raws has)
 
 pub returns : goal.returns
