@@ -64,7 +64,7 @@ PRIMARY KEY (merchant, token)) STRICT;
 CREATE INDEX entries2_card ON entries2 (merchant, card);
 """
 # How many entries go by one statement.
-PIECE = 1000
+PIECE = 500
 PIECES = "DELETE FROM entries WHERE rowid <= ?1"
 EMPTY = """
 DELETE FROM entries;
@@ -84,6 +84,8 @@ INSERT INTO rights4 SELECT caller, merchant, what, NULL FROM rights;
 DELETE FROM rights;
 UPDATE vault SET version = 4 WHERE id = 1;
 """
+# As the program does in a move, no page goes to the log twice in a transaction.
+ALL_PAGES = "PRAGMA cache_size = -4194304"
 READ = "SELECT rowid, merchant, token, number, usage, birth, expires, revoked FROM entries ORDER BY rowid"
 
 
@@ -111,7 +113,7 @@ def move_entries(conn, rows):
     """The step to schema 2, in one transaction: tables, the entries away in pieces, and in anew."""
     conn.execute("BEGIN")
     run(conn, CARDS)
-    for last in range(PIECE, len(rows) + 1, PIECE):
+    for last in range(PIECE, len(rows) + PIECE, PIECE):
         conn.execute(PIECES, (last,))
     run(conn, EMPTY)
     for _, _, token, number, *rest in rows:
@@ -130,6 +132,7 @@ def move(path):
     """Moves a file by Python: the check of its pages, its rows, and then a transaction for each step."""
     start = time.perf_counter()
     conn = same.opened(path)
+    conn.execute(ALL_PAGES)
     assert conn.execute("PRAGMA integrity_check").fetchall() == [("ok",)]
     checked = time.perf_counter() - start
     move_entries(conn, conn.execute(READ).fetchall())

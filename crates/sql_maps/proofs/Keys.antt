@@ -1,6 +1,6 @@
 -- What the tests of a key come to, whatever its columns.
 use Rattle.std.proofs.Common.{◌≡◌, ◌&&◌, ◌||◌, ◌++◌, ℕ, ℤ, zero, suc, Bool, true, false, List, [], ◌∷◌}
-use Rattle.std.proofs.Common.{length, map, cond, refl, sym, ap, ◌∙◌, Some, arith, slice_get, Ordering}
+use Rattle.std.proofs.Common.{length, map, refl, sym, ap, ◌∙◌, Some, arith, slice_get, Ordering}
 use Rattle.std.proofs.lemmas.Bool.{and_parts}
 use Rattle.std.specs.List.{list_all, list_any}
 use Rattle.std.specs.Ordering.{eq_by_cmp}
@@ -90,10 +90,6 @@ conflicts_by indexes t n new row g =
     ∙ agree_are (columns_to (suc n)) row new
 
 -- ---- what a column makes of a value
-
-whole_float : (b : Bool) (v : Value) → cond b v v ≡ v
-whole_float true v = refl
-whole_float false v = refl
 
 cast_fits : (k : Kind) (v : Value) → fits k v ≡ true → cast k v ≡ v
 unfolding unary

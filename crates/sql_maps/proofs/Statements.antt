@@ -37,7 +37,7 @@ use Rattle.sql_maps.specs.Codes.{fit, row_of}
 use Rattle.sql_maps.specs.Rows.{AreRowsOf, put}
 use Rattle.sql_maps.specs.Schema.{Descriptor, table_of, columns_to, is_plain}
 use Rattle.sql_maps.specs.States.{Claim, StandsIn, Within, at_place}
-use Rattle.sql_maps.specs.Texts.{IsWrite, insert, upsert, insert_or_nothing, update, delete, met_update}
+use Rattle.sql_maps.specs.Texts.{IsWrite, insert, upsert, update, delete, met_update}
 use Rattle.sql_maps.specs.Texts.{by_key, eq}
 use Rattle.sql_maps.proofs.Answers.{one_at, passing, shown_as, shows_none, shows_row}
 use Rattle.sql_maps.proofs.ByKey.{at_key, eq_itself, passes_key, row_at, inserted, put_again, removed}
@@ -295,17 +295,3 @@ module _ {s : Schema} (fine : is_plain s ≡ true) {claims : List Claim} {base :
               (ap (λ i. value_cmp (rowid (fresh k x)) (Int i)) same
               ∙ tied_itself value_cmp_total (rowid (fresh k x))))
         ] refl
-
-    -- DO NOTHING, where what may be there is the same
-    pub keep_in : (k : K) (x : X) (width : ℕ) (terms : List Term)
-        → IsWrite s text (insert_or_nothing t.place (suc t.more) width terms)
-        → value_rows params width (length terms / width) terms ≡ (Null ∷ row_of key value k x) ∷ []
-        → held k ≡ Some x ⊎ (held k ≡ None) → IsPut k (Some x)
-    keep_in k x width terms it one either =
-        put_in k x width terms None it one (λ n y is there rows none sound wrote.
-        let same : held k ≡ Some x =
-        elim either [ inl same ↦ same | inr none ↦ let clash = sym is ∙ none in cc ] in
-        put_rows k (Some x) sound [] []
-        (subst (λ l. Wrote s t.table.tree (ids_of l)
-        (map (λ r. cast_row (table_of t.table) (drop 1 r)) l) db new.now) none wrote)
-        (same_held are_rows (put_again (coding t.codes) are_rows k (Some x) same)))

@@ -8,8 +8,8 @@ use Rattle.vault_core.specs.Vault.{Vault as Content}
 use Rattle.vault_core.specs.Yields.{answered_so, given_by, gives_number}
 use Rattle.vault_wire.specs.Messages.{Request, IsMessage, Reads, print_message}
 use Rattle.vault_wire.specs.declared.fault.WireFault.{WireFault}
-use Rattle.vault_http.specs.Exchanges.{Pair, Exchange, AskFirst, commands_of, fault_text, has_close, last_text}
-use Rattle.vault_http.specs.Exchanges.{shown, texts, up_to_close, vault_after}
+use Rattle.vault_http.specs.Exchanges.{Pair, Exchange, AskFirst, commands_of, fault_text, has_close}
+use Rattle.vault_http.specs.Exchanges.{last_text, shown, texts, up_to_close, vault_after}
 use Rattle.vault_http.specs.Passing.{Passage, IsBefore, Keeps, Sends, Stops, Takes}
 use Rattle.vault_http.specs.declared.fault.ServeFault.{ServeFault}
 use Rattle.vault_http.specs.declared.fault.ServeFault.TheVariants as fault

@@ -1,12 +1,11 @@
 -- What the end of one connection leaves of a vault.
 use Rattle.std.proofs.Common.{◌≡◌, ◌≢◌, ℕ, List, [], ◌∷◌, ◌++◌, refl, sym, subst, ap}
 use Rattle.std.proofs.Common.{append-nil, inl, inr}
-use Rattle.std.specs.Prelude.{Bool, Option, None, Result, Ok, Err, MatchResult}
+use Rattle.std.specs.Prelude.{Option, None, Result, Ok, Err, MatchResult}
 use Rattle.std.proofs.lemmas.List.Elements.{All-cons, All-nil}
 use Rattle.vault_core.specs.Vault.{Vault as Content}
 use Rattle.vault_wire.specs.Parts.{Parts}
 use Rattle.vault_http.specs.Exchanges.{Pair, Exchange, AskFirst, shown, up_to_close, vault_after}
-use Rattle.vault_http.specs.Faults.{Failures, Tells, failures}
 use Rattle.vault_http.specs.Passing.{Passage, IsBefore, Keeps, Stops}
 use Rattle.vault_http.specs.Served.{IsServed, IsStopped}
 use Rattle.vault_http.specs.declared.fault.ServeFault.{ServeFault}
@@ -92,15 +91,6 @@ stopped_undecided old new w (e, q) =
       last_asked = is_connection (shown q.messages) s.pairs (s.exchanges ++ s.undecided ∷ []) s.asked;
       left = λ V b. (s.answered V b).1;
     }
-
--- only a store that fails breaks the vault
-pub still_whole : (e : ServeFault) (s r w v s' r' w' v' : Bool) → e ≢ fault.Store
-    → Tells {X = Served} (Err e) (failures s r w v) (failures s' r' w' v') → v' ≡ v
-still_whole fault.Source s r w v s' r' w' v' n t = ap (λ (f : Failures). f.vault) t
-still_whole fault.Read s r w v s' r' w' v' n t = ap (λ (f : Failures). f.vault) t
-still_whole fault.Write s r w v s' r' w' v' n t = ap (λ (f : Failures). f.vault) t
-still_whole fault.Store s r w v s' r' w' v' n t = absurd (n refl)
-still_whole fault.Memory s r w v s' r' w' v' n t = ap (λ (f : Failures). f.vault) t
 
 pub end_kept : (r : Result Served ServeFault) (old new : Option (List ℕ)) (w : Passage) → r ≢ Err fault.Store
     → MatchResult r (IsServed old new w) (IsStopped old new w) → AllKept 1 (vault_part w)

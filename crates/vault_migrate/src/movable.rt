@@ -1,6 +1,5 @@
 //! A vault in an older schema is checked whole before it moves.
-ghost use Rattle.std.specs.Prelude.{◌≡◌, ◌<◌, ◌^◌, ℕ, ℤ, IfErr, IfNone, IfOk, IfSome, OnOk};
-ghost use Rattle.std.specs.List.{All};
+ghost use Rattle.std.specs.Prelude.{◌≡◌, ℕ, ℤ, IfErr, IfNone, IfOk, IfSome, OnOk};
 ghost use Rattle.sqlite.specs.Effect.{IsDatabase};
 ghost use Rattle.sqlite.specs.Held.{state};
 ghost use Rattle.sqlite.specs.State.{HasCleanDisk, IsUnchanged};
@@ -9,7 +8,7 @@ ghost use Rattle.vault_migrate.specs.Moved.{IsOlder};
 ghost use Rattle.vault_schema.specs.Holds.{HoldsIn};
 ghost use Rattle.vault_schema.specs.Stands.{lookups_of};
 ghost use Rattle.vault_schema.specs.Versions.{schema_of};
-ghost use Rattle.vault_steps.specs.Entries.{AreFor};
+ghost use Rattle.vault_steps.specs.Entries.{AreFor, AreStorable, joined};
 ghost use Rattle.vault_verdict.specs.Opened.{IsBrokenIn, IsVersionIn, StandsSoundIn};
 ghost use Rattle.vault_verdict.specs.ReadAs.{IsFullIn};
 ghost use Rattle.vault_verdict.specs.Reading.{IsQuietWhere};
@@ -18,10 +17,8 @@ use crate::typed::typed_entries;
 use sqlite::{Alter, Connection};
 use sqlite_schema::schema::Schema;
 use std::alloc::Global;
-use vault_core::name::MerchantId;
-use vault_core::row::Entry;
-use vault_pan::token::Token;
 use vault_schema::version::Version;
+use vault_steps::entries::Piece;
 use vault_verdict::fault::OpenFault;
 use vault_verdict::verdict::{Judged, verdict};
 
@@ -43,10 +40,10 @@ pub(crate) fn judged<S: Alter>(
     alloc: Global,
     conn: &mut Connection<S>,
     version: Version,
-) -> Result<Vec<(MerchantId, Token, Entry)>, OpenFault>
-    ensures storable { IfOk result (λ xs. All (λ x. x.2.expires < 2 ^ 63) xs.items) }
+) -> Result<Vec<Piece>, OpenFault>
+    ensures storable { IfOk result (λ xs. AreStorable xs.items) }
     ensures given { HasCleanDisk (state S.Store conn.new) → IfOk result (λ xs. (V : Vault)
-        → HoldsIn version V (state S.Store conn.old) → AreFor version xs.items (lookups_of V)) }
+        → HoldsIn version V (state S.Store conn.old) → AreFor version (joined xs.items) (lookups_of V)) }
     ensures held { HasCleanDisk (state S.Store conn.new) → OnOk result ((V : Vault)
         → HoldsIn version V (state S.Store conn.old) → HoldsIn version V (state S.Store conn.new)) }
     ensures live { HasCleanDisk (state S.Store conn.new)

@@ -1,5 +1,6 @@
 //! Old entries as the vault has them.
-ghost use Rattle.std.specs.Prelude.{◌≡◌, ◌≢◌, ◌<◌, ◌^◌, ◌↔◌, ℕ, pos, drop, map, IfErr, IfOk, IsOk};
+ghost use Rattle.std.specs.Prelude.{◌≡◌, ◌≢◌, ◌<◌, ◌^◌, ◌↔◌, ◌++◌, ℕ, pos, drop, length, map};
+ghost use Rattle.std.specs.Prelude.{IfErr, IfOk, IsOk, OnOk};
 ghost use Rattle.std.specs.List.{All};
 ghost use Rattle.vault_core.specs.Name.{IsName};
 ghost use Rattle.vault_core.specs.Numbers.{use_number};
@@ -7,14 +8,16 @@ ghost use Rattle.vault_migrate.specs.Typed.{old_columns, typed_columns};
 ghost use Rattle.vault_verdict.specs.Raw.{int_value, maybe_text_value, old_entry_values};
 ghost use Rattle.vault_pan.specs.CardText.{IsToken};
 ghost use Rattle.vault_schema.specs.Version1.Rows.{entry_columns, number_or_null, text_or_null};
+ghost use Rattle.vault_steps.specs.Entries.{AreStorable, joined};
 
-use std::alloc::Global;
+use std::alloc::{AllocError, Global};
 use vault_core::moment::Moment;
 use vault_core::name::MerchantId;
 use vault_core::row::Entry;
 use vault_core::usage::Use;
 use vault_pan::pan::Pan;
 use vault_pan::token::Token;
+use vault_steps::entries::{PIECE, Piece};
 use vault_verdict::fault::ReadFault;
 use vault_verdict::replaced::OldEntry;
 
@@ -145,35 +148,42 @@ fn typed(
     Ok((merchant, token, entry))
 }
 
-/// How many old entries go until the memory that they took is given back.
-const PIECE: usize = 1000;
-
-/// Gives the memory back that old entries took which went, once a piece of them did.
-fn give_back(left: &mut Vec<OldEntry>)
-    ensures { left.new.items ≡ left.old.items }
-{
-    if left.len() % PIECE == 0 {
-        left.shrink_to_fit();
-    }
-}
-
-/// Old entries, each with its merchant and its token; one that can't be read so is refused. An old entry goes
-/// as soon as it was read, so that no more is kept than either of the lists.
-pub(crate) fn typed_entries(
-    alloc: Global,
-    olders: Vec<OldEntry>,
-) -> Result<Vec<(MerchantId, Token, Entry)>, ReadFault>
-    ensures rows { IfOk result (λ xs. map old_columns olders.items ≡ map typed_columns xs.items) }
+/// Old entries, each with its merchant and its token; one that can't be read so is refused.
+fn typed_piece(alloc: Global, olders: &[OldEntry]) -> Result<Piece, ReadFault>
+    ensures rows { IfOk result (λ xs. map old_columns olders.now ≡ map typed_columns xs.items) }
     ensures storable { IfOk result (λ xs. All (λ x. x.2.expires < 2 ^ 63) xs.items) }
 {
-    let mut left = olders;
-    let mut entries = Vec::new(alloc);
-    while let Some(older) = left.pop() {
+    let mut piece = Vec::with_capacity(alloc, olders.len())?;
+    for older in olders {
         let number = maybe_number_of(&older.number)?;
         let revoked = maybe_moment_of(older.revoked)?;
-        entries.push(typed(&older, number, revoked)?)?;
-        give_back(&mut left);
+        piece.push(typed(older, number, revoked)?)?;
     }
-    entries.reverse();
-    Ok(entries)
+    Ok(piece)
+}
+
+/// Takes the last piece of old entries, and gives back the memory that they took.
+fn last_piece(left: &mut Vec<OldEntry>) -> Result<Vec<OldEntry>, AllocError>
+    ensures all { IfOk result (λ piece. left.old.items ≡ left.new.items ++ piece.items) }
+    ensures less { OnOk result (0 < length left.old.items → length left.new.items < length left.old.items) }
+{
+    let piece = left.split_off(left.len().saturating_sub(PIECE))?;
+    left.shrink_to_fit();
+    Ok(piece)
+}
+
+/// Old entries in pieces, each with its merchant and its token; one that can't be read so is refused. A piece
+/// of old entries goes as soon as it was read, so that no more is kept than either of the lists.
+pub(crate) fn typed_entries(alloc: Global, olders: Vec<OldEntry>) -> Result<Vec<Piece>, ReadFault>
+    ensures rows { IfOk result (λ xs. map old_columns olders.items ≡ map typed_columns (joined xs.items)) }
+    ensures storable { IfOk result (λ xs. AreStorable xs.items) }
+{
+    let mut left = olders;
+    let mut pieces = Vec::new(alloc);
+    while !left.is_empty() {
+        let piece = last_piece(&mut left)?;
+        pieces.push(typed_piece(alloc, piece.as_slice())?)?;
+    }
+    pieces.reverse();
+    Ok(pieces)
 }

@@ -15,8 +15,8 @@ pub enum Cache {
     Large,
     /// 2 MiB, as the command-line shell of SQLite has, for a file that is read through once.
     Small,
-    /// 2 MiB of pages that were read and 16 MiB of written ones, for a file that is read through once and then
-    /// written anew.
+    /// 2 MiB of pages that were read, and all written ones, for a file that is read through once and then
+    /// written anew: no page goes to the log twice in a transaction.
     Moved,
 }
 
@@ -39,7 +39,7 @@ impl Cache {
         match self {
             Cache::Large => LARGE,
             Cache::Small => SMALL,
-            Cache::Moved => LARGE,
+            Cache::Moved => usize::MAX,
         }
     }
 }

@@ -45,13 +45,6 @@ segment-no_slash (b ∷ text) h = by (b == 47) refl h (segment-no_slash text)
     by true q n more = absurd (cc)
     by false q n more = rw q (ap (λ t. b ∷ t) (more n))
 
-pub has_slash-at_slash : (front rest : List ℕ) → has_slash (front ++ 47 ∷ rest) ≡ true
-has_slash-at_slash [] rest = refl
-has_slash-at_slash (b ∷ front) rest =
-    let more = has_slash-at_slash front rest in
-    elim (b == 47) as (λ v. cond v true (has_slash (front ++ 47 ∷ rest)) ≡ true)
-    [ true ↦ refl | false ↦ more ]
-
 pub has_slash-drop : (text : List ℕ) (k : ℕ) → has_slash text ≡ false → has_slash (drop k text) ≡ false
 has_slash-drop text zero h = h
 has_slash-drop [] (suc k) h = refl

@@ -87,6 +87,3 @@ held_by_newest V st it = record {
 
 pub ours_in_newest : (V : Vault) (db : Trees) → AreOurs db V → AreIn newest V db
 ours_in_newest V db a = record { sound = a.sound; stand = record { rows = a.stands; defaults = tt } }
-
-pub ours_by_newest : (V : Vault) (db : Trees) → AreIn newest V db → AreOurs db V
-ours_by_newest V db a = record { sound = a.sound; stands = a.stand.rows }

@@ -140,7 +140,8 @@ module _ (h : Lookups) (base : Database) where
 
   -- some of them go
   pub dropped : (params : Row) {old new : State} → Within v2 (entries_going h) base old → Steps old new
-      → (IsTrue old.in_transaction → (count : ℕ) × ExecutesInside 0 DROP_ENTRIES.now params old new (Ok count))
+      → (IsTrue old.in_transaction → (count : ℕ)
+      × ExecutesInside 0 DROP_ENTRIES.now params old new (Ok count))
       → Within v2 (entries_going h) base new
   dropped params {old} {new} w steps ran =
       let did = ran w.inside in

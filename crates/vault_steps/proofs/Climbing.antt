@@ -1,5 +1,5 @@
 -- Steps one after the other.
-use Rattle.std.proofs.Common.{◌≡◌, ◌⊎◌, inl, inr, List, refl}
+use Rattle.std.proofs.Common.{◌⊎◌, inl, inr, List}
 use Rattle.sqlite.specs.Tree.{Trees}
 use Rattle.vault_core.specs.Keys.{Bytes}
 use Rattle.vault_core.specs.declared.row.Entry.{Entry}
@@ -14,13 +14,6 @@ for_next One xs h = tt
 for_next Two xs h = tt
 for_next Three xs h = tt
 for_next Four xs h = tt
-
--- three steps lead to the newest version
-pub three_steps : (v : Version) → next_of (next_of (next_of v)) ≡ Four
-three_steps One = refl
-three_steps Two = refl
-three_steps Three = refl
-three_steps Four = refl
 
 -- one version or the next is some version
 pub some_of : (v : Version) (h : Lookups) (db : Trees) → AreOf v h db ⊎ AreOf (next_of v) h db

@@ -1,5 +1,7 @@
 -- The entries that a step writes anew.
-use Rattle.std.specs.Prelude.{◌≡◌, List, [], ◌∷◌, Option, Some, None}
+use Rattle.std.specs.Prelude.{◌≡◌, ◌<◌, ◌^◌, List, [], ◌∷◌, Option, Some, None}
+use Rattle.std.specs.Global.{Vec}
+use Rattle.std.specs.List.{All, flat_map}
 use Rattle.sqlite_rules.specs.Lists.{Has}
 use Rattle.sql_maps.specs.Rows.{put}
 use Rattle.vault_core.specs.Keys.{Bytes, entry_cmp}
@@ -8,6 +10,14 @@ use Rattle.sqlite.specs.Tree.{Trees}
 use Rattle.vault_schema.specs.Versions.{AreOf, Lookups}
 use Rattle.vault_schema.specs.declared.version.Version.{Version}
 use Rattle.vault_schema.specs.declared.version.Version.TheVariants.{One, Two, Three, Four}
+
+-- entries in pieces, each with its merchant and its token, in one list
+abbrev pub joined : List (Vec (Bytes × Bytes × Entry)) → List (Bytes × Bytes × Entry)
+joined = flat_map (λ piece. piece.items)
+
+-- the end of each fits into an integer of the database
+abbrev pub AreStorable : List (Vec (Bytes × Bytes × Entry)) → Type 0
+AreStorable = All (λ piece. All (λ x. x.2.expires < 2 ^ 63) piece.items)
 
 -- these are the entries, each with its merchant and its token
 pub record AreEntriesOf (entries : List (Bytes × Bytes × Entry)) (h : Lookups) : Type 0 where

@@ -6,8 +6,9 @@ ghost use Rattle.sqlite.specs.State.{HasCleanDisk};
 ghost use Rattle.sql_maps.specs.States.{Steps};
 ghost use Rattle.vault_cards.specs.Calls.{Makes};
 ghost use Rattle.vault_schema.specs.Versions.{WithinOf};
-ghost use Rattle.vault_steps.specs.Entries.{AreEntriesOf, with_all};
+ghost use Rattle.vault_steps.specs.Entries.{AreEntriesOf, AreStorable, joined, with_all};
 
+use crate::entries::Piece;
 use crate::room::make_room;
 use sqlite::{Alter, Transaction};
 use vault_cards::fault::StoreFault;
@@ -19,7 +20,7 @@ use vault_pan::token::Token;
 use vault_schema::version::Version;
 
 /// Writes new entries, one after the other.
-pub(crate) fn put_entries<S: Alter>(
+fn put_entries<S: Alter>(
     tx: &mut Transaction<'_, S>,
     entries: &[(MerchantId, Token, Entry)],
 ) -> Result<(), StoreFault>
@@ -34,18 +35,31 @@ pub(crate) fn put_entries<S: Alter>(
     Ok(())
 }
 
+/// The same, piece by piece.
+fn put_pieces<S: Alter>(tx: &mut Transaction<'_, S>, pieces: &[Piece]) -> Result<(), StoreFault>
+    requires { AreStorable pieces.now }
+    ensures same_reference { tx.new.conn.ghost_name ≡ tx.old.conn.ghost_name }
+    ensures done { Makes result (state S.Store tx.old.conn.now) (state S.Store tx.new.conn.now)
+        (λ _. Unit {0}) (λ h. record h { entries = with_all (joined pieces.now) h.entries }) }
+{
+    for piece in pieces {
+        put_entries(tx, piece.as_slice())?;
+    }
+    Ok(())
+}
+
 /// All statements of the step, inside a transaction, where these are the entries.
 pub(crate) fn step_up<S: Alter>(
     tx: &mut Transaction<'_, S>,
-    entries: &[(MerchantId, Token, Entry)],
+    pieces: &[Piece],
 ) -> Result<(), StoreFault>
-    requires { All (λ x. x.2.expires < 2 ^ 63) entries.now }
+    requires { AreStorable pieces.now }
     ensures same_reference { tx.new.conn.ghost_name ≡ tx.old.conn.ghost_name }
     ensures steps { Steps (state S.Store tx.old.conn.now) (state S.Store tx.new.conn.now) }
     ensures done { HasCleanDisk (state S.Store tx.new.conn.now) → OnOk result ((base : _) (h : _)
-        → WithinOf Version.One h base (state S.Store tx.old.conn.now) → AreEntriesOf entries.now h
+        → WithinOf Version.One h base (state S.Store tx.old.conn.now) → AreEntriesOf (joined pieces.now) h
         → WithinOf Version.Two h base (state S.Store tx.new.conn.now)) }
 {
-    make_room(tx, entries.len())?;
-    put_entries(tx, entries)
+    make_room(tx, pieces.len())?;
+    put_pieces(tx, pieces)
 }

@@ -9,6 +9,7 @@ ghost use Rattle.vault_schema.specs.Versions.{WithinOf};
 ghost use Rattle.vault_steps.specs.Entries.{without_entries};
 ghost use Rattle.vault_steps.specs.Room.{entries_going, tables_made};
 
+use crate::entries::PIECE;
 use sql_maps::run::step;
 use sqlite::{Alter, Error, Transaction, params};
 use vault_schema::v2::{
@@ -18,9 +19,6 @@ use vault_schema::version::Version;
 
 /// Takes the entries of schema 1 away whose rowids aren't above this one.
 const DROP_ENTRIES: &str = "DELETE FROM entries WHERE rowid <= ?1";
-
-/// How many entries go by one statement: the database keeps their rows in memory until it ends.
-const PIECE: usize = 1000;
 
 /// Makes the tables that come with schema 2.
 fn make_tables<S: Alter>(tx: &mut Transaction<'_, S>) -> Result<(), Error>
@@ -35,24 +33,24 @@ fn make_tables<S: Alter>(tx: &mut Transaction<'_, S>) -> Result<(), Error>
     step(tx, CREATE_ENTRIES_CARD, &[])
 }
 
-/// Takes those of so many entries away that have the first rowids, in pieces. Each of them has its place as its
-/// rowid, where none was ever taken away.
-fn drop_entries<S: Alter>(tx: &mut Transaction<'_, S>, many: usize) -> Result<(), Error>
+/// Takes so many pieces of the entries away, those with the first rowids first: the database keeps the rows
+/// of a statement in memory until it ends. An entry has its place as its rowid, where none ever went.
+fn drop_entries<S: Alter>(tx: &mut Transaction<'_, S>, pieces: usize) -> Result<(), Error>
     ensures same_reference { tx.new.conn.ghost_name ≡ tx.old.conn.ghost_name }
     ensures steps { Steps (state S.Store tx.old.conn.now) (state S.Store tx.new.conn.now) }
     ensures done { HasCleanDisk (state S.Store tx.new.conn.now) → OnOk result ((base : _) (h : _)
         → Within v2 (entries_going h) base (state S.Store tx.old.conn.now)
         → Within v2 (entries_going h) base (state S.Store tx.new.conn.now)) }
 {
-    for piece in 0..many / PIECE {
-        let last = i64::try_from((piece + 1) * PIECE).unwrap_or(i64::MAX);
+    for piece in 0..pieces {
+        let last = i64::try_from((piece + 1).saturating_mul(PIECE)).unwrap_or(i64::MAX);
         step(tx, DROP_ENTRIES, params![last])?;
     }
     Ok(())
 }
 
-/// Makes the tables that come with schema 2, takes the entries away, which are so many, and says the version.
-pub(crate) fn make_room<S: Alter>(tx: &mut Transaction<'_, S>, many: usize) -> Result<(), Error>
+/// Makes the tables that come with schema 2, takes the entries away, in so many pieces, and says the version.
+pub(crate) fn make_room<S: Alter>(tx: &mut Transaction<'_, S>, pieces: usize) -> Result<(), Error>
     ensures same_reference { tx.new.conn.ghost_name ≡ tx.old.conn.ghost_name }
     ensures steps { Steps (state S.Store tx.old.conn.now) (state S.Store tx.new.conn.now) }
     ensures done { HasCleanDisk (state S.Store tx.new.conn.now) → OnOk result ((base : _) (h : _)
@@ -60,7 +58,7 @@ pub(crate) fn make_room<S: Alter>(tx: &mut Transaction<'_, S>, many: usize) -> R
         → IsWithin Version.Two (state S.Store tx.new.conn.now) base (without_entries h)) }
 {
     make_tables(tx)?;
-    drop_entries(tx, many)?;
+    drop_entries(tx, pieces)?;
     step(tx, EMPTY_ENTRIES, &[])?;
     step(tx, SET_VERSION, &[])
 }

@@ -17,10 +17,11 @@ use Rattle.vault_verdict.proofs.Permuted.{apart_permuted}
 use Rattle.vault_verdict.specs.Apart.{AreApart, AreByRowid}
 use Rattle.vault_verdict.specs.Opened.{AreRaws, AreVersions, IsBrokenIn, IsFit, IsLeastBroken, IsNoRefusal}
 use Rattle.vault_verdict.specs.Opened.{AreOldersIn, IsOtherVersion, IsSoundIn, IsVersionIn, StandsSoundIn}
-use Rattle.vault_verdict.specs.Raw.{count_values, merchant_values}
-use Rattle.vault_verdict.specs.ReadAs.{AreEntries, AreFull, AreLonger, IsFullIn, merchants_in}
+use Rattle.vault_verdict.specs.Raw.{count_values, merchant_values, record_values, right_values}
+use Rattle.vault_verdict.specs.ReadAs.{AreEntries, AreFull, AreLonger, IsFullIn, merchants_in, replaced_in}
+use Rattle.vault_verdict.specs.ReadAs.{rights_in}
 use Rattle.vault_verdict.specs.Judging.{AreOnward}
-use Rattle.vault_verdict.specs.Reading.{AreAll, AreCardsIn, AreEntriesIn, AreFirst, AreRightsFull, AreTable}
+use Rattle.vault_verdict.specs.Reading.{AreCardsIn, AreEntriesIn, AreFirst, AreRightsFull, AreTable}
 use Rattle.vault_verdict.specs.Reading.{IsAny, IsOurs}
 use Rattle.vault_verdict.specs.declared.first.First.{First}
 use Rattle.vault_verdict.specs.declared.replaced.OldEntry.{OldEntry}
@@ -100,6 +101,17 @@ rights_full One db full = tt
 rights_full Two db full = tt
 rights_full Three db full = tt
 rights_full Four db full = full.1
+
+-- these are the rows of all tables of a version beside `vault`; of the tables that were replaced, how many
+-- still have rows
+pub record AreAll (v : Version) (db : Database) (olders : List OldEntry) (rows : Rows) : Type 0 where
+  pub merchants : AreTable IsAny (merchants_in v) merchant_values (λ m. m.rowid) db rows.merchants
+  pub counts : AreTable IsAny (λ t. t 3) count_values (λ c. c.rowid) db rows.counts
+  pub cards : AreCardsIn v db olders rows.cards
+  pub entries : AreEntriesIn v db olders rows.entries
+  pub records : AreTable IsAny (λ t. t 8) record_values (λ r. r.rowid) db rows.records
+  pub rights : AreTable (AreRightsFull v) (rights_in v) right_values (λ r. r.rowid) db rows.rights
+  pub replaced : rows.replaced ≡ replaced_in v db.trees
 
 -- rows that were read of a database are all that it has
 pub record AreRead (v : Version) (db : Database) (olders : List OldEntry) (rows : Rows) : Type 0 where

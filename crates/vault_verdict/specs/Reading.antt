@@ -39,7 +39,6 @@ use Rattle.vault_rules.specs.declared.index.Index.{Index}
 use Rattle.vault_rules.specs.declared.records.Records.{Records}
 use Rattle.vault_rules.specs.declared.rows.RawEntry.{RawEntry}
 use Rattle.vault_rules.specs.declared.rows.RawRecord.{RawRecord}
-use Rattle.vault_rules.specs.AllRows.{Rows}
 use Rattle.vault_verdict.specs.declared.replaced.OldEntry.{OldEntry}
 use Rattle.vault_schema.specs.declared.v1.TheConstants as v1
 use Rattle.vault_schema.specs.declared.v2.TheConstants as v2
@@ -283,17 +282,6 @@ abbrev pub IsUnreadFile : {S : Type 0} → Ghosts S → Database → Held S → 
 IsUnreadFile g db new =
     IsUnread g v1.READ_VERSIONS.now version_values db new
     ⊎ (IsUnreadOne g newest db new ⊎ SharesRowid db.trees)
-
--- these are the rows of all tables of a version beside `vault`; of the tables that were replaced, how many
--- still have rows
-pub record AreAll (v : Version) (db : Database) (olders : List OldEntry) (rows : Rows) : Type 0 where
-  pub merchants : AreTable IsAny (merchants_in v) merchant_values (λ m. m.rowid) db rows.merchants
-  pub counts : AreTable IsAny (λ t. t 3) count_values (λ c. c.rowid) db rows.counts
-  pub cards : AreCardsIn v db olders rows.cards
-  pub entries : AreEntriesIn v db olders rows.entries
-  pub records : AreTable IsAny (λ t. t 8) record_values (λ r. r.rowid) db rows.records
-  pub rights : AreTable (AreRightsFull v) (rights_in v) right_values (λ r. r.rowid) db rows.rights
-  pub replaced : rows.replaced ≡ replaced_in v db.trees
 
 -- Whether or not it failed, a call made no doubt of the disk go away, no transaction and no limit; and where
 -- this is so, a crash leaves nothing that it did not leave before.

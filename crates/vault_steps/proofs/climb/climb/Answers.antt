@@ -3,7 +3,7 @@ use Rattle.sqlite.specs.Held.{state}
 use Rattle.sqlite.specs.State.{HasCleanDisk}
 use Rattle.vault_schema.specs.Versions.{HoldsOf}
 use Rattle.vault_schema.specs.declared.version.Version.{Version}
-use Rattle.vault_steps.specs.Entries.{AreFor}
+use Rattle.vault_steps.specs.Entries.{AreFor, joined}
 use Rattle.vault_steps.proofs.Climbing.{for_next, some_of}
 use Rattle.vault_steps.proofs.climb.climb.Goals as goal
 
@@ -17,9 +17,10 @@ returns-in_err-upgrade-2-clause-crash g c clean h held are db left =
     omega (arith, c.upgrade-2.ensures.clean, clean) in
     let one = c.in_ok-upgrade.ensures.done before h held are in
     let is = sym c.next-second.ensures in
+    let all = joined c.args.pieces.now in
     some_of _ h db (c.upgrade-2.ensures.crash clean h
     (subst (λ (v : Version). HoldsOf v h (state g.S.Store c.upgrade.new.conn)) is one)
-    (subst (λ (v : Version). AreFor v c.args.entries.now h) is (for_next c.args.from c.args.entries.now h))
+    (subst (λ (v : Version). AreFor v all h) is (for_next c.args.from all h))
     db left)
 
 pub returns-clause-crash : goal.returns-clause-crash
@@ -30,11 +31,12 @@ returns-clause-crash g c clean h held are db left =
     omega (arith, c.upgrade-2.ensures.clean, second) in
     let one = c.in_ok-upgrade.ensures.done first h held are in
     let is = sym c.next-second.ensures in
+    let all = joined c.args.pieces.now in
     let two = c.in_ok-upgrade-2.ensures.done second h
     (subst (λ (v : Version). HoldsOf v h (state g.S.Store c.upgrade.new.conn)) is one)
-    (subst (λ (v : Version). AreFor v c.args.entries.now h) is (for_next c.args.from c.args.entries.now h))
+    (subst (λ (v : Version). AreFor v all h) is (for_next c.args.from all h))
     in
     let is' = sym c.next-third.ensures in
     some_of _ h db (c.upgrade-3.ensures.crash clean h
     (subst (λ (v : Version). HoldsOf v h (state g.S.Store c.upgrade-2.new.conn)) is' two)
-    (subst (λ (v : Version). AreFor v c.args.entries.now h) is' (for_next _ c.args.entries.now h)) db left)
+    (subst (λ (v : Version). AreFor v all h) is' (for_next _ all h)) db left)

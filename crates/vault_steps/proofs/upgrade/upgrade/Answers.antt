@@ -5,14 +5,14 @@ use Rattle.sqlite.specs.Tree.{Trees}
 use Rattle.sql_maps.proofs.Calls.{as_ok, on_ok}
 use Rattle.vault_schema.specs.Versions.{AreOf, HoldsOf, Lookups, WithinOf, next_of}
 use Rattle.vault_schema.proofs.Versions.{begun, committed, last_commit, wrote}
-use Rattle.vault_steps.specs.Entries.{AreFor}
+use Rattle.vault_steps.specs.Entries.{AreFor, joined}
 use Rattle.vault_steps.proofs.upgrade.upgrade.Given.{Over}
 use Rattle.vault_steps.proofs.upgrade.upgrade.Goals as goal
 
 -- before the commit all statements were run
 ready : (g : Over) (c : goal.After-map_err g) → HasCleanDisk (state g.S.Store c.commit.new.self.0)
     → (h : Lookups) → HoldsOf c.args.from h (state g.S.Store c.args.conn.now)
-    → AreFor c.args.from c.args.entries.now h
+    → AreFor c.args.from (joined c.args.pieces.now) h
     → WithinOf (next_of c.args.from) h (state g.S.Store c.args.conn.now).committed
     (state g.S.Store c.step_from.new.tx.conn.now)
 ready g c late h held are =
@@ -30,7 +30,8 @@ returns-clause-done g c clean =
     let late : HasCleanDisk (state g.S.Store end) = search rules in
     let old = state g.S.Store c.args.conn.now in
     subst (λ x. OnOk c.map_err.result ((h : Lookups) → HoldsOf c.args.from h old
-    → AreFor c.args.from c.args.entries.now h → HoldsOf (next_of c.args.from) h (state g.S.Store x))) same
+    → AreFor c.args.from (joined c.args.pieces.now) h
+    → HoldsOf (next_of c.args.from) h (state g.S.Store x))) same
     (as_ok _ c.commit.result c.map_err.result c.map_err.ensures.variant
     (on_ok c.commit.result (c.commit.ensures.ok late) (λ done h held are.
     committed (next_of c.args.from) h (ready g c late h held are) done.1 c.commit.ensures.survives.limit)))
