@@ -9,6 +9,9 @@ are (5).
 
 migrate.py move FILE moves a file by Python alone, and prints its seconds, those of integrity_check, and the
 peak of its own memory in KiB.
+
+migrate.py file FILE N makes a file of schema 1 with N entries; migrate.py parts FILE does the step to schema 2
+by Python alone, and prints when each part ends, as the program vault_moves does.
 """
 
 import os
@@ -109,15 +112,24 @@ def run(conn, statements):
         conn.execute(statement)
 
 
+def make_room(conn, many):
+    """The tables of schema 2, and the old entries away in pieces."""
+    run(conn, CARDS)
+    for last in range(PIECE, many + PIECE, PIECE):
+        conn.execute(PIECES, (last,))
+    run(conn, EMPTY)
+
+
+def put_entries(conn, rows):
+    for _, _, token, number, *rest in rows:
+        same.add_entry(conn, token, number, rest)
+
+
 def move_entries(conn, rows):
     """The step to schema 2, in one transaction: tables, the entries away in pieces, and in anew."""
     conn.execute("BEGIN")
-    run(conn, CARDS)
-    for last in range(PIECE, len(rows) + PIECE, PIECE):
-        conn.execute(PIECES, (last,))
-    run(conn, EMPTY)
-    for _, _, token, number, *rest in rows:
-        same.add_entry(conn, token, number, rest)
+    make_room(conn, len(rows))
+    put_entries(conn, rows)
     conn.execute("COMMIT")
 
 
@@ -141,6 +153,22 @@ def move(path):
     conn.close()
     spent = time.perf_counter() - start
     print(spent, checked, resource.getrusage(resource.RUSAGE_SELF).ru_maxrss)
+
+
+def time_parts(path):
+    """Does the step to schema 2 by Python, and prints the microseconds until each of its parts has ended."""
+    conn = same.opened(path)
+    conn.execute(ALL_PAGES)
+    start = time.perf_counter()
+    rows = conn.execute(READ).fetchall()
+    read = same.microseconds(start)
+    conn.execute("BEGIN")
+    make_room(conn, len(rows))
+    gone = same.microseconds(start)
+    put_entries(conn, rows)
+    written = same.microseconds(start)
+    conn.execute("COMMIT")
+    print(f"read {read}, gone {gone}, written {written}, done {same.microseconds(start)} microseconds")
 
 
 def copied(base, path):
@@ -202,7 +230,12 @@ def main(program):
 
 
 if __name__ == "__main__":
-    if sys.argv[1:2] == ["move"]:
-        move(sys.argv[2])
+    words = sys.argv[1:]
+    if words[:1] == ["move"]:
+        move(words[1])
+    elif words[:1] == ["file"]:
+        make_file(words[1], int(words[2]))
+    elif words[:1] == ["parts"]:
+        time_parts(words[1])
     else:
         main(settings.program())

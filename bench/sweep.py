@@ -1,10 +1,10 @@
 #!/usr/bin/env python3
-"""Times a sweep through the program: a merchant's tokens in a file, of which half are dead, each purged by a
+"""Times a sweep through the program: a merchant's tokens in a file, of which some are dead, each purged by a
 command of its own. Beside it Python's sqlite3 runs the same statements, and the disk syncs as many pages.
 
 sweep.py [PROGRAM] times the built program, which is crates/vault_cli/out/vault_cli if it is left out. DEAD
-says how many tokens are dead, one line each (10000 30000 100000; the merchant has twice as many), and ROUNDS
-how many rounds there are (3), each side in turn in each.
+says how many tokens are dead, one line each (10000 30000 100000), LIVE how many live ones there are for each
+of them (1), and ROUNDS how many rounds there are (3), each side in turn in each.
 """
 
 import os
@@ -27,7 +27,12 @@ FIND_DEAD = (
 )
 NUMBER_OF = "SELECT number FROM cards2 WHERE id = ?1"
 USES = "SELECT uses FROM cards2 WHERE id = ?1"
+DROP_CARD = "DELETE FROM cards2 WHERE id = ?1"
 LIST = 1000
+
+# In a sweep the program keeps all pages in memory, and lets the log grow as long as the file, within these
+# bounds.
+LEAST_PAGES, LEAST_LOG, MOST = 16777216, 24576000, 268435456
 
 CALLER = "back"
 PURGE = 5
@@ -36,20 +41,20 @@ BORN_DEAD, BORN_LIVE = 1000, 1050
 NOW = BORN_DEAD + LIFE
 
 
-def rows_of(dead):
-    """The rows of a merchant's entries, every other one dead, all of the card with the id 1, and of their
-    records."""
-    for number in range(1, 2 * dead + 1):
-        token, birth = cards.token_for(number, same.NUMBER), BORN_DEAD if number % 2 else BORN_LIVE
+def rows_of(dead, live):
+    """The rows of a merchant's entries, so many live ones behind each dead one, all of the card with the id 1,
+    and of their records."""
+    for number in range(dead * (1 + live)):
+        token, birth = cards.token_for(number + 1, same.NUMBER), BORN_LIVE if number % (1 + live) else BORN_DEAD
         entry = (same.MERCHANT, token, 1, 1, birth, birth + LIFE, None)
-        yield entry, (same.CALLER, number, same.MERCHANT, token, 1)
+        yield entry, (same.CALLER, number + 1, same.MERCHANT, token, 1)
 
 
-def make_file(program, vault, dead):
+def make_file(program, vault, dead, live):
     """The program's own file with such a merchant."""
     filled.make_vault(program, vault, BORN_LIVE, (LIFE, 0), (CALLER, "purge"))
-    card = (1, same.MERCHANT, same.NUMBER, 2 * dead)
-    filled.fill(program, vault, 2 * dead, ([card], *zip(*rows_of(dead))))
+    many = dead * (1 + live)
+    filled.fill(program, vault, many, ([(1, same.MERCHANT, same.NUMBER, many)], *zip(*rows_of(dead, live))))
 
 
 def sweep(program, vault, merchant, purged):
@@ -73,8 +78,10 @@ def purge(conn, token):
     conn.execute(same.ENTRY, (same.MERCHANT, token)).fetchall()
     conn.execute(same.PUT_ENTRY, (same.MERCHANT, token, None, usage, birth, expires, revoked))
     ((uses,),) = conn.execute(USES, (card,)).fetchall()
-    assert uses > 1
-    conn.execute(same.SET_USES, (card, uses - 1))
+    if uses > 1:
+        conn.execute(same.SET_USES, (card, uses - 1))
+    else:
+        conn.execute(DROP_CARD, (card,))
     conn.execute("COMMIT")
 
 
@@ -84,10 +91,20 @@ def list_dead(conn, start):
     return conn.execute(FIND_DEAD, (same.MERCHANT, start, max(moment, NOW), LIST)).fetchall()
 
 
+def opened_whole(vault):
+    """The file with as much in memory and as long a log as the program has in a sweep."""
+    conn = same.opened(vault)
+    length = min(os.path.getsize(vault), MOST)
+    page = conn.execute("PRAGMA page_size").fetchall()[0][0]
+    conn.execute(f"PRAGMA cache_size = -{max(length, LEAST_PAGES) // 1024}")
+    conn.execute(f"PRAGMA wal_autocheckpoint = {max(length, LEAST_LOG) // page}")
+    return conn
+
+
 def sweep_python(vault, dead):
     """The seconds of the same statements, without Python's start and the opening; and those of the lists,
     each from the first token of the one before on."""
-    conn = same.opened(vault)
+    conn = opened_whole(vault)
     first, purged, lists, start = "", 0, 0, time.perf_counter()
     while True:
         listing = time.perf_counter()
@@ -105,23 +122,23 @@ def sweep_python(vault, dead):
     return spent, lists
 
 
-def time_round(program, folder, dead):
+def time_round(program, folder, dead, live):
     """The seconds of the program's sweep without its opening, of Python's, of Python's lists and of the
     opening; and the syncs a second."""
     ours, theirs = str(folder / "vault.db"), str(folder / "python.db")
-    make_file(program, ours, dead)
-    make_file(program, theirs, dead)
+    make_file(program, ours, dead, live)
+    make_file(program, theirs, dead, live)
     os.sync()
     opening = sweep(program, ours, "none", 0)
     swept = sweep(program, ours, same.MERCHANT, dead) - opening
-    assert_sound(program, ours, 2 * dead)
+    assert_sound(program, ours, dead * (1 + live))
     os.sync()
     spent, lists = sweep_python(theirs, dead)
-    assert_sound(program, theirs, 2 * dead)
+    assert_sound(program, theirs, dead * (1 + live))
     return swept, spent, lists, opening, figures.time_disk(folder, min(dead, 1000))
 
 
-def print_line(dead, rounds):
+def print_line(dead, live, rounds):
     """The middle figures of some rounds, with the least and the greatest."""
     ours = [dead / swept for swept, _, _, _, _ in rounds]
     theirs = [dead / spent for _, spent, _, _, _ in rounds]
@@ -132,19 +149,19 @@ def print_line(dead, rounds):
     cells = [figures.middle(ours), figures.middle(theirs), figures.middle(ratios, 2)]
     cells.append(figures.middle(listing, 1))
     cells += [figures.middle(disk), figures.middle(openings, 2)]
-    print(f"| {dead} of {2 * dead} | {' | '.join(cells)} |", flush=True)
+    print(f"| {dead} of {dead * (1 + live)} | {' | '.join(cells)} |", flush=True)
 
 
 def main(program):
-    rounds = settings.number("ROUNDS", 3)
+    rounds, live = settings.number("ROUNDS", 3), settings.number("LIVE", 1)
     print("| Dead | Vault, a second | Python, a second | Ratio | Lists, % | Syncs, a second | Opening, s |")
     print("|---|---|---|---|---|---|---|")
     for dead in settings.numbers("DEAD", "10000 30000 100000"):
         timed = []
         for _ in range(rounds):
             with tempfile.TemporaryDirectory() as name:
-                timed.append(time_round(program, pathlib.Path(name), dead))
-        print_line(dead, timed)
+                timed.append(time_round(program, pathlib.Path(name), dead, live))
+        print_line(dead, live, timed)
 
 
 if __name__ == "__main__":

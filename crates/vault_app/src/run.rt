@@ -25,7 +25,9 @@ use vault_file::check::check_file;
 use vault_file::migrate::migrate_file;
 use vault_file::open::open_vault;
 use vault_jobs::stop::Stop;
+use vault_jobs::task::Task;
 use vault_jobs::told::tell;
+use vault_recover::options::Cache;
 use vault_store::vault::Fault;
 use vault_wire::watched::Watched;
 use vault_words::job::job;
@@ -58,6 +60,15 @@ fn planned<'a, A: AsStr, W: Write>(
     }
 }
 
+/// How much of its file a task keeps in memory: a sweep writes each dead token's rows once, at places without
+/// an order.
+fn cache_for(task: &Task) -> Cache {
+    match task {
+        Task::Sweep(_, _) => Cache::Whole,
+        _ => Cache::Large,
+    }
+}
+
 /// Carries out a plan over the files at its path.
 fn carry_out<S: Start, R: Read, W: Write>(
     rt: &HostRuntime,
@@ -85,7 +96,7 @@ fn carry_out<S: Start, R: Read, W: Write>(
             let (moved, left) = migrate_file(rt, path, start);
             (tell_moved(moved, output), left)
         }
-        Plan::Do(path, task) => match open_vault(rt, path, start) {
+        Plan::Do(path, task) => match open_vault(rt, path, start, cache_for(&task)) {
             Ok(vault) => {
                 let (ending, left) = do_on_file(rt, vault, &task, input, output);
                 (ending, Some(left))

@@ -43,6 +43,7 @@ pub fn open_from<S: Start>(
     rt: &HostRuntime,
     path: &str,
     start: S,
+    cache: Cache,
 ) -> Result<Vault<TablesFrom<S>>, (NotOpened, Option<Connection<FileStore<FileFrom<S>>>>)>
     ensures no_path { IsNoPath path.now → IsErrAnd result (λ e. e.0 ≡ NotOpened.Refused) }
     ensures fresh { IfOk result (λ vault. (is_broken vault ≡ false) × AreFresh (tables_of vault)) }
@@ -58,7 +59,7 @@ pub fn open_from<S: Start>(
         → (V : Content) → Sound V → Keeps (image_at S.Start) V → IsNoVerdict e.0)) }
     ensures left { IfErr result (λ e. IfSome e.1 (LeavesFrom (image_at S.Start))) }
 {
-    let Some(conn) = open_private(rt, path, start, Cache::Large) else {
+    let Some(conn) = open_private(rt, path, start, cache) else {
         return Err((NotOpened::Refused, None));
     };
     match open(rt.alloc(), conn) {
@@ -73,6 +74,7 @@ pub fn open_vault<S: Start>(
     rt: &HostRuntime,
     path: &str,
     start: S,
+    cache: Cache,
 ) -> Result<Vault<TablesFrom<S>>, (NotOpened, Option<FileStore<FileFrom<S>>>)>
     ensures no_path { IsNoPath path.now → IsErrAnd result (λ e. e.0 ≡ NotOpened.Refused) }
     ensures fresh { IfOk result (λ vault. (is_broken vault ≡ false) × AreFresh (tables_of vault)) }
@@ -82,7 +84,7 @@ pub fn open_vault<S: Start>(
         → (V : Content) → Sound V → Keeps (image_at S.Start) V → IsNoVerdict e.0)) }
     ensures left { IfErr result (λ e. IfSome e.1 (Stays (image_at S.Start))) }
 {
-    match open_from(rt, path, start) {
+    match open_from(rt, path, start, cache) {
         Ok(vault) => Ok(vault),
         Err((fault, Some(conn))) => Err((fault, Some(close(conn)))),
         Err((fault, None)) => Err((fault, None)),

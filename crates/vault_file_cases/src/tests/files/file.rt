@@ -8,6 +8,7 @@ use vault_file::check::check_file;
 use vault_file::fault::NotOpened;
 use vault_file::migrate::migrate_file;
 use vault_file::open::{close_files, open_vault};
+use vault_recover::options::Cache;
 use vault_script::case::answer_told;
 use vault_script::told::text;
 
@@ -23,7 +24,7 @@ pub fn refusal(alloc: Global, fault: NotOpened) -> String {
 
 /// What opening a file and closing it again says.
 pub fn opened(rt: &HostRuntime, path: &str) -> String {
-    match open_vault(rt, path, Unknown) {
+    match open_vault(rt, path, Unknown, Cache::Large) {
         Ok(vault) => {
             drop(close_files(vault));
             text(rt.alloc(), "opened")
@@ -66,7 +67,7 @@ pub fn is_refused(rt: &HostRuntime, path: &str) -> bool {
 
 /// Whether they are while the file is open.
 pub fn is_busy(rt: &HostRuntime, path: &str) -> bool {
-    match open_vault(rt, path, Unknown) {
+    match open_vault(rt, path, Unknown, Cache::Large) {
         Ok(vault) => {
             let is_refused = is_refused(rt, path);
             drop(close_files(vault));
@@ -78,7 +79,7 @@ pub fn is_busy(rt: &HostRuntime, path: &str) -> bool {
 
 /// What the vault in a file answers to a line.
 pub fn answered(rt: &HostRuntime, path: &str, line: &str) -> String {
-    match open_vault(rt, path, Unknown) {
+    match open_vault(rt, path, Unknown, Cache::Large) {
         Ok(mut vault) => {
             let told = answer_told(rt.alloc(), &mut vault, line);
             drop(close_files(vault));
