@@ -18,8 +18,8 @@ pub enum Cache {
     /// 2 MiB of pages that were read, and all written ones, for a file that is read through once and then
     /// written anew: no page goes to the log twice in a transaction.
     Moved,
-    /// All of the file up to 256 MiB, and a log as long: for a file whose rows are written once each, at places
-    /// without an order.
+    /// All of the file up to 256 MiB, and a log as long, for a file whose rows are written once each, at
+    /// places without an order.
     Whole,
 }
 
@@ -27,7 +27,7 @@ const LARGE: usize = 16_777_216;
 
 const SMALL: usize = 2_097_152;
 
-/// As much as a file with a million tokens has.
+/// A file with a million tokens, each with its card and its request, has 227 MiB.
 const WHOLE: usize = 268_435_456;
 
 /// How many bytes of pages the log grows by before they are copied into the database file: six times the
@@ -94,8 +94,8 @@ fn sizes_of(rt: &HostRuntime, path: &str) -> io::Result<(usize, usize)>
     Ok((page_size_in(&header), file))
 }
 
-/// The options for the database at a path, by the size of its pages and its length. The salts of the log begin
-/// from a random number.
+/// The options for the database at a path, by the size of its pages and its length. The salts of the log
+/// begin from a random number.
 pub(crate) fn options_for(rt: &HostRuntime, path: &str, cache: Cache) -> io::Result<Options> {
     let (page, file) = sizes_of(rt, path).unwrap_or((NEW_PAGE, 0));
     let seed = RandomState::new(rt)?.hash_one(&0u8);
