@@ -10,8 +10,8 @@ are (5).
 migrate.py move FILE moves a file by Python alone, and prints its seconds, those of integrity_check, and the
 peak of its own memory in KiB.
 
-migrate.py file FILE N makes a file of schema 1 with N entries; migrate.py parts FILE does the step to schema 2
-by Python alone, and prints when each part ends, as the program vault_moves does.
+migrate.py file FILE N makes a file of schema 1 with N entries; migrate.py parts FILE does the step to
+schema 2 by Python alone, and prints when each part ends, as the program vault_moves does.
 """
 
 import os

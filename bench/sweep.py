@@ -42,10 +42,11 @@ NOW = BORN_DEAD + LIFE
 
 
 def rows_of(dead, live):
-    """The rows of a merchant's entries, so many live ones behind each dead one, all of the card with the id 1,
-    and of their records."""
+    """The rows of a merchant's entries, so many live ones behind each dead one, all of the card with the
+    id 1, and of their records."""
     for number in range(dead * (1 + live)):
-        token, birth = cards.token_for(number + 1, same.NUMBER), BORN_LIVE if number % (1 + live) else BORN_DEAD
+        token = cards.token_for(number + 1, same.NUMBER)
+        birth = BORN_LIVE if number % (1 + live) else BORN_DEAD
         entry = (same.MERCHANT, token, 1, 1, birth, birth + LIFE, None)
         yield entry, (same.CALLER, number + 1, same.MERCHANT, token, 1)
 

@@ -11,12 +11,12 @@ from peers.shop import Service, asked, made, token_of
 from shared.runs import run
 from shared.tally import Tally
 
-# A peer, and within how many seconds another one has its answer.
+# A peer, and after how many seconds another one has its answer, at least and at most.
 PEERS = (
-    (slow.a_byte_a_second, 6),
-    (slow.idle, 6),
-    (slow.takes_a_byte_a_second, 6),
-    (slow.a_message_each_four_seconds, 65),
+    (slow.a_byte_a_second, 4, 6),
+    (slow.idle, 4, 6),
+    (slow.takes_a_byte_a_second, 4, 6),
+    (slow.a_message_each_four_seconds, 55, 65),
 )
 
 
@@ -25,8 +25,8 @@ def unlike(found, wanted):
     return "" if found == wanted else f"{found!r}, not {wanted!r}"
 
 
-def behind(program, tally, work, most):
-    """Another peer behind a slow one."""
+def behind(program, tally, work, least, most):
+    """Another peer behind a slow one: it waits for as long as the slow one may take."""
     file = f"{work.__name__}.db"
     made(program, file)
     with Service(program, file) as service:
@@ -37,9 +37,9 @@ def behind(program, tally, work, most):
         seconds, answer = service.answered(7)
         stop.set()
         fault = "no token" if token_of(answer) is None else ""
-        if seconds > most:
+        if not least <= seconds <= most:
             fault = f"{seconds:.1f} s"
-        tally.judge(f"behind {work.__name__}: within {most} s", fault)
+        tally.judge(f"behind {work.__name__}: after {least} to {most} s", fault)
         print(f"behind {work.__name__}: {seconds:.1f} s", flush=True)
     thread.join()
 

@@ -9,6 +9,8 @@ import time
 from shared.runs import must
 
 NUMBER = "4111111111111111"
+# The bytes of a short segment.
+SEGMENT = 536
 
 
 def made(program, file):
@@ -44,10 +46,12 @@ class Service:
         self.process.communicate()
 
     def connect(self, room=None):
-        """A connection; with `room` it takes little before somebody reads."""
+        """A connection; with `room` either side takes little before somebody reads: the service's own room
+        for answers is some of the peer's segments, which are short."""
         peer = socket.socket()
         if room:
             peer.setsockopt(socket.SOL_SOCKET, socket.SO_RCVBUF, room)
+            peer.setsockopt(socket.IPPROTO_TCP, socket.TCP_MAXSEG, SEGMENT)
         peer.settimeout(100)
         peer.connect(("127.0.0.1", self.port))
         peer.setsockopt(socket.IPPROTO_TCP, socket.TCP_NODELAY, 1)

@@ -1,0 +1,58 @@
+"""The whole trial: python3 -m sizes PROGRAM"""
+
+import os
+import sys
+
+from shared.runs import must
+from shared.tally import Tally
+from sizes.shop import NOW, made, number_at
+
+FILE = "shop.db"
+MANY, DEAD, ROWS = 120_000, 10_000, 4000
+
+# How many bytes a token a check and a move may take, where each token has a card of its own.
+CHECKED, MOVED = 300, 650
+# How long a log may be, with the heads of its pages: it is copied back at 24,576,000 bytes of pages. In a
+# sweep that is the length of the file, which is greater here.
+LOG = 26_000_000
+
+
+def judge_peak(program, tally, words, line, most):
+    """A job says this line, and takes no more than so many bytes a token."""
+    said, peak = must(sys.executable, "-m", "sizes.peak", program, *words).out.decode().splitlines()
+    taken = int(peak) * 1024 // MANY
+    print(f"{words[0]}: {taken} bytes a token", flush=True)
+    tally.judge(words[0], "" if said == line else said)
+    tally.judge(f"memory of {words[0]}", "" if taken <= most else f"{taken} bytes a token, not {most}")
+
+
+def logged(program, *words, given=b""):
+    """The last line of a job, and the length of the log that it leaves."""
+    line = must(program, *words, given=given).out.decode().splitlines()[-1]
+    length = os.path.getsize(f"{FILE}-wal")
+    print(f"{words[0]}: a log of {length} bytes", flush=True)
+    return line, length
+
+
+def logs(program, tally):
+    """The log of a batch, and that of a sweep."""
+    rows = "".join(f"{MANY + place},{number_at(MANY + place)},single\n" for place in range(1, ROWS + 1))
+    given = f"request,number,use\n{rows}".encode()
+    _, length = logged(program, "batch", "--now", NOW, FILE, "till-1", "shop1", given=given)
+    tally.judge("the log of a batch", "" if length <= LOG else f"{length} bytes")
+    file = os.path.getsize(FILE)
+    line, length = logged(program, "sweep", "--now", NOW, FILE, "back", "shop1")
+    tally.judge("sweep", "" if line == f"purged {DEAD}" else line)
+    tally.judge("the log of a sweep", "" if LOG < file <= length else f"{length} bytes, {file} of the file")
+
+
+def main(program):
+    tally = Tally()
+    made(FILE, MANY, DEAD)
+    judge_peak(program, tally, ("migrate", FILE), "schema 4", MOVED)
+    judge_peak(program, tally, ("check", FILE), f"sound 1 {MANY} {MANY}", CHECKED)
+    logs(program, tally)
+    tally.end()
+
+
+main(*sys.argv[1:])

@@ -1,0 +1,43 @@
+"""A shop with many tokens, each of another card number and with the record of its request."""
+
+from shared import rows
+from shared.rules import MULTI, RIGHTS, SINGLE, Entry, Merchant, Record, passes
+
+NOW = 1000
+LIFE = 60
+
+
+def completed(front, wanted):
+    """The digits with a last one behind them, with which they pass the card check or, else, fail it."""
+    return next(text for text in (front + last for last in "0123456789") if passes(text) == wanted)
+
+
+def number_at(place):
+    """The card number of a place; they come in no order."""
+    return completed(f"411111{place * 618033989 % 10**9:09}", True)
+
+
+def token_at(place, number):
+    """The token of a place, in no order too."""
+    front = f"{place:011}"[::-1]
+    return next(text for text in (f"{front}{digit}{number[-4:]}" for digit in "01") if not passes(text))
+
+
+def shop_rows(many, dead):
+    """The rows of a shop with so many tokens, of which so many are dead as soon as they are moved; half are
+    multi-use."""
+    found = {("merchant", "shop1"): Merchant(LIFE, LIFE, 6, NOW)}
+    for caller, right in (("till-1", "tokenize"), ("back", "purge")):
+        found["right", caller, "shop1", RIGHTS[right]] = (None,)
+    for place in range(1, many + 1):
+        number = number_at(place)
+        token, use = token_at(place, number), (SINGLE, MULTI)[place % 2]
+        revoked = NOW if place <= dead else None
+        found["entry", "shop1", token] = Entry(number, use, NOW - 1, NOW - 1 + LIFE, revoked)
+        found["record", "till-1", place] = Record("shop1", token, use)
+    return found
+
+
+def made(path, many, dead):
+    """A file of schema 1 with such a shop."""
+    rows.write(path, shop_rows(many, dead), 1)
