@@ -4,7 +4,7 @@ same disk. Each token of the merchant is dead.
 
 turns.py [PROGRAM] times the built program, which is crates/vault_cli/out/vault_cli if it is left out. DEAD
 says how many tokens are dead (100000 1000000), and ROUNDS how many rounds there are (3). The first size is
-what the others are compared with. With a turn of a largest one goes as long a part of a smaller one.
+what the others are compared with. A smaller sweep has turns that are shorter by as much.
 """
 
 import os
@@ -20,6 +20,7 @@ import figures  # noqa: E402, without leaving a folder of its bytecode here
 import same  # noqa: E402
 import settings  # noqa: E402
 import sweep  # noqa: E402
+from sides import assert_sound  # noqa: E402
 
 # The seconds of a turn of the largest sweep.
 TURN = 5.0
@@ -52,12 +53,19 @@ def time_round(program, folder, sizes):
     for vault, dead in zip(files, sizes):
         sweep.make_file(program, vault, dead, 0)
     os.sync()
-    sweeps = [Sweep(program, vault, dead, TURN * dead / max(sizes)) for vault, dead in zip(files, sizes)]
-    going = sweeps
-    while going:
-        going = [one for one in going if one.goes_on()]
-    for one in sweeps:
+    sweeps = []
+    try:
+        for vault, dead in zip(files, sizes):
+            sweeps.append(Sweep(program, vault, dead, TURN * dead / max(sizes)))
+        going = sweeps
+        while going:
+            going = [one for one in going if one.goes_on()]
+    finally:
+        for one in sweeps:
+            one.process.kill()
+    for one, vault in zip(sweeps, files):
         assert one.process.communicate()[0] == f"purged {one.dead}\n".encode()
+        assert_sound(program, vault, one.dead)
     return [one.spent for one in sweeps]
 
 
