@@ -63,7 +63,7 @@ fn move_up<S: Alter>(
 {
     let _settled = conn.is_autocommit();
     let entries = judged(alloc, conn, version)?;
-    match upgrade(conn, version, &entries) {
+    match upgrade(conn, version, entries) {
         Ok(()) => Ok(version.next().number()),
         Err(_) => Err(OpenFault::Store),
     }
@@ -103,7 +103,7 @@ fn climb_up<S: Alter>(
 {
     let _settled = conn.is_autocommit();
     let entries = judged(alloc, conn, version)?;
-    match climb(conn, version, &entries) {
+    match climb(alloc, conn, version, entries) {
         Ok(()) => Ok(NEWEST.number()),
         Err(_) => Err(OpenFault::Store),
     }

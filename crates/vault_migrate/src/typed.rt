@@ -20,6 +20,7 @@ use vault_pan::token::Token;
 use vault_steps::entries::{PIECE, Piece};
 use vault_verdict::fault::ReadFault;
 use vault_verdict::replaced::OldEntry;
+use vault_verdict::text::RowText;
 
 /// The name of a merchant.
 fn merchant_of(text: &str) -> Result<MerchantId, ReadFault>
@@ -54,7 +55,7 @@ fn number_of(text: &str) -> Result<Pan, ReadFault>
 }
 
 /// A card number, or none.
-fn maybe_number_of(text: &Option<String>) -> Result<Option<Pan>, ReadFault>
+fn maybe_number_of(text: &Option<RowText>) -> Result<Option<Pan>, ReadFault>
     ensures { IfOk result (λ number. maybe_text_value text.now ≡ text_or_null number) }
 {
     match text {

@@ -35,12 +35,12 @@ fn put_entries<S: Alter>(
     Ok(())
 }
 
-/// The same, piece by piece.
-fn put_pieces<S: Alter>(tx: &mut Transaction<'_, S>, pieces: &[Piece]) -> Result<(), StoreFault>
-    requires { AreStorable pieces.now }
+/// The same, piece by piece. The memory of each goes as soon as it is written.
+fn put_pieces<S: Alter>(tx: &mut Transaction<'_, S>, pieces: Vec<Piece>) -> Result<(), StoreFault>
+    requires { AreStorable pieces.items }
     ensures same_reference { tx.new.conn.ghost_name ≡ tx.old.conn.ghost_name }
     ensures done { Makes result (state S.Store tx.old.conn.now) (state S.Store tx.new.conn.now)
-        (λ _. Unit {0}) (λ h. record h { entries = with_all (joined pieces.now) h.entries }) }
+        (λ _. Unit {0}) (λ h. record h { entries = with_all (joined pieces.items) h.entries }) }
 {
     for piece in pieces {
         put_entries(tx, piece.as_slice())?;
@@ -51,13 +51,13 @@ fn put_pieces<S: Alter>(tx: &mut Transaction<'_, S>, pieces: &[Piece]) -> Result
 /// All statements of the step, inside a transaction, where these are the entries.
 pub(crate) fn step_up<S: Alter>(
     tx: &mut Transaction<'_, S>,
-    pieces: &[Piece],
+    pieces: Vec<Piece>,
 ) -> Result<(), StoreFault>
-    requires { AreStorable pieces.now }
+    requires { AreStorable pieces.items }
     ensures same_reference { tx.new.conn.ghost_name ≡ tx.old.conn.ghost_name }
     ensures steps { Steps (state S.Store tx.old.conn.now) (state S.Store tx.new.conn.now) }
     ensures done { HasCleanDisk (state S.Store tx.new.conn.now) → OnOk result ((base : _) (h : _)
-        → WithinOf Version.One h base (state S.Store tx.old.conn.now) → AreEntriesOf (joined pieces.now) h
+        → WithinOf Version.One h base (state S.Store tx.old.conn.now) → AreEntriesOf (joined pieces.items) h
         → WithinOf Version.Two h base (state S.Store tx.new.conn.now)) }
 {
     make_room(tx, pieces.len())?;

@@ -3,9 +3,6 @@ use Rattle.std.proofs.Common.{◌≡◌, pos, List, [], ◌∷◌, drop, map, Op
 use Rattle.std.proofs.Common.{refl, sym, ap, subst, ◌∙◌, arith}
 use Rattle.std.specs.FinMap as finite
 use Rattle.std.specs.List.Sorted.{IsPermutation}
-use Rattle.std.specs.Prelude.{string_bytes}
-use Rattle.std.specs.declared.alloc.Global.{Global}
-use Rattle.std.specs.declared.string.String.{String}
 use Rattle.sqlite.specs.Effect.{Database, IsDatabase}
 use Rattle.sqlite.specs.Tree.{Trees}
 use Rattle.sqlite.specs.declared.types.Value.TheVariants.{Int, Text}
@@ -25,20 +22,22 @@ use Rattle.vault_verdict.proofs.Tables.{old_entries}
 use Rattle.vault_verdict.specs.Made.{as_entry}
 use Rattle.vault_verdict.specs.Raw.{entry_values, int_value, maybe_text_value, old_entry_values}
 use Rattle.vault_verdict.specs.ReadAs.{AreOlders}
+use Rattle.vault_verdict.specs.Texts.{text_bytes}
 use Rattle.vault_verdict.specs.declared.replaced.OldEntry.{OldEntry}
+use Rattle.vault_verdict.specs.declared.text.RowText.{RowText}
 use Rattle.vault_rules.specs.Showing.{Shows, ShowsEntry}
 use Rattle.vault_rules.specs.VaultOf.{AreKeysApart, vault_of}
 use Rattle.vault_rules.specs.AllRows.{Rows}
 use Rattle.vault_schema.specs.Version1.Rows.{entry_row, number_or_null, text_or_null}
 use Rattle.vault_schema.specs.Version1.Tables.{v1}
 
-text_as : (o : Option (String Global))
-    → maybe_text_value o ≡ text_or_null (option_map (λ text. string_bytes text) o)
+text_as : (o : Option RowText)
+    → maybe_text_value o ≡ text_or_null (option_map text_bytes o)
 text_as None = refl
 text_as (Some text) = refl
 
-text_told : (o : Option (String Global)) (n : Option Bytes) → maybe_text_value o ≡ text_or_null n
-    → option_map (λ text. string_bytes text) o ≡ n
+text_told : (o : Option RowText) (n : Option Bytes) → maybe_text_value o ≡ text_or_null n
+    → option_map text_bytes o ≡ n
 text_told None None e = refl
 text_told None (Some n) e = absurd cc
 text_told (Some o) None e = absurd cc
@@ -46,8 +45,8 @@ text_told (Some o) (Some n) e = cc
 
 -- what the columns of an old entry tell
 record IsOldOf (o : OldEntry) (k : Bytes × Bytes) (x : Entry) : Type 0 where
-  merchant : string_bytes o.merchant ≡ k.0
-  token : string_bytes o.token ≡ k.1
+  merchant : text_bytes o.merchant ≡ k.0
+  token : text_bytes o.token ≡ k.1
   number : maybe_text_value o.number ≡ text_or_null x.number
   usage : o.usage ≡ pos (use_number x.usage)
   birth : o.birth ≡ pos x.birth
@@ -91,7 +90,7 @@ module _ (db : Trees) (olders : List OldEntry) (rows : Rows) (are : AreOlders db
           let expires = sym e.2.expires ∙ it.2.expires in (
             old_key o,
             it.0,
-            λ i. Text (string_bytes o.merchant) ∷ Text (string_bytes o.token) ∷ number i ∷ Int (usage i)
+            λ i. Text (text_bytes o.merchant) ∷ Text (text_bytes o.token) ∷ number i ∷ Int (usage i)
                 ∷ Int (birth i) ∷ Int (expires i) ∷ revoked i ∷ [],
             ap (finite.get (vault_of rows).entries) (λ i. (sym e.2.merchant i, sym e.2.token i)) ∙ it.1,
           )

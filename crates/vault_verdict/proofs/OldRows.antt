@@ -4,8 +4,6 @@ use Rattle.std.proofs.Common.{option_map, refl, sym, ap, subst, ◌∙◌, inl, 
 use Rattle.std.proofs.lemmas.Cmp.{tied_itself}
 use Rattle.std.specs.Ordering.{int_eq}
 use Rattle.std.specs.Prelude.{string_bytes}
-use Rattle.std.specs.declared.alloc.Global.{Global}
-use Rattle.std.specs.declared.string.String.{String}
 use Rattle.sqlite.specs.Edit.{id_in}
 use Rattle.sqlite.specs.Order.{Row, value_cmp}
 use Rattle.sqlite.specs.Tree.{Trees, rowid}
@@ -19,7 +17,9 @@ use Rattle.vault_verdict.proofs.InTree.{keys_by_rowid}
 use Rattle.vault_verdict.proofs.Joining.{card_there}
 use Rattle.vault_verdict.proofs.Pointers.{one_number, pointing_are}
 use Rattle.vault_verdict.specs.Raw.{card_values, entry_values, int_value, old_entry_values}
+use Rattle.vault_verdict.specs.Texts.{text_bytes}
 use Rattle.vault_verdict.specs.declared.replaced.OldEntry.{OldEntry}
+use Rattle.vault_verdict.specs.declared.text.RowText.{RowText}
 use Rattle.vault_rules.proofs.Keyed.{find-some, keys_once}
 use Rattle.vault_rules.proofs.Numbers.{int_same}
 use Rattle.vault_rules.specs.Lookups.{card_of, number_of, used_by}
@@ -35,7 +35,7 @@ use Rattle.vault_verdict.specs.ReadAs.{AreOlders}
 
 -- the key of an old entry
 abbrev pub old_key : OldEntry → Bytes × Bytes
-old_key o = (string_bytes o.merchant, string_bytes o.token)
+old_key o = (text_bytes o.merchant, text_bytes o.token)
 
 -- the columns of a key
 abbrev key_in : Row → Row
@@ -43,8 +43,8 @@ key_in r = take 2 (drop 1 r)
 
 -- a row of an entry that was made of an old one
 pub record IsEntryOf (e : RawEntry) (o : OldEntry) : Type 0 where
-  pub merchant : string_bytes e.merchant ≡ string_bytes o.merchant
-  pub token : string_bytes e.token ≡ string_bytes o.token
+  pub merchant : string_bytes e.merchant ≡ text_bytes o.merchant
+  pub token : string_bytes e.token ≡ text_bytes o.token
   pub card : e.card ≡ own_card o
   pub usage : e.usage ≡ o.usage
   pub birth : e.birth ≡ o.birth
@@ -72,8 +72,8 @@ entry_is e o same = record {
 -- a row of a card that was made of an old entry with a number
 pub record IsCardOf (c : RawCard) (o : OldEntry) : Type 0 where
   pub id : c.id ≡ o.rowid
-  pub merchant : string_bytes c.merchant ≡ string_bytes o.merchant
-  pub number : Some (string_bytes c.number) ≡ option_map (λ number. string_bytes number) o.number
+  pub merchant : string_bytes c.merchant ≡ text_bytes o.merchant
+  pub number : Some (string_bytes c.number) ≡ option_map text_bytes o.number
   pub own : own_card o ≡ Some o.rowid
   pub uses : c.uses ≡ pos 1
 
@@ -131,7 +131,7 @@ module _ (db : Trees) (olders : List OldEntry) (rows : Rows) (made : AreOlders d
     | Some text ↦ λ some.
         let it = rw some at same in
         let made : Row =
-        Int o.rowid ∷ Text (string_bytes o.merchant) ∷ Text (string_bytes text) ∷ Int (pos 1) ∷ [] in
+        Int o.rowid ∷ Text (text_bytes o.merchant) ∷ Text (text_bytes text) ∷ Int (pos 1) ∷ [] in
         let is : made ≡ r = cc in
         sym (ap shown_id is)
   ] refl
@@ -204,16 +204,16 @@ module _ (db : Trees) (olders : List OldEntry) (rows : Rows) (made : AreOlders d
           let same = keys_once (λ (x : OldEntry). x.rowid) olders rowids_apart old.0 o old.1 there
           (rowid_of old.0 o.rowid (sym old.2.card ∙ at)) in
           let merchant =
-          old.2.merchant ∙ ap (λ (x : OldEntry). string_bytes x.merchant) same ∙ sym is.merchant in
-          let token = old.2.token ∙ ap (λ (x : OldEntry). string_bytes x.token) same ∙ sym is.token in
+          old.2.merchant ∙ ap (λ (x : OldEntry). text_bytes x.merchant) same ∙ sym is.merchant in
+          let token = old.2.token ∙ ap (λ (x : OldEntry). text_bytes x.token) same ∙ sym is.token in
           λ i. (merchant i, token i)
 
   -- a number has its card
-  pub card_of_old : (o : OldEntry) → Has olders o → (text : String Global) → o.number ≡ Some text
+  pub card_of_old : (o : OldEntry) → Has olders o → (text : RowText) → o.number ≡ Some text
       → (c : RawCard) × Has rows.cards c × IsCardOf c o
   card_of_old o h text some =
       let r : Row =
-      Int o.rowid ∷ Text (string_bytes o.merchant) ∷ Text (string_bytes text) ∷ Int (pos 1) ∷ [] in
+      Int o.rowid ∷ Text (text_bytes o.merchant) ∷ Text (text_bytes text) ∷ Int (pos 1) ∷ [] in
       let given : as_card o ≡ Some r = rw some refl in
       let it = has_mapped card_values rows.cards r
       (subst (λ l. Has l r) made.cards (kept_has as_card olders o r h given)) in
@@ -221,16 +221,16 @@ module _ (db : Trees) (olders : List OldEntry) (rows : Rows) (made : AreOlders d
 
   -- the number of an entry's card is that of the old entry
   pub number_made : (e : RawEntry) (o : OldEntry) → Has olders o → IsEntryOf e o
-      → number_of rows.cards e ≡ option_map (λ text. string_bytes text) o.number
+      → number_of rows.cards e ≡ option_map text_bytes o.number
   number_made e o h is = elim o.number
-      as (λ n. o.number ≡ n → number_of rows.cards e ≡ option_map (λ text. string_bytes text) n) [
+      as (λ n. o.number ≡ n → number_of rows.cards e ≡ option_map text_bytes n) [
         | None ↦ λ none.
             let at : e.card ≡ None = is.card ∙ rw none refl in
             rw at refl
         | Some text ↦ λ some.
             let c = card_of_old o h text some in
             let at : e.card ≡ Some c.0.id = is.card ∙ c.2.own ∙ ap (λ n. Some n) (sym c.2.id) in
-            rw (at, card_found c.0 c.1) (c.2.number ∙ ap (option_map (λ t. string_bytes t)) some)
+            rw (at, card_found c.0 c.1) (c.2.number ∙ ap (option_map text_bytes) some)
       ] refl
 
   -- and that card is of the entry's merchant

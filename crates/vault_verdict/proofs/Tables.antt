@@ -17,6 +17,7 @@ use Rattle.vault_verdict.proofs.Table.{Table}
 use Rattle.vault_verdict.specs.Raw as raw
 use Rattle.vault_rules.specs.VaultOf.{count_key, entry_key, request_key, number_key, natural, right_of}
 use Rattle.vault_rules.specs.declared.rows.RawMerchant.{RawMerchant}
+use Rattle.vault_verdict.specs.Texts.{text_bytes}
 use Rattle.vault_verdict.specs.declared.replaced.OldEntry.{OldEntry}
 use Rattle.vault_rules.specs.declared.rows.RawCount.{RawCount}
 use Rattle.vault_rules.specs.declared.rows.RawEntry.{RawEntry}
@@ -135,7 +136,7 @@ module _ (tables : List SqlTable) (indexes : List Index) where
 abbrev pub old_entries : Table codes.entry_table OldEntry (Bytes × Bytes)
 old_entries = record {
   values = raw.old_entry_values;
-  shown = λ o. (string_bytes o.merchant, string_bytes o.token);
+  shown = λ o. (text_bytes o.merchant, text_bytes o.token);
   shows = λ q. Text q.0 ∷ Text q.1 ∷ [];
   key_of = λ q. q;
   whole = λ e. refl;

@@ -6,6 +6,8 @@ use Rattle.sqlite.specs.declared.types.Value.{Value}
 use Rattle.sqlite.specs.declared.types.Value.TheVariants.{Null, Int, Text}
 use Rattle.sqlite.specs.Order.{Row}
 use Rattle.vault_schema.specs.Version1.Rows.{text_or_null}
+use Rattle.vault_verdict.specs.Texts.{text_bytes}
+use Rattle.vault_verdict.specs.declared.text.RowText.{RowText}
 use Rattle.vault_rules.specs.declared.rows.RawVersion.{RawVersion}
 use Rattle.vault_rules.specs.declared.rows.RawMerchant.{RawMerchant}
 use Rattle.vault_verdict.specs.declared.replaced.RowId.{RowId}
@@ -25,9 +27,13 @@ int_value (Some n) = Int n
 abbrev pub text_value : String Global → Value
 text_value text = Text (string_bytes text)
 
--- a text, or NULL
-abbrev pub maybe_text_value : Option (String Global) → Value
-maybe_text_value text = text_or_null (option_map (λ it. string_bytes it) text)
+-- one of a row that is kept
+abbrev pub row_text_value : RowText → Value
+row_text_value text = Text (text_bytes text)
+
+-- and such a one, or NULL
+abbrev pub maybe_text_value : Option RowText → Value
+maybe_text_value text = text_or_null (option_map text_bytes text)
 
 -- what no raw row shows, or no list of them
 abbrev pub IsStrange : {R T : Type 0} → (R → T) → T → Type 0
@@ -66,8 +72,8 @@ entry_values e =
 -- of `entries`, the table of schema 1
 abbrev pub old_entry_values : OldEntry → Row
 old_entry_values e =
-    Int e.rowid ∷ Text (string_bytes e.merchant) ∷ Text (string_bytes e.token)
-    ∷ maybe_text_value e.number ∷ Int e.usage ∷ Int e.birth ∷ Int e.expires ∷ int_value e.revoked ∷ []
+    Int e.rowid ∷ row_text_value e.merchant ∷ row_text_value e.token ∷ maybe_text_value e.number
+    ∷ Int e.usage ∷ Int e.birth ∷ Int e.expires ∷ int_value e.revoked ∷ []
 
 -- of a table that was replaced, its rowid alone
 abbrev pub id_values : RowId → Row

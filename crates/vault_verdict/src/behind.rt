@@ -30,6 +30,7 @@ pub(crate) struct Behind<'a> {
 
 /// What takes the entries and the records of a version.
 fn taken<'a, S: Alter>(
+    alloc: Global,
     conn: &mut Connection<S>,
     version: Version,
     olders: &[OldEntry],
@@ -45,7 +46,7 @@ fn taken<'a, S: Alter>(
         → IsUnreadOne S.Store version (state S.Store conn.old).now conn.new) }
     ensures reads { Reads (schema_of version) result (state S.Store conn.old) (state S.Store conn.new) }
 {
-    let entries = read::entries(conn, version, olders, start)?;
+    let entries = read::entries(alloc, conn, version, olders, start)?;
     read::records(conn, Records::new(entries))
 }
 
@@ -67,7 +68,7 @@ pub(crate) fn read_behind<'a, S: Alter>(
         → IsUnreadOne S.Store version (state S.Store conn.old).now conn.new) }
     ensures reads { Reads (schema_of version) result (state S.Store conn.old) (state S.Store conn.new) }
 {
-    let records = taken(conn, version, olders, Entries::new(alloc, index))?;
+    let records = taken(alloc, conn, version, olders, Entries::new(alloc, index))?;
     let rights = read::rights(alloc, conn, version)?;
     let replaced = read::replaced(alloc, conn, version)?;
     Ok(Behind {

@@ -1,13 +1,15 @@
 //! The columns of a row as values of Rust.
 ghost use Rattle.std.specs.Prelude.{◌≡◌, ◌≢◌, ◌∷◌, [], refl, Some, None, string_bytes, IfErr, IfOk, OnOk};
 ghost use Rattle.std.proofs.Common.{inl, inr};
-ghost use Rattle.std.proofs.lemmas.Str.{IsUtf8-string_bytes};
+ghost use Rattle.std.proofs.lemmas.Str.{IsUtf8-had, IsUtf8-string_bytes};
 ghost use Rattle.sqlite.specs.Order.{Row as SqlRow};
 ghost use Rattle.sqlite.specs.declared.types.Value.{Value};
 ghost use Rattle.sqlite.specs.declared.types.Value.TheVariants.{Int};
-ghost use Rattle.vault_verdict.specs.Raw.{int_value, maybe_text_value, text_value};
+ghost use Rattle.vault_verdict.specs.Raw.{int_value, maybe_text_value, row_text_value, text_value};
+ghost use Rattle.vault_verdict.specs.Texts.{text_bytes};
 
 use crate::fault::ReadFault;
+use crate::text::RowText;
 use sqlite::Row;
 use sqlite::types::FromSql;
 use std::marker::Model;
@@ -46,14 +48,22 @@ impl Column for Option<i64> {
     ghost readable = { elim [ None ↦ inl refl | Some number ↦ inr (number, refl) ] };
 }
 
-impl Column for Option<String> {
+impl Column for RowText {
+    ghost shows = { row_text_value };
+
+    ghost alone = { λ value read same. same };
+
+    ghost readable = { λ read. (text_bytes read, refl, IsUtf8-had _ read.ok) };
+}
+
+impl Column for Option<RowText> {
     ghost shows = { maybe_text_value };
 
     ghost alone = { λ value. elim [ None ↦ λ same. same | Some text ↦ λ same. same.1 ] };
 
     ghost readable = { elim [
       | None ↦ inl refl
-      | Some text ↦ inr (string_bytes text, refl, IsUtf8-string_bytes text)
+      | Some text ↦ inr (text_bytes text, refl, IsUtf8-had _ text.ok)
     ] };
 }
 

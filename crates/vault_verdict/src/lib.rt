@@ -15,5 +15,6 @@ pub mod read;
 pub mod replaced;
 pub mod sizes;
 mod taken;
+pub mod text;
 pub mod verdict;
 pub mod version;

@@ -9,7 +9,7 @@ ghost use Rattle.vault_rules.specs.declared.rows.RawEntry.{RawEntry as EntryRow}
 
 use crate::fault::ReadFault;
 use crate::replaced::OldEntry;
-use std::alloc::AllocError;
+use std::alloc::{AllocError, Global};
 use vault_rules::entries::Entries;
 use vault_rules::index::Index;
 use vault_rules::rows::{RawCard, RawEntry};
@@ -25,13 +25,13 @@ fn own_card(older: &OldEntry) -> Option<i64>
 }
 
 /// An entry, which points at its own card.
-fn entry_of(older: &OldEntry) -> Result<RawEntry, AllocError>
+fn entry_of(alloc: Global, older: &OldEntry) -> Result<RawEntry, AllocError>
     ensures { IfOk result (λ e. entry_values e ≡ as_entry older.now) }
 {
     Ok(RawEntry {
         rowid: older.rowid,
-        merchant: older.merchant.clone()?,
-        token: older.token.clone()?,
+        merchant: older.merchant.to_string(alloc)?,
+        token: older.token.to_string(alloc)?,
         card: own_card(older),
         usage: older.usage,
         birth: older.birth,
@@ -41,20 +41,24 @@ fn entry_of(older: &OldEntry) -> Result<RawEntry, AllocError>
 }
 
 /// What takes the entries of old ones.
-pub(crate) fn entries<'a>(olders: &[OldEntry], start: Entries<'a>) -> Result<Entries<'a>, ReadFault>
+pub(crate) fn entries<'a>(
+    alloc: Global,
+    olders: &[OldEntry],
+    start: Entries<'a>,
+) -> Result<Entries<'a>, ReadFault>
     ensures { IfOk result (λ it. (raws : List EntryRow) × EntriesTaken start.entry it raws
         × (map as_entry olders.now ≡ map entry_values raws)) }
 {
     let mut entries = start;
     for older in olders {
-        let entry = entry_of(older)?;
+        let entry = entry_of(alloc, older)?;
         entries.take(&entry)?;
     }
     Ok(entries)
 }
 
 /// An entry's own card, where it has a number.
-fn card_of(older: &OldEntry) -> Result<Option<RawCard>, AllocError>
+fn card_of(alloc: Global, older: &OldEntry) -> Result<Option<RawCard>, AllocError>
     ensures { IfOk result (λ card. option_map card_values card ≡ as_card older.now) }
 {
     let Some(number) = &older.number else {
@@ -62,20 +66,24 @@ fn card_of(older: &OldEntry) -> Result<Option<RawCard>, AllocError>
     };
     Ok(Some(RawCard {
         id: older.rowid,
-        merchant: older.merchant.clone()?,
-        number: number.clone()?,
+        merchant: older.merchant.to_string(alloc)?,
+        number: number.to_string(alloc)?,
         uses: 1,
     }))
 }
 
 /// What takes the cards of old entries.
-pub(crate) fn cards<'a>(olders: &[OldEntry], start: Index<'a>) -> Result<Index<'a>, ReadFault>
+pub(crate) fn cards<'a>(
+    alloc: Global,
+    olders: &[OldEntry],
+    start: Index<'a>,
+) -> Result<Index<'a>, ReadFault>
     ensures { IfOk result (λ it. (raws : List CardRow) × CardsTaken start.entry it raws
         × (filter_map as_card olders.now ≡ map card_values raws)) }
 {
     let mut index = start;
     for older in olders {
-        if let Some(card) = card_of(older)? {
+        if let Some(card) = card_of(alloc, older)? {
             index.take(&card)?;
         }
     }

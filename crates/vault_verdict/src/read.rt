@@ -217,7 +217,7 @@ fn first_cards<'a, S: Alter>(
         × AreOldCards (state S.Store conn.old).now it.olders.items raws) }
 {
     let olders = old_entries(alloc, conn)?;
-    let index = made::cards(&olders, start)?;
+    let index = made::cards(alloc, &olders, start)?;
     Ok(WithCards { olders, index })
 }
 
@@ -277,6 +277,7 @@ fn pointing_entries<'a, S: Alter>(
 
 /// What takes the entries of a version, of which those of schema 1 are given.
 pub(crate) fn entries<'a, S: Alter>(
+    alloc: Global,
     conn: &mut Connection<S>,
     version: Version,
     olders: &[OldEntry],
@@ -285,7 +286,7 @@ pub(crate) fn entries<'a, S: Alter>(
     ensures { TakesEntries S.Store version olders.now start.entry result conn.old conn.new }
 {
     match version {
-        Version::One => made::entries(olders, start),
+        Version::One => made::entries(alloc, olders, start),
         Version::Two => pointing_entries(conn, start),
         Version::Three => pointing_entries(conn, start),
         Version::Four => pointing_entries(conn, start),

@@ -4,16 +4,17 @@ ghost use Rattle.vault_verdict.specs.Raw.{id_values, old_entry_values};
 use crate::columns::Columns;
 use crate::fault::ReadFault;
 use crate::raws::Raw;
+use crate::text::RowText;
 use sqlite::Row;
 
 /// A row of `entries`, the table of schema 1.
 #[derive(Drop)]
 pub struct OldEntry {
     pub rowid: i64,
-    pub merchant: String,
-    pub token: String,
+    pub merchant: RowText,
+    pub token: RowText,
     /// NULL where it is purged.
-    pub number: Option<String>,
+    pub number: Option<RowText>,
     pub usage: i64,
     pub birth: i64,
     pub expires: i64,

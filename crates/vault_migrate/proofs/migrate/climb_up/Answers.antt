@@ -11,7 +11,7 @@ returns-in-Ok-clause-moved g c clean V h =
     let early : HasCleanDisk (state g.S.Store c.judged.new.conn) =
     omega (arith, c.climb.ensures.clean, clean) in
     c.in-Ok.ensures.done clean (lookups_of V) (c.in_ok-entries.ensures.held early V h)
-    (rw c.deref.ensures.value (c.in_ok-entries.ensures.given early V h))
+    (c.in_ok-entries.ensures.given early V h)
 
 pub returns-in-Ok-clause-whole : goal.returns-in-Ok-clause-whole
 returns-in-Ok-clause-whole g c clean V h =
@@ -24,14 +24,14 @@ returns-in-Ok-clause-crash g c clean V h =
     let early : HasCleanDisk (state g.S.Store c.judged.new.conn) =
     omega (arith, c.climb.ensures.clean, clean) in
     c.climb.ensures.crash clean (lookups_of V) (c.in_ok-entries.ensures.held early V h)
-    (rw c.deref.ensures.value (c.in_ok-entries.ensures.given early V h))
+    (c.in_ok-entries.ensures.given early V h)
 
-pub returns-clause-crash : goal.returns-clause-crash
-returns-clause-crash g c clean V h =
+pub returns-in-Err-clause-crash : goal.returns-in-Err-clause-crash
+returns-in-Err-clause-crash g c clean V h =
     let early : HasCleanDisk (state g.S.Store c.judged.new.conn) =
     omega (arith, c.climb.ensures.clean, clean) in
     c.climb.ensures.crash clean (lookups_of V) (c.in_ok-entries.ensures.held early V h)
-    (rw c.deref.ensures.value (c.in_ok-entries.ensures.given early V h))
+    (c.in_ok-entries.ensures.given early V h)
 
 pub returns-in-Ok-clause-sound : goal.returns-in-Ok-clause-sound
 returns-in-Ok-clause-sound g c clean full =

@@ -17,10 +17,9 @@ returns-in_err-upgrade-2-clause-crash g c clean h held are db left =
     omega (arith, c.upgrade-2.ensures.clean, clean) in
     let one = c.in_ok-upgrade.ensures.done before h held are in
     let is = sym c.next-second.ensures in
-    let all = joined c.args.pieces.now in
     some_of _ h db (c.upgrade-2.ensures.crash clean h
     (subst (λ (v : Version). HoldsOf v h (state g.S.Store c.upgrade.new.conn)) is one)
-    (subst (λ (v : Version). AreFor v all h) is (for_next c.args.from all h))
+    (subst (λ (v : Version). AreFor v (joined c.new.result.items) h) is (for_next c.args.from _ h))
     db left)
 
 pub returns-clause-crash : goal.returns-clause-crash
@@ -31,12 +30,11 @@ returns-clause-crash g c clean h held are db left =
     omega (arith, c.upgrade-2.ensures.clean, second) in
     let one = c.in_ok-upgrade.ensures.done first h held are in
     let is = sym c.next-second.ensures in
-    let all = joined c.args.pieces.now in
     let two = c.in_ok-upgrade-2.ensures.done second h
     (subst (λ (v : Version). HoldsOf v h (state g.S.Store c.upgrade.new.conn)) is one)
-    (subst (λ (v : Version). AreFor v all h) is (for_next c.args.from all h))
+    (subst (λ (v : Version). AreFor v (joined c.new.result.items) h) is (for_next c.args.from _ h))
     in
     let is' = sym c.next-third.ensures in
     some_of _ h db (c.upgrade-3.ensures.crash clean h
     (subst (λ (v : Version). HoldsOf v h (state g.S.Store c.upgrade-2.new.conn)) is' two)
-    (subst (λ (v : Version). AreFor v all h) is' (for_next _ all h)) db left)
+    (subst (λ (v : Version). AreFor v (joined c.new-2.result.items) h) is' (for_next _ _ h)) db left)

@@ -12,7 +12,7 @@ use Rattle.vault_steps.proofs.upgrade.upgrade.Goals as goal
 -- before the commit all statements were run
 ready : (g : Over) (c : goal.After-map_err g) → HasCleanDisk (state g.S.Store c.commit.new.self.0)
     → (h : Lookups) → HoldsOf c.args.from h (state g.S.Store c.args.conn.now)
-    → AreFor c.args.from (joined c.args.pieces.now) h
+    → AreFor c.args.from (joined c.args.pieces.items) h
     → WithinOf (next_of c.args.from) h (state g.S.Store c.args.conn.now).committed
     (state g.S.Store c.step_from.new.tx.conn.now)
 ready g c late h held are =
@@ -30,7 +30,7 @@ returns-clause-done g c clean =
     let late : HasCleanDisk (state g.S.Store end) = search rules in
     let old = state g.S.Store c.args.conn.now in
     subst (λ x. OnOk c.map_err.result ((h : Lookups) → HoldsOf c.args.from h old
-    → AreFor c.args.from (joined c.args.pieces.now) h
+    → AreFor c.args.from (joined c.args.pieces.items) h
     → HoldsOf (next_of c.args.from) h (state g.S.Store x))) same
     (as_ok _ c.commit.result c.map_err.result c.map_err.ensures.variant
     (on_ok c.commit.result (c.commit.ensures.ok late) (λ done h held are.
