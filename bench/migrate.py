@@ -34,6 +34,7 @@ MIB = 1048576
 # A version that no schema has, as short in its row as one that is known; and how the program refuses it.
 NO_VERSION = 99
 NOT_OPENED = 3
+PAGE = 1024
 
 COLUMNS = (
     ("Entries", "Vault, s", "Python, s", "Vault / Python")
@@ -56,7 +57,7 @@ token TEXT NOT NULL, usage INTEGER NOT NULL, PRIMARY KEY (caller, request)) STRI
 CREATE TABLE rights (caller TEXT NOT NULL, merchant TEXT NOT NULL, what INTEGER NOT NULL, \
 PRIMARY KEY (caller, merchant, what)) STRICT;
 INSERT INTO vault VALUES (1, 1);
-INSERT INTO merchants VALUES ('shop1', 60, 0, 1000);
+INSERT INTO merchants VALUES ('shop1', 60, 60, 1000);
 """
 CARDS = """
 CREATE TABLE cards2 (id INTEGER PRIMARY KEY, merchant TEXT NOT NULL, number TEXT NOT NULL, \
@@ -93,16 +94,19 @@ READ = "SELECT rowid, merchant, token, number, usage, birth, expires, revoked FR
 
 
 def make_file(path, many):
-    """A file of schema 1: a merchant, and two tokens for each number."""
+    """A file of schema 1, with pages as the program makes them: a merchant, and tokens of a card number each,
+    half of them multi-use and all live."""
     conn = sqlite3.connect(path, isolation_level=None)
+    conn.execute(f"PRAGMA page_size = {PAGE}")
     conn.executescript(TABLES)
     conn.execute("BEGIN")
     conn.execute("INSERT INTO counts VALUES ('shop1', 1, ?1)", (many,))
     for place in range(1, many + 1):
-        number = cards.number_of(place // 2)
-        token = cards.token_for(place, number)
-        conn.execute("INSERT INTO entries VALUES ('shop1', ?1, ?2, 1, 1000, 1060, NULL)", (token, number))
-        conn.execute("INSERT INTO records VALUES ('till-1', ?1, 'shop1', ?2, 1)", (place, token))
+        number = cards.number_of(place)
+        token, usage = cards.token_for(place, number), 1 + place % 2
+        entry, record = (token, number, usage), (place, token, usage)
+        conn.execute("INSERT INTO entries VALUES ('shop1', ?1, ?2, ?3, 1000, 1060, NULL)", entry)
+        conn.execute("INSERT INTO records VALUES ('till-1', ?1, 'shop1', ?2, ?3)", record)
     conn.execute("COMMIT")
     conn.close()
 

@@ -8,10 +8,10 @@ from shared.tally import Tally
 from sizes.shop import NOW, made, number_at
 
 FILE = "shop.db"
-MANY, DEAD, ROWS = 120_000, 10_000, 4000
+MANY, DEAD, ROWS = 150_000, 10_000, 4000
 
 # How many bytes a token a check and a move may take, where each token has a card of its own.
-CHECKED, MOVED = 300, 650
+CHECKED, MOVED = 300, 500
 # How long a log may be, with the heads of its pages: it is copied back at 24,576,000 bytes of pages. In a
 # sweep that is the length of the file, which is greater here.
 LOG = 26_000_000

@@ -15,7 +15,7 @@ pub enum Cache {
     Large,
     /// 2 MiB, as the command-line shell of SQLite has, for a file that is read through once.
     Small,
-    /// 2 MiB of pages that were read, and all written ones, for a file that is read through once and then
+    /// 512 KiB of pages that were read, and all written ones, for a file that is read through once and then
     /// written anew: no page goes to the log twice in a transaction.
     Moved,
     /// All of the file up to 256 MiB, and a log as long, for a file whose rows are written once each, at
@@ -26,6 +26,8 @@ pub enum Cache {
 const LARGE: usize = 16_777_216;
 
 const SMALL: usize = 2_097_152;
+
+const LEAST: usize = 524_288;
 
 /// A file with a million tokens, each with its card and its request, has 227 MiB.
 const WHOLE: usize = 268_435_456;
@@ -40,7 +42,7 @@ impl Cache {
         match self {
             Cache::Large => LARGE,
             Cache::Small => SMALL,
-            Cache::Moved => SMALL,
+            Cache::Moved => LEAST,
             Cache::Whole => file.min(WHOLE).max(LARGE),
         }
     }
