@@ -8,7 +8,7 @@ from shared.tally import Tally
 from sizes.shop import NOW, made, number_at
 
 FILE = "shop.db"
-MANY, DEAD, ROWS = 150_000, 10_000, 4000
+MANY, DEAD, ROWS = 120_000, 10_000, 4000
 
 # How many bytes a token a check and a move may take, where each token has a card of its own.
 CHECKED, MOVED = 300, 500
