@@ -1,8 +1,9 @@
 #!/bin/sh
 # package.sh PROGRAM FOLDER
 #
-# Builds a Debian package of the built program in FOLDER: the program, its unit, its man page, completions for
-# bash, the documents, and what stands in this folder as examples. It prints the package's name.
+# Builds a Debian package of the built program in FOLDER, for amd64 alone, as the program is: the program, its
+# units, its man page, completions for bash, the pages for those who run it, and as examples the front, the
+# scripts of this folder and two clients. It prints the package's name.
 #
 # The package makes the user `vault` and the folder /var/lib/vault. It starts nothing, and its removal takes
 # away neither the folder nor a vault's file.
@@ -11,30 +12,46 @@ umask 022
 [ $# -eq 2 ] || { echo "package.sh PROGRAM FOLDER" >&2; exit 2; }
 program=$1
 here=$(cd "$(dirname "$0")" && pwd)
-docs=$(cd "$here/../docs" && pwd)
+top=$(cd "$here/.." && pwd)
 folder=$(cd "$2" && pwd)
 version=$("$program" --version | sed 's/^vault \([0-9.]*\), schema [0-9]*$/\1/')
 root=$(mktemp -d)
 trap 'rm -rf "$root"' EXIT
+chmod 755 "$root"
 
 place() { install -D -m "$1" "$2" "$root$3"; }
 place 755 "$program" /usr/bin/vault
 strip --strip-all "$root/usr/bin/vault"
-place 644 "$here/vault.service" /lib/systemd/system/vault.service
+for unit in vault.service vault-failed.service \
+    vault-backup.service vault-backup-failed.service vault-backup.timer; do
+    place 644 "$here/$unit" "/lib/systemd/system/$unit"
+done
+for step in pause listens backup-now; do
+    place 755 "$here/$step" "/usr/lib/vault/$step"
+done
 place 644 "$here/vault.1" /usr/share/man/man1/vault.1
 gzip -9n "$root/usr/share/man/man1/vault.1"
 place 644 "$here/vault.bash-completion" /usr/share/bash-completion/completions/vault
-for page in OPERATING.md API.md REFUSALS.md openapi.yaml; do
-    [ ! -f "$docs/$page" ] || place 644 "$docs/$page" "/usr/share/doc/vault/$page"
+doc=/usr/share/doc/vault
+for page in OPERATING.md API.md REFUSALS.md PROVED.md MODEL.md TRIALS.md DECISIONS.md openapi.yaml; do
+    place 644 "$top/docs/$page" "$doc/$page"
 done
-place 644 "$here/nginx.conf" /usr/share/doc/vault/examples/nginx.conf
-place 755 "$here/backup.sh" /usr/share/doc/vault/examples/backup.sh
-place 755 "$here/restore.sh" /usr/share/doc/vault/examples/restore.sh
-place 644 "$here/debian/copyright" /usr/share/doc/vault/copyright
+place 644 "$top/SECURITY.md" "$doc/SECURITY.md"
+place 644 "$top/CHANGELOG.md" "$doc/CHANGELOG.md"
+place 644 "$here/nginx.conf" "$doc/examples/nginx.conf"
+place 755 "$top/examples/rebuild.sh" "$doc/examples/rebuild.sh"
+for script in backup.sh restore.sh certificates.sh; do
+    place 755 "$here/$script" "$doc/examples/$script"
+done
+for client in till.py back_office.py; do
+    place 755 "$top/examples/clients/$client" "$doc/examples/clients/$client"
+done
+place 644 "$here/debian/copyright" "$doc/copyright"
+maintainer="Montxugel maintainers <vault@montxugel.example>"
 date=$(LC_ALL=C date -R)
-printf 'vault (%s) stable; urgency=medium\n\n  * See CHANGELOG.md of the source.\n\n -- %s  %s\n' \
-    "$version" "Montxugel maintainers <maintainers@users.noreply.montxugel.example>" "$date" |
-    gzip -9n > "$root/usr/share/doc/vault/changelog.gz"
+printf 'vault (%s) stable; urgency=medium\n\n  * %s\n\n -- %s  %s\n' \
+    "$version" "What changed stands in $doc/CHANGELOG.md." "$maintainer" "$date" |
+    gzip -9n > "$root$doc/changelog.gz"
 
 mkdir "$root/DEBIAN"
 cat > "$root/DEBIAN/control" <<END
@@ -43,14 +60,18 @@ Version: $version
 Section: database
 Priority: optional
 Architecture: amd64
-Maintainer: Montxugel maintainers <maintainers@users.noreply.montxugel.example>
+Maintainer: $maintainer
 Installed-Size: $(du -sk "$root" | cut -f1)
 Depends: adduser, libc6 (>= 2.34)
-Suggests: nginx
+Suggests: nginx, openssl, sqlite3, python3
 Description: keeps card numbers, and gives tokens for them
  A service keeps card numbers in one file. Tills and back offices get tokens
  in their place, and the few that are entitled bring a token back.
+ .
+ Faults are told on the issues page of the repository that this comes from;
+ $doc/SECURITY.md says how a weakness is.
 END
-install -m 755 "$here/debian/postinst" "$here/debian/prerm" "$here/debian/postrm" "$root/DEBIAN/"
+install -m 755 "$here/debian/preinst" "$here/debian/postinst" "$here/debian/prerm" "$here/debian/postrm" \
+    "$root/DEBIAN/"
 dpkg-deb --root-owner-group --build "$root" "$folder/vault_${version}_amd64.deb" > /dev/null
 echo "$folder/vault_${version}_amd64.deb"

@@ -2,15 +2,15 @@
 # Copies the rows of a vault into a new file, in which the program makes the tables. It brings back a file whose
 # tables stand in another order than the program makes them, which `check` refuses by 33: one that was vacuumed,
 # or restored from a dump. One of schema 1, 2 or 3, which `check` and `migrate` refuse by 30 with its version,
-# comes back in the newest schema, 4. sh examples/rebuild.sh OLD NEW [PROGRAM]
+# comes back in the newest schema, 4. rebuild.sh OLD NEW [PROGRAM], where PROGRAM is `vault` if left out
 #
 # OLD keeps its rows, and no other program may have it open. NEW may not be there yet. It ends as `check NEW` does.
 set -eu
 if [ $# -lt 2 ]; then
-    echo "sh examples/rebuild.sh OLD NEW [PROGRAM]" >&2
+    echo "rebuild.sh OLD NEW [PROGRAM]" >&2
     exit 2
 fi
-old=$1 new=$2 program=${3:-$(dirname "$0")/../crates/vault_cli/out/vault_cli}
+old=$1 new=$2 program=${3:-vault}
 if [ ! -f "$old" ] || [ -e "$new" ]; then
     echo "rebuild: OLD has to be a file, and NEW may not be there yet" >&2
     exit 1

@@ -5,28 +5,25 @@ import ssl
 import subprocess
 import sys
 
-from front import certificates
+from front import certificates, guards, subjects
 from front.clients import NUMBER, Client
 from front.load import MESSAGES, Load
 from front.services import Front, Vault
 from shared.runs import run
-from shared.tally import Tally
-
-
-def unlike(found, wanted):
-    """The fault of a value that isn't the wanted one."""
-    return "" if found == wanted else f"{found!r}, not {wanted!r}"
+from shared.tally import Tally, unlike
 
 
 def one_token(tally, port):
-    """A token over TLS, the same again, and its number for who is entitled."""
+    """A token over TLS, the same again, and its number for who is entitled; answers the token."""
     till, back = Client(port, "till-1"), Client(port, "back")
     first = till.token("shop1", 100001)
     tally.judge("a token over TLS", unlike(first.status, 200))
     tally.judge("again, with its number", unlike(till.token("shop1", 100001).body, first.body))
-    target = f"/v1/merchants/shop1/tokens/{first.json()['token']}/number"
+    token = first.json()["token"]
+    target = f"/v1/merchants/shop1/tokens/{token}/number"
     tally.judge("its number", unlike(back.ask("POST", target).json(), {"number": NUMBER}))
     tally.judge("not for a till", unlike(till.ask("POST", target).status, 403))
+    return token
 
 
 def strangers(tally, port):
@@ -68,8 +65,8 @@ def by_merchant(tally, port, program, vaults):
         vault.kill()
     sound = [run(program, "check", vault.file).out for vault in vaults]
     tally.judge("the other vault has it alone", unlike(sound[1], b"sound 1 1 1\n"))
-    # the first token, the load's, and one each of the till and of the batch
-    wanted = f"sound 1 {MESSAGES + 3} {MESSAGES + 3}\n".encode()
+    # the first token, that of the body in chunks, the load's, and one each of the till and of the batch
+    wanted = f"sound 1 {MESSAGES + 4} {MESSAGES + 4}\n".encode()
     tally.judge("the first vault has the others", unlike(sound[0], wanted))
 
 
@@ -97,6 +94,8 @@ def away(tally, port, vault):
     told = answer.status, kind, after, answer.json()
     wanted = 503, "application/json", "1", {"away": True}
     tally.judge("503 with a JSON body while it is away", unlike(told, wanted))
+    typed = Client(port, "back").ask("GET", f"/v1/merchants/shop1/tokens/{NUMBER}").status
+    tally.judge("also to a number in place of a token", unlike(typed, 503))
     vault.start()
 
 
@@ -135,14 +134,23 @@ def main(program, repository):
     certificates.make()
     first, second = Vault(program, "shop1", "till-1"), Vault(program, "shop2", "till-2")
     front = Front(f"{repository}/deploy/nginx.conf", first, second)
+    port = front.port
     try:
-        one_token(tally, front.port)
-        strangers(tally, front.port)
-        refused_by_the_front(tally, front.port)
-        away(tally, front.port, first)
-        under_load(tally, front.port, first)
-        examples(tally, front.port, program, repository, first)
-        by_merchant(tally, front.port, program, (first, second))
+        token = one_token(tally, port)
+        strangers(tally, port)
+        subjects.judge(tally, port)
+        subjects.revoked(tally, port, front)
+        subjects.renewed(tally, port, front)
+        refused_by_the_front(tally, port)
+        guards.typed_wrong(tally, port)
+        guards.bodies(tally, port)
+        guards.by_browsers(tally, port)
+        guards.numbers(tally, port, token)
+        away(tally, port, first)
+        under_load(tally, port, first)
+        examples(tally, port, program, repository, first)
+        guards.logged(tally)
+        by_merchant(tally, port, program, (first, second))
     finally:
         front.end()
         for vault in (first, second):

@@ -1,8 +1,19 @@
-"""Certificates of an authority of the trial's own: the front's, and one for each caller."""
+"""Certificates of authorities of the trial's own: by deploy/certificates.sh, and such as it never makes."""
 
+import os
 import subprocess
 
+SCRIPT = f"{os.path.dirname(os.path.abspath(__file__))}/../../deploy/certificates.sh"
 CALLERS = ("till-1", "till-2", "back", "guest")
+CURVE = ("-newkey", "ec", "-pkeyopt", "ec_paramgen_curve:P-256", "-nodes")
+
+
+def by_script(step, folder, *words):
+    """One step of deploy/certificates.sh, which has to end well; what it says."""
+    ran = subprocess.run(["sh", SCRIPT, step, folder, *words], capture_output=True, text=True)
+    if ran.returncode != 0:
+        raise SystemExit(f"certificates.sh {step}: {ran.stderr}\n0 passed, 1 failed")
+    return ran.stdout
 
 
 def openssl(*words):
@@ -10,26 +21,19 @@ def openssl(*words):
     subprocess.run(["openssl", *words], check=True, capture_output=True)
 
 
-def key_and_request(name, common):
-    """A key, and a request to sign its certificate."""
-    key = ("-newkey", "ec", "-pkeyopt", "ec_paramgen_curve:P-256", "-nodes", "-keyout", f"{name}.key")
-    openssl("req", *key, "-out", f"{name}.csr", "-subj", f"/O=Shops/CN={common}")
-
-
-def signed(name, common, extension=""):
-    """A certificate by the authority for this common name."""
-    key_and_request(name, common)
+def signed(name, subject, purpose="clientAuth"):
+    """A certificate by the authority for any subject, as one might be signed that a caller wrote itself."""
+    openssl("req", *CURVE, "-utf8", "-keyout", f"{name}.key", "-out", f"{name}.csr", "-subj", subject)
     with open(f"{name}.ext", "w") as file:
-        file.write(extension)
-    by = ("-CA", "callers.pem", "-CAkey", "callers.key", "-CAcreateserial", "-days", "2")
+        file.write(f"extendedKeyUsage = {purpose}\n")
+    by = ("-CA", "callers.pem", "-CAkey", "authority.key", "-CAcreateserial", "-days", "2")
     openssl("x509", "-req", "-in", f"{name}.csr", *by, "-extfile", f"{name}.ext", "-out", f"{name}.pem")
 
 
 def make():
     """All that the front and its clients need, in the folder where the trial runs."""
-    own = ("-x509", "-newkey", "ec", "-pkeyopt", "ec_paramgen_curve:P-256", "-nodes", "-days", "2")
-    openssl("req", *own, "-keyout", "callers.key", "-out", "callers.pem", "-subj", "/CN=authority")
-    signed("server", "localhost", "subjectAltName=DNS:localhost\n")
+    by_script("authority", ".")
+    by_script("server", ".", "localhost")
     for caller in CALLERS:
-        signed(caller, caller)
-    signed("nobody", "No Body")
+        by_script("caller", ".", caller)
+    signed("nobody", "/CN=No Body")

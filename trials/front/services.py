@@ -2,6 +2,8 @@
 
 import os
 import re
+import shutil
+import signal
 import socket
 import subprocess
 import time
@@ -48,12 +50,16 @@ class Front:
 
     def __init__(self, configuration, first, second):
         self.port = free_port()
-        folder = os.getcwd()
+        self.folder = folder = os.getcwd()
+        os.mkdir("front-files")
+        for name in ("server.pem", "server.key", "callers.pem", "revoked.pem"):
+            shutil.copy(name, "front-files")
         text = open(configuration).read()
         for old, new in (
-            ("/etc/vault/", f"{folder}/"),
+            ("/etc/vault/", f"{folder}/front-files/"),
             ("/var/log/nginx/", f"{folder}/"),
             ("/run/nginx.pid", f"{folder}/nginx.pid"),
+            ("/run/vault-front", f"{folder}/bodies"),
             ("listen 8443 ssl", f"listen 127.0.0.1:{self.port} ssl"),
             ("127.0.0.1:8087", f"127.0.0.1:{first.port}"),
             ("# ~^/v1/merchants/shop2/ 127.0.0.1:8088", f"~^/v1/merchants/shop2/ 127.0.0.1:{second.port}"),
@@ -78,6 +84,25 @@ class Front:
                 time.sleep(0.05)
         self.process.kill()
         raise SystemExit(f"the front didn't start: {self.process.stderr.read()}\n0 passed, 1 failed")
+
+    def workers(self):
+        """The processes that answer just now."""
+        with open(f"/proc/{self.process.pid}/task/{self.process.pid}/children") as file:
+            return set(file.read().split())
+
+    def take(self, **files):
+        """Gives it other files, as `take(revoked="revoked.pem")`, and reloads it; its old processes are over
+        then."""
+        for name, path in files.items():
+            shutil.copy(path, f"front-files/{name}.pem")
+        before = self.workers()
+        self.process.send_signal(signal.SIGHUP)
+        for _ in range(200):
+            time.sleep(0.05)
+            now = self.workers()
+            if now and not now & before:
+                return
+        raise SystemExit("the front didn't reload\n0 passed, 1 failed")
 
     def end(self):
         self.process.terminate()

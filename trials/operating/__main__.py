@@ -1,83 +1,187 @@
 """The whole trial: python3 -m operating PROGRAM REPOSITORY"""
 
-import json
+import functools
 import os
 import re
 import sqlite3
+import subprocess
 import sys
 
-from operating.page import blocks, run
-from shared.runs import must
-from shared.runs import run as ran
-from shared.tally import Tally
+from operating.machine import Machine
+from operating.page import blocks
+from shared.tally import Tally, unlike
 
-MESSAGE = (
-    b"POST /v1/merchants/shop1/tokens HTTP/1.1\r\nX-Vault-Caller: till-1\r\nX-Vault-Request: %d\r\n"
-    b'Content-Length: 44\r\n\r\n{"number":"4111111111111111","use":"single"}'
-)
+NUMBER = "4111111111111111"
+# What each block says as it is typed, section by section: a pattern that stands in its output.
+SAYS = {
+    "Install": (r"vault [0-9.]*, schema 4",),
+    "The clock": ("",),
+    "The first merchant": (r"^done$", r"^granted 6$", r"^shop1\|20"),
+    "Who may connect": ("",),
+    "Certificates": ("",),
+    "The front": (r"test is successful",),
+    "The first token": (r'^\{"expires":[0-9]+,"token":"[0-9]{12}1111"\}',),
+    "Backup": (r"^file sound 1 1 1\ncopy sound 1 1 1\n/var/backups/vault/vault-",),
+    "Restore": (r"^sound 1 1 1$",),
+    "Upgrade": (r"^schema 4\nsound 1 1 1$",),
+    "A till was stolen": (r"^revoked 1$",),
+    "The authority is renewed": ("", ""),
+    "Alarms": ("",),
+}
 
 
-def token(program, file, request):
-    """The token that a request is answered."""
-    body = ran(program, "pipe", file, given=MESSAGE % request).out.partition(b"\r\n\r\n")[2]
-    return json.loads(body).get("token")
+def typed(tally, machine, page, section):
+    """Types the blocks of a section, and judges how they end and what they say."""
+    for place, (block, wanted) in enumerate(zip(page[section], SAYS[section], strict=True)):
+        well, told = machine.type(block)
+        found = re.search(wanted, told, re.M)
+        tally.judge(f"{section}, block {place + 1}", "" if well and found else told[-400:])
 
 
-def older(repository, file):
+def says(tally, machine, name, text, wanted, well=True, seconds=120):
+    """One more thing that is typed between the blocks."""
+    ended, told = machine.type(text, seconds)
+    found = re.search(wanted, told, re.M)
+    tally.judge(name, "" if ended == well and found else f"{ended}: {told[-400:]}")
+
+
+def as_caller(name, target, folder="/root/authority", more=""):
+    """A request of a caller through the front, as one would type it; its body and status are shown."""
+    keys = f"--cacert {folder}/callers.pem --cert {folder}/{name}.pem --key {folder}/{name}.key"
+    return f"curl -s -w ' %{{http_code}}\\n' {keys} {more} https://localhost:8443/v1/merchants/shop1{target}\n"
+
+
+def listening(tally, machine):
+    """The service listens once `systemctl start` has returned, and to the front and root alone."""
+    ask = "curl -s -H 'X-Vault-Caller: back' http://127.0.0.1:8087/v1/merchants/shop1/audit\n"
+    says(tally, machine, "it listens at once", f"systemctl restart vault && {ask}", '^{"denied":0')
+    says(tally, machine, "not to another user", f"runuser -u nobody -- {ask}", "", well=False)
+    says(tally, machine, "the unit waits for the clock", "systemctl show -p After vault", "time-sync.target")
+
+
+def logs(tally, machine):
+    """A number typed where a token belongs isn't in a log, and the logs are for a few."""
+    says(tally, machine, "a number in place of a token", as_caller("back", f"/tokens/{NUMBER}"), '"refused":3')
+    says(tally, machine, "it is logged masked", "cat /var/log/nginx/vault.log", r"tokens/\*{4}1111. 400")
+    says(tally, machine, "and nowhere whole", f"! grep -r {NUMBER} /var/log/nginx", "")
+    mode = "stat -c '%a %U' /var/log/nginx/vault.log /var/log/nginx/vault-error.log"
+    says(tally, machine, "the logs' modes", mode, r"\A640 www-data\n640 www-data\n\Z")
+    turned = f"logrotate -f /etc/logrotate.d/nginx && {mode}"
+    says(tally, machine, "and once they were turned", turned, r"640 www-data\n640 www-data\n\Z")
+    workers = "for it in $(pidof nginx); do stat -c %U /proc/$it; done | sort | uniq -c"
+    says(tally, machine, "the front's workers have a user", workers, "www-data")
+
+
+def copies(tally, machine):
+    """A copy that lost its log, a second one in the same folder, and the nightly one."""
+    lost = """mkdir -p /root/lost && cp $copy $copy.sound /root/lost && chown -R vault /root/lost && chmod 755 /root
+asvault $examples/restore.sh /root/lost/${copy##*/} /var/lib/vault/lost.db
+"""
+    says(tally, machine, "a copy without its log is refused", lost, "is its log .* missing", well=False)
+    unlisted = "rm /root/lost/*.sound; asvault $examples/restore.sh /root/lost/${copy##*/} /var/lib/vault/lost.db"
+    says(tally, machine, "so is one without its counts", unlisted, "nobody knows what", well=False)
+    says(tally, machine, "a copy beside the service", "asvault $examples/backup.sh $file /var/backups/vault",
+         "stop the service first", well=False)
+    by_night = "systemctl start vault-backup && systemctl is-active vault && ls /var/backups/vault/*.sound | wc -l"
+    says(tally, machine, "the nightly copy", by_night, r"^active\n2$")
+    old = "touch -d '20 days ago' $copy*; systemctl start vault-backup; ls $copy* 2>&1 | head -n 1"
+    says(tally, machine, "an old copy is destroyed", old, "No such file")
+    says(tally, machine, "the timer is on", "systemctl is-enabled vault-backup.timer", "^enabled$")
+
+
+def older(repository, path):
     """Leaves a file of schema 1 with its rows, by the statements of the example that moves one."""
     source = open(f"{repository}/examples/migrated.sh").read()
-    with sqlite3.connect(file) as store:
+    with sqlite3.connect(path) as store:
         for text in re.findall(r"<<'END'\n(.*?)\nEND\n", source, flags=re.S)[:2]:
             store.executescript(text)
     store.close()
 
 
-def judge(tally, name, result, wanted):
-    status, told = result
-    fault = "" if status == 0 and wanted in told else f"status {status}: {told[-300:]}"
-    tally.judge(name, fault)
+def moved(tally, machine, *, page, repository):
+    """The package isn't replaced under a service that runs; a file of schema 1 moves by the same block."""
+    says(tally, machine, "no upgrade under a service", "cd /root; apt-get install -y --reinstall ./vault_*.deb",
+         "stop it first", well=False)
+    says(tally, machine, "the service goes on", "systemctl is-active vault", "^active$")
+    older(repository, f"{machine.folder}/root/older.db")
+    instead = """systemctl stop vault
+mkdir -p /var/lib/vault/kept; mv /var/lib/vault/vault.db* /var/lib/vault/before.db* /var/lib/vault/kept
+install -m 600 -o vault /root/older.db $file
+"""
+    says(tally, machine, "a file of schema 1", instead + "asvault vault check $file", "30 1", well=False)
+    well, told = machine.type(page["Upgrade"][0])
+    tally.judge("it is moved", "" if well and "schema 4" in told else told[-400:])
+    says(tally, machine, "its copy is as it was", "asvault vault check /var/lib/vault/before.db", "30 1", well=False)
+    back = "systemctl stop vault; rm $file*; mv /var/lib/vault/kept/vault.db* /var/lib/vault; systemctl start vault"
+    says(tally, machine, "the shop's file again", back, "")
+
+
+def stolen(tally, machine):
+    """After a till was stolen: its certificate, its right."""
+    says(tally, machine, "it isn't answered", as_caller("till-1", "/audit"), '"front":495. 400')
+    says(tally, machine, "others are", as_caller("back", "/audit"), '"made":1. 200')
+
+
+def alarms(tally, machine):
+    """A service that can't open its file starts less and less often, fails, and tells of it."""
+    limit = """mkdir -p /etc/systemd/system/vault.service.d
+printf '[Unit]\\nStartLimitBurst=4\\n' > /etc/systemd/system/vault.service.d/trial.conf
+systemctl daemon-reload; systemctl stop vault; systemctl reset-failed vault
+mv $file $file.kept; mkdir $file
+! timeout 60 systemctl start vault
+for turn in $(seq 120); do systemctl is-failed vault && break; sleep 0.5; done
+for turn in $(seq 20); do journalctl -t vault-alarm | grep -q failed && break; sleep 0.5; done
+journalctl -u vault -o cat --no-pager; journalctl -t vault-alarm -t vault -o cat --no-pager
+"""
+    says(tally, machine, "a service that can't open fails", limit, "^failed$", seconds=180)
+    says(tally, machine, "its pauses grow", "journalctl -u vault -o cat", r"waits for 2 s[\s\S]*waits for 4 s")
+    says(tally, machine, "the alarm is told", "journalctl -t vault-alarm -o cat", "^vault.service has failed$")
+    well = "rmdir $file; mv $file.kept $file; systemctl reset-failed vault; systemctl start vault"
+    says(tally, machine, "it starts again", f"{well} && systemctl is-active vault", "^active$")
+    killed = """kill -9 $(systemctl show -p MainPID --value vault); sleep 4
+systemctl is-active vault; systemctl show -p NRestarts --value vault
+"""
+    says(tally, machine, "after a kill at once", killed, r"^active\n[1-9]")
+
+
+def removed(tally, machine):
+    """After the package's removal nothing starts at a boot, and the file is there."""
+    says(tally, machine, "it is removed", "apt-get remove -y vault && ls $file", "/var/lib/vault/vault.db$")
+    links = "find /etc/systemd/system -name 'vault*' -type l | wc -l"
+    says(tally, machine, "no unit is left enabled", links, r"^0$")
+
+
+def renewed(tally, machine):
+    """A caller of the new authority, by the front's new certificate."""
+    new = as_caller("back", "/audit", "/root/authority-2")
+    says(tally, machine, "a caller of the new authority", new, '"made":1. 200')
+    says(tally, machine, "one of the old authority", as_caller("back", "/audit", more="-k"), '"front":495. 400')
 
 
 def main(program, repository):
     tally = Tally()
-    folder, repository = f"{os.getcwd()}/var", os.path.abspath(repository)
-    os.mkdir(folder)
-    os.mkdir("bin")
-    os.symlink(program, "bin/vault")
-    os.environ["PATH"] = f"{os.getcwd()}/bin:{os.environ['PATH']}"
+    repository = os.path.abspath(repository)
     page = blocks(f"{repository}/docs/OPERATING.md")
-    file, port = f"{folder}/vault.db", 0
-    must(program, "merchant", file, "shop1", 86400, 0)
-    must(program, "grant", file, "till-1", "shop1", "tokenize")
-    first = token(program, file, 1)
-    run("systemctl start vault", folder, repository, port)
-    judge(tally, "backup", run(page["Backup"][0], folder, repository, port), "sound 1 1 1")
-    run("systemctl stop vault", folder, repository, port)
-    second = token(program, file, 2)
-    run("systemctl start vault", folder, repository, port)
-    judge(tally, "restore", run(page["Restore"][0], folder, repository, port), "sound 1 1 1")
-    run("systemctl stop vault", folder, repository, port)
-    tally.judge("the copy's token", "" if token(program, file, 1) == first else "another one")
-    tally.judge("and not the later one", "" if token(program, file, 2) != second else "the same")
-    again = run(page["Restore"][0].split("\n", 3)[3], folder, repository, port)
-    tally.judge("nothing is written over", "" if "is there already" in again[1] else again[1])
-    upgrade(tally, program, repository, folder, page, port)
+    tally.judge("each block is typed", unlike({it for it in page if page[it]}, set(SAYS)))
+    afterwards = {
+        "Who may connect": listening,
+        "The first token": logs,
+        "Restore": copies,
+        "Upgrade": functools.partial(moved, page=page, repository=repository),
+        "A till was stolen": stolen,
+        "The authority is renewed": renewed,
+        "Alarms": alarms,
+    }
+    package = ["sh", f"{repository}/deploy/package.sh", program, "."]
+    made = subprocess.run(package, check=True, capture_output=True, text=True).stdout.strip()
+    with Machine(f"{os.getcwd()}/machine") as machine:
+        os.rename(made, f"{machine.folder}/root/{os.path.basename(made)}")
+        for section in SAYS:
+            typed(tally, machine, page, section)
+            if section in afterwards:
+                afterwards[section](tally, machine)
+        removed(tally, machine)
     tally.end()
-
-
-def upgrade(tally, program, repository, folder, page, port):
-    """A file of schema 1 moves, and its tokens are as before."""
-    for name in os.listdir(folder):
-        os.remove(f"{folder}/{name}")
-    file = f"{folder}/vault.db"
-    older(repository, file)
-    told = ran(program, "check", file).told
-    tally.judge("an older file is refused", "" if told == "file not opened 30 1" else told)
-    block = page["Upgrade"][0].replace("systemctl stop vault\n", "")
-    judge(tally, "upgrade", run(block, folder, repository, port), "schema 4")
-    run("systemctl stop vault", folder, repository, port)
-    copy = ran(program, "check", f"{folder}/before.db").told
-    tally.judge("the copy is the older file", "" if copy == "file not opened 30 1" else copy)
 
 
 main(*sys.argv[1:])

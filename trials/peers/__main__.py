@@ -9,7 +9,7 @@ import time
 from peers import slow
 from peers.shop import Service, asked, made, token_of
 from shared.runs import run
-from shared.tally import Tally
+from shared.tally import Tally, unlike
 
 # A peer, and after how many seconds another one has its answer, at least and at most.
 PEERS = (
@@ -18,11 +18,6 @@ PEERS = (
     (slow.takes_a_byte_a_second, 4, 6),
     (slow.a_message_each_four_seconds, 55, 65),
 )
-
-
-def unlike(found, wanted):
-    """The fault of a value that isn't the wanted one."""
-    return "" if found == wanted else f"{found!r}, not {wanted!r}"
 
 
 def behind(program, tally, work, least, most):

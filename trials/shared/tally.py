@@ -5,6 +5,11 @@ import sys
 import time
 
 
+def unlike(found, wanted):
+    """The fault of a value that isn't the wanted one."""
+    return "" if found == wanted else f"{found!r}, not {wanted!r}"
+
+
 class Tally:
     """The counts of one script; `end` prints them, and is the script's end."""
 

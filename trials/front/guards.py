@@ -1,0 +1,91 @@
+"""What the front keeps from its logs, its disk and strangers' pages, and how fast numbers go out."""
+
+import http.client
+import os
+import re
+import ssl
+import threading
+
+from front.clients import NUMBER, Client
+from shared.tally import unlike
+
+TOKENS = "/v1/merchants/shop1/tokens"
+# more than wait for their turn
+AT_ONCE = 40
+
+
+def typed_wrong(tally, port):
+    """A card number where none belongs, in each place of a target that a person may put it."""
+    back = Client(port, "back")
+    spaced = " ".join(NUMBER[place : place + 4] for place in range(0, 16, 4)).replace(" ", "%20")
+    for method, target in (
+        ("GET", f"{TOKENS}/{NUMBER}"),
+        ("POST", f"{TOKENS}/{NUMBER}/number"),
+        ("POST", f"{TOKENS}/{NUMBER}/revoke"),
+        ("DELETE", f"{TOKENS}/{spaced}"),
+        ("GET", f"{TOKENS}/{NUMBER}/{NUMBER}"),
+        ("GET", f"{TOKENS}?number={NUMBER}"),
+        ("GET", f"{TOKENS}/{NUMBER}?x={NUMBER}"),
+        ("GET", f"/v1/merchants/{NUMBER}/audit"),
+        ("POST", f"/v1/merchants/{NUMBER}/tokens"),
+        ("GET", f"/{NUMBER}"),
+        ("GET", f"/v1/{'x' * 9000}{NUMBER}"),
+        ("GET", f"/v1//merchants/shop1/tokens/{NUMBER}"),
+    ):
+        status = back.ask(method, target).status
+        tally.judge(f"{method} of a number", "" if status in range(400, 500) else f"status {status}")
+
+
+def logged(tally):
+    """After all that was asked: what the logs say, and that no number of a card or a token is in one."""
+    log, errors = open("vault.log").read(), open("vault-error.log").read()
+    shown = f'back "GET {TOKENS}/****{NUMBER[-4:]}" 400'
+    tally.judge("the line of a number that was typed", "" if shown in log else log[-300:])
+    for name, text in (("log", log), ("error log", errors)):
+        found = re.findall(r"[0-9](?:(?:[ -]|%20)?[0-9]){9,}", re.sub(r"(?m)^[-0-9T:+]{25} ", "", text))
+        tally.judge(f"no number in the {name}", f"{len(found)} of them" if found else "")
+    tally.judge("the error log has no request", "" if "request:" not in errors else errors[-300:])
+
+
+def bodies(tally, port):
+    """A body that comes in as many chunks as it has bytes is answered, and never lies on a disk."""
+    context = ssl.create_default_context(cafile="callers.pem")
+    context.load_cert_chain("till-1.pem", "till-1.key")
+    peer = http.client.HTTPSConnection("localhost", port, context=context, timeout=60)
+    body = f'{{"number":"{NUMBER}",{" " * 2500}"use":"single"}}'.encode()
+    before = os.stat("bodies").st_mtime_ns
+    chunks = (body[place : place + 1] for place in range(len(body)))
+    peer.request("POST", TOKENS, chunks, {"X-Vault-Request": "100010"}, encode_chunked=True)
+    tally.judge("a body in chunks is answered", unlike(peer.getresponse().status, 200))
+    tally.judge("and isn't written to a disk", unlike(os.stat("bodies").st_mtime_ns, before))
+    peer.close()
+
+
+def by_browsers(tally, port):
+    """What a browser sends for another site's page is refused, and nothing is kept by it."""
+    back = Client(port, "back")
+    target = "/v1/merchants/shop1/audit"
+    for site, wanted in (("cross-site", 403), ("same-site", 403), ("same-origin", 200), ("none", 200)):
+        answer = back.ask("GET", target, **{"Sec-Fetch-Site": site})
+        tally.judge(f"a request of {site}", unlike(answer.status, wanted))
+        kept = answer.fields.get("Cache-Control")
+        tally.judge(f"the answer of {site} isn't kept", unlike(kept, "no-store"))
+
+
+def numbers(tally, port, token):
+    """One caller's requests for numbers go five a second, and those beyond the ones that wait are refused."""
+    statuses = []
+
+    def one():
+        statuses.append(Client(port, "back").ask("POST", f"{TOKENS}/{token}/number").status)
+
+    threads = [threading.Thread(target=one) for _ in range(AT_ONCE)]
+    for thread in threads:
+        thread.start()
+    seen = Client(port, "back").ask("GET", "/v1/merchants/shop1/audit").status
+    tally.judge("other requests go on meanwhile", unlike(seen, 200))
+    for thread in threads:
+        thread.join()
+    given = statuses.count(200)
+    tally.judge(f"of {AT_ONCE} numbers at once some 21 are given", "" if 21 <= given <= 27 else f"{given}")
+    tally.judge("and the others refused", unlike(statuses.count(429), AT_ONCE - given))

@@ -1,0 +1,92 @@
+"""An empty Debian that boots beside this machine, and a shell of its root."""
+
+import os
+import signal
+import subprocess
+import time
+
+SUITE = "bookworm"
+# What a machine has before anything is typed.
+EMPTY = "systemd-sysv,dbus,adduser,ca-certificates"
+# What the page installs, which comes without a network once it was fetched.
+FETCHED = ("nginx-light", "openssl", "curl", "sqlite3", "chrony", "nftables", "logrotate", "python3-minimal")
+
+
+def must(*words):
+    """Runs a command of this machine, which has to end well; what it says."""
+    ran = subprocess.run(words, capture_output=True, text=True)
+    if ran.returncode != 0:
+        raise SystemExit(f"{words[0]}: {(ran.stdout + ran.stderr)[-500:]}\n0 passed, 1 failed")
+    return ran.stdout
+
+
+def until(seconds, holds):
+    """Waits until something holds, at most so long; whether it does."""
+    end = time.monotonic() + seconds
+    while not holds():
+        if time.monotonic() > end:
+            return False
+        time.sleep(0.05)
+    return True
+
+
+class Machine:
+    """A booted Debian in a folder, without a network; it is gone at the end of a `with`."""
+
+    def __init__(self, folder):
+        self.folder = folder
+        mirrors = must("apt-get", "indextargets", "--format", "$(REPO_URI)", "Created-By: Packages")
+        must("debootstrap", "--variant=minbase", f"--include={EMPTY}", SUITE, folder, mirrors.split()[0])
+        must("chroot", folder, "apt-get", "update")
+        must("chroot", folder, "apt-get", "install", "-y", "--download-only", *FETCHED)
+        self.boot()
+        self.typed = 0
+
+    def boot(self):
+        words = ["systemd-nspawn", "--quiet", "--register=no", "--keep-unit", "--private-network", "--boot"]
+        self.console = open("console", "w")
+        self.process = subprocess.Popen(
+            [*words, f"--directory={self.folder}", "--machine=vault-trial"],
+            stdin=subprocess.DEVNULL,
+            stdout=self.console,
+            stderr=self.console,
+        )
+        children = f"/proc/{self.process.pid}/task/{self.process.pid}/children"
+        until(10, lambda: open(children).read())
+        self.leader = open(children).read().split()[0]
+        self.inside = ["nsenter", "-t", self.leader, "-m", "-u", "-i", "-n", "-p", "-r", "-w"]
+        is_up = [*self.inside, "systemctl", "is-system-running"]
+        up = ("running\n", "degraded\n")
+        if not until(60, lambda: subprocess.run(is_up, capture_output=True, text=True).stdout in up):
+            raise SystemExit(f"no machine came up: {open('console').read()[-500:]}\n0 passed, 1 failed")
+        home = {"HOME": "/root", "PATH": "/usr/sbin:/usr/bin:/sbin:/bin", "DEBIAN_FRONTEND": "noninteractive"}
+        self.shell = subprocess.Popen(
+            [*self.inside, "bash"], stdin=subprocess.PIPE, text=True, env={**home, "LANG": "C.UTF-8"}
+        )
+        self.shell.stdin.write("cd /root\ntrap 'echo \"failed: $BASH_COMMAND\"; failed=1' ERR\nset -E\n")
+
+    def __enter__(self):
+        return self
+
+    def __exit__(self, *_):
+        self.shell.kill()
+        os.kill(int(self.leader), signal.SIGKILL)
+        self.process.wait()
+        self.console.close()
+
+    def put(self, name, text):
+        """A file on the machine."""
+        with open(f"{self.folder}/{name}", "w") as file:
+            file.write(text)
+
+    def type(self, text, seconds=120):
+        """Types a text into the shell; whether each command ended well, and what they printed."""
+        self.typed += 1
+        at = f"/root/typed-{self.typed}"
+        self.put(at, text)
+        self.shell.stdin.write(f"failed=0; . {at} < /dev/null > {at}.out 2>&1; echo $failed > {at}.ended\n")
+        self.shell.stdin.flush()
+        ended = f"{self.folder}{at}.ended"
+        done = until(seconds, lambda: os.path.exists(ended) and os.path.getsize(ended))
+        told = open(f"{self.folder}{at}.out", errors="replace").read()
+        return done and open(ended).read() == "0\n", told if done else f"no end in {seconds} s: {told}"
