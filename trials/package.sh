@@ -29,12 +29,29 @@ else
     echo "lintian isn't there: that step is left out"
 fi
 
-# The unit, with a program that is there.
+# What is in it: what the pages and the package itself name.
+dpkg-deb -c "$package" | awk '{ print $1, $6 }' > inside
+step "its root is open" "$(holds grep -qx 'drwxr-xr-x ./' inside)" "$(head -n 1 inside)"
+for name in OPERATING.md API.md REFUSALS.md PROVED.md SECURITY.md CHANGELOG.md openapi.yaml examples/nginx.conf \
+    examples/certificates.sh examples/backup.sh examples/restore.sh examples/rebuild.sh \
+    examples/clients/till.py examples/clients/back_office.py; do
+    step "$name is in it" "$(holds grep -q " ./usr/share/doc/vault/$name\$" inside)"
+done
+dpkg-deb -f "$package" > control
+step "its address can be written to" "$(if grep -qi noreply control; then echo no; else echo yes; fi)"
+
+# The units, with programs that are there.
 mkdir unit
-sed "s#/usr/bin/vault#$program#" "$deploy/vault.service" > unit/vault.service
+for unit in vault vault-failed vault-backup vault-backup-failed; do
+    sed -e "s#/usr/bin/vault#$program#" -e "s#/usr/lib/vault/#$PWD/lib/#" "$deploy/$unit.service" \
+        > "unit/$unit.service"
+done
+cp "$deploy/vault-backup.timer" unit
+mkdir lib
+cp "$deploy/pause" "$deploy/listens" "$deploy/backup-now" lib
 if need systemd-analyze systemd; then
-    step "the unit is verified" "$(holds systemd-analyze verify --man=no unit/vault.service)" "$(cat said)"
-    step "nothing is said of it" "$([ -s said ] && echo no || echo yes)" "$(cat said)"
+    step "the units are verified" "$(holds systemd-analyze verify --man=no unit/*)" "$(cat said)"
+    step "nothing is said of them" "$([ -s said ] && echo no || echo yes)" "$(cat said)"
     systemd-analyze security --offline=yes unit/vault.service > said
     level=$(sed -n 's/.*exposure level.*: \([0-9.]*\) .*/\1/p' said)
     small=$(awk -v it="$level" 'BEGIN { print it != "" && it <= 1.5 ? "yes" : "no" }')

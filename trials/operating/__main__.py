@@ -51,6 +51,12 @@ def as_caller(name, target, folder="/root/authority", more=""):
     return f"curl -s -w ' %{{http_code}}\\n' {keys} {more} https://localhost:8443/v1/merchants/shop1{target}\n"
 
 
+def first_vault(tally, machine, *, readme):
+    """The walk of README, as one pastes it where the program is there already."""
+    walk = blocks(readme)["A first vault"][0].split("\n", 1)[1]
+    says(tally, machine, "README's first vault", f"cd $(mktemp -d)\n{walk}cd /root\n", r'"token":"[0-9]{12}1111"')
+
+
 def listening(tally, machine):
     """The service listens once `systemctl start` has returned, and to the front and root alone."""
     ask = "curl -s -H 'X-Vault-Caller: back' http://127.0.0.1:8087/v1/merchants/shop1/audit\n"
@@ -84,7 +90,7 @@ asvault $examples/restore.sh /root/lost/${copy##*/} /var/lib/vault/lost.db
          "stop the service first", well=False)
     by_night = "systemctl start vault-backup && systemctl is-active vault && ls /var/backups/vault/*.sound | wc -l"
     says(tally, machine, "the nightly copy", by_night, r"^active\n2$")
-    old = "touch -d '20 days ago' $copy*; systemctl start vault-backup; ls $copy* 2>&1 | head -n 1"
+    old = "sleep 1; touch -d '20 days ago' $copy*; systemctl start vault-backup; ls $copy* 2>&1 | head -n 1"
     says(tally, machine, "an old copy is destroyed", old, "No such file")
     says(tally, machine, "the timer is on", "systemctl is-enabled vault-backup.timer", "^enabled$")
 
@@ -153,7 +159,7 @@ def removed(tally, machine):
 
 def renewed(tally, machine):
     """A caller of the new authority, by the front's new certificate."""
-    new = as_caller("back", "/audit", "/root/authority-2")
+    new = "sleep 1\n" + as_caller("back", "/audit", "/root/authority-2")
     says(tally, machine, "a caller of the new authority", new, '"made":1. 200')
     says(tally, machine, "one of the old authority", as_caller("back", "/audit", more="-k"), '"front":495. 400')
 
@@ -164,6 +170,7 @@ def main(program, repository):
     page = blocks(f"{repository}/docs/OPERATING.md")
     tally.judge("each block is typed", unlike({it for it in page if page[it]}, set(SAYS)))
     afterwards = {
+        "Install": functools.partial(first_vault, readme=f"{repository}/README.md"),
         "Who may connect": listening,
         "The first token": logs,
         "Restore": copies,

@@ -61,7 +61,11 @@ class Machine:
             raise SystemExit(f"no machine came up: {open('console').read()[-500:]}\n0 passed, 1 failed")
         home = {"HOME": "/root", "PATH": "/usr/sbin:/usr/bin:/sbin:/bin", "DEBIAN_FRONTEND": "noninteractive"}
         self.shell = subprocess.Popen(
-            [*self.inside, "bash"], stdin=subprocess.PIPE, text=True, env={**home, "LANG": "C.UTF-8"}
+            [*self.inside, "bash"],
+            stdin=subprocess.PIPE,
+            stdout=subprocess.DEVNULL,
+            text=True,
+            env={**home, "LANG": "C.UTF-8"},
         )
         self.shell.stdin.write("cd /root\ntrap 'echo \"failed: $BASH_COMMAND\"; failed=1' ERR\nset -E\n")
 

@@ -1,4 +1,4 @@
-"""The blocks of docs/OPERATING.md."""
+"""The blocks of a page."""
 
 import re
 
