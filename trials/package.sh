@@ -32,8 +32,8 @@ fi
 # What is in it: what the pages and the package itself name.
 dpkg-deb -c "$package" | awk '{ print $1, $6 }' > inside
 step "its root is open" "$(holds grep -qx 'drwxr-xr-x ./' inside)" "$(head -n 1 inside)"
-for name in OPERATING.md API.md REFUSALS.md PROVED.md SECURITY.md CHANGELOG.md openapi.yaml examples/nginx.conf \
-    examples/certificates.sh examples/backup.sh examples/restore.sh examples/rebuild.sh \
+for name in OPERATING.md API.md REFUSALS.md PROVED.md SECURITY.md CHANGELOG.md openapi.yaml \
+    examples/nginx.conf examples/certificates.sh examples/backup.sh examples/restore.sh examples/rebuild.sh \
     examples/clients/till.py examples/clients/back_office.py; do
     step "$name is in it" "$(holds grep -q " ./usr/share/doc/vault/$name\$" inside)"
 done

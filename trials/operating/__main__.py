@@ -48,13 +48,15 @@ def says(tally, machine, name, text, wanted, well=True, seconds=120):
 def as_caller(name, target, folder="/root/authority", more=""):
     """A request of a caller through the front, as one would type it; its body and status are shown."""
     keys = f"--cacert {folder}/callers.pem --cert {folder}/{name}.pem --key {folder}/{name}.key"
-    return f"curl -s -w ' %{{http_code}}\\n' {keys} {more} https://localhost:8443/v1/merchants/shop1{target}\n"
+    url = f"https://localhost:8443/v1/merchants/shop1{target}"
+    return f"curl -s -w ' %{{http_code}}\\n' {keys} {more} {url}\n"
 
 
 def first_vault(tally, machine, *, readme):
     """The walk of README, as one pastes it where the program is there already."""
     walk = blocks(readme)["A first vault"][0].split("\n", 1)[1]
-    says(tally, machine, "README's first vault", f"cd $(mktemp -d)\n{walk}cd /root\n", r'"token":"[0-9]{12}1111"')
+    typed_there = f"cd $(mktemp -d)\n{walk}cd /root\n"
+    says(tally, machine, "README's first vault", typed_there, r'"token":"[0-9]{12}1111"')
 
 
 def listening(tally, machine):
@@ -67,7 +69,8 @@ def listening(tally, machine):
 
 def logs(tally, machine):
     """A number typed where a token belongs isn't in a log, and the logs are for a few."""
-    says(tally, machine, "a number in place of a token", as_caller("back", f"/tokens/{NUMBER}"), '"refused":3')
+    wrong = as_caller("back", f"/tokens/{NUMBER}")
+    says(tally, machine, "a number in place of a token", wrong, '"refused":3')
     says(tally, machine, "it is logged masked", "cat /var/log/nginx/vault.log", r"tokens/\*{4}1111. 400")
     says(tally, machine, "and nowhere whole", f"! grep -r {NUMBER} /var/log/nginx", "")
     mode = "stat -c '%a %U' /var/log/nginx/vault.log /var/log/nginx/vault-error.log"
@@ -80,15 +83,19 @@ def logs(tally, machine):
 
 def copies(tally, machine):
     """A copy that lost its log, a second one in the same folder, and the nightly one."""
-    lost = """mkdir -p /root/lost && cp $copy $copy.sound /root/lost && chown -R vault /root/lost && chmod 755 /root
-asvault $examples/restore.sh /root/lost/${copy##*/} /var/lib/vault/lost.db
+    lost = """mkdir -p /srv/lost && cp $copy $copy.sound /srv/lost && chown -R vault /srv/lost
+asvault $examples/restore.sh /srv/lost/${copy##*/} /var/lib/vault/lost.db
 """
     says(tally, machine, "a copy without its log is refused", lost, "is its log .* missing", well=False)
-    unlisted = "rm /root/lost/*.sound; asvault $examples/restore.sh /root/lost/${copy##*/} /var/lib/vault/lost.db"
+    unlisted = """rm /srv/lost/*.sound
+asvault $examples/restore.sh /srv/lost/${copy##*/} /var/lib/vault/lost.db
+"""
     says(tally, machine, "so is one without its counts", unlisted, "nobody knows what", well=False)
-    says(tally, machine, "a copy beside the service", "asvault $examples/backup.sh $file /var/backups/vault",
-         "stop the service first", well=False)
-    by_night = "systemctl start vault-backup && systemctl is-active vault && ls /var/backups/vault/*.sound | wc -l"
+    beside = "asvault $examples/backup.sh $file /var/backups/vault"
+    says(tally, machine, "a copy beside the service", beside, "stop the service first", well=False)
+    by_night = """systemctl start vault-backup && systemctl is-active vault
+ls /var/backups/vault/*.sound | wc -l
+"""
     says(tally, machine, "the nightly copy", by_night, r"^active\n2$")
     old = "sleep 1; touch -d '20 days ago' $copy*; systemctl start vault-backup; ls $copy* 2>&1 | head -n 1"
     says(tally, machine, "an old copy is destroyed", old, "No such file")
@@ -106,19 +113,22 @@ def older(repository, path):
 
 def moved(tally, machine, *, page, repository):
     """The package isn't replaced under a service that runs; a file of schema 1 moves by the same block."""
-    says(tally, machine, "no upgrade under a service", "cd /root; apt-get install -y --reinstall ./vault_*.deb",
-         "stop it first", well=False)
+    at_once = "cd /root; apt-get install -y --reinstall ./vault_*.deb"
+    says(tally, machine, "no upgrade under a service", at_once, "stop it first", well=False)
     says(tally, machine, "the service goes on", "systemctl is-active vault", "^active$")
     older(repository, f"{machine.folder}/root/older.db")
-    instead = """systemctl stop vault
-mkdir -p /var/lib/vault/kept; mv /var/lib/vault/vault.db* /var/lib/vault/before.db* /var/lib/vault/kept
+    instead = """systemctl stop vault; cd /var/lib/vault
+mkdir -p kept; mv vault.db* before.db* kept
 install -m 600 -o vault /root/older.db $file
 """
     says(tally, machine, "a file of schema 1", instead + "asvault vault check $file", "30 1", well=False)
     well, told = machine.type(page["Upgrade"][0])
     tally.judge("it is moved", "" if well and "schema 4" in told else told[-400:])
-    says(tally, machine, "its copy is as it was", "asvault vault check /var/lib/vault/before.db", "30 1", well=False)
-    back = "systemctl stop vault; rm $file*; mv /var/lib/vault/kept/vault.db* /var/lib/vault; systemctl start vault"
+    check = "asvault vault check /var/lib/vault/before.db"
+    says(tally, machine, "its copy is as it was", check, "30 1", well=False)
+    back = """systemctl stop vault; rm $file*
+mv /var/lib/vault/kept/vault.db* /var/lib/vault; systemctl start vault
+"""
     says(tally, machine, "the shop's file again", back, "")
 
 
@@ -140,8 +150,10 @@ for turn in $(seq 20); do journalctl -t vault-alarm | grep -q failed && break; s
 journalctl -u vault -o cat --no-pager; journalctl -t vault-alarm -t vault -o cat --no-pager
 """
     says(tally, machine, "a service that can't open fails", limit, "^failed$", seconds=180)
-    says(tally, machine, "its pauses grow", "journalctl -u vault -o cat", r"waits for 2 s[\s\S]*waits for 4 s")
-    says(tally, machine, "the alarm is told", "journalctl -t vault-alarm -o cat", "^vault.service has failed$")
+    grow = r"waits for 2 s[\s\S]*waits for 4 s"
+    says(tally, machine, "its pauses grow", "journalctl -u vault -o cat", grow)
+    told = "^vault.service has failed$"
+    says(tally, machine, "the alarm is told", "journalctl -t vault-alarm -o cat", told)
     well = "rmdir $file; mv $file.kept $file; systemctl reset-failed vault; systemctl start vault"
     says(tally, machine, "it starts again", f"{well} && systemctl is-active vault", "^active$")
     killed = """kill -9 $(systemctl show -p MainPID --value vault); sleep 4
@@ -152,7 +164,8 @@ systemctl is-active vault; systemctl show -p NRestarts --value vault
 
 def removed(tally, machine):
     """After the package's removal nothing starts at a boot, and the file is there."""
-    says(tally, machine, "it is removed", "apt-get remove -y vault && ls $file", "/var/lib/vault/vault.db$")
+    remove = "apt-get remove -y vault && ls $file"
+    says(tally, machine, "it is removed", remove, "/var/lib/vault/vault.db$")
     links = "find /etc/systemd/system -name 'vault*' -type l | wc -l"
     says(tally, machine, "no unit is left enabled", links, r"^0$")
 
@@ -161,7 +174,8 @@ def renewed(tally, machine):
     """A caller of the new authority, by the front's new certificate."""
     new = "sleep 1\n" + as_caller("back", "/audit", "/root/authority-2")
     says(tally, machine, "a caller of the new authority", new, '"made":1. 200')
-    says(tally, machine, "one of the old authority", as_caller("back", "/audit", more="-k"), '"front":495. 400')
+    old = as_caller("back", "/audit", more="-k")
+    says(tally, machine, "one of the old authority", old, '"front":495. 400')
 
 
 def main(program, repository):
