@@ -26,7 +26,7 @@ SAYS = {
     "Upgrade": (r"^schema 4\nsound 1 1 1$",),
     "A till was stolen": (r"^revoked 1$",),
     "The authority is renewed": ("", ""),
-    "Alarms": ("",),
+    "What to watch": ("",),
 }
 
 
@@ -191,7 +191,7 @@ def main(program, repository):
         "Upgrade": functools.partial(moved, page=page, repository=repository),
         "A till was stolen": stolen,
         "The authority is renewed": renewed,
-        "Alarms": alarms,
+        "What to watch": alarms,
     }
     package = ["sh", f"{repository}/deploy/package.sh", program, "."]
     made = subprocess.run(package, check=True, capture_output=True, text=True).stdout.strip()
