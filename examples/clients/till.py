@@ -1,12 +1,14 @@
 #!/usr/bin/env python3
 """A till that asks a vault for tokens through its front.
 
-    till.py URL MERCHANT [--certificate PEM --key PEM --authority PEM]
+    till.py URL MERCHANT [--certificate PEM --key PEM --authority PEM] [--caller NAME] [--tries N]
 
-It reads card numbers from standard input, one a line, and prints a token and its end for each. Each new
-request has a number of its own, drawn from the system's randomness. Where an answer is lost, or the vault is
-away, the same request is sent again with the same number, after a pause that doubles up to ten seconds: the
-vault answers its first token, so no request is done twice. A request that was refused isn't repeated.
+It reads card numbers from standard input, one a line, and prints a token and its end for each. A request that
+is refused isn't repeated: its line is `refused` and the vault's number, or `refused front` and the front's.
+Each new request has a number of its own, drawn from the system's randomness. Where an answer is lost, the
+vault is away or the front has too many requests, the same request is sent again with the same number, after a
+pause that doubles up to ten seconds: the vault answers its first token, so no request is done twice. The exit
+status is 1 where a request was refused or has no answer.
 """
 
 import argparse
@@ -20,46 +22,64 @@ import urllib.parse
 
 
 class Lost(Exception):
-    """No answer came, or none of the vault's: the request may be sent again."""
+    """No answer came, or one that says to come again: the request may be sent again."""
 
 
 def connection(arguments):
-    """A new connection to the front."""
+    """A new connection. Each request has its own, and there is no pool: a vault serves one connection after
+    the other, so one that stays open would hold up all other callers where no front is between."""
     place = urllib.parse.urlsplit(arguments.url)
     if place.scheme == "http":
         return http.client.HTTPConnection(place.netloc, timeout=30)
-    context = ssl.create_default_context(cafile=arguments.authority)
-    context.load_cert_chain(arguments.certificate, arguments.key)
+    try:
+        context = ssl.create_default_context(cafile=arguments.authority)
+        if arguments.certificate:
+            context.load_cert_chain(arguments.certificate, arguments.key)
+    except OSError as error:
+        raise SystemExit(f"the certificates can't be used: {error}") from None
     return http.client.HTTPSConnection(place.netloc, timeout=30, context=context)
 
 
-def sent(arguments, request, number):
-    """The answer to one request: its status and its body."""
-    fields = {"X-Vault-Request": str(request), "X-Vault-Caller": arguments.caller}
-    peer = connection(arguments)
+def sent(peer, arguments, request, number):
+    """The status and the body of the answer to one request."""
+    fields = {"X-Vault-Request": str(request), "X-Vault-Caller": arguments.caller, "Connection": "close"}
+    target = f"/v1/merchants/{urllib.parse.quote(arguments.merchant, safe='')}/tokens"
     try:
-        body = json.dumps({"number": number, "use": "single"})
-        peer.request("POST", f"/v1/merchants/{arguments.merchant}/tokens", body, fields)
+        peer.request("POST", target, json.dumps({"number": number, "use": "single"}), fields)
         answer = peer.getresponse()
-        status, told = answer.status, json.loads(answer.read())
-    except (OSError, http.client.HTTPException, ValueError) as error:
+        return answer.status, answer.read()
+    except ssl.SSLCertVerificationError as error:
+        raise SystemExit(f"the front's certificate isn't trusted: {error.verify_message}") from None
+    except (OSError, http.client.HTTPException) as error:
         raise Lost(type(error).__name__) from None
     finally:
         peer.close()
-    if status >= 500 and "refused" not in told:
-        raise Lost(f"status {status}")
-    return status, told
+
+
+def judged(status, body):
+    """What an answer says: a token and its end, or `refused` and by what."""
+    try:
+        told = dict(json.loads(body))
+    except (TypeError, ValueError):
+        told = {}
+    if status == 200 and "token" in told:
+        return told["token"], told["expires"]
+    if "refused" in told:
+        return "refused", told["refused"]
+    if 400 <= status < 500 and status not in (408, 429):
+        return "refused", "front", told.get("front", status)
+    raise Lost(f"status {status}")
 
 
 def token(arguments, number):
-    """The answer for a card number, by one request that is repeated until it has one."""
+    """What is answered for a card number, by one request that is repeated until it has an answer."""
     request = 1 + secrets.randbelow(2**63 - 1)
-    for attempt in range(10):
+    for attempt in range(arguments.tries):
+        time.sleep(min(10, 0.05 * 2**attempt) if attempt else 0)
         try:
-            return sent(arguments, request, number)
+            return judged(*sent(connection(arguments), arguments, request, number))
         except Lost as why:
-            print(f"request {request}: {why}; once more", file=sys.stderr)
-            time.sleep(min(10, 0.1 * 2**attempt))
+            print(f"request {request} has no answer: {why}", file=sys.stderr)
     raise SystemExit(f"request {request} has no answer yet: send it again with this number")
 
 
@@ -68,12 +88,17 @@ def main():
     for word in ("url", "merchant"):
         parser.add_argument(word)
     parser.add_argument("--caller", default="till-1", help="for trials without a front, which sets the name")
+    parser.add_argument("--tries", type=int, default=10, help="how often a request is sent at most")
     for word in ("--certificate", "--key", "--authority"):
         parser.add_argument(word)
     arguments = parser.parse_args()
+    refused = 0
     for line in sys.stdin:
-        status, told = token(arguments, line.strip())
-        print(*(told["token"], told["expires"]) if status == 200 else ("refused", told["refused"]), flush=True)
+        told = token(arguments, line.strip())
+        refused += told[0] == "refused"
+        print(*told, flush=True)
+    if refused:
+        raise SystemExit(f"refused: {refused}")
 
 
 main()

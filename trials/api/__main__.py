@@ -1,26 +1,23 @@
-"""The whole trial: python3 -m api PROGRAM DOCS"""
+"""The whole trial: python3 -m api PROGRAM REPOSITORY [front] [perl]"""
 
+import contextlib
 import json
 import sqlite3
 import sys
 
+from api import refusals, shop
 from api.asked import TOKENS, Request, by_a_back_office, by_a_till, order
+from api.clients import Examples, clients, hurried
 from api.description import Description, refusals_of
+from api.generated import Generated
+from front import certificates
+from front.services import Front, Vault
 from shared.runs import must, run
 from shared.tally import Tally
 
 
-def valid(tally, description):
-    """The description by a validator, where one is there, and its examples by their schemas."""
-    try:
-        from openapi_spec_validator import validate
-
-        validate(description.whole)
-        tally.judge("a validator finds nothing", "")
-    except ImportError:
-        print("no validator of OpenAPI is there: that part is left out")
-    except Exception as error:
-        tally.judge("a validator finds nothing", str(error))
+def examples_of(tally, description):
+    """The description's examples by their schemas."""
     for name, content in description.contents():
         fault = description.fault(content["schema"], content["example"])
         tally.judge(f"the example of {name}", fault)
@@ -43,7 +40,7 @@ def compared(tally, description, request, out):
     if not fault and response:
         fault = description.fault(response["content"]["application/json"]["schema"], body)
         number = body.get("refused")
-        if not fault and number is not None and number not in response["x-refusals"]:
+        if not fault and number is not None and number not in response.get("x-refusals", ()):
             fault = f"{number} isn't among its refusals"
     tally.judge(name, fault)
     return status, body
@@ -86,15 +83,57 @@ def rare(tally, program, description):
     return seen
 
 
-def main(program, docs):
-    tally = Tally()
-    description = Description(f"{docs}/openapi.yaml")
-    valid(tally, description)
+def by_a_service(tally, program, description, refusals_page):
+    """Each status and each number of the service, and of the page on refusals."""
     seen = answers(tally, program, description) | rare(tally, program, description)
-    all_of_it = {status for _, _, status, _ in description.responses()}
+    said = description.numbers("x-refusals")
+    all_of_it = {200} | {status for _, status in said}
     tally.judge("each status came", "" if seen == all_of_it else f"{sorted(seen ^ all_of_it)}")
-    said, listed = description.refusals(), refusals_of(f"{docs}/REFUSALS.md")
+    listed = refusals_of(refusals_page)
     tally.judge("the numbers are those of REFUSALS.md", "" if said == listed else f"{sorted(said ^ listed)}")
+
+
+def behind_a_front(tally, program, repository, description, client):
+    """What comes through a front, what it answers itself, and the clients of examples/."""
+    configuration = f"{repository}/deploy/nginx.conf"
+    certificates.make()
+    refusals.stranger()
+    first, second = Vault(program, shop.SHOP, "till-1"), Vault(program, "shop2", "till-2")
+    shop.grant(program, first)
+    front = Front(configuration, first, second)
+    try:
+        slow = refusals.slow(front.port)
+        if client:
+            shop.walked(tally, description, client, front.port)
+        refusals.each(tally, description, front.port)
+        examples = Examples(tally, program, repository, first)
+        clients(tally, examples, front.port)
+        first.kill()
+        refusals.away(tally, description, client, front.port)
+        first.start()
+        tally.judge("half a request has no answer", shop.unlike(refusals.received(slow), b""))
+        front.end()
+        front = refusals.hurried(configuration, first, second)
+        refusals.too_many(tally, description, front.port)
+        hurried(tally, examples, front.port)
+    finally:
+        front.end()
+        for vault in (first, second):
+            vault.kill()
+
+
+def main(program, repository, *parts):
+    tally = Tally()
+    path = f"{repository}/docs/openapi.yaml"
+    description = Description(path)
+    examples_of(tally, description)
+    by_a_service(tally, program, description, f"{repository}/docs/REFUSALS.md")
+    with Generated(path) if "perl" in parts else contextlib.nullcontext() as client:
+        if client:
+            tally.judge("a validator finds nothing", client.faults)
+            client = None if client.faults else client
+        if "front" in parts:
+            behind_a_front(tally, program, repository, description, client)
     tally.end()
 
 

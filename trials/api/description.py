@@ -12,15 +12,21 @@ class Description:
     def __init__(self, path):
         with open(path) as file:
             self.whole = yaml.safe_load(file)
+        self.answers = {}
+        for _, _, operation in self.operations():
+            found = {int(status): self.followed(it) for status, it in operation["responses"].items()}
+            self.answers[operation["operationId"]] = found
 
     def followed(self, part):
-        """What a part refers to, or the part itself."""
+        """A part with what it refers to, at whatever depth, in its place."""
         while isinstance(part, dict) and "$ref" in part:
             found = self.whole
             for name in part["$ref"].removeprefix("#/").split("/"):
                 found = found[name]
             part = found
-        return part
+        if isinstance(part, dict):
+            return {name: self.followed(value) for name, value in part.items()}
+        return [self.followed(value) for value in part] if isinstance(part, list) else part
 
     def operations(self):
         """Each method of each target with its operation."""
@@ -32,8 +38,8 @@ class Description:
     def responses(self):
         """Each response: its method, target, status and what is said of it."""
         for method, target, operation in self.operations():
-            for status, response in operation["responses"].items():
-                yield method, target, int(status), self.followed(response)
+            for status, response in self.answers[operation["operationId"]].items():
+                yield method, target, status, response
 
     def contents(self):
         """Each schema with its example, of requests and responses, under a name."""
@@ -45,7 +51,7 @@ class Description:
 
     def fault(self, schema, value):
         """Why a value isn't of a schema, or nothing."""
-        found = jsonschema.Draft202012Validator(self.followed(schema)).iter_errors(value)
+        found = jsonschema.Draft4Validator(self.followed(schema)).iter_errors(value)
         return next((error.message for error in found), "")
 
     def response(self, method, target, status):
@@ -56,11 +62,11 @@ class Description:
                 return response
         return None
 
-    def refusals(self):
-        """Each number of a refusal with its status."""
+    def numbers(self, kind):
+        """Each number of a refusal, or of the front's errors, with its status."""
         found = set()
         for _, _, status, response in self.responses():
-            found |= {(number, status) for number in response.get("x-refusals", ())}
+            found |= {(number, status) for number in response.get(kind, ())}
         return found
 
 

@@ -1,0 +1,140 @@
+"""What the front refuses itself: each of its errors that can be provoked, and what is said of it."""
+
+import json
+import re
+import socket
+
+from api.shop import SHOP, unlike
+from front import certificates
+from front.clients import Answer, Client
+from front.services import Front
+
+AUDIT = f"/v1/merchants/{SHOP}/audit"
+TOKENS = f"/v1/merchants/{SHOP}/tokens"
+
+# Errors that no message of a trial brings about. 408 nginx ends without an answer, and 502 and 504 are 503.
+UNSEEN = {(408, 408), (500, 500), (502, 502), (504, 504)}
+
+
+def message(line, *fields, body=""):
+    """The bytes of a message, by its first line and the fields beyond those that each has."""
+    more = (f"Content-Length: {len(body)}",) if body else ()
+    fields = ("Host: localhost", "Connection: close", *fields, *more)
+    return ("\r\n".join((line, *fields, "", "")) + body).encode()
+
+
+def refused():
+    """A name, a caller (or none, or one without TLS), a message, and its answer's status and number."""
+    audit = message(f"GET {AUDIT} HTTP/1.1")
+    yield "no certificate", None, audit, 400, 496
+    yield "another authority's certificate", "stranger", audit, 400, 495
+    yield "no TLS", "clear", audit, 400, 497
+    yield "no HTTP", "till-1", b"GIVE ME A TOKEN\r\n\r\n", 400, 400
+    yield "a long field", "till-1", message(f"GET {AUDIT} HTTP/1.1", f"Pad: {'x' * 9000}"), 400, 494
+    long = [f"Pad-{it}: {'x' * 4000}" for it in range(12)]
+    yield "a long head", "till-1", message(f"GET {AUDIT} HTTP/1.1", *long), 400, 494
+    yield "a subject that is no caller's name", "nobody", audit, 403, 403
+    from_elsewhere = message(f"GET {AUDIT} HTTP/1.1", "Sec-Fetch-Site: cross-site")
+    yield "a browser at another site", "back", from_elsewhere, 403, 403
+    for target in ("/", "/v2/merchants/shop1/audit", "/v1", "/front/400"):
+        yield f"the target {target}", "till-1", message(f"GET {target} HTTP/1.1"), 404, 404
+    yield "the method TRACE", "till-1", message(f"TRACE {AUDIT} HTTP/1.1"), 405, 405
+    yield "a large body", "till-1", message(f"POST {TOKENS} HTTP/1.1", body="x" * 5120), 413, 413
+    yield "a long target", "till-1", message(f"GET /v1/merchants/{'x' * 9000} HTTP/1.1"), 414, 414
+    yield "another coding", "till-1", message(f"POST {TOKENS} HTTP/1.1", "Transfer-Encoding: gzip"), 501, 501
+    yield "another HTTP", "till-1", message(f"GET {AUDIT} HTTP/2.0"), 505, 505
+
+
+def begun(port, caller, sent):
+    """A connection over which a message was sent, or a part of one."""
+    peer = socket.create_connection(("localhost", port), timeout=60)
+    if caller != "clear":
+        peer = Client(port, caller).context.wrap_socket(peer, server_hostname="localhost")
+    peer.sendall(sent)
+    return peer
+
+
+def received(peer):
+    """All that comes over a connection up to its end."""
+    with peer:
+        return b"".join(iter(lambda: peer.recv(65536), b""))
+
+
+def answer(port, caller, sent):
+    """What a message is answered over a connection of its own."""
+    found = received(begun(port, caller, sent))
+    head, _, body = found.partition(b"\r\n\r\n")
+    line, *fields = head.decode().split("\r\n")
+    return Answer(int(line.split()[1]), dict(field.split(": ", 1) for field in fields), body)
+
+
+def said_of(description, told):
+    """Why an answer isn't as the description says of each operation, or nothing."""
+    for operation, answers in description.answers.items():
+        if told.status not in answers:
+            return f"{told.status} of {operation} isn't described"
+        schema = answers[told.status]["content"]["application/json"]["schema"]
+        fault = description.fault(schema, told.json())
+        if fault:
+            return f"{told.status} of {operation}: {fault}"
+    return ""
+
+
+def judged(tally, description, name, told, status, body):
+    """One answer: its status, its body and the fields that it has to have, and what is said of it."""
+    kind, kept = told.fields.get("Content-Type"), told.fields.get("Cache-Control")
+    fault = unlike((told.status, kind, kept), (status, "application/json", "no-store"))
+    fault = fault or unlike(told.json(), body) or said_of(description, told)
+    tally.judge(f"{name} is {status} {json.dumps(body)}", fault)
+
+
+def each(tally, description, port):
+    """Each refusal by the front, and one of the vault's that only a front's client is likely to meet."""
+    for name, caller, sent, status, number in refused():
+        judged(tally, description, name, answer(port, caller, sent), status, {"front": number})
+    fields = [f"Pad-{it}: x" for it in range(40)]
+    told = answer(port, "back", message(f"GET {AUDIT} HTTP/1.1", *fields))
+    judged(tally, description, "too many fields, by the vault,", told, 431, {"refused": 51})
+    told = answer(port, "back", message(f"GET {AUDIT} HTTP/1.1"))
+    tally.judge("no answer of the vault is to be kept", unlike(told.fields.get("Cache-Control"), "no-store"))
+    seen = {(number, status) for _, _, _, status, number in refused()} | {(429, 429)}
+    tally.judge("each error of the front came", unlike(description.numbers("x-front") - UNSEEN, seen))
+
+
+def away(tally, description, client, port):
+    """What is answered while the vault is away."""
+    told = answer(port, "back", message(f"GET {AUDIT} HTTP/1.1"))
+    judged(tally, description, "a vault that is away", told, 503, {"away": True})
+    tally.judge("with the seconds to wait", unlike(told.fields.get("Retry-After"), "1"))
+    if client:
+        said = client.ask(port, "back", "audit", merchant=SHOP)
+        tally.judge("the client that is made takes it", said.faults or unlike(said.status, 503))
+
+
+def slow(port):
+    """A request of which the half doesn't come; it is judged a while later."""
+    return begun(port, "till-1", message(f"POST {TOKENS} HTTP/1.1", body="x" * 100)[:-50])
+
+
+def hurried(configuration, first, second):
+    """A front that takes one request a second of a caller, and lets none wait."""
+    with open(configuration) as file:
+        text = re.sub(r"rate=\d+r/[sm]", "rate=1r/s", file.read())
+    with open("hurried.conf", "w") as file:
+        file.write(re.sub(r"limit_req zone=(\w+)[^;]*;", r"limit_req zone=\1;", text))
+    return Front("hurried.conf", first, second)
+
+
+def too_many(tally, description, port):
+    """More requests than that."""
+    found = [answer(port, "back", message(f"GET {AUDIT} HTTP/1.1")) for _ in range(6)]
+    late = [it for it in found if it.status != 200]
+    tally.judge("of six requests some are too many", "" if 0 < len(late) < 6 else f"{len(late)} were")
+    for told in late[:1]:
+        judged(tally, description, "a request too many", told, 429, {"front": 429})
+
+
+def stranger():
+    """A certificate of a caller's name that another authority signed."""
+    own = ("-x509", "-newkey", "ec", "-pkeyopt", "ec_paramgen_curve:P-256", "-nodes", "-days", "2")
+    certificates.openssl("req", *own, "-keyout", "stranger.key", "-out", "stranger.pem", "-subj", "/CN=back")
