@@ -8,7 +8,7 @@ import sys
 from api import refusals, shop
 from api.asked import TOKENS, Request, by_a_back_office, by_a_till, order
 from api.clients import Examples, clients, hurried
-from api.description import Description, refusals_of
+from api.description import Description, errors_of, refusals_of
 from api.generated import Generated
 from front import certificates
 from front.services import Front, Vault
@@ -83,52 +83,70 @@ def rare(tally, program, description):
     return seen
 
 
-def by_a_service(tally, program, description, refusals_page):
-    """Each status and each number of the service, and of the page on refusals."""
+def by_a_service(tally, program, description):
+    """Each status of the service, among those that are described."""
     seen = answers(tally, program, description) | rare(tally, program, description)
-    said = description.numbers("x-refusals")
-    all_of_it = {200} | {status for _, status in said}
+    all_of_it = {200} | {status for _, status in description.numbers("x-refusals")}
     tally.judge("each status came", "" if seen == all_of_it else f"{sorted(seen ^ all_of_it)}")
-    listed = refusals_of(refusals_page)
+
+
+def by_the_pages(tally, description, docs):
+    """Each number of the vault and of the front, among those of the pages."""
+    said, listed = description.numbers("x-refusals"), refusals_of(f"{docs}/REFUSALS.md")
     tally.judge("the numbers are those of REFUSALS.md", "" if said == listed else f"{sorted(said ^ listed)}")
+    said, listed = description.numbers("x-front") - refusals.OTHERS, errors_of(f"{docs}/API.md")
+    tally.judge("the front's are those of API.md", "" if said == listed else f"{sorted(said ^ listed)}")
+
+
+@contextlib.contextmanager
+def front_by(configuration, *vaults):
+    """The port of a front before the vaults."""
+    front = Front(configuration, *vaults)
+    try:
+        yield front.port
+    finally:
+        front.end()
+
+
+def at_a_port(tally, description, client, examples, port):
+    """What comes through a front, what it answers itself, and the clients of examples/."""
+    slow = refusals.slow(port)
+    if client:
+        shop.walked(tally, description, client, port)
+    refusals.each(tally, description, port)
+    clients(tally, examples, port)
+    examples.vault.kill()
+    refusals.away(tally, description, client, port)
+    examples.vault.start()
+    tally.judge("half a request has no answer", shop.unlike(refusals.received(slow), b""))
 
 
 def behind_a_front(tally, program, repository, description, client):
-    """What comes through a front, what it answers itself, and the clients of examples/."""
+    """The same at a front as it is shipped, and a front that has too many requests."""
     configuration = f"{repository}/deploy/nginx.conf"
     certificates.make()
     refusals.stranger()
-    first, second = Vault(program, shop.SHOP, "till-1"), Vault(program, "shop2", "till-2")
-    shop.grant(program, first)
-    front = Front(configuration, first, second)
-    try:
-        slow = refusals.slow(front.port)
-        if client:
-            shop.walked(tally, description, client, front.port)
-        refusals.each(tally, description, front.port)
-        examples = Examples(tally, program, repository, first)
-        clients(tally, examples, front.port)
-        first.kill()
-        refusals.away(tally, description, client, front.port)
-        first.start()
-        tally.judge("half a request has no answer", shop.unlike(refusals.received(slow), b""))
-        front.end()
-        front = refusals.hurried(configuration, first, second)
-        refusals.too_many(tally, description, front.port)
-        hurried(tally, examples, front.port)
-    finally:
-        front.end()
-        for vault in (first, second):
-            vault.kill()
+    with contextlib.ExitStack() as ending:
+        vaults = Vault(program, shop.SHOP, "till-1"), Vault(program, "shop2", "till-2")
+        for vault in vaults:
+            ending.callback(vault.kill)
+        shop.grant(program, vaults[0])
+        examples = Examples(tally, program, repository, vaults[0])
+        with front_by(configuration, *vaults) as port:
+            at_a_port(tally, description, client, examples, port)
+        with front_by(refusals.hurried(configuration), *vaults) as port:
+            refusals.too_many(tally, description, port)
+            hurried(tally, examples, port)
 
 
 def main(program, repository, *parts):
     tally = Tally()
-    path = f"{repository}/docs/openapi.yaml"
-    description = Description(path)
+    docs = f"{repository}/docs"
+    description = Description(f"{docs}/openapi.yaml")
     examples_of(tally, description)
-    by_a_service(tally, program, description, f"{repository}/docs/REFUSALS.md")
-    with Generated(path) if "perl" in parts else contextlib.nullcontext() as client:
+    by_a_service(tally, program, description)
+    by_the_pages(tally, description, docs)
+    with Generated(f"{docs}/openapi.yaml") if "perl" in parts else contextlib.nullcontext() as client:
         if client:
             tally.judge("a validator finds nothing", client.faults)
             client = None if client.faults else client

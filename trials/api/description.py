@@ -70,6 +70,13 @@ class Description:
         return found
 
 
+def errors_of(path):
+    """The same of docs/API.md, in the table of what the front answers."""
+    with open(path) as file:
+        found = re.findall(r'^\| ([0-9]+) \| `\{"front":([0-9]+)\}` \|', file.read(), re.MULTILINE)
+    return {(int(number), int(status)) for status, number in found}
+
+
 def refusals_of(path):
     """The same of docs/REFUSALS.md, where a number has a status."""
     found = set()

@@ -7,13 +7,14 @@ import socket
 from api.shop import SHOP, unlike
 from front import certificates
 from front.clients import Answer, Client
-from front.services import Front
 
 AUDIT = f"/v1/merchants/{SHOP}/audit"
 TOKENS = f"/v1/merchants/{SHOP}/tokens"
 
-# Errors that no message of a trial brings about. 408 nginx ends without an answer, and 502 and 504 are 503.
-UNSEEN = {(408, 408), (500, 500), (502, 502), (504, 504)}
+# Errors of other fronts: nginx ends the connection for 408, and for 502 and 504 the answer is 503.
+OTHERS = {(408, 408), (502, 502), (504, 504)}
+# What no message of a trial brings about.
+UNSEEN = {(500, 500)}
 
 
 def message(line, *fields, body=""):
@@ -98,7 +99,7 @@ def each(tally, description, port):
     told = answer(port, "back", message(f"GET {AUDIT} HTTP/1.1"))
     tally.judge("no answer of the vault is to be kept", unlike(told.fields.get("Cache-Control"), "no-store"))
     seen = {(number, status) for _, _, _, status, number in refused()} | {(429, 429)}
-    tally.judge("each error of the front came", unlike(description.numbers("x-front") - UNSEEN, seen))
+    tally.judge("each error came", unlike(description.numbers("x-front") - OTHERS - UNSEEN, seen))
 
 
 def away(tally, description, client, port):
@@ -116,13 +117,13 @@ def slow(port):
     return begun(port, "till-1", message(f"POST {TOKENS} HTTP/1.1", body="x" * 100)[:-50])
 
 
-def hurried(configuration, first, second):
-    """A front that takes one request a second of a caller, and lets none wait."""
+def hurried(configuration):
+    """The configuration of a front that takes one request a second of a caller, and lets none wait."""
     with open(configuration) as file:
         text = re.sub(r"rate=\d+r/[sm]", "rate=1r/s", file.read())
     with open("hurried.conf", "w") as file:
         file.write(re.sub(r"limit_req zone=(\w+)[^;]*;", r"limit_req zone=\1;", text))
-    return Front("hurried.conf", first, second)
+    return "hurried.conf"
 
 
 def too_many(tally, description, port):

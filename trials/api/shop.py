@@ -46,7 +46,7 @@ def walked(tally, description, client, port):
     tally.judge("and the same one again", unlike(again, first))
     other = client.ask(port, "till-1", "tokenize", **order(7, "4222222222222"))
     tally.judge("not for another number", unlike((other.status, other.body), (409, {"refused": 10})))
-    for caller, operation, parameters, status, part in walk(first.body["token"]):
+    for caller, operation, parameters, status, part in walk((first.body or {}).get("token", "")):
         told = client.ask(port, caller, operation, **parameters)
         found = told.status, {name: (told.body or {}).get(name) for name in part}
         fault = told.faults or unlike(found, (status, part)) or described(description, operation, told)
