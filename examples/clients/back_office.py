@@ -29,17 +29,20 @@ def ended(line, status=1):
 
 
 def run(arguments, word, again, rows=None):
-    """What the program prints for a step, and its status, where its file was opened; `again` says what to do
-    where it was stopped."""
+    """What the program prints for a step, and its status 0 or 1; where it was stopped, `again` says what to
+    do."""
     words = [arguments.program, word, arguments.file, arguments.caller, arguments.merchant]
     try:
         ran = subprocess.run(words, stdin=rows, capture_output=True, text=True)
     except OSError as error:
         ended(f"{arguments.program} can't be run: {error.strerror}")
-    if ran.returncode == 3:
-        ended(f"{ran.stderr.strip()}: stop the service that has the file, then {again}", ran.returncode)
-    if ran.returncode not in (0, 1):
-        ended(f"{ran.stderr.strip()}: {again}", ran.returncode)
+    line = ran.stderr.strip() or "the program was killed"
+    if line.endswith("file not opened 34"):
+        ended(f"{line}: stop the service that has the file, and {again}", 3)
+    if ran.returncode == 4 or ran.returncode < 0:
+        ended(f"{line}: {again}", 4)
+    if ran.returncode > 1:
+        ended(line, ran.returncode)
     return ran.stdout, ran.returncode
 
 

@@ -98,7 +98,7 @@ def main():
         refused += told[0] == "refused"
         print(*told, flush=True)
     if refused:
-        raise SystemExit(f"refused: {refused}")
+        raise SystemExit(f"requests that were refused: {refused}")
 
 
 main()

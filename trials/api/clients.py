@@ -3,8 +3,6 @@
 import re
 import subprocess
 import sys
-import threading
-import time
 from typing import NamedTuple
 
 from api.asked import NUMBER
@@ -31,12 +29,18 @@ class Examples:
         self.tally, self.program, self.vault = tally, program, vault
         self.folder = f"{repository}/examples/clients"
 
-    def run(self, name, *words, by, given=""):
-        """One run; its errors are no trace of Python's, and have no card number."""
+    def begin(self, name, *words, by):
+        """Starts a client."""
         keys = ("--certificate", f"{by}.pem", "--key", f"{by}.key") if by else ()
         words = [sys.executable, f"{self.folder}/{name}.py", *words, *keys, "--authority", "callers.pem"]
-        ran = subprocess.run(words, input=given, capture_output=True, text=True, timeout=120)
-        told = Ended(ran.returncode, ran.stdout, ran.stderr)
+        pipe = subprocess.PIPE
+        return subprocess.Popen(words, stdin=pipe, stdout=pipe, stderr=pipe, text=True)
+
+    def run(self, name, *words, by, given=""):
+        """One run; its errors are no trace of Python's, and have no card number."""
+        process = self.begin(name, *words, by=by)
+        out, err = process.communicate(given, timeout=120)
+        told = Ended(process.returncode, out, err)
         fault = "a trace" if "Traceback" in told.err else ""
         if NUMBER in told.err or SPACED in told.err:
             fault = "a card number"
@@ -64,7 +68,7 @@ def tills(tally, examples, port):
     told = examples.till(port, given=f"{NUMBER}\n4111111111111112\n")
     token = told.out.partition(" ")[0]
     tally.judge("a till has a token and a refusal", "" if TWO.fullmatch(told.out) else told.out or "nothing")
-    tally.judge("its status says so", unlike((told.status, told.err), (1, "refused: 1\n")))
+    tally.judge("its status says so", unlike((told.status, told.err), (1, "requests that were refused: 1\n")))
     for name, words, number in (
         ("with no caller's name", {"by": "nobody"}, 403),
         ("of another authority", {"by": "stranger"}, 495),
@@ -115,15 +119,14 @@ def away(tally, examples, port):
     tally.judge("no number while it is away", ended(told, 1, "", "no number came: status 503"))
     told = examples.till(port, "--tries", "2")
     tally.judge("no token while it is away", ended(told, 1, "", "send it again with this number"))
-    found = []
-    waiting = threading.Thread(target=lambda: found.append(examples.till(port)))
-    waiting.start()
-    time.sleep(1)
+    till = examples.begin("till", f"https://localhost:{port}", SHOP, by="till-1")
+    till.stdin.write(f"{NUMBER}\n")
+    till.stdin.flush()
+    line = till.stderr.readline()
+    tally.judge("a till says so", "" if "status 503" in line else line)
     examples.vault.start()
-    waiting.join()
-    told = found[0]
-    tally.judge("a till waits for it", "" if ONE.fullmatch(told.out) else told.out or "nothing")
-    tally.judge("and says so", "" if "status 503" in told.err else told.err)
+    out, err = till.communicate(timeout=120)
+    tally.judge("and waits for it", "" if ONE.fullmatch(out) else out + err)
 
 
 def hurried(tally, examples, port):
