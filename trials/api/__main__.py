@@ -13,7 +13,7 @@ from api.generated import Generated
 from front import certificates
 from front.services import Front, Vault
 from shared.runs import must, run
-from shared.tally import Tally
+from shared.tally import Tally, unlike
 
 
 def examples_of(tally, description):
@@ -118,7 +118,7 @@ def at_a_port(tally, description, client, examples, port):
     examples.vault.kill()
     refusals.away(tally, description, client, port)
     examples.vault.start()
-    tally.judge("half a request has no answer", shop.unlike(refusals.received(slow), b""))
+    tally.judge("half a request has no answer", unlike(refusals.received(slow), b""))
 
 
 def behind_a_front(tally, program, repository, description, client):
@@ -134,7 +134,7 @@ def behind_a_front(tally, program, repository, description, client):
         examples = Examples(tally, program, repository, vaults[0])
         with front_by(configuration, *vaults) as port:
             at_a_port(tally, description, client, examples, port)
-        with front_by(refusals.hurried(configuration), *vaults) as port:
+        with contextlib.chdir(refusals.hurried(configuration)), front_by("shipped.conf", *vaults) as port:
             refusals.too_many(tally, description, port)
             hurried(tally, examples, port)
 

@@ -6,8 +6,9 @@ import sys
 from typing import NamedTuple
 
 from api.asked import NUMBER
-from api.shop import SHOP, unlike
+from api.shop import SHOP
 from front.clients import Client
+from shared.tally import unlike
 
 ONE = re.compile(r"[0-9]{12}1111 [0-9]+\n")
 TWO = re.compile(ONE.pattern + r"refused 2\n")

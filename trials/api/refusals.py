@@ -1,12 +1,16 @@
 """What the front refuses itself: each of its errors that can be provoked, and what is said of it."""
 
+import glob
 import json
+import os
 import re
+import shutil
 import socket
 
-from api.shop import SHOP, unlike
+from api.shop import SHOP
 from front import certificates
 from front.clients import Answer, Client
+from shared.tally import unlike
 
 AUDIT = f"/v1/merchants/{SHOP}/audit"
 TOKENS = f"/v1/merchants/{SHOP}/tokens"
@@ -118,12 +122,16 @@ def slow(port):
 
 
 def hurried(configuration):
-    """The configuration of a front that takes one request a second of a caller, and lets none wait."""
+    """A folder for a front that takes one request a second of a caller, and lets none wait: its configuration
+    and the certificates."""
+    os.mkdir("hurried")
+    for path in (*glob.glob("*.pem"), *glob.glob("*.key")):
+        shutil.copy(path, "hurried")
     with open(configuration) as file:
         text = re.sub(r"rate=\d+r/[sm]", "rate=1r/s", file.read())
-    with open("hurried.conf", "w") as file:
+    with open("hurried/shipped.conf", "w") as file:
         file.write(re.sub(r"limit_req zone=(\w+)[^;]*;", r"limit_req zone=\1;", text))
-    return "hurried.conf"
+    return "hurried"
 
 
 def too_many(tally, description, port):

@@ -2,6 +2,7 @@
 
 from api.asked import NUMBER
 from shared.runs import must
+from shared.tally import unlike
 
 SHOP = "shop1"
 
@@ -59,8 +60,3 @@ def described(description, operation, told):
     if response is None:
         return f"{told.status} isn't described"
     return description.fault(response["content"]["application/json"]["schema"], told.body)
-
-
-def unlike(found, wanted):
-    """The fault of a value that isn't the wanted one."""
-    return "" if found == wanted else f"{found!r}, not {wanted!r}"
