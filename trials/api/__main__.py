@@ -125,7 +125,7 @@ def behind_a_front(tally, program, repository, description, client):
     """The same at a front as it is shipped, and a front that has too many requests."""
     configuration = f"{repository}/deploy/nginx.conf"
     certificates.make()
-    refusals.stranger()
+    refusals.untaken()
     with contextlib.ExitStack() as ending:
         vaults = Vault(program, shop.SHOP, "till-1"), Vault(program, "shop2", "till-2")
         for vault in vaults:

@@ -33,6 +33,7 @@ def refused():
     audit = message(f"GET {AUDIT} HTTP/1.1")
     yield "no certificate", None, audit, 400, 496
     yield "another authority's certificate", "stranger", audit, 400, 495
+    yield "a certificate that has expired", "expired", audit, 400, 495
     yield "no TLS", "clear", audit, 400, 497
     yield "no HTTP", "till-1", b"GIVE ME A TOKEN\r\n\r\n", 400, 400
     yield "a long field", "till-1", message(f"GET {AUDIT} HTTP/1.1", f"Pad: {'x' * 9000}"), 400, 494
@@ -143,7 +144,11 @@ def too_many(tally, description, port):
         judged(tally, description, "a request too many", told, 429, {"front": 429})
 
 
-def stranger():
-    """A certificate of a caller's name that another authority signed."""
-    own = ("-x509", "-newkey", "ec", "-pkeyopt", "ec_paramgen_curve:P-256", "-nodes", "-days", "2")
-    certificates.openssl("req", *own, "-keyout", "stranger.key", "-out", "stranger.pem", "-subj", "/CN=back")
+def untaken():
+    """Two certificates of a caller's name that aren't taken: another authority's, and one of yesterday."""
+    words = ("-x509", *certificates.CURVE, "-days", "2", "-subj", "/CN=back")
+    certificates.openssl("req", *words, "-keyout", "stranger.key", "-out", "stranger.pem")
+    certificates.signed("expired", "/CN=back")
+    by = ("-CA", "callers.pem", "-CAkey", "authority.key", "-CAcreateserial", "-days", "-1")
+    words = ("-req", "-in", "expired.csr", *by, "-extfile", "expired.ext", "-out", "expired.pem")
+    certificates.openssl("x509", *words)
