@@ -1,6 +1,6 @@
 -- A task on the vault in files, said of the files.
 use Rattle.std.proofs.Common.{◌≡◌, ◌↔◌, Bool, Option, Some, None, Result, Ok, Err, false, ap, refl}
-use Rattle.std.specs.Prelude.{IfErr, IfOk, IfSome}
+use Rattle.std.specs.Prelude.{ℤ, IfErr, IfOk, IfSome}
 use Rattle.sqlite.specs.Files.{file_state}
 use Rattle.sqlite.specs.Held.{Held}
 use Rattle.sqlite.specs.State.{HasCleanDisk}
@@ -12,6 +12,7 @@ use Rattle.sqlite_wal.specs.Recovery.{Image}
 use Rattle.vault_core.specs.Sound.{Sound}
 use Rattle.vault_core.specs.Vault.{Vault as Content, empty_vault}
 use Rattle.vault_file.specs.Found.{ChecksAs, IsNoVerdict, OpensFrom, Stays}
+use Rattle.vault_file.specs.Moved.{MovesAs, StaysOld}
 use Rattle.vault_file.specs.declared.fault.NotOpened.{NotOpened as FileFault}
 use Rattle.vault_file.specs.declared.fault.NotOpened.TheVariants as file
 use Rattle.vault_jobs.proofs.Refining.{refined}
@@ -30,7 +31,7 @@ use Rattle.vault_store.specs.declared.vault.Vault.{Vault}
 use Rattle.vault_verdict.specs.Sizes.{sizes_of}
 use Rattle.vault_verdict.specs.declared.sizes.Sizes.{Sizes}
 use Rattle.vault_app.specs.Files.{DoesOnFile, EndsOnFile, FileEnds, WorksOn, ending_for}
-use Rattle.vault_app.specs.Jobs.{IsChecked}
+use Rattle.vault_app.specs.Jobs.{IsChecked, IsMoved}
 use Rattle.vault_app.specs.declared.ending.Ending.TheVariants.{NotOpened}
 
 module _ {D : Type 0} {g : Ghosts D} {T : Type 0} (conn_of : T → Held (FileStore D g))
@@ -101,8 +102,21 @@ pub checked : {D : Type 0} {g : Ghosts D} (image : Image) (left : Option (FileSt
     → IfOk r (λ sizes. IfSome left (λ it. ChecksAs image it sizes))
     → IfErr r (λ why. IfSome left (λ it. IsClean (view it)
     → (V : Content) → Sound V → Keeps image V → IsNoVerdict why))
+    → IfSome left (Stays image)
     → IsChecked image left r
-checked image None (Ok sizes) empty refused sound never = empty refl
-checked image None (Err why) empty refused sound never = refused.0 refl
-checked image (Some left) (Ok sizes) empty refused sound never = sound
-checked image (Some left) (Err why) empty refused sound never = never
+checked image None (Ok sizes) empty refused sound never stays = empty refl
+checked image None (Err why) empty refused sound never stays = refused.0 refl
+checked image (Some left) (Ok sizes) empty refused sound never stays = (sound, stays)
+checked image (Some left) (Err why) empty refused sound never stays = (never, stays)
+
+-- and a migration
+pub moved : {D : Type 0} {g : Ghosts D} (image : Image) (left : Option (FileStore D g))
+    (r : Result ℤ FileFault) → (left ≡ None) ↔ (r ≡ Err file.Refused)
+    → IfOk r (λ _. IfSome left (MovesAs image))
+    → IfErr r (λ why. IfSome left (λ it. StaysOld image it why))
+    → IfErr r (λ _. IfSome left (Stays image))
+    → IsMoved image left r
+moved image None (Ok version) refused moves old stays = let clash = refused.0 refl in cc
+moved image None (Err why) refused moves old stays = let is = refused.0 refl in cc
+moved image (Some left) (Ok version) refused moves old stays = moves
+moved image (Some left) (Err why) refused moves old stays = (old, stays)

@@ -9,7 +9,7 @@ use Rattle.sqlite_wal.specs.Recovery.{Image}
 use Rattle.vault_core.specs.Sound.{Sound}
 use Rattle.vault_core.specs.Vault.{Vault as Content, empty_vault}
 use Rattle.vault_recover.specs.Crashed.{Keeps}
-use Rattle.vault_file.specs.Found.{ChecksAs, IsNoVerdict}
+use Rattle.vault_file.specs.Found.{ChecksAs, IsNoVerdict, Stays}
 use Rattle.vault_file.specs.Moved.{MovesAs, StaysOld}
 use Rattle.vault_file.specs.declared.fault.NotOpened.{NotOpened as FileFault}
 use Rattle.vault_file.specs.declared.fault.NotOpened.TheVariants as file
@@ -27,18 +27,18 @@ use Rattle.vault_app.specs.declared.plan.Plan.TheVariants as plan
 
 module _ {D : Type 0} {g : Ghosts D} where
   -- What a check comes to. The sizes are those of the vault in the file, which is kept, and of the empty one
-  -- where no file is. A sound vault isn't refused for its schema or its rows.
+  -- where no file is. A sound vault isn't refused for its schema or its rows; and what is kept stays.
   abbrev pub IsChecked : Image → Option (FileStore D g) → Result Sizes FileFault → Type 0
-  IsChecked image (Some left) (Ok sizes) = ChecksAs image left sizes
+  IsChecked image (Some left) (Ok sizes) = ChecksAs image left sizes × Stays image left
   IsChecked image (Some left) (Err why) =
-      IsClean (view left) → (V : Content) → Sound V → Keeps image V → IsNoVerdict why
+      (IsClean (view left) → (V : Content) → Sound V → Keeps image V → IsNoVerdict why) × Stays image left
   IsChecked image None (Ok sizes) = sizes ≡ sizes_of empty_vault
   IsChecked image None (Err why) = why ≡ file.Refused
 
   -- what a migration comes to
   abbrev pub IsMoved : Image → Option (FileStore D g) → Result ℤ FileFault → Type 0
   IsMoved image (Some left) (Ok version) = MovesAs image left
-  IsMoved image (Some left) (Err why) = StaysOld image left why
+  IsMoved image (Some left) (Err why) = StaysOld image left why × Stays image left
   IsMoved image None (Ok version) = ⊥
   IsMoved image None (Err why) = why ≡ file.Refused
 

@@ -21,7 +21,8 @@ use Rattle.vault_file.specs.declared.fault.NotOpened.TheVariants.{Fault}
 use Rattle.vault_file.proofs.Reopened.{in_again, some_again}
 use Rattle.vault_migrate.specs.Moved.{HoldsSoundIn, IsMovable, IsOlder, LeavesIn, LeavesSome}
 use Rattle.vault_file.specs.Reopened.{KeepsIn, ReopensIn, ReopensSome}
-use Rattle.vault_recover.specs.Crashed.{AreBlank, HoldsFirst, IsOpenOf, KeepsFirst, Reopens}
+use Rattle.vault_recover.specs.Crashed.{AreBlank, HoldsEither, HoldsFirst, IsOpenOf, KeepsEither, KeepsFirst}
+use Rattle.vault_recover.specs.Crashed.{Reopens}
 use Rattle.vault_schema.proofs.Newest.{held_by_newest, held_in_newest, ours_in_newest}
 use Rattle.vault_schema.specs.Holds.{HoldsIn}
 use Rattle.vault_schema.specs.Stands.{newest}
@@ -58,15 +59,22 @@ module _ {D : Type 0} {g : Ghosts D} (image : Image) (first last : Held (FileSto
         → Holds (file_state last) empty_vault)
         → (HasCleanDisk (file_state last) → (v : Version) → IsOlder v → IsFullIn v (file_state first).now
         → HoldsSoundIn newest (file_state last))
+        → (HasCleanDisk (file_state first) → (V W : Vault) → KeepsEither image V W
+        → HoldsEither (file_state first) V W)
         → (HasCleanDisk (file_state first) → (before : Trees) → AreBlank before → KeepsFirst image before
         → HoldsFirst (file_state first) before) → MovesFrom image last
-    moves_from blank sound one = record {
+    moves_from blank sound either one = record {
       first = first;
       found = found;
       moved = λ clean v V keeps. moves_on clean v V (found_in clean v V keeps);
       stopped = λ clean V keeps.
           ∥∥₁_map (some_again image first (found (was_clean clean)) unlimited V keeps)
           (λ held. moves_on clean held.0 V held.1);
+      either = λ clean V W keeps.
+          ∥∥₁_map (either (was_clean clean) V W keeps) (λ held. elim held [
+            | inl is ↦ inl (moves_on clean newest V (held_in_newest V (file_state first) is))
+            | inr is ↦ inr (moves_on clean newest W (held_in_newest W (file_state first) is))
+          ]);
       blank = λ clean before none keeps.
           ∥∥₁_map (one (was_clean clean) before none keeps) (λ held. elim held [
             | inl is ↦ blank clean is.ready is.schema
@@ -118,6 +126,11 @@ moves_as image conn left it was after = record {
       (it.moved (was clean) newest V (λ found finds. ours_in_newest V found (keeps found finds)));
   stopped = λ clean V keeps bytes may found finds. ∥∥₁_map (it.stopped (was clean) V keeps)
       (λ held. after clean V held bytes may found finds);
+  either = λ clean V W keeps bytes may found finds.
+      ∥∥₁_map (it.either (was clean) V W keeps) (λ held. elim held [
+        | inl is ↦ inl (after clean V is bytes may found finds)
+        | inr is ↦ inr (after clean W is bytes may found finds)
+      ]);
   blank = λ clean before none keeps bytes may found finds.
       ∥∥₁_map (it.blank (was clean) before none keeps)
       (λ held. after clean empty_vault held bytes may found finds);

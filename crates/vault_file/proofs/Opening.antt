@@ -16,15 +16,19 @@ use Rattle.vault_core.specs.Vault.{Vault, empty_vault}
 use Rattle.vault_file.specs.Found.{IsFoundIn, IsNoVerdict, OpensFrom}
 use Rattle.vault_file.specs.declared.fault.NotOpened.{NotOpened}
 use Rattle.vault_file.specs.declared.fault.NotOpened.TheVariants.{Refused, Fault}
+use Rattle.vault_recover.proofs.Reopened.{held_again}
 use Rattle.vault_recover.specs.Crashed.{AreBlank, HoldsEither, HoldsFirst, IsOpenOf}
 use Rattle.vault_recover.specs.Crashed.{Keeps, KeepsEither, KeepsFirst}
 use Rattle.vault_verdict.specs.Opened.{IsFit, IsNoRefusal, Opens, StandsSound}
 use Rattle.vault_verdict.specs.declared.fault.OpenFault.{OpenFault}
 use Rattle.vault_verdict.specs.declared.fault.OpenFault.TheVariants.{WrongSchema, Damaged, Memory, Store}
-use Rattle.vault_schema.proofs.Newest.{held_in_newest}
+use Rattle.vault_file.proofs.Reopened.{some_again}
+use Rattle.vault_migrate.proofs.Moving.{never_blank, one_version}
+use Rattle.vault_schema.proofs.Newest.{held_by_newest, held_in_newest}
+use Rattle.vault_schema.specs.declared.version.Version.{Version}
 use Rattle.vault_schema.specs.Stands.{newest}
 use Rattle.vault_verdict.proofs.Judged.{full_in}
-use Rattle.vault_schema.specs.Holds.{Holds}
+use Rattle.vault_schema.specs.Holds.{Holds, HoldsIn}
 use Rattle.sql_maps.specs.Schema.{no_schema}
 use Rattle.vault_schema.specs.Stands.{Stands}
 
@@ -86,14 +90,14 @@ module _ {D : Type 0} {g : Ghosts D} (image : Image) (first : Held (FileStore D 
   module _ (again : HasCleanDisk (file_state first)
       → (V : Vault) → Keeps image V → Holds (file_state first) V) where
     -- an open that succeeds
-    pub opens_from : (conn : Held (FileStore D g))
+    pub opens_from : (conn : Held (FileStore D g)) → (file_state first).step_limit ≡ None
         → (HasCleanDisk (file_state first) → (V W : Vault) → KeepsEither image V W
         → HoldsEither (file_state first) V W)
         → (HasCleanDisk (file_state first) → (before : Trees) → AreBlank before → KeepsFirst image before
         → HoldsFirst (file_state first) before)
         → (HasCleanDisk (file_state conn) → Opens (file_state first) (file_state conn))
         → doubt (file_state first).is_clean ≤ doubt (file_state conn).is_clean → OpensFrom image conn
-    opens_from conn either one opens quiet =
+    opens_from conn unlimited either one opens quiet =
         let was : HasCleanDisk (file_state conn) → HasCleanDisk (file_state first) =
         λ clean. omega (arith, quiet, clean) in
         let on : HasCleanDisk (file_state conn) → (V : Vault) → Sound V → Holds (file_state first) V
@@ -115,6 +119,16 @@ module _ {D : Type 0} {g : Ghosts D} (image : Image) (first : Held (FileStore D 
               ∥∥₁_map (one (was clean) before blank keeps) (λ held. elim held [
                 | inl none ↦ (opens clean).blank none.ready.is_open none.schema
                 | inr one ↦ on clean empty_vault sound-empty one
+              ]);
+          stands = λ clean V sound ours.
+              on clean V sound (held_again image first (found (was clean)) unlimited V ours);
+          some = λ clean V sound keeps.
+              ∥∥₁_map (some_again image first (found (was clean)) unlimited V keeps) (λ held.
+              elim (opens clean).whose [
+                | inl none ↦ absurd (never_blank held.0 (sym held.1.is.schema ∙ none))
+                | inr new ↦ on clean V sound (held_by_newest V (file_state first)
+                    (subst (λ (v : Version). HoldsIn v V (file_state first))
+                    (one_version held.0 newest (sym held.1.is.schema ∙ new)) held.1))
               ]);
         }
 

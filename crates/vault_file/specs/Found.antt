@@ -13,6 +13,8 @@ use Rattle.sqlite_wal.specs.Recovery.{Image}
 use Rattle.vault_core.specs.Sound.{Sound}
 use Rattle.vault_core.specs.Vault.{Vault, empty_vault}
 use Rattle.vault_file.specs.Faults.{number_of}
+use Rattle.vault_file.specs.Reopened.{KeepsSome, ReopensSome}
+use Rattle.vault_migrate.specs.Moved.{LeavesSome}
 use Rattle.vault_file.specs.declared.fault.NotOpened.{NotOpened}
 use Rattle.vault_recover.specs.Crashed.{AreBlank, HoldsEither, IsOpenOf}
 use Rattle.vault_recover.specs.Crashed.{Keeps, KeepsEither, KeepsFirst, MayFind, Reopens, ReopensEither}
@@ -21,7 +23,7 @@ use Rattle.vault_verdict.specs.Opened.{IsSoundOf, Opens}
 use Rattle.vault_verdict.specs.Reading.{IsFull}
 use Rattle.vault_verdict.specs.Sizes.{sizes_of}
 use Rattle.vault_verdict.specs.declared.sizes.Sizes.{Sizes}
-use Rattle.vault_schema.specs.Holds.{Holds, LeavesEither, LeavesFirst}
+use Rattle.vault_schema.specs.Holds.{AreOurs, Holds, LeavesEither, LeavesFirst}
 use Rattle.sql_maps.specs.Schema.{no_schema}
 
 -- no file's name: nothing at all, `:memory:`, and what begins with `file:`
@@ -61,6 +63,10 @@ module _ {D : Type 0} {g : Ghosts D} where
         → (V W : Vault) → Sound V → Sound W → KeepsEither image V W → HoldsEither (file_state conn) V W
     pub empty : HasCleanDisk (file_state conn) → (before : Trees) → AreBlank before → KeepsFirst image before
         → ∥ Holds (file_state conn) empty_vault ∥₁
+    pub some : HasCleanDisk (file_state conn)
+        → (V : Vault) → Sound V → KeepsSome image V → ∥ Holds (file_state conn) V ∥₁
+    pub stands : HasCleanDisk (file_state conn)
+        → (V : Vault) → Sound V → AreOurs (file_state first).committed.trees V → Holds (file_state conn) V
 
   -- A connection was opened over files with these bytes, and this one comes from opening the vault there. A
   -- crash leaves what was found: a vault, or one of two; where there was no table, that or the empty vault.
@@ -77,13 +83,16 @@ module _ {D : Type 0} {g : Ghosts D} where
         × LeavesFirst (file_state conn) (file_state first).committed.trees
     pub empty : HasCleanDisk (file_state conn) → (before : Trees) → AreBlank before → KeepsFirst image before
         → ∥ LeavesFirst (file_state conn) before ∥₁
+    pub some : HasCleanDisk (file_state conn)
+        → (V : Vault) → KeepsSome image V → ∥ LeavesSome V (file_state conn) ∥₁
 
   -- The files that are left where a vault isn't opened. What they kept they keep: a vault, or one of two;
-  -- where there was no table, that or the empty vault.
+  -- or one in some version; where there was no table, that or the empty vault.
   pub record Stays (image : Image) (left : FileStore D g) : Type 0 where
     pub either : IsClean (view left) → (V W : Vault) → KeepsEither image V W → ReopensEither left V W
     pub empty : IsClean (view left) → (before : Trees) → AreBlank before → KeepsFirst image before
         → ReopensFirst left before
+    pub some : IsClean (view left) → (V : Vault) → KeepsSome image V → ReopensSome left V
 
   -- The files that are left of a check that came to these sizes: those of the vault that the bytes hold; and
   -- a vault that the bytes keep they keep.

@@ -16,7 +16,8 @@ use Rattle.vault_file.specs.Reopened.{KeepsIn, KeepsSome, ReopensIn, ReopensSome
 use Rattle.vault_file.specs.declared.fault.NotOpened.{NotOpened}
 use Rattle.vault_file.specs.declared.fault.NotOpened.TheVariants.{Fault}
 use Rattle.vault_migrate.specs.Moved.{HoldsSoundIn, IsOlder, LeavesIn, LeavesSome}
-use Rattle.vault_recover.specs.Crashed.{AreBlank, IsOpenOf, Keeps, KeepsFirst, Reopens, ReopensSuch}
+use Rattle.vault_recover.specs.Crashed.{AreBlank, HoldsEither, IsOpenOf, Keeps, KeepsEither, KeepsFirst}
+use Rattle.vault_recover.specs.Crashed.{Reopens, ReopensEither, ReopensSuch}
 use Rattle.vault_verdict.specs.ReadAs.{IsFullIn}
 use Rattle.vault_verdict.specs.declared.fault.OpenFault.TheVariants.{Store}
 use Rattle.vault_schema.specs.Holds.{AreOurs, Holds}
@@ -34,6 +35,8 @@ module _ {D : Type 0} {g : Ghosts D} where
         → (v : Version) (V : Vault) → KeepsIn v image V → Holds (file_state conn) V
     pub stopped : HasCleanDisk (file_state conn)
         → (V : Vault) → KeepsSome image V → ∥ Holds (file_state conn) V ∥₁
+    pub either : HasCleanDisk (file_state conn)
+        → (V W : Vault) → KeepsEither image V W → HoldsEither (file_state conn) V W
     pub blank : HasCleanDisk (file_state conn) → (before : Trees) → AreBlank before → KeepsFirst image before
         → ∥ Holds (file_state conn) empty_vault ∥₁
     pub sound : HasCleanDisk (file_state conn)
@@ -55,6 +58,7 @@ module _ {D : Type 0} {g : Ghosts D} where
     pub newest : IsClean (view left) → (V : Vault) → Keeps image V → Reopens left V
     pub stopped : IsClean (view left)
         → (V : Vault) → KeepsSome image V → ReopensSuch left (λ found. AreOurs found V)
+    pub either : IsClean (view left) → (V W : Vault) → KeepsEither image V W → ReopensEither left V W
     pub blank : IsClean (view left) → (before : Trees) → AreBlank before → KeepsFirst image before
         → ReopensSuch left (λ found. AreOurs found empty_vault)
 

@@ -5,7 +5,7 @@ ghost use Rattle.sqlite.specs.State.{HasCleanDisk};
 ghost use Rattle.sqlite_wal.specs.Files.{image_at};
 ghost use Rattle.vault_core.specs.Sound.{Sound};
 ghost use Rattle.vault_core.specs.Vault.{Vault as Content};
-ghost use Rattle.vault_file.specs.Found.{HoldsSuch, IsNoPath, IsNoVerdict, LeavesFrom};
+ghost use Rattle.vault_file.specs.Found.{HoldsSuch, IsNoPath, IsNoVerdict, LeavesFrom, Stays};
 ghost use Rattle.vault_file.specs.Moved.{LeavesOld, MovesAs, MovesFrom, StaysOld};
 ghost use Rattle.vault_file.specs.Reopened.{KeepsIn};
 ghost use Rattle.vault_migrate.specs.Moved.{FindsBroken, FindsVersion};
@@ -72,6 +72,7 @@ pub fn migrate_file<S: Start>(
     ensures version { IfOk result.0 (λ version. version ≡ pos 4) }
     ensures moved { IfOk result.0 (λ _. IfSome result.1 (MovesAs (image_at S.Start))) }
     ensures left { IfErr result.0 (λ why. IfSome result.1 (λ left. StaysOld (image_at S.Start) left why)) }
+    ensures stays { IfErr result.0 (λ _. IfSome result.1 (Stays (image_at S.Start))) }
 {
     match migrate_from(rt, path, start) {
         Ok((version, conn)) => (Ok(version), Some(close(conn))),

@@ -18,6 +18,7 @@ ghost use Rattle.vault_store.specs.Applied.{Contains, is_broken, tables_of};
 
 use crate::fault::NotOpened;
 use crate::make::open_private;
+use crate::reopen::{close_moved, settled};
 use sqlite::{Connection, FileFrom, FileStore, Start};
 use sqlite_disk::Disk;
 use vault_recover::open::open;
@@ -62,6 +63,7 @@ pub fn open_from<S: Start>(
     let Some(conn) = open_private(rt, path, start, cache) else {
         return Err((NotOpened::Refused, None));
     };
+    settled(&conn);
     match open(rt.alloc(), conn) {
         Ok(vault) => Ok(vault),
         Err(refusal) => Err((NotOpened::Fault(refusal.0), Some(refusal.1))),
@@ -86,7 +88,7 @@ pub fn open_vault<S: Start>(
 {
     match open_from(rt, path, start, cache) {
         Ok(vault) => Ok(vault),
-        Err((fault, Some(conn))) => Err((fault, Some(close(conn)))),
+        Err((fault, Some(conn))) => Err((fault, Some(close_moved(conn)))),
         Err((fault, None)) => Err((fault, None)),
     }
 }

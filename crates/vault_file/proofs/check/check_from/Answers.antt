@@ -1,6 +1,7 @@
 use Rattle.std.proofs.Common.{arith}
 use Rattle.sqlite.specs.Files.{file_state}
 use Rattle.sqlite_wal.specs.Files.{image_at}
+use Rattle.vault_file.proofs.Leaving.{checked_leaves}
 use Rattle.vault_file.proofs.Opening.{found_damaged, found_in, found_wrong, never_kept}
 use Rattle.vault_file.proofs.Opening.{same_fault, still_held, there}
 use Rattle.vault_file.proofs.check.check_from.Goals as goal
@@ -49,3 +50,15 @@ returns-in-Err-clause-never g c clean V sound keeps =
     c.in-Some.ensures.opened c.in-Some.ensures.again
     c.check.new.conn c.in-Err.fault
     c.in-Err.ensures.never (λ some. c.check.ensures.quiet.clean) clean V sound keeps
+
+pub returns-in-Ok-clause-left : goal.returns-in-Ok-clause-left
+returns-in-Ok-clause-left g c =
+    checked_leaves (image_at g.S.Start) c.in-Some.conn c.check.new.conn c.in-Some.ensures.opened
+    c.in-Some.ensures.unlimited c.settled.ensures c.check.ensures.quiet c.check.ensures.untouched
+    c.in-Some.ensures.again c.in-Some.ensures.either c.in-Some.ensures.first
+
+pub returns-in-Err-clause-left_refused : goal.returns-in-Err-clause-left_refused
+returns-in-Err-clause-left_refused g c =
+    checked_leaves (image_at g.S.Start) c.in-Some.conn c.check.new.conn c.in-Some.ensures.opened
+    c.in-Some.ensures.unlimited c.settled.ensures c.check.ensures.quiet c.check.ensures.untouched
+    c.in-Some.ensures.again c.in-Some.ensures.either c.in-Some.ensures.first

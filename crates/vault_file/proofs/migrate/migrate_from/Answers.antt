@@ -10,7 +10,8 @@ pub returns-in-Ok-clause-moved : goal.returns-in-Ok-clause-moved
 returns-in-Ok-clause-moved g c =
     moves_from (image_at g.S.Start) c.in-Some.conn c.migrate_all.new.conn c.in-Some.ensures.opened
     c.in-Some.ensures.unlimited c.migrate_all.ensures.clean
-    c.in-Ok.ensures.moved c.in-Ok.ensures.blank c.in-Ok.ensures.sound c.in-Some.ensures.first
+    c.in-Ok.ensures.moved c.in-Ok.ensures.blank c.in-Ok.ensures.sound c.in-Some.ensures.either
+    c.in-Some.ensures.first
 
 pub returns-in-Ok-clause-no_path : goal.returns-in-Ok-clause-no_path
 returns-in-Ok-clause-no_path g c none = there c.in-Some.conn (c.in-Some.ensures.no_path none)
@@ -54,7 +55,7 @@ pub returns-in-Err-clause-left : goal.returns-in-Err-clause-left
 returns-in-Err-clause-left g c =
     leaves_from (image_at g.S.Start) c.in-Some.conn c.migrate_all.new.conn c.in-Some.ensures.opened
     c.in-Some.ensures.unlimited (λ clean. (c.migrate_all.ensures.crash clean).found)
-    c.migrate_all.ensures.clean c.in-Some.ensures.again
+    c.migrate_all.ensures.clean (λ clean. (c.migrate_all.ensures.crash clean).older) c.in-Some.ensures.again
     c.in-Some.ensures.either c.in-Some.ensures.first
 
 pub returns-in-Err-clause-left_old : goal.returns-in-Err-clause-left_old

@@ -1,6 +1,6 @@
 use Rattle.sqlite.specs.Files.{file_state}
 use Rattle.sqlite_wal.specs.Files.{image_at}
-use Rattle.vault_file.proofs.Leaving.{leaves_from}
+use Rattle.vault_file.proofs.Leaving.{leaves_from, older_left}
 use Rattle.vault_file.proofs.Opening.{found_damaged, found_wrong, never_kept, opens_from, same_fault, there}
 use Rattle.vault_file.proofs.open.open_from.Goals as goal
 use Rattle.vault_verdict.specs.declared.fault.OpenFault.TheVariants.{WrongSchema, Damaged}
@@ -9,8 +9,8 @@ use Rattle.vault_store.specs.Applied.{tables_of}
 pub returns-in-Ok-clause-found : goal.returns-in-Ok-clause-found
 returns-in-Ok-clause-found g c =
     opens_from (image_at g.S.Start) c.in-Some.conn c.in-Some.ensures.opened c.in-Some.ensures.again
-    (tables_of c.in-Ok.vault).conn c.in-Some.ensures.either c.in-Some.ensures.first
-    c.in-Ok.ensures.opens c.in-Ok.ensures.clean
+    (tables_of c.in-Ok.vault).conn c.in-Some.ensures.unlimited c.in-Some.ensures.either
+    c.in-Some.ensures.first c.in-Ok.ensures.opens c.in-Ok.ensures.clean
 
 pub returns-in-Ok-clause-no_path : goal.returns-in-Ok-clause-no_path
 returns-in-Ok-clause-no_path g c none = there c.in-Some.conn (c.in-Some.ensures.no_path none)
@@ -49,5 +49,7 @@ pub returns-in-Err-clause-left : goal.returns-in-Err-clause-left
 returns-in-Err-clause-left g c =
     leaves_from (image_at g.S.Start) c.in-Some.conn c.in-Err.refusal.1 c.in-Some.ensures.opened
     c.in-Some.ensures.unlimited c.in-Err.ensures.left_refused c.in-Err.ensures.clean_refused
+    (older_left (file_state c.in-Some.conn) (file_state c.in-Err.refusal.1) c.settled.ensures
+    c.in-Err.ensures.quiet)
     c.in-Some.ensures.again
     c.in-Some.ensures.either c.in-Some.ensures.first

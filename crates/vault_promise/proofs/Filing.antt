@@ -1,0 +1,264 @@
+-- Whatever a run does with files, it is one up to the bytes with which the next begins.
+use Rattle.std.proofs.Common.{◌≡◌, ◌⊎◌, List, [], Option, Some, None, Result, Ok, Err, Bool}
+use Rattle.std.proofs.Common.{inl, inr, refl, sym}
+use Rattle.std.proofs.Common.{arith, subst}
+use Rattle.std.proofs.Math.Logic.{∥∥₁_map}
+use Rattle.std.specs.Io.KnownBytes.{Appends}
+use Rattle.std.specs.Prelude.{ℤ}
+use Rattle.sqlite.specs.Files.{file_state}
+use Rattle.sqlite_disk.specs.declared.Disk.{Ghosts}
+use Rattle.sqlite_store.specs.declared.store.FileStore.{FileStore}
+use Rattle.sqlite.specs.Tree.{Trees}
+use Rattle.sqlite_wal.specs.Recovery.{Image}
+use Rattle.vault_core.specs.Sound.{Sound}
+use Rattle.vault_core.specs.Vault.{Vault as Content}
+use Rattle.vault_core.specs.declared.command.Command.{Command}
+use Rattle.vault_file.specs.Found.{Stays}
+use Rattle.vault_http.proofs.Bytes.{appends_nothing}
+use Rattle.vault_http.specs.Passing.{IsBefore, Passage}
+use Rattle.sqlite.specs.Held.{Held}
+use Rattle.sqlite.specs.State.{HasCleanDisk}
+use Rattle.vault_core.specs.Proper.{IsProper}
+use Rattle.vault_schema.proofs.Newest.{ours_in_newest}
+use Rattle.vault_schema.specs.Stands.{newest}
+use Rattle.std.specs.Prelude.{IfSome}
+use Rattle.vault_recover.specs.Crashed.{AreBlank, KeepsEither, KeepsSuch, MayFind}
+use Rattle.vault_schema.specs.Holds.{AreOurs, Holds}
+use Rattle.vault_jobs.specs.Doing.{Does}
+use Rattle.vault_jobs.specs.Streams.{Known, Streams, streams}
+use Rattle.vault_jobs.specs.declared.stop.Stop.{Stop}
+use Rattle.vault_jobs.specs.declared.task.Outcome.{Outcome}
+use Rattle.vault_jobs.specs.declared.task.Outcome.TheVariants as outcome
+use Rattle.vault_jobs.specs.declared.task.Task.{Task}
+use Rattle.vault_jobs.specs.declared.task.Task.TheVariants as task
+use Rattle.vault_app.specs.Files.{DoesOnFile, EndsOnFile, WorksOn, file_passing}
+use Rattle.vault_app.specs.Jobs.{DoesPlan, IsChecked, IsMoved}
+use Rattle.vault_file.specs.Moved.{MovesAs}
+use Rattle.vault_file.specs.declared.fault.NotOpened.{NotOpened as FileFault}
+use Rattle.vault_file.specs.declared.fault.NotOpened.TheVariants as file
+use Rattle.vault_verdict.specs.declared.sizes.Sizes.{Sizes}
+use Rattle.vault_app.specs.declared.ending.Ending.{Ending}
+use Rattle.vault_app.specs.declared.ending.Ending.TheVariants as ending
+use Rattle.vault_app.specs.declared.plan.Plan.{Plan}
+use Rattle.vault_app.specs.declared.plan.Plan.TheVariants as plan
+use Rattle.vault_promise.proofs.Batching.{batch_works}
+use Rattle.vault_promise.proofs.Coming.{perhaps_sound}
+use Rattle.vault_promise.proofs.Piping.{pipe_works}
+use Rattle.vault_promise.proofs.Serving.{serve_works}
+use Rattle.vault_promise.proofs.Sweeping.{sweep_works}
+use Rattle.vault_promise.proofs.Working.{Works, change_works, give_works}
+use Rattle.vault_promise.specs.Runs.{AreOf, AreValuesIn, Bear, Comes, EveryRunIsOne, IsRun, Leaves}
+use Rattle.vault_promise.specs.Runs.{RestsIn, Run, TellsIn, Work, kept_by, perhaps, undecided_by}
+use Rattle.vault_promise.specs.Told.{AreValues, IsQuiet, Tells}
+
+-- what a task does, by its clause
+works : (t : Task) (w : Passage) (V : Content) (b : IsBefore w V) → Sound V → (s : Streams)
+    (broken : Bool) (r : Result Outcome Stop) (unread unsent : Type 0) → (unsent → IsQuiet s) → AreValues t
+    → Does t w broken r unread unsent s → Works w V t s
+works (task.Change c) w V b sound s broken r unread unsent quiet values h =
+    change_works w V b s unsent quiet c values.0 values.1 broken r h
+works (task.Give rights now) w V b sound s broken r unread unsent quiet values h =
+    give_works w V b s unsent quiet rights now values broken r h
+works (task.Sweep who now) w V b sound s broken r unread unsent quiet values h =
+    sweep_works who now values.0 values.1 values.2 w V b sound s unsent quiet broken r h
+works (task.Batch who now digits) w V b sound s broken r unread unsent quiet values h =
+    batch_works who now digits values.0 values.1 w V b s r unread unsent quiet h
+works (task.Pipe now digits) w V b sound s broken r unread unsent quiet values h =
+    pipe_works now digits w V b s r unread unsent quiet h
+works (task.Serve port connections) w V b sound s broken r unread unsent quiet values h =
+    serve_works w V b s port connections r unsent h
+
+-- who finds no more finds what was found
+finds_less : (image next : Image) (Are : Trees → Type 0)
+    → ((found : Trees) → MayFind next found → MayFind image found) → KeepsSuch image Are → KeepsSuch next Are
+finds_less image next Are less keeps found may = keeps found (less found may)
+
+are_less : (image next : Image) (V : Content) (c : Option Command)
+    → ((found : Trees) → MayFind next found → MayFind image found) → AreOf image V c → AreOf next V c
+are_less image next V c less (inl keeps) = inl (finds_less image next _ less keeps)
+are_less image next V c less (inr (inl (none, some))) = inr (inl (none, finds_less image next _ less some))
+are_less image next V c less (inr (inr (none, empty, (before, blank, first)))) =
+    inr (inr (none, empty, (before, blank, finds_less image next _ less first)))
+
+-- a run that rests, and leaves bytes that are found as those before it
+rests : (next : Image) (it : Run) → RestsIn it.plan it.ending it.streams
+    → ((found : Trees) → MayFind next found → MayFind it.begins found) → IsRun it next
+rests next it calm less V c sound proper of = ∣ (inr calm, are_less it.begins next V c less of) ∣₁
+
+-- bytes in which the vault is found hold it
+bears : (image : Image) (V : Content) (found : Trees) → MayFind image found → AreOurs found V → Bear image V
+bears image V found may ours = ∣ (found, may, inl (newest, ours_in_newest V found ours)) ∣₁
+
+-- where nothing is undecided and the vault is found, the bytes are of it
+are_ours : (next : Image) (V : Content) (c : Option Command) → c ≡ None
+    → KeepsSuch next (λ found. AreOurs found V) → AreOf next V c
+are_ours next V c none keeps =
+    let one : KeepsEither next V V = λ found may. ∥∥₁_map (keeps found may) (λ ours. inl ours) in
+    subst (λ d. AreOf next V d) (sym none) (inl one)
+
+-- a run from these bytes up to those
+abbrev IsFrom : Image → Run → Image → Type 0
+IsFrom image r next = (V : Content) (c : Option Command) → Sound V → IfSome c IsProper → AreOf image V c
+    → ∥ ((it : Comes V c r) × AreOf next (kept_by V c r it) (undecided_by V c r it)) ∥₁
+
+module _ {D : Type 0} {g : Ghosts D} (image next : Image) where
+  -- files that keep what they kept
+  stays_run : (left : FileStore D g) → Leaves image (Some left) next → (it : Run)
+      → RestsIn it.plan it.ending it.streams → Stays image left → IsFrom image it next
+  stays_run left may it calm stays V c sound proper (inl keeps) =
+      ∣ (inr calm, inl (stays.either may.0 V (perhaps V c) keeps next may.1)) ∣₁
+  stays_run left may it calm stays V c sound proper (inr (inl (none, some))) =
+      ∣ (inr calm, inr (inl (none, stays.some may.0 V some next may.1))) ∣₁
+  stays_run left may it calm stays V c sound proper (inr (inr (none, empty, (before, blank, first)))) =
+      ∣ (
+        inr calm,
+        inr (inr (none, empty, (before, blank, stays.empty may.0 before blank first next may.1))),
+      ) ∣₁
+
+  -- files that move to the newest schema
+  moves_run : (left : FileStore D g) → Leaves image (Some left) next → (it : Run)
+      → RestsIn it.plan it.ending it.streams → MovesAs image left → IsFrom image it next
+  moves_run left may it calm moves V c sound proper (inl keeps) =
+      ∣ (inr calm, inl (moves.either may.0 V (perhaps V c) keeps next may.1)) ∣₁
+  moves_run left may it calm moves V c sound proper (inr (inl (none, some))) =
+      ∣ (inr calm, are_ours next V c none (moves.stopped may.0 V some next may.1)) ∣₁
+  moves_run left may it calm moves V c sound proper (inr (inr (none, empty, (before, blank, first)))) =
+      ∣ (
+        inr calm,
+        are_ours next V c none (subst (λ W. KeepsSuch next (λ found. AreOurs found W)) (sym empty)
+            (moves.blank may.0 before blank first next may.1)),
+      ) ∣₁
+
+  -- what a check and a migration come to
+  checked : (left : FileStore D g) (told : Result Sizes FileFault) → IsChecked image (Some left) told
+      → Stays image left
+  checked left (Ok sizes) h = h.1
+  checked left (Err why) h = h.1
+
+  moved : (left : FileStore D g) (told : Result ℤ FileFault) → IsMoved image (Some left) told
+      → Leaves image (Some left) next → (it : Run) → RestsIn it.plan it.ending it.streams
+      → IsFrom image it next
+  moved left (Ok version) h may it calm = moves_run left may it calm h
+  moved left (Err why) h may it calm = stays_run left may it calm h.1
+
+  -- a file that is opened, or refused with a connection
+  module _ (left : FileStore D g) (may : Leaves image (Some left) next) (t : Task) (end : Ending)
+      (s : Streams) (values : AreValues t) (r : Run)
+      (of : (X : Content) (cs : List Command) → Tells t X cs s → TellsIn r.plan X cs r.streams)
+      (calm : (why : FileFault) → end ≡ ending.NotOpened why → IsQuiet s → RestsIn r.plan r.ending r.streams)
+      (bear : (X : Content) → Bear image X → Bear r.begins X) where
+    -- a task that worked on the vault W comes to this
+    work_on : (V : Content) (c : Option Command) (W : Content) → (W ≡ V) ⊎ (W ≡ perhaps V c)
+        → Bear image W → (w : Passage) → Works w W t s
+        → ((A B : Content) → w.left_new A B → KeepsEither next A B)
+        → (it : Comes V c r) × AreOf next (kept_by V c r it) (undecided_by V c r it)
+    work_on V c W is held w it kept =
+        let done : Work V c r = record {
+          opened = W;
+          is = is;
+          holds = bear W held;
+          answered = it.answered;
+          undecided = it.undecided;
+          proper = it.proper;
+          last_proper = it.last_proper;
+          tells = of W it.answered it.tells;
+        } in
+        (inl done, inl (kept _ _ it.left))
+
+    module _ (result : Result Outcome Stop) (unread unsent : Type 0) (quiet : unsent → IsQuiet s)
+        (on : WorksOn image left (λ p broken. Does t p broken result unread unsent s)) where
+      abbrev conn : Held (FileStore D g)
+      conn = on.opened
+
+      abbrev w : Passage
+      w = file_passing conn left
+
+      -- the trees that the open found in the bytes
+      abbrev found : Trees
+      found = (file_state on.found.first).committed.trees
+
+      clean : HasCleanDisk (file_state conn)
+      clean = on.clean may.0
+
+      finds : MayFind image found
+      finds =
+          let was : HasCleanDisk (file_state on.found.first) = omega (arith, on.found.clean, clean) in
+          (on.found.found was).found.holds
+
+      -- a vault that is held
+      on_one : (V : Content) (c : Option Command) (W : Content) → (W ≡ V) ⊎ (W ≡ perhaps V c) → Sound W
+          → Bear image W → Holds (file_state conn) W
+          → (it : Comes V c r) × AreOf next (kept_by V c r it) (undecided_by V c r it)
+      on_one V c W is sound held holds =
+          work_on V c W is held w
+          (works t w W (may.0, (holds, sound)) sound s on.broken result unread unsent quiet values on.done)
+          (λ A B leaves. leaves next may.1)
+
+      worked : IsFrom image r next
+      worked V c sound proper (inl keeps) =
+          let other : Sound (perhaps V c) = perhaps_sound V c sound proper in
+          ∥∥₁_map (keeps found finds) (λ ours. elim ours [
+            | inl is ↦ on_one V c V (inl refl) sound (bears image V found finds is)
+                (on.found.stands clean V sound is)
+            | inr is ↦ on_one V c (perhaps V c) (inr refl) other (bears image (perhaps V c) found finds is)
+                (on.found.stands clean (perhaps V c) other is)
+          ])
+      worked V c sound proper (inr (inl (none, some))) =
+          let held : Bear image V = ∥∥₁_map (some found finds) (λ it. (found, finds, inl it)) in
+          ∥∥₁_map (on.found.some clean V sound some) (on_one V c V (inl refl) sound held)
+      worked V c sound proper (inr (inr (none, empty, (before, blank, first)))) =
+          let held : Bear image V = ∥∥₁_map (first found finds) (λ it. elim it [
+            | inl same ↦ (found, finds, inr (empty, subst AreBlank (sym same) blank))
+            | inr ours ↦ (
+              found,
+              finds,
+              inl (newest, ours_in_newest V found (subst (λ W. AreOurs found W) (sym empty) ours)),
+            )
+          ]) in
+          ∥∥₁_map (on.found.empty clean before blank first)
+          (λ is. on_one V c V (inl refl) sound held (subst (Holds (file_state conn)) (sym empty) is))
+
+    -- a task on files that are opened, or refused with a connection
+    on_some : (unread unsent : Type 0) → (unsent → IsQuiet s)
+        → EndsOnFile image (Some left) t end unread unsent s → IsFrom image r next
+    on_some unread unsent quiet h = by_ending end refl h
+      where
+        by_ending : (e : Ending) → end ≡ e → DoesOnFile image left t e unread unsent s → IsFrom image r next
+        by_ending ending.Done is h = worked (Ok outcome.Done) unread unsent quiet h
+        by_ending ending.Version is h = absurd h
+        by_ending (ending.Refused n) is h = worked (Ok (outcome.Refused n)) unread unsent quiet h
+        by_ending ending.SomeRefused is h = worked (Ok outcome.SomeRefused) unread unsent quiet h
+        by_ending ending.BadWords is h = absurd h
+        by_ending (ending.NotOpened why) is h = stays_run left may r (calm why is (quiet h.2)) h.0.stays
+        by_ending (ending.Stopped stop) is h = worked (Err stop) unread unsent quiet h
+
+  each : (left : Option (FileStore D g)) (p : Plan) (end : Ending) (s : Streams) (unread unsent : Type 0)
+      → (unsent → IsQuiet s) → AreValuesIn p → DoesPlan image left p end unread unsent s
+      → Leaves image left next → IsRun (record { begins = image; plan = p; ending = end; streams = s }) next
+  each left (plan.Trial t) end s unread unsent quiet values h leaves =
+      rests next (record { begins = image; plan = plan.Trial t; ending = end; streams = s }) tt
+      (subst (λ l. Leaves image l next) h.0 leaves)
+  each (Some left) (plan.Check path) end s unread unsent quiet values h leaves =
+      stays_run left leaves (record { begins = image; plan = plan.Check path; ending = end; streams = s }) tt
+      (checked left h.1.0 h.1.1)
+  each None (plan.Check path) end s unread unsent quiet values h leaves =
+      rests next (record { begins = image; plan = plan.Check path; ending = end; streams = s }) tt leaves
+  each (Some left) (plan.Migrate path) end s unread unsent quiet values h leaves =
+      moved left h.1.0 h.1.1 leaves
+      (record { begins = image; plan = plan.Migrate path; ending = end; streams = s }) tt
+  each None (plan.Migrate path) end s unread unsent quiet values h leaves =
+      rests next (record { begins = image; plan = plan.Migrate path; ending = end; streams = s }) tt leaves
+  each (Some left) (plan.Do path t) end s unread unsent quiet values h leaves =
+      on_some left leaves t end s values
+      (record { begins = image; plan = plan.Do path t; ending = end; streams = s })
+      (λ X cs told. told) (λ why is still. ((why, is), still)) (λ X held. held) unread unsent quiet h
+  each None (plan.Do path t) end s unread unsent quiet values h leaves =
+      rests next (record { begins = image; plan = plan.Do path t; ending = end; streams = s })
+      ((file.Refused, h.0), quiet h.2) leaves
+
+pub each_is_run : {D R W : Type 0} (g : Ghosts D) (remaining : R → Known) (contents : W → Known)
+    → EveryRunIsOne g remaining contents
+each_is_run g remaining contents image next left p end i i' o o' values h leaves =
+    each image next left p end (streams remaining i i' contents o o') (i' ≡ i) (o' ≡ o)
+    (λ same. subst (λ u. Appends (contents o.inner) (contents u.inner) []) (sym same)
+    (appends_nothing (contents o.inner))) values h leaves
