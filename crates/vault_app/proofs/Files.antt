@@ -11,7 +11,8 @@ use Rattle.sqlite_store.specs.declared.store.FileStore.{FileStore}
 use Rattle.sqlite_wal.specs.Recovery.{Image}
 use Rattle.vault_core.specs.Sound.{Sound}
 use Rattle.vault_core.specs.Vault.{Vault as Content, empty_vault}
-use Rattle.vault_file.specs.Found.{ChecksAs, IsNoVerdict, OpensFrom, Stays}
+use Rattle.vault_file.specs.Found.{ChecksAs, MayFindNone, OpensFrom, SparesStopped, Stays}
+use Rattle.vault_file.specs.Found.{StaysWhole}
 use Rattle.vault_file.specs.Moved.{MovesAs, StaysOld}
 use Rattle.vault_file.specs.declared.fault.NotOpened.{NotOpened as FileFault}
 use Rattle.vault_file.specs.declared.fault.NotOpened.TheVariants as file
@@ -24,7 +25,7 @@ use Rattle.vault_jobs.specs.declared.task.Outcome.{Outcome}
 use Rattle.vault_jobs.specs.declared.task.Outcome.TheVariants as outcome
 use Rattle.vault_jobs.specs.declared.task.Task.{Task}
 use Rattle.vault_listen.specs.Service.{vault_passing}
-use Rattle.vault_recover.specs.Crashed.{Keeps, Reopens, ReopensEither}
+use Rattle.vault_recover.specs.Crashed.{Reopens, ReopensEither}
 use Rattle.vault_schema.specs.Holds.{Holds, LeavesEither}
 use Rattle.vault_store.specs.Applied.{Contains}
 use Rattle.vault_store.specs.declared.vault.Vault.{Vault}
@@ -87,12 +88,13 @@ module _ {D : Type 0} {g : Ghosts D} (image : Image) (unread unsent : Type 0) (s
 
   pub refused_file : (left : Option (FileStore D g)) (task : Task) (why : FileFault)
       → (why ≡ file.Refused) ↔ (left ≡ None)
-      → IfSome left (λ it. IsClean (view it) → (V : Content) → Sound V → Keeps image V → IsNoVerdict why)
-      → IfSome left (Stays image) → unread → unsent
-      → EndsOnFile image left task (NotOpened why) unread unsent s
-  refused_file None task why is never stays calm silent = (ap (λ f. NotOpened f) (is.1 refl), calm, silent)
-  refused_file (Some left) task why is never stays calm silent =
-      (record { never = never; stays = stays }, calm, silent)
+      → IfSome left (λ it. IsClean (view it) → SparesStopped image why)
+      → IfSome left (Stays image) → IfSome left (λ it. ¬ MayFindNone image → StaysWhole image it)
+      → unread → unsent → EndsOnFile image left task (NotOpened why) unread unsent s
+  refused_file None task why is never stays same calm silent =
+      (ap (λ f. NotOpened f) (is.1 refl), calm, silent)
+  refused_file (Some left) task why is never stays same calm silent =
+      (record { never = never; stays = stays; same = same }, calm, silent)
 
 -- what a check comes to
 pub checked : {D : Type 0} {g : Ghosts D} (image : Image) (left : Option (FileStore D g))
@@ -100,14 +102,13 @@ pub checked : {D : Type 0} {g : Ghosts D} (image : Image) (left : Option (FileSt
     → (left ≡ None → IfOk r (λ sizes. sizes ≡ sizes_of empty_vault))
     → IfErr r (λ why. (left ≡ None) ↔ (why ≡ file.Refused))
     → IfOk r (λ sizes. IfSome left (λ it. ChecksAs image it sizes))
-    → IfErr r (λ why. IfSome left (λ it. IsClean (view it)
-    → (V : Content) → Sound V → Keeps image V → IsNoVerdict why))
-    → IfSome left (Stays image)
+    → IfErr r (λ why. IfSome left (λ it. IsClean (view it) → SparesStopped image why))
+    → IfSome left (StaysWhole image) → IfSome left (Stays image)
     → IsChecked image left r
-checked image None (Ok sizes) empty refused sound never stays = empty refl
-checked image None (Err why) empty refused sound never stays = refused.0 refl
-checked image (Some left) (Ok sizes) empty refused sound never stays = (sound, stays)
-checked image (Some left) (Err why) empty refused sound never stays = (never, stays)
+checked image None (Ok sizes) empty refused sound never same stays = empty refl
+checked image None (Err why) empty refused sound never same stays = refused.0 refl
+checked image (Some left) (Ok sizes) empty refused sound never same stays = (sound, same, stays)
+checked image (Some left) (Err why) empty refused sound never same stays = (never, same, stays)
 
 -- and a migration
 pub moved : {D : Type 0} {g : Ghosts D} (image : Image) (left : Option (FileStore D g))

@@ -6,10 +6,8 @@ use Rattle.sqlite_disk.specs.declared.Disk.{Ghosts}
 use Rattle.sqlite_store.specs.FileStore.{view}
 use Rattle.sqlite_store.specs.declared.store.FileStore.{FileStore}
 use Rattle.sqlite_wal.specs.Recovery.{Image}
-use Rattle.vault_core.specs.Sound.{Sound}
-use Rattle.vault_core.specs.Vault.{Vault as Content, empty_vault}
-use Rattle.vault_recover.specs.Crashed.{Keeps}
-use Rattle.vault_file.specs.Found.{ChecksAs, IsNoVerdict, Stays}
+use Rattle.vault_core.specs.Vault.{empty_vault}
+use Rattle.vault_file.specs.Found.{ChecksAs, SparesStopped, Stays, StaysWhole}
 use Rattle.vault_file.specs.Moved.{MovesAs, StaysOld}
 use Rattle.vault_file.specs.declared.fault.NotOpened.{NotOpened as FileFault}
 use Rattle.vault_file.specs.declared.fault.NotOpened.TheVariants as file
@@ -27,11 +25,13 @@ use Rattle.vault_app.specs.declared.plan.Plan.TheVariants as plan
 
 module _ {D : Type 0} {g : Ghosts D} where
   -- What a check comes to. The sizes are those of the vault in the file, which is kept, and of the empty one
-  -- where no file is. A sound vault isn't refused for its schema or its rows; and what is kept stays.
+  -- where no file is. What a stop leaves of a sound vault isn't refused for its schema or its rows; and
+  -- whatever is in the files stays.
   abbrev pub IsChecked : Image → Option (FileStore D g) → Result Sizes FileFault → Type 0
-  IsChecked image (Some left) (Ok sizes) = ChecksAs image left sizes × Stays image left
+  IsChecked image (Some left) (Ok sizes) =
+      ChecksAs image left sizes × StaysWhole image left × Stays image left
   IsChecked image (Some left) (Err why) =
-      (IsClean (view left) → (V : Content) → Sound V → Keeps image V → IsNoVerdict why) × Stays image left
+      (IsClean (view left) → SparesStopped image why) × StaysWhole image left × Stays image left
   IsChecked image None (Ok sizes) = sizes ≡ sizes_of empty_vault
   IsChecked image None (Err why) = why ≡ file.Refused
 

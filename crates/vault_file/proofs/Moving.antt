@@ -1,6 +1,6 @@
 -- What a migration comes to over files.
 use Rattle.std.proofs.Common.{◌≡◌, ◌≢◌, ◌≤◌, inl, inr, ap, arith, None}
-use Rattle.std.proofs.Math.Logic.{∥∥₁_map}
+use Rattle.std.proofs.Math.Logic.{∥∥₁_elim, ∥∥₁_map}
 use Rattle.sqlite.specs.Files.{file_state}
 use Rattle.sqlite.specs.Held.{Held}
 use Rattle.sqlite.specs.State.{HasCleanDisk}
@@ -14,13 +14,13 @@ use Rattle.sql_maps.specs.Schema.{no_schema}
 use Rattle.vault_core.specs.Sound.{Sound}
 use Rattle.vault_core.specs.Vault.{Vault, empty_vault}
 use Rattle.vault_file.proofs.Opening.{no_verdict}
-use Rattle.vault_file.specs.Found.{IsNoVerdict}
+use Rattle.vault_file.specs.Found.{IsNoVerdict, SparesStopped}
 use Rattle.vault_file.specs.Moved.{LeavesOld, MovesAs, MovesFrom, StaysOld}
 use Rattle.vault_file.specs.declared.fault.NotOpened.{NotOpened}
 use Rattle.vault_file.specs.declared.fault.NotOpened.TheVariants.{Fault}
 use Rattle.vault_file.proofs.Reopened.{in_again, some_again}
 use Rattle.vault_migrate.specs.Moved.{HoldsSoundIn, IsMovable, IsOlder, LeavesIn, LeavesSome}
-use Rattle.vault_file.specs.Reopened.{KeepsIn, ReopensIn, ReopensSome}
+use Rattle.vault_file.specs.Reopened.{KeepsIn, KeepsSome, ReopensIn, ReopensSome}
 use Rattle.vault_recover.specs.Crashed.{AreBlank, HoldsEither, HoldsFirst, IsOpenOf, KeepsEither, KeepsFirst}
 use Rattle.vault_recover.specs.Crashed.{Reopens}
 use Rattle.vault_schema.proofs.Newest.{held_by_newest, held_in_newest, ours_in_newest}
@@ -84,6 +84,19 @@ module _ {D : Type 0} {g : Ghosts D} (image : Image) (first last : Held (FileSto
       sound = sound;
     }
 
+  -- a sound vault that is held in a version can be moved
+  stands_in : (v : Version) (V : Vault) → Sound V → HoldsIn v V (file_state first)
+      → IsMovable (file_state first).now
+  stands_in v V sound held = inl (
+    v,
+    record {
+      schema = held.is.schema;
+      vault = V;
+      sound = sound;
+      stand = held.is.stand;
+    },
+  )
+
   -- and one that is refused
   module _ (e : OpenFault) where
     pub leaves_old : (HasCleanDisk (file_state last)
@@ -101,16 +114,19 @@ module _ {D : Type 0} {g : Ghosts D} (image : Image) (first last : Held (FileSto
         → HasCleanDisk (file_state last) → (v : Version) (V : Vault) → Sound V → KeepsIn v image V
         → IsNoVerdict (Fault e)
     never_in never clean v V sound keeps =
-        let held = found_in clean v V keeps in
-        no_verdict e (never clean (inl (
-          v,
-          record {
-            schema = held.is.schema;
-            vault = V;
-            sound = sound;
-            stand = held.is.stand;
-          },
-        )))
+        no_verdict e (never clean (stands_in v V sound (found_in clean v V keeps)))
+
+    -- so of a vault in some version: of a truncation only two negations are made
+    pub never_some : (HasCleanDisk (file_state last) → IsMovable (file_state first).now → IsNoRefusal e)
+        → HasCleanDisk (file_state last) → (V : Vault) → Sound V → KeepsSome image V → IsNoVerdict (Fault e)
+    never_some never clean V sound keeps =
+        let some = some_again image first (found (was_clean clean)) unlimited V keeps in
+        no_verdict e (
+          λ n same. ∥∥₁_elim some (λ a b. absurd a)
+              (λ held. (never clean (stands_in held.0 V sound held.1)).0 n same),
+          λ rule same. ∥∥₁_elim some (λ a b. absurd a)
+              (λ held. (never clean (stands_in held.0 V sound held.1)).1 rule same),
+        )
 
 -- a database that is fit can be moved
 pub movable : (db : Database) → IsFit db → IsMovable db
@@ -143,9 +159,13 @@ pub stays_old : {D : Type 0} {g : Ghosts D} (image : Image) (conn : Held (FileSt
     → (IsClean (view left) → (V : Vault) → LeavesSome V (file_state conn) → ReopensSome left V)
     → (IsClean (view left) → (v : Version) (V : Vault) → LeavesIn v V (file_state conn) → ReopensIn v left V)
     → (HasCleanDisk (file_state conn)
-    → (v : Version) (V : Vault) → Sound V → KeepsIn v image V → IsNoVerdict why) → StaysOld image left why
-stays_old image conn left why old was some after never = record {
+    → (v : Version) (V : Vault) → Sound V → KeepsIn v image V → IsNoVerdict why)
+    → (HasCleanDisk (file_state conn) → (V : Vault) → Sound V → KeepsSome image V → IsNoVerdict why)
+    → (HasCleanDisk (file_state conn) → SparesStopped image why) → StaysOld image left why
+stays_old image conn left why old was some after never never_some spares = record {
   stays = λ clean other v V keeps. after clean v V (old.stays (was clean) other v V keeps);
   some = λ clean v V keeps. some clean V (old.some (was clean) v V keeps);
   never = λ clean. never (was clean);
+  never_some = λ clean. never_some (was clean);
+  spares = λ clean. spares (was clean);
 }

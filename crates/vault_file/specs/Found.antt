@@ -24,6 +24,9 @@ use Rattle.vault_verdict.specs.Reading.{IsFull}
 use Rattle.vault_verdict.specs.Sizes.{sizes_of}
 use Rattle.vault_verdict.specs.declared.sizes.Sizes.{Sizes}
 use Rattle.vault_schema.specs.Holds.{AreOurs, Holds, LeavesEither, LeavesFirst}
+use Rattle.sqlite.specs.Schema.{Schema}
+use Rattle.sqlite_catalog.specs.Listing.{IsSound}
+use Rattle.sqlite_store.specs.FileStore as files
 use Rattle.sql_maps.specs.Schema.{no_schema}
 
 -- no file's name: nothing at all, `:memory:`, and what begins with `file:`
@@ -43,6 +46,18 @@ HoldsSuch image IsSuch = (db : Database) × IsFoundIn image db × IsSuch db
 -- neither a wrong schema nor damage
 abbrev pub IsNoVerdict : NotOpened → Type 0
 IsNoVerdict why = (number_of why ≢ 30) × (number_of why ≢ 31)
+
+-- Whatever a stop leaves of a sound vault isn't refused for its schema or its rows, by 30 or 31: not where
+-- the files keep the vault, nor where they keep one of two, nor where they have no table yet or just the
+-- first ones.
+pub record SparesStopped (image : Image) (why : NotOpened) : Type 0 where
+  pub one : (V : Vault) → Sound V → Keeps image V → IsNoVerdict why
+  pub either : (V W : Vault) → Sound V → Sound W → KeepsEither image V W → IsNoVerdict why
+  pub first : (before : Trees) → AreBlank before → KeepsFirst image before → IsNoVerdict why
+
+-- an open of files with these bytes may find no table
+abbrev pub MayFindNone : Image → Type 0
+MayFindNone image = (found : Trees) × AreBlank found × MayFind image found
 
 -- these are the sizes of the vault there: the empty one, where there is no table
 abbrev pub HasSizes : Database → Sizes → Type 0
@@ -93,6 +108,18 @@ module _ {D : Type 0} {g : Ghosts D} where
     pub empty : IsClean (view left) → (before : Trees) → AreBlank before → KeepsFirst image before
         → ReopensFirst left before
     pub some : IsClean (view left) → (V : Vault) → KeepsSome image V → ReopensSome left V
+
+  -- a crash leaves of this connection what was found in the bytes, and nothing else
+  abbrev pub LeavesWhole : Image → Held (FileStore D g) → Type 0
+  LeavesWhole image conn = HasCleanDisk (file_state conn) → (schema : Schema) × (found : Trees)
+      × IsSound schema found × MayFind image found
+      × ((db : Trees) → (file_state conn).may_leave db → db ≡ found)
+
+  -- Whatever is in the files stays there, a vault in any schema, another program's tables or damage: whoever
+  -- opens what a crash may leave of them finds what was in these bytes.
+  abbrev pub StaysWhole : Image → FileStore D g → Type 0
+  StaysWhole image left = IsClean (view left) → (next : Image) → (files.state left).may_leave next
+      → (found : Trees) → MayFind next found → MayFind image found
 
   -- The files that are left of a check that came to these sizes: those of the vault that the bytes hold; and
   -- a vault that the bytes keep they keep.

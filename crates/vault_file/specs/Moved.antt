@@ -11,7 +11,7 @@ use Rattle.sqlite_store.specs.declared.store.FileStore.{FileStore}
 use Rattle.sqlite_wal.specs.Recovery.{Image}
 use Rattle.vault_core.specs.Sound.{Sound}
 use Rattle.vault_core.specs.Vault.{Vault, empty_vault}
-use Rattle.vault_file.specs.Found.{IsNoVerdict}
+use Rattle.vault_file.specs.Found.{IsNoVerdict, SparesStopped}
 use Rattle.vault_file.specs.Reopened.{KeepsIn, KeepsSome, ReopensIn, ReopensSome}
 use Rattle.vault_file.specs.declared.fault.NotOpened.{NotOpened}
 use Rattle.vault_file.specs.declared.fault.NotOpened.TheVariants.{Fault}
@@ -63,10 +63,13 @@ module _ {D : Type 0} {g : Ghosts D} where
         → ReopensSuch left (λ found. AreOurs found empty_vault)
 
   -- The files that are left of one that is refused. A vault that the bytes keep in some version they keep in
-  -- that one, and after 33 in some version. A sound vault isn't refused for its schema or its rows.
+  -- that one, and after 33 in some version. A sound vault isn't refused for its schema or its rows, in
+  -- whatever version, half moved, or as a stop may leave it.
   pub record StaysOld (image : Image) (left : FileStore D g) (why : NotOpened) : Type 0 where
     pub stays : IsClean (view left) → why ≢ Fault Store
         → (v : Version) (V : Vault) → KeepsIn v image V → ReopensIn v left V
     pub some : IsClean (view left) → (v : Version) (V : Vault) → KeepsIn v image V → ReopensSome left V
     pub never : IsClean (view left)
         → (v : Version) (V : Vault) → Sound V → KeepsIn v image V → IsNoVerdict why
+    pub never_some : IsClean (view left) → (V : Vault) → Sound V → KeepsSome image V → IsNoVerdict why
+    pub spares : IsClean (view left) → SparesStopped image why

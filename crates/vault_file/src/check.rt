@@ -7,8 +7,8 @@ ghost use Rattle.sqlite_store.specs.FileStore.{view};
 ghost use Rattle.sqlite_wal.specs.Files.{image_at};
 ghost use Rattle.vault_core.specs.Sound.{Sound};
 ghost use Rattle.vault_core.specs.Vault.{Vault as Content, empty_vault};
-ghost use Rattle.vault_file.specs.Found.{ChecksAs, HasSizes, HoldsSuch, IsNoPath, IsNoVerdict};
-ghost use Rattle.vault_file.specs.Found.{LeavesFrom, Stays};
+ghost use Rattle.vault_file.specs.Found.{ChecksAs, HasSizes, HoldsSuch, IsNoPath, LeavesWhole};
+ghost use Rattle.vault_file.specs.Found.{LeavesFrom, SparesStopped, Stays, StaysWhole};
 ghost use Rattle.vault_recover.specs.Crashed.{Keeps};
 ghost use Rattle.vault_verdict.specs.Opened.{IsLeastBroken, IsWrong};
 ghost use Rattle.vault_verdict.specs.Reading.{IsFull};
@@ -17,7 +17,7 @@ ghost use Rattle.vault_schema.specs.Holds.{Holds};
 
 use crate::fault::NotOpened;
 use crate::make::{is_no_path, open_private};
-use crate::reopen::{close_moved, settled};
+use crate::reopen::{close_moved, settled, told};
 use sqlite::{Connection, FileFrom, FileStore, Start};
 use vault_blank::make::is_missing;
 use vault_recover::options::Cache;
@@ -53,12 +53,15 @@ pub fn check_from<S: Start>(
         → (n : ℤ) → e.0 ≡ NotOpened.Fault (OpenFault.WrongSchema n)
         → HoldsSuch (image_at S.Start) (λ db. IsWrong db n))) }
     ensures never { IfErr result (λ e. IfSome e.1 (λ conn. HasCleanDisk (file_state conn)
-        → (V : Content) → Sound V → Keeps (image_at S.Start) V → IsNoVerdict e.0)) }
+        → SparesStopped (image_at S.Start) e.0)) }
+    ensures same { IfOk result (λ told. LeavesWhole (image_at S.Start) told.1) }
+    ensures same_refused { IfErr result (λ e. IfSome e.1 (LeavesWhole (image_at S.Start))) }
 {
     let Some(mut conn) = open_private(rt, path, start, Cache::Small) else {
         return Err((NotOpened::Refused, None));
     };
     settled(&conn);
+    let _told = told(&conn);
     match check(rt.alloc(), &mut conn) {
         Ok(sizes) => Ok((sizes, conn)),
         Err(fault) => Err((NotOpened::Fault(fault), Some(conn))),
@@ -89,7 +92,8 @@ pub fn check_file<S: Start>(
         → why ≡ NotOpened.Fault (OpenFault.Damaged rule)
         → HoldsSuch (image_at S.Start) (λ db. IsFull db → IsLeastBroken db rule))) }
     ensures never { IfErr result.0 (λ why. IfSome result.1 (λ left. IsClean (view left)
-        → (V : Content) → Sound V → Keeps (image_at S.Start) V → IsNoVerdict why)) }
+        → SparesStopped (image_at S.Start) why)) }
+    ensures same { IfSome result.1 (StaysWhole (image_at S.Start)) }
 {
     if !is_no_path(path) && is_missing(rt, path) {
         return (Ok(EMPTY), None);

@@ -132,8 +132,8 @@ module _ {D : Type 0} {g : Ghosts D} (image next : Image) where
   -- what a check and a migration come to
   checked : (left : FileStore D g) (told : Result Sizes FileFault) → IsChecked image (Some left) told
       → Stays image left
-  checked left (Ok sizes) h = h.1
-  checked left (Err why) h = h.1
+  checked left (Ok sizes) h = h.2
+  checked left (Err why) h = h.2
 
   moved : (left : FileStore D g) (told : Result ℤ FileFault) → IsMoved image (Some left) told
       → Leaves image (Some left) next → (it : Run) → RestsIn it.plan it.ending it.streams

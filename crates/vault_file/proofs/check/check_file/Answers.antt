@@ -5,6 +5,7 @@ use Rattle.sqlite.specs.View.{IsClean}
 use Rattle.sqlite_store.specs.FileStore.{view}
 use Rattle.sqlite_wal.specs.Files.{image_at}
 use Rattle.vault_file.proofs.Leaving.{stays}
+use Rattle.vault_file.proofs.Whole.{stays_whole}
 use Rattle.vault_file.proofs.check.check_file.Goals as goal
 use Rattle.vault_verdict.proofs.Holders.{no_sizes}
 
@@ -32,6 +33,19 @@ returns-in-Err-default-Some-clause-never g c clean =
 
 pub returns-then-is_missing-clause-empty : goal.returns-then-is_missing-clause-empty
 returns-then-is_missing-clause-empty g c = λ _. no_sizes
+
+pub returns-in-Ok-clause-same : goal.returns-in-Ok-clause-same
+returns-in-Ok-clause-same g c =
+    stays_whole (image_at g.S.Start) c.in-Ok.conn c.close_moved.result c.in-Ok.ensures.same
+    (λ clean. omega (arith, c.close_moved.ensures.clean, clean)) c.close_moved.ensures.found_after
+
+pub returns-in-Err-default-Some-clause-same : goal.returns-in-Err-default-Some-clause-same
+returns-in-Err-default-Some-clause-same g c =
+    stays_whole (image_at g.S.Start) c.in-Err-default-Some.conn
+    c.close_moved-in-Err-default-Some.result
+    (rw c.in-Err-default-Some.field-0-1-is at c.in-Err-default-Some.ensures.same_refused)
+    (λ clean. omega (arith, c.close_moved-in-Err-default-Some.ensures.clean, clean))
+    c.close_moved-in-Err-default-Some.ensures.found_after
 
 pub returns-in-Ok-clause-left : goal.returns-in-Ok-clause-left
 returns-in-Ok-clause-left g c =

@@ -26,3 +26,5 @@ returns-in-Err-default-Some-clause-left g c =
     (λ clean. omega (arith, c.close_moved.ensures.clean, clean)) c.close_moved.ensures.some_after
     c.close_moved.ensures.same_after
     (rw c.in-Err-default-Some.field-0-1-is at c.in-Err-default-Some.ensures.never_in)
+    (rw c.in-Err-default-Some.field-0-1-is at c.in-Err-default-Some.ensures.never_some)
+    (rw c.in-Err-default-Some.field-0-1-is at c.in-Err-default-Some.ensures.never)

@@ -3,7 +3,7 @@ use Rattle.sqlite.specs.Files.{file_state}
 use Rattle.sqlite_store.specs.Laws.{settled_at}
 use Rattle.vault_recover.proofs.Reopened.{reopens, reopens_either, reopens_first}
 use Rattle.vault_schema.specs.Left.{last_commit}
-use Rattle.vault_file.proofs.Reopened.{reopens_in, reopens_some}
+use Rattle.vault_file.proofs.Reopened.{reopens_in, reopens_only, reopens_some}
 use Rattle.vault_file.proofs.reopen.close_moved.Goals as goal
 
 pub returns-clause-after : goal.returns-clause-after
@@ -22,6 +22,11 @@ pub returns-clause-first_after : goal.returns-clause-first_after
 returns-clause-first_after g c clean before blank each =
     reopens_first c.into_store.result (c.into_store.ensures.numbered clean) before blank
     (λ db left. each db (c.into_store.ensures.quiet.outcomes db left))
+
+pub returns-clause-found_after : goal.returns-clause-found_after
+returns-clause-found_after g c clean schema only sound alone =
+    reopens_only c.into_store.result (c.into_store.ensures.numbered clean) schema only sound
+    (λ db left. alone db (c.into_store.ensures.quiet.outcomes db left))
 
 pub returns-clause-some : goal.returns-clause-some
 returns-clause-some g c clean V each =
