@@ -3,3 +3,4 @@ pub mod Lines
 pub mod Refusing
 pub mod Running
 pub mod Saying
+pub mod Values

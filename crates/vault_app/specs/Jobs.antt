@@ -14,10 +14,13 @@ use Rattle.vault_file.specs.declared.fault.NotOpened.TheVariants as file
 use Rattle.vault_verdict.specs.Sizes.{sizes_of}
 use Rattle.vault_verdict.specs.declared.sizes.Sizes.{Sizes}
 use Rattle.vault_words.specs.declared.jobs.Job.{Job}
-use Rattle.vault_jobs.specs.Streams.{Streams}
+use Rattle.vault_wire.specs.Watching.{inner_of, is_stopped}
+use Rattle.vault_wire.specs.declared.watched.Watched.{Watched}
+use Rattle.vault_jobs.specs.Streams.{Known, Streams, streams}
+use Rattle.vault_jobs.specs.Told.{Tells}
 use Rattle.vault_app.specs.Ending.{Says, status_of}
 use Rattle.vault_app.specs.Files.{EndsOnFile}
-use Rattle.vault_app.specs.Plans.{EndsBefore, IsPlanOf, TellsMoved, TellsSizes, TrialEnds}
+use Rattle.vault_app.specs.Plans.{EndsBefore, IsPlanOf, IsProperPlan, TellsMoved, TellsSizes, TrialEnds}
 use Rattle.vault_app.specs.Ran.{AsksFor, Unasked}
 use Rattle.vault_app.specs.declared.ending.Ending.{Ending}
 use Rattle.vault_app.specs.declared.plan.Plan.{Plan}
@@ -52,10 +55,10 @@ module _ {D : Type 0} {g : Ghosts D} where
   DoesPlan image left (plan.Do path task) ending unread unsent s =
       EndsOnFile image left task ending unread unsent s
 
-  -- what a job does with them: its plan, or nothing where it ends before there is one
+  -- what a job does with them: its plan, whose parts are values, or nothing where it ends before there is one
   abbrev pub DoesJob : Image → Option (FileStore D g) → Job → Ending → Type 0 → Type 0 → Streams → Type 0
   DoesJob image left job ending unread unsent s =
-      ((p : Plan) × IsPlanOf job p × DoesPlan image left p ending unread unsent s)
+      ((p : Plan) × IsPlanOf job p × IsProperPlan p × DoesPlan image left p ending unread unsent s)
       ⊎ EndsBefore job ending × (left ≡ None) × unread × unsent
 
   -- what words do with them: the job that they ask for, or nothing
@@ -72,3 +75,15 @@ module _ {D : Type 0} {g : Ghosts D} where
     pub exits : status ≡ status_of ending
     pub says : Says ending same_output same_errors output errors
     pub does : Does image left words ending unread unsent s
+
+-- What a run of the program does over its three streams, from its files with these bytes to those that are
+-- left: its job reads, and writes up to `told`; and then the run says on the output or the errors how it
+-- ended.
+module _ {D R W E : Type 0} {g : Ghosts D} (remaining : R → Known) (contents : W → Known) (said : E → Known)
+  where
+    abbrev pub RunsAs : Image → Option (FileStore D g) → List Text → ℕ → Watched R → Watched R
+        → Watched W → Watched W → Watched W → Watched E → Watched E → Type 0
+    RunsAs image left words status i i' o told o' e e' =
+        DoesRun image left words status (i' ≡ i) (told ≡ o) (streams remaining i i' contents o told)
+        (o' ≡ told) (e' ≡ e) (Tells (contents (inner_of told)) (contents (inner_of o')) (is_stopped o'))
+        (Tells (said (inner_of e)) (said (inner_of e')) (is_stopped e'))

@@ -61,6 +61,7 @@ pub fn check_from<S: Start>(
         return Err((NotOpened::Refused, None));
     };
     settled(&conn);
+    // What a crash leaves of a check follows by cases of these.
     let _told = told(&conn);
     match check(rt.alloc(), &mut conn) {
         Ok(sizes) => Ok((sizes, conn)),

@@ -65,6 +65,7 @@ pub fn open_from<S: Start>(
         return Err((NotOpened::Refused, None));
     };
     settled(&conn);
+    // What a crash leaves of a refusal follows by cases of these.
     let _told = told(&conn);
     match open(rt.alloc(), conn) {
         Ok(vault) => Ok(vault),

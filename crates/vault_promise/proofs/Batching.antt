@@ -1,17 +1,19 @@
 -- What a batch answered, and what it left undecided, as commands.
-use Rattle.std.proofs.Common.{◌≡◌, ℕ, ◌+◌, ◌<◌, List, [], ◌∷◌, ◌++◌, length, take, Option, None}
-use Rattle.std.proofs.Common.{Result, Ok, Err, inl, inr, refl, sym, ap, subst, ◌∙◌, append-nil, append_assoc}
+use Rattle.std.proofs.Common.{◌≡◌, ◌⊎◌, ℕ, ◌+◌, ◌<◌, List, [], ◌∷◌, ◌++◌, length, take, map, Option}
+use Rattle.std.proofs.Common.{None, Result, Ok, Err, inl, inr, refl, sym, ap, subst, ◌∙◌, append-nil}
+use Rattle.std.proofs.Common.{append_assoc}
 use Rattle.std.proofs.Math.Seq.{take-append-add, take-append_seam, take-length}
 use Rattle.std.proofs.lemmas.Grind.{flat_map-append}
-use Rattle.std.proofs.lemmas.List.Elements.{All-head, All-nil, All-tail, All-take}
+use Rattle.std.proofs.lemmas.List.Elements.{All-cons, All-head, All-nil, All-tail, All-take}
 use Rattle.std.specs.Io.KnownBytes.{Appends}
 use Rattle.std.specs.Prelude.{All}
 use Rattle.std.specs.Str.Parse.{digits_value}
 use Rattle.vault_batch.proofs.Lining.{lines-more, lines-nil, vault_after-nil}
 use Rattle.vault_batch.specs.Asking.{Asked, Asks, Wants}
-use Rattle.vault_batch.specs.Batched.{line_at, pairs_of}
+use Rattle.vault_batch.specs.Batched.{line_at, pairs_of, rows_of}
 use Rattle.vault_batch.specs.Lines.{commands_of, first_line, lines, vault_after}
-use Rattle.vault_batch.specs.Rows.{Row}
+use Rattle.vault_batch.specs.Rows.{BeginRecordsOf, Fields, Row, fields_in, header}
+use Rattle.vault_batch.specs.Rows.{records_with}
 use Rattle.vault_batch.specs.Stops.{IsBatched, Stops}
 use Rattle.vault_batch.specs.declared.asker.Asker.{Asker}
 use Rattle.vault_batch.specs.declared.counts.Counts.{Counts}
@@ -39,7 +41,7 @@ use Rattle.vault_promise.proofs.Piping.{command_in, run_append, wanted_proper, w
 use Rattle.vault_promise.proofs.Proper.{IsFine, fine_by, proper-append, proper-first, proper-last, refused}
 use Rattle.vault_promise.proofs.Working.{Works}
 use Rattle.vault_promise.specs.Runs.{perhaps}
-use Rattle.vault_promise.specs.Told.{IsQuiet}
+use Rattle.vault_promise.specs.Told.{CameIn, IsQuiet}
 
 -- what a row wants is a proper command, or none
 row_proper : (who : Asker) (row : Row) (pair : Pair) (now : Option ℕ) (digits : Option (List ℕ))
@@ -85,6 +87,28 @@ run_then V xs x =
     as_run V (xs ++ x ∷ []) ∙ ap (λ cs. run cs V) (rows_then xs x)
     ∙ run_append (commands_of xs) (commands_in x.wanted) V ∙ wanted_run x.wanted (run (commands_of xs) V)
 
+-- the records of rows, with none more
+has_rows : (s : Streams) (xs : List Asked) → CameIn s (records_with (rows_of xs))
+    → (xs ≡ []) ⊎ ((more : List Fields) × CameIn s (records_with (rows_of xs) ++ more))
+has_rows s xs it = inr ([], subst (CameIn s) (sym (append-nil (records_with (rows_of xs)))) it)
+
+-- and with those of one more
+has_one : (s : Streams) (xs : List Asked) (x : Asked)
+    → BeginRecordsOf s.left_old (records_with (rows_of xs) ++ fields_in x.row ∷ [])
+    → (xs ++ x ∷ [] ≡ []) ⊎ ((more : List Fields) × CameIn s (records_with (rows_of (xs ++ x ∷ [])) ++ more))
+has_one s xs x it =
+    has_rows s (xs ++ x ∷ [])
+    (inr (subst (λ rs. BeginRecordsOf s.left_old rs) (sym (records-more xs x)) it))
+  where
+    records-more : (ys : List Asked) (y : Asked)
+        → records_with (rows_of (ys ++ y ∷ [])) ≡ records_with (rows_of ys) ++ fields_in y.row ∷ []
+    records-more ys y = ap (λ rs. fields_in header ∷ rs) (rows-more ys)
+      where
+        rows-more : (zs : List Asked)
+            → map fields_in (rows_of (zs ++ y ∷ [])) ≡ map fields_in (rows_of zs) ++ fields_in y.row ∷ []
+        rows-more [] = refl
+        rows-more (z ∷ zs) = ap (λ rs. fields_in z.row ∷ rs) (rows-more zs)
+
 module _ (who : Asker) (now : Option ℕ) (digits : Option (List ℕ)) (named : IsName who.caller)
     (at : IsName who.merchant) (w : Passage) (V : Content) (b : IsBefore w V) (s : Streams) where
   -- of the lines of these rows so many bytes went out
@@ -126,21 +150,23 @@ module _ (who : Asker) (now : Option ℕ) (digits : Option (List ℕ)) (named : 
         (All-take (IsPairOf now digits) (length ds) (ds ++ es) (fits (ds ++ es) taken))
 
     -- rows that are answered
-    answered : (xs : List Asked) → All (IsPairOf now digits) (pairs_of xs) → All (Asks who) xs → Went xs
+    answered : (xs : List Asked)
+        → (xs ≡ []) ⊎ ((more : List Fields) × CameIn s (records_with (rows_of xs) ++ more))
+        → All (IsPairOf now digits) (pairs_of xs) → All (Asks who) xs → Went xs
         → w.left_new (vault_after V xs) (vault_after V xs) → Goal
-    answered xs of asked went left = record {
+    answered xs records of asked went left = record {
       answered = commands_of xs;
       undecided = None;
       proper = rows_proper who now digits xs named at of asked;
       last_proper = tt;
-      tells = (xs, asked, refl, went);
+      tells = (xs, asked, refl, record { records = records; fixed = of }, went);
       left = subst (λ W. w.left_new W W) (as_run V xs) left;
     }
 
     -- no row at all
     none : Went [] → w.left_new V V → Goal
     none went left =
-        answered [] (All-nil (IsPairOf now digits)) (All-nil (Asks who)) went
+        answered [] (inl refl) (All-nil (IsPairOf now digits)) (All-nil (Asks who)) went
         (subst (λ W. w.left_new W W) (sym (vault_after-nil V)) left)
 
     quiet_went : Appends s.sent_old s.sent_new [] → Went []
@@ -152,11 +178,22 @@ module _ (who : Asker) (now : Option ℕ) (digits : Option (List ℕ)) (named : 
         ap (λ t. first_line ++ t) (lines-nil V) ∙ append-nil first_line in
         (n, subst (λ t. Appends s.sent_old s.sent_new (take n t)) (sym all) went)
 
+    -- the pairs of the rows before one
+    first_pairs : (xs : List Asked) (x : Asked) → All (IsPairOf now digits) (pairs_of (xs ++ x ∷ []))
+        → All (IsPairOf now digits) (pairs_of xs)
+    first_pairs [] x all = All-nil (IsPairOf now digits)
+    first_pairs (y ∷ ys) x all =
+        All-cons (IsPairOf now digits) y.pair (pairs_of ys)
+        (All-head (IsPairOf now digits) y.pair (pairs_of (ys ++ x ∷ [])) all)
+        (first_pairs ys x (All-tail (IsPairOf now digits) y.pair (pairs_of (ys ++ x ∷ [])) all))
+
     -- some rows are answered, and one more is undecided
-    torn : (xs : List Asked) (x : Asked) → All (IsPairOf now digits) (pairs_of (xs ++ x ∷ []))
+    torn : (xs : List Asked) (x : Asked)
+        → BeginRecordsOf s.left_old (records_with (rows_of xs) ++ fields_in x.row ∷ [])
+        → All (IsPairOf now digits) (pairs_of (xs ++ x ∷ []))
         → All (Asks who) (xs ++ x ∷ []) → Appends s.sent_old s.sent_new (first_line ++ lines V xs)
         → w.left_new (vault_after V xs) (vault_after V (xs ++ x ∷ [])) → Goal
-    torn xs x of asked went left =
+    torn xs x records of asked went left =
         let proper : AllProper (commands_of xs ++ commands_in x.wanted) =
         subst AllProper (rows_then xs x) (rows_proper who now digits (xs ++ x ∷ []) named at of asked) in
         record {
@@ -169,6 +206,7 @@ module _ (who : Asker) (now : Option ℕ) (digits : Option (List ℕ)) (named : 
             subst (λ ys. All (Asks who) ys) (take-append_seam xs (x ∷ []))
                 (All-take (Asks who) (length xs) (xs ++ x ∷ []) asked),
             refl,
+            record { records = inr (fields_in x.row ∷ [], inr records); fixed = first_pairs xs x of },
             all_went xs went,
           );
           left = subst (λ W. w.left_new W (perhaps (run (commands_of xs) V) (command_in x.wanted)))
@@ -178,42 +216,43 @@ module _ (who : Asker) (now : Option ℕ) (digits : Option (List ℕ)) (named : 
     whole : (counts : Counts) → IsBatched s.left_old (along w s pairs) who counts → Goal
     whole counts q =
         let it = q.answered.answered V b in
-        answered q.rows (fits (pairs_of q.rows) q.answered.taken) q.answered.asked (all_went q.rows it.0)
-        it.1.1
+        answered q.rows (has_rows s q.rows (inl q.records)) (fits (pairs_of q.rows) q.answered.taken)
+        q.answered.asked (all_went q.rows it.0) it.1.1
 
     stopped : (e : BatchFault) → Stops s.left_old (along w s pairs) who e → Goal
     stopped fault.BadHeader q = none (quiet_went q.0.0) (q.0.1.1 V b).1
     stopped fault.Read (inl q) = none (quiet_went q.0) (q.1.1 V b).1
     stopped fault.Read (inr q) =
         let it = q.answered.answered V b in
-        answered q.rows (fits (pairs_of q.rows) q.answered.taken) q.answered.asked (all_went q.rows it.0)
-        it.1.1
+        answered q.rows (has_rows s q.rows (inr q.records)) (fits (pairs_of q.rows) q.answered.taken)
+        q.answered.asked (all_went q.rows it.0) it.1.1
     stopped fault.Write (inl q) = none (first_went q.sent q.part q.went) (q.unchanged.1 V b).1
     stopped fault.Write (inr (rows, next, records, q)) =
         let it = q.answered V b in
-        answered (rows ++ next ∷ []) (fits (pairs_of (rows ++ next ∷ [])) q.taken) q.asked
-        (part_went rows next q.sent it.1) it.2.1
+        answered (rows ++ next ∷ []) (has_one s rows next records)
+        (fits (pairs_of (rows ++ next ∷ [])) q.taken) q.asked (part_went rows next q.sent it.1) it.2.1
     stopped fault.Store (rows, next, records, q) =
         let it = q.answered V b in
-        torn rows next (fits (pairs_of (rows ++ next ∷ [])) q.taken) q.asked it.0 it.1
+        torn rows next records (fits (pairs_of (rows ++ next ∷ [])) q.taken) q.asked it.0 it.1
     stopped fault.BadRecord q =
         let it = q.answered.answered V b in
-        answered q.rows (fits (pairs_of q.rows) q.answered.taken) q.answered.asked (all_went q.rows it.0)
-        it.1.1
+        answered q.rows (inr (q.bad ∷ [], inr q.records)) (fits (pairs_of q.rows) q.answered.taken)
+        q.answered.asked (all_went q.rows it.0) it.1.1
     stopped fault.Memory (inl q) = none (quiet_went q.0) (q.1.1 V b).1
     stopped fault.Memory (inr (inl (rows, records, q))) =
         let it = q.answered V b in
-        answered rows (fits_first (pairs_of rows) q.unused q.taken) q.asked (all_went rows it.0) it.1.1
+        answered rows (has_rows s rows (inr records)) (fits_first (pairs_of rows) q.unused q.taken) q.asked
+        (all_went rows it.0) it.1.1
     stopped fault.Memory (inr (inr (rows, next, records, q))) =
         let it = q.answered V b in
-        answered (rows ++ next ∷ []) (fits (pairs_of (rows ++ next ∷ [])) q.taken) q.asked
-        (part_went rows next 0
+        answered (rows ++ next ∷ []) (has_one s rows next records)
+        (fits (pairs_of (rows ++ next ∷ [])) q.taken) q.asked (part_went rows next 0
         (subst (λ t. Appends s.sent_old s.sent_new (first_line ++ t)) (sym (append-nil (lines V rows))) it.0))
         it.1.1
     stopped fault.Source q =
         let it = q.answered.answered V b in
-        answered q.rows (fits (pairs_of q.rows) q.answered.taken) q.answered.asked (all_went q.rows it.0)
-        it.1.1
+        answered q.rows (inr (fields_in q.next ∷ [], inr q.records)) (fits (pairs_of q.rows) q.answered.taken)
+        q.answered.asked (all_went q.rows it.0) it.1.1
 
   pub batch_works : (r : Result Outcome Stop) (unread unsent : Type 0) → (unsent → IsQuiet s)
       → BatchEnds who now digits w r unread unsent s → Goal

@@ -3,7 +3,7 @@ use Rattle.std.proofs.Common.{◌≡◌, ◌⊎◌, List, [], Option, Some, None
 use Rattle.std.proofs.Common.{inl, inr, refl, sym}
 use Rattle.std.proofs.Common.{arith, subst}
 use Rattle.std.proofs.Math.Logic.{∥∥₁_map}
-use Rattle.std.specs.Io.KnownBytes.{Appends}
+use Rattle.std.specs.Io.KnownBytes.{Appends, Consumes}
 use Rattle.std.specs.Prelude.{ℤ}
 use Rattle.sqlite.specs.Files.{file_state}
 use Rattle.sqlite_disk.specs.declared.Disk.{Ghosts}
@@ -14,7 +14,7 @@ use Rattle.vault_core.specs.Sound.{Sound}
 use Rattle.vault_core.specs.Vault.{Vault as Content}
 use Rattle.vault_core.specs.declared.command.Command.{Command}
 use Rattle.vault_file.specs.Found.{Stays}
-use Rattle.vault_http.proofs.Bytes.{appends_nothing}
+use Rattle.vault_http.proofs.Bytes.{appends_nothing, consumes_nothing}
 use Rattle.vault_http.specs.Passing.{IsBefore, Passage}
 use Rattle.sqlite.specs.Held.{Held}
 use Rattle.sqlite.specs.State.{HasCleanDisk}
@@ -32,10 +32,17 @@ use Rattle.vault_jobs.specs.declared.task.Outcome.TheVariants as outcome
 use Rattle.vault_jobs.specs.declared.task.Task.{Task}
 use Rattle.vault_jobs.specs.declared.task.Task.TheVariants as task
 use Rattle.vault_app.specs.Files.{DoesOnFile, EndsOnFile, WorksOn, file_passing}
-use Rattle.vault_app.specs.Jobs.{DoesPlan, IsChecked, IsMoved}
+use Rattle.clap.specs.Words.{Text}
+use Rattle.vault_words.specs.Commands.{program_app}
+use Rattle.vault_words.specs.Jobs.{IsAsked}
+use Rattle.vault_words.specs.declared.jobs.Job.{Job}
+use Rattle.vault_words.specs.declared.jobs.Job.TheVariants as job
+use Rattle.vault_app.specs.Jobs.{Does as DoesWords, DoesPlan, IsChecked, IsMoved}
+use Rattle.vault_app.specs.Plans.{IsPlanOf, IsProperPlan, IsTaskOf}
+use Rattle.vault_app.specs.Ran.{AsksFor, Unasked}
+use Rattle.vault_app.specs.Values.{AreValues}
 use Rattle.vault_file.specs.Moved.{MovesAs}
 use Rattle.vault_file.specs.declared.fault.NotOpened.{NotOpened as FileFault}
-use Rattle.vault_file.specs.declared.fault.NotOpened.TheVariants as file
 use Rattle.vault_verdict.specs.declared.sizes.Sizes.{Sizes}
 use Rattle.vault_app.specs.declared.ending.Ending.{Ending}
 use Rattle.vault_app.specs.declared.ending.Ending.TheVariants as ending
@@ -47,26 +54,60 @@ use Rattle.vault_promise.proofs.Piping.{pipe_works}
 use Rattle.vault_promise.proofs.Serving.{serve_works}
 use Rattle.vault_promise.proofs.Sweeping.{sweep_works}
 use Rattle.vault_promise.proofs.Working.{Works, change_works, give_works}
-use Rattle.vault_promise.specs.Runs.{AreOf, AreValuesIn, Bear, Comes, EveryRunIsOne, IsRun, Leaves}
-use Rattle.vault_promise.specs.Runs.{RestsIn, Run, TellsIn, Work, kept_by, perhaps, undecided_by}
-use Rattle.vault_promise.specs.Told.{AreValues, IsQuiet, Tells}
+use Rattle.vault_promise.specs.Runs.{AreOf, Bear, Comes, EveryRunIsOne, IsAside, IsRun, Leaves}
+use Rattle.vault_promise.specs.Runs.{Rests, Run, Work, kept_by, perhaps, undecided_by}
+use Rattle.vault_promise.specs.Told.{IsQuiet, Tells}
+
+-- nothing came in
+abbrev IsStill : Streams → Type 0
+IsStill s = Consumes s.left_old s.left_new []
 
 -- what a task does, by its clause
 works : (t : Task) (w : Passage) (V : Content) (b : IsBefore w V) → Sound V → (s : Streams)
-    (broken : Bool) (r : Result Outcome Stop) (unread unsent : Type 0) → (unsent → IsQuiet s) → AreValues t
+    (broken : Bool) (r : Result Outcome Stop) (unread unsent : Type 0) → (unread → IsStill s)
+    → (unsent → IsQuiet s) → AreValues t
     → Does t w broken r unread unsent s → Works w V t s
-works (task.Change c) w V b sound s broken r unread unsent quiet values h =
+works (task.Change c) w V b sound s broken r unread unsent still quiet values h =
     change_works w V b s unsent quiet c values.0 values.1 broken r h
-works (task.Give rights now) w V b sound s broken r unread unsent quiet values h =
+works (task.Give rights now) w V b sound s broken r unread unsent still quiet values h =
     give_works w V b s unsent quiet rights now values broken r h
-works (task.Sweep who now) w V b sound s broken r unread unsent quiet values h =
+works (task.Sweep who now) w V b sound s broken r unread unsent still quiet values h =
     sweep_works who now values.0 values.1 values.2 w V b sound s unsent quiet broken r h
-works (task.Batch who now digits) w V b sound s broken r unread unsent quiet values h =
+works (task.Batch who now digits) w V b sound s broken r unread unsent still quiet values h =
     batch_works who now digits values.0 values.1 w V b s r unread unsent quiet h
-works (task.Pipe now digits) w V b sound s broken r unread unsent quiet values h =
-    pipe_works now digits w V b s r unread unsent quiet h
-works (task.Serve port connections) w V b sound s broken r unread unsent quiet values h =
+works (task.Pipe now digits) w V b sound s broken r unread unsent still quiet values h =
+    pipe_works now digits w V b s r unread unsent still quiet h
+works (task.Serve port connections) w V b sound s broken r unread unsent still quiet values h =
     serve_works w V b s port connections r unsent h
+
+-- what a job with this plan asks for
+abbrev Fits : Job → Plan → Type 0
+Fits job (plan.Trial t) = IsAside job
+Fits job (plan.Check path) = IsAside job
+Fits job (plan.Migrate path) = IsAside job
+Fits job (plan.Do path t) = IsTaskOf job t
+
+fits : (job : Job) (p : Plan) → IsPlanOf job p → Fits job p
+fits (job.Trial j) p (t, is, same) = subst (Fits (job.Trial j)) (sym same) tt
+fits (job.Merchant j) p (t, is, same) = subst (Fits (job.Merchant j)) (sym same) is
+fits (job.Grant j) p (t, is, same) = subst (Fits (job.Grant j)) (sym same) is
+fits (job.Withdraw j) p (t, is, same) = subst (Fits (job.Withdraw j)) (sym same) is
+fits (job.Rights j) p (t, is, same) = subst (Fits (job.Rights j)) (sym same) is
+fits (job.Pipe j) p (t, is, same) = subst (Fits (job.Pipe j)) (sym same) is
+fits (job.Batch j) p (t, is, same) = subst (Fits (job.Batch j)) (sym same) is
+fits (job.Serve j) p (t, is, same) = subst (Fits (job.Serve j)) (sym same) is
+fits (job.Sweep j) p (t, is, same) = subst (Fits (job.Sweep j)) (sym same) is
+fits (job.Check j) p same = subst (Fits (job.Check j)) (sym same) tt
+fits (job.Migrate j) p same = subst (Fits (job.Migrate j)) (sym same) tt
+
+-- a run whose words ask for no job
+unasked : (image : Image) (words : List Text) (end : Ending) (s : Streams)
+    (unread unsent : Type 0) → (unsent → IsQuiet s) → Unasked words end unread unsent
+    → Rests (record { begins = image; words = words; streams = s })
+unasked image words end s unread unsent quiet (inl (inl (help, is), calm)) = inr (inl help)
+unasked image words end s unread unsent quiet (inl (inr (version, is, silent), calm)) = inl (quiet silent)
+unasked image words end s unread unsent quiet (inr (inl (none, is, calm, silent))) = inl (quiet silent)
+unasked image words end s unread unsent quiet (inr (inr (is, calm, silent))) = inl (quiet silent)
 
 -- who finds no more finds what was found
 finds_less : (image next : Image) (Are : Trees → Type 0)
@@ -81,7 +122,7 @@ are_less image next V c less (inr (inr (none, empty, (before, blank, first)))) =
     inr (inr (none, empty, (before, blank, finds_less image next _ less first)))
 
 -- a run that rests, and leaves bytes that are found as those before it
-rests : (next : Image) (it : Run) → RestsIn it.plan it.ending it.streams
+rests : (next : Image) (it : Run) → Rests it
     → ((found : Trees) → MayFind next found → MayFind it.begins found) → IsRun it next
 rests next it calm less V c sound proper of = ∣ (inr calm, are_less it.begins next V c less of) ∣₁
 
@@ -104,7 +145,7 @@ IsFrom image r next = (V : Content) (c : Option Command) → Sound V → IfSome 
 module _ {D : Type 0} {g : Ghosts D} (image next : Image) where
   -- files that keep what they kept
   stays_run : (left : FileStore D g) → Leaves image (Some left) next → (it : Run)
-      → RestsIn it.plan it.ending it.streams → Stays image left → IsFrom image it next
+      → Rests it → Stays image left → IsFrom image it next
   stays_run left may it calm stays V c sound proper (inl keeps) =
       ∣ (inr calm, inl (stays.either may.0 V (perhaps V c) keeps next may.1)) ∣₁
   stays_run left may it calm stays V c sound proper (inr (inl (none, some))) =
@@ -117,7 +158,7 @@ module _ {D : Type 0} {g : Ghosts D} (image next : Image) where
 
   -- files that move to the newest schema
   moves_run : (left : FileStore D g) → Leaves image (Some left) next → (it : Run)
-      → RestsIn it.plan it.ending it.streams → MovesAs image left → IsFrom image it next
+      → Rests it → MovesAs image left → IsFrom image it next
   moves_run left may it calm moves V c sound proper (inl keeps) =
       ∣ (inr calm, inl (moves.either may.0 V (perhaps V c) keeps next may.1)) ∣₁
   moves_run left may it calm moves V c sound proper (inr (inl (none, some))) =
@@ -136,16 +177,16 @@ module _ {D : Type 0} {g : Ghosts D} (image next : Image) where
   checked left (Err why) h = h.2
 
   moved : (left : FileStore D g) (told : Result ℤ FileFault) → IsMoved image (Some left) told
-      → Leaves image (Some left) next → (it : Run) → RestsIn it.plan it.ending it.streams
+      → Leaves image (Some left) next → (it : Run) → Rests it
       → IsFrom image it next
   moved left (Ok version) h may it calm = moves_run left may it calm h
   moved left (Err why) h may it calm = stays_run left may it calm h.1
 
   -- a file that is opened, or refused with a connection
   module _ (left : FileStore D g) (may : Leaves image (Some left) next) (t : Task) (end : Ending)
-      (s : Streams) (values : AreValues t) (r : Run)
-      (of : (X : Content) (cs : List Command) → Tells t X cs s → TellsIn r.plan X cs r.streams)
-      (calm : (why : FileFault) → end ≡ ending.NotOpened why → IsQuiet s → RestsIn r.plan r.ending r.streams)
+      (s : Streams) (values : AreValues t) (r : Run) (asked : AsksFor r.words (λ job. IsTaskOf job t))
+      (of : (X : Content) (cs : List Command) → Tells t X cs s → Tells t X cs r.streams)
+      (calm : IsQuiet s → Rests r)
       (bear : (X : Content) → Bear image X → Bear r.begins X) where
     -- a task that worked on the vault W comes to this
     work_on : (V : Content) (c : Option Command) (W : Content) → (W ≡ V) ⊎ (W ≡ perhaps V c)
@@ -154,6 +195,8 @@ module _ {D : Type 0} {g : Ghosts D} (image next : Image) where
         → (it : Comes V c r) × AreOf next (kept_by V c r it) (undecided_by V c r it)
     work_on V c W is held w it kept =
         let done : Work V c r = record {
+          task = t;
+          asked = asked;
           opened = W;
           is = is;
           holds = bear W held;
@@ -165,7 +208,8 @@ module _ {D : Type 0} {g : Ghosts D} (image next : Image) where
         } in
         (inl done, inl (kept _ _ it.left))
 
-    module _ (result : Result Outcome Stop) (unread unsent : Type 0) (quiet : unsent → IsQuiet s)
+    module _ (result : Result Outcome Stop) (unread unsent : Type 0) (still : unread → IsStill s)
+        (quiet : unsent → IsQuiet s)
         (on : WorksOn image left (λ p broken. Does t p broken result unread unsent s)) where
       abbrev conn : Held (FileStore D g)
       conn = on.opened
@@ -191,7 +235,8 @@ module _ {D : Type 0} {g : Ghosts D} (image next : Image) where
           → (it : Comes V c r) × AreOf next (kept_by V c r it) (undecided_by V c r it)
       on_one V c W is sound held holds =
           work_on V c W is held w
-          (works t w W (may.0, (holds, sound)) sound s on.broken result unread unsent quiet values on.done)
+          (works t w W (may.0, (holds, sound)) sound s on.broken result unread unsent still quiet values
+          on.done)
           (λ A B leaves. leaves next may.1)
 
       worked : IsFrom image r next
@@ -219,46 +264,64 @@ module _ {D : Type 0} {g : Ghosts D} (image next : Image) where
           (λ is. on_one V c V (inl refl) sound held (subst (Holds (file_state conn)) (sym empty) is))
 
     -- a task on files that are opened, or refused with a connection
-    on_some : (unread unsent : Type 0) → (unsent → IsQuiet s)
+    on_some : (unread unsent : Type 0) → (unread → IsStill s) → (unsent → IsQuiet s)
         → EndsOnFile image (Some left) t end unread unsent s → IsFrom image r next
-    on_some unread unsent quiet h = by_ending end refl h
+    on_some unread unsent still quiet h = by_ending end refl h
       where
         by_ending : (e : Ending) → end ≡ e → DoesOnFile image left t e unread unsent s → IsFrom image r next
-        by_ending ending.Done is h = worked (Ok outcome.Done) unread unsent quiet h
+        by_ending ending.Done is h = worked (Ok outcome.Done) unread unsent still quiet h
         by_ending ending.Version is h = absurd h
-        by_ending (ending.Refused n) is h = worked (Ok (outcome.Refused n)) unread unsent quiet h
-        by_ending ending.SomeRefused is h = worked (Ok outcome.SomeRefused) unread unsent quiet h
+        by_ending (ending.Refused n) is h = worked (Ok (outcome.Refused n)) unread unsent still quiet h
+        by_ending ending.SomeRefused is h = worked (Ok outcome.SomeRefused) unread unsent still quiet h
         by_ending ending.BadWords is h = absurd h
-        by_ending (ending.NotOpened why) is h = stays_run left may r (calm why is (quiet h.2)) h.0.stays
-        by_ending (ending.Stopped stop) is h = worked (Err stop) unread unsent quiet h
+        by_ending (ending.NotOpened why) is h = stays_run left may r (calm (quiet h.2)) h.0.stays
+        by_ending (ending.Stopped stop) is h = worked (Err stop) unread unsent still quiet h
 
-  each : (left : Option (FileStore D g)) (p : Plan) (end : Ending) (s : Streams) (unread unsent : Type 0)
-      → (unsent → IsQuiet s) → AreValuesIn p → DoesPlan image left p end unread unsent s
-      → Leaves image left next → IsRun (record { begins = image; plan = p; ending = end; streams = s }) next
-  each left (plan.Trial t) end s unread unsent quiet values h leaves =
-      rests next (record { begins = image; plan = plan.Trial t; ending = end; streams = s }) tt
+  -- a run whose words ask for a job with this plan
+  each : (left : Option (FileStore D g)) (words : List Text) (job : Job) → IsAsked program_app words job
+      → (p : Plan) → Fits job p → (end : Ending) (s : Streams) (unread unsent : Type 0)
+      → (unread → IsStill s) → (unsent → IsQuiet s) → IsProperPlan p
+      → DoesPlan image left p end unread unsent s
+      → Leaves image left next → IsRun (record { begins = image; words = words; streams = s }) next
+  each left words job asked (plan.Trial t) asks end s unread unsent still quiet values h leaves =
+      rests next (record { begins = image; words = words; streams = s }) (inr (inr (job, asked, asks)))
       (subst (λ l. Leaves image l next) h.0 leaves)
-  each (Some left) (plan.Check path) end s unread unsent quiet values h leaves =
-      stays_run left leaves (record { begins = image; plan = plan.Check path; ending = end; streams = s }) tt
-      (checked left h.1.0 h.1.1)
-  each None (plan.Check path) end s unread unsent quiet values h leaves =
-      rests next (record { begins = image; plan = plan.Check path; ending = end; streams = s }) tt leaves
-  each (Some left) (plan.Migrate path) end s unread unsent quiet values h leaves =
-      moved left h.1.0 h.1.1 leaves
-      (record { begins = image; plan = plan.Migrate path; ending = end; streams = s }) tt
-  each None (plan.Migrate path) end s unread unsent quiet values h leaves =
-      rests next (record { begins = image; plan = plan.Migrate path; ending = end; streams = s }) tt leaves
-  each (Some left) (plan.Do path t) end s unread unsent quiet values h leaves =
-      on_some left leaves t end s values
-      (record { begins = image; plan = plan.Do path t; ending = end; streams = s })
-      (λ X cs told. told) (λ why is still. ((why, is), still)) (λ X held. held) unread unsent quiet h
-  each None (plan.Do path t) end s unread unsent quiet values h leaves =
-      rests next (record { begins = image; plan = plan.Do path t; ending = end; streams = s })
-      ((file.Refused, h.0), quiet h.2) leaves
+  each (Some left) words job asked (plan.Check path) asks end s unread unsent still quiet values h leaves =
+      stays_run left leaves (record { begins = image; words = words; streams = s })
+      (inr (inr (job, asked, asks))) (checked left h.1.0 h.1.1)
+  each None words job asked (plan.Check path) asks end s unread unsent still quiet values h leaves =
+      rests next (record { begins = image; words = words; streams = s }) (inr (inr (job, asked, asks))) leaves
+  each (Some left) words job asked (plan.Migrate path) asks end s unread unsent still quiet values h leaves =
+      moved left h.1.0 h.1.1 leaves (record { begins = image; words = words; streams = s })
+      (inr (inr (job, asked, asks)))
+  each None words job asked (plan.Migrate path) asks end s unread unsent still quiet values h leaves =
+      rests next (record { begins = image; words = words; streams = s }) (inr (inr (job, asked, asks))) leaves
+  each (Some left) words job asked (plan.Do path t) asks end s unread unsent still quiet values h leaves =
+      on_some left leaves t end s values (record { begins = image; words = words; streams = s })
+      (job, asked, asks) (λ X cs told. told) (λ still. inl still) (λ X held. held) unread unsent still quiet h
+  each None words job asked (plan.Do path t) asks end s unread unsent still quiet values h leaves =
+      rests next (record { begins = image; words = words; streams = s }) (inl (quiet h.2)) leaves
 
-pub each_is_run : {D R W : Type 0} (g : Ghosts D) (remaining : R → Known) (contents : W → Known)
-    → EveryRunIsOne g remaining contents
-each_is_run g remaining contents image next left p end i i' o o' values h leaves =
-    each image next left p end (streams remaining i i' contents o o') (i' ≡ i) (o' ≡ o)
+  -- and whatever words it has
+  all : (left : Option (FileStore D g)) (words : List Text) (end : Ending) (s : Streams)
+      (unread unsent : Type 0) → (unread → IsStill s) → (unsent → IsQuiet s)
+      → DoesWords image left words end unread unsent s
+      → Leaves image left next → IsRun (record { begins = image; words = words; streams = s }) next
+  all left words end s unread unsent still quiet (inl (job, asked, inl (p, is, proper, h))) leaves =
+      each left words job asked p (fits job p is) end s unread unsent still quiet proper h leaves
+  all left words end s unread unsent still quiet
+      (inl (job, asked, inr (why, none, calm, silent))) leaves =
+      rests next (record { begins = image; words = words; streams = s }) (inl (quiet silent))
+      (subst (λ l. Leaves image l next) none leaves)
+  all left words end s unread unsent still quiet (inr (none, without)) leaves =
+      rests next (record { begins = image; words = words; streams = s })
+      (unasked image words end s unread unsent quiet without) (subst (λ l. Leaves image l next) none leaves)
+
+pub each_is_run : {D R W E : Type 0} (g : Ghosts D) (remaining : R → Known) (contents : W → Known)
+    (said : E → Known) → EveryRunIsOne g remaining contents said
+each_is_run g remaining contents said image next left words status i i' o told o' e e' h leaves =
+    all image next left words h.ending (streams remaining i i' contents o told) (i' ≡ i) (told ≡ o)
+    (λ same. subst (λ u. Consumes (remaining i.inner) (remaining u.inner) []) (sym same)
+    (consumes_nothing (remaining i.inner)))
     (λ same. subst (λ u. Appends (contents o.inner) (contents u.inner) []) (sym same)
-    (appends_nothing (contents o.inner))) values h leaves
+    (appends_nothing (contents o.inner))) h.does leaves

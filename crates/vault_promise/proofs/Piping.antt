@@ -8,7 +8,7 @@ use Rattle.vault_core.specs.Proper.{AllProper, IsProper}
 use Rattle.vault_core.specs.Runs.{run}
 use Rattle.vault_core.specs.Vault.{Vault as Content}
 use Rattle.vault_core.specs.declared.command.Command.{Command}
-use Rattle.std.specs.Io.KnownBytes.{Appends}
+use Rattle.std.specs.Io.KnownBytes.{Appends, Consumes}
 use Rattle.vault_http.specs.Exchanges.{Exchange, commands_in, commands_of, last_text, texts, vault_after}
 use Rattle.vault_wire.specs.declared.fault.WireFault.{WireFault}
 use Rattle.vault_http.specs.Passing.{IsBefore, Passage}
@@ -22,7 +22,7 @@ use Rattle.vault_promise.proofs.Answering.{answers_of}
 use Rattle.vault_promise.proofs.Proper.{proper-first, proper-last}
 use Rattle.vault_promise.proofs.Working.{Works}
 use Rattle.vault_promise.specs.Runs.{perhaps}
-use Rattle.vault_promise.specs.Told.{IsQuiet}
+use Rattle.vault_promise.specs.Told.{AreHeard, IsQuiet}
 
 -- the command that is wanted, where there is one
 abbrev pub command_in : Wanted Command → Option Command
@@ -63,21 +63,22 @@ run_then V xs x =
 
 module _ (now : Option ℕ) (digits : Option (List ℕ)) (w : Passage) (V : Content) (b : IsBefore w V)
     (s : Streams) where
-  answered : (xs us : List Exchange) → length us ≤ 1 → AllProper (commands_of (xs ++ us))
+  answered : (xs us : List Exchange) → AreHeard now digits s xs → length us ≤ 1
+      → AllProper (commands_of (xs ++ us))
       → w.left_new (vault_after V xs) (vault_after V (xs ++ us))
       → (e : Option WireFault) × (sent : ℕ)
       × Appends s.sent_old s.sent_new (take sent (texts V xs ++ last_text e))
       → Works w V (task.Pipe now digits) s
-  answered xs [] few proper left went = record {
+  answered xs [] heard few proper left went = record {
     answered = commands_of xs;
     undecided = None;
     proper = subst (λ ys. AllProper (commands_of ys)) (append-nil xs) proper;
     last_proper = tt;
-    tells = (xs, refl, went);
+    tells = (xs, refl, heard, went);
     left = subst (λ W. w.left_new W W) (as_run V xs)
         (subst (λ ys. w.left_new (vault_after V xs) (vault_after V ys)) (append-nil xs) left);
   }
-  answered xs (x ∷ []) few proper left went =
+  answered xs (x ∷ []) heard few proper left went =
       let both : AllProper (commands_of xs ++ commands_in x.wanted) =
       subst AllProper (commands_then xs x) proper in
       record {
@@ -85,14 +86,15 @@ module _ (now : Option ℕ) (digits : Option (List ℕ)) (w : Passage) (V : Cont
         undecided = command_in x.wanted;
         proper = proper-first (commands_of xs) (commands_in x.wanted) both;
         last_proper = wanted_proper x.wanted (proper-last (commands_of xs) (commands_in x.wanted) both);
-        tells = (xs, refl, went);
+        tells = (xs, refl, heard, went);
         left = subst (λ W. w.left_new W (perhaps (run (commands_of xs) V) (command_in x.wanted)))
             (as_run V xs) (subst (λ W. w.left_new (vault_after V xs) W) (run_then V xs x) left);
       }
-  answered xs (x ∷ y ∷ us) few proper left went = absurd (omega (arith, few))
+  answered xs (x ∷ y ∷ us) heard few proper left went = absurd (omega (arith, few))
 
-  pub pipe_works : (r : Result Outcome Stop) (unread unsent : Type 0) → (unsent → IsQuiet s)
+  pub pipe_works : (r : Result Outcome Stop) (unread unsent : Type 0)
+      → (unread → Consumes s.left_old s.left_new []) → (unsent → IsQuiet s)
       → PipeEnds now digits w r unread unsent s → Works w V (task.Pipe now digits) s
-  pipe_works r unread unsent quiet h =
-      let a = answers_of now digits w s r unread unsent quiet h in
-      answered a.exchanges a.undecided a.few a.proper (a.left V b) (a.went V b)
+  pipe_works r unread unsent still quiet h =
+      let a = answers_of now digits w s r unread unsent still quiet h in
+      answered a.exchanges a.undecided a.heard a.few a.proper (a.left V b) (a.went V b)

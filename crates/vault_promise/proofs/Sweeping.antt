@@ -36,7 +36,6 @@ use Rattle.vault_jobs.specs.Streams.{Streams}
 use Rattle.vault_jobs.specs.Sweeps.{AreSwept, Begin, left_dead, purge_at, purges_at, swept_vault}
 use Rattle.vault_jobs.specs.declared.stop.Stop.{Stop}
 use Rattle.vault_jobs.specs.declared.stop.Stop.TheVariants as stop
-use Rattle.vault_jobs.specs.declared.sweep.Swept.TheVariants.{Refused}
 use Rattle.vault_jobs.specs.declared.task.Outcome.{Outcome as Ended}
 use Rattle.vault_jobs.specs.declared.task.Outcome.TheVariants as outcome
 use Rattle.vault_jobs.specs.declared.task.Task.TheVariants as task

@@ -35,7 +35,8 @@ use Rattle.vault_jobs.specs.declared.task.Outcome.TheVariants as outcome
 use Rattle.vault_jobs.specs.declared.task.Task.{Task}
 use Rattle.vault_jobs.specs.declared.task.Task.TheVariants as task
 use Rattle.vault_promise.specs.Runs.{perhaps}
-use Rattle.vault_promise.specs.Told.{IsOwn, IsQuiet, Tells}
+use Rattle.vault_promise.specs.Told.{IsQuiet, Tells}
+use Rattle.vault_app.specs.Values.{IsOwn}
 
 -- From this vault a task answered commands, of which alone it told; and of one more at most it isn't known
 -- whether it is done.

@@ -1,7 +1,8 @@
 -- Runs of the program over one file, one after the other, each with the bytes that the one before it left or
 -- that a stop may leave of these.
 use Rattle.std.proofs.Common.{inl, inr}
-use Rattle.std.specs.Prelude.{◌≡◌, ◌⊎◌, List, [], ◌∷◌, ◌++◌, IfSome, Option, Some, None}
+use Rattle.std.specs.Prelude.{◌≡◌, ◌⊎◌, ℕ, List, [], ◌∷◌, ◌++◌, IfSome, Option, Some, None}
+use Rattle.clap.specs.Words.{Text}
 use Rattle.sqlite.specs.View.{IsClean}
 use Rattle.sqlite_disk.specs.declared.Disk.{Ghosts}
 use Rattle.sqlite_pool.specs.Opening as pool
@@ -22,20 +23,21 @@ use Rattle.vault_steps.specs.Entries.{AreSome}
 use Rattle.vault_recover.specs.Histories.{Answered, IsHistory, Reopened, Step, Undecided}
 use Rattle.vault_wire.specs.declared.watched.Watched.{Watched}
 use Rattle.vault_jobs.specs.Streams.{Known, Streams, streams}
-use Rattle.vault_app.specs.Jobs.{DoesPlan}
-use Rattle.vault_app.specs.declared.ending.Ending.{Ending}
-use Rattle.vault_app.specs.declared.ending.Ending.TheVariants.{NotOpened}
-use Rattle.vault_file.specs.declared.fault.NotOpened.{NotOpened as FileFault}
-use Rattle.vault_app.specs.declared.plan.Plan.{Plan}
-use Rattle.vault_app.specs.declared.plan.Plan.TheVariants as plan
+use Rattle.vault_jobs.specs.declared.task.Task.{Task}
+use Rattle.vault_words.specs.declared.jobs.Job.{Job}
+use Rattle.vault_words.specs.declared.jobs.Job.TheVariants.{Trial, Merchant, Grant, Withdraw, Rights, Pipe}
+use Rattle.vault_words.specs.declared.jobs.Job.TheVariants.{Batch, Serve, Sweep, Check, Migrate}
+use Rattle.vault_app.specs.Jobs.{RunsAs}
+use Rattle.vault_app.specs.Plans.{IsTaskOf}
+use Rattle.vault_app.specs.Ran.{AsksFor, AsksHelp}
 use Rattle.vault_promise.specs.Lasting.{Lasts}
-use Rattle.vault_promise.specs.Told.{AreValues, IsQuiet, Tells}
+use Rattle.vault_promise.specs.Told.{IsQuiet, Tells}
 
--- a run: the bytes that the files had before it, what it was to do, how it ended, and its streams
+-- a run: the bytes that the files had before it, its words, and what came in and went out but for the line
+-- that says how it ended
 pub record Run : Type 0 where
   pub begins : Image
-  pub plan : Plan
-  pub ending : Ending
+  pub words : List Text
   pub streams : Streams
 
 -- the vault, or the one after a command that may be done
@@ -72,30 +74,30 @@ abbrev pub ShownIsLeft : {D : Type 0} → Ghosts D → Type 0
 ShownIsLeft {D} g = (image : Image) (left : FileStore D g) → IsClean (files.view left)
     → Leaves image (Some left) (shown left)
 
--- a task of the plan, where it has one, is of values, and what goes out of it tells of commands
-abbrev pub AreValuesIn : Plan → Type 0
-AreValuesIn (plan.Trial t) = Unit {0}
-AreValuesIn (plan.Check path) = Unit {0}
-AreValuesIn (plan.Migrate path) = Unit {0}
-AreValuesIn (plan.Do path task) = AreValues task
+-- the job asks for nothing of the vault in a file: it is a trial, a check or a move to the newest schema
+abbrev pub IsAside : Job → Type 0
+IsAside (Trial j) = Unit {0}
+IsAside (Merchant j) = ⊥
+IsAside (Grant j) = ⊥
+IsAside (Withdraw j) = ⊥
+IsAside (Rights j) = ⊥
+IsAside (Pipe j) = ⊥
+IsAside (Batch j) = ⊥
+IsAside (Serve j) = ⊥
+IsAside (Sweep j) = ⊥
+IsAside (Check j) = Unit {0}
+IsAside (Migrate j) = Unit {0}
 
-abbrev pub TellsIn : Plan → Content → List Command → Streams → Type 0
-TellsIn (plan.Trial t) V cs s = ⊥
-TellsIn (plan.Check path) V cs s = ⊥
-TellsIn (plan.Migrate path) V cs s = ⊥
-TellsIn (plan.Do path task) V cs s = Tells task V cs s
+-- a run rests: nothing went out, or its words ask for help, a trial, a check or a move
+abbrev pub Rests : Run → Type 0
+Rests r = IsQuiet r.streams ⊎ AsksHelp r.words ⊎ AsksFor r.words IsAside
 
--- it is no task; or its file wasn't opened, and nothing went out
-abbrev pub RestsIn : Plan → Ending → Streams → Type 0
-RestsIn (plan.Trial t) ending s = Unit {0}
-RestsIn (plan.Check path) ending s = Unit {0}
-RestsIn (plan.Migrate path) ending s = Unit {0}
-RestsIn (plan.Do path task) ending s = ((why : FileFault) × (ending ≡ NotOpened why)) × IsQuiet s
-
--- A run opened the vault V, or the one after the command that was undecided: the one that the bytes hold.
--- From there commands were answered, one after the other, and then the store failed at one more at most. What
--- went out tells of those answered.
+-- The words of a run ask for a task. It opened the vault V, or the one after the command that was undecided:
+-- the one that the bytes hold. From there commands were answered, one after the other, and then the store
+-- failed at one more at most. What went out tells of those answered.
 pub record Work (V : Content) (c : Option Command) (r : Run) : Type 0 where
+  pub task : Task
+  pub asked : AsksFor r.words (λ job. IsTaskOf job task)
   pub opened : Content
   pub is : (opened ≡ V) ⊎ (opened ≡ perhaps V c)
   pub holds : Bear r.begins opened
@@ -103,11 +105,11 @@ pub record Work (V : Content) (c : Option Command) (r : Run) : Type 0 where
   pub undecided : Option Command
   pub proper : AllProper answered
   pub last_proper : IfSome undecided IsProper
-  pub tells : TellsIn r.plan opened answered r.streams
+  pub tells : Tells task opened answered r.streams
 
--- it worked so, or it opened no vault for a task
+-- it worked so, or it rests
 abbrev pub Comes : Content → Option Command → Run → Type 0
-Comes V c r = Work V c r ⊎ RestsIn r.plan r.ending r.streams
+Comes V c r = Work V c r ⊎ Rests r
 
 -- the vault that it leaves, and the command that it leaves undecided
 abbrev pub kept_by : (V : Content) (c : Option Command) (r : Run) → Comes V c r → Content
@@ -124,14 +126,15 @@ abbrev pub IsRun : Run → Image → Type 0
 IsRun r next = (V : Content) (c : Option Command) → Sound V → IfSome c IsProper → AreOf r.begins V c
     → ∥ ((it : Comes V c r) × AreOf next (kept_by V c r it) (undecided_by V c r it)) ∥₁
 
--- Whatever a run of the program does with files that had these bytes, by the clause of `run` on it, and with
+-- Whatever a run of the program does with files that had these bytes, by the clause `does` of `run`, and with
 -- whatever bytes the next one begins: it is a run up to these.
-abbrev pub EveryRunIsOne : {D R W : Type 0} (g : Ghosts D) → (R → Known) → (W → Known) → Type 0
-EveryRunIsOne {D} {R} {W} g remaining contents =
-    (image next : Image) (left : Option (FileStore D g)) (p : Plan) (ending : Ending) (i i' : Watched R)
-    (o o' : Watched W) → (let s : Streams = streams remaining i i' contents o o' in
-    AreValuesIn p → DoesPlan image left p ending (i' ≡ i) (o' ≡ o) s → Leaves image left next
-    → IsRun (record { begins = image; plan = p; ending = ending; streams = s }) next)
+abbrev pub EveryRunIsOne : {D R W E : Type 0} (g : Ghosts D) → (R → Known) → (W → Known) → (E → Known)
+    → Type 0
+EveryRunIsOne {D} {R} {W} {E} g remaining contents said =
+    (image next : Image) (left : Option (FileStore D g)) (words : List Text) (status : ℕ) (i i' : Watched R)
+    (o told o' : Watched W) (e e' : Watched E)
+    → RunsAs remaining contents said image left words status i i' o told o' e e' → Leaves image left next
+    → IsRun (record { begins = image; words = words; streams = streams remaining i i' contents o told }) next
 
 -- the bytes with which the first of runs begins, or those at the end where there is none
 abbrev pub before : List Run → Image → Image
