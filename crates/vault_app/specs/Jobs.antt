@@ -21,7 +21,7 @@ use Rattle.vault_jobs.specs.Told.{Tells}
 use Rattle.vault_app.specs.Ending.{Says, status_of}
 use Rattle.vault_app.specs.Files.{EndsOnFile}
 use Rattle.vault_app.specs.Plans.{EndsBefore, IsPlanOf, IsProperPlan, TellsMoved, TellsSizes, TrialEnds}
-use Rattle.vault_app.specs.Ran.{AsksFor, Unasked}
+use Rattle.vault_app.specs.Ran.{AsksFor, Ran, Unasked}
 use Rattle.vault_app.specs.declared.ending.Ending.{Ending}
 use Rattle.vault_app.specs.declared.plan.Plan.{Plan}
 use Rattle.vault_app.specs.declared.plan.Plan.TheVariants as plan
@@ -67,12 +67,14 @@ module _ {D : Type 0} {g : Ghosts D} where
       AsksFor words (λ job. DoesJob image left job ending unread unsent s)
       ⊎ (left ≡ None) × Unasked words ending unread unsent
 
-  -- What a run does with them: what the words do. Then it says how it ended, by its status and a line.
+  -- What a run does with them: what the words do. What it read and wrote is what their job reads and writes,
+  -- by how it ended. Then it says how it ended, by its status and a line.
   pub record DoesRun (image : Image) (left : Option (FileStore D g)) (words : List Text) (status : ℕ)
       (unread unsent : Type 0) (s : Streams) (same_output same_errors : Type 0)
       (output errors : List ℕ → Type 0) : Type 0 where
     pub ending : Ending
     pub exits : status ≡ status_of ending
+    pub ran : Ran words ending unread unsent s
     pub says : Says ending same_output same_errors output errors
     pub does : Does image left words ending unread unsent s
 
