@@ -12,8 +12,8 @@ use Rattle.sqlite_wal.specs.Recovery.{Image}
 use Rattle.vault_core.specs.Sound.{Sound}
 use Rattle.vault_core.specs.Vault.{Vault as Content, empty_vault}
 use Rattle.vault_file.specs.Found.{ChecksAs, MayFindNone, OpensFrom, SparesStopped, Stays}
-use Rattle.vault_file.specs.Found.{StaysWhole}
-use Rattle.vault_file.specs.Moved.{MovesAs, StaysOld}
+use Rattle.vault_file.specs.Found.{StaysWhole, TellsFound}
+use Rattle.vault_file.specs.Moved.{MovesAs, StaysOld, TellsOld}
 use Rattle.vault_file.specs.declared.fault.NotOpened.{NotOpened as FileFault}
 use Rattle.vault_file.specs.declared.fault.NotOpened.TheVariants as file
 use Rattle.vault_jobs.proofs.Refining.{refined}
@@ -89,12 +89,13 @@ module _ {D : Type 0} {g : Ghosts D} (image : Image) (unread unsent : Type 0) (s
   pub refused_file : (left : Option (FileStore D g)) (task : Task) (why : FileFault)
       → (why ≡ file.Refused) ↔ (left ≡ None)
       → IfSome left (λ it. IsClean (view it) → SparesStopped image why)
+      → IfSome left (λ it. IsClean (view it) → TellsFound image why)
       → IfSome left (Stays image) → IfSome left (λ it. ¬ MayFindNone image → StaysWhole image it)
       → unread → unsent → EndsOnFile image left task (NotOpened why) unread unsent s
-  refused_file None task why is never stays same calm silent =
+  refused_file None task why is never tells stays same calm silent =
       (ap (λ f. NotOpened f) (is.1 refl), calm, silent)
-  refused_file (Some left) task why is never stays same calm silent =
-      (record { never = never; stays = stays; same = same }, calm, silent)
+  refused_file (Some left) task why is never tells stays same calm silent =
+      (record { never = never; tells = tells; stays = stays; same = same }, calm, silent)
 
 -- what a check comes to
 pub checked : {D : Type 0} {g : Ghosts D} (image : Image) (left : Option (FileStore D g))
@@ -103,21 +104,24 @@ pub checked : {D : Type 0} {g : Ghosts D} (image : Image) (left : Option (FileSt
     → IfErr r (λ why. (left ≡ None) ↔ (why ≡ file.Refused))
     → IfOk r (λ sizes. IfSome left (λ it. ChecksAs image it sizes))
     → IfErr r (λ why. IfSome left (λ it. IsClean (view it) → SparesStopped image why))
+    → IfErr r (λ why. IfSome left (λ it. IsClean (view it) → TellsFound image why))
     → IfSome left (StaysWhole image) → IfSome left (Stays image)
     → IsChecked image left r
-checked image None (Ok sizes) empty refused sound never same stays = empty refl
-checked image None (Err why) empty refused sound never same stays = refused.0 refl
-checked image (Some left) (Ok sizes) empty refused sound never same stays = (sound, same, stays)
-checked image (Some left) (Err why) empty refused sound never same stays = (never, same, stays)
+checked image None (Ok sizes) empty refused sound never tells same stays = empty refl
+checked image None (Err why) empty refused sound never tells same stays = refused.0 refl
+checked image (Some left) (Ok sizes) empty refused sound never tells same stays = (sound, same, stays)
+checked image (Some left) (Err why) empty refused sound never tells same stays =
+    (λ clean. (never clean, tells clean), same, stays)
 
 -- and a migration
 pub moved : {D : Type 0} {g : Ghosts D} (image : Image) (left : Option (FileStore D g))
     (r : Result ℤ FileFault) → (left ≡ None) ↔ (r ≡ Err file.Refused)
     → IfOk r (λ _. IfSome left (MovesAs image))
     → IfErr r (λ why. IfSome left (λ it. StaysOld image it why))
+    → IfErr r (λ why. IfSome left (λ it. IsClean (view it) → TellsOld image why))
     → IfErr r (λ _. IfSome left (Stays image))
     → IsMoved image left r
-moved image None (Ok version) refused moves old stays = let clash = refused.0 refl in cc
-moved image None (Err why) refused moves old stays = let is = refused.0 refl in cc
-moved image (Some left) (Ok version) refused moves old stays = moves
-moved image (Some left) (Err why) refused moves old stays = (old, stays)
+moved image None (Ok version) refused moves old tells stays = let clash = refused.0 refl in cc
+moved image None (Err why) refused moves old tells stays = let is = refused.0 refl in cc
+moved image (Some left) (Ok version) refused moves old tells stays = moves
+moved image (Some left) (Err why) refused moves old tells stays = (old, tells, stays)

@@ -12,6 +12,7 @@ use Rattle.vault_core.specs.Sound.{Sound}
 use Rattle.vault_recover.specs.Crashed.{Reopens, ReopensEither}
 use Rattle.vault_schema.specs.Holds.{Holds}
 use Rattle.vault_file.specs.Found.{MayFindNone, OpensFrom, SparesStopped, Stays, StaysWhole}
+use Rattle.vault_file.specs.Found.{TellsFound}
 use Rattle.vault_file.specs.declared.fault.NotOpened.{NotOpened as FileFault}
 use Rattle.vault_file.specs.declared.fault.NotOpened.TheVariants as file
 use Rattle.vault_http.specs.Passing.{Passage}
@@ -70,10 +71,11 @@ module _ {D : Type 0} {g : Ghosts D} where
     pub done : Done (file_passing opened left) broken
 
   -- Files with these bytes weren't opened, and these are left. What a stop leaves of a sound vault isn't
-  -- refused for its schema or its rows; what the files kept they keep; and where there was a table, whatever
-  -- is in them stays.
+  -- refused for its schema or its rows, and what is refused so is told by what the files hold; what they kept
+  -- they keep; and where there was a table, whatever is in them stays.
   pub record RefusesFile (image : Image) (left : FileStore D g) (why : FileFault) : Type 0 where
     pub never : IsClean (view left) → SparesStopped image why
+    pub tells : IsClean (view left) → TellsFound image why
     pub stays : Stays image left
     pub same : ¬ MayFindNone image → StaysWhole image left
 

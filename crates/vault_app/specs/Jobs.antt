@@ -7,8 +7,8 @@ use Rattle.sqlite_store.specs.FileStore.{view}
 use Rattle.sqlite_store.specs.declared.store.FileStore.{FileStore}
 use Rattle.sqlite_wal.specs.Recovery.{Image}
 use Rattle.vault_core.specs.Vault.{empty_vault}
-use Rattle.vault_file.specs.Found.{ChecksAs, SparesStopped, Stays, StaysWhole}
-use Rattle.vault_file.specs.Moved.{MovesAs, StaysOld}
+use Rattle.vault_file.specs.Found.{ChecksAs, SparesStopped, Stays, StaysWhole, TellsFound}
+use Rattle.vault_file.specs.Moved.{MovesAs, StaysOld, TellsOld}
 use Rattle.vault_file.specs.declared.fault.NotOpened.{NotOpened as FileFault}
 use Rattle.vault_file.specs.declared.fault.NotOpened.TheVariants as file
 use Rattle.vault_verdict.specs.Sizes.{sizes_of}
@@ -28,20 +28,22 @@ use Rattle.vault_app.specs.declared.plan.Plan.TheVariants as plan
 
 module _ {D : Type 0} {g : Ghosts D} where
   -- What a check comes to. The sizes are those of the vault in the file, which is kept, and of the empty one
-  -- where no file is. What a stop leaves of a sound vault isn't refused for its schema or its rows; and
-  -- whatever is in the files stays.
+  -- where no file is. What a stop leaves of a sound vault isn't refused for its schema or its rows, and what
+  -- is refused so is told by what the file holds; and whatever is in the files stays.
   abbrev pub IsChecked : Image → Option (FileStore D g) → Result Sizes FileFault → Type 0
   IsChecked image (Some left) (Ok sizes) =
       ChecksAs image left sizes × StaysWhole image left × Stays image left
   IsChecked image (Some left) (Err why) =
-      (IsClean (view left) → SparesStopped image why) × StaysWhole image left × Stays image left
+      (IsClean (view left) → SparesStopped image why × TellsFound image why)
+      × StaysWhole image left × Stays image left
   IsChecked image None (Ok sizes) = sizes ≡ sizes_of empty_vault
   IsChecked image None (Err why) = why ≡ file.Refused
 
   -- what a migration comes to
   abbrev pub IsMoved : Image → Option (FileStore D g) → Result ℤ FileFault → Type 0
   IsMoved image (Some left) (Ok version) = MovesAs image left
-  IsMoved image (Some left) (Err why) = StaysOld image left why × Stays image left
+  IsMoved image (Some left) (Err why) =
+      StaysOld image left why × (IsClean (view left) → TellsOld image why) × Stays image left
   IsMoved image None (Ok version) = ⊥
   IsMoved image None (Err why) = why ≡ file.Refused
 

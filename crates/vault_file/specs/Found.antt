@@ -1,5 +1,5 @@
 -- What is found in the files at a path.
-use Rattle.std.specs.Prelude.{◌≡◌, ◌≢◌, ◌⊎◌, ◌≤◌, ℕ, List, [], codes, take}
+use Rattle.std.specs.Prelude.{◌≡◌, ◌≢◌, ◌⊎◌, ◌≤◌, ℕ, ℤ, List, [], codes, take}
 use Rattle.sqlite.specs.Effect.{Database, IsDatabase}
 use Rattle.sqlite.specs.Files.{AreFoundIn, file_state}
 use Rattle.sqlite.specs.Held.{Held}
@@ -16,10 +16,12 @@ use Rattle.vault_file.specs.Faults.{number_of}
 use Rattle.vault_file.specs.Reopened.{KeepsSome, ReopensSome}
 use Rattle.vault_migrate.specs.Moved.{LeavesSome}
 use Rattle.vault_file.specs.declared.fault.NotOpened.{NotOpened}
+use Rattle.vault_file.specs.declared.fault.NotOpened.TheVariants.{Fault}
 use Rattle.vault_recover.specs.Crashed.{AreBlank, HoldsEither, IsOpenOf}
 use Rattle.vault_recover.specs.Crashed.{Keeps, KeepsEither, KeepsFirst, MayFind, Reopens, ReopensEither}
 use Rattle.vault_recover.specs.Crashed.{ReopensFirst}
-use Rattle.vault_verdict.specs.Opened.{IsSoundOf, Opens}
+use Rattle.vault_verdict.specs.Opened.{IsLeastBroken, IsSoundOf, IsWrong, Opens}
+use Rattle.vault_verdict.specs.declared.fault.OpenFault.TheVariants.{Damaged, WrongSchema}
 use Rattle.vault_verdict.specs.Reading.{IsFull}
 use Rattle.vault_verdict.specs.Sizes.{sizes_of}
 use Rattle.vault_verdict.specs.declared.sizes.Sizes.{Sizes}
@@ -54,6 +56,13 @@ pub record SparesStopped (image : Image) (why : NotOpened) : Type 0 where
   pub one : (V : Vault) → Sound V → Keeps image V → IsNoVerdict why
   pub either : (V W : Vault) → Sound V → Sound W → KeepsEither image V W → IsNoVerdict why
   pub first : (before : Trees) → AreBlank before → KeepsFirst image before → IsNoVerdict why
+
+-- A refusal tells what the bytes hold: 31 the least rule that the rows break, and 30 the version that is
+-- said, or 0 where some of a vault's names are there, and not all, or not alone.
+pub record TellsFound (image : Image) (why : NotOpened) : Type 0 where
+  pub damaged : (rule : ℕ) → why ≡ Fault (Damaged rule)
+      → HoldsSuch image (λ db. IsFull db → IsLeastBroken db rule)
+  pub wrong : (n : ℤ) → why ≡ Fault (WrongSchema n) → HoldsSuch image (λ db. IsWrong db n)
 
 -- an open of files with these bytes may find no table
 abbrev pub MayFindNone : Image → Type 0

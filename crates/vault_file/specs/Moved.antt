@@ -1,5 +1,5 @@
 -- What a migration makes of the files at a path, and what it leaves.
-use Rattle.std.specs.Prelude.{◌≢◌}
+use Rattle.std.specs.Prelude.{◌≡◌, ◌≢◌, ℕ, ℤ}
 use Rattle.sqlite.specs.Files.{file_state}
 use Rattle.sqlite.specs.Held.{Held}
 use Rattle.sqlite.specs.State.{HasCleanDisk}
@@ -11,18 +11,25 @@ use Rattle.sqlite_store.specs.declared.store.FileStore.{FileStore}
 use Rattle.sqlite_wal.specs.Recovery.{Image}
 use Rattle.vault_core.specs.Sound.{Sound}
 use Rattle.vault_core.specs.Vault.{Vault, empty_vault}
-use Rattle.vault_file.specs.Found.{IsNoVerdict, SparesStopped}
+use Rattle.vault_file.specs.Found.{HoldsSuch, IsNoVerdict, SparesStopped}
 use Rattle.vault_file.specs.Reopened.{KeepsIn, KeepsSome, ReopensIn, ReopensSome}
 use Rattle.vault_file.specs.declared.fault.NotOpened.{NotOpened}
 use Rattle.vault_file.specs.declared.fault.NotOpened.TheVariants.{Fault}
-use Rattle.vault_migrate.specs.Moved.{HoldsSoundIn, IsOlder, LeavesIn, LeavesSome}
+use Rattle.vault_migrate.specs.Moved.{FindsBroken, FindsVersion, HoldsSoundIn, IsOlder, LeavesIn}
+use Rattle.vault_migrate.specs.Moved.{LeavesSome}
 use Rattle.vault_recover.specs.Crashed.{AreBlank, HoldsEither, IsOpenOf, Keeps, KeepsEither, KeepsFirst}
 use Rattle.vault_recover.specs.Crashed.{Reopens, ReopensEither, ReopensSuch}
 use Rattle.vault_verdict.specs.ReadAs.{IsFullIn}
-use Rattle.vault_verdict.specs.declared.fault.OpenFault.TheVariants.{Store}
+use Rattle.vault_verdict.specs.declared.fault.OpenFault.TheVariants.{Damaged, Store, WrongSchema}
 use Rattle.vault_schema.specs.Holds.{AreOurs, Holds}
 use Rattle.vault_schema.specs.Stands.{newest}
 use Rattle.vault_schema.specs.declared.version.Version.{Version}
+
+-- A refusal of a migration tells what the bytes hold, in whatever version: 31 the least rule that the rows
+-- break, and 30 the version that is said.
+pub record TellsOld (image : Image) (why : NotOpened) : Type 0 where
+  pub damaged : (rule : ℕ) → why ≡ Fault (Damaged rule) → HoldsSuch image (λ db. FindsBroken db rule)
+  pub wrong : (n : ℤ) → why ≡ Fault (WrongSchema n) → HoldsSuch image (λ db. FindsVersion db n)
 
 module _ {D : Type 0} {g : Ghosts D} where
   -- A connection was opened over files with these bytes, and this one comes from moving what is there to the

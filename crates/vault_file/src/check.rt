@@ -8,7 +8,7 @@ ghost use Rattle.sqlite_wal.specs.Files.{image_at};
 ghost use Rattle.vault_core.specs.Sound.{Sound};
 ghost use Rattle.vault_core.specs.Vault.{Vault as Content, empty_vault};
 ghost use Rattle.vault_file.specs.Found.{ChecksAs, HasSizes, HoldsSuch, IsNoPath, LeavesWhole};
-ghost use Rattle.vault_file.specs.Found.{LeavesFrom, SparesStopped, Stays, StaysWhole};
+ghost use Rattle.vault_file.specs.Found.{LeavesFrom, SparesStopped, Stays, StaysWhole, TellsFound};
 ghost use Rattle.vault_recover.specs.Crashed.{Keeps};
 ghost use Rattle.vault_verdict.specs.Opened.{IsLeastBroken, IsWrong};
 ghost use Rattle.vault_verdict.specs.Reading.{IsFull};
@@ -94,6 +94,8 @@ pub fn check_file<S: Start>(
         → HoldsSuch (image_at S.Start) (λ db. IsFull db → IsLeastBroken db rule))) }
     ensures never { IfErr result.0 (λ why. IfSome result.1 (λ left. IsClean (view left)
         → SparesStopped (image_at S.Start) why)) }
+    ensures tells { IfErr result.0 (λ why. IfSome result.1 (λ left. IsClean (view left)
+        → TellsFound (image_at S.Start) why)) }
     ensures same { IfSome result.1 (StaysWhole (image_at S.Start)) }
 {
     if !is_no_path(path) && is_missing(rt, path) {

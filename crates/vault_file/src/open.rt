@@ -7,7 +7,7 @@ ghost use Rattle.sqlite_store.specs.FileStore.{view};
 ghost use Rattle.sqlite_wal.specs.Files.{image_at};
 ghost use Rattle.vault_core.specs.Vault.{Vault as Content};
 ghost use Rattle.vault_file.specs.Found.{HoldsSuch, IsNoPath, LeavesWhole, LeavesFrom, MayFindNone};
-ghost use Rattle.vault_file.specs.Found.{OpensFrom, SparesStopped, Stays, StaysWhole};
+ghost use Rattle.vault_file.specs.Found.{OpensFrom, SparesStopped, Stays, StaysWhole, TellsFound};
 ghost use Rattle.vault_recover.specs.Crashed.{Reopens, ReopensEither};
 ghost use Rattle.vault_verdict.specs.Opened.{IsLeastBroken, IsWrong};
 ghost use Rattle.vault_verdict.specs.Reading.{IsFull};
@@ -87,6 +87,8 @@ pub fn open_vault<S: Start>(
     ensures refused { IfErr result (λ e. (e.0 ≡ NotOpened.Refused) ↔ (e.1 ≡ None)) }
     ensures never { IfErr result (λ e. IfSome e.1 (λ left. IsClean (view left)
         → SparesStopped (image_at S.Start) e.0)) }
+    ensures tells { IfErr result (λ e. IfSome e.1 (λ left. IsClean (view left)
+        → TellsFound (image_at S.Start) e.0)) }
     ensures left { IfErr result (λ e. IfSome e.1 (Stays (image_at S.Start))) }
     ensures same { IfErr result (λ e. IfSome e.1
         (λ left. ¬ MayFindNone (image_at S.Start) → StaysWhole (image_at S.Start) left)) }

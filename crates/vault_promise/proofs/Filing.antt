@@ -180,7 +180,7 @@ module _ {D : Type 0} {g : Ghosts D} (image next : Image) where
       → Leaves image (Some left) next → (it : Run) → Rests it
       → IsFrom image it next
   moved left (Ok version) h may it calm = moves_run left may it calm h
-  moved left (Err why) h may it calm = stays_run left may it calm h.1
+  moved left (Err why) h may it calm = stays_run left may it calm h.2
 
   -- a file that is opened, or refused with a connection
   module _ (left : FileStore D g) (may : Leaves image (Some left) next) (t : Task) (end : Ending)

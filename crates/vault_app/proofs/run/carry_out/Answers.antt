@@ -12,7 +12,7 @@ returns-in-Check-clause-does g c =
       (
         c.check_file-checked.result.0,
         checked (image_at g.S.Start) c.check_file-checked.result.1 c.check_file-checked.result.0 told.empty
-            told.refused told.sound told.never told.same told.left,
+            told.refused told.sound told.never told.tells told.same told.left,
         c.tell_sizes.ensures,
       ),
     )
@@ -25,7 +25,7 @@ returns-in-Migrate-clause-does g c =
       (
         c.migrate_file-moved.result.0,
         moved (image_at g.S.Start) c.migrate_file-moved.result.1 c.migrate_file-moved.result.0 told.refused
-            told.moved told.left told.stays,
+            told.moved told.left told.tells told.stays,
         c.tell_moved.ensures,
       ),
     )
@@ -40,4 +40,5 @@ returns-clause-does g c =
     c.args.output.now c.args.output.now in
     rw c.in-Do.is (refused_file (image_at g.S.Start) (c.args.input.now ≡ c.args.input.now)
     (c.args.output.now ≡ c.args.output.now) s c.in-Err.left c.in-Do.task c.in-Err.fault
-    c.in-Err.ensures.refused c.in-Err.ensures.never c.in-Err.ensures.left c.in-Err.ensures.same refl refl)
+    c.in-Err.ensures.refused c.in-Err.ensures.never c.in-Err.ensures.tells c.in-Err.ensures.left
+    c.in-Err.ensures.same refl refl)

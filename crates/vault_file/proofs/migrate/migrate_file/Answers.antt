@@ -1,4 +1,6 @@
 use Rattle.std.proofs.Common.{arith}
+use Rattle.sqlite.specs.Files.{file_state}
+use Rattle.sqlite.specs.State.{HasCleanDisk}
 use Rattle.sqlite_wal.specs.Files.{image_at}
 use Rattle.vault_file.proofs.Leaving.{stays}
 use Rattle.vault_file.proofs.Moving.{moves_as, stays_old}
@@ -18,6 +20,15 @@ returns-in-Err-default-Some-clause-stays g c =
     (rw c.in-Err-default-Some.field-0-1-is at c.in-Err-default-Some.ensures.left)
     (λ clean. omega (arith, c.close_moved.ensures.clean, clean)) c.close_moved.ensures.either_after
     c.close_moved.ensures.first_after c.close_moved.ensures.some_after
+
+pub returns-in-Err-default-Some-clause-tells : goal.returns-in-Err-default-Some-clause-tells
+returns-in-Err-default-Some-clause-tells g c clean =
+    let was : HasCleanDisk (file_state c.in-Err-default-Some.conn) =
+    omega (arith, c.close_moved.ensures.clean, clean) in
+    record {
+      damaged = (rw c.in-Err-default-Some.field-0-1-is at c.in-Err-default-Some.ensures.damaged) was;
+      wrong = (rw c.in-Err-default-Some.field-0-1-is at c.in-Err-default-Some.ensures.wrong) was;
+    }
 
 pub returns-in-Err-default-Some-clause-left : goal.returns-in-Err-default-Some-clause-left
 returns-in-Err-default-Some-clause-left g c =

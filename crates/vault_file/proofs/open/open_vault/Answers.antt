@@ -18,6 +18,15 @@ returns-in-Err-default-Some-clause-same g c some =
     ((rw c.in-Err-default-Some.field-0-1-is at c.in-Err-default-Some.ensures.same) some)
     (λ clean. omega (arith, c.close_moved.ensures.clean, clean)) c.close_moved.ensures.found_after
 
+pub returns-in-Err-default-Some-clause-tells : goal.returns-in-Err-default-Some-clause-tells
+returns-in-Err-default-Some-clause-tells g c clean =
+    let was : HasCleanDisk (file_state c.in-Err-default-Some.conn) =
+    omega (arith, c.close_moved.ensures.clean, clean) in
+    record {
+      damaged = (rw c.in-Err-default-Some.field-0-1-is at c.in-Err-default-Some.ensures.damaged) was;
+      wrong = (rw c.in-Err-default-Some.field-0-1-is at c.in-Err-default-Some.ensures.wrong) was;
+    }
+
 pub returns-in-Err-default-Some-clause-left : goal.returns-in-Err-default-Some-clause-left
 returns-in-Err-default-Some-clause-left g c =
     stays (image_at g.S.Start) c.in-Err-default-Some.conn c.close_moved.result
