@@ -43,6 +43,7 @@ use Rattle.vault_app.specs.Ran.{AsksFor, Unasked}
 use Rattle.vault_app.specs.Values.{AreValues}
 use Rattle.vault_file.specs.Moved.{MovesAs}
 use Rattle.vault_file.specs.declared.fault.NotOpened.{NotOpened as FileFault}
+use Rattle.vault_file.specs.declared.fault.NotOpened.TheVariants as file
 use Rattle.vault_verdict.specs.declared.sizes.Sizes.{Sizes}
 use Rattle.vault_app.specs.declared.ending.Ending.{Ending}
 use Rattle.vault_app.specs.declared.ending.Ending.TheVariants as ending
@@ -100,14 +101,15 @@ fits (job.Sweep j) p (t, is, same) = subst (Fits (job.Sweep j)) (sym same) is
 fits (job.Check j) p same = subst (Fits (job.Check j)) (sym same) tt
 fits (job.Migrate j) p same = subst (Fits (job.Migrate j)) (sym same) tt
 
--- a run whose words ask for no job
-unasked : (image : Image) (words : List Text) (end : Ending) (s : Streams)
-    (unread unsent : Type 0) → (unsent → IsQuiet s) → Unasked words end unread unsent
-    → Rests (record { begins = image; words = words; streams = s })
-unasked image words end s unread unsent quiet (inl (inl (help, is), calm)) = inr (inl help)
-unasked image words end s unread unsent quiet (inl (inr (version, is, silent), calm)) = inl (quiet silent)
-unasked image words end s unread unsent quiet (inr (inl (none, is, calm, silent))) = inl (quiet silent)
-unasked image words end s unread unsent quiet (inr (inr (is, calm, silent))) = inl (quiet silent)
+-- words that ask for no job
+unasked : (words : List Text) (end : Ending) (unread unsent quiet : Type 0) → (unsent → quiet)
+    → Unasked words end unread unsent → Unasked words end (Unit {0}) quiet
+unasked words end unread unsent quiet so (inl (inl (help, is), calm)) = inl (inl (help, is), tt)
+unasked words end unread unsent quiet so (inl (inr (version, is, silent), calm)) =
+    inl (inr (version, is, so silent), tt)
+unasked words end unread unsent quiet so (inr (inl (none, is, calm, silent))) =
+    inr (inl (none, is, tt, so silent))
+unasked words end unread unsent quiet so (inr (inr (is, calm, silent))) = inr (inr (is, tt, so silent))
 
 -- who finds no more finds what was found
 finds_less : (image next : Image) (Are : Trees → Type 0)
@@ -186,7 +188,7 @@ module _ {D : Type 0} {g : Ghosts D} (image next : Image) where
   module _ (left : FileStore D g) (may : Leaves image (Some left) next) (t : Task) (end : Ending)
       (s : Streams) (values : AreValues t) (r : Run) (asked : AsksFor r.words (λ job. IsTaskOf job t))
       (of : (X : Content) (cs : List Command) → Tells t X cs s → Tells t X cs r.streams)
-      (calm : IsQuiet s → Rests r)
+      (calm : (why : FileFault) → end ≡ ending.NotOpened why → IsQuiet s → Rests r)
       (bear : (X : Content) → Bear image X → Bear r.begins X) where
     -- a task that worked on the vault W comes to this
     work_on : (V : Content) (c : Option Command) (W : Content) → (W ≡ V) ⊎ (W ≡ perhaps V c)
@@ -274,7 +276,7 @@ module _ {D : Type 0} {g : Ghosts D} (image next : Image) where
         by_ending (ending.Refused n) is h = worked (Ok (outcome.Refused n)) unread unsent still quiet h
         by_ending ending.SomeRefused is h = worked (Ok outcome.SomeRefused) unread unsent still quiet h
         by_ending ending.BadWords is h = absurd h
-        by_ending (ending.NotOpened why) is h = stays_run left may r (calm (quiet h.2)) h.0.stays
+        by_ending (ending.NotOpened why) is h = stays_run left may r (calm why is (quiet h.2)) h.0.stays
         by_ending (ending.Stopped stop) is h = worked (Err stop) unread unsent still quiet h
 
   -- a run whose words ask for a job with this plan
@@ -282,40 +284,49 @@ module _ {D : Type 0} {g : Ghosts D} (image next : Image) where
       → (p : Plan) → Fits job p → (end : Ending) (s : Streams) (unread unsent : Type 0)
       → (unread → IsStill s) → (unsent → IsQuiet s) → IsProperPlan p
       → DoesPlan image left p end unread unsent s
-      → Leaves image left next → IsRun (record { begins = image; words = words; streams = s }) next
+      → Leaves image left next
+      → IsRun (record { begins = image; words = words; ending = end; streams = s }) next
   each left words job asked (plan.Trial t) asks end s unread unsent still quiet values h leaves =
-      rests next (record { begins = image; words = words; streams = s }) (inr (inr (job, asked, asks)))
+      rests next (record { begins = image; words = words; ending = end; streams = s })
+      (inr (inr (job, asked, asks)))
       (subst (λ l. Leaves image l next) h.0 leaves)
   each (Some left) words job asked (plan.Check path) asks end s unread unsent still quiet values h leaves =
-      stays_run left leaves (record { begins = image; words = words; streams = s })
+      stays_run left leaves (record { begins = image; words = words; ending = end; streams = s })
       (inr (inr (job, asked, asks))) (checked left h.1.0 h.1.1)
   each None words job asked (plan.Check path) asks end s unread unsent still quiet values h leaves =
-      rests next (record { begins = image; words = words; streams = s }) (inr (inr (job, asked, asks))) leaves
+      rests next (record { begins = image; words = words; ending = end; streams = s })
+      (inr (inr (job, asked, asks))) leaves
   each (Some left) words job asked (plan.Migrate path) asks end s unread unsent still quiet values h leaves =
-      moved left h.1.0 h.1.1 leaves (record { begins = image; words = words; streams = s })
+      moved left h.1.0 h.1.1 leaves (record { begins = image; words = words; ending = end; streams = s })
       (inr (inr (job, asked, asks)))
   each None words job asked (plan.Migrate path) asks end s unread unsent still quiet values h leaves =
-      rests next (record { begins = image; words = words; streams = s }) (inr (inr (job, asked, asks))) leaves
+      rests next (record { begins = image; words = words; ending = end; streams = s })
+      (inr (inr (job, asked, asks))) leaves
   each (Some left) words job asked (plan.Do path t) asks end s unread unsent still quiet values h leaves =
-      on_some left leaves t end s values (record { begins = image; words = words; streams = s })
-      (job, asked, asks) (λ X cs told. told) (λ still. inl still) (λ X held. held) unread unsent still quiet h
+      on_some left leaves t end s values (record { begins = image; words = words; ending = end; streams = s })
+      (job, asked, asks) (λ X cs told. told) (λ why is silent. inr (inl ((why, is), silent)))
+      (λ X held. held) unread unsent still quiet h
   each None words job asked (plan.Do path t) asks end s unread unsent still quiet values h leaves =
-      rests next (record { begins = image; words = words; streams = s }) (inl (quiet h.2)) leaves
+      rests next (record { begins = image; words = words; ending = end; streams = s })
+      (inr (inl ((file.Refused, h.0), quiet h.2))) leaves
 
   -- and whatever words it has
   all : (left : Option (FileStore D g)) (words : List Text) (end : Ending) (s : Streams)
       (unread unsent : Type 0) → (unread → IsStill s) → (unsent → IsQuiet s)
       → DoesWords image left words end unread unsent s
-      → Leaves image left next → IsRun (record { begins = image; words = words; streams = s }) next
+      → Leaves image left next
+      → IsRun (record { begins = image; words = words; ending = end; streams = s }) next
   all left words end s unread unsent still quiet (inl (job, asked, inl (p, is, proper, h))) leaves =
       each left words job asked p (fits job p is) end s unread unsent still quiet proper h leaves
   all left words end s unread unsent still quiet
       (inl (job, asked, inr (why, none, calm, silent))) leaves =
-      rests next (record { begins = image; words = words; streams = s }) (inl (quiet silent))
+      rests next (record { begins = image; words = words; ending = end; streams = s })
+      (inl (inl ((job, asked, why), quiet silent)))
       (subst (λ l. Leaves image l next) none leaves)
   all left words end s unread unsent still quiet (inr (none, without)) leaves =
-      rests next (record { begins = image; words = words; streams = s })
-      (unasked image words end s unread unsent quiet without) (subst (λ l. Leaves image l next) none leaves)
+      rests next (record { begins = image; words = words; ending = end; streams = s })
+      (inl (inr (unasked words end unread unsent (IsQuiet s) quiet without)))
+      (subst (λ l. Leaves image l next) none leaves)
 
 pub each_is_run : {D R W E : Type 0} (g : Ghosts D) (remaining : R → Known) (contents : W → Known)
     (said : E → Known) → EveryRunIsOne g remaining contents said

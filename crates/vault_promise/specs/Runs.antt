@@ -28,16 +28,20 @@ use Rattle.vault_words.specs.declared.jobs.Job.{Job}
 use Rattle.vault_words.specs.declared.jobs.Job.TheVariants.{Trial, Merchant, Grant, Withdraw, Rights, Pipe}
 use Rattle.vault_words.specs.declared.jobs.Job.TheVariants.{Batch, Serve, Sweep, Check, Migrate}
 use Rattle.vault_app.specs.Jobs.{RunsAs}
-use Rattle.vault_app.specs.Plans.{IsTaskOf}
-use Rattle.vault_app.specs.Ran.{AsksFor, AsksHelp}
+use Rattle.vault_app.specs.Plans.{EndsPlanless, IsTaskOf}
+use Rattle.vault_app.specs.Ran.{AsksFor}
+use Rattle.vault_app.specs.declared.ending.Ending.{Ending}
+use Rattle.vault_app.specs.declared.ending.Ending.TheVariants.{NotOpened}
+use Rattle.vault_file.specs.declared.fault.NotOpened.{NotOpened as FileFault}
 use Rattle.vault_promise.specs.Lasting.{Lasts}
 use Rattle.vault_promise.specs.Told.{IsQuiet, Tells}
 
--- a run: the bytes that the files had before it, its words, and what came in and went out but for the line
--- that says how it ended
+-- a run: the bytes that the files had before it, its words, how it ended, and what came in and went out but
+-- for the line that says how it ended
 pub record Run : Type 0 where
   pub begins : Image
   pub words : List Text
+  pub ending : Ending
   pub streams : Streams
 
 -- the vault, or the one after a command that may be done
@@ -88,9 +92,12 @@ IsAside (Sweep j) = ⊥
 IsAside (Check j) = Unit {0}
 IsAside (Migrate j) = Unit {0}
 
--- a run rests: nothing went out, or its words ask for help, a trial, a check or a move
+-- A run rests: it ended without a plan, by a name, a right, a list, a moment or its words, or with help; or
+-- its file wasn't opened; and nothing went out but help. Or its words ask for a trial, a check or a move.
 abbrev pub Rests : Run → Type 0
-Rests r = IsQuiet r.streams ⊎ AsksHelp r.words ⊎ AsksFor r.words IsAside
+Rests r = EndsPlanless r.words r.ending (IsQuiet r.streams)
+    ⊎ ((why : FileFault) × (r.ending ≡ NotOpened why)) × IsQuiet r.streams
+    ⊎ AsksFor r.words IsAside
 
 -- The words of a run ask for a task. It opened the vault V, or the one after the command that was undecided:
 -- the one that the bytes hold. From there commands were answered, one after the other, and then the store
@@ -133,8 +140,9 @@ abbrev pub EveryRunIsOne : {D R W E : Type 0} (g : Ghosts D) → (R → Known) �
 EveryRunIsOne {D} {R} {W} {E} g remaining contents said =
     (image next : Image) (left : Option (FileStore D g)) (words : List Text) (status : ℕ) (i i' : Watched R)
     (o told o' : Watched W) (e e' : Watched E)
-    → RunsAs remaining contents said image left words status i i' o told o' e e' → Leaves image left next
-    → IsRun (record { begins = image; words = words; streams = streams remaining i i' contents o told }) next
+    → (it : RunsAs remaining contents said image left words status i i' o told o' e e')
+    → Leaves image left next → (let s : Streams = streams remaining i i' contents o told in
+    IsRun (record { begins = image; words = words; ending = it.ending; streams = s }) next)
 
 -- the bytes with which the first of runs begins, or those at the end where there is none
 abbrev pub before : List Run → Image → Image

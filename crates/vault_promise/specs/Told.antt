@@ -57,8 +57,8 @@ pub record AreRead (now : Option ℕ) (digits : Option (List ℕ)) (s : Streams)
 -- Commands were answered from the vault V, one after the other, and what went out tells of these alone. A
 -- line of `done`, of rights or of numbers that are purged, or a part of it, says that all are done; lines of
 -- rows and texts of messages, which were read, are those that answer them, or the first bytes of these. Of
--- sockets it isn't
--- told what went out, only which messages of each connection were answered, and of the last one a beginning.
+-- sockets it isn't told what went out, only which messages of each connection were answered, and of the last
+-- one a beginning.
 abbrev pub Tells : Task → Content → List Command → Streams → Type 0
 Tells (Change c) V cs s = IsQuiet s ⊎ (cs ≡ c ∷ []) × (reply V c ≡ Done)
 Tells (Give rights now) V cs s =
