@@ -110,13 +110,13 @@ has_one s xs x it =
         rows-more (z ∷ zs) = ap (λ rs. fields_in z.row ∷ rs) (rows-more zs)
 
 module _ (who : Asker) (now : Option ℕ) (digits : Option (List ℕ)) (named : IsName who.caller)
-    (at : IsName who.merchant) (w : Passage) (V : Content) (b : IsBefore w V) (s : Streams) where
+    (at : IsName who.merchant) (w : Passage) (V : Content) (b : IsBefore w V) (s : Streams) (F : Type 0) where
   -- of the lines of these rows so many bytes went out
   abbrev Went : List Asked → Type 0
   Went xs = (sent : ℕ) × Appends s.sent_old s.sent_new (take sent (first_line ++ lines V xs))
 
   abbrev Goal : Type 0
-  Goal = Works w V (task.Batch who now digits) s
+  Goal = Works w V (task.Batch who now digits) F s
 
   all_went : (xs : List Asked) → Appends s.sent_old s.sent_new (first_line ++ lines V xs) → Went xs
   all_went xs went = (
@@ -160,6 +160,7 @@ module _ (who : Asker) (now : Option ℕ) (digits : Option (List ℕ)) (named : 
       proper = rows_proper who now digits xs named at of asked;
       last_proper = tt;
       tells = (xs, asked, refl, record { records = records; fixed = of }, went);
+      done = λ _. tt;
       left = subst (λ W. w.left_new W W) (as_run V xs) left;
     }
 
@@ -209,6 +210,7 @@ module _ (who : Asker) (now : Option ℕ) (digits : Option (List ℕ)) (named : 
             record { records = inr (fields_in x.row ∷ [], inr records); fixed = first_pairs xs x of },
             all_went xs went,
           );
+          done = λ _. tt;
           left = subst (λ W. w.left_new W (perhaps (run (commands_of xs) V) (command_in x.wanted)))
               (as_run V xs) (subst (λ W. w.left_new (vault_after V xs) W) (run_then V xs x) left);
         }

@@ -67,19 +67,19 @@ IsStill s = Consumes s.left_old s.left_new []
 works : (t : Task) (w : Passage) (V : Content) (b : IsBefore w V) → Sound V → (s : Streams)
     (broken : Bool) (r : Result Outcome Stop) (unread unsent : Type 0) → (unread → IsStill s)
     → (unsent → IsQuiet s) → AreValues t
-    → Does t w broken r unread unsent s → Works w V t s
-works (task.Change c) w V b sound s broken r unread unsent still quiet values h =
-    change_works w V b s unsent quiet c values.0 values.1 broken r h
-works (task.Give rights now) w V b sound s broken r unread unsent still quiet values h =
-    give_works w V b s unsent quiet rights now values broken r h
-works (task.Sweep who now) w V b sound s broken r unread unsent still quiet values h =
-    sweep_works who now values.0 values.1 values.2 w V b sound s unsent quiet broken r h
-works (task.Batch who now digits) w V b sound s broken r unread unsent still quiet values h =
-    batch_works who now digits values.0 values.1 w V b s r unread unsent quiet h
-works (task.Pipe now digits) w V b sound s broken r unread unsent still quiet values h =
-    pipe_works now digits w V b s r unread unsent still quiet h
-works (task.Serve port connections) w V b sound s broken r unread unsent still quiet values h =
-    serve_works w V b s port connections r unsent h
+    → (F : Type 0) → (F → r ≡ Ok outcome.Done) → Does t w broken r unread unsent s → Works w V t F s
+works (task.Change c) w V b sound s broken r unread unsent still quiet values F fin h =
+    change_works w V b s unsent quiet F c values.0 values.1 broken r fin h
+works (task.Give rights now) w V b sound s broken r unread unsent still quiet values F fin h =
+    give_works w V b s unsent quiet F rights now values broken r fin h
+works (task.Sweep who now) w V b sound s broken r unread unsent still quiet values F fin h =
+    sweep_works who now values.0 values.1 values.2 w V b sound s unsent quiet F broken r fin h
+works (task.Batch who now digits) w V b sound s broken r unread unsent still quiet values F fin h =
+    batch_works who now digits values.0 values.1 w V b s F r unread unsent quiet h
+works (task.Pipe now digits) w V b sound s broken r unread unsent still quiet values F fin h =
+    pipe_works now digits w V b s F r unread unsent still quiet h
+works (task.Serve port connections) w V b sound s broken r unread unsent still quiet values F fin h =
+    serve_works w V b s port connections F r unsent h
 
 -- what a job with this plan asks for
 abbrev Fits : Job → Plan → Type 0
@@ -186,13 +186,15 @@ module _ {D : Type 0} {g : Ghosts D} (image next : Image) where
 
   -- a file that is opened, or refused with a connection
   module _ (left : FileStore D g) (may : Leaves image (Some left) next) (t : Task) (end : Ending)
-      (s : Streams) (values : AreValues t) (r : Run) (asked : AsksFor r.words (λ job. IsTaskOf job t))
+      (s : Streams) (values : AreValues t) (r : Run) (ends : r.ending ≡ end)
+      (asked : AsksFor r.words (λ job. IsTaskOf job t))
       (of : (X : Content) (cs : List Command) → Tells t X cs s → Tells t X cs r.streams)
       (calm : (why : FileFault) → end ≡ ending.NotOpened why → IsQuiet s → Rests r)
       (bear : (X : Content) → Bear image X → Bear r.begins X) where
     -- a task that worked on the vault W comes to this
     work_on : (V : Content) (c : Option Command) (W : Content) → (W ≡ V) ⊎ (W ≡ perhaps V c)
-        → Bear image W → (w : Passage) → Works w W t s
+        → Bear image W → (w : Passage)
+        → Works w W t (r.ending ≡ ending.Done) s
         → ((A B : Content) → w.left_new A B → KeepsEither next A B)
         → (it : Comes V c r) × AreOf next (kept_by V c r it) (undecided_by V c r it)
     work_on V c W is held w it kept =
@@ -207,11 +209,12 @@ module _ {D : Type 0} {g : Ghosts D} (image next : Image) where
           proper = it.proper;
           last_proper = it.last_proper;
           tells = of W it.answered it.tells;
+          done = it.done;
         } in
         (inl done, inl (kept _ _ it.left))
 
     module _ (result : Result Outcome Stop) (unread unsent : Type 0) (still : unread → IsStill s)
-        (quiet : unsent → IsQuiet s)
+        (quiet : unsent → IsQuiet s) (fin : r.ending ≡ ending.Done → result ≡ Ok outcome.Done)
         (on : WorksOn image left (λ p broken. Does t p broken result unread unsent s)) where
       abbrev conn : Held (FileStore D g)
       conn = on.opened
@@ -238,7 +241,7 @@ module _ {D : Type 0} {g : Ghosts D} (image next : Image) where
       on_one V c W is sound held holds =
           work_on V c W is held w
           (works t w W (may.0, (holds, sound)) sound s on.broken result unread unsent still quiet values
-          on.done)
+          (r.ending ≡ ending.Done) fin on.done)
           (λ A B leaves. leaves next may.1)
 
       worked : IsFrom image r next
@@ -271,13 +274,16 @@ module _ {D : Type 0} {g : Ghosts D} (image next : Image) where
     on_some unread unsent still quiet h = by_ending end refl h
       where
         by_ending : (e : Ending) → end ≡ e → DoesOnFile image left t e unread unsent s → IsFrom image r next
-        by_ending ending.Done is h = worked (Ok outcome.Done) unread unsent still quiet h
+        by_ending ending.Done is h = worked (Ok outcome.Done) unread unsent still quiet (λ _. refl) h
         by_ending ending.Version is h = absurd h
-        by_ending (ending.Refused n) is h = worked (Ok (outcome.Refused n)) unread unsent still quiet h
-        by_ending ending.SomeRefused is h = worked (Ok outcome.SomeRefused) unread unsent still quiet h
+        by_ending (ending.Refused n) is h =
+            worked (Ok (outcome.Refused n)) unread unsent still quiet (λ d. absurd (cc (d, ends, is))) h
+        by_ending ending.SomeRefused is h =
+            worked (Ok outcome.SomeRefused) unread unsent still quiet (λ d. absurd (cc (d, ends, is))) h
         by_ending ending.BadWords is h = absurd h
         by_ending (ending.NotOpened why) is h = stays_run left may r (calm why is (quiet h.2)) h.0.stays
-        by_ending (ending.Stopped stop) is h = worked (Err stop) unread unsent still quiet h
+        by_ending (ending.Stopped stop) is h =
+            worked (Err stop) unread unsent still quiet (λ d. absurd (cc (d, ends, is))) h
 
   -- a run whose words ask for a job with this plan
   each : (left : Option (FileStore D g)) (words : List Text) (job : Job) → IsAsked program_app words job
@@ -304,7 +310,7 @@ module _ {D : Type 0} {g : Ghosts D} (image next : Image) where
       (inr (inr (job, asked, asks))) leaves
   each (Some left) words job asked (plan.Do path t) asks end s unread unsent still quiet values h leaves =
       on_some left leaves t end s values (record { begins = image; words = words; ending = end; streams = s })
-      (job, asked, asks) (λ X cs told. told) (λ why is silent. inr (inl ((why, is), silent)))
+      refl (job, asked, asks) (λ X cs told. told) (λ why is silent. inr (inl ((why, is), silent)))
       (λ X held. held) unread unsent still quiet h
   each None words job asked (plan.Do path t) asks end s unread unsent still quiet values h leaves =
       rests next (record { begins = image; words = words; ending = end; streams = s })

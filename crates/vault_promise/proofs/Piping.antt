@@ -62,19 +62,20 @@ run_then V xs x =
     ∙ run_append (commands_of xs) (commands_in x.wanted) V ∙ wanted_run x.wanted (run (commands_of xs) V)
 
 module _ (now : Option ℕ) (digits : Option (List ℕ)) (w : Passage) (V : Content) (b : IsBefore w V)
-    (s : Streams) where
+    (s : Streams) (F : Type 0) where
   answered : (xs us : List Exchange) → AreHeard now digits s xs → length us ≤ 1
       → AllProper (commands_of (xs ++ us))
       → w.left_new (vault_after V xs) (vault_after V (xs ++ us))
       → (e : Option WireFault) × (sent : ℕ)
       × Appends s.sent_old s.sent_new (take sent (texts V xs ++ last_text e))
-      → Works w V (task.Pipe now digits) s
+      → Works w V (task.Pipe now digits) F s
   answered xs [] heard few proper left went = record {
     answered = commands_of xs;
     undecided = None;
     proper = subst (λ ys. AllProper (commands_of ys)) (append-nil xs) proper;
     last_proper = tt;
     tells = (xs, refl, heard, went);
+    done = λ _. tt;
     left = subst (λ W. w.left_new W W) (as_run V xs)
         (subst (λ ys. w.left_new (vault_after V xs) (vault_after V ys)) (append-nil xs) left);
   }
@@ -87,6 +88,7 @@ module _ (now : Option ℕ) (digits : Option (List ℕ)) (w : Passage) (V : Cont
         proper = proper-first (commands_of xs) (commands_in x.wanted) both;
         last_proper = wanted_proper x.wanted (proper-last (commands_of xs) (commands_in x.wanted) both);
         tells = (xs, refl, heard, went);
+        done = λ _. tt;
         left = subst (λ W. w.left_new W (perhaps (run (commands_of xs) V) (command_in x.wanted)))
             (as_run V xs) (subst (λ W. w.left_new (vault_after V xs) W) (run_then V xs x) left);
       }
@@ -94,7 +96,7 @@ module _ (now : Option ℕ) (digits : Option (List ℕ)) (w : Passage) (V : Cont
 
   pub pipe_works : (r : Result Outcome Stop) (unread unsent : Type 0)
       → (unread → Consumes s.left_old s.left_new []) → (unsent → IsQuiet s)
-      → PipeEnds now digits w r unread unsent s → Works w V (task.Pipe now digits) s
+      → PipeEnds now digits w r unread unsent s → Works w V (task.Pipe now digits) F s
   pipe_works r unread unsent still quiet h =
       let a = answers_of now digits w s r unread unsent still quiet h in
       answered a.exchanges a.undecided a.heard a.few a.proper (a.left V b) (a.went V b)

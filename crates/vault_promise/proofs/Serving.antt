@@ -43,9 +43,10 @@ all_proper (xs ∷ xss) all =
 no_connection : IsConnection []
 no_connection = ([], All-nil (IsPairOf None None), tt)
 
-module _ (w : Passage) (V : Content) (b : IsBefore w V) (s : Streams) (port connections : ℕ) where
+module _ (w : Passage) (V : Content) (b : IsBefore w V) (s : Streams) (port connections : ℕ)
+    (F : Type 0) where
   abbrev Goal : Type 0
-  Goal = Works w V (task.Serve port connections) s
+  Goal = Works w V (task.Serve port connections) F s
 
   -- connections that are all answered
   all_kept : (count : ℕ) → AllKept count w → Goal
@@ -62,6 +63,7 @@ module _ (w : Passage) (V : Content) (b : IsBefore w V) (s : Streams) (port conn
       no_connection,
       ap commands_of (sym (append-nil (all_of a.connections))),
     );
+    done = λ _. tt;
     left = subst (λ W. w.left_new W W) (as_run V (all_of a.connections)) (a.kept V b).1;
   }
 
@@ -72,6 +74,7 @@ module _ (w : Passage) (V : Content) (b : IsBefore w V) (s : Streams) (port conn
     proper = tt;
     last_proper = tt;
     tells = ([], [], [], All-nil IsConnection, no_connection, refl);
+    done = λ _. tt;
     left = (same V b).1;
   }
 
@@ -92,6 +95,7 @@ module _ (w : Passage) (V : Content) (b : IsBefore w V) (s : Streams) (port conn
         proper = proper;
         last_proper = wanted_proper x.wanted (proper-last (commands_of a.last) (commands_in x.wanted) own);
         tells = (a.connections, a.last, x ∷ [], a.asked, a.last_asked, refl);
+        done = λ _. tt;
         left = subst (λ W. w.left_new W (perhaps (run (commands_of before) V) (command_in x.wanted)))
             (as_run V before) (subst (λ W. w.left_new (vault_after V before) W) (run_then V before x)
             (a.left V b));

@@ -122,17 +122,19 @@ module _ (who : Asker) (now : ℕ) (named : IsName who.caller) (at : IsName who.
       )
 
   module _ (w : Passage) (V : Content) (b : IsBefore w V) (sound : Sound V) (s : Streams) (unsent : Type 0)
-      (quiet : unsent → IsQuiet s) where
+      (quiet : unsent → IsQuiet s) (F : Type 0) where
     -- purges that are done, and nothing else
     purged : (tokens : List Bytes) → AreSwept who now tokens V
         → w.left_new (swept_vault who now tokens V) (swept_vault who now tokens V)
-        → IsQuiet s ⊎ (left_dead who now tokens V ≡ []) → Works w V (task.Sweep who now) s
-    purged tokens swept left told = record {
+        → IsQuiet s ⊎ (left_dead who now tokens V ≡ []) → (F → left_dead who now tokens V ≡ [])
+        → Works w V (task.Sweep who now) F s
+    purged tokens swept left told none = record {
       answered = purges_at who now tokens;
       undecided = None;
       proper = swept_proper tokens (left_dead who now tokens V) V sound swept.0 swept.1;
       last_proper = tt;
       tells = (tokens, refl, swept, told);
+      done = λ f. (tokens, refl, none f);
       left = left;
     }
 
@@ -140,12 +142,12 @@ module _ (who : Asker) (now : ℕ) (named : IsName who.caller) (at : IsName who.
     torn : (tokens next : List Bytes) → length next ≤ 1 → AreSwept who now tokens V
         → Begin next (left_dead who now tokens V)
         → w.left_new (swept_vault who now tokens V) (swept_vault who now (tokens ++ next) V) → IsQuiet s
-        → Works w V (task.Sweep who now) s
-    torn tokens [] few swept begins left calm =
+        → ¬ F → Works w V (task.Sweep who now) F s
+    torn tokens [] few swept begins left calm undone =
         purged tokens swept
         (subst (λ ts. w.left_new (swept_vault who now tokens V) (swept_vault who now ts V))
-        (append-nil tokens) left) (inl calm)
-    torn tokens (token ∷ []) few swept begins left calm =
+        (append-nil tokens) left) (inl calm) (λ f. absurd (undone f))
+    torn tokens (token ∷ []) few swept begins left calm undone =
         let proper = swept_proper tokens (left_dead who now tokens V) V sound swept.0 swept.1 in
         let U : Content = swept_vault who now tokens V in
         record {
@@ -155,32 +157,33 @@ module _ (who : Asker) (now : ℕ) (named : IsName who.caller) (at : IsName who.
           last_proper = first_proper U token begins.0
               (stays_sound V (purges_at who now tokens) sound proper) begins.1;
           tells = (tokens, refl, swept, inl calm);
+          done = λ f. absurd (undone f);
           left = subst (λ W. w.left_new U W)
               (ap (λ ds. run ds V) (map-append (λ t. purge_at who now t) tokens (token ∷ []))
               ∙ run_more (purges_at who now tokens) (purge_at who now token) V) left;
         }
-    torn tokens (token ∷ other ∷ more) few swept begins left calm = absurd (omega (arith, few))
+    torn tokens (token ∷ other ∷ more) few swept begins left calm undone = absurd (omega (arith, few))
 
-    pub sweep_works : (broken : Bool) (r : Result Ended Stop)
+    pub sweep_works : (broken : Bool) (r : Result Ended Stop) → (F → r ≡ Ok outcome.Done)
         → SweepEnds who now w broken r unsent s.sent_old s.sent_new s.writer
-        → Works w V (task.Sweep who now) s
-    sweep_works broken (Ok outcome.Done) h =
+        → Works w V (task.Sweep who now) F s
+    sweep_works broken (Ok outcome.Done) fin h =
         let it = h.1.1.1 V b in
-        purged h.1.1.0 it.0 it.3.1 (inr it.1)
-    sweep_works broken (Ok (outcome.Refused n)) h =
+        purged h.1.1.0 it.0 it.3.1 (inr it.1) (λ _. it.1)
+    sweep_works broken (Ok (outcome.Refused n)) fin h =
         let it = h.1.2 V b in
-        purged h.1.0 it.0 it.3.1 (inl (quiet h.0))
-    sweep_works broken (Ok outcome.SomeRefused) h = absurd h
-    sweep_works broken (Err (stop.Vault Memory)) h =
+        purged h.1.0 it.0 it.3.1 (inl (quiet h.0)) (λ f. absurd (cc (fin f)))
+    sweep_works broken (Ok outcome.SomeRefused) fin h = absurd h
+    sweep_works broken (Err (stop.Vault Memory)) fin h =
         let it = h.1.1 V b in
-        purged h.1.0 it.0 it.1.1 (inl (quiet h.0))
-    sweep_works broken (Err (stop.Vault Store)) h =
+        purged h.1.0 it.0 it.1.1 (inl (quiet h.0)) (λ f. absurd (cc (fin f)))
+    sweep_works broken (Err (stop.Vault Store)) fin h =
         let it = h.1.3 V b in
-        torn h.1.0 h.1.1 h.1.2 it.1 it.2 it.3 (quiet h.0)
-    sweep_works broken (Err (stop.Vault Reopen)) h = absurd h.1
-    sweep_works broken (Err (stop.Service f)) h =
+        torn h.1.0 h.1.1 h.1.2 it.1 it.2 it.3 (quiet h.0) (λ f. cc (fin f))
+    sweep_works broken (Err (stop.Vault Reopen)) fin h = absurd h.1
+    sweep_works broken (Err (stop.Service f)) fin h =
         let it = h.2.1.1 V b in
-        purged h.2.1.0 it.0 it.3.1 (inr it.1)
-    sweep_works broken (Err (stop.Listener f)) h = absurd h
-    sweep_works broken (Err (stop.Rights f)) h = absurd h
-    sweep_works broken (Err (stop.Batch f)) h = absurd h
+        purged h.2.1.0 it.0 it.3.1 (inr it.1) (λ _. it.1)
+    sweep_works broken (Err (stop.Listener f)) fin h = absurd h
+    sweep_works broken (Err (stop.Rights f)) fin h = absurd h
+    sweep_works broken (Err (stop.Batch f)) fin h = absurd h

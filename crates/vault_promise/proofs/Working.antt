@@ -35,17 +35,18 @@ use Rattle.vault_jobs.specs.declared.task.Outcome.TheVariants as outcome
 use Rattle.vault_jobs.specs.declared.task.Task.{Task}
 use Rattle.vault_jobs.specs.declared.task.Task.TheVariants as task
 use Rattle.vault_promise.specs.Runs.{perhaps}
-use Rattle.vault_promise.specs.Told.{IsQuiet, Tells}
+use Rattle.vault_promise.specs.Told.{AllDone, IsQuiet, Tells}
 use Rattle.vault_app.specs.Values.{IsOwn}
 
 -- From this vault a task answered commands, of which alone it told; and of one more at most it isn't known
--- whether it is done.
-pub record Works (w : Passage) (V : Content) (t : Task) (s : Streams) : Type 0 where
+-- whether it is done. Where the task is done, it tells so.
+pub record Works (w : Passage) (V : Content) (t : Task) (IsDone : Type 0) (s : Streams) : Type 0 where
   pub answered : List Command
   pub undecided : Option Command
   pub proper : AllProper answered
   pub last_proper : IfSome undecided IsProper
   pub tells : Tells t V answered s
+  pub done : IsDone → AllDone t V answered
   pub left : w.left_new (run answered V) (perhaps (run answered V) undecided)
 
 -- what is replied by a verdict
@@ -76,55 +77,59 @@ own_verdict V (Purge caller m token now) own = absurd own
 own_verdict V (Audit caller m now) own = absurd own
 
 module _ (w : Passage) (V : Content) (b : IsBefore w V) (s : Streams) (unsent : Type 0)
-    (quiet : unsent → IsQuiet s) where
+    (quiet : unsent → IsQuiet s) (F : Type 0) where
   module _ (c : Command) (own : IsOwn c) (proper : IsProper c) where
-    change_done : (broken : Bool) → Carries c w broken (Ok verdict.Done) → Works w V (task.Change c) s
+    change_done : (broken : Bool) → Carries c w broken (Ok verdict.Done) → Works w V (task.Change c) F s
     change_done broken carried = record {
       answered = c ∷ [];
       undecided = None;
       proper = (proper, tt);
       last_proper = tt;
       tells = inr (refl, (carried V b).0);
+      done = λ _. (refl, (carried V b).0);
       left = (carried V b).1.1;
     }
 
-    pub change_works : (broken : Bool) (r : Result Ended Stop)
+    pub change_works : (broken : Bool) (r : Result Ended Stop) → (F → r ≡ Ok outcome.Done)
         → CommandsEnd (Carries c w broken) (codes "done\n") r unsent s.sent_old s.sent_new s.writer
-        → Works w V (task.Change c) s
-    change_works broken (Ok outcome.Done) h = change_done broken h.2
-    change_works broken (Ok (outcome.Refused n)) h = record {
+        → Works w V (task.Change c) F s
+    change_works broken (Ok outcome.Done) fin h = change_done broken h.2
+    change_works broken (Ok (outcome.Refused n)) fin h = record {
       answered = c ∷ [];
       undecided = None;
       proper = (proper, tt);
       last_proper = tt;
       tells = inl (quiet h.0);
+      done = λ f. absurd (cc (fin f));
       left = (h.1 V b).1.1;
     }
-    change_works broken (Ok outcome.SomeRefused) h = absurd h
-    change_works broken (Err (stop.Vault Memory)) h = record {
+    change_works broken (Ok outcome.SomeRefused) fin h = absurd h
+    change_works broken (Err (stop.Vault Memory)) fin h = record {
       answered = [];
       undecided = None;
       proper = tt;
       last_proper = tt;
       tells = inl (quiet h.0);
+      done = λ f. absurd (cc (fin f));
       left = (h.1 V b).1;
     }
-    change_works true (Err (stop.Vault Store)) h = record {
+    change_works true (Err (stop.Vault Store)) fin h = record {
       answered = [];
       undecided = Some c;
       proper = tt;
       last_proper = proper;
       tells = inl (quiet h.0);
+      done = λ f. absurd (cc (fin f));
       left = h.1.0 refl V b;
     }
-    change_works false (Err (stop.Vault Store)) h =
+    change_works false (Err (stop.Vault Store)) fin h =
         let v = own_verdict V c own in
         absurd (h.1.1 refl V b v.0 v.1)
-    change_works broken (Err (stop.Vault Reopen)) h = absurd h.1
-    change_works broken (Err (stop.Service f)) h = change_done broken h.2
-    change_works broken (Err (stop.Listener f)) h = absurd h
-    change_works broken (Err (stop.Rights f)) h = absurd h
-    change_works broken (Err (stop.Batch f)) h = absurd h
+    change_works broken (Err (stop.Vault Reopen)) fin h = absurd h.1
+    change_works broken (Err (stop.Service f)) fin h = change_done broken h.2
+    change_works broken (Err (stop.Listener f)) fin h = absurd h
+    change_works broken (Err (stop.Rights f)) fin h = absurd h
+    change_works broken (Err (stop.Batch f)) fin h = absurd h
 
 -- the first of proper commands are
 pub first_proper : (k : ℕ) (cs : List Command) → AllProper cs → AllProper (take k cs)
@@ -151,27 +156,28 @@ one_more (suc k) (c ∷ cs) below =
     }
 
 module _ (w : Passage) (V : Content) (b : IsBefore w V) (s : Streams) (unsent : Type 0)
-    (quiet : unsent → IsQuiet s) where
+    (quiet : unsent → IsQuiet s) (F : Type 0) where
   module _ (rights : Vec Row) (now : ℕ) (proper : AllProper (grants_at now rights.items)) where
     abbrev cs : List Command
     cs = grants_at now rights.items
 
     give_done : (broken : Bool) → CarriesAll cs w broken (Ok verdict.Done)
-        → Works w V (task.Give rights now) s
+        → Works w V (task.Give rights now) F s
     give_done broken carried = record {
       answered = cs;
       undecided = None;
       proper = proper;
       last_proper = tt;
       tells = inr (refl, (carried V b).0);
+      done = λ _. (refl, (carried V b).0);
       left = (carried V b).1.1;
     }
 
-    pub give_works : (broken : Bool) (r : Result Ended Stop)
+    pub give_works : (broken : Bool) (r : Result Ended Stop) → (F → r ≡ Ok outcome.Done)
         → CommandsEnd (CarriesAll cs w broken) (granted_line (length rights.items)) r unsent s.sent_old
-        s.sent_new s.writer → Works w V (task.Give rights now) s
-    give_works broken (Ok outcome.Done) h = give_done broken h.2
-    give_works broken (Ok (outcome.Refused n)) h =
+        s.sent_new s.writer → Works w V (task.Give rights now) F s
+    give_works broken (Ok outcome.Done) fin h = give_done broken h.2
+    give_works broken (Ok (outcome.Refused n)) fin h =
         let k = h.1.0 in
         record {
           answered = take (k + 1) cs;
@@ -179,10 +185,11 @@ module _ (w : Passage) (V : Content) (b : IsBefore w V) (s : Streams) (unsent : 
           proper = first_proper (k + 1) cs proper;
           last_proper = tt;
           tells = inl (quiet h.0);
+          done = λ f. absurd (cc (fin f));
           left = (h.1.2 V b).1.1;
         }
-    give_works broken (Ok outcome.SomeRefused) h = absurd h
-    give_works broken (Err (stop.Vault Memory)) h =
+    give_works broken (Ok outcome.SomeRefused) fin h = absurd h
+    give_works broken (Err (stop.Vault Memory)) fin h =
         let k = h.1.0 in
         record {
           answered = take k cs;
@@ -190,9 +197,10 @@ module _ (w : Passage) (V : Content) (b : IsBefore w V) (s : Streams) (unsent : 
           proper = first_proper k cs proper;
           last_proper = tt;
           tells = inl (quiet h.0);
+          done = λ f. absurd (cc (fin f));
           left = (h.1.2 V b).1.1;
         }
-    give_works broken (Err (stop.Vault Store)) h =
+    give_works broken (Err (stop.Vault Store)) fin h =
         let k = h.1.0 in
         let more = one_more k cs h.1.1 in
         record {
@@ -201,11 +209,12 @@ module _ (w : Passage) (V : Content) (b : IsBefore w V) (s : Streams) (unsent : 
           proper = first_proper k cs proper;
           last_proper = more.proper proper;
           tells = inl (quiet h.0);
+          done = λ f. absurd (cc (fin f));
           left = subst (λ W. w.left_new (run (take k cs) V) W)
               (ap (λ ds. run ds V) more.is ∙ run_more (take k cs) more.one V) (h.1.2 V b).2;
         }
-    give_works broken (Err (stop.Vault Reopen)) h = absurd h.1
-    give_works broken (Err (stop.Service f)) h = give_done broken h.2
-    give_works broken (Err (stop.Listener f)) h = absurd h
-    give_works broken (Err (stop.Rights f)) h = absurd h
-    give_works broken (Err (stop.Batch f)) h = absurd h
+    give_works broken (Err (stop.Vault Reopen)) fin h = absurd h.1
+    give_works broken (Err (stop.Service f)) fin h = give_done broken h.2
+    give_works broken (Err (stop.Listener f)) fin h = absurd h
+    give_works broken (Err (stop.Rights f)) fin h = absurd h
+    give_works broken (Err (stop.Batch f)) fin h = absurd h

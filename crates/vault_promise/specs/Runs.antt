@@ -31,10 +31,10 @@ use Rattle.vault_app.specs.Jobs.{RunsAs}
 use Rattle.vault_app.specs.Plans.{EndsPlanless, IsTaskOf}
 use Rattle.vault_app.specs.Ran.{AsksFor}
 use Rattle.vault_app.specs.declared.ending.Ending.{Ending}
-use Rattle.vault_app.specs.declared.ending.Ending.TheVariants.{NotOpened}
+use Rattle.vault_app.specs.declared.ending.Ending.TheVariants.{Done, NotOpened}
 use Rattle.vault_file.specs.declared.fault.NotOpened.{NotOpened as FileFault}
 use Rattle.vault_promise.specs.Lasting.{Lasts}
-use Rattle.vault_promise.specs.Told.{IsQuiet, Tells}
+use Rattle.vault_promise.specs.Told.{AllDone, IsQuiet, Tells}
 
 -- a run: the bytes that the files had before it, its words, how it ended, and what came in and went out but
 -- for the line that says how it ended
@@ -101,7 +101,7 @@ Rests r = EndsPlanless r.words r.ending (IsQuiet r.streams)
 
 -- The words of a run ask for a task. It opened the vault V, or the one after the command that was undecided:
 -- the one that the bytes hold. From there commands were answered, one after the other, and then the store
--- failed at one more at most. What went out tells of those answered.
+-- failed at one more at most. What went out tells of those answered; and so does the end, where it is done.
 pub record Work (V : Content) (c : Option Command) (r : Run) : Type 0 where
   pub task : Task
   pub asked : AsksFor r.words (λ job. IsTaskOf job task)
@@ -113,6 +113,7 @@ pub record Work (V : Content) (c : Option Command) (r : Run) : Type 0 where
   pub proper : AllProper answered
   pub last_proper : IfSome undecided IsProper
   pub tells : Tells task opened answered r.streams
+  pub done : r.ending ≡ Done → AllDone task opened answered
 
 -- it worked so, or it rests
 abbrev pub Comes : Content → Option Command → Run → Type 0

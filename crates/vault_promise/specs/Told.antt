@@ -54,6 +54,16 @@ pub record AreRead (now : Option ℕ) (digits : Option (List ℕ)) (s : Streams)
   pub records : (rows ≡ []) ⊎ ((more : List Fields) × CameIn s (records_with (rows_of rows) ++ more))
   pub fixed : All (IsPairOf now digits) (pairs_of rows)
 
+-- what a task tells by being done: its command is done, or all its rights are given, or no dead token is left
+abbrev pub AllDone : Task → Content → List Command → Type 0
+AllDone (Change c) V cs = (cs ≡ c ∷ []) × (reply V c ≡ Done)
+AllDone (Give rights now) V cs = (cs ≡ grants_at now rights.items) × AreDone (length cs) cs V
+AllDone (Sweep who now) V cs =
+    (tokens : List Bytes) × (cs ≡ purges_at who now tokens) × (left_dead who now tokens V ≡ [])
+AllDone (Batch who now digits) V cs = Unit {0}
+AllDone (Pipe now digits) V cs = Unit {0}
+AllDone (Serve port connections) V cs = Unit {0}
+
 -- Commands were answered from the vault V, one after the other, and what went out tells of these alone. A
 -- line of `done`, of rights or of numbers that are purged, or a part of it, says that all are done; lines of
 -- rows and texts of messages, which were read, are those that answer them, or the first bytes of these. Of
