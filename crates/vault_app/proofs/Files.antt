@@ -1,6 +1,6 @@
 -- A task on the vault in files, said of the files.
 use Rattle.std.proofs.Common.{◌≡◌, ◌↔◌, Bool, Option, Some, None, Result, Ok, Err, false, ap, refl}
-use Rattle.std.specs.Prelude.{IfErr, IfOk, IfSome}
+use Rattle.std.specs.Prelude.{ℤ, IfErr, IfOk, IfSome}
 use Rattle.sqlite.specs.Files.{file_state}
 use Rattle.sqlite.specs.Held.{Held}
 use Rattle.sqlite.specs.State.{HasCleanDisk}
@@ -11,7 +11,9 @@ use Rattle.sqlite_store.specs.declared.store.FileStore.{FileStore}
 use Rattle.sqlite_wal.specs.Recovery.{Image}
 use Rattle.vault_core.specs.Sound.{Sound}
 use Rattle.vault_core.specs.Vault.{Vault as Content, empty_vault}
-use Rattle.vault_file.specs.Found.{ChecksAs, IsNoVerdict, OpensFrom, Stays}
+use Rattle.vault_file.specs.Found.{ChecksAs, MayFindNone, OpensFrom, SparesStopped, Stays}
+use Rattle.vault_file.specs.Found.{StaysWhole, TellsFound}
+use Rattle.vault_file.specs.Moved.{MovesAs, StaysOld, TellsOld}
 use Rattle.vault_file.specs.declared.fault.NotOpened.{NotOpened as FileFault}
 use Rattle.vault_file.specs.declared.fault.NotOpened.TheVariants as file
 use Rattle.vault_jobs.proofs.Refining.{refined}
@@ -23,14 +25,14 @@ use Rattle.vault_jobs.specs.declared.task.Outcome.{Outcome}
 use Rattle.vault_jobs.specs.declared.task.Outcome.TheVariants as outcome
 use Rattle.vault_jobs.specs.declared.task.Task.{Task}
 use Rattle.vault_listen.specs.Service.{vault_passing}
-use Rattle.vault_recover.specs.Crashed.{Keeps, Reopens, ReopensEither}
+use Rattle.vault_recover.specs.Crashed.{Reopens, ReopensEither}
 use Rattle.vault_schema.specs.Holds.{Holds, LeavesEither}
 use Rattle.vault_store.specs.Applied.{Contains}
 use Rattle.vault_store.specs.declared.vault.Vault.{Vault}
 use Rattle.vault_verdict.specs.Sizes.{sizes_of}
 use Rattle.vault_verdict.specs.declared.sizes.Sizes.{Sizes}
 use Rattle.vault_app.specs.Files.{DoesOnFile, EndsOnFile, FileEnds, WorksOn, ending_for}
-use Rattle.vault_app.specs.Jobs.{IsChecked}
+use Rattle.vault_app.specs.Jobs.{IsChecked, IsMoved}
 use Rattle.vault_app.specs.declared.ending.Ending.TheVariants.{NotOpened}
 
 module _ {D : Type 0} {g : Ghosts D} {T : Type 0} (conn_of : T → Held (FileStore D g))
@@ -86,12 +88,14 @@ module _ {D : Type 0} {g : Ghosts D} (image : Image) (unread unsent : Type 0) (s
 
   pub refused_file : (left : Option (FileStore D g)) (task : Task) (why : FileFault)
       → (why ≡ file.Refused) ↔ (left ≡ None)
-      → IfSome left (λ it. IsClean (view it) → (V : Content) → Sound V → Keeps image V → IsNoVerdict why)
-      → IfSome left (Stays image) → unread → unsent
-      → EndsOnFile image left task (NotOpened why) unread unsent s
-  refused_file None task why is never stays calm silent = (ap (λ f. NotOpened f) (is.1 refl), calm, silent)
-  refused_file (Some left) task why is never stays calm silent =
-      (record { never = never; stays = stays }, calm, silent)
+      → IfSome left (λ it. IsClean (view it) → SparesStopped image why)
+      → IfSome left (λ it. IsClean (view it) → TellsFound image why)
+      → IfSome left (Stays image) → IfSome left (λ it. ¬ MayFindNone image → StaysWhole image it)
+      → unread → unsent → EndsOnFile image left task (NotOpened why) unread unsent s
+  refused_file None task why is never tells stays same calm silent =
+      (ap (λ f. NotOpened f) (is.1 refl), calm, silent)
+  refused_file (Some left) task why is never tells stays same calm silent =
+      (record { never = never; tells = tells; stays = stays; same = same }, calm, silent)
 
 -- what a check comes to
 pub checked : {D : Type 0} {g : Ghosts D} (image : Image) (left : Option (FileStore D g))
@@ -99,10 +103,25 @@ pub checked : {D : Type 0} {g : Ghosts D} (image : Image) (left : Option (FileSt
     → (left ≡ None → IfOk r (λ sizes. sizes ≡ sizes_of empty_vault))
     → IfErr r (λ why. (left ≡ None) ↔ (why ≡ file.Refused))
     → IfOk r (λ sizes. IfSome left (λ it. ChecksAs image it sizes))
-    → IfErr r (λ why. IfSome left (λ it. IsClean (view it)
-    → (V : Content) → Sound V → Keeps image V → IsNoVerdict why))
+    → IfErr r (λ why. IfSome left (λ it. IsClean (view it) → SparesStopped image why))
+    → IfErr r (λ why. IfSome left (λ it. IsClean (view it) → TellsFound image why))
+    → IfSome left (StaysWhole image) → IfSome left (Stays image)
     → IsChecked image left r
-checked image None (Ok sizes) empty refused sound never = empty refl
-checked image None (Err why) empty refused sound never = refused.0 refl
-checked image (Some left) (Ok sizes) empty refused sound never = sound
-checked image (Some left) (Err why) empty refused sound never = never
+checked image None (Ok sizes) empty refused sound never tells same stays = empty refl
+checked image None (Err why) empty refused sound never tells same stays = refused.0 refl
+checked image (Some left) (Ok sizes) empty refused sound never tells same stays = (sound, same, stays)
+checked image (Some left) (Err why) empty refused sound never tells same stays =
+    (λ clean. (never clean, tells clean), same, stays)
+
+-- and a migration
+pub moved : {D : Type 0} {g : Ghosts D} (image : Image) (left : Option (FileStore D g))
+    (r : Result ℤ FileFault) → (left ≡ None) ↔ (r ≡ Err file.Refused)
+    → IfOk r (λ _. IfSome left (MovesAs image))
+    → IfErr r (λ why. IfSome left (λ it. StaysOld image it why))
+    → IfErr r (λ why. IfSome left (λ it. IsClean (view it) → TellsOld image why))
+    → IfErr r (λ _. IfSome left (Stays image))
+    → IsMoved image left r
+moved image None (Ok version) refused moves old tells stays = let clash = refused.0 refl in cc
+moved image None (Err why) refused moves old tells stays = let is = refused.0 refl in cc
+moved image (Some left) (Ok version) refused moves old tells stays = moves
+moved image (Some left) (Err why) refused moves old tells stays = (old, tells, stays)

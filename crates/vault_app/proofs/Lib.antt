@@ -2,4 +2,4 @@ pub mod Files
 pub mod Lines
 pub mod Refusing
 pub mod Running
-pub mod Saying
+pub mod Values

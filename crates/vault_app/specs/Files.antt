@@ -9,10 +9,10 @@ use Rattle.sqlite_store.specs.FileStore.{view}
 use Rattle.sqlite_store.specs.declared.store.FileStore.{FileStore}
 use Rattle.sqlite_wal.specs.Recovery.{Image}
 use Rattle.vault_core.specs.Sound.{Sound}
-use Rattle.vault_core.specs.Vault.{Vault as Content}
-use Rattle.vault_recover.specs.Crashed.{Keeps, Reopens, ReopensEither}
+use Rattle.vault_recover.specs.Crashed.{Reopens, ReopensEither}
 use Rattle.vault_schema.specs.Holds.{Holds}
-use Rattle.vault_file.specs.Found.{IsNoVerdict, OpensFrom, Stays}
+use Rattle.vault_file.specs.Found.{MayFindNone, OpensFrom, SparesStopped, Stays, StaysWhole}
+use Rattle.vault_file.specs.Found.{TellsFound}
 use Rattle.vault_file.specs.declared.fault.NotOpened.{NotOpened as FileFault}
 use Rattle.vault_file.specs.declared.fault.NotOpened.TheVariants as file
 use Rattle.vault_http.specs.Passing.{Passage}
@@ -70,11 +70,14 @@ module _ {D : Type 0} {g : Ghosts D} where
     pub clean : IsClean (view left) → HasCleanDisk (file_state opened)
     pub done : Done (file_passing opened left) broken
 
-  -- Files with these bytes weren't opened, and these are left. Where they kept a sound vault, that isn't
-  -- told of their schema or rows; and what they kept they keep.
+  -- Files with these bytes weren't opened, and these are left. What a stop leaves of a sound vault isn't
+  -- refused for its schema or its rows, and what is refused so is told by what the files hold; what they kept
+  -- they keep; and where there was a table, whatever is in them stays.
   pub record RefusesFile (image : Image) (left : FileStore D g) (why : FileFault) : Type 0 where
-    pub never : IsClean (view left) → (V : Content) → Sound V → Keeps image V → IsNoVerdict why
+    pub never : IsClean (view left) → SparesStopped image why
+    pub tells : IsClean (view left) → TellsFound image why
     pub stays : Stays image left
+    pub same : ¬ MayFindNone image → StaysWhole image left
 
   -- what was done with the vault in files with these bytes, by how a task on it ended
   abbrev pub DoesOnFile : Image → FileStore D g → Task → Ending → Type 0 → Type 0 → Streams → Type 0

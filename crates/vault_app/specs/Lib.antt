@@ -4,3 +4,4 @@ pub mod Jobs
 pub mod Plans
 pub mod Ran
 pub mod Rights
+pub mod Values

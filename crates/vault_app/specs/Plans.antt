@@ -20,7 +20,6 @@ use Rattle.vault_words.specs.declared.jobs.Job.TheVariants.{Batch, Serve, Sweep,
 use Rattle.vault_jobs.specs.Causes.{IsCauseOf}
 use Rattle.vault_jobs.specs.Moments.{IsMomentOf}
 use Rattle.vault_jobs.specs.Streams.{Known, Streams}
-use Rattle.vault_jobs.specs.Tasks.{IsProper}
 use Rattle.vault_jobs.specs.Trial as memory
 use Rattle.vault_jobs.specs.declared.stop.Stop.TheVariants as stop
 use Rattle.vault_jobs.specs.declared.stop.Unread.{Unread}
@@ -30,6 +29,7 @@ use Rattle.vault_jobs.specs.declared.trial.Trial.{Trial as Asked}
 use Rattle.vault_app.specs.Files.{FileEnds}
 use Rattle.vault_app.specs.Ran.{AreNames, AsksFor, IsMisnamed, Unasked, schema_line, sound_line}
 use Rattle.vault_app.specs.Rights.{IsListed, IsRefusedText}
+use Rattle.vault_app.specs.Values.{AreValues}
 use Rattle.vault_app.specs.declared.ending.Ending.{Ending}
 use Rattle.vault_app.specs.declared.ending.Ending.TheVariants.{Done, Version, Refused, SomeRefused}
 use Rattle.vault_app.specs.declared.ending.Ending.TheVariants.{BadWords, NotOpened, Stopped}
@@ -92,12 +92,12 @@ IsPlanOf (Sweep j) p = (t : Task) × IsTaskOf (Sweep j) t × (p ≡ plan.Do j.fi
 IsPlanOf (Check j) p = p ≡ plan.Check j.file
 IsPlanOf (Migrate j) p = p ≡ plan.Migrate j.file
 
--- the lives of its task or of its trial are lives
+-- the parts of its task are values of their types, or the life of its trial is a life
 abbrev pub IsProperPlan : Plan → Type 0
 IsProperPlan (plan.Trial t) = IsLife t.life
 IsProperPlan (plan.Check path) = Unit {0}
 IsProperPlan (plan.Migrate path) = Unit {0}
-IsProperPlan (plan.Do path t) = IsProper t
+IsProperPlan (plan.Do path t) = AreValues t
 
 -- by which number a job is refused before there is a plan: for a name, a right or a list
 abbrev pub IsRefusedBefore : Job → ℕ → Type 0

@@ -20,15 +20,13 @@ use Rattle.vault_words.specs.declared.jobs.Job.TheVariants.{Trial, Merchant, Gra
 use Rattle.vault_words.specs.declared.jobs.Job.TheVariants.{Batch, Serve, Sweep, Check, Migrate}
 use Rattle.vault_batch.specs.declared.counts.Counts.{Counts}
 use Rattle.vault_jobs.specs.Batched.{IsTabled}
-use Rattle.vault_jobs.specs.Causes.{IsCauseOf, number_of}
+use Rattle.vault_jobs.specs.Causes.{IsCauseOf}
 use Rattle.vault_jobs.specs.Moments.{IsMomentOf}
 use Rattle.vault_jobs.specs.Streams.{IsHeard, Streams, Writes}
 use Rattle.vault_jobs.specs.Tasks.{granted_line, listening_line, purged_line}
 use Rattle.vault_jobs.specs.Trial.{IsCut, IsTrial, trial_vault}
 use Rattle.vault_jobs.specs.declared.stop.Stop.{Stop}
 use Rattle.vault_jobs.specs.declared.stop.Stop.TheVariants.{Vault, Service}
-use Rattle.vault_app.specs.Ending.{bad_words_line, not_opened_line, refusal_line, status_of, stop_line}
-use Rattle.vault_app.specs.Ending.{version_line}
 use Rattle.vault_app.specs.Rights.{IsListed, IsRefusedText}
 use Rattle.vault_app.specs.declared.ending.Ending.{Ending}
 use Rattle.vault_app.specs.declared.ending.Ending.TheVariants.{Done, Version, Refused, SomeRefused}
@@ -184,28 +182,3 @@ Unasked words ending unread unsent =
 abbrev pub Ran : List Text → Ending → Type 0 → Type 0 → Streams → Type 0
 Ran words ending unread unsent s =
     AsksFor words (λ job. Ends job ending unread unsent s) ⊎ Unasked words ending unread unsent
-
--- the same, after the program has said how it ended
-abbrev pub Said : List Text → Ending → Type 0 → Type 0 → Type 0 → Streams → (List ℕ → Type 0)
-    → (List ℕ → Type 0) → Type 0
-Said words Done unread unsent silent s output errors = silent
-    × (AsksFor words (λ job. (s.writer ≡ false) × IsDone job unread s) ⊎ AsksHelp words × unread)
-Said words Version unread unsent silent s output errors = silent × unread × output version_line
-    × AsksVersion words
-Said words (Refused n) unread unsent silent s output errors = silent × unread × output (refusal_line n)
-    × AsksFor words (λ job. IsRefused job n)
-Said words SomeRefused unread unsent silent s output errors = silent
-    × AsksFor words (λ job. (s.writer ≡ false) × IsRefusedInPart job s)
-Said words BadWords unread unsent silent s output errors = unread × unsent × errors bad_words_line
-    × ((job : Job) → ¬ (IsAsked program_app words job))
-Said words (NotOpened f) unread unsent silent s output errors = unread × unsent × errors (not_opened_line f)
-    × AsksFor words IsOnFile
-Said words (Stopped stop) unread unsent silent s output errors = errors (stop_line (number_of stop))
-    × (AsksFor words (λ job. IsCauseOf stop s × IsBegun job stop unread s)
-    ⊎ (stop ≡ Vault vault.Memory) × unread × unsent)
-
--- the exit status is that of an ending, and the program ended so
-abbrev pub EndsBy : List Text → ℕ → Type 0 → Type 0 → Type 0 → Streams → (List ℕ → Type 0)
-    → (List ℕ → Type 0) → Type 0
-EndsBy words status unread unsent silent s output errors =
-    (ending : Ending) × (status ≡ status_of ending) × Said words ending unread unsent silent s output errors

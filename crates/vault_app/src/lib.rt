@@ -9,3 +9,4 @@ mod on_file;
 pub mod plan;
 mod report;
 pub mod run;
+mod typed;

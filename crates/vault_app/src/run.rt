@@ -7,9 +7,9 @@ ghost use Rattle.vault_wire.specs.declared.watched.Watched.{Watched};
 ghost use Rattle.vault_jobs.specs.Streams.{Streams, streams};
 ghost use Rattle.vault_jobs.specs.Told.{Tells};
 ghost use Rattle.vault_app.specs.Ending.{bad_words_line, stop_line};
-ghost use Rattle.vault_app.specs.Jobs.{Does, DoesPlan, DoesRun};
+ghost use Rattle.vault_app.specs.Jobs.{Does, DoesPlan, RunsAs};
 ghost use Rattle.vault_app.specs.Plans.{EndsPlanless, IsPlanOf, IsProperPlan, PlanEnds};
-ghost use Rattle.vault_app.specs.Ran.{AsksFor, EndsBy, IsBatch, Ran};
+ghost use Rattle.vault_app.specs.Ran.{AsksFor, IsBatch, Ran};
 
 use crate::commands::check::tell_sizes;
 use crate::commands::migrate::tell_moved;
@@ -141,21 +141,8 @@ pub fn run<S: Start, A: AsStr, R: Read, W: Write, E: Write>(
     output: &mut Watched<W>,
     errors: &mut Watched<E>,
 ) -> (u8, Left<S>)
-    ensures ended { let s : Streams =
-        streams R.remaining input.old input.new W.contents output.old output.new in
-        EndsBy (map A.text words.now) result.0
-        (input.new ≡ input.old) (output.new ≡ output.old) (errors.new ≡ errors.old) s
-        (Tells (W.contents (inner_of output.old)) (W.contents (inner_of output.new))
-        (is_stopped output.new))
-        (Tells (E.contents (inner_of errors.old)) (E.contents (inner_of errors.new))
-        (is_stopped errors.new)) }
-    ensures does { (told : Watched W) × (let s : Streams =
-        streams R.remaining input.old input.new W.contents output.old told in
-        DoesRun (image_at S.Start) result.1 (map A.text words.now) result.0
-        (input.new ≡ input.old) (told ≡ output.old) s (output.new ≡ told) (errors.new ≡ errors.old)
-        (Tells (W.contents (inner_of told)) (W.contents (inner_of output.new)) (is_stopped output.new))
-        (Tells (E.contents (inner_of errors.old)) (E.contents (inner_of errors.new))
-        (is_stopped errors.new))) }
+    ensures does { (told : Watched W) × RunsAs R.remaining W.contents E.contents (image_at S.Start) result.1
+        (map A.text words.now) result.0 input.old input.new output.old told output.new errors.old errors.new }
     ensures status { (result.0 ≡ 0) ⊎ (result.0 ≡ 1) ⊎ (result.0 ≡ 2) ⊎ (result.0 ≡ 3) ⊎ (result.0 ≡ 4) }
     ensures silent { (result.0 ≡ 0) ⊎ (result.0 ≡ 1) → errors.new ≡ errors.old }
     ensures unread { (result.0 ≡ 2) ⊎ (result.0 ≡ 3) → input.new ≡ input.old }

@@ -2,3 +2,4 @@ pub mod Leaving
 pub mod Moving
 pub mod Opening
 pub mod Reopened
+pub mod Whole

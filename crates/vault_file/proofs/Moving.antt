@@ -1,6 +1,6 @@
 -- What a migration comes to over files.
 use Rattle.std.proofs.Common.{◌≡◌, ◌≢◌, ◌≤◌, inl, inr, ap, arith, None}
-use Rattle.std.proofs.Math.Logic.{∥∥₁_map}
+use Rattle.std.proofs.Math.Logic.{∥∥₁_elim, ∥∥₁_map}
 use Rattle.sqlite.specs.Files.{file_state}
 use Rattle.sqlite.specs.Held.{Held}
 use Rattle.sqlite.specs.State.{HasCleanDisk}
@@ -14,14 +14,15 @@ use Rattle.sql_maps.specs.Schema.{no_schema}
 use Rattle.vault_core.specs.Sound.{Sound}
 use Rattle.vault_core.specs.Vault.{Vault, empty_vault}
 use Rattle.vault_file.proofs.Opening.{no_verdict}
-use Rattle.vault_file.specs.Found.{IsNoVerdict}
+use Rattle.vault_file.specs.Found.{IsNoVerdict, SparesStopped}
 use Rattle.vault_file.specs.Moved.{LeavesOld, MovesAs, MovesFrom, StaysOld}
 use Rattle.vault_file.specs.declared.fault.NotOpened.{NotOpened}
 use Rattle.vault_file.specs.declared.fault.NotOpened.TheVariants.{Fault}
 use Rattle.vault_file.proofs.Reopened.{in_again, some_again}
 use Rattle.vault_migrate.specs.Moved.{HoldsSoundIn, IsMovable, IsOlder, LeavesIn, LeavesSome}
-use Rattle.vault_file.specs.Reopened.{KeepsIn, ReopensIn, ReopensSome}
-use Rattle.vault_recover.specs.Crashed.{AreBlank, HoldsFirst, IsOpenOf, KeepsFirst, Reopens}
+use Rattle.vault_file.specs.Reopened.{KeepsIn, KeepsSome, ReopensIn, ReopensSome}
+use Rattle.vault_recover.specs.Crashed.{AreBlank, HoldsEither, HoldsFirst, IsOpenOf, KeepsEither, KeepsFirst}
+use Rattle.vault_recover.specs.Crashed.{Reopens}
 use Rattle.vault_schema.proofs.Newest.{held_by_newest, held_in_newest, ours_in_newest}
 use Rattle.vault_schema.specs.Holds.{HoldsIn}
 use Rattle.vault_schema.specs.Stands.{newest}
@@ -58,15 +59,22 @@ module _ {D : Type 0} {g : Ghosts D} (image : Image) (first last : Held (FileSto
         → Holds (file_state last) empty_vault)
         → (HasCleanDisk (file_state last) → (v : Version) → IsOlder v → IsFullIn v (file_state first).now
         → HoldsSoundIn newest (file_state last))
+        → (HasCleanDisk (file_state first) → (V W : Vault) → KeepsEither image V W
+        → HoldsEither (file_state first) V W)
         → (HasCleanDisk (file_state first) → (before : Trees) → AreBlank before → KeepsFirst image before
         → HoldsFirst (file_state first) before) → MovesFrom image last
-    moves_from blank sound one = record {
+    moves_from blank sound either one = record {
       first = first;
       found = found;
       moved = λ clean v V keeps. moves_on clean v V (found_in clean v V keeps);
       stopped = λ clean V keeps.
           ∥∥₁_map (some_again image first (found (was_clean clean)) unlimited V keeps)
           (λ held. moves_on clean held.0 V held.1);
+      either = λ clean V W keeps.
+          ∥∥₁_map (either (was_clean clean) V W keeps) (λ held. elim held [
+            | inl is ↦ inl (moves_on clean newest V (held_in_newest V (file_state first) is))
+            | inr is ↦ inr (moves_on clean newest W (held_in_newest W (file_state first) is))
+          ]);
       blank = λ clean before none keeps.
           ∥∥₁_map (one (was_clean clean) before none keeps) (λ held. elim held [
             | inl is ↦ blank clean is.ready is.schema
@@ -75,6 +83,19 @@ module _ {D : Type 0} {g : Ghosts D} (image : Image) (first last : Held (FileSto
           ]);
       sound = sound;
     }
+
+  -- a sound vault that is held in a version can be moved
+  stands_in : (v : Version) (V : Vault) → Sound V → HoldsIn v V (file_state first)
+      → IsMovable (file_state first).now
+  stands_in v V sound held = inl (
+    v,
+    record {
+      schema = held.is.schema;
+      vault = V;
+      sound = sound;
+      stand = held.is.stand;
+    },
+  )
 
   -- and one that is refused
   module _ (e : OpenFault) where
@@ -93,16 +114,19 @@ module _ {D : Type 0} {g : Ghosts D} (image : Image) (first last : Held (FileSto
         → HasCleanDisk (file_state last) → (v : Version) (V : Vault) → Sound V → KeepsIn v image V
         → IsNoVerdict (Fault e)
     never_in never clean v V sound keeps =
-        let held = found_in clean v V keeps in
-        no_verdict e (never clean (inl (
-          v,
-          record {
-            schema = held.is.schema;
-            vault = V;
-            sound = sound;
-            stand = held.is.stand;
-          },
-        )))
+        no_verdict e (never clean (stands_in v V sound (found_in clean v V keeps)))
+
+    -- so of a vault in some version: of a truncation only two negations are made
+    pub never_some : (HasCleanDisk (file_state last) → IsMovable (file_state first).now → IsNoRefusal e)
+        → HasCleanDisk (file_state last) → (V : Vault) → Sound V → KeepsSome image V → IsNoVerdict (Fault e)
+    never_some never clean V sound keeps =
+        let some = some_again image first (found (was_clean clean)) unlimited V keeps in
+        no_verdict e (
+          λ n same. ∥∥₁_elim some (λ a b. absurd a)
+              (λ held. (never clean (stands_in held.0 V sound held.1)).0 n same),
+          λ rule same. ∥∥₁_elim some (λ a b. absurd a)
+              (λ held. (never clean (stands_in held.0 V sound held.1)).1 rule same),
+        )
 
 -- a database that is fit can be moved
 pub movable : (db : Database) → IsFit db → IsMovable db
@@ -118,6 +142,11 @@ moves_as image conn left it was after = record {
       (it.moved (was clean) newest V (λ found finds. ours_in_newest V found (keeps found finds)));
   stopped = λ clean V keeps bytes may found finds. ∥∥₁_map (it.stopped (was clean) V keeps)
       (λ held. after clean V held bytes may found finds);
+  either = λ clean V W keeps bytes may found finds.
+      ∥∥₁_map (it.either (was clean) V W keeps) (λ held. elim held [
+        | inl is ↦ inl (after clean V is bytes may found finds)
+        | inr is ↦ inr (after clean W is bytes may found finds)
+      ]);
   blank = λ clean before none keeps bytes may found finds.
       ∥∥₁_map (it.blank (was clean) before none keeps)
       (λ held. after clean empty_vault held bytes may found finds);
@@ -130,9 +159,13 @@ pub stays_old : {D : Type 0} {g : Ghosts D} (image : Image) (conn : Held (FileSt
     → (IsClean (view left) → (V : Vault) → LeavesSome V (file_state conn) → ReopensSome left V)
     → (IsClean (view left) → (v : Version) (V : Vault) → LeavesIn v V (file_state conn) → ReopensIn v left V)
     → (HasCleanDisk (file_state conn)
-    → (v : Version) (V : Vault) → Sound V → KeepsIn v image V → IsNoVerdict why) → StaysOld image left why
-stays_old image conn left why old was some after never = record {
+    → (v : Version) (V : Vault) → Sound V → KeepsIn v image V → IsNoVerdict why)
+    → (HasCleanDisk (file_state conn) → (V : Vault) → Sound V → KeepsSome image V → IsNoVerdict why)
+    → (HasCleanDisk (file_state conn) → SparesStopped image why) → StaysOld image left why
+stays_old image conn left why old was some after never never_some spares = record {
   stays = λ clean other v V keeps. after clean v V (old.stays (was clean) other v V keeps);
   some = λ clean v V keeps. some clean V (old.some (was clean) v V keeps);
   never = λ clean. never (was clean);
+  never_some = λ clean. never_some (was clean);
+  spares = λ clean. spares (was clean);
 }

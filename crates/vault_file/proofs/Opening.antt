@@ -1,6 +1,6 @@
 -- What an open and a check come to.
 use Rattle.std.proofs.Common.{◌≡◌, inl, inr, ◌≤◌, ℕ, ℤ, Some, None, arith, refl, sym, ap, subst, ◌∙◌}
-use Rattle.std.proofs.Math.Logic.{∥∥₁_map}
+use Rattle.std.proofs.Math.Logic.{∥∥₁_elim, ∥∥₁_map}
 use Rattle.sqlite.specs.Effect.{Database, IsDatabase}
 use Rattle.sqlite.specs.Files.{AreFoundIn, file_state}
 use Rattle.sqlite.specs.Held.{Held}
@@ -13,18 +13,22 @@ use Rattle.sqlite_wal.specs.Recovery.{Image}
 use Rattle.vault_core.proofs.Empty.{sound-empty}
 use Rattle.vault_core.specs.Sound.{Sound}
 use Rattle.vault_core.specs.Vault.{Vault, empty_vault}
-use Rattle.vault_file.specs.Found.{IsFoundIn, IsNoVerdict, OpensFrom}
+use Rattle.vault_file.specs.Found.{IsFoundIn, IsNoVerdict, OpensFrom, SparesStopped}
 use Rattle.vault_file.specs.declared.fault.NotOpened.{NotOpened}
 use Rattle.vault_file.specs.declared.fault.NotOpened.TheVariants.{Refused, Fault}
+use Rattle.vault_recover.proofs.Reopened.{held_again}
 use Rattle.vault_recover.specs.Crashed.{AreBlank, HoldsEither, HoldsFirst, IsOpenOf}
 use Rattle.vault_recover.specs.Crashed.{Keeps, KeepsEither, KeepsFirst}
 use Rattle.vault_verdict.specs.Opened.{IsFit, IsNoRefusal, Opens, StandsSound}
 use Rattle.vault_verdict.specs.declared.fault.OpenFault.{OpenFault}
 use Rattle.vault_verdict.specs.declared.fault.OpenFault.TheVariants.{WrongSchema, Damaged, Memory, Store}
-use Rattle.vault_schema.proofs.Newest.{held_in_newest}
+use Rattle.vault_file.proofs.Reopened.{some_again}
+use Rattle.vault_migrate.proofs.Moving.{never_blank, one_version}
+use Rattle.vault_schema.proofs.Newest.{held_by_newest, held_in_newest}
+use Rattle.vault_schema.specs.declared.version.Version.{Version}
 use Rattle.vault_schema.specs.Stands.{newest}
 use Rattle.vault_verdict.proofs.Judged.{full_in}
-use Rattle.vault_schema.specs.Holds.{Holds}
+use Rattle.vault_schema.specs.Holds.{Holds, HoldsIn}
 use Rattle.sql_maps.specs.Schema.{no_schema}
 use Rattle.vault_schema.specs.Stands.{Stands}
 
@@ -86,14 +90,14 @@ module _ {D : Type 0} {g : Ghosts D} (image : Image) (first : Held (FileStore D 
   module _ (again : HasCleanDisk (file_state first)
       → (V : Vault) → Keeps image V → Holds (file_state first) V) where
     -- an open that succeeds
-    pub opens_from : (conn : Held (FileStore D g))
+    pub opens_from : (conn : Held (FileStore D g)) → (file_state first).step_limit ≡ None
         → (HasCleanDisk (file_state first) → (V W : Vault) → KeepsEither image V W
         → HoldsEither (file_state first) V W)
         → (HasCleanDisk (file_state first) → (before : Trees) → AreBlank before → KeepsFirst image before
         → HoldsFirst (file_state first) before)
         → (HasCleanDisk (file_state conn) → Opens (file_state first) (file_state conn))
         → doubt (file_state first).is_clean ≤ doubt (file_state conn).is_clean → OpensFrom image conn
-    opens_from conn either one opens quiet =
+    opens_from conn unlimited either one opens quiet =
         let was : HasCleanDisk (file_state conn) → HasCleanDisk (file_state first) =
         λ clean. omega (arith, quiet, clean) in
         let on : HasCleanDisk (file_state conn) → (V : Vault) → Sound V → Holds (file_state first) V
@@ -116,6 +120,16 @@ module _ {D : Type 0} {g : Ghosts D} (image : Image) (first : Held (FileStore D 
                 | inl none ↦ (opens clean).blank none.ready.is_open none.schema
                 | inr one ↦ on clean empty_vault sound-empty one
               ]);
+          stands = λ clean V sound ours.
+              on clean V sound (held_again image first (found (was clean)) unlimited V ours);
+          some = λ clean V sound keeps.
+              ∥∥₁_map (some_again image first (found (was clean)) unlimited V keeps) (λ held.
+              elim (opens clean).whose [
+                | inl none ↦ absurd (never_blank held.0 (sym held.1.is.schema ∙ none))
+                | inr new ↦ on clean V sound (held_by_newest V (file_state first)
+                    (subst (λ (v : Version). HoldsIn v V (file_state first))
+                    (one_version held.0 newest (sym held.1.is.schema ∙ new)) held.1))
+              ]);
         }
 
     -- An open or a check that fails with this fault. Where the disk is clean after it, and the fault is
@@ -128,14 +142,34 @@ module _ {D : Type 0} {g : Ghosts D} (image : Image) (first : Held (FileStore D 
       was_clean : ((file_state first).now.schema ≡ no_schema → ⊥) → HasCleanDisk (file_state first)
       was_clean some = omega (arith, quiet some, clean)
 
-      pub never_kept : (V : Vault) → Sound V → Keeps image V → IsNoVerdict (Fault e)
-      never_kept V sound keeps =
-          let fit : ((file_state first).now.schema ≡ no_schema → ⊥) → IsNoRefusal e = λ some.
-          never clean (inl (stands_sound (file_state first) V sound (again (was_clean some) V keeps))) in
-          no_verdict e (
-            λ n same. (fit (λ blank. (never clean (inr blank)).0 n same)).0 n same,
-            λ rule same. (fit (λ blank. (never clean (inr blank)).1 rule same)).1 rule same,
-          )
+      -- where there are tables, and they stand for a sound vault, it is neither of the two
+      never_such : (((file_state first).now.schema ≡ no_schema → ⊥)
+          → ∥ StandsSound (file_state first).now ∥₁) → IsNoVerdict (Fault e)
+      never_such stands = no_verdict e (
+        λ n same. ∥∥₁_elim (stands (λ blank. (never clean (inr blank)).0 n same)) (λ a b. absurd a)
+            (λ it. (never clean (inl it)).0 n same),
+        λ rule same. ∥∥₁_elim (stands (λ blank. (never clean (inr blank)).1 rule same)) (λ a b. absurd a)
+            (λ it. (never clean (inl it)).1 rule same),
+      )
+
+      pub spares : (HasCleanDisk (file_state first) → (V W : Vault) → KeepsEither image V W
+          → HoldsEither (file_state first) V W)
+          → (HasCleanDisk (file_state first) → (before : Trees) → AreBlank before → KeepsFirst image before
+          → HoldsFirst (file_state first) before) → SparesStopped image (Fault e)
+      spares either empty = record {
+        one = λ V sound keeps. never_such (λ some.
+            ∣ stands_sound (file_state first) V sound (again (was_clean some) V keeps) ∣₁);
+        either = λ V W sound other keeps. never_such (λ some.
+            ∥∥₁_map (either (was_clean some) V W keeps) (λ held. elim held [
+              | inl is ↦ stands_sound (file_state first) V sound is
+              | inr is ↦ stands_sound (file_state first) W other is
+            ]));
+        first = λ before blank keeps. never_such (λ some.
+            ∥∥₁_map (empty (was_clean some) before blank keeps) (λ held. elim held [
+              | inl none ↦ absurd (some none.schema)
+              | inr is ↦ stands_sound (file_state first) empty_vault sound-empty is
+            ]));
+      }
 
       pub found_wrong : (n : ℤ) → Fault e ≡ Fault (WrongSchema n) → IsFoundIn image (file_state first).now
       found_wrong n same =

@@ -1,17 +1,21 @@
 -- What a migration that was stopped left is found again.
-use Rattle.std.proofs.Common.{◌≡◌, IsTrue, None, sym, subst}
-use Rattle.std.proofs.Math.Logic.{∥∥₁_map}
+use Rattle.std.proofs.Common.{◌≡◌, ◌∙◌, IsTrue, None, sym, subst}
+use Rattle.std.proofs.Math.Logic.{∥∥₁_elim, ∥∥₁_map}
+use Rattle.sqlite.proofs.Theorems.{opens_again}
 use Rattle.sqlite.specs.Files.{file_state}
 use Rattle.sqlite.specs.Held.{Held}
+use Rattle.sqlite.specs.Schema.{Schema}
 use Rattle.sqlite.specs.Tree.{Trees}
+use Rattle.sqlite_catalog.specs.Listing.{IsSound}
 use Rattle.sqlite_disk.specs.declared.Disk.{Ghosts}
 use Rattle.sqlite_store.specs.FileStore as files
 use Rattle.sqlite_store.specs.declared.store.FileStore.{FileStore}
+use Rattle.sqlite_trees.specs.Props.{Trees-set}
 use Rattle.sqlite_wal.specs.Recovery.{Image}
 use Rattle.vault_core.specs.Vault.{Vault}
 use Rattle.vault_file.specs.Reopened.{HoldsSome, KeepsIn, KeepsSome, ReopensIn, ReopensSome}
 use Rattle.vault_recover.proofs.Reopened.{fine, now_trees, one_schema, reopens_such}
-use Rattle.vault_recover.specs.Crashed.{IsOpenOf}
+use Rattle.vault_recover.specs.Crashed.{IsOpenOf, MayFind}
 use Rattle.vault_schema.specs.Holds.{AreIn, HoldsIn}
 use Rattle.vault_schema.specs.Stands.{lookups_of}
 use Rattle.vault_schema.specs.Versions.{Stand, schema_of}
@@ -24,6 +28,16 @@ pub reopens_some : {D : Type 0} {g : Ghosts D} (it : FileStore D g) → IsTrue (
 reopens_some it numbered V each =
     reopens_such it numbered (AreSome (lookups_of V))
     (λ db was. let found = each db was in (schema_of found.0, found.1.sound)) each
+
+-- where a crash leaves these trees alone, whoever opens what it leaves finds them
+pub reopens_only : {D : Type 0} {g : Ghosts D} (it : FileStore D g) → IsTrue (files.view it).is_numbered
+    → (schema : Schema) (only : Trees) → IsSound schema only
+    → ((db : Trees) → files.recovers it db → db ≡ only) → (left : Image)
+    → (files.state it).may_leave left → (found : Trees) → MayFind left found → found ≡ only
+reopens_only it numbered schema only sound alone left may found finds =
+    ∥∥₁_elim (opens_again it numbered
+    (λ db was. (schema, subst (IsSound schema) (sym (alone db was)) sound)) left may) (Trees-set _ _)
+    (λ db. finds db.0 db.2 ∙ alone db.0 db.1)
 
 -- in this version
 pub reopens_in : {D : Type 0} {g : Ghosts D} (it : FileStore D g) → IsTrue (files.view it).is_numbered

@@ -1,5 +1,5 @@
 -- What is found in the files at a path.
-use Rattle.std.specs.Prelude.{◌≡◌, ◌≢◌, ◌⊎◌, ◌≤◌, ℕ, List, [], codes, take}
+use Rattle.std.specs.Prelude.{◌≡◌, ◌≢◌, ◌⊎◌, ◌≤◌, ℕ, ℤ, List, [], codes, take}
 use Rattle.sqlite.specs.Effect.{Database, IsDatabase}
 use Rattle.sqlite.specs.Files.{AreFoundIn, file_state}
 use Rattle.sqlite.specs.Held.{Held}
@@ -13,15 +13,22 @@ use Rattle.sqlite_wal.specs.Recovery.{Image}
 use Rattle.vault_core.specs.Sound.{Sound}
 use Rattle.vault_core.specs.Vault.{Vault, empty_vault}
 use Rattle.vault_file.specs.Faults.{number_of}
+use Rattle.vault_file.specs.Reopened.{KeepsSome, ReopensSome}
+use Rattle.vault_migrate.specs.Moved.{LeavesSome}
 use Rattle.vault_file.specs.declared.fault.NotOpened.{NotOpened}
+use Rattle.vault_file.specs.declared.fault.NotOpened.TheVariants.{Fault}
 use Rattle.vault_recover.specs.Crashed.{AreBlank, HoldsEither, IsOpenOf}
 use Rattle.vault_recover.specs.Crashed.{Keeps, KeepsEither, KeepsFirst, MayFind, Reopens, ReopensEither}
 use Rattle.vault_recover.specs.Crashed.{ReopensFirst}
-use Rattle.vault_verdict.specs.Opened.{IsSoundOf, Opens}
+use Rattle.vault_verdict.specs.Opened.{IsLeastBroken, IsSoundOf, IsWrong, Opens}
+use Rattle.vault_verdict.specs.declared.fault.OpenFault.TheVariants.{Damaged, WrongSchema}
 use Rattle.vault_verdict.specs.Reading.{IsFull}
 use Rattle.vault_verdict.specs.Sizes.{sizes_of}
 use Rattle.vault_verdict.specs.declared.sizes.Sizes.{Sizes}
-use Rattle.vault_schema.specs.Holds.{Holds, LeavesEither, LeavesFirst}
+use Rattle.vault_schema.specs.Holds.{AreOurs, Holds, LeavesEither, LeavesFirst}
+use Rattle.sqlite.specs.Schema.{Schema}
+use Rattle.sqlite_catalog.specs.Listing.{IsSound}
+use Rattle.sqlite_store.specs.FileStore as files
 use Rattle.sql_maps.specs.Schema.{no_schema}
 
 -- no file's name: nothing at all, `:memory:`, and what begins with `file:`
@@ -42,6 +49,25 @@ HoldsSuch image IsSuch = (db : Database) × IsFoundIn image db × IsSuch db
 abbrev pub IsNoVerdict : NotOpened → Type 0
 IsNoVerdict why = (number_of why ≢ 30) × (number_of why ≢ 31)
 
+-- Whatever a stop leaves of a sound vault isn't refused for its schema or its rows, by 30 or 31: not where
+-- the files keep the vault, nor where they keep one of two, nor where they have no table yet or just the
+-- first ones.
+pub record SparesStopped (image : Image) (why : NotOpened) : Type 0 where
+  pub one : (V : Vault) → Sound V → Keeps image V → IsNoVerdict why
+  pub either : (V W : Vault) → Sound V → Sound W → KeepsEither image V W → IsNoVerdict why
+  pub first : (before : Trees) → AreBlank before → KeepsFirst image before → IsNoVerdict why
+
+-- A refusal tells what the bytes hold: 31 the least rule that the rows break, and 30 the version that is
+-- said, or 0 where some of a vault's names are there, and not all, or not alone.
+pub record TellsFound (image : Image) (why : NotOpened) : Type 0 where
+  pub damaged : (rule : ℕ) → why ≡ Fault (Damaged rule)
+      → HoldsSuch image (λ db. IsFull db → IsLeastBroken db rule)
+  pub wrong : (n : ℤ) → why ≡ Fault (WrongSchema n) → HoldsSuch image (λ db. IsWrong db n)
+
+-- an open of files with these bytes may find no table
+abbrev pub MayFindNone : Image → Type 0
+MayFindNone image = (found : Trees) × AreBlank found × MayFind image found
+
 -- these are the sizes of the vault there: the empty one, where there is no table
 abbrev pub HasSizes : Database → Sizes → Type 0
 HasSizes db sizes = (db.schema ≡ no_schema) × (sizes ≡ sizes_of empty_vault) ⊎ IsSoundOf db sizes
@@ -61,6 +87,10 @@ module _ {D : Type 0} {g : Ghosts D} where
         → (V W : Vault) → Sound V → Sound W → KeepsEither image V W → HoldsEither (file_state conn) V W
     pub empty : HasCleanDisk (file_state conn) → (before : Trees) → AreBlank before → KeepsFirst image before
         → ∥ Holds (file_state conn) empty_vault ∥₁
+    pub some : HasCleanDisk (file_state conn)
+        → (V : Vault) → Sound V → KeepsSome image V → ∥ Holds (file_state conn) V ∥₁
+    pub stands : HasCleanDisk (file_state conn)
+        → (V : Vault) → Sound V → AreOurs (file_state first).committed.trees V → Holds (file_state conn) V
 
   -- A connection was opened over files with these bytes, and this one comes from opening the vault there. A
   -- crash leaves what was found: a vault, or one of two; where there was no table, that or the empty vault.
@@ -77,13 +107,28 @@ module _ {D : Type 0} {g : Ghosts D} where
         × LeavesFirst (file_state conn) (file_state first).committed.trees
     pub empty : HasCleanDisk (file_state conn) → (before : Trees) → AreBlank before → KeepsFirst image before
         → ∥ LeavesFirst (file_state conn) before ∥₁
+    pub some : HasCleanDisk (file_state conn)
+        → (V : Vault) → KeepsSome image V → ∥ LeavesSome V (file_state conn) ∥₁
 
   -- The files that are left where a vault isn't opened. What they kept they keep: a vault, or one of two;
-  -- where there was no table, that or the empty vault.
+  -- or one in some version; where there was no table, that or the empty vault.
   pub record Stays (image : Image) (left : FileStore D g) : Type 0 where
     pub either : IsClean (view left) → (V W : Vault) → KeepsEither image V W → ReopensEither left V W
     pub empty : IsClean (view left) → (before : Trees) → AreBlank before → KeepsFirst image before
         → ReopensFirst left before
+    pub some : IsClean (view left) → (V : Vault) → KeepsSome image V → ReopensSome left V
+
+  -- a crash leaves of this connection what was found in the bytes, and nothing else
+  abbrev pub LeavesWhole : Image → Held (FileStore D g) → Type 0
+  LeavesWhole image conn = HasCleanDisk (file_state conn) → (schema : Schema) × (found : Trees)
+      × IsSound schema found × MayFind image found
+      × ((db : Trees) → (file_state conn).may_leave db → db ≡ found)
+
+  -- Whatever is in the files stays there, a vault in any schema, another program's tables or damage: whoever
+  -- opens what a crash may leave of them finds what was in these bytes.
+  abbrev pub StaysWhole : Image → FileStore D g → Type 0
+  StaysWhole image left = IsClean (view left) → (next : Image) → (files.state left).may_leave next
+      → (found : Trees) → MayFind next found → MayFind image found
 
   -- The files that are left of a check that came to these sizes: those of the vault that the bytes hold; and
   -- a vault that the bytes keep they keep.

@@ -1,5 +1,5 @@
 -- What a migration makes of the files at a path, and what it leaves.
-use Rattle.std.specs.Prelude.{◌≢◌}
+use Rattle.std.specs.Prelude.{◌≡◌, ◌≢◌, ℕ, ℤ}
 use Rattle.sqlite.specs.Files.{file_state}
 use Rattle.sqlite.specs.Held.{Held}
 use Rattle.sqlite.specs.State.{HasCleanDisk}
@@ -11,17 +11,25 @@ use Rattle.sqlite_store.specs.declared.store.FileStore.{FileStore}
 use Rattle.sqlite_wal.specs.Recovery.{Image}
 use Rattle.vault_core.specs.Sound.{Sound}
 use Rattle.vault_core.specs.Vault.{Vault, empty_vault}
-use Rattle.vault_file.specs.Found.{IsNoVerdict}
+use Rattle.vault_file.specs.Found.{HoldsSuch, IsNoVerdict, SparesStopped}
 use Rattle.vault_file.specs.Reopened.{KeepsIn, KeepsSome, ReopensIn, ReopensSome}
 use Rattle.vault_file.specs.declared.fault.NotOpened.{NotOpened}
 use Rattle.vault_file.specs.declared.fault.NotOpened.TheVariants.{Fault}
-use Rattle.vault_migrate.specs.Moved.{HoldsSoundIn, IsOlder, LeavesIn, LeavesSome}
-use Rattle.vault_recover.specs.Crashed.{AreBlank, IsOpenOf, Keeps, KeepsFirst, Reopens, ReopensSuch}
+use Rattle.vault_migrate.specs.Moved.{FindsBroken, FindsVersion, HoldsSoundIn, IsOlder, LeavesIn}
+use Rattle.vault_migrate.specs.Moved.{LeavesSome}
+use Rattle.vault_recover.specs.Crashed.{AreBlank, HoldsEither, IsOpenOf, Keeps, KeepsEither, KeepsFirst}
+use Rattle.vault_recover.specs.Crashed.{Reopens, ReopensEither, ReopensSuch}
 use Rattle.vault_verdict.specs.ReadAs.{IsFullIn}
-use Rattle.vault_verdict.specs.declared.fault.OpenFault.TheVariants.{Store}
+use Rattle.vault_verdict.specs.declared.fault.OpenFault.TheVariants.{Damaged, Store, WrongSchema}
 use Rattle.vault_schema.specs.Holds.{AreOurs, Holds}
 use Rattle.vault_schema.specs.Stands.{newest}
 use Rattle.vault_schema.specs.declared.version.Version.{Version}
+
+-- A refusal of a migration tells what the bytes hold, in whatever version: 31 the least rule that the rows
+-- break, and 30 the version that is said.
+pub record TellsOld (image : Image) (why : NotOpened) : Type 0 where
+  pub damaged : (rule : ℕ) → why ≡ Fault (Damaged rule) → HoldsSuch image (λ db. FindsBroken db rule)
+  pub wrong : (n : ℤ) → why ≡ Fault (WrongSchema n) → HoldsSuch image (λ db. FindsVersion db n)
 
 module _ {D : Type 0} {g : Ghosts D} where
   -- A connection was opened over files with these bytes, and this one comes from moving what is there to the
@@ -34,6 +42,8 @@ module _ {D : Type 0} {g : Ghosts D} where
         → (v : Version) (V : Vault) → KeepsIn v image V → Holds (file_state conn) V
     pub stopped : HasCleanDisk (file_state conn)
         → (V : Vault) → KeepsSome image V → ∥ Holds (file_state conn) V ∥₁
+    pub either : HasCleanDisk (file_state conn)
+        → (V W : Vault) → KeepsEither image V W → HoldsEither (file_state conn) V W
     pub blank : HasCleanDisk (file_state conn) → (before : Trees) → AreBlank before → KeepsFirst image before
         → ∥ Holds (file_state conn) empty_vault ∥₁
     pub sound : HasCleanDisk (file_state conn)
@@ -55,14 +65,18 @@ module _ {D : Type 0} {g : Ghosts D} where
     pub newest : IsClean (view left) → (V : Vault) → Keeps image V → Reopens left V
     pub stopped : IsClean (view left)
         → (V : Vault) → KeepsSome image V → ReopensSuch left (λ found. AreOurs found V)
+    pub either : IsClean (view left) → (V W : Vault) → KeepsEither image V W → ReopensEither left V W
     pub blank : IsClean (view left) → (before : Trees) → AreBlank before → KeepsFirst image before
         → ReopensSuch left (λ found. AreOurs found empty_vault)
 
   -- The files that are left of one that is refused. A vault that the bytes keep in some version they keep in
-  -- that one, and after 33 in some version. A sound vault isn't refused for its schema or its rows.
+  -- that one, and after 33 in some version. A sound vault isn't refused for its schema or its rows, in
+  -- whatever version, half moved, or as a stop may leave it.
   pub record StaysOld (image : Image) (left : FileStore D g) (why : NotOpened) : Type 0 where
     pub stays : IsClean (view left) → why ≢ Fault Store
         → (v : Version) (V : Vault) → KeepsIn v image V → ReopensIn v left V
     pub some : IsClean (view left) → (v : Version) (V : Vault) → KeepsIn v image V → ReopensSome left V
     pub never : IsClean (view left)
         → (v : Version) (V : Vault) → Sound V → KeepsIn v image V → IsNoVerdict why
+    pub never_some : IsClean (view left) → (V : Vault) → Sound V → KeepsSome image V → IsNoVerdict why
+    pub spares : IsClean (view left) → SparesStopped image why

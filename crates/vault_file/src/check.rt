@@ -7,7 +7,8 @@ ghost use Rattle.sqlite_store.specs.FileStore.{view};
 ghost use Rattle.sqlite_wal.specs.Files.{image_at};
 ghost use Rattle.vault_core.specs.Sound.{Sound};
 ghost use Rattle.vault_core.specs.Vault.{Vault as Content, empty_vault};
-ghost use Rattle.vault_file.specs.Found.{ChecksAs, HasSizes, HoldsSuch, IsNoPath, IsNoVerdict};
+ghost use Rattle.vault_file.specs.Found.{ChecksAs, HasSizes, HoldsSuch, IsNoPath, LeavesWhole};
+ghost use Rattle.vault_file.specs.Found.{LeavesFrom, SparesStopped, Stays, StaysWhole, TellsFound};
 ghost use Rattle.vault_recover.specs.Crashed.{Keeps};
 ghost use Rattle.vault_verdict.specs.Opened.{IsLeastBroken, IsWrong};
 ghost use Rattle.vault_verdict.specs.Reading.{IsFull};
@@ -16,10 +17,10 @@ ghost use Rattle.vault_schema.specs.Holds.{Holds};
 
 use crate::fault::NotOpened;
 use crate::make::{is_no_path, open_private};
+use crate::reopen::{close_moved, settled, told};
 use sqlite::{Connection, FileFrom, FileStore, Start};
 use vault_blank::make::is_missing;
 use vault_recover::options::Cache;
-use vault_recover::reopen::close;
 use vault_verdict::check::check;
 use vault_verdict::fault::OpenFault;
 use vault_verdict::sizes::Sizes;
@@ -42,6 +43,8 @@ pub fn check_from<S: Start>(
         → HoldsSuch (image_at S.Start) (λ db. IsFull db → HasSizes db told.0)) }
     ensures kept { IfOk result (λ told. HasCleanDisk (file_state told.1)
         → (V : Content) → Sound V → Keeps (image_at S.Start) V → Holds (file_state told.1) V) }
+    ensures left { IfOk result (λ told. LeavesFrom (image_at S.Start) told.1) }
+    ensures left_refused { IfErr result (λ e. IfSome e.1 (LeavesFrom (image_at S.Start))) }
     ensures refused { IfErr result (λ e. (e.0 ≡ NotOpened.Refused) ↔ (e.1 ≡ None)) }
     ensures damaged { IfErr result (λ e. IfSome e.1 (λ conn. HasCleanDisk (file_state conn)
         → (rule : ℕ) → e.0 ≡ NotOpened.Fault (OpenFault.Damaged rule)
@@ -50,11 +53,16 @@ pub fn check_from<S: Start>(
         → (n : ℤ) → e.0 ≡ NotOpened.Fault (OpenFault.WrongSchema n)
         → HoldsSuch (image_at S.Start) (λ db. IsWrong db n))) }
     ensures never { IfErr result (λ e. IfSome e.1 (λ conn. HasCleanDisk (file_state conn)
-        → (V : Content) → Sound V → Keeps (image_at S.Start) V → IsNoVerdict e.0)) }
+        → SparesStopped (image_at S.Start) e.0)) }
+    ensures same { IfOk result (λ told. LeavesWhole (image_at S.Start) told.1) }
+    ensures same_refused { IfErr result (λ e. IfSome e.1 (LeavesWhole (image_at S.Start))) }
 {
     let Some(mut conn) = open_private(rt, path, start, Cache::Small) else {
         return Err((NotOpened::Refused, None));
     };
+    settled(&conn);
+    // What a crash leaves of a check follows by cases of these.
+    let _told = told(&conn);
     match check(rt.alloc(), &mut conn) {
         Ok(sizes) => Ok((sizes, conn)),
         Err(fault) => Err((NotOpened::Fault(fault), Some(conn))),
@@ -80,18 +88,22 @@ pub fn check_file<S: Start>(
     ensures refused { IfErr result.0 (λ why. (result.1 ≡ None) ↔ (why ≡ NotOpened.Refused)) }
     ensures sound { IfOk result.0
         (λ sizes. IfSome result.1 (λ left. ChecksAs (image_at S.Start) left sizes)) }
+    ensures left { IfSome result.1 (Stays (image_at S.Start)) }
     ensures damaged { IfErr result.0 (λ why. IfSome result.1 (λ left. IsClean (view left) → (rule : ℕ)
         → why ≡ NotOpened.Fault (OpenFault.Damaged rule)
         → HoldsSuch (image_at S.Start) (λ db. IsFull db → IsLeastBroken db rule))) }
     ensures never { IfErr result.0 (λ why. IfSome result.1 (λ left. IsClean (view left)
-        → (V : Content) → Sound V → Keeps (image_at S.Start) V → IsNoVerdict why)) }
+        → SparesStopped (image_at S.Start) why)) }
+    ensures tells { IfErr result.0 (λ why. IfSome result.1 (λ left. IsClean (view left)
+        → TellsFound (image_at S.Start) why)) }
+    ensures same { IfSome result.1 (StaysWhole (image_at S.Start)) }
 {
     if !is_no_path(path) && is_missing(rt, path) {
         return (Ok(EMPTY), None);
     }
     match check_from(rt, path, start) {
-        Ok((sizes, conn)) => (Ok(sizes), Some(close(conn))),
-        Err((fault, Some(conn))) => (Err(fault), Some(close(conn))),
+        Ok((sizes, conn)) => (Ok(sizes), Some(close_moved(conn))),
+        Err((fault, Some(conn))) => (Err(fault), Some(close_moved(conn))),
         Err((fault, None)) => (Err(fault), None),
     }
 }

@@ -2,14 +2,16 @@
 ghost use Rattle.std.specs.Prelude.{◌≡◌, ◌↔◌, ℕ, ℤ, pos, None, Err, IfOk, IfErr, IfSome, IsErrAnd};
 ghost use Rattle.sqlite.specs.Files.{file_state};
 ghost use Rattle.sqlite.specs.State.{HasCleanDisk};
+ghost use Rattle.sqlite.specs.View.{IsClean};
+ghost use Rattle.sqlite_store.specs.FileStore.{view};
 ghost use Rattle.sqlite_wal.specs.Files.{image_at};
 ghost use Rattle.vault_core.specs.Sound.{Sound};
 ghost use Rattle.vault_core.specs.Vault.{Vault as Content};
-ghost use Rattle.vault_file.specs.Found.{HoldsSuch, IsNoPath, IsNoVerdict, LeavesFrom};
-ghost use Rattle.vault_file.specs.Moved.{LeavesOld, MovesAs, MovesFrom, StaysOld};
-ghost use Rattle.vault_file.specs.Reopened.{KeepsIn};
+ghost use Rattle.vault_file.specs.Found.{HoldsSuch, IsNoPath, IsNoVerdict, LeavesFrom, SparesStopped};
+ghost use Rattle.vault_file.specs.Found.{Stays};
+ghost use Rattle.vault_file.specs.Moved.{LeavesOld, MovesAs, MovesFrom, StaysOld, TellsOld};
+ghost use Rattle.vault_file.specs.Reopened.{KeepsIn, KeepsSome};
 ghost use Rattle.vault_migrate.specs.Moved.{FindsBroken, FindsVersion};
-ghost use Rattle.vault_recover.specs.Crashed.{Keeps};
 ghost use Rattle.vault_schema.specs.declared.version.Version.{Version};
 
 use crate::fault::NotOpened;
@@ -47,7 +49,9 @@ pub fn migrate_from<S: Start>(
     ensures never_in { IfErr result (λ e. IfSome e.1 (λ conn. HasCleanDisk (file_state conn)
         → (v : Version) (V : Content) → Sound V → KeepsIn v (image_at S.Start) V → IsNoVerdict e.0)) }
     ensures never { IfErr result (λ e. IfSome e.1 (λ conn. HasCleanDisk (file_state conn)
-        → (V : Content) → Sound V → Keeps (image_at S.Start) V → IsNoVerdict e.0)) }
+        → SparesStopped (image_at S.Start) e.0)) }
+    ensures never_some { IfErr result (λ e. IfSome e.1 (λ conn. HasCleanDisk (file_state conn)
+        → (V : Content) → Sound V → KeepsSome (image_at S.Start) V → IsNoVerdict e.0)) }
     ensures left { IfErr result (λ e. IfSome e.1 (LeavesFrom (image_at S.Start))) }
     ensures left_old { IfErr result (λ e. IfSome e.1 (LeavesOld (image_at S.Start) e.0)) }
 {
@@ -72,6 +76,9 @@ pub fn migrate_file<S: Start>(
     ensures version { IfOk result.0 (λ version. version ≡ pos 4) }
     ensures moved { IfOk result.0 (λ _. IfSome result.1 (MovesAs (image_at S.Start))) }
     ensures left { IfErr result.0 (λ why. IfSome result.1 (λ left. StaysOld (image_at S.Start) left why)) }
+    ensures tells { IfErr result.0 (λ why. IfSome result.1 (λ left. IsClean (view left)
+        → TellsOld (image_at S.Start) why)) }
+    ensures stays { IfErr result.0 (λ _. IfSome result.1 (Stays (image_at S.Start))) }
 {
     match migrate_from(rt, path, start) {
         Ok((version, conn)) => (Ok(version), Some(close(conn))),

@@ -5,11 +5,10 @@ ghost use Rattle.sqlite.specs.State.{HasCleanDisk};
 ghost use Rattle.sqlite.specs.View.{IsClean, doubt};
 ghost use Rattle.sqlite_store.specs.FileStore.{view};
 ghost use Rattle.sqlite_wal.specs.Files.{image_at};
-ghost use Rattle.vault_core.specs.Sound.{Sound};
 ghost use Rattle.vault_core.specs.Vault.{Vault as Content};
-ghost use Rattle.vault_file.specs.Found.{HoldsSuch, IsNoPath, IsNoVerdict};
-ghost use Rattle.vault_file.specs.Found.{LeavesFrom, OpensFrom, Stays};
-ghost use Rattle.vault_recover.specs.Crashed.{Keeps, Reopens, ReopensEither};
+ghost use Rattle.vault_file.specs.Found.{HoldsSuch, IsNoPath, LeavesWhole, LeavesFrom, MayFindNone};
+ghost use Rattle.vault_file.specs.Found.{OpensFrom, SparesStopped, Stays, StaysWhole, TellsFound};
+ghost use Rattle.vault_recover.specs.Crashed.{Reopens, ReopensEither};
 ghost use Rattle.vault_verdict.specs.Opened.{IsLeastBroken, IsWrong};
 ghost use Rattle.vault_verdict.specs.Reading.{IsFull};
 ghost use Rattle.vault_schema.specs.Holds.{LeavesEither};
@@ -18,6 +17,7 @@ ghost use Rattle.vault_store.specs.Applied.{Contains, is_broken, tables_of};
 
 use crate::fault::NotOpened;
 use crate::make::open_private;
+use crate::reopen::{close_moved, settled, told};
 use sqlite::{Connection, FileFrom, FileStore, Start};
 use sqlite_disk::Disk;
 use vault_recover::open::open;
@@ -56,12 +56,17 @@ pub fn open_from<S: Start>(
         → (n : ℤ) → e.0 ≡ NotOpened.Fault (OpenFault.WrongSchema n)
         → HoldsSuch (image_at S.Start) (λ db. IsWrong db n))) }
     ensures never { IfErr result (λ e. IfSome e.1 (λ conn. HasCleanDisk (file_state conn)
-        → (V : Content) → Sound V → Keeps (image_at S.Start) V → IsNoVerdict e.0)) }
+        → SparesStopped (image_at S.Start) e.0)) }
     ensures left { IfErr result (λ e. IfSome e.1 (LeavesFrom (image_at S.Start))) }
+    ensures same { IfErr result (λ e. IfSome e.1
+        (λ conn. ¬ MayFindNone (image_at S.Start) → LeavesWhole (image_at S.Start) conn)) }
 {
     let Some(conn) = open_private(rt, path, start, cache) else {
         return Err((NotOpened::Refused, None));
     };
+    settled(&conn);
+    // What a crash leaves of a refusal follows by cases of these.
+    let _told = told(&conn);
     match open(rt.alloc(), conn) {
         Ok(vault) => Ok(vault),
         Err(refusal) => Err((NotOpened::Fault(refusal.0), Some(refusal.1))),
@@ -81,12 +86,16 @@ pub fn open_vault<S: Start>(
     ensures found { IfOk result (λ vault. OpensFrom (image_at S.Start) (tables_of vault).conn) }
     ensures refused { IfErr result (λ e. (e.0 ≡ NotOpened.Refused) ↔ (e.1 ≡ None)) }
     ensures never { IfErr result (λ e. IfSome e.1 (λ left. IsClean (view left)
-        → (V : Content) → Sound V → Keeps (image_at S.Start) V → IsNoVerdict e.0)) }
+        → SparesStopped (image_at S.Start) e.0)) }
+    ensures tells { IfErr result (λ e. IfSome e.1 (λ left. IsClean (view left)
+        → TellsFound (image_at S.Start) e.0)) }
     ensures left { IfErr result (λ e. IfSome e.1 (Stays (image_at S.Start))) }
+    ensures same { IfErr result (λ e. IfSome e.1
+        (λ left. ¬ MayFindNone (image_at S.Start) → StaysWhole (image_at S.Start) left)) }
 {
     match open_from(rt, path, start, cache) {
         Ok(vault) => Ok(vault),
-        Err((fault, Some(conn))) => Err((fault, Some(close(conn)))),
+        Err((fault, Some(conn))) => Err((fault, Some(close_moved(conn)))),
         Err((fault, None)) => Err((fault, None)),
     }
 }

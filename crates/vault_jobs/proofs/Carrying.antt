@@ -7,13 +7,15 @@ use Rattle.vault_core.specs.Runs.{run}
 use Rattle.vault_core.specs.declared.command.Command.{Command}
 use Rattle.vault_http.specs.Exchanges.{Exchange, commands_in, commands_of, vault_after}
 use Rattle.vault_http.specs.Faults.{Failures, Tells, failures}
-use Rattle.vault_http.specs.Passing.{Passage}
+use Rattle.vault_http.specs.Passing.{Passage, Stops}
+use Rattle.vault_http.specs.Served.{IsStopped}
+use Rattle.vault_wire.specs.Parts.{Parts}
 use Rattle.vault_http.specs.declared.fault.ServeFault.{ServeFault}
 use Rattle.vault_http.specs.declared.fault.ServeFault.TheVariants as fault
 use Rattle.vault_listen.specs.Service.{AllKept, Leaves, OneUndecided, all_of}
 use Rattle.vault_listen.specs.declared.fault.ListenFault.{ListenFault}
 use Rattle.vault_listen.specs.declared.fault.ListenFault.TheVariants as listen
-use Rattle.vault_listen.proofs.Ending.{served_kept, stopped_kept, stopped_undecided, vault_part}
+use Rattle.vault_listen.proofs.Ending.{vault_part}
 use Rattle.vault_jobs.specs.Carried.{IsKept, IsTorn}
 use Rattle.vault_jobs.specs.Piped.{IsPiped, StopsPiping}
 use Rattle.vault_jobs.specs.Streams.{Known}
@@ -49,11 +51,44 @@ torn_of n w a =
 
 -- messages that are served to their end, and messages that stop
 pub piped_kept : (old new : Known) (w : Passage) → IsPiped old new w → IsKept (vault_part w)
-piped_kept old new w (served, s) = kept_of 1 (vault_part w) (served_kept old new w served s)
+unfolding vault_after
+piped_kept old new w (served, s) = (commands_of s.exchanges, λ V b. (s.answered V b).1)
+
+among_kept : (e : ServeFault) (w : Passage) (ps : List Parts) → e ≢ fault.Store → Stops e w ps
+    → IsKept (vault_part w)
+unfolding vault_after
+among_kept fault.Source w ps n q = (commands_of q.exchanges, λ V b. (q.answered V b).1)
+among_kept fault.Read w ps n q = (commands_of q.exchanges, λ V b. (q.answered V b).1)
+among_kept fault.Write w ps n q = (commands_of (q.exchanges ++ q.cut ∷ []), λ V b. (q.answered V b).2)
+among_kept fault.Store w ps n q = absurd (n refl)
+among_kept fault.Memory w ps n (inl q) = (commands_of q.exchanges, λ V b. (q.answered V b).1)
+among_kept fault.Memory w ps n (inr q) =
+    (commands_of (q.exchanges ++ q.silent ∷ []), λ V b. (q.answered V b).1)
+
+stopped_kept : (e : ServeFault) (old new : Known) (w : Passage) → e ≢ fault.Store → IsStopped old new w e
+    → IsKept (vault_part w)
+unfolding vault_after
+stopped_kept fault.Source old new w n (e, q) = among_kept fault.Source w _ n q.stops
+stopped_kept fault.Read old new w n q = among_kept fault.Read w _ n q.stops
+stopped_kept fault.Write old new w n (inl (e, q)) = among_kept fault.Write w _ n q.stops
+stopped_kept fault.Write old new w n (inr q) = (commands_of q.exchanges, λ V b. (q.answered V b).1)
+stopped_kept fault.Store old new w n q = absurd (n refl)
+stopped_kept fault.Memory old new w n q = among_kept fault.Memory w _ n q.stops
+
+stopped_torn : (old new : Known) (w : Passage) → IsStopped old new w fault.Store → IsTorn (vault_part w)
+unfolding vault_after
+stopped_torn old new w (e, q) =
+    let s = q.stops in (
+      commands_of s.exchanges,
+      commands_in s.undecided.wanted,
+      one_at_most s.undecided.wanted,
+      λ V b. subst (λ cs. w.left_new (run (commands_of s.exchanges) V) (run cs V))
+          (commands_then s.exchanges s.undecided) (s.answered V b).1,
+    )
 
 pub stop_kept : (e : ServeFault) (old new : Known) (w : Passage) → e ≢ fault.Store → StopsPiping old new w e
     → IsKept (vault_part w)
-stop_kept e old new w n (inl s) = kept_of 1 (vault_part w) (stopped_kept e old new w n s)
+stop_kept e old new w n (inl s) = stopped_kept e old new w n s
 stop_kept e old new w n (inr (is, p)) = piped_kept old new w p
 
 pub stop_torn : (e : ServeFault) (old new : Known) (w : Passage) → e ≡ fault.Store → StopsPiping old new w e
@@ -61,7 +96,7 @@ pub stop_torn : (e : ServeFault) (old new : Known) (w : Passage) → e ≡ fault
 stop_torn fault.Source old new w is s = absurd (cc (is))
 stop_torn fault.Read old new w is s = absurd (cc (is))
 stop_torn fault.Write old new w is s = absurd (cc (is))
-stop_torn fault.Store old new w is (inl s) = torn_of 1 (vault_part w) (stopped_undecided old new w s)
+stop_torn fault.Store old new w is (inl s) = stopped_torn old new w s
 stop_torn fault.Store old new w is (inr (other, p)) = absurd (cc (other))
 stop_torn fault.Memory old new w is s = absurd (cc (is))
 

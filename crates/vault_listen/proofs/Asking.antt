@@ -1,6 +1,7 @@
 -- The messages of exchanges, up to the first that closes their connection.
 use Rattle.std.proofs.Common.{◌≡◌, List, [], ◌∷◌, map, refl, sym, subst}
-use Rattle.std.specs.Prelude.{Bool, true, false, if◌then◌else◌}
+use Rattle.std.specs.Prelude.{All, None, Bool, true, false, if◌then◌else◌}
+use Rattle.vault_live.specs.Live.{IsPairOf}
 use Rattle.vault_wire.specs.Parts.{Parts, closes}
 use Rattle.vault_routes.specs.Wanted.{Wants}
 use Rattle.vault_http.specs.Exchanges.{Pair, Exchange, AskFirst, up_to_close}
@@ -36,5 +37,5 @@ asked_own (p ∷ ps) (pair ∷ pairs) (x ∷ xs) a =
 
 -- what was asked of a connection's messages is a connection
 pub is_connection : (ps : List Parts) (pairs : List Pair) (xs : List Exchange)
-    → AskFirst (up_to_close ps) pairs xs → IsConnection xs
-is_connection ps pairs xs a = (pairs, asked_own ps pairs xs a)
+    → All (IsPairOf None None) pairs → AskFirst (up_to_close ps) pairs xs → IsConnection xs
+is_connection ps pairs xs own a = (pairs, own, asked_own ps pairs xs a)

@@ -7,6 +7,7 @@ use Rattle.vault_store.specs.Applied.{Contains, tables_of}
 use Rattle.vault_store.specs.declared.vault.Vault.{Vault}
 use Rattle.vault_http.specs.Exchanges.{Pair, Exchange, AskFirst, up_to_close, vault_after}
 use Rattle.vault_http.specs.Passing.{Passage, IsBefore, Keeps}
+use Rattle.vault_live.specs.Live.{IsPairOf}
 use Rattle.vault_listen.specs.declared.fault.ListenFault.{ListenFault}
 use Rattle.vault_listen.specs.declared.fault.ListenFault.TheVariants.{Store, Memory, Accept}
 
@@ -25,9 +26,10 @@ vault_passing honest holds leaves v v' = record {
 }
 
 -- exchanges of one connection: their messages, up to the first that closes it, are asked, each with a pair
--- of its own
+-- of its own, which is a moment and a drawing
 abbrev pub IsConnection : List Exchange → Type 0
-IsConnection xs = (pairs : List Pair) × AskFirst (up_to_close (map (λ x. x.parts) xs)) pairs xs
+IsConnection xs = (pairs : List Pair) × All (IsPairOf None None) pairs
+    × AskFirst (up_to_close (map (λ x. x.parts) xs)) pairs xs
 
 -- the exchanges of connections, one after the other
 abbrev pub all_of : List (List Exchange) → List Exchange

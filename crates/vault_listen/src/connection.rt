@@ -1,11 +1,12 @@
 //! One connection, answered with the clock's moments and drawn digits.
-ghost use Rattle.std.specs.Prelude.{◌≡◌, ◌≤◌, Bool, false, Err, List, [], MatchResult, length};
+ghost use Rattle.std.specs.Prelude.{◌≡◌, ◌≤◌, All, Bool, false, Err, List, [], MatchResult, None, length};
 ghost use Rattle.vault_store.specs.Applied.{is_broken, tables_of};
 ghost use Rattle.vault_wire.specs.Watching.{inner_of, is_stopped};
 ghost use Rattle.vault_http.specs.Exchanges.{Pair};
 ghost use Rattle.vault_http.specs.Faults.{Tells, failures};
 ghost use Rattle.vault_http.specs.Passing.{Passage, passing};
 ghost use Rattle.vault_http.specs.Served.{IsServed, IsStopped};
+ghost use Rattle.vault_live.specs.Live.{IsPairOf};
 
 use rand_core::Rng;
 use std::alloc::Global;
@@ -39,7 +40,7 @@ pub fn serve_connection<C: Clock, G: Rng, R: Read, W: Write, T: Tables>(
     writer: &mut Watched<W>,
     vault: &mut Vault<T>,
 ) -> Result<Served, ServeFault>
-    ensures answered { (pairs : List Pair) × (length pairs ≤ 1000)
+    ensures answered { (pairs : List Pair) × (length pairs ≤ 1000) × All (IsPairOf None None) pairs
         × (let w : Passage = passing (λ ps. ps) [] pairs
         W.contents writer.old writer.new T.is_honest T.holds T.leaves vault.old vault.new in
         MatchResult result

@@ -1,11 +1,12 @@
 //! `batch`: rows answered by the vault of a file.
 ghost use Rattle.std.specs.Prelude.{IfOk, MatchResult};
 ghost use Rattle.vault_words.specs.declared.jobs.Job.{Job};
-ghost use Rattle.vault_jobs.specs.Tasks.{IsProper};
 ghost use Rattle.vault_app.specs.Plans.{EndsBefore, IsTaskOf};
+ghost use Rattle.vault_app.specs.Values.{AreValues};
 
 use crate::asker::asker_of;
 use crate::ending::Ending;
+use crate::typed::{fixed_digits, fixed_moment};
 use vault_jobs::task::Task;
 use vault_words::commands::batch::BatchJob;
 
@@ -13,10 +14,13 @@ use vault_words::commands::batch::BatchJob;
 pub(crate) fn task(job: &BatchJob<'_>) -> Result<Task, Ending>
     ensures task { MatchResult result
         (IsTaskOf (Job.Batch job.entry.now)) (EndsBefore (Job.Batch job.entry.now)) }
-    ensures proper { IfOk result IsProper }
+    ensures proper { IfOk result AreValues }
 {
     match asker_of(job.caller, job.merchant) {
-        Ok(asker) => Ok(Task::Batch(asker, job.now, job.digits)),
+        Ok(asker) => {
+            let (now, digits) = (fixed_moment(job.now), fixed_digits(job.digits));
+            Ok(Task::Batch(asker, now, digits))
+        }
         Err(number) => Err(Ending::Refused(number)),
     }
 }

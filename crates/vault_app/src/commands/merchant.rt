@@ -2,8 +2,8 @@
 ghost use Rattle.std.specs.Prelude.{IfOk, MatchResult};
 ghost use Rattle.vault_core.specs.Scalar.{IsLife};
 ghost use Rattle.vault_words.specs.declared.jobs.Job.{Job};
-ghost use Rattle.vault_jobs.specs.Tasks.{IsProper};
 ghost use Rattle.vault_app.specs.Plans.{EndsBefore, IsTaskOf};
+ghost use Rattle.vault_app.specs.Values.{AreValues};
 
 use crate::ending::Ending;
 use vault_core::command::Command;
@@ -20,7 +20,7 @@ pub(crate) fn task(rt: &HostRuntime, job: &MerchantJob<'_>) -> Result<Task, Endi
     requires multi { IsLife job.now.multi_life }
     ensures task { MatchResult result
         (IsTaskOf (Job.Merchant job.entry.now)) (EndsBefore (Job.Merchant job.entry.now)) }
-    ensures proper { IfOk result IsProper }
+    ensures proper { IfOk result AreValues }
 {
     let Ok(merchant) = MerchantId::read(job.name.as_bytes()) else {
         return Err(Ending::Refused(BAD_NAME));

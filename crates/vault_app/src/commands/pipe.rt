@@ -1,15 +1,16 @@
 //! `pipe`: messages answered by the vault of a file.
-ghost use Rattle.vault_jobs.specs.Tasks.{IsProper};
 ghost use Rattle.vault_words.specs.declared.jobs.Job.{Job};
 ghost use Rattle.vault_app.specs.Plans.{IsTaskOf};
+ghost use Rattle.vault_app.specs.Values.{AreValues};
 
+use crate::typed::{fixed_digits, fixed_moment};
 use vault_jobs::task::Task;
 use vault_words::commands::pipe::PipeJob;
 
 /// Messages are answered, with the moment and the digits that the words fix.
 pub(crate) fn task(job: &PipeJob<'_>) -> Task
     ensures task { IsTaskOf (Job.Pipe job.entry.now) result }
-    ensures proper { IsProper result }
+    ensures proper { AreValues result }
 {
-    Task::Pipe(job.now, job.digits)
+    Task::Pipe(fixed_moment(job.now), fixed_digits(job.digits))
 }

@@ -2,11 +2,12 @@
 ghost use Rattle.std.specs.Prelude.{◌≡◌, IfOk, MatchResult};
 ghost use Rattle.vault_core.specs.Words.{right_word};
 ghost use Rattle.vault_words.specs.declared.jobs.Job.{Job};
-ghost use Rattle.vault_jobs.specs.Tasks.{IsProper};
 ghost use Rattle.vault_app.specs.Plans.{EndsBefore, IsTaskOf};
 ghost use Rattle.vault_app.specs.Ran.{AreNames, IsMisnamed};
+ghost use Rattle.vault_app.specs.Values.{AreValues};
 
 use crate::ending::Ending;
+use crate::typed::fixed_moment;
 use vault_core::command::Command;
 use vault_core::name::{Caller, MerchantId};
 use vault_core::refusal::BAD_NAME;
@@ -52,7 +53,7 @@ fn read(job: &RightJob<'_>) -> Result<Entitlement, u8>
 pub(crate) fn grant(rt: &HostRuntime, job: &GrantJob<'_>) -> Result<Task, Ending>
     ensures task { MatchResult result
         (IsTaskOf (Job.Grant job.entry.now)) (EndsBefore (Job.Grant job.entry.now)) }
-    ensures proper { IfOk result IsProper }
+    ensures proper { IfOk result AreValues }
 {
     let asked = match read(&job.given) {
         Ok(asked) => asked,
@@ -66,7 +67,7 @@ pub(crate) fn grant(rt: &HostRuntime, job: &GrantJob<'_>) -> Result<Task, Ending
         caller: asked.caller,
         merchant: asked.merchant,
         right: asked.right,
-        until: job.until,
+        until: fixed_moment(job.until),
         now,
     }))
 }
@@ -75,7 +76,7 @@ pub(crate) fn grant(rt: &HostRuntime, job: &GrantJob<'_>) -> Result<Task, Ending
 pub(crate) fn withdraw(rt: &HostRuntime, job: &RightJob<'_>) -> Result<Task, Ending>
     ensures task { MatchResult result
         (IsTaskOf (Job.Withdraw job.entry.now)) (EndsBefore (Job.Withdraw job.entry.now)) }
-    ensures proper { IfOk result IsProper }
+    ensures proper { IfOk result AreValues }
 {
     let asked = match read(job) {
         Ok(asked) => asked,

@@ -1,9 +1,9 @@
 //! `rights`: the rights that a file lists.
 ghost use Rattle.std.specs.Prelude.{◌≡◌, ◌≢◌, IfErr, IfOk, MatchResult};
 ghost use Rattle.vault_words.specs.declared.jobs.Job.{Job};
-ghost use Rattle.vault_jobs.specs.Tasks.{IsProper};
 ghost use Rattle.vault_app.specs.Plans.{EndsBefore, IsTaskOf};
 ghost use Rattle.vault_app.specs.Rights.{IsListed, IsUnlisted};
+ghost use Rattle.vault_app.specs.Values.{AreValues};
 
 use crate::ending::Ending;
 use std::fs;
@@ -54,7 +54,7 @@ fn read(
 pub(crate) fn task(rt: &HostRuntime, job: &RightsFileJob<'_>) -> Result<Task, Ending>
     ensures task { MatchResult result
         (IsTaskOf (Job.Rights job.entry.now)) (EndsBefore (Job.Rights job.entry.now)) }
-    ensures proper { IfOk result IsProper }
+    ensures proper { IfOk result AreValues }
 {
     let rows = read(rt, job.rights)?;
     match moment(rt, job.now) {

@@ -1,8 +1,8 @@
 //! `sweep`: a merchant's dead tokens, whose card numbers are purged in the vault of a file.
 ghost use Rattle.std.specs.Prelude.{IfOk, MatchResult};
 ghost use Rattle.vault_words.specs.declared.jobs.Job.{Job};
-ghost use Rattle.vault_jobs.specs.Tasks.{IsProper};
 ghost use Rattle.vault_app.specs.Plans.{EndsBefore, IsTaskOf};
+ghost use Rattle.vault_app.specs.Values.{AreValues};
 
 use crate::asker::asker_of;
 use crate::ending::Ending;
@@ -15,7 +15,7 @@ use vault_words::commands::sweep::SweepJob;
 pub(crate) fn task(rt: &HostRuntime, job: &SweepJob<'_>) -> Result<Task, Ending>
     ensures task { MatchResult result
         (IsTaskOf (Job.Sweep job.entry.now)) (EndsBefore (Job.Sweep job.entry.now)) }
-    ensures proper { IfOk result IsProper }
+    ensures proper { IfOk result AreValues }
 {
     let asker = match asker_of(job.caller, job.merchant) {
         Ok(asker) => asker,

@@ -28,6 +28,7 @@ returns-in-Ok-clause-does g c =
       inl (
         c.in-Ok.plan,
         asked.2,
+        c.in-Ok.ensures.proper,
         subst (λ o. DoesPlan (image_at g.S.Start) c.carry_out.result.1 c.in-Ok.plan c.carry_out.result.0
             (c.carry_out.new.input ≡ c.args.input.now) (c.carry_out.new.output ≡ o)
             (streams g.R.Read.remaining c.args.input.now c.carry_out.new.input g.W.Write.contents o

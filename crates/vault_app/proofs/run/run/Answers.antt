@@ -1,16 +1,6 @@
 use Rattle.vault_jobs.specs.Streams.{Streams, streams}
 use Rattle.vault_app.proofs.Refusing.{unread_of}
-use Rattle.vault_app.proofs.Saying.{said_of}
 use Rattle.vault_app.proofs.run.run.Goals as goal
-
-pub returns-clause-ended : goal.returns-clause-ended
-returns-clause-ended g c = (
-  c.ended-ending.result.0,
-  c.report.ensures.status,
-  said_of g.R.Read.remaining g.W.Write.contents c.args.input.now c.ended-ending.new.input
-      c.args.output.now c.ended-ending.new.output c.report.new.output _ _ _
-      c.ended-ending.result.0 c.ended-ending.ensures.ran c.report.ensures.said,
-)
 
 pub returns-clause-unread_refused : goal.returns-clause-unread_refused
 returns-clause-unread_refused g c = λ one.
@@ -25,6 +15,7 @@ returns-clause-does g c = (
   record {
     ending = c.ended-ending.result.0;
     exits = c.report.ensures.status;
+    ran = c.ended-ending.ensures.ran;
     says = c.report.ensures.said;
     does = c.ended-ending.ensures.does;
   },

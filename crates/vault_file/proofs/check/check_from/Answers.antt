@@ -1,8 +1,10 @@
 use Rattle.std.proofs.Common.{arith}
 use Rattle.sqlite.specs.Files.{file_state}
 use Rattle.sqlite_wal.specs.Files.{image_at}
-use Rattle.vault_file.proofs.Opening.{found_damaged, found_in, found_wrong, never_kept}
-use Rattle.vault_file.proofs.Opening.{same_fault, still_held, there}
+use Rattle.vault_file.proofs.Leaving.{checked_leaves}
+use Rattle.vault_file.proofs.Opening.{found_damaged, found_in, found_wrong, same_fault, spares}
+use Rattle.vault_file.proofs.Opening.{still_held, there}
+use Rattle.vault_file.proofs.Whole.{checked_less, leaves_whole}
 use Rattle.vault_file.proofs.check.check_from.Goals as goal
 use Rattle.vault_verdict.specs.declared.fault.OpenFault.TheVariants.{WrongSchema, Damaged}
 
@@ -19,6 +21,9 @@ returns-in-Ok-clause-kept g c clean V sound keeps =
     let held = c.in-Some.ensures.again (omega (arith, c.check.ensures.quiet.clean, clean)) V keeps in
     still_held (file_state c.in-Some.conn) (file_state c.check.new.conn)
     (c.in-Ok.ensures.kept clean held.schema) c.check.ensures.quiet.limit V held
+
+pub returns-in-Ok-clause-no_path : goal.returns-in-Ok-clause-no_path
+returns-in-Ok-clause-no_path g c none = there c.in-Some.conn (c.in-Some.ensures.no_path none)
 
 pub returns-in-Err-clause-no_path : goal.returns-in-Err-clause-no_path
 returns-in-Err-clause-no_path g c none = absurd (there c.in-Some.conn (c.in-Some.ensures.no_path none))
@@ -44,8 +49,35 @@ returns-in-Err-clause-wrong g c clean n same = (
 )
 
 pub returns-in-Err-clause-never : goal.returns-in-Err-clause-never
-returns-in-Err-clause-never g c clean V sound keeps =
-    never_kept (image_at g.S.Start) c.in-Some.conn
+returns-in-Err-clause-never g c clean =
+    spares (image_at g.S.Start) c.in-Some.conn
     c.in-Some.ensures.opened c.in-Some.ensures.again
     c.check.new.conn c.in-Err.fault
-    c.in-Err.ensures.never (λ some. c.check.ensures.quiet.clean) clean V sound keeps
+    c.in-Err.ensures.never (λ some. c.check.ensures.quiet.clean) clean
+    c.in-Some.ensures.either c.in-Some.ensures.first
+
+pub returns-in-Ok-clause-same : goal.returns-in-Ok-clause-same
+returns-in-Ok-clause-same g c =
+    leaves_whole (image_at g.S.Start) c.in-Some.conn c.check.new.conn c.in-Some.ensures.opened
+    c.settled.ensures c.check.ensures.quiet.clean
+    (checked_less c.in-Some.conn c.check.new.conn c.told-told.result.0 c.told-told.ensures.version
+    c.check.ensures.quiet c.check.ensures.untouched)
+
+pub returns-in-Err-clause-same_refused : goal.returns-in-Err-clause-same_refused
+returns-in-Err-clause-same_refused g c =
+    leaves_whole (image_at g.S.Start) c.in-Some.conn c.check.new.conn c.in-Some.ensures.opened
+    c.settled.ensures c.check.ensures.quiet.clean
+    (checked_less c.in-Some.conn c.check.new.conn c.told-told.result.0 c.told-told.ensures.version
+    c.check.ensures.quiet c.check.ensures.untouched)
+
+pub returns-in-Ok-clause-left : goal.returns-in-Ok-clause-left
+returns-in-Ok-clause-left g c =
+    checked_leaves (image_at g.S.Start) c.in-Some.conn c.check.new.conn c.in-Some.ensures.opened
+    c.in-Some.ensures.unlimited c.settled.ensures c.check.ensures.quiet c.check.ensures.untouched
+    c.in-Some.ensures.again c.in-Some.ensures.either c.in-Some.ensures.first
+
+pub returns-in-Err-clause-left_refused : goal.returns-in-Err-clause-left_refused
+returns-in-Err-clause-left_refused g c =
+    checked_leaves (image_at g.S.Start) c.in-Some.conn c.check.new.conn c.in-Some.ensures.opened
+    c.in-Some.ensures.unlimited c.settled.ensures c.check.ensures.quiet c.check.ensures.untouched
+    c.in-Some.ensures.again c.in-Some.ensures.either c.in-Some.ensures.first

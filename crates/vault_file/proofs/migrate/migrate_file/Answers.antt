@@ -1,5 +1,8 @@
 use Rattle.std.proofs.Common.{arith}
+use Rattle.sqlite.specs.Files.{file_state}
+use Rattle.sqlite.specs.State.{HasCleanDisk}
 use Rattle.sqlite_wal.specs.Files.{image_at}
+use Rattle.vault_file.proofs.Leaving.{stays}
 use Rattle.vault_file.proofs.Moving.{moves_as, stays_old}
 use Rattle.vault_file.proofs.migrate.migrate_file.Goals as goal
 
@@ -11,6 +14,22 @@ returns-in-Ok-clause-moved g c =
     moves_as (image_at g.S.Start) c.in-Ok.conn c.close.result c.in-Ok.ensures.moved
     (λ clean. omega (arith, c.close.ensures.clean, clean)) c.close.ensures.after
 
+pub returns-in-Err-default-Some-clause-stays : goal.returns-in-Err-default-Some-clause-stays
+returns-in-Err-default-Some-clause-stays g c =
+    stays (image_at g.S.Start) c.in-Err-default-Some.conn c.close_moved.result
+    (rw c.in-Err-default-Some.field-0-1-is at c.in-Err-default-Some.ensures.left)
+    (λ clean. omega (arith, c.close_moved.ensures.clean, clean)) c.close_moved.ensures.either_after
+    c.close_moved.ensures.first_after c.close_moved.ensures.some_after
+
+pub returns-in-Err-default-Some-clause-tells : goal.returns-in-Err-default-Some-clause-tells
+returns-in-Err-default-Some-clause-tells g c clean =
+    let was : HasCleanDisk (file_state c.in-Err-default-Some.conn) =
+    omega (arith, c.close_moved.ensures.clean, clean) in
+    record {
+      damaged = (rw c.in-Err-default-Some.field-0-1-is at c.in-Err-default-Some.ensures.damaged) was;
+      wrong = (rw c.in-Err-default-Some.field-0-1-is at c.in-Err-default-Some.ensures.wrong) was;
+    }
+
 pub returns-in-Err-default-Some-clause-left : goal.returns-in-Err-default-Some-clause-left
 returns-in-Err-default-Some-clause-left g c =
     stays_old (image_at g.S.Start) c.in-Err-default-Some.conn c.close_moved.result c.in-Err-default-Some.fault
@@ -18,3 +37,5 @@ returns-in-Err-default-Some-clause-left g c =
     (λ clean. omega (arith, c.close_moved.ensures.clean, clean)) c.close_moved.ensures.some_after
     c.close_moved.ensures.same_after
     (rw c.in-Err-default-Some.field-0-1-is at c.in-Err-default-Some.ensures.never_in)
+    (rw c.in-Err-default-Some.field-0-1-is at c.in-Err-default-Some.ensures.never_some)
+    (rw c.in-Err-default-Some.field-0-1-is at c.in-Err-default-Some.ensures.never)

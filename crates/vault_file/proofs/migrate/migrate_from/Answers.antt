@@ -1,8 +1,8 @@
 use Rattle.sqlite.specs.Files.{file_state}
 use Rattle.sqlite_wal.specs.Files.{image_at}
 use Rattle.vault_file.proofs.Leaving.{leaves_from}
-use Rattle.vault_file.proofs.Moving.{leaves_old, movable, moves_from, never_in, was_clean}
-use Rattle.vault_file.proofs.Opening.{found_in, never_kept, same_fault, there}
+use Rattle.vault_file.proofs.Moving.{leaves_old, movable, moves_from, never_in, never_some, was_clean}
+use Rattle.vault_file.proofs.Opening.{found_in, same_fault, spares, there}
 use Rattle.vault_file.proofs.migrate.migrate_from.Goals as goal
 use Rattle.vault_verdict.specs.declared.fault.OpenFault.TheVariants.{WrongSchema, Damaged}
 
@@ -10,7 +10,8 @@ pub returns-in-Ok-clause-moved : goal.returns-in-Ok-clause-moved
 returns-in-Ok-clause-moved g c =
     moves_from (image_at g.S.Start) c.in-Some.conn c.migrate_all.new.conn c.in-Some.ensures.opened
     c.in-Some.ensures.unlimited c.migrate_all.ensures.clean
-    c.in-Ok.ensures.moved c.in-Ok.ensures.blank c.in-Ok.ensures.sound c.in-Some.ensures.first
+    c.in-Ok.ensures.moved c.in-Ok.ensures.blank c.in-Ok.ensures.sound c.in-Some.ensures.either
+    c.in-Some.ensures.first
 
 pub returns-in-Ok-clause-no_path : goal.returns-in-Ok-clause-no_path
 returns-in-Ok-clause-no_path g c none = there c.in-Some.conn (c.in-Some.ensures.no_path none)
@@ -42,19 +43,23 @@ returns-in-Err-clause-never_in g c =
     c.in-Some.ensures.unlimited c.migrate_all.ensures.clean c.in-Err.fault c.in-Err.ensures.never
 
 pub returns-in-Err-clause-never : goal.returns-in-Err-clause-never
-returns-in-Err-clause-never g c clean V sound keeps =
-    never_kept (image_at g.S.Start) c.in-Some.conn
+returns-in-Err-clause-never g c clean =
+    spares (image_at g.S.Start) c.in-Some.conn
     c.in-Some.ensures.opened c.in-Some.ensures.again
     c.migrate_all.new.conn c.in-Err.fault
     (λ clean fit. c.in-Err.ensures.never clean (movable (file_state c.in-Some.conn).now fit))
-    (λ some. c.migrate_all.ensures.clean) clean V sound
-    keeps
+    (λ some. c.migrate_all.ensures.clean) clean c.in-Some.ensures.either c.in-Some.ensures.first
+
+pub returns-in-Err-clause-never_some : goal.returns-in-Err-clause-never_some
+returns-in-Err-clause-never_some g c =
+    never_some (image_at g.S.Start) c.in-Some.conn c.migrate_all.new.conn c.in-Some.ensures.opened
+    c.in-Some.ensures.unlimited c.migrate_all.ensures.clean c.in-Err.fault c.in-Err.ensures.never
 
 pub returns-in-Err-clause-left : goal.returns-in-Err-clause-left
 returns-in-Err-clause-left g c =
     leaves_from (image_at g.S.Start) c.in-Some.conn c.migrate_all.new.conn c.in-Some.ensures.opened
     c.in-Some.ensures.unlimited (λ clean. (c.migrate_all.ensures.crash clean).found)
-    c.migrate_all.ensures.clean c.in-Some.ensures.again
+    c.migrate_all.ensures.clean (λ clean. (c.migrate_all.ensures.crash clean).older) c.in-Some.ensures.again
     c.in-Some.ensures.either c.in-Some.ensures.first
 
 pub returns-in-Err-clause-left_old : goal.returns-in-Err-clause-left_old

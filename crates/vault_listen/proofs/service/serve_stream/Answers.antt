@@ -10,11 +10,11 @@ returns-in_default-clause-left g c =
 
 pub returns-then-store_failed-clause-left : goal.returns-then-store_failed-clause-left
 returns-then-store_failed-clause-left g c =
-    end_undecided c.serve_connection-ended.result _ _ _ (c.if-store_failed.ensures.0 refl)
-    c.serve_connection-ended.ensures.answered.2
+    end_undecided c.serve_connection-ended.result _ _ _ (c.if-store_failed.ensures.0 refl) refl
+    c.serve_connection-ended.ensures.answered.2 c.serve_connection-ended.ensures.answered.3
 
 pub returns-clause-left : goal.returns-clause-left
 returns-clause-left g c =
     end_kept c.serve_connection-ended.result _ _ _
-    (λ same. let e : false ≡ true = c.if-store_failed.ensures.1 same in absurd (cc))
-    c.serve_connection-ended.ensures.answered.2
+    (λ same. let e : false ≡ true = c.if-store_failed.ensures.1 same in absurd (cc)) refl
+    c.serve_connection-ended.ensures.answered.2 c.serve_connection-ended.ensures.answered.3

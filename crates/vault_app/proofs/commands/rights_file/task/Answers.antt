@@ -1,5 +1,12 @@
-use Rattle.std.proofs.Common.{inl}
+use Rattle.std.proofs.Common.{inl, rules}
+use Rattle.vault_core.specs.Scalar.{IsMoment}
+use Rattle.vault_app.proofs.Values.{listed_proper}
 use Rattle.vault_app.proofs.commands.rights_file.task.Goals as goal
 
 pub returns-in-Err-clause-task : goal.returns-in-Err-clause-task
 returns-in-Err-clause-task c = inl (c.in-Err.ensures.fault, c.in-Err.ensures.needed)
+
+pub returns-in-Ok-clause-proper : goal.returns-in-Ok-clause-proper
+returns-in-Ok-clause-proper c =
+    let moment : IsMoment c.in-Ok.now = search (rules, c.moment.type_inv, c.in-Ok.is) in
+    listed_proper c.in-Ok.now moment c.in_ok-rows.rows.items c.in_ok-rows.ensures.listed

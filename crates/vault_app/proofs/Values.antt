@@ -1,0 +1,77 @@
+-- Tasks whose parts are values of their types.
+use Rattle.std.proofs.Common.{◌≡◌, ℕ, List, [], ◌∷◌, Some, sym, subst}
+use Rattle.std.specs.Prelude.{IfSome}
+use Rattle.std.specs.List.{AllByRecursion}
+use Rattle.toml.specs.Data.{Members, get_item, get_member}
+use Rattle.vault_core.specs.Name.{IsName}
+use Rattle.vault_core.specs.Proper.{AllProper, HasLivesInRange, IsProper}
+use Rattle.vault_core.specs.Scalar.{IsMoment}
+use Rattle.vault_core.specs.declared.command.Command.{Command}
+use Rattle.vault_core.specs.declared.command.Command.TheVariants.{SetMerchant, Grant, Withdraw, Tokenize}
+use Rattle.vault_core.specs.declared.command.Command.TheVariants.{Detokenize, View, Revoke, Purge, Audit}
+use Rattle.vault_rights.proofs.Lists.{all-contained}
+use Rattle.vault_rights.proofs.Words.{grant-exact}
+use Rattle.vault_rights.specs.Items.{grant_of}
+use Rattle.vault_rights.specs.Named.{Names, Row}
+use Rattle.vault_rights.specs.Proper.{IsProper as IsProperDocument}
+use Rattle.vault_jobs.specs.Grants.{grants_at}
+use Rattle.vault_jobs.specs.Tasks.{IsProper as HasLives}
+use Rattle.vault_jobs.specs.declared.task.Task.{Task}
+use Rattle.vault_jobs.specs.declared.task.Task.TheVariants.{Change, Give, Sweep, Batch, Pipe, Serve}
+use Rattle.vault_app.specs.Rights.{IsListed}
+use Rattle.vault_app.specs.Values.{AreValues}
+
+-- the lives of a proper command are lives
+lives_of : (c : Command) → IsProper c → HasLivesInRange c
+lives_of (SetMerchant m single multi lead now) is = (is.1, is.2)
+lives_of (Grant caller m right until now) is = tt
+lives_of (Withdraw caller m right now) is = tt
+lives_of (Tokenize caller m request usage pan digits now) is = tt
+lives_of (Detokenize caller m token now) is = tt
+lives_of (View caller m token now) is = tt
+lives_of (Revoke caller m token now) is = tt
+lives_of (Purge caller m token now) is = tt
+lives_of (Audit caller m now) is = tt
+
+-- and so are those of a task
+pub has_lives : (t : Task) → AreValues t → HasLives t
+has_lives (Change c) is = lives_of c is.1
+has_lives (Give rights now) is = tt
+has_lives (Sweep who now) is = tt
+has_lives (Batch who now digits) is = tt
+has_lives (Pipe now digits) is = tt
+has_lives (Serve port connections) is = tt
+
+-- the names of a row are names, and its end is a moment
+abbrev IsProperRow : Row → Type 0
+IsProperRow row = IsName row.0 × IsName row.1 × IfSome row.3 IsMoment
+
+row_proper : (document : Members) → IsProperDocument document → (row : Row) → Names document row
+    → IsProperRow row
+row_proper document proper row
+    (value, found, (members, is_table, (inner, at, (items, is_array, (item, last))))) =
+    let caller = proper row.0 value found in
+    let same : members ≡ caller.1.0 = cc (is_table, caller.1.1) in
+    let merchant = caller.1.2 row.1 inner (subst (λ ms. get_member row.1 ms ≡ Some inner) same at) in
+    let listed : items ≡ merchant.1.0 = cc (is_array, merchant.1.1) in
+    let grant = merchant.1.2 item.0 (grant_of row.2 row.3)
+    (subst (λ xs. get_item item.0 xs ≡ Some (grant_of row.2 row.3)) listed item.1) in (
+      caller.0,
+      merchant.0,
+      subst (λ until. IfSome until IsMoment)
+          (sym (grant-exact row.2 grant.0 row.3 grant.1 grant.2).1) grant.3,
+    )
+
+-- so the rights that a list names are given by proper commands
+rows_proper : (now : ℕ) → IsMoment now → (rows : List Row) → AllByRecursion IsProperRow rows
+    → AllProper (grants_at now rows)
+rows_proper now moment [] each = tt
+rows_proper now moment (row ∷ rows) each =
+    let it : IsProperRow row = each.0 in
+    ((it.0, it.1, it.2, moment), rows_proper now moment rows each.1)
+
+pub listed_proper : (now : ℕ) → IsMoment now → (rows : List Row) → IsListed rows
+    → AllProper (grants_at now rows)
+listed_proper now moment rows (text, document, is, proper, list) =
+    rows_proper now moment rows (all-contained IsProperRow rows
+    (λ row inside. row_proper document proper row ((list.1 row).0 inside)))

@@ -1,0 +1,29 @@
+-- Tasks whose parts are values of their types.
+use Rattle.std.specs.Prelude.{IfSome}
+use Rattle.vault_pan.specs.Draw.{IsDrawing}
+use Rattle.vault_core.specs.Name.{IsName}
+use Rattle.vault_core.specs.Proper.{AllProper, IsProper}
+use Rattle.vault_core.specs.Scalar.{IsMoment}
+use Rattle.vault_core.specs.declared.command.Command.{Command}
+use Rattle.vault_core.specs.declared.command.Command.TheVariants.{SetMerchant, Grant, Withdraw}
+use Rattle.vault_jobs.specs.Grants.{grants_at}
+use Rattle.vault_jobs.specs.declared.task.Task.{Task}
+use Rattle.vault_jobs.specs.declared.task.Task.TheVariants.{Change, Give, Sweep, Batch, Pipe, Serve}
+
+-- a command that only the words of the program ask for
+abbrev pub IsOwn : Command → Type 0
+IsOwn (SetMerchant m single multi lead now) = Unit {0}
+IsOwn (Grant caller m right until now) = Unit {0}
+IsOwn (Withdraw caller m right now) = Unit {0}
+IsOwn c = ⊥
+
+-- The parts of a task are values of their types: its names are names, its lives are lives, its moments are
+-- moments and its digits a drawing. Its command is one of the words'.
+abbrev pub AreValues : Task → Type 0
+AreValues (Change c) = IsOwn c × IsProper c
+AreValues (Give rights now) = AllProper (grants_at now rights.items)
+AreValues (Sweep who now) = IsName who.caller × IsName who.merchant × IsMoment now
+AreValues (Batch who now digits) =
+    IsName who.caller × IsName who.merchant × IfSome now IsMoment × IfSome digits IsDrawing
+AreValues (Pipe now digits) = IfSome now IsMoment × IfSome digits IsDrawing
+AreValues (Serve port connections) = Unit {0}

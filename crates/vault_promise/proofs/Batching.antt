@@ -1,0 +1,276 @@
+-- What a batch answered, and what it left undecided, as commands.
+use Rattle.std.proofs.Common.{◌≡◌, ◌⊎◌, ℕ, ◌+◌, ◌<◌, List, [], ◌∷◌, ◌++◌, length, take, map, Option}
+use Rattle.std.proofs.Common.{None, Result, Ok, Err, inl, inr, refl, sym, ap, subst, ◌∙◌, append-nil}
+use Rattle.std.proofs.Common.{append_assoc}
+use Rattle.std.proofs.Math.Seq.{take-append-add, take-append_seam, take-length}
+use Rattle.std.proofs.lemmas.Grind.{flat_map-append}
+use Rattle.std.proofs.lemmas.List.Elements.{All-cons, All-head, All-nil, All-tail, All-take}
+use Rattle.std.specs.Io.KnownBytes.{Appends}
+use Rattle.std.specs.Prelude.{All}
+use Rattle.std.specs.Str.Parse.{digits_value}
+use Rattle.vault_batch.proofs.Lining.{lines-more, lines-nil, vault_after-nil}
+use Rattle.vault_batch.specs.Asking.{Asked, Asks, Wants}
+use Rattle.vault_batch.specs.Batched.{line_at, pairs_of, rows_of}
+use Rattle.vault_batch.specs.Lines.{commands_of, first_line, lines, vault_after}
+use Rattle.vault_batch.specs.Rows.{BeginRecordsOf, Fields, Row, fields_in, header}
+use Rattle.vault_batch.specs.Rows.{records_with}
+use Rattle.vault_batch.specs.Stops.{IsBatched, Stops}
+use Rattle.vault_batch.specs.declared.asker.Asker.{Asker}
+use Rattle.vault_batch.specs.declared.counts.Counts.{Counts}
+use Rattle.vault_batch.specs.declared.fault.BatchFault.{BatchFault}
+use Rattle.vault_batch.specs.declared.fault.BatchFault.TheVariants as fault
+use Rattle.vault_core.specs.Name.{IsName}
+use Rattle.vault_core.specs.Proper.{AllProper}
+use Rattle.vault_core.specs.Runs.{run}
+use Rattle.vault_core.specs.Vault.{Vault as Content}
+use Rattle.vault_core.specs.declared.command.Command.{Command}
+use Rattle.vault_core.specs.declared.command.Command.TheVariants.{Tokenize}
+use Rattle.vault_http.specs.Exchanges.{Pair, commands_in}
+use Rattle.vault_http.specs.Passing.{IsBefore, Passage, Takes}
+use Rattle.vault_live.specs.Live.{IsPairOf}
+use Rattle.vault_pan.specs.CardText.{digits_of}
+use Rattle.vault_routes.specs.Wanted.{Wanted}
+use Rattle.vault_jobs.specs.Doing.{BatchEnds, along}
+use Rattle.vault_jobs.specs.Streams.{Streams}
+use Rattle.vault_jobs.specs.declared.stop.Stop.{Stop}
+use Rattle.vault_jobs.specs.declared.stop.Stop.TheVariants as stop
+use Rattle.vault_jobs.specs.declared.task.Outcome.{Outcome}
+use Rattle.vault_jobs.specs.declared.task.Outcome.TheVariants as outcome
+use Rattle.vault_jobs.specs.declared.task.Task.TheVariants as task
+use Rattle.vault_promise.proofs.Piping.{command_in, run_append, wanted_proper, wanted_run}
+use Rattle.vault_promise.proofs.Proper.{IsFine, fine_by, proper-append, proper-first, proper-last, refused}
+use Rattle.vault_promise.proofs.Working.{Works}
+use Rattle.vault_promise.specs.Runs.{perhaps}
+use Rattle.vault_promise.specs.Told.{CameIn, IsQuiet}
+
+-- what a row wants is a proper command, or none
+row_proper : (who : Asker) (row : Row) (pair : Pair) (now : Option ℕ) (digits : Option (List ℕ))
+    (w : Wanted Command) → IsName who.caller → IsName who.merchant → IsPairOf now digits pair
+    → Wants who row pair w → IsFine w
+row_proper who row pair now digits w named at of
+    (inl (request, inl (number, inl (passes, inl (usage, word, is))))) =
+    fine_by w (Tokenize who.caller who.merchant (digits_value 10 row.request) usage (digits_of row.number)
+    pair.1 pair.0) is (named, at, request.4, (number.1, passes), of.is_drawing, of.is_moment)
+row_proper who row pair now digits w named at of
+    (inl (request, inl (number, inl (passes, inr (never, is))))) =
+    refused w _ is
+row_proper who row pair now digits w named at of (inl (request, inl (number, inr (never, is)))) =
+    refused w _ is
+row_proper who row pair now digits w named at of (inl (request, inr (never, is))) = refused w _ is
+row_proper who row pair now digits w named at of (inr (never, is)) = refused w _ is
+
+-- so the commands of rows
+rows_proper : (who : Asker) (now : Option ℕ) (digits : Option (List ℕ)) (xs : List Asked) → IsName who.caller
+    → IsName who.merchant → All (IsPairOf now digits) (pairs_of xs) → All (Asks who) xs
+    → AllProper (commands_of xs)
+rows_proper who now digits [] named at of asked = tt
+rows_proper who now digits (x ∷ xs) named at of asked =
+    proper-append (commands_in x.wanted) (commands_of xs)
+    (row_proper who x.row x.pair now digits x.wanted named at
+    (All-head (IsPairOf now digits) x.pair (pairs_of xs) of) (All-head (Asks who) x xs asked).1)
+    (rows_proper who now digits xs named at (All-tail (IsPairOf now digits) x.pair (pairs_of xs) of)
+    (All-tail (Asks who) x xs asked))
+
+as_run : (V : Content) (xs : List Asked) → vault_after V xs ≡ run (commands_of xs) V
+unfolding vault_after
+as_run V xs = refl
+
+rows_then : (xs : List Asked) (x : Asked)
+    → commands_of (xs ++ x ∷ []) ≡ commands_of xs ++ commands_in x.wanted
+rows_then xs x =
+    flat_map-append (λ (y : Asked). commands_in y.wanted) xs (x ∷ [])
+    ∙ ap (λ cs. commands_of xs ++ cs) (append-nil (commands_in x.wanted))
+
+run_then : (V : Content) (xs : List Asked) (x : Asked)
+    → vault_after V (xs ++ x ∷ []) ≡ perhaps (run (commands_of xs) V) (command_in x.wanted)
+run_then V xs x =
+    as_run V (xs ++ x ∷ []) ∙ ap (λ cs. run cs V) (rows_then xs x)
+    ∙ run_append (commands_of xs) (commands_in x.wanted) V ∙ wanted_run x.wanted (run (commands_of xs) V)
+
+-- the records of rows, with none more
+has_rows : (s : Streams) (xs : List Asked) → CameIn s (records_with (rows_of xs))
+    → (xs ≡ []) ⊎ ((more : List Fields) × CameIn s (records_with (rows_of xs) ++ more))
+has_rows s xs it = inr ([], subst (CameIn s) (sym (append-nil (records_with (rows_of xs)))) it)
+
+-- and with those of one more
+has_one : (s : Streams) (xs : List Asked) (x : Asked)
+    → BeginRecordsOf s.left_old (records_with (rows_of xs) ++ fields_in x.row ∷ [])
+    → (xs ++ x ∷ [] ≡ []) ⊎ ((more : List Fields) × CameIn s (records_with (rows_of (xs ++ x ∷ [])) ++ more))
+has_one s xs x it =
+    has_rows s (xs ++ x ∷ [])
+    (inr (subst (λ rs. BeginRecordsOf s.left_old rs) (sym (records-more xs x)) it))
+  where
+    records-more : (ys : List Asked) (y : Asked)
+        → records_with (rows_of (ys ++ y ∷ [])) ≡ records_with (rows_of ys) ++ fields_in y.row ∷ []
+    records-more ys y = ap (λ rs. fields_in header ∷ rs) (rows-more ys)
+      where
+        rows-more : (zs : List Asked)
+            → map fields_in (rows_of (zs ++ y ∷ [])) ≡ map fields_in (rows_of zs) ++ fields_in y.row ∷ []
+        rows-more [] = refl
+        rows-more (z ∷ zs) = ap (λ rs. fields_in z.row ∷ rs) (rows-more zs)
+
+module _ (who : Asker) (now : Option ℕ) (digits : Option (List ℕ)) (named : IsName who.caller)
+    (at : IsName who.merchant) (w : Passage) (V : Content) (b : IsBefore w V) (s : Streams) (F : Type 0) where
+  -- of the lines of these rows so many bytes went out
+  abbrev Went : List Asked → Type 0
+  Went xs = (sent : ℕ) × Appends s.sent_old s.sent_new (take sent (first_line ++ lines V xs))
+
+  abbrev Goal : Type 0
+  Goal = Works w V (task.Batch who now digits) F s
+
+  all_went : (xs : List Asked) → Appends s.sent_old s.sent_new (first_line ++ lines V xs) → Went xs
+  all_went xs went = (
+    length (first_line ++ lines V xs),
+    subst (λ t. Appends s.sent_old s.sent_new t) (sym (take-length (first_line ++ lines V xs))) went,
+  )
+
+  -- of the last one's line only so much
+  part_went : (xs : List Asked) (x : Asked) (n : ℕ)
+      → Appends s.sent_old s.sent_new (first_line ++ lines V xs ++ take n (line_at (vault_after V xs) x))
+      → Went (xs ++ x ∷ [])
+  part_went xs x n went =
+      let line = line_at (vault_after V xs) x in
+      let so_far = first_line ++ lines V xs in
+      let all : first_line ++ lines V (xs ++ x ∷ []) ≡ so_far ++ line =
+      ap (λ t. first_line ++ t) (lines-more V xs x) ∙ sym (append_assoc first_line (lines V xs) line) in
+      let cut : take (length so_far + n) (first_line ++ lines V (xs ++ x ∷ []))
+      ≡ first_line ++ lines V xs ++ take n line =
+      ap (λ t. take (length so_far + n) t) all ∙ take-append-add so_far line n
+      ∙ append_assoc first_line (lines V xs) (take n line) in
+      (length so_far + n, subst (λ t. Appends s.sent_old s.sent_new t) (sym cut) went)
+
+  module _ (pairs : List Pair) (fixed : All (IsPairOf now digits) pairs) where
+    -- the pairs that rows took are these
+    fits : (ds : List Pair) → Takes (along w s pairs) ds → All (IsPairOf now digits) ds
+    fits ds taken = subst (λ (es : List Pair). All (IsPairOf now digits) es) taken fixed
+
+    fits_first : (ds es : List Pair) → Takes (along w s pairs) (ds ++ es) → All (IsPairOf now digits) ds
+    fits_first ds es taken =
+        subst (λ (fs : List Pair). All (IsPairOf now digits) fs) (take-append_seam ds es)
+        (All-take (IsPairOf now digits) (length ds) (ds ++ es) (fits (ds ++ es) taken))
+
+    -- rows that are answered
+    answered : (xs : List Asked)
+        → (xs ≡ []) ⊎ ((more : List Fields) × CameIn s (records_with (rows_of xs) ++ more))
+        → All (IsPairOf now digits) (pairs_of xs) → All (Asks who) xs → Went xs
+        → w.left_new (vault_after V xs) (vault_after V xs) → Goal
+    answered xs records of asked went left = record {
+      answered = commands_of xs;
+      undecided = None;
+      proper = rows_proper who now digits xs named at of asked;
+      last_proper = tt;
+      tells = (xs, asked, refl, record { records = records; fixed = of }, went);
+      done = λ _. tt;
+      left = subst (λ W. w.left_new W W) (as_run V xs) left;
+    }
+
+    -- no row at all
+    none : Went [] → w.left_new V V → Goal
+    none went left =
+        answered [] (inl refl) (All-nil (IsPairOf now digits)) (All-nil (Asks who)) went
+        (subst (λ W. w.left_new W W) (sym (vault_after-nil V)) left)
+
+    quiet_went : Appends s.sent_old s.sent_new [] → Went []
+    quiet_went went = (0, went)
+
+    first_went : (n : ℕ) → n < length first_line → Appends s.sent_old s.sent_new (take n first_line) → Went []
+    first_went n part went =
+        let all : first_line ++ lines V [] ≡ first_line =
+        ap (λ t. first_line ++ t) (lines-nil V) ∙ append-nil first_line in
+        (n, subst (λ t. Appends s.sent_old s.sent_new (take n t)) (sym all) went)
+
+    -- the pairs of the rows before one
+    first_pairs : (xs : List Asked) (x : Asked) → All (IsPairOf now digits) (pairs_of (xs ++ x ∷ []))
+        → All (IsPairOf now digits) (pairs_of xs)
+    first_pairs [] x all = All-nil (IsPairOf now digits)
+    first_pairs (y ∷ ys) x all =
+        All-cons (IsPairOf now digits) y.pair (pairs_of ys)
+        (All-head (IsPairOf now digits) y.pair (pairs_of (ys ++ x ∷ [])) all)
+        (first_pairs ys x (All-tail (IsPairOf now digits) y.pair (pairs_of (ys ++ x ∷ [])) all))
+
+    -- some rows are answered, and one more is undecided
+    torn : (xs : List Asked) (x : Asked)
+        → BeginRecordsOf s.left_old (records_with (rows_of xs) ++ fields_in x.row ∷ [])
+        → All (IsPairOf now digits) (pairs_of (xs ++ x ∷ []))
+        → All (Asks who) (xs ++ x ∷ []) → Appends s.sent_old s.sent_new (first_line ++ lines V xs)
+        → w.left_new (vault_after V xs) (vault_after V (xs ++ x ∷ [])) → Goal
+    torn xs x records of asked went left =
+        let proper : AllProper (commands_of xs ++ commands_in x.wanted) =
+        subst AllProper (rows_then xs x) (rows_proper who now digits (xs ++ x ∷ []) named at of asked) in
+        record {
+          answered = commands_of xs;
+          undecided = command_in x.wanted;
+          proper = proper-first (commands_of xs) (commands_in x.wanted) proper;
+          last_proper = wanted_proper x.wanted (proper-last (commands_of xs) (commands_in x.wanted) proper);
+          tells = (
+            xs,
+            subst (λ ys. All (Asks who) ys) (take-append_seam xs (x ∷ []))
+                (All-take (Asks who) (length xs) (xs ++ x ∷ []) asked),
+            refl,
+            record { records = inr (fields_in x.row ∷ [], inr records); fixed = first_pairs xs x of },
+            all_went xs went,
+          );
+          done = λ _. tt;
+          left = subst (λ W. w.left_new W (perhaps (run (commands_of xs) V) (command_in x.wanted)))
+              (as_run V xs) (subst (λ W. w.left_new (vault_after V xs) W) (run_then V xs x) left);
+        }
+
+    whole : (counts : Counts) → IsBatched s.left_old (along w s pairs) who counts → Goal
+    whole counts q =
+        let it = q.answered.answered V b in
+        answered q.rows (has_rows s q.rows (inl q.records)) (fits (pairs_of q.rows) q.answered.taken)
+        q.answered.asked (all_went q.rows it.0) it.1.1
+
+    stopped : (e : BatchFault) → Stops s.left_old (along w s pairs) who e → Goal
+    stopped fault.BadHeader q = none (quiet_went q.0.0) (q.0.1.1 V b).1
+    stopped fault.Read (inl q) = none (quiet_went q.0) (q.1.1 V b).1
+    stopped fault.Read (inr q) =
+        let it = q.answered.answered V b in
+        answered q.rows (has_rows s q.rows (inr q.records)) (fits (pairs_of q.rows) q.answered.taken)
+        q.answered.asked (all_went q.rows it.0) it.1.1
+    stopped fault.Write (inl q) = none (first_went q.sent q.part q.went) (q.unchanged.1 V b).1
+    stopped fault.Write (inr (rows, next, records, q)) =
+        let it = q.answered V b in
+        answered (rows ++ next ∷ []) (has_one s rows next records)
+        (fits (pairs_of (rows ++ next ∷ [])) q.taken) q.asked (part_went rows next q.sent it.1) it.2.1
+    stopped fault.Store (rows, next, records, q) =
+        let it = q.answered V b in
+        torn rows next records (fits (pairs_of (rows ++ next ∷ [])) q.taken) q.asked it.0 it.1
+    stopped fault.BadRecord q =
+        let it = q.answered.answered V b in
+        answered q.rows (inr (q.bad ∷ [], inr q.records)) (fits (pairs_of q.rows) q.answered.taken)
+        q.answered.asked (all_went q.rows it.0) it.1.1
+    stopped fault.Memory (inl q) = none (quiet_went q.0) (q.1.1 V b).1
+    stopped fault.Memory (inr (inl (rows, records, q))) =
+        let it = q.answered V b in
+        answered rows (has_rows s rows (inr records)) (fits_first (pairs_of rows) q.unused q.taken) q.asked
+        (all_went rows it.0) it.1.1
+    stopped fault.Memory (inr (inr (rows, next, records, q))) =
+        let it = q.answered V b in
+        answered (rows ++ next ∷ []) (has_one s rows next records)
+        (fits (pairs_of (rows ++ next ∷ [])) q.taken) q.asked (part_went rows next 0
+        (subst (λ t. Appends s.sent_old s.sent_new (first_line ++ t)) (sym (append-nil (lines V rows))) it.0))
+        it.1.1
+    stopped fault.Source q =
+        let it = q.answered.answered V b in
+        answered q.rows (inr (fields_in q.next ∷ [], inr q.records)) (fits (pairs_of q.rows) q.answered.taken)
+        q.answered.asked (all_went q.rows it.0) it.1.1
+
+  pub batch_works : (r : Result Outcome Stop) (unread unsent : Type 0) → (unsent → IsQuiet s)
+      → BatchEnds who now digits w r unread unsent s → Goal
+  batch_works (Ok outcome.Done) unread unsent quiet (counts, none, (pairs, few, fixed, q)) =
+      whole pairs fixed counts q
+  batch_works (Ok (outcome.Refused n)) unread unsent quiet h = absurd h
+  batch_works (Ok outcome.SomeRefused) unread unsent quiet (counts, some, (pairs, few, fixed, q)) =
+      whole pairs fixed counts q
+  batch_works (Err (stop.Vault f)) unread unsent quiet h = absurd h
+  batch_works (Err (stop.Service f)) unread unsent quiet h = absurd h
+  batch_works (Err (stop.Listener f)) unread unsent quiet h = absurd h
+  batch_works (Err (stop.Rights f)) unread unsent quiet h = absurd h
+  batch_works (Err (stop.Batch f)) unread unsent quiet (inl (is, calm, silent, same)) =
+      let nil : All (IsPairOf now digits) [] = All-nil (IsPairOf now digits) in
+      none [] nil (quiet_went [] nil (quiet silent)) (same V b).1
+  batch_works (Err (stop.Batch f)) unread unsent quiet (inr (pairs, few, fixed, inl q)) =
+      stopped pairs fixed f q
+  batch_works (Err (stop.Batch f)) unread unsent quiet (inr (pairs, few, fixed, inr (is, (counts, q)))) =
+      whole pairs fixed counts q

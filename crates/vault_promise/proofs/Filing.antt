@@ -1,0 +1,344 @@
+-- Whatever a run does with files, it is one up to the bytes with which the next begins.
+use Rattle.std.proofs.Common.{◌≡◌, ◌⊎◌, List, [], Option, Some, None, Result, Ok, Err, Bool}
+use Rattle.std.proofs.Common.{inl, inr, refl, sym}
+use Rattle.std.proofs.Common.{arith, subst}
+use Rattle.std.proofs.Math.Logic.{∥∥₁_map}
+use Rattle.std.specs.Io.KnownBytes.{Appends, Consumes}
+use Rattle.std.specs.Prelude.{ℤ}
+use Rattle.sqlite.specs.Files.{file_state}
+use Rattle.sqlite_disk.specs.declared.Disk.{Ghosts}
+use Rattle.sqlite_store.specs.declared.store.FileStore.{FileStore}
+use Rattle.sqlite.specs.Tree.{Trees}
+use Rattle.sqlite_wal.specs.Recovery.{Image}
+use Rattle.vault_core.specs.Sound.{Sound}
+use Rattle.vault_core.specs.Vault.{Vault as Content}
+use Rattle.vault_core.specs.declared.command.Command.{Command}
+use Rattle.vault_file.specs.Found.{Stays}
+use Rattle.vault_http.proofs.Bytes.{appends_nothing, consumes_nothing}
+use Rattle.vault_http.specs.Passing.{IsBefore, Passage}
+use Rattle.sqlite.specs.Held.{Held}
+use Rattle.sqlite.specs.State.{HasCleanDisk}
+use Rattle.vault_core.specs.Proper.{IsProper}
+use Rattle.vault_schema.proofs.Newest.{ours_in_newest}
+use Rattle.vault_schema.specs.Stands.{newest}
+use Rattle.std.specs.Prelude.{IfSome}
+use Rattle.vault_recover.specs.Crashed.{AreBlank, KeepsEither, KeepsSuch, MayFind}
+use Rattle.vault_schema.specs.Holds.{AreOurs, Holds}
+use Rattle.vault_jobs.specs.Doing.{Does}
+use Rattle.vault_jobs.specs.Streams.{Known, Streams, streams}
+use Rattle.vault_jobs.specs.declared.stop.Stop.{Stop}
+use Rattle.vault_jobs.specs.declared.task.Outcome.{Outcome}
+use Rattle.vault_jobs.specs.declared.task.Outcome.TheVariants as outcome
+use Rattle.vault_jobs.specs.declared.task.Task.{Task}
+use Rattle.vault_jobs.specs.declared.task.Task.TheVariants as task
+use Rattle.vault_app.specs.Files.{DoesOnFile, EndsOnFile, WorksOn, file_passing}
+use Rattle.clap.specs.Words.{Text}
+use Rattle.vault_words.specs.Commands.{program_app}
+use Rattle.vault_words.specs.Jobs.{IsAsked}
+use Rattle.vault_words.specs.declared.jobs.Job.{Job}
+use Rattle.vault_words.specs.declared.jobs.Job.TheVariants as job
+use Rattle.vault_app.specs.Jobs.{Does as DoesWords, DoesPlan, IsChecked, IsMoved}
+use Rattle.vault_app.specs.Plans.{IsPlanOf, IsProperPlan, IsTaskOf}
+use Rattle.vault_app.specs.Ran.{AsksFor, Unasked}
+use Rattle.vault_app.specs.Values.{AreValues}
+use Rattle.vault_file.specs.Moved.{MovesAs}
+use Rattle.vault_file.specs.declared.fault.NotOpened.{NotOpened as FileFault}
+use Rattle.vault_file.specs.declared.fault.NotOpened.TheVariants as file
+use Rattle.vault_verdict.specs.declared.sizes.Sizes.{Sizes}
+use Rattle.vault_app.specs.declared.ending.Ending.{Ending}
+use Rattle.vault_app.specs.declared.ending.Ending.TheVariants as ending
+use Rattle.vault_app.specs.declared.plan.Plan.{Plan}
+use Rattle.vault_app.specs.declared.plan.Plan.TheVariants as plan
+use Rattle.vault_promise.proofs.Batching.{batch_works}
+use Rattle.vault_promise.proofs.Coming.{perhaps_sound}
+use Rattle.vault_promise.proofs.Piping.{pipe_works}
+use Rattle.vault_promise.proofs.Serving.{serve_works}
+use Rattle.vault_promise.proofs.Sweeping.{sweep_works}
+use Rattle.vault_promise.proofs.Working.{Works, change_works, give_works}
+use Rattle.vault_promise.specs.Runs.{AreOf, Bear, Comes, EveryRunIsOne, IsAside, IsRun, Leaves}
+use Rattle.vault_promise.specs.Runs.{Rests, Run, Work, kept_by, perhaps, undecided_by}
+use Rattle.vault_promise.specs.Told.{IsQuiet, Tells}
+
+-- nothing came in
+abbrev IsStill : Streams → Type 0
+IsStill s = Consumes s.left_old s.left_new []
+
+-- what a task does, by its clause
+works : (t : Task) (w : Passage) (V : Content) (b : IsBefore w V) → Sound V → (s : Streams)
+    (broken : Bool) (r : Result Outcome Stop) (unread unsent : Type 0) → (unread → IsStill s)
+    → (unsent → IsQuiet s) → AreValues t
+    → (F : Type 0) → (F → r ≡ Ok outcome.Done) → Does t w broken r unread unsent s → Works w V t F s
+works (task.Change c) w V b sound s broken r unread unsent still quiet values F fin h =
+    change_works w V b s unsent quiet F c values.0 values.1 broken r fin h
+works (task.Give rights now) w V b sound s broken r unread unsent still quiet values F fin h =
+    give_works w V b s unsent quiet F rights now values broken r fin h
+works (task.Sweep who now) w V b sound s broken r unread unsent still quiet values F fin h =
+    sweep_works who now values.0 values.1 values.2 w V b sound s unsent quiet F broken r fin h
+works (task.Batch who now digits) w V b sound s broken r unread unsent still quiet values F fin h =
+    batch_works who now digits values.0 values.1 w V b s F r unread unsent quiet h
+works (task.Pipe now digits) w V b sound s broken r unread unsent still quiet values F fin h =
+    pipe_works now digits w V b s F r unread unsent still quiet h
+works (task.Serve port connections) w V b sound s broken r unread unsent still quiet values F fin h =
+    serve_works w V b s port connections F r unsent h
+
+-- what a job with this plan asks for
+abbrev Fits : Job → Plan → Type 0
+Fits job (plan.Trial t) = IsAside job
+Fits job (plan.Check path) = IsAside job
+Fits job (plan.Migrate path) = IsAside job
+Fits job (plan.Do path t) = IsTaskOf job t
+
+fits : (job : Job) (p : Plan) → IsPlanOf job p → Fits job p
+fits (job.Trial j) p (t, is, same) = subst (Fits (job.Trial j)) (sym same) tt
+fits (job.Merchant j) p (t, is, same) = subst (Fits (job.Merchant j)) (sym same) is
+fits (job.Grant j) p (t, is, same) = subst (Fits (job.Grant j)) (sym same) is
+fits (job.Withdraw j) p (t, is, same) = subst (Fits (job.Withdraw j)) (sym same) is
+fits (job.Rights j) p (t, is, same) = subst (Fits (job.Rights j)) (sym same) is
+fits (job.Pipe j) p (t, is, same) = subst (Fits (job.Pipe j)) (sym same) is
+fits (job.Batch j) p (t, is, same) = subst (Fits (job.Batch j)) (sym same) is
+fits (job.Serve j) p (t, is, same) = subst (Fits (job.Serve j)) (sym same) is
+fits (job.Sweep j) p (t, is, same) = subst (Fits (job.Sweep j)) (sym same) is
+fits (job.Check j) p same = subst (Fits (job.Check j)) (sym same) tt
+fits (job.Migrate j) p same = subst (Fits (job.Migrate j)) (sym same) tt
+
+-- words that ask for no job
+unasked : (words : List Text) (end : Ending) (unread unsent quiet : Type 0) → (unsent → quiet)
+    → Unasked words end unread unsent → Unasked words end (Unit {0}) quiet
+unasked words end unread unsent quiet so (inl (inl (help, is), calm)) = inl (inl (help, is), tt)
+unasked words end unread unsent quiet so (inl (inr (version, is, silent), calm)) =
+    inl (inr (version, is, so silent), tt)
+unasked words end unread unsent quiet so (inr (inl (none, is, calm, silent))) =
+    inr (inl (none, is, tt, so silent))
+unasked words end unread unsent quiet so (inr (inr (is, calm, silent))) = inr (inr (is, tt, so silent))
+
+-- who finds no more finds what was found
+finds_less : (image next : Image) (Are : Trees → Type 0)
+    → ((found : Trees) → MayFind next found → MayFind image found) → KeepsSuch image Are → KeepsSuch next Are
+finds_less image next Are less keeps found may = keeps found (less found may)
+
+are_less : (image next : Image) (V : Content) (c : Option Command)
+    → ((found : Trees) → MayFind next found → MayFind image found) → AreOf image V c → AreOf next V c
+are_less image next V c less (inl keeps) = inl (finds_less image next _ less keeps)
+are_less image next V c less (inr (inl (none, some))) = inr (inl (none, finds_less image next _ less some))
+are_less image next V c less (inr (inr (none, empty, (before, blank, first)))) =
+    inr (inr (none, empty, (before, blank, finds_less image next _ less first)))
+
+-- a run that rests, and leaves bytes that are found as those before it
+rests : (next : Image) (it : Run) → Rests it
+    → ((found : Trees) → MayFind next found → MayFind it.begins found) → IsRun it next
+rests next it calm less V c sound proper of = ∣ (inr calm, are_less it.begins next V c less of) ∣₁
+
+-- bytes in which the vault is found hold it
+bears : (image : Image) (V : Content) (found : Trees) → MayFind image found → AreOurs found V → Bear image V
+bears image V found may ours = ∣ (found, may, inl (newest, ours_in_newest V found ours)) ∣₁
+
+-- where nothing is undecided and the vault is found, the bytes are of it
+are_ours : (next : Image) (V : Content) (c : Option Command) → c ≡ None
+    → KeepsSuch next (λ found. AreOurs found V) → AreOf next V c
+are_ours next V c none keeps =
+    let one : KeepsEither next V V = λ found may. ∥∥₁_map (keeps found may) (λ ours. inl ours) in
+    subst (λ d. AreOf next V d) (sym none) (inl one)
+
+-- a run from these bytes up to those
+abbrev IsFrom : Image → Run → Image → Type 0
+IsFrom image r next = (V : Content) (c : Option Command) → Sound V → IfSome c IsProper → AreOf image V c
+    → ∥ ((it : Comes V c r) × AreOf next (kept_by V c r it) (undecided_by V c r it)) ∥₁
+
+module _ {D : Type 0} {g : Ghosts D} (image next : Image) where
+  -- files that keep what they kept
+  stays_run : (left : FileStore D g) → Leaves image (Some left) next → (it : Run)
+      → Rests it → Stays image left → IsFrom image it next
+  stays_run left may it calm stays V c sound proper (inl keeps) =
+      ∣ (inr calm, inl (stays.either may.0 V (perhaps V c) keeps next may.1)) ∣₁
+  stays_run left may it calm stays V c sound proper (inr (inl (none, some))) =
+      ∣ (inr calm, inr (inl (none, stays.some may.0 V some next may.1))) ∣₁
+  stays_run left may it calm stays V c sound proper (inr (inr (none, empty, (before, blank, first)))) =
+      ∣ (
+        inr calm,
+        inr (inr (none, empty, (before, blank, stays.empty may.0 before blank first next may.1))),
+      ) ∣₁
+
+  -- files that move to the newest schema
+  moves_run : (left : FileStore D g) → Leaves image (Some left) next → (it : Run)
+      → Rests it → MovesAs image left → IsFrom image it next
+  moves_run left may it calm moves V c sound proper (inl keeps) =
+      ∣ (inr calm, inl (moves.either may.0 V (perhaps V c) keeps next may.1)) ∣₁
+  moves_run left may it calm moves V c sound proper (inr (inl (none, some))) =
+      ∣ (inr calm, are_ours next V c none (moves.stopped may.0 V some next may.1)) ∣₁
+  moves_run left may it calm moves V c sound proper (inr (inr (none, empty, (before, blank, first)))) =
+      ∣ (
+        inr calm,
+        are_ours next V c none (subst (λ W. KeepsSuch next (λ found. AreOurs found W)) (sym empty)
+            (moves.blank may.0 before blank first next may.1)),
+      ) ∣₁
+
+  -- what a check and a migration come to
+  checked : (left : FileStore D g) (told : Result Sizes FileFault) → IsChecked image (Some left) told
+      → Stays image left
+  checked left (Ok sizes) h = h.2
+  checked left (Err why) h = h.2
+
+  moved : (left : FileStore D g) (told : Result ℤ FileFault) → IsMoved image (Some left) told
+      → Leaves image (Some left) next → (it : Run) → Rests it
+      → IsFrom image it next
+  moved left (Ok version) h may it calm = moves_run left may it calm h
+  moved left (Err why) h may it calm = stays_run left may it calm h.2
+
+  -- a file that is opened, or refused with a connection
+  module _ (left : FileStore D g) (may : Leaves image (Some left) next) (t : Task) (end : Ending)
+      (s : Streams) (values : AreValues t) (r : Run) (ends : r.ending ≡ end)
+      (asked : AsksFor r.words (λ job. IsTaskOf job t))
+      (of : (X : Content) (cs : List Command) → Tells t X cs s → Tells t X cs r.streams)
+      (calm : (why : FileFault) → end ≡ ending.NotOpened why → IsQuiet s → Rests r)
+      (bear : (X : Content) → Bear image X → Bear r.begins X) where
+    -- a task that worked on the vault W comes to this
+    work_on : (V : Content) (c : Option Command) (W : Content) → (W ≡ V) ⊎ (W ≡ perhaps V c)
+        → Bear image W → (w : Passage)
+        → Works w W t (r.ending ≡ ending.Done) s
+        → ((A B : Content) → w.left_new A B → KeepsEither next A B)
+        → (it : Comes V c r) × AreOf next (kept_by V c r it) (undecided_by V c r it)
+    work_on V c W is held w it kept =
+        let done : Work V c r = record {
+          task = t;
+          asked = asked;
+          opened = W;
+          is = is;
+          holds = bear W held;
+          answered = it.answered;
+          undecided = it.undecided;
+          proper = it.proper;
+          last_proper = it.last_proper;
+          tells = of W it.answered it.tells;
+          done = it.done;
+        } in
+        (inl done, inl (kept _ _ it.left))
+
+    module _ (result : Result Outcome Stop) (unread unsent : Type 0) (still : unread → IsStill s)
+        (quiet : unsent → IsQuiet s) (fin : r.ending ≡ ending.Done → result ≡ Ok outcome.Done)
+        (on : WorksOn image left (λ p broken. Does t p broken result unread unsent s)) where
+      abbrev conn : Held (FileStore D g)
+      conn = on.opened
+
+      abbrev w : Passage
+      w = file_passing conn left
+
+      -- the trees that the open found in the bytes
+      abbrev found : Trees
+      found = (file_state on.found.first).committed.trees
+
+      clean : HasCleanDisk (file_state conn)
+      clean = on.clean may.0
+
+      finds : MayFind image found
+      finds =
+          let was : HasCleanDisk (file_state on.found.first) = omega (arith, on.found.clean, clean) in
+          (on.found.found was).found.holds
+
+      -- a vault that is held
+      on_one : (V : Content) (c : Option Command) (W : Content) → (W ≡ V) ⊎ (W ≡ perhaps V c) → Sound W
+          → Bear image W → Holds (file_state conn) W
+          → (it : Comes V c r) × AreOf next (kept_by V c r it) (undecided_by V c r it)
+      on_one V c W is sound held holds =
+          work_on V c W is held w
+          (works t w W (may.0, (holds, sound)) sound s on.broken result unread unsent still quiet values
+          (r.ending ≡ ending.Done) fin on.done)
+          (λ A B leaves. leaves next may.1)
+
+      worked : IsFrom image r next
+      worked V c sound proper (inl keeps) =
+          let other : Sound (perhaps V c) = perhaps_sound V c sound proper in
+          ∥∥₁_map (keeps found finds) (λ ours. elim ours [
+            | inl is ↦ on_one V c V (inl refl) sound (bears image V found finds is)
+                (on.found.stands clean V sound is)
+            | inr is ↦ on_one V c (perhaps V c) (inr refl) other (bears image (perhaps V c) found finds is)
+                (on.found.stands clean (perhaps V c) other is)
+          ])
+      worked V c sound proper (inr (inl (none, some))) =
+          let held : Bear image V = ∥∥₁_map (some found finds) (λ it. (found, finds, inl it)) in
+          ∥∥₁_map (on.found.some clean V sound some) (on_one V c V (inl refl) sound held)
+      worked V c sound proper (inr (inr (none, empty, (before, blank, first)))) =
+          let held : Bear image V = ∥∥₁_map (first found finds) (λ it. elim it [
+            | inl same ↦ (found, finds, inr (empty, subst AreBlank (sym same) blank))
+            | inr ours ↦ (
+              found,
+              finds,
+              inl (newest, ours_in_newest V found (subst (λ W. AreOurs found W) (sym empty) ours)),
+            )
+          ]) in
+          ∥∥₁_map (on.found.empty clean before blank first)
+          (λ is. on_one V c V (inl refl) sound held (subst (Holds (file_state conn)) (sym empty) is))
+
+    -- a task on files that are opened, or refused with a connection
+    on_some : (unread unsent : Type 0) → (unread → IsStill s) → (unsent → IsQuiet s)
+        → EndsOnFile image (Some left) t end unread unsent s → IsFrom image r next
+    on_some unread unsent still quiet h = by_ending end refl h
+      where
+        by_ending : (e : Ending) → end ≡ e → DoesOnFile image left t e unread unsent s → IsFrom image r next
+        by_ending ending.Done is h = worked (Ok outcome.Done) unread unsent still quiet (λ _. refl) h
+        by_ending ending.Version is h = absurd h
+        by_ending (ending.Refused n) is h =
+            worked (Ok (outcome.Refused n)) unread unsent still quiet (λ d. absurd (cc (d, ends, is))) h
+        by_ending ending.SomeRefused is h =
+            worked (Ok outcome.SomeRefused) unread unsent still quiet (λ d. absurd (cc (d, ends, is))) h
+        by_ending ending.BadWords is h = absurd h
+        by_ending (ending.NotOpened why) is h = stays_run left may r (calm why is (quiet h.2)) h.0.stays
+        by_ending (ending.Stopped stop) is h =
+            worked (Err stop) unread unsent still quiet (λ d. absurd (cc (d, ends, is))) h
+
+  -- a run whose words ask for a job with this plan
+  each : (left : Option (FileStore D g)) (words : List Text) (job : Job) → IsAsked program_app words job
+      → (p : Plan) → Fits job p → (end : Ending) (s : Streams) (unread unsent : Type 0)
+      → (unread → IsStill s) → (unsent → IsQuiet s) → IsProperPlan p
+      → DoesPlan image left p end unread unsent s
+      → Leaves image left next
+      → IsRun (record { begins = image; words = words; ending = end; streams = s }) next
+  each left words job asked (plan.Trial t) asks end s unread unsent still quiet values h leaves =
+      rests next (record { begins = image; words = words; ending = end; streams = s })
+      (inr (inr (job, asked, asks)))
+      (subst (λ l. Leaves image l next) h.0 leaves)
+  each (Some left) words job asked (plan.Check path) asks end s unread unsent still quiet values h leaves =
+      stays_run left leaves (record { begins = image; words = words; ending = end; streams = s })
+      (inr (inr (job, asked, asks))) (checked left h.1.0 h.1.1)
+  each None words job asked (plan.Check path) asks end s unread unsent still quiet values h leaves =
+      rests next (record { begins = image; words = words; ending = end; streams = s })
+      (inr (inr (job, asked, asks))) leaves
+  each (Some left) words job asked (plan.Migrate path) asks end s unread unsent still quiet values h leaves =
+      moved left h.1.0 h.1.1 leaves (record { begins = image; words = words; ending = end; streams = s })
+      (inr (inr (job, asked, asks)))
+  each None words job asked (plan.Migrate path) asks end s unread unsent still quiet values h leaves =
+      rests next (record { begins = image; words = words; ending = end; streams = s })
+      (inr (inr (job, asked, asks))) leaves
+  each (Some left) words job asked (plan.Do path t) asks end s unread unsent still quiet values h leaves =
+      on_some left leaves t end s values (record { begins = image; words = words; ending = end; streams = s })
+      refl (job, asked, asks) (λ X cs told. told) (λ why is silent. inr (inl ((why, is), silent)))
+      (λ X held. held) unread unsent still quiet h
+  each None words job asked (plan.Do path t) asks end s unread unsent still quiet values h leaves =
+      rests next (record { begins = image; words = words; ending = end; streams = s })
+      (inr (inl ((file.Refused, h.0), quiet h.2))) leaves
+
+  -- and whatever words it has
+  all : (left : Option (FileStore D g)) (words : List Text) (end : Ending) (s : Streams)
+      (unread unsent : Type 0) → (unread → IsStill s) → (unsent → IsQuiet s)
+      → DoesWords image left words end unread unsent s
+      → Leaves image left next
+      → IsRun (record { begins = image; words = words; ending = end; streams = s }) next
+  all left words end s unread unsent still quiet (inl (job, asked, inl (p, is, proper, h))) leaves =
+      each left words job asked p (fits job p is) end s unread unsent still quiet proper h leaves
+  all left words end s unread unsent still quiet
+      (inl (job, asked, inr (why, none, calm, silent))) leaves =
+      rests next (record { begins = image; words = words; ending = end; streams = s })
+      (inl (inl ((job, asked, why), quiet silent)))
+      (subst (λ l. Leaves image l next) none leaves)
+  all left words end s unread unsent still quiet (inr (none, without)) leaves =
+      rests next (record { begins = image; words = words; ending = end; streams = s })
+      (inl (inr (unasked words end unread unsent (IsQuiet s) quiet without)))
+      (subst (λ l. Leaves image l next) none leaves)
+
+pub each_is_run : {D R W E : Type 0} (g : Ghosts D) (remaining : R → Known) (contents : W → Known)
+    (said : E → Known) → EveryRunIsOne g remaining contents said
+each_is_run g remaining contents said image next left words status i i' o told o' e e' h leaves =
+    all image next left words h.ending (streams remaining i i' contents o told) (i' ≡ i) (told ≡ o)
+    (λ same. subst (λ u. Consumes (remaining i.inner) (remaining u.inner) []) (sym same)
+    (consumes_nothing (remaining i.inner)))
+    (λ same. subst (λ u. Appends (contents o.inner) (contents u.inner) []) (sym same)
+    (appends_nothing (contents o.inner))) h.does leaves

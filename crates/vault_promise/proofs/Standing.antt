@@ -1,0 +1,168 @@
+-- Answers stand in later runs.
+use Rattle.std.proofs.Common.{◌≡◌, ℕ, List, [], ◌∷◌, ◌++◌, Option, None, inl, inr}
+use Rattle.std.proofs.Common.{refl, sym, ap, subst, ◌∙◌, append-nil, append_assoc}
+use Rattle.std.proofs.Math.Logic.{∥∥₁_map}
+use Rattle.sqlite_wal.specs.Recovery.{Image}
+use Rattle.vault_core.specs.Keys.{Bytes}
+use Rattle.vault_core.specs.Laws.{IsSameRequest}
+use Rattle.vault_core.specs.Runs.{run}
+use Rattle.vault_core.specs.Sound.{Sound}
+use Rattle.vault_core.specs.Table.{after, command_of, reply}
+use Rattle.vault_core.specs.Vault.{Vault as Content}
+use Rattle.vault_core.specs.declared.command.Command.{Command}
+use Rattle.vault_core.specs.declared.command.TokenRequest.{TokenRequest}
+use Rattle.vault_core.specs.declared.reply.Reply.{Reply}
+use Rattle.vault_core.specs.declared.reply.Reply.TheVariants.{Token}
+use Rattle.vault_http.specs.Exchanges.{commands_in, commands_of}
+use Rattle.vault_recover.specs.Histories.{Answered, IsHistory, Step, last}
+use Rattle.vault_jobs.specs.Streams.{Streams}
+use Rattle.vault_jobs.specs.declared.task.Task.{Task}
+use Rattle.vault_jobs.specs.declared.task.Task.TheVariants as task
+use Rattle.vault_promise.proofs.Coming.{answers_last, opening_last}
+use Rattle.vault_promise.proofs.Lasting.{last-append, parts}
+use Rattle.vault_promise.proofs.Piping.{as_run, commands-append}
+use Rattle.vault_promise.specs.Lasting.{HistoriesLast}
+use Rattle.vault_promise.specs.Runs.{Come, Run, RunsComeToHistories, answers, history, opening}
+use Rattle.vault_promise.specs.Standing.{AnsweredIn, Answers, AnswersStand, Stand, TellsStanding}
+use Rattle.vault_promise.specs.Standing.{TokensStand}
+use Rattle.vault_promise.specs.Told.{Tells}
+
+abbrev Steps : Type 0
+Steps = List (Step × Content)
+
+append_nil_in : {X : Type 0} (a b : List X) → a ++ (b ++ []) ≡ a ++ b
+append_nil_in a b = ap (λ l. a ++ l) (append-nil b)
+
+-- a list with one item in the midst of its midst
+within : {X : Type 0} (a b c d : List X) (x : X) → a ++ ((b ++ x ∷ c) ++ d) ≡ (a ++ b) ++ x ∷ (c ++ d)
+within a b c d x = ap (λ l. a ++ l) (append_assoc b (x ∷ c) d) ∙ sym (append_assoc a b (x ∷ (c ++ d)))
+
+-- the answers to commands, with one of them
+answers_at : (W : Content) (first more : List Command) (x : Command)
+    → answers W (first ++ x ∷ more) ≡ answers W first
+    ++ (Answered x (reply (run first W) x), after (run first W) x) ∷ answers (after (run first W) x) more
+answers_at W [] more x = refl
+answers_at W (c ∷ first) more x =
+    ap (λ h. (Answered c (reply W c), after W c) ∷ h) (answers_at (after W c) first more x)
+
+-- a history has at some place this answer
+record Has (h : Steps) (x : Command) (y : Reply) : Type 0 where
+  first : Steps
+  next : Content
+  more : Steps
+  is : h ≡ first ++ (Answered x y, next) ∷ more
+
+-- so the answers of a run, behind others and before others
+has_answer : (W : Content) (cs : List Command) (x : Command) (y : Reply) (a d : Steps)
+    → (first more : List Command) → cs ≡ first ++ x ∷ more → reply (run first W) x ≡ y
+    → Has (a ++ (answers W cs ++ d)) x y
+has_answer W cs x y a d first more same replied =
+    let U : Content = after (run first W) x in
+    subst (λ ds. Has (a ++ (answers W ds ++ d)) x y) (sym same) (record {
+      first = a ++ answers W first;
+      next = U;
+      more = answers U more ++ d;
+      is = ap (λ l. a ++ (l ++ d)) (answers_at W first more x)
+          ∙ within a (answers W first) (answers U more) d (Answered x (reply (run first W) x), U)
+          ∙ ap (λ z. (a ++ answers W first) ++ (Answered x z, U) ∷ (answers U more ++ d)) replied;
+    })
+
+has_behind : (a h : Steps) (x : Command) (y : Reply) → Has h x y → Has (a ++ h) x y
+has_behind a h x y it = record {
+  first = a ++ it.first;
+  next = it.next;
+  more = it.more;
+  is = ap (λ l. a ++ l) it.is ∙ sym (append_assoc a it.first ((Answered x y, it.next) ∷ it.more));
+}
+
+-- the history of runs has what one of them answered
+has_in : (V : Content) (c : Option Command) (rs : List Run) (end : Image) (come : Come V c rs end)
+    (x : Command) (y : Reply) → AnsweredIn V c rs end come x y → Has (history V c rs end come) x y
+has_in V c [] end come x y it = absurd it
+has_in V c (r ∷ rs) end (inl w, more) x y (inl (first, rest, same, replied)) =
+    has_answer w.opened w.answered x y (opening c w.opened)
+    (history (run w.answered w.opened) w.undecided rs end more) first rest same replied
+has_in V c (r ∷ rs) end (inl w, more) x y (inr later) =
+    has_behind (opening c w.opened)
+    (answers w.opened w.answered ++ history (run w.answered w.opened) w.undecided rs end more) x y
+    (has_behind (answers w.opened w.answered) (history (run w.answered w.opened) w.undecided rs end more) x y
+    (has_in (run w.answered w.opened) w.undecided rs end more x y later))
+has_in V c (r ∷ rs) end (inr rests, more) x y it = has_in V c rs end more x y it
+
+module _ (lasting : HistoriesLast) (V : Content) (sound : Sound V) where
+  -- of two answers of a history to one request, the first a token, the second is that token
+  one_token : (h g : Steps) (a again : TokenRequest) (token : Bytes) (expires : ℕ) (y : Reply)
+      → IsHistory V (h ++ g) → Has h (command_of a) (Token token expires) → IsSameRequest a again
+      → Has g (command_of again) y → y ≡ Token token expires
+  one_token h g a again token expires y is one same other =
+      let rest : Steps = (Answered (command_of again) y, other.next) ∷ other.more in
+      let split : h ++ g ≡ (h ++ other.first) ++ rest =
+      ap (λ l. h ++ l) other.is ∙ sym (append_assoc h other.first rest) in
+      let both = parts V (h ++ other.first) rest (subst (IsHistory V) split is) in
+      let begun : h ++ other.first
+      ≡ one.first ++ (Answered (command_of a) (Token token expires), one.next) ∷ (one.more ++ other.first) =
+      ap (λ l. l ++ other.first) one.is
+      ∙ append_assoc one.first ((Answered (command_of a) (Token token expires), one.next) ∷ one.more)
+      other.first in
+      both.1.1.0 ∙ (lasting V (h ++ other.first) sound both.0).again one.first (one.more ++ other.first)
+      a again token expires one.next begun same
+
+-- the texts of messages stand where the answers to their commands do
+texts_stand : (t : Task) (W : Content) (cs : List Command) (s : Streams) (Later : Command → Reply → Type 0)
+    → TokensStand (λ x y. (first more : List Command) × (cs ≡ first ++ x ∷ more)
+    × (reply (run first W) x ≡ y)) Later → Tells t W cs s → TellsStanding t W s Later
+texts_stand (task.Change c) W cs s Later stand told = tt
+texts_stand (task.Give rights now) W cs s Later stand told = tt
+texts_stand (task.Sweep who now) W cs s Later stand told = tt
+texts_stand (task.Batch who now digits) W cs s Later stand told = tt
+texts_stand (task.Pipe now digits) W cs s Later stand (xs, are, heard, (fault, sent, went)) = record {
+  exchanges = xs;
+  heard = heard;
+  fault = fault;
+  sent = sent;
+  went = went;
+  stand = λ a again token expires y (first, more, it, is, wanted, replied) same later.
+      stand a again token expires y (
+        commands_of first,
+        commands_of more,
+        are ∙ ap commands_of is ∙ commands-append first (it ∷ more)
+            ∙ ap (λ w. commands_of first ++ (commands_in w ++ commands_of more)) wanted,
+        subst (λ U. reply U (command_of a) ≡ Token token expires) (as_run W first) replied,
+      ) same later;
+}
+texts_stand (task.Serve port connections) W cs s Later stand told = tt
+
+stand_in : HistoriesLast → (V : Content) (c : Option Command) (rs : List Run) (end : Image)
+    (come : Come V c rs end) → Sound V → IsHistory V (history V c rs end come) → Stand V c rs end come
+stand_in lasting V c [] end come sound is = tt
+stand_in lasting V c (r ∷ rs) end (inl w, more) sound is =
+    let W : Content = w.opened in
+    let U : Content = run w.answered W in
+    let own : Steps = opening c W ++ answers W w.answered in
+    let rest : Steps = history U w.undecided rs end more in
+    let all : IsHistory V (own ++ rest) =
+    subst (IsHistory V) (sym (append_assoc (opening c W) (answers W w.answered) rest)) is in
+    let both = parts V own rest all in
+    let ends : last V own ≡ U =
+    last-append V (opening c W) (answers W w.answered)
+    ∙ ap (λ X. last X (answers W w.answered)) (opening_last V W c) ∙ answers_last W w.answered in
+    let stand : TokensStand (Answers w) (AnsweredIn U w.undecided rs end more) =
+    λ a again token expires y (first, after_it, same, replied) is_same later.
+    one_token lasting V sound own rest a again token expires y all
+    (subst (λ h. Has h (command_of a) (Token token expires))
+    (append_nil_in (opening c W) (answers W w.answered))
+    (has_answer W w.answered (command_of a) (Token token expires) (opening c W) [] first after_it same
+    replied))
+    is_same (has_in U w.undecided rs end more (command_of again) y later) in (
+      stand,
+      texts_stand w.task W w.answered r.streams (AnsweredIn U w.undecided rs end more) stand w.tells,
+      stand_in lasting U w.undecided rs end more
+          (subst Sound ends (lasting V own sound both.0).sound)
+          (subst (λ X. IsHistory X rest) ends both.1),
+    )
+stand_in lasting V c (r ∷ rs) end (inr rests, more) sound is = stand_in lasting V c rs end more sound is
+
+pub answers_stand : RunsComeToHistories → HistoriesLast → AnswersStand
+answers_stand come lasting rs end V sound of runs =
+    ∥∥₁_map (come rs end V sound of runs) (λ it.
+    (it.0, stand_in lasting V None rs end it.0 sound it.1))

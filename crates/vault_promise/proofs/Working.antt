@@ -1,0 +1,220 @@
+-- What a task answered, and what it left undecided.
+use Rattle.std.proofs.Common.{◌≡◌, ℕ, ◌+◌, ◌<◌, zero, suc, List, [], ◌∷◌, ◌++◌, length, take, Option, Some}
+use Rattle.std.proofs.Common.{None, Bool, true, false, Result, Ok, Err, inl, inr, refl, ap, subst, ◌∙◌, arith}
+use Rattle.std.proofs.Common.{nat_lt}
+use Rattle.std.specs.Prelude.{IfSome, codes}
+use Rattle.std.specs.FinMap as map
+use Rattle.std.specs.Global.{Vec}
+use Rattle.vault_rights.specs.Named.{Row}
+use Rattle.vault_core.proofs.Branches.{by_option, by_test}
+use Rattle.vault_core.specs.Merchants.{granting, new_merchant, set_from, set_to, withdrawal}
+use Rattle.vault_core.specs.Outcome.{Outcome, plain_refusal}
+use Rattle.vault_core.specs.Proper.{AllProper, IsProper}
+use Rattle.vault_core.specs.Refusals.{no_merchant, too_many_merchants}
+use Rattle.vault_core.specs.Runs.{run}
+use Rattle.vault_core.specs.Table.{reply}
+use Rattle.vault_core.specs.Vault.{Merchant, Vault as Content, merchant_at}
+use Rattle.vault_core.specs.declared.command.Command.{Command}
+use Rattle.vault_core.specs.declared.command.Command.TheVariants.{SetMerchant, Grant, Withdraw, Tokenize}
+use Rattle.vault_core.specs.declared.command.Command.TheVariants.{Detokenize, View, Revoke, Purge, Audit}
+use Rattle.vault_core.specs.declared.limit.TheConstants.{MOST_MERCHANTS}
+use Rattle.vault_http.specs.Passing.{IsBefore, Passage}
+use Rattle.vault_store.specs.declared.vault.Fault.TheVariants.{Memory, Store, Reopen}
+use Rattle.vault_jobs.proofs.Giving.{run_more}
+use Rattle.vault_jobs.specs.Carried.{Carries, reply_of}
+use Rattle.vault_jobs.specs.Doing.{CommandsEnd}
+use Rattle.vault_jobs.specs.Grants.{CarriesAll, grants_at}
+use Rattle.vault_jobs.specs.Streams.{Streams}
+use Rattle.vault_jobs.specs.Tasks.{granted_line}
+use Rattle.vault_jobs.specs.declared.change.Verdict.{Verdict}
+use Rattle.vault_jobs.specs.declared.change.Verdict.TheVariants as verdict
+use Rattle.vault_jobs.specs.declared.stop.Stop.{Stop}
+use Rattle.vault_jobs.specs.declared.stop.Stop.TheVariants as stop
+use Rattle.vault_jobs.specs.declared.task.Outcome.{Outcome as Ended}
+use Rattle.vault_jobs.specs.declared.task.Outcome.TheVariants as outcome
+use Rattle.vault_jobs.specs.declared.task.Task.{Task}
+use Rattle.vault_jobs.specs.declared.task.Task.TheVariants as task
+use Rattle.vault_promise.specs.Runs.{perhaps}
+use Rattle.vault_promise.specs.Told.{AllDone, IsQuiet, Tells}
+use Rattle.vault_app.specs.Values.{IsOwn}
+
+-- From this vault a task answered commands, of which alone it told; and of one more at most it isn't known
+-- whether it is done. Where the task is done, it tells so.
+pub record Works (w : Passage) (V : Content) (t : Task) (IsDone : Type 0) (s : Streams) : Type 0 where
+  pub answered : List Command
+  pub undecided : Option Command
+  pub proper : AllProper answered
+  pub last_proper : IfSome undecided IsProper
+  pub tells : Tells t V answered s
+  pub done : IsDone → AllDone t V answered
+  pub left : w.left_new (run answered V) (perhaps (run answered V) undecided)
+
+-- what is replied by a verdict
+abbrev HasVerdict : Outcome → Type 0
+HasVerdict o = (v : Verdict) × (o.reply ≡ reply_of v)
+
+-- a command of the words is done or refused
+own_verdict : (V : Content) (c : Command) → IsOwn c → (v : Verdict) × (reply V c ≡ reply_of v)
+own_verdict V (SetMerchant m single multi lead now) own = set_verdict (merchant_at V m)
+  where
+    set_verdict : (o : Option Merchant) → HasVerdict (set_from V m single multi lead now o)
+    set_verdict None =
+        by_test HasVerdict (nat_lt (map.len V.merchants) MOST_MERCHANTS)
+        (set_to V m (new_merchant single multi lead now)) (plain_refusal V too_many_merchants)
+        (λ _. (verdict.Done, refl)) (λ _. (verdict.Refused too_many_merchants, refl))
+    set_verdict (Some known) = (verdict.Done, refl)
+own_verdict V (Grant caller m right until now) own =
+    by_option HasVerdict (merchant_at V m) (granting V caller m right until now) (plain_refusal V no_merchant)
+    (λ _ _. (verdict.Done, refl)) (λ _. (verdict.Refused no_merchant, refl))
+own_verdict V (Withdraw caller m right now) own =
+    by_option HasVerdict (merchant_at V m) (withdrawal V caller m right now) (plain_refusal V no_merchant)
+    (λ _ _. (verdict.Done, refl)) (λ _. (verdict.Refused no_merchant, refl))
+own_verdict V (Tokenize caller m request usage pan digits now) own = absurd own
+own_verdict V (Detokenize caller m token now) own = absurd own
+own_verdict V (View caller m token now) own = absurd own
+own_verdict V (Revoke caller m token now) own = absurd own
+own_verdict V (Purge caller m token now) own = absurd own
+own_verdict V (Audit caller m now) own = absurd own
+
+module _ (w : Passage) (V : Content) (b : IsBefore w V) (s : Streams) (unsent : Type 0)
+    (quiet : unsent → IsQuiet s) (F : Type 0) where
+  module _ (c : Command) (own : IsOwn c) (proper : IsProper c) where
+    change_done : (broken : Bool) → Carries c w broken (Ok verdict.Done) → Works w V (task.Change c) F s
+    change_done broken carried = record {
+      answered = c ∷ [];
+      undecided = None;
+      proper = (proper, tt);
+      last_proper = tt;
+      tells = inr (refl, (carried V b).0);
+      done = λ _. (refl, (carried V b).0);
+      left = (carried V b).1.1;
+    }
+
+    pub change_works : (broken : Bool) (r : Result Ended Stop) → (F → r ≡ Ok outcome.Done)
+        → CommandsEnd (Carries c w broken) (codes "done\n") r unsent s.sent_old s.sent_new s.writer
+        → Works w V (task.Change c) F s
+    change_works broken (Ok outcome.Done) fin h = change_done broken h.2
+    change_works broken (Ok (outcome.Refused n)) fin h = record {
+      answered = c ∷ [];
+      undecided = None;
+      proper = (proper, tt);
+      last_proper = tt;
+      tells = inl (quiet h.0);
+      done = λ f. absurd (cc (fin f));
+      left = (h.1 V b).1.1;
+    }
+    change_works broken (Ok outcome.SomeRefused) fin h = absurd h
+    change_works broken (Err (stop.Vault Memory)) fin h = record {
+      answered = [];
+      undecided = None;
+      proper = tt;
+      last_proper = tt;
+      tells = inl (quiet h.0);
+      done = λ f. absurd (cc (fin f));
+      left = (h.1 V b).1;
+    }
+    change_works true (Err (stop.Vault Store)) fin h = record {
+      answered = [];
+      undecided = Some c;
+      proper = tt;
+      last_proper = proper;
+      tells = inl (quiet h.0);
+      done = λ f. absurd (cc (fin f));
+      left = h.1.0 refl V b;
+    }
+    change_works false (Err (stop.Vault Store)) fin h =
+        let v = own_verdict V c own in
+        absurd (h.1.1 refl V b v.0 v.1)
+    change_works broken (Err (stop.Vault Reopen)) fin h = absurd h.1
+    change_works broken (Err (stop.Service f)) fin h = change_done broken h.2
+    change_works broken (Err (stop.Listener f)) fin h = absurd h
+    change_works broken (Err (stop.Rights f)) fin h = absurd h
+    change_works broken (Err (stop.Batch f)) fin h = absurd h
+
+-- the first of proper commands are
+pub first_proper : (k : ℕ) (cs : List Command) → AllProper cs → AllProper (take k cs)
+first_proper zero cs proper = tt
+first_proper (suc k) [] proper = tt
+first_proper (suc k) (c ∷ cs) proper = (proper.0, first_proper k cs proper.1)
+
+-- the command after the first so many
+pub record OneMore (k : ℕ) (cs : List Command) : Type 0 where
+  pub one : Command
+  pub is : take (k + 1) cs ≡ take k cs ++ one ∷ []
+  pub proper : AllProper cs → IsProper one
+
+pub one_more : (k : ℕ) (cs : List Command) → k < length cs → OneMore k cs
+one_more k [] below = absurd (omega (arith, below))
+one_more zero (c ∷ cs) below = record { one = c; is = refl; proper = λ p. p.0 }
+one_more (suc k) (c ∷ cs) below =
+    let it = one_more k cs (omega (arith, below)) in
+    let e : suc k + 1 ≡ suc (k + 1) = omega arith in
+    record {
+      one = it.one;
+      is = ap (λ n. take n (c ∷ cs)) e ∙ ap (λ ds. c ∷ ds) it.is;
+      proper = λ p. it.proper p.1;
+    }
+
+module _ (w : Passage) (V : Content) (b : IsBefore w V) (s : Streams) (unsent : Type 0)
+    (quiet : unsent → IsQuiet s) (F : Type 0) where
+  module _ (rights : Vec Row) (now : ℕ) (proper : AllProper (grants_at now rights.items)) where
+    abbrev cs : List Command
+    cs = grants_at now rights.items
+
+    give_done : (broken : Bool) → CarriesAll cs w broken (Ok verdict.Done)
+        → Works w V (task.Give rights now) F s
+    give_done broken carried = record {
+      answered = cs;
+      undecided = None;
+      proper = proper;
+      last_proper = tt;
+      tells = inr (refl, (carried V b).0);
+      done = λ _. (refl, (carried V b).0);
+      left = (carried V b).1.1;
+    }
+
+    pub give_works : (broken : Bool) (r : Result Ended Stop) → (F → r ≡ Ok outcome.Done)
+        → CommandsEnd (CarriesAll cs w broken) (granted_line (length rights.items)) r unsent s.sent_old
+        s.sent_new s.writer → Works w V (task.Give rights now) F s
+    give_works broken (Ok outcome.Done) fin h = give_done broken h.2
+    give_works broken (Ok (outcome.Refused n)) fin h =
+        let k = h.1.0 in
+        record {
+          answered = take (k + 1) cs;
+          undecided = None;
+          proper = first_proper (k + 1) cs proper;
+          last_proper = tt;
+          tells = inl (quiet h.0);
+          done = λ f. absurd (cc (fin f));
+          left = (h.1.2 V b).1.1;
+        }
+    give_works broken (Ok outcome.SomeRefused) fin h = absurd h
+    give_works broken (Err (stop.Vault Memory)) fin h =
+        let k = h.1.0 in
+        record {
+          answered = take k cs;
+          undecided = None;
+          proper = first_proper k cs proper;
+          last_proper = tt;
+          tells = inl (quiet h.0);
+          done = λ f. absurd (cc (fin f));
+          left = (h.1.2 V b).1.1;
+        }
+    give_works broken (Err (stop.Vault Store)) fin h =
+        let k = h.1.0 in
+        let more = one_more k cs h.1.1 in
+        record {
+          answered = take k cs;
+          undecided = Some more.one;
+          proper = first_proper k cs proper;
+          last_proper = more.proper proper;
+          tells = inl (quiet h.0);
+          done = λ f. absurd (cc (fin f));
+          left = subst (λ W. w.left_new (run (take k cs) V) W)
+              (ap (λ ds. run ds V) more.is ∙ run_more (take k cs) more.one V) (h.1.2 V b).2;
+        }
+    give_works broken (Err (stop.Vault Reopen)) fin h = absurd h.1
+    give_works broken (Err (stop.Service f)) fin h = give_done broken h.2
+    give_works broken (Err (stop.Listener f)) fin h = absurd h
+    give_works broken (Err (stop.Rights f)) fin h = absurd h
+    give_works broken (Err (stop.Batch f)) fin h = absurd h

@@ -1,0 +1,189 @@
+-- Runs of the program over one file, one after the other, each with the bytes that the one before it left or
+-- that a stop may leave of these.
+use Rattle.std.proofs.Common.{inl, inr}
+use Rattle.std.specs.Prelude.{◌≡◌, ◌⊎◌, ℕ, List, [], ◌∷◌, ◌++◌, IfSome, Option, Some, None}
+use Rattle.clap.specs.Words.{Text}
+use Rattle.sqlite.specs.View.{IsClean}
+use Rattle.sqlite_disk.specs.declared.Disk.{Ghosts}
+use Rattle.sqlite_pool.specs.Opening as pool
+use Rattle.sqlite_store.specs.FileStore as files
+use Rattle.sqlite_store.specs.declared.store.FileStore.{FileStore}
+use Rattle.sqlite.specs.Tree.{Trees}
+use Rattle.sqlite_wal.specs.Recovery.{Image}
+use Rattle.vault_core.specs.Proper.{AllProper, IsProper}
+use Rattle.vault_core.specs.Runs.{run}
+use Rattle.vault_core.specs.Sound.{Sound}
+use Rattle.vault_core.specs.Table.{after, reply}
+use Rattle.vault_core.specs.Vault.{Vault as Content, empty_vault}
+use Rattle.vault_core.specs.declared.command.Command.{Command}
+use Rattle.vault_file.specs.Reopened.{KeepsSome}
+use Rattle.vault_recover.specs.Crashed.{AreBlank, KeepsEither, KeepsFirst, MayFind}
+use Rattle.vault_schema.specs.Stands.{lookups_of}
+use Rattle.vault_steps.specs.Entries.{AreSome}
+use Rattle.vault_recover.specs.Histories.{Answered, IsHistory, Reopened, Step, Undecided}
+use Rattle.vault_wire.specs.declared.watched.Watched.{Watched}
+use Rattle.vault_jobs.specs.Streams.{Known, Streams, streams}
+use Rattle.vault_jobs.specs.declared.task.Task.{Task}
+use Rattle.vault_words.specs.declared.jobs.Job.{Job}
+use Rattle.vault_words.specs.declared.jobs.Job.TheVariants.{Trial, Merchant, Grant, Withdraw, Rights, Pipe}
+use Rattle.vault_words.specs.declared.jobs.Job.TheVariants.{Batch, Serve, Sweep, Check, Migrate}
+use Rattle.vault_app.specs.Jobs.{RunsAs}
+use Rattle.vault_app.specs.Plans.{EndsPlanless, IsTaskOf}
+use Rattle.vault_app.specs.Ran.{AsksFor}
+use Rattle.vault_app.specs.declared.ending.Ending.{Ending}
+use Rattle.vault_app.specs.declared.ending.Ending.TheVariants.{Done, NotOpened}
+use Rattle.vault_file.specs.declared.fault.NotOpened.{NotOpened as FileFault}
+use Rattle.vault_promise.specs.Lasting.{Lasts}
+use Rattle.vault_promise.specs.Told.{AllDone, IsQuiet, Tells}
+
+-- a run: the bytes that the files had before it, its words, how it ended, and what came in and went out but
+-- for the line that says how it ended
+pub record Run : Type 0 where
+  pub begins : Image
+  pub words : List Text
+  pub ending : Ending
+  pub streams : Streams
+
+-- the vault, or the one after a command that may be done
+abbrev pub perhaps : Content → Option Command → Content
+perhaps V None = V
+perhaps V (Some c) = after V c
+
+-- Whoever opens files with these bytes finds the vault, or the one after a command that is undecided; or,
+-- where none is, the vault in some schema, as a migration that is stopped leaves it, or no table yet, where
+-- it is the empty one.
+abbrev pub AreOf : Image → Content → Option Command → Type 0
+AreOf image V c = KeepsEither image V (perhaps V c)
+    ⊎ (c ≡ None) × KeepsSome image V
+    ⊎ (c ≡ None) × (V ≡ empty_vault) × ((before : Trees) × AreBlank before × KeepsFirst image before)
+
+-- the bytes hold the vault, in some schema; or no table, where it is the empty one
+abbrev pub Bear : Image → Content → Type 0
+Bear image V = ∥ ((found : Trees) × MayFind image found
+    × (AreSome (lookups_of V) found ⊎ (V ≡ empty_vault) × AreBlank found)) ∥₁
+
+-- The bytes with which the next run begins: some that a stop may leave of the files, as the run left them;
+-- those that they show are among these. A run that was refused the file itself leaves what there was.
+module _ {D : Type 0} {g : Ghosts D} where
+  abbrev pub Leaves : Image → Option (FileStore D g) → Image → Type 0
+  Leaves image (Some left) next = IsClean (files.view left) × (files.state left).may_leave next
+  Leaves image None next = (found : Trees) → MayFind next found → MayFind image found
+
+  -- the bytes that the files show, with which the next run begins where nothing was stopped
+  abbrev pub shown : FileStore D g → Image
+  shown left = pool.image left.pool
+
+-- those that the files of a run show at its end are among them
+abbrev pub ShownIsLeft : {D : Type 0} → Ghosts D → Type 0
+ShownIsLeft {D} g = (image : Image) (left : FileStore D g) → IsClean (files.view left)
+    → Leaves image (Some left) (shown left)
+
+-- the job asks for nothing of the vault in a file: it is a trial, a check or a move to the newest schema
+abbrev pub IsAside : Job → Type 0
+IsAside (Trial j) = Unit {0}
+IsAside (Merchant j) = ⊥
+IsAside (Grant j) = ⊥
+IsAside (Withdraw j) = ⊥
+IsAside (Rights j) = ⊥
+IsAside (Pipe j) = ⊥
+IsAside (Batch j) = ⊥
+IsAside (Serve j) = ⊥
+IsAside (Sweep j) = ⊥
+IsAside (Check j) = Unit {0}
+IsAside (Migrate j) = Unit {0}
+
+-- A run rests: it ended without a plan, by a name, a right, a list, a moment or its words, or with help; or
+-- its file wasn't opened; and nothing went out but help. Or its words ask for a trial, a check or a move.
+abbrev pub Rests : Run → Type 0
+Rests r = EndsPlanless r.words r.ending (IsQuiet r.streams)
+    ⊎ ((why : FileFault) × (r.ending ≡ NotOpened why)) × IsQuiet r.streams
+    ⊎ AsksFor r.words IsAside
+
+-- The words of a run ask for a task. It opened the vault V, or the one after the command that was undecided:
+-- the one that the bytes hold. From there commands were answered, one after the other, and then the store
+-- failed at one more at most. What went out tells of those answered; and so does the end, where it is done.
+pub record Work (V : Content) (c : Option Command) (r : Run) : Type 0 where
+  pub task : Task
+  pub asked : AsksFor r.words (λ job. IsTaskOf job task)
+  pub opened : Content
+  pub is : (opened ≡ V) ⊎ (opened ≡ perhaps V c)
+  pub holds : Bear r.begins opened
+  pub answered : List Command
+  pub undecided : Option Command
+  pub proper : AllProper answered
+  pub last_proper : IfSome undecided IsProper
+  pub tells : Tells task opened answered r.streams
+  pub done : r.ending ≡ Done → AllDone task opened answered
+
+-- it worked so, or it rests
+abbrev pub Comes : Content → Option Command → Run → Type 0
+Comes V c r = Work V c r ⊎ Rests r
+
+-- the vault that it leaves, and the command that it leaves undecided
+abbrev pub kept_by : (V : Content) (c : Option Command) (r : Run) → Comes V c r → Content
+kept_by V c r (inl w) = run w.answered w.opened
+kept_by V c r (inr rests) = V
+
+abbrev pub undecided_by : (V : Content) (c : Option Command) (r : Run) → Comes V c r → Option Command
+undecided_by V c r (inl w) = w.undecided
+undecided_by V c r (inr rests) = c
+
+-- A run up to these bytes: from each sound vault that those before it are of it comes to something, and these
+-- are of what it leaves.
+abbrev pub IsRun : Run → Image → Type 0
+IsRun r next = (V : Content) (c : Option Command) → Sound V → IfSome c IsProper → AreOf r.begins V c
+    → ∥ ((it : Comes V c r) × AreOf next (kept_by V c r it) (undecided_by V c r it)) ∥₁
+
+-- Whatever a run of the program does with files that had these bytes, by the clause `does` of `run`, and with
+-- whatever bytes the next one begins: it is a run up to these.
+abbrev pub EveryRunIsOne : {D R W E : Type 0} (g : Ghosts D) → (R → Known) → (W → Known) → (E → Known)
+    → Type 0
+EveryRunIsOne {D} {R} {W} {E} g remaining contents said =
+    (image next : Image) (left : Option (FileStore D g)) (words : List Text) (status : ℕ) (i i' : Watched R)
+    (o told o' : Watched W) (e e' : Watched E)
+    → (it : RunsAs remaining contents said image left words status i i' o told o' e e')
+    → Leaves image left next → (let s : Streams = streams remaining i i' contents o told in
+    IsRun (record { begins = image; words = words; ending = it.ending; streams = s }) next)
+
+-- the bytes with which the first of runs begins, or those at the end where there is none
+abbrev pub before : List Run → Image → Image
+before [] end = end
+before (r ∷ rs) end = r.begins
+
+-- runs one after the other, each up to the bytes with which the next one begins, and the last up to the end
+abbrev pub Runs : List Run → Image → Type 0
+Runs [] end = Unit {0}
+Runs (r ∷ rs) end = IsRun r (before rs end) × Runs rs end
+
+-- What they come to, each from what the one before it leaves. The last bytes are of what the last one leaves.
+abbrev pub Come : Content → Option Command → List Run → Image → Type 0
+Come V c [] end = AreOf end V c
+Come V c (r ∷ rs) end = (it : Comes V c r) × Come (kept_by V c r it) (undecided_by V c r it) rs end
+
+-- commands are answered from a vault
+abbrev pub answers : Content → List Command → List (Step × Content)
+answers V [] = []
+answers V (c ∷ cs) = (Answered c (reply V c), after V c) ∷ answers (after V c) cs
+
+-- a vault is opened: so it is known of a command that was undecided whether it was done
+abbrev pub opening : Option Command → Content → List (Step × Content)
+opening None W = (Reopened, W) ∷ []
+opening (Some c) W = (Undecided c, W) ∷ (Reopened, W) ∷ []
+
+-- the history of runs: of each that worked the opening, and its answers
+abbrev pub history : (V : Content) (c : Option Command) (rs : List Run) (end : Image) → Come V c rs end
+    → List (Step × Content)
+history V c [] end come = []
+history V c (r ∷ rs) end (inl w, more) =
+    opening c w.opened
+    ++ (answers w.opened w.answered ++ history (run w.answered w.opened) w.undecided rs end more)
+history V c (r ∷ rs) end (inr rests, more) = history V c rs end more
+
+-- Whatever runs there are, from bytes that are of a sound vault: they come to a history, in which each opens
+-- the vault that those before it leave, with their last command or without, where that is undecided; and what
+-- holds of histories holds of it.
+abbrev pub RunsComeToHistories : Type 0
+RunsComeToHistories =
+    (rs : List Run) (end : Image) (V : Content) → Sound V → AreOf (before rs end) V None → Runs rs end
+    → ∥ ((come : Come V None rs end) × IsHistory V (history V None rs end come)
+    × Lasts V (history V None rs end come)) ∥₁

@@ -1,0 +1,80 @@
+-- What an answer of one run means to whoever asks again in a later one.
+use Rattle.std.proofs.Common.{inl, inr}
+use Rattle.std.specs.Prelude.{◌≡◌, ◌⊎◌, ℕ, List, [], ◌∷◌, ◌++◌, Ok, Option, None, take}
+use Rattle.std.specs.Io.KnownBytes.{Appends}
+use Rattle.sqlite_wal.specs.Recovery.{Image}
+use Rattle.vault_core.specs.Keys.{Bytes}
+use Rattle.vault_core.specs.Laws.{IsSameRequest}
+use Rattle.vault_core.specs.Runs.{run}
+use Rattle.vault_core.specs.Sound.{Sound}
+use Rattle.vault_core.specs.Table.{command_of, reply}
+use Rattle.vault_core.specs.Vault.{Vault as Content}
+use Rattle.vault_core.specs.declared.command.Command.{Command}
+use Rattle.vault_core.specs.declared.command.TokenRequest.{TokenRequest}
+use Rattle.vault_core.specs.declared.reply.Reply.{Reply}
+use Rattle.vault_core.specs.declared.reply.Reply.TheVariants.{Token}
+use Rattle.vault_http.specs.Exchanges.{Exchange, last_text, texts, vault_after}
+use Rattle.vault_wire.specs.declared.fault.WireFault.{WireFault}
+use Rattle.vault_jobs.specs.Streams.{Streams}
+use Rattle.vault_jobs.specs.declared.task.Task.{Task}
+use Rattle.vault_jobs.specs.declared.task.Task.TheVariants.{Change, Give, Sweep, Batch, Pipe, Serve}
+use Rattle.vault_promise.specs.Runs.{AreOf, Come, Run, Runs, Work, before}
+use Rattle.vault_promise.specs.Told.{AreHeard}
+
+-- a run that worked answered this command so
+abbrev pub Answers : {V : Content} {c : Option Command} {r : Run} → Work V c r → Command → Reply → Type 0
+Answers w x y = (first more : List Command) × (w.answered ≡ first ++ x ∷ more)
+    × (reply (run first w.opened) x ≡ y)
+
+-- one of these runs did
+abbrev pub AnsweredIn : (V : Content) (c : Option Command) (rs : List Run) (end : Image) → Come V c rs end
+    → Command → Reply → Type 0
+AnsweredIn V c [] end come x y = ⊥
+AnsweredIn V c (r ∷ rs) end (inl w, more) x y =
+    Answers w x y ⊎ AnsweredIn (run w.answered w.opened) w.undecided rs end more x y
+AnsweredIn V c (r ∷ rs) end (inr rests, more) x y = AnsweredIn V c rs end more x y
+
+-- A request that a run answered a token, if a later run answers it again, with whatever digits and at
+-- whatever moment: the later answer is that token.
+abbrev pub TokensStand : (Command → Reply → Type 0) → (Command → Reply → Type 0) → Type 0
+TokensStand Answered Later = (a again : TokenRequest) (token : Bytes) (expires : ℕ) (y : Reply)
+    → Answered (command_of a) (Token token expires) → IsSameRequest a again → Later (command_of again) y
+    → y ≡ Token token expires
+
+-- What went out of messages stands. It is the texts that answer those that were read, up to some byte. If one
+-- of these texts answers a request a token, and a later run answers the request again, that answer is the
+-- token too.
+pub record TextsStand (now : Option ℕ) (digits : Option (List ℕ)) (W : Content) (s : Streams)
+    (Later : Command → Reply → Type 0) : Type 0 where
+  pub exchanges : List Exchange
+  pub heard : AreHeard now digits s exchanges
+  pub fault : Option WireFault
+  pub sent : ℕ
+  pub went : Appends s.sent_old s.sent_new (take sent (texts W exchanges ++ last_text fault))
+  pub stand : TokensStand
+      (λ x y. (first more : List Exchange) × (it : Exchange) × (exchanges ≡ first ++ it ∷ more)
+      × (it.wanted ≡ Ok x) × (reply (vault_after W first) x ≡ y)) Later
+
+-- so of a run that answered the messages of its input
+abbrev pub TellsStanding : Task → Content → Streams → (Command → Reply → Type 0) → Type 0
+TellsStanding (Change c) W s Later = Unit {0}
+TellsStanding (Give rights now) W s Later = Unit {0}
+TellsStanding (Sweep who now) W s Later = Unit {0}
+TellsStanding (Batch who now digits) W s Later = Unit {0}
+TellsStanding (Pipe now digits) W s Later = TextsStand now digits W s Later
+TellsStanding (Serve port connections) W s Later = Unit {0}
+
+-- and of each of the runs, with those after it
+abbrev pub Stand : (V : Content) (c : Option Command) (rs : List Run) (end : Image) → Come V c rs end → Type 0
+Stand V c [] end come = Unit {0}
+Stand V c (r ∷ rs) end (inl w, more) =
+    TokensStand (Answers w) (AnsweredIn (run w.answered w.opened) w.undecided rs end more)
+    × TellsStanding w.task w.opened r.streams (AnsweredIn (run w.answered w.opened) w.undecided rs end more)
+    × Stand (run w.answered w.opened) w.undecided rs end more
+Stand V c (r ∷ rs) end (inr rests, more) = Stand V c rs end more
+
+-- Whatever runs there are, from bytes that are of a sound vault: each opens the vault that those before it
+-- leave, and what it answers stands in those after it.
+abbrev pub AnswersStand : Type 0
+AnswersStand = (rs : List Run) (end : Image) (V : Content) → Sound V → AreOf (before rs end) V None
+    → Runs rs end → ∥ ((come : Come V None rs end) × Stand V None rs end come) ∥₁

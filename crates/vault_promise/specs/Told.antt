@@ -1,0 +1,85 @@
+-- What goes out of a task tells of commands that were answered.
+use Rattle.std.specs.Prelude.{◌≡◌, ◌⊎◌, ◌≤◌, ℕ, List, [], ◌∷◌, ◌++◌, All, Option, length, take}
+use Rattle.std.specs.Io.KnownBytes.{Appends, Consumes}
+use Rattle.vault_core.specs.Keys.{Bytes}
+use Rattle.vault_core.specs.Table.{reply}
+use Rattle.vault_core.specs.Vault.{Vault as Content}
+use Rattle.vault_core.specs.declared.command.Command.{Command}
+use Rattle.vault_core.specs.declared.reply.Reply.TheVariants.{Done}
+use Rattle.vault_http.specs.Exchanges.{AskFirst, Exchange, Pair, commands_of, last_text, shown, texts}
+use Rattle.vault_http.specs.Exchanges.{up_to_close}
+use Rattle.vault_http.specs.Served.{Begins}
+use Rattle.vault_live.specs.Live.{IsPairOf}
+use Rattle.vault_wire.specs.Messages.{Request}
+use Rattle.vault_wire.specs.declared.fault.WireFault.{WireFault}
+use Rattle.vault_batch.specs.Asking.{Asked, Asks}
+use Rattle.vault_batch.specs.Batched.{pairs_of, rows_of}
+use Rattle.vault_batch.specs.Lines.{first_line, lines}
+use Rattle.vault_batch.specs.Lines as rows
+use Rattle.vault_batch.specs.Rows.{AreRecordsOf, BeginRecordsOf, Fields, records_with}
+use Rattle.vault_listen.specs.Service.{IsConnection, all_of}
+use Rattle.vault_jobs.specs.Grants.{AreDone, grants_at}
+use Rattle.vault_jobs.specs.Streams.{Streams}
+use Rattle.vault_jobs.specs.Sweeps.{AreSwept, left_dead, purges_at}
+use Rattle.vault_jobs.specs.declared.task.Task.{Task}
+use Rattle.vault_jobs.specs.declared.task.Task.TheVariants.{Change, Give, Sweep, Batch, Pipe, Serve}
+
+-- nothing went out
+abbrev pub IsQuiet : Streams → Type 0
+IsQuiet s = Appends s.sent_old s.sent_new []
+
+-- The exchanges are of what came in: the bytes that were read begin with messages, and of these, up to the
+-- first that closes the connection, the first are asked in the exchanges, and one more at most that isn't
+-- answered; each with a pair of its own, which has this moment and these digits, where they are fixed.
+pub record AreHeard (now : Option ℕ) (digits : Option (List ℕ)) (s : Streams)
+    (exchanges : List Exchange) : Type 0 where
+  pub bytes : List ℕ
+  pub messages : List Request
+  pub pairs : List Pair
+  pub more : List Exchange
+  pub read : Consumes s.left_old s.left_new bytes
+  pub begins : Begins bytes messages
+  pub fixed : All (IsPairOf now digits) pairs
+  pub asked : AskFirst (up_to_close (shown messages)) pairs (exchanges ++ more)
+  pub few : length more ≤ 1
+
+-- the records that came in are these, or begin with these
+abbrev pub CameIn : Streams → List Fields → Type 0
+CameIn s records = AreRecordsOf s.left_old records ⊎ BeginRecordsOf s.left_old records
+
+-- The rows are of what came in: where there are some, it begins with the header and these rows. Each has a
+-- pair of its own, which has this moment and these digits, where they are fixed.
+pub record AreRead (now : Option ℕ) (digits : Option (List ℕ)) (s : Streams)
+    (rows : List Asked) : Type 0 where
+  pub records : (rows ≡ []) ⊎ ((more : List Fields) × CameIn s (records_with (rows_of rows) ++ more))
+  pub fixed : All (IsPairOf now digits) (pairs_of rows)
+
+-- what a task tells by being done: its command is done, or all its rights are given, or no dead token is left
+abbrev pub AllDone : Task → Content → List Command → Type 0
+AllDone (Change c) V cs = (cs ≡ c ∷ []) × (reply V c ≡ Done)
+AllDone (Give rights now) V cs = (cs ≡ grants_at now rights.items) × AreDone (length cs) cs V
+AllDone (Sweep who now) V cs =
+    (tokens : List Bytes) × (cs ≡ purges_at who now tokens) × (left_dead who now tokens V ≡ [])
+AllDone (Batch who now digits) V cs = Unit {0}
+AllDone (Pipe now digits) V cs = Unit {0}
+AllDone (Serve port connections) V cs = Unit {0}
+
+-- Commands were answered from the vault V, one after the other, and what went out tells of these alone. A
+-- line of `done`, of rights or of numbers that are purged, or a part of it, says that all are done; lines of
+-- rows and texts of messages, which were read, are those that answer them, or the first bytes of these. Of
+-- sockets it isn't told what went out, only which messages of each connection were answered, and of the last
+-- one a beginning.
+abbrev pub Tells : Task → Content → List Command → Streams → Type 0
+Tells (Change c) V cs s = IsQuiet s ⊎ (cs ≡ c ∷ []) × (reply V c ≡ Done)
+Tells (Give rights now) V cs s =
+    IsQuiet s ⊎ (cs ≡ grants_at now rights.items) × AreDone (length cs) cs V
+Tells (Sweep who now) V cs s = (tokens : List Bytes) × (cs ≡ purges_at who now tokens)
+    × AreSwept who now tokens V × (IsQuiet s ⊎ (left_dead who now tokens V ≡ []))
+Tells (Batch who now digits) V cs s = (asked : List Asked) × All (Asks who) asked
+    × (cs ≡ rows.commands_of asked) × AreRead now digits s asked
+    × ((sent : ℕ) × Appends s.sent_old s.sent_new (take sent (first_line ++ lines V asked)))
+Tells (Pipe now digits) V cs s = (xs : List Exchange) × (cs ≡ commands_of xs) × AreHeard now digits s xs
+    × ((fault : Option WireFault) × (sent : ℕ)
+    × Appends s.sent_old s.sent_new (take sent (texts V xs ++ last_text fault)))
+Tells (Serve port connections) V cs s = (xss : List (List Exchange)) × (last rest : List Exchange)
+    × All IsConnection xss × IsConnection (last ++ rest) × (cs ≡ commands_of (all_of xss ++ last))
