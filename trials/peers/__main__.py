@@ -7,8 +7,8 @@ import threading
 import time
 
 from peers import slow
-from peers.shop import Service, asked, made, token_of
-from shared.runs import run
+from peers.shop import Service, asked, expires_of, made, token_of
+from shared.runs import must, run
 from shared.tally import Tally, unlike
 
 # A peer, and after how many seconds another one has its answer, at least and at most.
@@ -16,6 +16,7 @@ PEERS = (
     (slow.a_byte_a_second, 4, 6),
     (slow.idle, 4, 6),
     (slow.takes_a_byte_a_second, 4, 6),
+    (slow.says_close_and_stays, 4, 6),
     (slow.a_message_each_four_seconds, 55, 65),
 )
 
@@ -74,6 +75,25 @@ def tokens(program, tally):
     tally.judge("and four of two more vaults", unlike(len(set(first) - {None}), 4))
 
 
+def moments(program, tally):
+    """Each message of a connection has the clock's own second, and a sweep the second at which it comes."""
+    made(program, "moments.db", life=1)
+    ends = []
+    with Service(program, "moments.db") as service, service.connect() as peer:
+        for request in (1, 2):
+            before = int(time.time())
+            peer.sendall(asked(request))
+            end = expires_of(peer.recv(65536))
+            ends.append(end)
+            late = end is None or not before + 1 <= end <= int(time.time()) + 1
+            tally.judge(f"message {request} at the clock's second", f"{end}" if late else "")
+            time.sleep(2)
+    tally.judge("two messages, two moments", "" if ends[1] > ends[0] else f"{ends}")
+    must(program, "grant", "moments.db", "back", "shop1", "purge")
+    swept = run(program, "sweep", "moments.db", "back", "shop1").out
+    tally.judge("a sweep at the clock's second", unlike(swept, b"purged 2\n"))
+
+
 def listening_at(port):
     """The local addresses at which somebody listens on a port, as the kernel writes them."""
     found = set()
@@ -119,7 +139,7 @@ def ended(program, tally):
 
 def main(program):
     tally = Tally()
-    for part in (patience, tokens, address, unchecked, ended):
+    for part in (patience, tokens, moments, address, unchecked, ended):
         part(program, tally)
     threads = [threading.Thread(target=behind, args=(program, tally, *pair)) for pair in PEERS]
     for thread in threads:

@@ -13,9 +13,9 @@ NUMBER = "4111111111111111"
 SEGMENT = 536
 
 
-def made(program, file):
-    """A vault with a shop whose till may ask for tokens."""
-    must(program, "merchant", file, "shop1", 86400, 0)
+def made(program, file, life=86400):
+    """A vault with a shop whose till may ask for tokens, which live so many seconds."""
+    must(program, "merchant", file, "shop1", life, 0)
     must(program, "grant", file, "till-1", "shop1", "tokenize")
 
 
@@ -69,9 +69,17 @@ class Service:
         return time.monotonic() - begun, found
 
 
+def given(answer):
+    """The body of an answer that gives a token; else it is empty."""
+    head, _, body = answer.partition(b"\r\n\r\n")
+    return json.loads(body) if head.startswith(b"HTTP/1.1 200 OK") else {}
+
+
 def token_of(answer):
     """The token of an answer that gives one."""
-    head, _, body = answer.partition(b"\r\n\r\n")
-    if not head.startswith(b"HTTP/1.1 200 OK"):
-        return None
-    return json.loads(body)["token"]
+    return given(answer).get("token")
+
+
+def expires_of(answer):
+    """The end of the token of an answer that gives one."""
+    return given(answer).get("expires")

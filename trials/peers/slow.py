@@ -41,6 +41,22 @@ def idle(service, stop):
         until_ended(wait, stop)
 
 
+def says_close_and_stays(service, stop):
+    """Sends a message that closes the connection, takes its answer, and stays."""
+    with service.connect() as peer:
+        peer.settimeout(0.2)
+        peer.sendall(asked(1).replace(b"\r\n\r\n", b"\r\nConnection: close\r\n\r\n", 1))
+
+        def stay():
+            try:
+                peer.recv(65536)
+            except TimeoutError:
+                pass
+            stop.wait(0.1)
+
+        until_ended(stay, stop)
+
+
 def a_message_each_four_seconds(service, stop):
     """Sends one message after the other, and takes each answer."""
     numbers = iter(range(1000, 2000))
