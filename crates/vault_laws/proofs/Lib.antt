@@ -1,2 +1,6 @@
+pub mod Apart
+pub mod Asking
 pub mod Faults
+pub mod Giving
+pub mod Telling
 pub mod Wanting

@@ -2,6 +2,8 @@
 #![tactic(auto)]
 
 ghost use Rattle.vault_laws.specs.Agreement.{ExchangesAgree, FaultsAgree, WantsAgree};
+ghost use Rattle.vault_laws.specs.Apart.{TextsAreIsolated};
+ghost use Rattle.vault_laws.specs.Giving.{OnlyDueGoesOut, OnlyDueIsGiven, TextsTellNumbers};
 
 /// Two readings of the same bytes have the same fault; but where no whole head stands, the one may have none,
 /// 50 or 51, and the other another one of these.
@@ -18,4 +20,27 @@ pub fn wants_agree()
 /// function of the vault, the messages and the pairs.
 pub fn exchanges_agree()
     ensures { ExchangesAgree }
+{}
+
+/// A card number is answered to a Detokenize alone, by a caller whose right to numbers lasts at the command's
+/// moment, of a token that is live then and stands for that number.
+pub fn only_due_is_given()
+    ensures { OnlyDueIsGiven }
+{}
+
+/// A text that goes out and reads as an answer with a card number is the answer of a reply with that number:
+/// no other reply's text reads as one.
+pub fn texts_tell_numbers()
+    ensures { TextsTellNumbers }
+{}
+
+/// Where the text that answers a message reads as an answer with a card number, the message asks for the
+/// number of a token, and at its moment its caller has the right to it and the token is live.
+pub fn only_due_goes_out()
+    ensures { OnlyDueGoesOut }
+{}
+
+/// Vaults that agree on a merchant's rows and on a caller's records send that caller the same texts there.
+pub fn texts_are_isolated()
+    ensures { TextsAreIsolated }
 {}

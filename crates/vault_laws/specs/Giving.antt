@@ -1,0 +1,75 @@
+-- A card number goes to nobody but those that it is due to.
+use Rattle.std.specs.Prelude.{◌≡◌, ℕ, List, Bool, true, Some, None, codes}
+use Rattle.vault_core.specs.Keys.{Bytes}
+use Rattle.vault_core.specs.Table.{reply}
+use Rattle.vault_core.specs.Vault.{Vault as Content, entry_at, entitled, is_live}
+use Rattle.vault_core.specs.Window.{moment_at}
+use Rattle.vault_core.specs.declared.command.Command.{Command}
+use Rattle.vault_core.specs.declared.command.Command.TheVariants as command
+use Rattle.vault_core.specs.declared.reply.Reply.TheVariants.{Number}
+use Rattle.vault_core.specs.declared.right.Right.TheVariants as right
+use Rattle.vault_core.specs.declared.row.Entry.{Entry}
+use Rattle.vault_wire.specs.Answer.{answer_bytes}
+use Rattle.vault_wire.specs.Fields.{sole_value}
+use Rattle.vault_wire.specs.Parts.{Parts}
+use Rattle.vault_routes.specs.Reply.{body_text}
+use Rattle.vault_routes.specs.Route.{route_of}
+use Rattle.vault_routes.specs.declared.table.Place.TheVariants as place
+use Rattle.vault_http.specs.Exchanges.{Asks, Exchange, Pair, reply_to, text_at}
+
+-- At a moment a card number is due to a caller that asks for the number of a merchant's token: its right to
+-- numbers there lasts, and the token is live and stands for that number.
+pub record IsDue (V : Content) (caller merchant token : Bytes) (now : ℕ) (number : Bytes) : Type 0 where
+  pub right : entitled V caller merchant right.Detokenize (moment_at V merchant now) ≡ true
+  pub entry : Entry
+  pub held : entry_at V merchant token ≡ Some entry
+  pub live : is_live entry (moment_at V merchant now) ≡ true
+  pub stands : entry.number ≡ Some number
+
+-- the command asks for the number of a token, and this number is due to its caller
+pub record AsksForDue (V : Content) (c : Command) (number : Bytes) : Type 0 where
+  pub caller : Bytes
+  pub merchant : Bytes
+  pub token : Bytes
+  pub now : ℕ
+  pub asks : c ≡ command.Detokenize caller merchant token now
+  pub due : IsDue V caller merchant token now number
+
+-- A command that is answered with a card number asks for it, and the number is due to its caller; the vault
+-- is any, sound or not.
+abbrev pub OnlyDueIsGiven : Type 0
+OnlyDueIsGiven =
+    (V : Content) (c : Command) (number : Bytes) → reply V c ≡ Number number → AsksForDue V c number
+
+-- the text of an answer with a card number, after which the connection closes or not
+abbrev pub number_text : Bytes → Bool → List ℕ
+number_text number close = answer_bytes 200 None (body_text (Number number)) close
+
+-- A text that goes out and reads as an answer with a card number is the answer of a reply with that number:
+-- no other reply's text reads as one.
+abbrev pub TextsTellNumbers : Type 0
+TextsTellNumbers =
+    (V : Content) (x : Exchange) (number : Bytes) (close : Bool)
+    → text_at V x ≡ number_text number close → reply_to V x.wanted ≡ Number number
+
+-- by its target, its method and its one caller field a message asks for the number of a token for a caller
+pub record AsksForNumber (p : Parts) (caller merchant token : Bytes) : Type 0 where
+  pub target : route_of p.target
+      ≡ Some (record { place = place.Number; merchant = merchant; token = token })
+  pub method : p.method ≡ codes "POST"
+  pub caller_field : sole_value (codes "x-vault-caller") p.pairs ≡ Some caller
+
+-- the message asks for the number of a token, and this number is due to the caller that its field names
+pub record IsAskedWhereDue (V : Content) (p : Parts) (now : ℕ) (number : Bytes) : Type 0 where
+  pub caller : Bytes
+  pub merchant : Bytes
+  pub token : Bytes
+  pub asks : AsksForNumber p caller merchant token
+  pub due : IsDue V caller merchant token now number
+
+-- Where the text that answers a message reads as an answer with a card number, the message asks for the
+-- number of a token, and the number is due to its caller at its moment.
+abbrev pub OnlyDueGoesOut : Type 0
+OnlyDueGoesOut =
+    (V : Content) (p : Parts) (pair : Pair) (x : Exchange) (number : Bytes) (close : Bool)
+    → Asks p pair x → text_at V x ≡ number_text number close → IsAskedWhereDue V p pair.0 number
