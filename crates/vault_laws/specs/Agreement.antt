@@ -1,8 +1,11 @@
 -- Two readings of one connection agree.
-use Rattle.std.specs.Prelude.{◌≡◌, ◌⊎◌, ℕ, List, Option, Some, None}
+use Rattle.std.specs.Prelude.{◌≡◌, ◌⊎◌, ℕ, List, ◌++◌, All, Option, Some, None}
+use Rattle.std.specs.List.{flat_map}
+use Rattle.httparse.specs.Grammar.{EndsInTarget, NeverHasRequest, RequestHead, ReadsRequest}
 use Rattle.vault_core.specs.Vault.{Vault as Content}
 use Rattle.vault_core.specs.declared.command.Command.{Command}
-use Rattle.vault_wire.specs.Messages.{Reads, Request}
+use Rattle.vault_wire.specs.Messages.{Ends, HasNoMessage, HasTooManyFields, IsMessage, IsTooLong, Reads}
+use Rattle.vault_wire.specs.Messages.{Request, WaitsForHead, print_message}
 use Rattle.vault_wire.specs.Parts.{Parts}
 use Rattle.vault_wire.specs.declared.fault.WireFault.{WireFault}
 use Rattle.vault_wire.specs.declared.fault.WireFault.TheVariants as fault
@@ -18,6 +21,40 @@ IsOfHead e = (e ≡ None) ⊎ ((e ≡ Some fault.BadHead) ⊎ (e ≡ Some fault.
 abbrev pub FaultsAgree : Type 0
 FaultsAgree = (bytes : List ℕ) (ms ns : List Request) (d e : Option WireFault)
     → Reads bytes ms d → Reads bytes ns e → (d ≡ e) ⊎ (IsOfHead d × IsOfHead e)
+
+-- these bytes come after all whole messages of the bytes
+pub record IsRest (bytes rest : List ℕ) : Type 0 where
+  pub messages : List Request
+  pub whole : bytes ≡ flat_map print_message messages ++ rest
+  pub each : All IsMessage messages
+  pub none : HasNoMessage rest
+
+-- Bytes that two of none, 50 and 51 fit: no bytes can follow that make a head, and they end within a target,
+-- or there are more than a head may have, or a 33rd field has come; or some can follow that make a head, and
+-- a 33rd field has come.
+abbrev pub IsTwofold : List ℕ → Type 0
+IsTwofold rest =
+    (NeverHasRequest rest × (EndsInTarget rest ⊎ (IsTooLong rest ⊎ HasTooManyFields rest)))
+    ⊎ (WaitsForHead rest × HasTooManyFields rest)
+
+-- Two readings of the same bytes have the same fault; but where the bytes after the whole messages are
+-- twofold, each may have another of none, 50 and 51.
+abbrev pub FaultsDifferOnlyThere : Type 0
+FaultsDifferOnlyThere =
+    (bytes : List ℕ) (ms ns : List Request) (d e : Option WireFault) → Reads bytes ms d → Reads bytes ns e
+    → (d ≡ e) ⊎ ((rest : List ℕ) × IsRest bytes rest × IsTwofold rest × IsOfHead d × IsOfHead e)
+
+-- of twofold bytes there are two readings that differ
+abbrev pub FaultsDifferThere : Type 0
+FaultsDifferThere =
+    (rest : List ℕ) → IsTwofold rest
+    → (d : Option WireFault) × (e : Option WireFault) × (¬ (d ≡ e)) × Ends rest d × Ends rest e
+
+-- where a whole head comes after the whole messages, of whatever size, two readings have the same fault
+abbrev pub WholeHeadsAgree : Type 0
+WholeHeadsAgree =
+    (bytes rest after : List ℕ) (h : RequestHead) (ms ns : List Request) (d e : Option WireFault)
+    → IsRest bytes rest → ReadsRequest rest h after → Reads bytes ms d → Reads bytes ns e → d ≡ e
 
 -- what a message wants at a moment, with drawn digits, is one thing
 abbrev pub WantsAgree : Type 0

@@ -1,7 +1,8 @@
 //! Laws of what is read and answered of a connection, over the definitions of several crates.
 #![tactic(auto)]
 
-ghost use Rattle.vault_laws.specs.Agreement.{ExchangesAgree, FaultsAgree, WantsAgree};
+ghost use Rattle.vault_laws.specs.Agreement.{ExchangesAgree, FaultsAgree, FaultsDifferOnlyThere};
+ghost use Rattle.vault_laws.specs.Agreement.{FaultsDifferThere, WantsAgree, WholeHeadsAgree};
 ghost use Rattle.vault_laws.specs.Apart.{TextsAreIsolated};
 ghost use Rattle.vault_laws.specs.Giving.{OnlyDueGoesOut, OnlyDueIsGiven, TextsTellNumbers};
 
@@ -9,6 +10,23 @@ ghost use Rattle.vault_laws.specs.Giving.{OnlyDueGoesOut, OnlyDueIsGiven, TextsT
 /// 50 or 51, and the other another one of these.
 pub fn faults_agree()
     ensures { FaultsAgree }
+{}
+
+/// Two readings of the same bytes have the same fault; but where no bytes can follow that make a head, and
+/// these end within a target or are past a limit of heads, or where some can follow and a 33rd field has come, each
+/// may have another of none, 50 and 51.
+pub fn faults_differ_only_there()
+    ensures { FaultsDifferOnlyThere }
+{}
+
+/// There two readings differ.
+pub fn faults_differ_there()
+    ensures { FaultsDifferThere }
+{}
+
+/// Where a whole head comes after the whole messages, two readings of the same bytes have the same fault.
+pub fn whole_heads_agree()
+    ensures { WholeHeadsAgree }
 {}
 
 /// What a message wants at a moment, with drawn digits, is one thing: a command, or the number of a refusal.
