@@ -1,3 +1,4 @@
 pub mod Agreement
 pub mod Apart
 pub mod Giving
+pub mod Service

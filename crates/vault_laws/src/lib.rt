@@ -5,6 +5,11 @@ ghost use Rattle.vault_laws.specs.Agreement.{ExchangesAgree, FaultsAgree, Faults
 ghost use Rattle.vault_laws.specs.Agreement.{FaultsDifferThere, WantsAgree, WholeHeadsAgree};
 ghost use Rattle.vault_laws.specs.Apart.{TextsAreIsolated};
 ghost use Rattle.vault_laws.specs.Giving.{OnlyDueGoesOut, OnlyDueIsGiven, TextsTellNumbers};
+ghost use Rattle.vault_laws.specs.Service.{EachPassage, ServicesAgree};
+
+use std::io::Write;
+use vault_core::source::Source;
+use vault_store::tables::Tables;
 
 /// Two readings of the same bytes have the same fault; but where no whole head stands, the one may have none,
 /// 50 or 51, and the other another one of these.
@@ -13,8 +18,8 @@ pub fn faults_agree()
 {}
 
 /// Two readings of the same bytes have the same fault; but where no bytes can follow that make a head, and
-/// these end within a target or are past a limit of heads, or where some can follow and a 33rd field has come, each
-/// may have another of none, 50 and 51.
+/// these end within a target or are past a limit of heads, or where some can follow and a 33rd field has
+/// come, each may have another of none, 50 and 51.
 pub fn faults_differ_only_there()
     ensures { FaultsDifferOnlyThere }
 {}
@@ -61,4 +66,12 @@ pub fn only_due_goes_out()
 /// Vaults that agree on a merchant's rows and on a caller's records send that caller the same texts there.
 pub fn texts_are_isolated()
     ensures { TextsAreIsolated }
+{}
+
+/// Two services, over sources, writers and tables of any kinds, that served the same bytes to the end, with
+/// the same pairs, from the same vault, sent the same bytes, told the same and keep the same vault; but where a
+/// beginning of the bytes has a rest that two of none, 50 and 51 fit, their last answers may differ in that.
+pub fn services_agree<W: Write, T: Tables, S: Source, X: Write, U: Tables, P: Source>()
+    ensures { EachPassage S.given W.contents T.is_honest T.holds T.leaves
+        (λ w. EachPassage P.given X.contents U.is_honest U.holds U.leaves (λ v. ServicesAgree w v)) }
 {}

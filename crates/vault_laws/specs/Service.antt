@@ -1,0 +1,64 @@
+-- What a service does with a connection is one function of the vault, the bytes and the pairs.
+use Rattle.std.specs.Prelude.{◌≡◌, ◌⊎◌, ℕ, List, ◌++◌, Option, Some}
+use Rattle.vault_core.specs.Vault.{Vault as Content}
+use Rattle.vault_store.specs.declared.vault.Vault.{Vault}
+use Rattle.vault_wire.specs.declared.watched.Watched.{Watched}
+use Rattle.vault_http.specs.Exchanges.{Pair, last_text}
+use Rattle.vault_http.specs.Passing.{IsBefore, Keeps, Passage, Sends, Takes, passing}
+use Rattle.vault_http.specs.Served.{IsServed}
+use Rattle.vault_http.specs.declared.served.Served.{Served}
+use Rattle.vault_laws.specs.Agreement.{IsOfHead, IsRest, IsTwofold}
+
+-- a service served these bytes, all that a reader had, to the end, with these pairs, from this vault
+pub record Serves (bytes : List ℕ) (pairs : List Pair) (V : Content) (w : Passage) (served : Served)
+    : Type 0 where
+  pub left : Option (List ℕ)
+  pub does : IsServed (Some bytes) left w served
+  pub taken : Takes w pairs
+  pub before : IsBefore w V
+
+-- what comes in a beginning of the bytes after its whole messages is twofold
+pub record HasTwofold (bytes : List ℕ) : Type 0 where
+  pub front : List ℕ
+  pub later : List ℕ
+  pub rest : List ℕ
+  pub whole : bytes ≡ front ++ later
+  pub after : IsRest front rest
+  pub twofold : IsTwofold rest
+
+-- two services sent the same bytes, told the same and keep the same vault
+pub record DidTheSame (w w' : Passage) (served served' : Served) : Type 0 where
+  pub out : List ℕ
+  pub sent : Sends w out
+  pub sent' : Sends w' out
+  pub told : served ≡ served'
+  pub after : Content
+  pub kept : Keeps w after
+  pub kept' : Keeps w' after
+
+-- the same, but for the last answer: each may have answered another of no fault, 50 and 51
+pub record DidTheSameTillFault (w w' : Passage) (served served' : Served) : Type 0 where
+  pub out : List ℕ
+  pub sent : Sends w (out ++ last_text served.fault)
+  pub sent' : Sends w' (out ++ last_text served'.fault)
+  pub messages : served.messages ≡ served'.messages
+  pub fault : IsOfHead served.fault
+  pub fault' : IsOfHead served'.fault
+  pub after : Content
+  pub kept : Keeps w after
+  pub kept' : Keeps w' after
+
+-- Two services that served these bytes to the end, with these pairs, from this vault, did the same, to the
+-- byte; but where a beginning of the bytes has a twofold rest, their last answers may differ.
+abbrev pub ServicesAgree : Passage → Passage → Type 0
+ServicesAgree w w' =
+    (bytes : List ℕ) (pairs : List Pair) (V : Content) (served served' : Served)
+    → Serves bytes pairs V w served → Serves bytes pairs V w' served'
+    → DidTheSame w w' served served' ⊎ (HasTwofold bytes × DidTheSameTillFault w w' served served')
+
+-- this holds of each passage of a kind of source, of writer and of tables
+abbrev pub EachPassage : {S W T : Type 0} → (S → List Pair) → (W → Option (List ℕ)) → (T → Type 0)
+    → (T → Content → Type 0) → (T → Content → Content → Type 0) → (Passage → Type 0) → Type 0
+EachPassage {S} {W} {T} given contents honest holds leaves P =
+    (s s' : S) (w w' : Watched W) (v v' : Vault T)
+    → P (passing given s s' contents w w' honest holds leaves v v')
