@@ -3,6 +3,7 @@ pub mod Asking
 pub mod Faults
 pub mod Giving
 pub mod Service
+pub mod Stopped
 pub mod Streams
 pub mod Telling
 pub mod Wanting

@@ -1,11 +1,13 @@
 -- What a service does with a connection is one function of the vault, the bytes and the pairs.
-use Rattle.std.specs.Prelude.{◌≡◌, ◌⊎◌, ℕ, List, ◌++◌, Option, Some}
+use Rattle.std.specs.Prelude.{◌≡◌, ◌⊎◌, ℕ, List, ◌++◌, take, Option, Some}
 use Rattle.vault_core.specs.Vault.{Vault as Content}
 use Rattle.vault_store.specs.declared.vault.Vault.{Vault}
+use Rattle.vault_wire.specs.declared.fault.WireFault.{WireFault}
 use Rattle.vault_wire.specs.declared.watched.Watched.{Watched}
-use Rattle.vault_http.specs.Exchanges.{Pair, last_text}
+use Rattle.vault_http.specs.Exchanges.{Pair, fault_text, last_text}
 use Rattle.vault_http.specs.Passing.{IsBefore, Keeps, Passage, Sends, Takes, passing}
-use Rattle.vault_http.specs.Served.{IsServed}
+use Rattle.vault_http.specs.Served.{IsServed, IsStopped}
+use Rattle.vault_http.specs.declared.fault.ServeFault.{ServeFault}
 use Rattle.vault_http.specs.declared.served.Served.{Served}
 use Rattle.vault_laws.specs.Agreement.{IsOfHead, IsRest, IsTwofold}
 
@@ -55,6 +57,40 @@ ServicesAgree w w' =
     (bytes : List ℕ) (pairs : List Pair) (V : Content) (served served' : Served)
     → Serves bytes pairs V w served → Serves bytes pairs V w' served'
     → DidTheSame w w' served served' ⊎ (HasTwofold bytes × DidTheSameTillFault w w' served served')
+
+-- a service of these bytes, with these pairs, from this vault, stopped by a fault
+pub record StopsServing (bytes : List ℕ) (pairs : List Pair) (V : Content) (w : Passage) (e : ServeFault)
+    : Type 0 where
+  pub left : Option (List ℕ)
+  pub does : IsStopped (Some bytes) left w e
+  pub taken : Takes w pairs
+  pub before : IsBefore w V
+
+-- what the second one sent is a beginning of what the first one sent
+pub record SentBeginning (w w' : Passage) : Type 0 where
+  pub out : List ℕ
+  pub later : List ℕ
+  pub sent : Sends w (out ++ later)
+  pub sent' : Sends w' out
+
+-- the same, but for the last answer: the second one sent a beginning of another of 50 and 51
+pub record SentBeginningTillFault (w w' : Passage) (served : Served) : Type 0 where
+  pub out : List ℕ
+  pub other : WireFault
+  pub part : ℕ
+  pub sent : Sends w (out ++ last_text served.fault)
+  pub sent' : Sends w' (out ++ take part (fault_text other))
+  pub fault : IsOfHead served.fault
+  pub fault' : IsOfHead (Some other)
+
+-- A service that stopped sent a beginning of what one sends that serves the same bytes to the end from the
+-- same vault, with the same pairs and then maybe more; but where a beginning of the bytes has a twofold rest,
+-- their last answers may differ.
+abbrev pub StoppedServicesAgree : Passage → Passage → Type 0
+StoppedServicesAgree w w' =
+    (bytes : List ℕ) (pairs more : List Pair) (V : Content) (served : Served) (e : ServeFault)
+    → Serves bytes (pairs ++ more) V w served → StopsServing bytes pairs V w' e
+    → SentBeginning w w' ⊎ (HasTwofold bytes × SentBeginningTillFault w w' served)
 
 -- this holds of each passage of a kind of source, of writer and of tables
 abbrev pub EachPassage : {S W T : Type 0} → (S → List Pair) → (W → Option (List ℕ)) → (T → Type 0)

@@ -5,7 +5,7 @@ ghost use Rattle.vault_laws.specs.Agreement.{ExchangesAgree, FaultsAgree, Faults
 ghost use Rattle.vault_laws.specs.Agreement.{FaultsDifferThere, WantsAgree, WholeHeadsAgree};
 ghost use Rattle.vault_laws.specs.Apart.{TextsAreIsolated};
 ghost use Rattle.vault_laws.specs.Giving.{OnlyDueGoesOut, OnlyDueIsGiven, TextsTellNumbers};
-ghost use Rattle.vault_laws.specs.Service.{EachPassage, ServicesAgree};
+ghost use Rattle.vault_laws.specs.Service.{EachPassage, ServicesAgree, StoppedServicesAgree};
 
 use std::io::Write;
 use vault_core::source::Source;
@@ -69,9 +69,17 @@ pub fn texts_are_isolated()
 {}
 
 /// Two services, over sources, writers and tables of any kinds, that served the same bytes to the end, with
-/// the same pairs, from the same vault, sent the same bytes, told the same and keep the same vault; but where a
-/// beginning of the bytes has a rest that two of none, 50 and 51 fit, their last answers may differ in that.
+/// the same pairs, from the same vault, sent the same bytes, told the same and keep the same vault; but where
+/// a beginning of the bytes has a rest that two of none, 50 and 51 fit, their last answers may differ in that.
 pub fn services_agree<W: Write, T: Tables, S: Source, X: Write, U: Tables, P: Source>()
     ensures { EachPassage S.given W.contents T.is_honest T.holds T.leaves
         (λ w. EachPassage P.given X.contents U.is_honest U.holds U.leaves (λ v. ServicesAgree w v)) }
+{}
+
+/// A service that stopped, by any fault, sent a beginning of what one sends that serves the same bytes to the
+/// end from the same vault, with the same pairs and maybe more; but where a beginning of the bytes has a rest
+/// that two of none, 50 and 51 fit, their last answers may differ in that.
+pub fn stopped_services_agree<W: Write, T: Tables, S: Source, X: Write, U: Tables, P: Source>()
+    ensures { EachPassage S.given W.contents T.is_honest T.holds T.leaves
+        (λ w. EachPassage P.given X.contents U.is_honest U.holds U.leaves (λ v. StoppedServicesAgree w v)) }
 {}
