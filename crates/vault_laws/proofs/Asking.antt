@@ -163,7 +163,7 @@ given_by V (Err n) number e = absurd (cc)
 
 pub only_due_out : OnlyDueGoesOut
 only_due_out V p pair x number close asks is =
-    let given = given_by V x.wanted number (texts_tell V x number close is) in
+    let given = given_by V x.wanted number ((texts_tell V x number close).0 is).0 in
     let due = only_due V given.0 number given.2 in
     let asked = wants_number p pair.0 pair.1 x.wanted due.caller due.merchant due.token due.now
     (given.1 ∙ ap Ok due.asks) asks.1 in

@@ -17,7 +17,8 @@ use Rattle.vault_wire.specs.Messages.{pairs_of, print_message}
 use Rattle.vault_wire.proofs.Unique.{ends_alone, first_unique, one_reading}
 use Rattle.vault_wire.specs.declared.fault.WireFault.{WireFault}
 use Rattle.vault_wire.specs.declared.fault.WireFault.TheVariants as fault
-use Rattle.vault_laws.specs.Agreement.{FaultsDifferOnlyThere, FaultsDifferThere, IsOfHead, IsRest, IsTwofold}
+use Rattle.vault_laws.specs.Agreement.{AmbiguousFitsTwo, FaultsDifferOnlyWhereAmbiguous, IsAmbiguous}
+use Rattle.vault_laws.specs.Agreement.{IsOfHead, IsRest}
 use Rattle.vault_laws.specs.Agreement.{WholeHeadsAgree}
 
 -- what a whole head within the limits says of its body is one thing
@@ -91,7 +92,7 @@ ends_agree bytes d e a b =
     ]
 
 -- where bytes are open, and no bytes can follow that make a head, they end within a target
-none_or_bad : (bytes : List ℕ) → IsOpen bytes → NeverHasRequest bytes → IsTwofold bytes
+none_or_bad : (bytes : List ℕ) → IsOpen bytes → NeverHasRequest bytes → IsAmbiguous bytes
 none_or_bad bytes (inl w) never =
     elim w.unfinished [
       | inl becomes ↦ absurd (never becomes.0 becomes.1 [] becomes.2)
@@ -100,7 +101,7 @@ none_or_bad bytes (inl w) never =
 none_or_bad bytes (inr (h, x, size, w)) never = absurd (no_head_fault bytes h x w.head (inl never))
 
 -- where bytes are open, and past a limit of heads, a 33rd field has come
-none_or_large : (bytes : List ℕ) → IsOpen bytes → Stands fault.HeadTooLarge bytes → IsTwofold bytes
+none_or_large : (bytes : List ℕ) → IsOpen bytes → Stands fault.HeadTooLarge bytes → IsAmbiguous bytes
 none_or_large bytes (inl w) (inl long) =
     let room = w.room in let much = long.0 in absurd (omega (arith, room, much))
 none_or_large bytes (inl w) (inr many) = inr (w, many)
@@ -114,27 +115,27 @@ of_heads P none bad large d (inr (inl is)) = subst P (sym is) bad
 of_heads P none bad large d (inr (inr is)) = subst P (sym is) large
 
 -- none, 50 or 51, twice
-heads_twofold : (bytes : List ℕ) (d e : Option WireFault) → Ends bytes d → Ends bytes e
+heads_ambiguous : (bytes : List ℕ) (d e : Option WireFault) → Ends bytes d → Ends bytes e
     → IsOfHead d → IsOfHead e
-    → (d ≡ e) ⊎ IsTwofold bytes
-heads_twofold bytes d e a b k l =
-    of_heads (λ x. Ends bytes x → (x ≡ e) ⊎ IsTwofold bytes)
-    (λ p. of_heads (λ y. Ends bytes y → (None ≡ y) ⊎ IsTwofold bytes) (λ q. inl refl)
+    → (d ≡ e) ⊎ IsAmbiguous bytes
+heads_ambiguous bytes d e a b k l =
+    of_heads (λ x. Ends bytes x → (x ≡ e) ⊎ IsAmbiguous bytes)
+    (λ p. of_heads (λ y. Ends bytes y → (None ≡ y) ⊎ IsAmbiguous bytes) (λ q. inl refl)
     (λ q. inr (none_or_bad bytes p q)) (λ q. inr (none_or_large bytes p q)) e l b)
-    (λ p. of_heads (λ y. Ends bytes y → (Some fault.BadHead ≡ y) ⊎ IsTwofold bytes)
+    (λ p. of_heads (λ y. Ends bytes y → (Some fault.BadHead ≡ y) ⊎ IsAmbiguous bytes)
     (λ q. inr (none_or_bad bytes q p)) (λ q. inl refl) (λ q. inr (inl (p, inr q))) e l b)
-    (λ p. of_heads (λ y. Ends bytes y → (Some fault.HeadTooLarge ≡ y) ⊎ IsTwofold bytes)
+    (λ p. of_heads (λ y. Ends bytes y → (Some fault.HeadTooLarge ≡ y) ⊎ IsAmbiguous bytes)
     (λ q. inr (none_or_large bytes q p)) (λ q. inr (inl (q, inr p))) (λ q. inl refl) e l b)
     d k a
 
-pub ends_twofold : (bytes : List ℕ) (d e : Option WireFault) → Ends bytes d → Ends bytes e
-    → (d ≡ e) ⊎ (IsTwofold bytes × IsOfHead d × IsOfHead e)
-ends_twofold bytes d e a b =
+pub ends_ambiguous : (bytes : List ℕ) (d e : Option WireFault) → Ends bytes d → Ends bytes e
+    → (d ≡ e) ⊎ (IsAmbiguous bytes × IsOfHead d × IsOfHead e)
+ends_ambiguous bytes d e a b =
     elim (ends_agree bytes d e a b) [
       | inl same ↦ inl same
-      | inr heads ↦ elim (heads_twofold bytes d e a b heads.0 heads.1) [
+      | inr heads ↦ elim (heads_ambiguous bytes d e a b heads.0 heads.1) [
         | inl same ↦ inl same
-        | inr twofold ↦ inr (twofold, heads.0, heads.1)
+        | inr ambiguous ↦ inr (ambiguous, heads.0, heads.1)
       ]
     ]
 
@@ -144,11 +145,11 @@ pub rest_of : (bytes rest : List ℕ) (ms : List Request) (e : Option WireFault)
 rest_of bytes rest ms e r =
     record { messages = ms; whole = r.whole; each = r.each; none = (ends_alone rest e r.ends).0 }
 
-pub faults_differ : FaultsDifferOnlyThere
+pub faults_differ : FaultsDifferOnlyWhereAmbiguous
 faults_differ bytes ms ns d e a b =
     let same =
     one_reading ms ns a.0 b.0 d e a.1.each b.1.each a.1.ends b.1.ends (sym a.1.whole ∙ b.1.whole) in
-    elim (ends_twofold a.0 d e a.1.ends (subst (λ rest. Ends rest e) (sym same.1) b.1.ends)) [
+    elim (ends_ambiguous a.0 d e a.1.ends (subst (λ rest. Ends rest e) (sym same.1) b.1.ends)) [
       | inl equal ↦ inl equal
       | inr two ↦ inr (a.0, rest_of bytes a.0 ms d a.1, two.0, two.1, two.2)
     ]
@@ -164,7 +165,7 @@ never_before n bytes never h x r =
     (subst (λ t. ReadsRequest t h (x ++ drop n bytes)) (take-append-drop n bytes)
     (ReadsRequest-append (take n bytes) h x (drop n bytes) r))
 
-pub there_differ : FaultsDifferThere
+pub there_differ : AmbiguousFitsTwo
 there_differ bytes (inl (never, inl target)) =
     elim (cases_lt 8192 (length bytes)) [
       | inl long ↦ (
@@ -187,10 +188,10 @@ there_differ bytes (inl (never, inr large)) =
 there_differ bytes (inr (w, many)) =
     (None, Some fault.HeadTooLarge, (λ same. absurd (cc (same))), inl w, inr many)
 
--- in twofold bytes no head is whole
-twofold_none : (bytes : List ℕ) → IsTwofold bytes → HasNoRequest bytes
-twofold_none bytes (inl (never, why)) = never_now bytes never
-twofold_none bytes (inr (w, many)) = w.none
+-- in ambiguous bytes no head is whole
+ambiguous_none : (bytes : List ℕ) → IsAmbiguous bytes → HasNoRequest bytes
+ambiguous_none bytes (inl (never, why)) = never_now bytes never
+ambiguous_none bytes (inr (w, many)) = w.none
 
 -- where two lists of messages are the same bytes, their first ones are one, and so are the bytes after it
 pub next_same : (m n : Request) (ms ns : List Request) (x y : List ℕ) → IsMessage m → IsMessage n
@@ -234,6 +235,6 @@ whole_heads bytes rest after h ms ns d e is head a b =
       | inr two ↦ (
           let one = one_rest is.messages two.1.messages rest two.0 is.each two.1.each is.none two.1.none
           (sym is.whole ∙ two.1.whole) in
-          absurd (twofold_none two.0 two.2 h after (subst (λ t. ReadsRequest t h after) one head))
+          absurd (ambiguous_none two.0 two.2 h after (subst (λ t. ReadsRequest t h after) one head))
           )
     ]

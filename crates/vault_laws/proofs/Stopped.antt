@@ -20,7 +20,7 @@ use Rattle.vault_http.specs.declared.served.Served.{Served}
 use Rattle.vault_http.proofs.Closing.{up_to_close-none}
 use Rattle.vault_http.proofs.Exchanging.{asks_longer, texts-append}
 use Rattle.vault_laws.specs.Agreement.{IsOfHead}
-use Rattle.vault_laws.specs.Service.{HasTwofold, SentBeginning, SentBeginningTillFault, Serves}
+use Rattle.vault_laws.specs.Service.{HasAmbiguousRest, SentBeginning, SentBeginningTillFault, Serves}
 use Rattle.vault_laws.specs.Service.{StoppedServicesAgree}
 use Rattle.vault_laws.proofs.Faults.{next_same}
 use Rattle.vault_laws.proofs.Service.{same_pairs}
@@ -203,7 +203,8 @@ module _ (w w' : Passage) (bytes : List ℕ) (pairs more : List Pair) (V : Conte
       (s.answered V before).0
 
   of_among : (e : ServeFault) → Takes w' pairs → IsBefore w' V
-      → (left : Option (List ℕ)) (f : Option WireFault) → StopsAmong e (Some bytes) left w' f → SentBeginning w w'
+      → (left : Option (List ℕ)) (f : Option WireFault) → StopsAmong e (Some bytes) left w' f
+      → SentBeginning w w'
   of_among e takes before left f s =
       of_stops e takes before s.bytes s.messages s.reads.0 left s.read s.reads.1.whole s.reads.1.each s.stops
 
@@ -219,7 +220,7 @@ module _ (w w' : Passage) (bytes : List ℕ) (pairs more : List Pair) (V : Conte
 
   -- a beginning of the text of a fault went out
   of_fault : Takes w' pairs → IsBefore w' V → (left : Option (List ℕ)) → StopsAtFault (Some bytes) left w'
-      → SentBeginning w w' ⊎ (HasTwofold bytes × SentBeginningTillFault w w' served)
+      → SentBeginning w w' ⊎ (HasAmbiguousRest bytes × SentBeginningTillFault w w' served)
   of_fault takes before left s =
       let both = alike bytes one.bytes s.bytes given.left left one.messages s.messages one.fault
       (Some s.fault)
@@ -265,7 +266,7 @@ module _ (w w' : Passage) (bytes : List ℕ) (pairs more : List Pair) (V : Conte
 
   stopped_by : (e : ServeFault) → Takes w' pairs → IsBefore w' V → (left : Option (List ℕ))
       → IsStopped (Some bytes) left w' e
-      → SentBeginning w w' ⊎ (HasTwofold bytes × SentBeginningTillFault w w' served)
+      → SentBeginning w w' ⊎ (HasAmbiguousRest bytes × SentBeginningTillFault w w' served)
   stopped_by stop.Source takes before left (f, s) = inl (of_among stop.Source takes before left f s)
   stopped_by stop.Read takes before left s = inl (of_among stop.Read takes before left None s)
   stopped_by stop.Write takes before left (inl (f, s)) = inl (of_among stop.Write takes before left f s)

@@ -14,7 +14,7 @@ use Rattle.vault_wire.proofs.Unique.{ends_alone, one_reading}
 use Rattle.vault_http.specs.Exchanges.{has_close, shown, up_to_close}
 use Rattle.vault_http.specs.Served.{answered_fault}
 use Rattle.vault_laws.specs.Agreement.{IsOfHead}
-use Rattle.vault_laws.specs.Service.{HasTwofold}
+use Rattle.vault_laws.specs.Service.{HasAmbiguousRest}
 use Rattle.vault_laws.proofs.Faults.{faults_differ, next_same}
 
 -- messages that go on after others are those and more
@@ -66,12 +66,12 @@ closed_front (p ∷ ps) qs is = by (closes p) refl (λ more. closed_front ps qs 
           ap (λ (c : Bool). c || has_close (ps ++ qs)) at ∙ rest.1,
         )
 
--- the same messages are answered, and then the same fault, but where a beginning of the bytes is twofold
+-- the same messages are answered, and then the same fault, but where a beginning of the bytes is ambiguous
 abbrev pub Alike : List ℕ → List Request → Option WireFault → List Request → Option WireFault → Type 0
 Alike bytes ms d ns e =
     (up_to_close (shown ms) ≡ up_to_close (shown ns))
     × ((answered_fault ms d ≡ answered_fault ns e)
-    ⊎ (HasTwofold bytes × IsOfHead (answered_fault ms d) × IsOfHead (answered_fault ns e)))
+    ⊎ (HasAmbiguousRest bytes × IsOfHead (answered_fault ms d) × IsOfHead (answered_fault ns e)))
 
 alike_sym : (bytes : List ℕ) (ms ns : List Request) (d e : Option WireFault) → Alike bytes ms d ns e
     → Alike bytes ns e ms d
@@ -89,7 +89,7 @@ same_bytes : (front later : List ℕ) (ms ns : List Request) (d e : Option WireF
 same_bytes front later ms ns d e a b =
     let same =
     one_reading ms ns a.0 b.0 d e a.1.each b.1.each a.1.ends b.1.ends (sym a.1.whole ∙ b.1.whole) in
-    let faults : (d ≡ e) ⊎ (HasTwofold (front ++ later) × IsOfHead d × IsOfHead e) =
+    let faults : (d ≡ e) ⊎ (HasAmbiguousRest (front ++ later) × IsOfHead d × IsOfHead e) =
     elim (faults_differ front ms ns d e a b) [
       | inl equal ↦ inl equal
       | inr two ↦ inr (
@@ -99,14 +99,14 @@ same_bytes front later ms ns d e a b =
           rest = two.0;
           whole = refl;
           after = two.1;
-          twofold = two.2;
+          ambiguous = two.2;
         },
         two.3,
         two.4,
       )
     ] in
     subst (λ ks. Alike (front ++ later) ms d ks e) same.0
-    (refl, answered (HasTwofold (front ++ later)) (has_close (shown ms)) d e faults)
+    (refl, answered (HasAmbiguousRest (front ++ later)) (has_close (shown ms)) d e faults)
 
 nothing : (m y : List ℕ) → m ++ y ≡ [] → m ≡ []
 nothing [] y same = refl

@@ -1,7 +1,7 @@
 -- A text that reads as an answer with a card number is the answer of such a reply.
 use Rattle.std.proofs.Common.{◌≡◌, ℕ, zero, suc, ◌+◌, ◌/◌, ◌%◌, ◌==◌, Bool, true}
 use Rattle.std.proofs.Common.{false, cond, List, [], ◌∷◌, ◌++◌}
-use Rattle.std.proofs.Common.{length, not, nat_lt, Option, None, Ok, Err, refl, sym, ap, ◌∙◌, arith}
+use Rattle.std.proofs.Common.{length, not, nat_lt, Option, None, Ok, Err, refl, sym, ap, ap₂, ◌∙◌, arith}
 use Rattle.std.proofs.Common.{append_assoc, get_or, true≢false}
 use Rattle.std.specs.Prelude.{codes, decimal}
 use Rattle.std.specs.Fmt.{digit_glyph, digits, digits_onto}
@@ -60,11 +60,12 @@ after_length m n r q e =
     (plain-decimal n) refl refl cut in
     append_cancel_left crlf r q both.1
 
--- what follows the line of the close, where it is there
-after_close : (j k : Bool) (b c : List ℕ) → close_line j ++ (crlf ++ b) ≡ close_line k ++ (crlf ++ c) → b ≡ c
+-- whether the line of the close is there, and what follows it
+after_close : (j k : Bool) (b c : List ℕ) → close_line j ++ (crlf ++ b) ≡ close_line k ++ (crlf ++ c)
+    → (b ≡ c) × (j ≡ k)
 after_close true true b c e =
-    append_cancel_left crlf b c (append_cancel_left (close_line true) (crlf ++ b) (crlf ++ c) e)
-after_close false false b c e = append_cancel_left crlf b c e
+    (append_cancel_left crlf b c (append_cancel_left (close_line true) (crlf ++ b) (crlf ++ c) e), refl)
+after_close false false b c e = (append_cancel_left crlf b c e, refl)
 after_close true false b c e = absurd (unlike 67 13 refl (ap (λ (t : List ℕ). get_or t 0 0) e))
 after_close false true b c e = absurd (unlike 13 67 refl (ap (λ (t : List ℕ). get_or t 0 0) e))
 
@@ -72,8 +73,9 @@ after_close false true b c e = absurd (unlike 13 67 refl (ap (λ (t : List ℕ).
 six : (s k l a c e b : List ℕ) → s ++ k ++ l ++ a ++ c ++ e ++ b ≡ s ++ (k ++ (l ++ (a ++ (c ++ (e ++ b)))))
 six s k l a c e b = simp append_assoc
 
--- two answers with 200 that are the same have the same body
-same_body : (b c : List ℕ) (j k : Bool) → answer_bytes 200 None b j ≡ answer_bytes 200 None c k → b ≡ c
+-- two answers with 200 that are the same have the same body, and close both or neither
+same_body : (b c : List ℕ) (j k : Bool) → answer_bytes 200 None b j ≡ answer_bytes 200 None c k
+    → (b ≡ c) × (j ≡ k)
 same_body b c j k e =
     let rest : List ℕ → Bool → List ℕ = (λ t l. close_line l ++ (crlf ++ t)) in
     let after_kind : List ℕ → Bool → List ℕ = (λ t l. length_line (length t) ++ rest t l) in
@@ -151,33 +153,40 @@ body_tells (Counts made given denied) number e =
     absurd (unlike 100 110 refl (ap (λ (t : List ℕ). get_or t 2 0) e))
 body_tells (Refused n) number e = absurd (unlike 114 110 refl (ap (λ (t : List ℕ). get_or t 2 0) e))
 
+of_body : (r : Reply) (number : Bytes) (j k : Bool)
+    → answer_bytes 200 None (body_text r) j ≡ number_text number k → (r ≡ Number number) × (j ≡ k)
+of_body r number j k e =
+    let both = same_body (body_text r) (body_text (Number number)) j k e in
+    (body_tells r number both.0, both.1)
+
 tells : (r : Reply) (number : Bytes) (j k : Bool)
-    → answer_bytes (status_of r) None (body_text r) j ≡ number_text number k → r ≡ Number number
-tells Done number j k e =
-    body_tells Done number
-    (same_body (body_text Done) (body_text (Number number)) j k e)
-tells (Token token expires) number j k e =
-    body_tells (Token token expires) number
-    (same_body (body_text (Token token expires)) (body_text (Number number)) j k e)
-tells (Number other) number j k e =
-    body_tells (Number other) number
-    (same_body (body_text (Number other)) (body_text (Number number)) j k e)
+    → answer_bytes (status_of r) None (body_text r) j ≡ number_text number k → (r ≡ Number number) × (j ≡ k)
+tells Done number j k e = of_body Done number j k e
+tells (Token token expires) number j k e = of_body (Token token expires) number j k e
+tells (Number other) number j k e = of_body (Number other) number j k e
 tells (Shown masked usage birth expires state) number j k e =
-    body_tells (Shown masked usage birth expires state) number
-    (same_body (body_text (Shown masked usage birth expires state)) (body_text (Number number)) j k e)
-tells (Counts made given denied) number j k e =
-    body_tells (Counts made given denied) number
-    (same_body (body_text (Counts made given denied)) (body_text (Number number)) j k e)
+    of_body (Shown masked usage birth expires state) number j k e
+tells (Counts made given denied) number j k e = of_body (Counts made given denied) number j k e
 tells (Refused n) number j k e =
     absurd ((refused_status n).apart None (refusal_text n) (body_text (Number number)) j k e)
 
 tells_wanted : (V : Content) (p : Parts) (w : Wanted Command) (number : Bytes) (close : Bool)
-    → text_at V (record { parts = p; wanted = w }) ≡ number_text number close → reply_to V w ≡ Number number
+    → text_at V (record { parts = p; wanted = w }) ≡ number_text number close
+    → (reply_to V w ≡ Number number) × (closes p ≡ close)
 unfolding text_at
 tells_wanted V p (Ok c) number close e = tells (reply V c) number (closes p) close e
 tells_wanted V p (Err n) number close e =
     absurd ((refused_status n).apart (methods_with p (Err n)) (refusal_text n) (body_text (Number number))
     (closes p) close e)
 
+told_by : (V : Content) (p : Parts) (w : Wanted Command) (number : Bytes) (close : Bool)
+    → (reply_to V w ≡ Number number) × (closes p ≡ close)
+    → text_at V (record { parts = p; wanted = w }) ≡ number_text number close
+unfolding text_at
+told_by V p (Ok c) number close (is, closing) =
+    ap₂ (λ (r : Reply) (k : Bool). answer_bytes (status_of r) None (body_text r) k) is closing
+told_by V p (Err n) number close (is, closing) = absurd (cc)
+
 pub texts_tell : TextsTellNumbers
-texts_tell V x number close e = tells_wanted V x.parts x.wanted number close e
+texts_tell V x number close =
+    (tells_wanted V x.parts x.wanted number close, told_by V x.parts x.wanted number close)

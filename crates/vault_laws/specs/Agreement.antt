@@ -29,28 +29,28 @@ pub record IsRest (bytes rest : List ℕ) : Type 0 where
   pub each : All IsMessage messages
   pub none : HasNoMessage rest
 
--- Bytes that two of none, 50 and 51 fit: no bytes can follow that make a head, and they end within a target,
--- or there are more than a head may have, or a 33rd field has come; or some can follow that make a head, and
--- a 33rd field has come.
-abbrev pub IsTwofold : List ℕ → Type 0
-IsTwofold rest =
+-- Bytes are ambiguous where two of none, 50 and 51 fit them: no bytes can follow that make a head, and these
+-- end within a target, or are more than a head may have, or have a 33rd field; or some bytes can follow that
+-- make a head, and these have a 33rd field.
+abbrev pub IsAmbiguous : List ℕ → Type 0
+IsAmbiguous rest =
     (NeverHasRequest rest × (EndsInTarget rest ⊎ (IsTooLong rest ⊎ HasTooManyFields rest)))
     ⊎ (WaitsForHead rest × HasTooManyFields rest)
 
--- Two readings of the same bytes have the same fault; but where the bytes after the whole messages are
--- twofold, each may have another of none, 50 and 51.
-abbrev pub FaultsDifferOnlyThere : Type 0
-FaultsDifferOnlyThere =
+-- Two readings of the same bytes have the same fault; but where the bytes after all whole messages are
+-- ambiguous, each may have another of none, 50 and 51.
+abbrev pub FaultsDifferOnlyWhereAmbiguous : Type 0
+FaultsDifferOnlyWhereAmbiguous =
     (bytes : List ℕ) (ms ns : List Request) (d e : Option WireFault) → Reads bytes ms d → Reads bytes ns e
-    → (d ≡ e) ⊎ ((rest : List ℕ) × IsRest bytes rest × IsTwofold rest × IsOfHead d × IsOfHead e)
+    → (d ≡ e) ⊎ ((rest : List ℕ) × IsRest bytes rest × IsAmbiguous rest × IsOfHead d × IsOfHead e)
 
--- of twofold bytes there are two readings that differ
-abbrev pub FaultsDifferThere : Type 0
-FaultsDifferThere =
-    (rest : List ℕ) → IsTwofold rest
+-- ambiguous bytes have two readings whose faults differ
+abbrev pub AmbiguousFitsTwo : Type 0
+AmbiguousFitsTwo =
+    (rest : List ℕ) → IsAmbiguous rest
     → (d : Option WireFault) × (e : Option WireFault) × (¬ (d ≡ e)) × Ends rest d × Ends rest e
 
--- where a whole head comes after the whole messages, of whatever size, two readings have the same fault
+-- where a whole head comes after all whole messages, of any size, two readings have the same fault
 abbrev pub WholeHeadsAgree : Type 0
 WholeHeadsAgree =
     (bytes rest after : List ℕ) (h : RequestHead) (ms ns : List Request) (d e : Option WireFault)

@@ -1,5 +1,5 @@
 -- A card number goes to nobody but those that it is due to.
-use Rattle.std.specs.Prelude.{◌≡◌, ℕ, List, Bool, true, Some, None, codes}
+use Rattle.std.specs.Prelude.{◌≡◌, ◌↔◌, ℕ, List, Bool, true, Some, None, codes}
 use Rattle.vault_core.specs.Keys.{Bytes}
 use Rattle.vault_core.specs.Table.{reply}
 use Rattle.vault_core.specs.Vault.{Vault as Content, entry_at, entitled, is_live}
@@ -11,7 +11,7 @@ use Rattle.vault_core.specs.declared.right.Right.TheVariants as right
 use Rattle.vault_core.specs.declared.row.Entry.{Entry}
 use Rattle.vault_wire.specs.Answer.{answer_bytes}
 use Rattle.vault_wire.specs.Fields.{sole_value}
-use Rattle.vault_wire.specs.Parts.{Parts}
+use Rattle.vault_wire.specs.Parts.{Parts, closes}
 use Rattle.vault_routes.specs.Reply.{body_text}
 use Rattle.vault_routes.specs.Route.{route_of}
 use Rattle.vault_routes.specs.declared.table.Place.TheVariants as place
@@ -45,12 +45,13 @@ OnlyDueIsGiven =
 abbrev pub number_text : Bytes → Bool → List ℕ
 number_text number close = answer_bytes 200 None (body_text (Number number)) close
 
--- A text that goes out and reads as an answer with a card number is the answer of a reply with that number:
--- no other reply's text reads as one.
+-- The text that answers a message is that of an answer with a card number exactly where the reply is that
+-- number: no other reply's text reads as one.
 abbrev pub TextsTellNumbers : Type 0
 TextsTellNumbers =
     (V : Content) (x : Exchange) (number : Bytes) (close : Bool)
-    → text_at V x ≡ number_text number close → reply_to V x.wanted ≡ Number number
+    → (text_at V x ≡ number_text number close)
+    ↔ ((reply_to V x.wanted ≡ Number number) × (closes x.parts ≡ close))
 
 -- by its target, its method and its one caller field a message asks for the number of a token for a caller
 pub record AsksForNumber (p : Parts) (caller merchant token : Bytes) : Type 0 where

@@ -9,7 +9,7 @@ use Rattle.vault_http.specs.Passing.{IsBefore, Keeps, Passage, Sends, Takes, pas
 use Rattle.vault_http.specs.Served.{IsServed, IsStopped}
 use Rattle.vault_http.specs.declared.fault.ServeFault.{ServeFault}
 use Rattle.vault_http.specs.declared.served.Served.{Served}
-use Rattle.vault_laws.specs.Agreement.{IsOfHead, IsRest, IsTwofold}
+use Rattle.vault_laws.specs.Agreement.{IsAmbiguous, IsOfHead, IsRest}
 
 -- a service served these bytes, all that a reader had, to the end, with these pairs, from this vault
 pub record Serves (bytes : List ℕ) (pairs : List Pair) (V : Content) (w : Passage) (served : Served)
@@ -19,14 +19,14 @@ pub record Serves (bytes : List ℕ) (pairs : List Pair) (V : Content) (w : Pass
   pub taken : Takes w pairs
   pub before : IsBefore w V
 
--- what comes in a beginning of the bytes after its whole messages is twofold
-pub record HasTwofold (bytes : List ℕ) : Type 0 where
+-- some beginning of the bytes is ambiguous after all its whole messages
+pub record HasAmbiguousRest (bytes : List ℕ) : Type 0 where
   pub front : List ℕ
   pub later : List ℕ
   pub rest : List ℕ
   pub whole : bytes ≡ front ++ later
   pub after : IsRest front rest
-  pub twofold : IsTwofold rest
+  pub ambiguous : IsAmbiguous rest
 
 -- two services sent the same bytes, told the same and keep the same vault
 pub record DidTheSame (w w' : Passage) (served served' : Served) : Type 0 where
@@ -51,12 +51,12 @@ pub record DidTheSameTillFault (w w' : Passage) (served served' : Served) : Type
   pub kept' : Keeps w' after
 
 -- Two services that served these bytes to the end, with these pairs, from this vault, did the same, to the
--- byte; but where a beginning of the bytes has a twofold rest, their last answers may differ.
+-- byte; but where some beginning of the bytes has an ambiguous rest, their last answers may differ.
 abbrev pub ServicesAgree : Passage → Passage → Type 0
 ServicesAgree w w' =
     (bytes : List ℕ) (pairs : List Pair) (V : Content) (served served' : Served)
     → Serves bytes pairs V w served → Serves bytes pairs V w' served'
-    → DidTheSame w w' served served' ⊎ (HasTwofold bytes × DidTheSameTillFault w w' served served')
+    → DidTheSame w w' served served' ⊎ (HasAmbiguousRest bytes × DidTheSameTillFault w w' served served')
 
 -- a service of these bytes, with these pairs, from this vault, stopped by a fault
 pub record StopsServing (bytes : List ℕ) (pairs : List Pair) (V : Content) (w : Passage) (e : ServeFault)
@@ -84,13 +84,13 @@ pub record SentBeginningTillFault (w w' : Passage) (served : Served) : Type 0 wh
   pub fault' : IsOfHead (Some other)
 
 -- A service that stopped sent a beginning of what one sends that serves the same bytes to the end from the
--- same vault, with the same pairs and then maybe more; but where a beginning of the bytes has a twofold rest,
--- their last answers may differ.
+-- same vault, with the same pairs and then maybe more; but where some beginning of the bytes has an ambiguous
+-- rest, their last answers may differ.
 abbrev pub StoppedServicesAgree : Passage → Passage → Type 0
 StoppedServicesAgree w w' =
     (bytes : List ℕ) (pairs more : List Pair) (V : Content) (served : Served) (e : ServeFault)
     → Serves bytes (pairs ++ more) V w served → StopsServing bytes pairs V w' e
-    → SentBeginning w w' ⊎ (HasTwofold bytes × SentBeginningTillFault w w' served)
+    → SentBeginning w w' ⊎ (HasAmbiguousRest bytes × SentBeginningTillFault w w' served)
 
 -- this holds of each passage of a kind of source, of writer and of tables
 abbrev pub EachPassage : {S W T : Type 0} → (S → List Pair) → (W → Option (List ℕ)) → (T → Type 0)

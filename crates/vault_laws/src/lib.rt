@@ -1,8 +1,8 @@
 //! Laws of what is read and answered of a connection, over the definitions of several crates.
 #![tactic(auto)]
 
-ghost use Rattle.vault_laws.specs.Agreement.{ExchangesAgree, FaultsAgree, FaultsDifferOnlyThere};
-ghost use Rattle.vault_laws.specs.Agreement.{FaultsDifferThere, WantsAgree, WholeHeadsAgree};
+ghost use Rattle.vault_laws.specs.Agreement.{ExchangesAgree, FaultsAgree, WantsAgree, WholeHeadsAgree};
+ghost use Rattle.vault_laws.specs.Agreement.{AmbiguousFitsTwo, FaultsDifferOnlyWhereAmbiguous};
 ghost use Rattle.vault_laws.specs.Apart.{TextsAreIsolated};
 ghost use Rattle.vault_laws.specs.Giving.{OnlyDueGoesOut, OnlyDueIsGiven, TextsTellNumbers};
 ghost use Rattle.vault_laws.specs.Service.{EachPassage, ServicesAgree, StoppedServicesAgree};
@@ -20,13 +20,13 @@ pub fn faults_agree()
 /// Two readings of the same bytes have the same fault; but where no bytes can follow that make a head, and
 /// these end within a target or are past a limit of heads, or where some can follow and a 33rd field has
 /// come, each may have another of none, 50 and 51.
-pub fn faults_differ_only_there()
-    ensures { FaultsDifferOnlyThere }
+pub fn faults_differ_only_where_ambiguous()
+    ensures { FaultsDifferOnlyWhereAmbiguous }
 {}
 
-/// There two readings differ.
-pub fn faults_differ_there()
-    ensures { FaultsDifferThere }
+/// Such ambiguous bytes have two readings whose faults differ.
+pub fn ambiguous_fits_two()
+    ensures { AmbiguousFitsTwo }
 {}
 
 /// Where a whole head comes after the whole messages, two readings of the same bytes have the same fault.
@@ -51,8 +51,8 @@ pub fn only_due_is_given()
     ensures { OnlyDueIsGiven }
 {}
 
-/// A text that goes out and reads as an answer with a card number is the answer of a reply with that number:
-/// no other reply's text reads as one.
+/// The text that answers a message is that of an answer with a card number exactly where the reply is that
+/// number: no other reply's text reads as one.
 pub fn texts_tell_numbers()
     ensures { TextsTellNumbers }
 {}
@@ -70,15 +70,15 @@ pub fn texts_are_isolated()
 
 /// Two services, over sources, writers and tables of any kinds, that served the same bytes to the end, with
 /// the same pairs, from the same vault, sent the same bytes, told the same and keep the same vault; but where
-/// a beginning of the bytes has a rest that two of none, 50 and 51 fit, their last answers may differ in that.
+/// some beginning of the bytes is ambiguous after its whole messages, their last answers may differ.
 pub fn services_agree<W: Write, T: Tables, S: Source, X: Write, U: Tables, P: Source>()
     ensures { EachPassage S.given W.contents T.is_honest T.holds T.leaves
         (λ w. EachPassage P.given X.contents U.is_honest U.holds U.leaves (λ v. ServicesAgree w v)) }
 {}
 
 /// A service that stopped, by any fault, sent a beginning of what one sends that serves the same bytes to the
-/// end from the same vault, with the same pairs and maybe more; but where a beginning of the bytes has a rest
-/// that two of none, 50 and 51 fit, their last answers may differ in that.
+/// end from the same vault, with the same pairs and maybe more; but where some beginning of the bytes is
+/// ambiguous after its whole messages, their last answers may differ.
 pub fn stopped_services_agree<W: Write, T: Tables, S: Source, X: Write, U: Tables, P: Source>()
     ensures { EachPassage S.given W.contents T.is_honest T.holds T.leaves
         (λ w. EachPassage P.given X.contents U.is_honest U.holds U.leaves (λ v. StoppedServicesAgree w v)) }
