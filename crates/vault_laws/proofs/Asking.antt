@@ -1,6 +1,7 @@
 -- A message whose answer has a card number asks for the number of a token that is due to its caller.
 use Rattle.std.proofs.Common.{◌≡◌, ℕ, Bool, true, false, cond, List, Some, None, Ok, Err, inl, inr, ◌⊎◌}
 use Rattle.std.proofs.Common.{refl, sym, ap, ◌∙◌, subst, true≢false}
+use Rattle.std.proofs.Common.{[], ◌∷◌, ◌++◌, suc, Contains, arith}
 use Rattle.std.specs.Prelude.{codes, option_map}
 use Rattle.std.specs.Str.{bytes_eq}
 use Rattle.std.proofs.lemmas.Slice.Eq.{bytes_eq-Decides}
@@ -20,8 +21,8 @@ use Rattle.vault_routes.specs.declared.table.Place.{Place}
 use Rattle.vault_routes.specs.declared.table.Place.TheVariants as place
 use Rattle.vault_routes.specs.declared.table.TokenAction.{TokenAction}
 use Rattle.vault_routes.specs.declared.table.TokenAction.TheVariants as on
-use Rattle.vault_http.specs.Exchanges.{reply_to}
-use Rattle.vault_laws.specs.Giving.{AsksForNumber, IsDue, OnlyDueGoesOut}
+use Rattle.vault_http.specs.Exchanges.{AskFirst, Asks, Exchange, Pair, reply_to, vault_after}
+use Rattle.vault_laws.specs.Giving.{AsksForNumber, EachIsDue, IsDue, OnlyDueGoesOut}
 use Rattle.vault_laws.proofs.Giving.{only_due}
 use Rattle.vault_laws.proofs.Telling.{texts_tell}
 
@@ -174,3 +175,31 @@ only_due_out V p pair x number close asks is =
       asks = asked.0;
       due = subst (λ at. IsDue V due.caller due.merchant due.token at number) (sym asked.1) due.due;
     }
+
+in_front : {X : Type 0} (x : X) (xs : List X) → Contains (x ∷ xs) x
+in_front x xs = (0, omega arith, refl)
+
+in_rest : {X : Type 0} (y : X) (xs : List X) (x : X) → Contains xs x → Contains (y ∷ xs) x
+in_rest y xs x c = (suc c.0, omega (arith, c.1), c.2)
+
+-- each of exchanges is one of the messages, asked with one of the pairs
+asked_at : (ps : List Parts) (pairs : List Pair) (before later : List Exchange) (x : Exchange)
+    → AskFirst ps pairs (before ++ x ∷ later)
+    → Contains ps x.parts × ((pair : Pair) × Contains pairs pair × Asks x.parts pair x)
+asked_at ps [] [] later x a = absurd a
+asked_at ps [] (y ∷ before) later x a = absurd a
+asked_at [] (pair ∷ pairs) [] later x a = absurd a
+asked_at [] (pair ∷ pairs) (y ∷ before) later x a = absurd a
+asked_at (p ∷ ps) (pair ∷ pairs) [] later x a = (
+  subst (λ q. Contains (p ∷ ps) q) (sym a.0.0) (in_front p ps),
+  (pair, in_front pair pairs, (refl, subst (λ q. Wants q pair.0 pair.1 x.wanted) (sym a.0.0) a.0.1)),
+)
+asked_at (p ∷ ps) (pair ∷ pairs) (y ∷ before) later x a =
+    let rest = asked_at ps pairs before later x a.1 in
+    (in_rest p ps x.parts rest.0, (rest.1.0, in_rest pair pairs rest.1.0 rest.1.1, rest.1.2))
+
+pub each_due : EachIsDue
+each_due V ps pairs before later x number close asks is =
+    let at = asked_at ps pairs before later x asks in
+    let due = only_due_out (vault_after V before) x.parts at.1.0 x number close at.1.2 is in
+    (at.0, (at.1.0, at.1.1, due))

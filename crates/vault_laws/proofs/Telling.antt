@@ -18,12 +18,13 @@ use Rattle.vault_core.specs.declared.reply.Reply.{Reply}
 use Rattle.vault_core.specs.declared.reply.Reply.TheVariants.{Done, Token, Number, Shown, Counts, Refused}
 use Rattle.vault_core.proofs.Branches.{by_test}
 use Rattle.vault_wire.specs.Answer.{answer_bytes, close_line, crlf, kind_line, length_line, status_line}
+use Rattle.vault_wire.specs.Faults.{number_of}
 use Rattle.vault_wire.specs.Parts.{Parts, closes}
 use Rattle.vault_routes.specs.Reply.{body_text, refusal_text}
 use Rattle.vault_routes.specs.Status.{is_among, status_for, status_of}
 use Rattle.vault_routes.specs.Wanted.{Wanted}
-use Rattle.vault_http.specs.Exchanges.{methods_with, reply_to, text_at}
-use Rattle.vault_laws.specs.Giving.{TextsTellNumbers, number_text}
+use Rattle.vault_http.specs.Exchanges.{fault_text, methods_with, reply_to, text_at}
+use Rattle.vault_laws.specs.Giving.{FaultsTellNoNumber, TextsTellNumbers, number_text}
 
 unlike : (a b : ℕ) → (a == b) ≡ false → a ≡ b → ⊥
 unlike a b apart e = true≢false (sym (eq-eqb a b e) ∙ apart)
@@ -190,3 +191,9 @@ told_by V p (Err n) number close (is, closing) = absurd (cc)
 pub texts_tell : TextsTellNumbers
 texts_tell V x number close =
     (tells_wanted V x.parts x.wanted number close, told_by V x.parts x.wanted number close)
+
+pub faults_tell : FaultsTellNoNumber
+unfolding fault_text
+faults_tell e number close same =
+    (refused_status (number_of e)).apart None (refusal_text (number_of e)) (body_text (Number number)) true
+    close same

@@ -1,5 +1,6 @@
 -- A card number goes to nobody but those that it is due to.
-use Rattle.std.specs.Prelude.{◌≡◌, ◌↔◌, ℕ, List, Bool, true, Some, None, codes}
+use Rattle.std.specs.Prelude.{◌≡◌, ◌↔◌, ℕ, List, ◌∷◌, ◌++◌, Bool, true, Some, None, codes}
+use Rattle.std.specs.List.{Contains}
 use Rattle.vault_core.specs.Keys.{Bytes}
 use Rattle.vault_core.specs.Table.{reply}
 use Rattle.vault_core.specs.Vault.{Vault as Content, entry_at, entitled, is_live}
@@ -12,10 +13,12 @@ use Rattle.vault_core.specs.declared.row.Entry.{Entry}
 use Rattle.vault_wire.specs.Answer.{answer_bytes}
 use Rattle.vault_wire.specs.Fields.{sole_value}
 use Rattle.vault_wire.specs.Parts.{Parts, closes}
+use Rattle.vault_wire.specs.declared.fault.WireFault.{WireFault}
 use Rattle.vault_routes.specs.Reply.{body_text}
 use Rattle.vault_routes.specs.Route.{route_of}
 use Rattle.vault_routes.specs.declared.table.Place.TheVariants as place
-use Rattle.vault_http.specs.Exchanges.{Asks, Exchange, Pair, reply_to, text_at}
+use Rattle.vault_http.specs.Exchanges.{AskFirst, Asks, Exchange, Pair, fault_text, reply_to, text_at}
+use Rattle.vault_http.specs.Exchanges.{vault_after}
 
 -- At a moment a card number is due to a caller that asks for the number of a merchant's token: its right to
 -- numbers there lasts, and the token is live and stands for that number.
@@ -74,3 +77,18 @@ abbrev pub OnlyDueGoesOut : Type 0
 OnlyDueGoesOut =
     (V : Content) (p : Parts) (pair : Pair) (x : Exchange) (number : Bytes) (close : Bool)
     → Asks p pair x → text_at V x ≡ number_text number close → IsAskedWhereDue V p pair.0 number
+
+-- The same of messages that are asked one after the other: where the text that answers one reads so, it is
+-- one of the messages, asked with one of the pairs, and the number is due by the vault that those before it leave.
+abbrev pub EachIsDue : Type 0
+EachIsDue =
+    (V : Content) (ps : List Parts) (pairs : List Pair) (before later : List Exchange) (x : Exchange)
+    (number : Bytes) (close : Bool)
+    → AskFirst ps pairs (before ++ x ∷ later) → text_at (vault_after V before) x ≡ number_text number close
+    → Contains ps x.parts
+    × ((pair : Pair) × Contains pairs pair × IsAskedWhereDue (vault_after V before) x.parts pair.0 number)
+
+-- the text that answers a fault of the bytes is never that of an answer with a card number
+abbrev pub FaultsTellNoNumber : Type 0
+FaultsTellNoNumber =
+    (e : WireFault) (number : Bytes) (close : Bool) → ¬ (fault_text e ≡ number_text number close)

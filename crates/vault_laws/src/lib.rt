@@ -4,7 +4,8 @@
 ghost use Rattle.vault_laws.specs.Agreement.{ExchangesAgree, FaultsAgree, WantsAgree, WholeHeadsAgree};
 ghost use Rattle.vault_laws.specs.Agreement.{AmbiguousFitsTwo, FaultsDifferOnlyWhereAmbiguous};
 ghost use Rattle.vault_laws.specs.Apart.{TextsAreIsolated};
-ghost use Rattle.vault_laws.specs.Giving.{OnlyDueGoesOut, OnlyDueIsGiven, TextsTellNumbers};
+ghost use Rattle.vault_laws.specs.Giving.{EachIsDue, FaultsTellNoNumber, OnlyDueGoesOut};
+ghost use Rattle.vault_laws.specs.Giving.{OnlyDueIsGiven, TextsTellNumbers};
 ghost use Rattle.vault_laws.specs.Service.{EachPassage, ServicesAgree, StoppedServicesAgree};
 
 use std::io::Write;
@@ -61,6 +62,17 @@ pub fn texts_tell_numbers()
 /// number of a token, and at its moment its caller has the right to it and the token is live.
 pub fn only_due_goes_out()
     ensures { OnlyDueGoesOut }
+{}
+
+/// Of messages that are asked one after the other this holds of each, by the vault that those before it
+/// leave.
+pub fn each_is_due()
+    ensures { EachIsDue }
+{}
+
+/// The text that answers a fault of the bytes never reads as an answer with a card number.
+pub fn faults_tell_no_number()
+    ensures { FaultsTellNoNumber }
 {}
 
 /// Vaults that agree on a merchant's rows and on a caller's records send that caller the same texts there.
