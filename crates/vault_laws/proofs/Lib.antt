@@ -1,5 +1,6 @@
 pub mod Apart
 pub mod Asking
+pub mod Clear
 pub mod Faults
 pub mod Giving
 pub mod Service

@@ -79,7 +79,8 @@ OnlyDueGoesOut =
     → Asks p pair x → text_at V x ≡ number_text number close → IsAskedWhereDue V p pair.0 number
 
 -- The same of messages that are asked one after the other: where the text that answers one reads so, it is
--- one of the messages, asked with one of the pairs, and the number is due by the vault that those before it leave.
+-- one of the messages, asked with one of the pairs, and the number is due by the vault that those before it
+-- leave.
 abbrev pub EachIsDue : Type 0
 EachIsDue =
     (V : Content) (ps : List Parts) (pairs : List Pair) (before later : List Exchange) (x : Exchange)

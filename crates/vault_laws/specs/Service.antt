@@ -1,7 +1,9 @@
 -- What a service does with a connection is one function of the vault, the bytes and the pairs.
-use Rattle.std.specs.Prelude.{◌≡◌, ◌⊎◌, ℕ, List, ◌++◌, take, Option, Some}
+use Rattle.std.specs.Prelude.{◌≡◌, ◌⊎◌, ℕ, List, ◌∷◌, ◌++◌, take, All, Option, Some}
+use Rattle.std.specs.List.{flat_map}
 use Rattle.vault_core.specs.Vault.{Vault as Content}
 use Rattle.vault_store.specs.declared.vault.Vault.{Vault}
+use Rattle.vault_wire.specs.Messages.{IsMessage, Request, print_message}
 use Rattle.vault_wire.specs.declared.fault.WireFault.{WireFault}
 use Rattle.vault_wire.specs.declared.watched.Watched.{Watched}
 use Rattle.vault_http.specs.Exchanges.{Pair, fault_text, last_text}
@@ -57,6 +59,13 @@ ServicesAgree w w' =
     (bytes : List ℕ) (pairs : List Pair) (V : Content) (served served' : Served)
     → Serves bytes pairs V w served → Serves bytes pairs V w' served'
     → DidTheSame w w' served served' ⊎ (HasAmbiguousRest bytes × DidTheSameTillFault w w' served served')
+
+-- Bytes that are whole messages, or a beginning of some, have no ambiguous rest: of these two services that
+-- served to the end did the same, to the byte.
+abbrev pub MessagesAreClear : Type 0
+MessagesAreClear =
+    (bytes more : List ℕ) (m : Request) (ms : List Request) → All IsMessage (m ∷ ms)
+    → bytes ++ more ≡ flat_map print_message (m ∷ ms) → ¬ HasAmbiguousRest bytes
 
 -- a service of these bytes, with these pairs, from this vault, stopped by a fault
 pub record StopsServing (bytes : List ℕ) (pairs : List Pair) (V : Content) (w : Passage) (e : ServeFault)

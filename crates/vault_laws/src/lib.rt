@@ -6,7 +6,8 @@ ghost use Rattle.vault_laws.specs.Agreement.{AmbiguousFitsTwo, FaultsDifferOnlyW
 ghost use Rattle.vault_laws.specs.Apart.{TextsAreIsolated};
 ghost use Rattle.vault_laws.specs.Giving.{EachIsDue, FaultsTellNoNumber, OnlyDueGoesOut};
 ghost use Rattle.vault_laws.specs.Giving.{OnlyDueIsGiven, TextsTellNumbers};
-ghost use Rattle.vault_laws.specs.Service.{EachPassage, ServicesAgree, StoppedServicesAgree};
+ghost use Rattle.vault_laws.specs.Service.{EachPassage, MessagesAreClear, ServicesAgree};
+ghost use Rattle.vault_laws.specs.Service.{StoppedServicesAgree};
 
 use std::io::Write;
 use vault_core::source::Source;
@@ -86,6 +87,11 @@ pub fn texts_are_isolated()
 pub fn services_agree<W: Write, T: Tables, S: Source, X: Write, U: Tables, P: Source>()
     ensures { EachPassage S.given W.contents T.is_honest T.holds T.leaves
         (λ w. EachPassage P.given X.contents U.is_honest U.holds U.leaves (λ v. ServicesAgree w v)) }
+{}
+
+/// Bytes that are whole messages, or a beginning of some, are ambiguous nowhere.
+pub fn messages_are_clear()
+    ensures { MessagesAreClear }
 {}
 
 /// A service that stopped, by any fault, sent a beginning of what one sends that serves the same bytes to the
