@@ -71,7 +71,7 @@ rows_proper who now digits (x ∷ xs) named at of asked =
     (rows_proper who now digits xs named at (All-tail (IsPairOf now digits) x.pair (pairs_of xs) of)
     (All-tail (Asks who) x xs asked))
 
-as_run : (V : Content) (xs : List Asked) → vault_after V xs ≡ run (commands_of xs) V
+pub as_run : (V : Content) (xs : List Asked) → vault_after V xs ≡ run (commands_of xs) V
 unfolding vault_after
 as_run V xs = refl
 

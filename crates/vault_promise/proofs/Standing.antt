@@ -13,11 +13,15 @@ use Rattle.vault_core.specs.declared.command.Command.{Command}
 use Rattle.vault_core.specs.declared.command.TokenRequest.{TokenRequest}
 use Rattle.vault_core.specs.declared.reply.Reply.{Reply}
 use Rattle.vault_core.specs.declared.reply.Reply.TheVariants.{Token}
+use Rattle.std.proofs.lemmas.Grind.{flat_map-append}
+use Rattle.vault_batch.specs.Asking.{Asked}
+use Rattle.vault_batch.specs.Lines as rows
 use Rattle.vault_http.specs.Exchanges.{commands_in, commands_of}
 use Rattle.vault_recover.specs.Histories.{Answered, IsHistory, Step, last}
 use Rattle.vault_jobs.specs.Streams.{Streams}
 use Rattle.vault_jobs.specs.declared.task.Task.{Task}
 use Rattle.vault_jobs.specs.declared.task.Task.TheVariants as task
+use Rattle.vault_promise.proofs.Batching.{as_run as rows_run}
 use Rattle.vault_promise.proofs.Coming.{answers_last, opening_last}
 use Rattle.vault_promise.proofs.Lasting.{last-append, parts}
 use Rattle.vault_promise.proofs.Piping.{as_run, commands-append}
@@ -114,7 +118,20 @@ texts_stand : (t : Task) (W : Content) (cs : List Command) (s : Streams) (Later 
 texts_stand (task.Change c) W cs s Later stand told = tt
 texts_stand (task.Give rights now) W cs s Later stand told = tt
 texts_stand (task.Sweep who now) W cs s Later stand told = tt
-texts_stand (task.Batch who now digits) W cs s Later stand told = tt
+texts_stand (task.Batch who now digits) W cs s Later stand (xs, asked, are, read, (sent, went)) = record {
+  rows = xs;
+  read = read;
+  sent = sent;
+  went = went;
+  stand = λ a again token expires y (first, more, it, is, wanted, replied) same later.
+      stand a again token expires y (
+        rows.commands_of first,
+        rows.commands_of more,
+        are ∙ ap rows.commands_of is ∙ flat_map-append (λ (x : Asked). commands_in x.wanted) first (it ∷ more)
+            ∙ ap (λ w. rows.commands_of first ++ (commands_in w ++ rows.commands_of more)) wanted,
+        subst (λ U. reply U (command_of a) ≡ Token token expires) (rows_run W first) replied,
+      ) same later;
+}
 texts_stand (task.Pipe now digits) W cs s Later stand (xs, are, heard, (fault, sent, went)) = record {
   exchanges = xs;
   heard = heard;

@@ -13,13 +13,15 @@ use Rattle.vault_core.specs.declared.command.Command.{Command}
 use Rattle.vault_core.specs.declared.command.TokenRequest.{TokenRequest}
 use Rattle.vault_core.specs.declared.reply.Reply.{Reply}
 use Rattle.vault_core.specs.declared.reply.Reply.TheVariants.{Token}
+use Rattle.vault_batch.specs.Asking.{Asked}
+use Rattle.vault_batch.specs.Lines.{first_line, lines, vault_after as vault_after_rows}
 use Rattle.vault_http.specs.Exchanges.{Exchange, last_text, texts, vault_after}
 use Rattle.vault_wire.specs.declared.fault.WireFault.{WireFault}
 use Rattle.vault_jobs.specs.Streams.{Streams}
 use Rattle.vault_jobs.specs.declared.task.Task.{Task}
 use Rattle.vault_jobs.specs.declared.task.Task.TheVariants.{Change, Give, Sweep, Batch, Pipe, Serve}
 use Rattle.vault_promise.specs.Runs.{AreOf, Come, Run, Runs, Work, before}
-use Rattle.vault_promise.specs.Told.{AreHeard}
+use Rattle.vault_promise.specs.Told.{AreHeard, AreRead}
 
 -- a run that worked answered this command so
 abbrev pub Answers : {V : Content} {c : Option Command} {r : Run} → Work V c r → Command → Reply → Type 0
@@ -55,12 +57,23 @@ pub record TextsStand (now : Option ℕ) (digits : Option (List ℕ)) (W : Conte
       (λ x y. (first more : List Exchange) × (it : Exchange) × (exchanges ≡ first ++ it ∷ more)
       × (it.wanted ≡ Ok x) × (reply (vault_after W first) x ≡ y)) Later
 
--- so of a run that answered the messages of its input
+-- and so what went out of rows: it is the lines that answer those that came in, up to some byte
+pub record LinesStand (now : Option ℕ) (digits : Option (List ℕ)) (W : Content) (s : Streams)
+    (Later : Command → Reply → Type 0) : Type 0 where
+  pub rows : List Asked
+  pub read : AreRead now digits s rows
+  pub sent : ℕ
+  pub went : Appends s.sent_old s.sent_new (take sent (first_line ++ lines W rows))
+  pub stand : TokensStand
+      (λ x y. (first more : List Asked) × (it : Asked) × (rows ≡ first ++ it ∷ more)
+      × (it.wanted ≡ Ok x) × (reply (vault_after_rows W first) x ≡ y)) Later
+
+-- so of a run that answered the messages or the rows of its input
 abbrev pub TellsStanding : Task → Content → Streams → (Command → Reply → Type 0) → Type 0
 TellsStanding (Change c) W s Later = Unit {0}
 TellsStanding (Give rights now) W s Later = Unit {0}
 TellsStanding (Sweep who now) W s Later = Unit {0}
-TellsStanding (Batch who now digits) W s Later = Unit {0}
+TellsStanding (Batch who now digits) W s Later = LinesStand now digits W s Later
 TellsStanding (Pipe now digits) W s Later = TextsStand now digits W s Later
 TellsStanding (Serve port connections) W s Later = Unit {0}
 
