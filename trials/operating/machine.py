@@ -30,13 +30,18 @@ def until(seconds, holds):
     return True
 
 
+def mirrors():
+    """Where this machine has its own packages from; none is debootstrap's own choice."""
+    told = must("apt-get", "indextargets", "--format", "$(CODENAME) $(REPO_URI)", "Created-By: Packages")
+    return [line.split()[1] for line in told.splitlines() if line.split()[0] == SUITE][:1]
+
+
 class Machine:
     """A booted Debian in a folder, without a network; it is gone at the end of a `with`."""
 
     def __init__(self, folder):
         self.folder = folder
-        mirrors = must("apt-get", "indextargets", "--format", "$(REPO_URI)", "Created-By: Packages")
-        must("debootstrap", "--variant=minbase", f"--include={EMPTY}", SUITE, folder, mirrors.split()[0])
+        must("debootstrap", "--variant=minbase", f"--include={EMPTY}", SUITE, folder, *mirrors())
         must("chroot", folder, "apt-get", "update")
         must("chroot", folder, "apt-get", "install", "-y", "--download-only", *FETCHED)
         self.boot()
