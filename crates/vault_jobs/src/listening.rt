@@ -19,9 +19,10 @@ use std::io;
 use std::io::Write;
 use std::net::TcpListener;
 use vault_http::fault::ServeFault;
-use vault_listen::arrivals::Arrivals;
 use vault_listen::fault::ListenFault;
+use vault_listen::peer::Limits;
 use vault_listen::service::serve_on;
+use vault_listen::tcp::TcpPeers;
 use vault_store::tables::Tables;
 use vault_store::vault::Vault;
 use vault_wire::watched::Watched;
@@ -78,12 +79,12 @@ pub fn serve_at<W: Write, T: Tables>(
     if let Err(fault) = answer(output, &["listening ", digits.format(listening.1), "\n"]) {
         return Err(Stop::Service(fault));
     }
-    let mut arrivals = Arrivals::new(&listening.0);
+    let mut peers = TcpPeers::new(rt.alloc(), &listening.0, rt, Limits::of_service());
     match serve_on(
         rt.alloc(),
         rt,
         &mut generator,
-        &mut arrivals,
+        &mut peers,
         connections,
         vault,
     ) {

@@ -1,3 +1,4 @@
 pub mod Asking
 pub mod Ending
 pub mod Following
+pub mod Linking

@@ -1,10 +1,11 @@
-//! A vault that is served over a listener, one connection after the other.
+//! A vault that is served over connections, one connection after the other.
 #![tactic(auto)]
 
-pub mod arrivals;
 pub mod connection;
 pub mod fault;
 pub mod linger;
 pub mod peer;
+pub mod peers;
 pub mod refusal;
 pub mod service;
+pub mod tcp;

@@ -2,10 +2,10 @@
 ghost use Rattle.std.specs.Prelude.{ℕ, ◌≤◌, List, length};
 ghost use Rattle.std.specs.Io.KnownBytes.{Consumes};
 
-use crate::peer::{Limits, Peer, PeerReader};
+use crate::peer::{Peer, PeerReader};
 use std::io::Read;
-use std::net::{Shutdown, TcpStream};
-use std::time::{Clock, Duration};
+use std::rc::Rc;
+use std::time::Clock;
 
 /// The most bytes that are thrown away at once.
 const PIECE: usize = 4096;
@@ -29,19 +29,15 @@ pub fn discard<R: Read>(reader: &mut R)
     }
 }
 
-/// Tells the peer that no more answers come, and takes at most 64 KiB of what it still sends, for so long.
+/// Tells the peer that no more answers come, and takes at most 64 KiB of what it still sends, for one turn.
 ///
 /// A connection that is closed while bytes of its peer are unread is reset, and what was under way to the
 /// peer may be lost.
-pub(crate) fn linger<C: Clock>(stream: &TcpStream, clock: &C, patience: Duration) {
-    if stream.shutdown(Shutdown::Write).is_err() {
+pub(crate) fn linger<C: Clock>(peer: &Rc<Peer<'_, C>>) {
+    if peer.begin_last_turn().is_err() {
         return;
     }
-    let limits = Limits {
-        turn: patience,
-        connection: patience,
-    };
-    if let Ok(peer) = Peer::new(stream, clock, limits) {
-        discard(&mut PeerReader::new(&peer));
+    if let Ok(peer) = peer.clone() {
+        discard(&mut PeerReader::new(peer));
     }
 }

@@ -2,7 +2,8 @@
 use std::cell::Cell;
 use std::io;
 use std::io::{ErrorKind, Read, Write};
-use std::net::TcpStream;
+use std::net::{Shutdown, TcpStream};
+use std::rc::Rc;
 use std::time::{Clock, Duration};
 
 /// How many seconds a message may take to come whole, and an answer to be taken.
@@ -33,27 +34,27 @@ impl Limits {
 
 /// A peer.
 #[derive(Drop)]
-pub struct Peer<'a, C> {
-    stream: &'a TcpStream,
-    clock: &'a C,
+pub struct Peer<'c, C> {
+    stream: TcpStream,
+    clock: &'c C,
     limits: Limits,
     /// When the connection ends, by the monotonic clock.
-    end: Duration,
+    end: Cell<Duration>,
     /// When the message or the answer that is under way began.
     begun: Cell<Duration>,
     /// How many bytes of an answer are still to be taken.
     rest: Cell<usize>,
 }
 
-impl<'a, C: Clock> Peer<'a, C> {
+impl<'c, C: Clock> Peer<'c, C> {
     /// The peer of a connection that is accepted now.
-    pub fn new(stream: &'a TcpStream, clock: &'a C, limits: Limits) -> io::Result<Peer<'a, C>> {
+    pub fn new(stream: TcpStream, clock: &'c C, limits: Limits) -> io::Result<Peer<'c, C>> {
         let now = clock.monotonic()?;
         Ok(Peer {
             stream,
             clock,
             limits,
-            end: now.saturating_add(limits.connection),
+            end: Cell::new(now.saturating_add(limits.connection)),
             begun: Cell::new(now),
             rest: Cell::new(0),
         })
@@ -61,7 +62,22 @@ impl<'a, C: Clock> Peer<'a, C> {
 
     /// When its connection ends.
     pub fn end(&self) -> Duration {
-        self.end
+        self.end.get()
+    }
+
+    /// Its connection.
+    pub fn stream(&self) -> &TcpStream {
+        &self.stream
+    }
+
+    /// Tells the peer that no more answers come, and gives it one more turn, at whose end its connection
+    /// ends.
+    pub(crate) fn begin_last_turn(&self) -> io::Result<()> {
+        self.stream.shutdown(Shutdown::Write)?;
+        let now = self.clock.monotonic()?;
+        self.end.set(now.saturating_add(self.limits.turn));
+        self.begun.set(now);
+        Ok(())
     }
 
     /// An answer that was taken whole at this moment begins the time of the next message.
@@ -84,26 +100,26 @@ impl<'a, C: Clock> Peer<'a, C> {
 
 /// Reads what a peer sends. A read fails once the time of the message or of the connection is over.
 #[derive(Drop)]
-pub struct PeerReader<'a, C> {
-    peer: &'a Peer<'a, C>,
+pub struct PeerReader<'c, C> {
+    peer: Rc<Peer<'c, C>>,
 }
 
-impl<'a, C: Clock> PeerReader<'a, C> {
+impl<'c, C: Clock> PeerReader<'c, C> {
     /// The reader of a peer.
-    pub fn new(peer: &'a Peer<'a, C>) -> PeerReader<'a, C> {
+    pub fn new(peer: Rc<Peer<'c, C>>) -> PeerReader<'c, C> {
         PeerReader { peer }
     }
 }
 
-impl<'a, C: Clock> Read for PeerReader<'a, C> {
+impl<'c, C: Clock> Read for PeerReader<'c, C> {
     fn read(&mut self, buf: &mut [u8]) -> io::Result<usize> {
         let now = self.peer.clock.monotonic()?;
-        let until_end = self.peer.end.saturating_sub(now);
+        let until_end = self.peer.end.get().saturating_sub(now);
         let wait = self.peer.time_left(now)?.min(until_end);
         if wait.is_zero() {
             return Err(ErrorKind::TimedOut.into());
         }
-        let mut stream = self.peer.stream;
+        let mut stream = self.peer.stream();
         stream.set_read_timeout(Some(wait))?;
         stream.read(buf)
     }
@@ -112,25 +128,25 @@ impl<'a, C: Clock> Read for PeerReader<'a, C> {
 /// Writes what a peer takes. A write fails once the time of the answer is over; a write that is cut short is
 /// followed by one of the rest.
 #[derive(Drop)]
-pub struct PeerWriter<'a, C> {
-    peer: &'a Peer<'a, C>,
+pub struct PeerWriter<'c, C> {
+    peer: Rc<Peer<'c, C>>,
 }
 
-impl<'a, C: Clock> PeerWriter<'a, C> {
+impl<'c, C: Clock> PeerWriter<'c, C> {
     /// The writer of a peer.
-    pub fn new(peer: &'a Peer<'a, C>) -> PeerWriter<'a, C> {
+    pub fn new(peer: Rc<Peer<'c, C>>) -> PeerWriter<'c, C> {
         PeerWriter { peer }
     }
 }
 
-impl<'a, C: Clock> Write for PeerWriter<'a, C> {
+impl<'c, C: Clock> Write for PeerWriter<'c, C> {
     fn write(&mut self, buf: &[u8]) -> io::Result<usize> {
         let now = self.peer.clock.monotonic()?;
         if self.peer.rest.get() == 0 {
             self.peer.begun.set(now);
         }
         let wait = self.peer.time_left(now)?;
-        let mut stream = self.peer.stream;
+        let mut stream = self.peer.stream();
         stream.set_write_timeout(Some(wait))?;
         let taken = stream.write(buf)?;
         self.peer.rest.set(buf.len().saturating_sub(taken));
@@ -141,7 +157,7 @@ impl<'a, C: Clock> Write for PeerWriter<'a, C> {
     }
 
     fn flush(&mut self) -> io::Result<()> {
-        let mut stream = self.peer.stream;
+        let mut stream = self.peer.stream();
         stream.flush()
     }
 }

@@ -1,17 +1,16 @@
-//! Connections of a listener, served one after the other by one vault.
-ghost use Rattle.std.specs.Prelude.{◌≡◌, ◌≢◌, ◌↔◌, false, true, Err, IsTrue, MatchResult};
+//! Connections of peers, served one after the other by one vault.
+ghost use Rattle.std.specs.Prelude.{◌≡◌, ◌≢◌, ◌↔◌, ◌++◌, ◌∷◌, [], List, Option, false, length, true, Err};
+ghost use Rattle.std.specs.Prelude.{IsTrue, MatchResult};
 ghost use Rattle.vault_store.specs.Applied.{is_broken, tables_of};
 ghost use Rattle.vault_http.specs.Passing.{Passage};
+ghost use Rattle.vault_listen.specs.Peers.{AreLinks, EndsBy, Event, IsClosedBy, IsLink, Link, events_of};
 ghost use Rattle.vault_listen.specs.Service.{AllKept, Leaves, OneUndecided, vault_passing};
 
-use crate::arrivals::Arrivals;
 use crate::connection::serve_connection;
 use crate::fault::ListenFault;
-use crate::linger::linger;
-use crate::peer::{Limits, Peer, PeerReader, PeerWriter};
+use crate::peers::{Accepted, Peers};
 use rand_core::Rng;
 use std::alloc::Global;
-use std::net::{OpenListener, TcpStream};
 use std::time::Clock;
 use vault_http::fault::ServeFault;
 use vault_http::served::Served;
@@ -33,16 +32,20 @@ fn store_failed(ended: Result<Served, ServeFault>) -> bool
     }
 }
 
-/// Serves an accepted connection. Its only fault is 63 Store; any other end is that connection's alone.
-fn serve_stream<C: Clock, G: Rng, T: Tables>(
+/// Serves an accepted connection, and closes it. Its only fault is 63 Store; any other end is that
+/// connection's alone.
+fn serve_link<P: Peers, C: Clock, G: Rng, T: Tables>(
     alloc: Global,
     clock: &C,
     generator: &mut G,
     routes: &Routes,
-    stream: &TcpStream,
-    limits: Limits,
+    peers: &mut P,
+    link: Accepted<P::Reader, P::Writer>,
     vault: &mut Vault<T>,
 ) -> Result<(), ListenFault>
+    ensures served { (x : Link) × IsLink T.is_honest T.holds T.leaves x vault.old vault.new
+        × IsClosedBy P.Reader.remaining P.Writer.contents (P.tells peers.old) (P.tells peers.new) link x
+        × MatchResult result (λ _. x.ended ≢ Err ServeFault.Store) (λ _. x.ended ≡ Err ServeFault.Store) }
     ensures left { let w : Passage = vault_passing T.is_honest T.holds T.leaves vault.old vault.new in
         MatchResult result (λ _. AllKept 1 w) (λ _. OneUndecided 1 w) }
     ensures store { MatchResult result (λ _. is_broken vault.new ≡ is_broken vault.old)
@@ -50,43 +53,46 @@ fn serve_stream<C: Clock, G: Rng, T: Tables>(
     ensures sturdy { T.may_fail ≡ false → is_broken vault.old ≡ false → ¬ (result ≡ Err ListenFault.Store) }
     ensures honest { T.is_honest (tables_of vault.new) → T.is_honest (tables_of vault.old) }
 {
-    let Ok(peer) = Peer::new(stream, clock, limits) else {
-        return Ok(());
-    };
-    let mut reader = Watched::new(PeerReader::new(&peer));
-    let mut writer = Watched::new(PeerWriter::new(&peer));
+    let mut reader = Watched::new(link.reader);
+    let mut writer = Watched::new(link.writer);
     let ended = serve_connection(
         alloc,
         clock,
         generator,
-        Some(peer.end()),
+        link.end,
         routes,
         &mut reader,
         &mut writer,
         vault,
     );
-    if !reader.failed() && !writer.failed() {
-        linger(stream, clock, limits.turn);
-    }
+    peers.close(reader, writer, ended);
     if store_failed(ended) {
         return Err(ListenFault::Store);
     }
     Ok(())
 }
 
-/// Serves connections as `serve_on` does, where a peer may take so long.
-pub fn serve_within<L: OpenListener<Stream = TcpStream>, C: Clock, G: Rng, T: Tables>(
+/// Serves so many connections of peers, one after the other, by one vault: each that comes, whether it was
+/// accepted or lost before.
+///
+/// A connection ends with its bytes, or at a message that closes it; after a fault of its bytes, which is
+/// answered; after 1000 messages, at a message after its end, or where the clock can't be read (60); where
+/// its peer fails (61, 62); or for want of memory (64). None of these ends the service.
+///
+/// 63 Store: the store failed, or the vault was broken before; nothing more is accepted. 64 Memory: memory
+/// was refused before the first connection. 80 Accept: no connection can be accepted.
+pub fn serve_on<P: Peers, C: Clock, G: Rng, T: Tables>(
     alloc: Global,
     clock: &C,
     generator: &mut G,
-    arrivals: &mut Arrivals<'_, L>,
+    peers: &mut P,
     connections: u64,
-    limits: Limits,
     vault: &mut Vault<T>,
 ) -> Result<(), ListenFault>
-    requires { arrivals.old.came ≡ 0 }
-    ensures left { let w : Passage = vault_passing T.is_honest T.holds T.leaves vault.old vault.new in
-        Leaves connections arrivals.new.came w result }
+    ensures served { let w : Passage = vault_passing T.is_honest T.holds T.leaves vault.old vault.new in
+        (xs : List (Option Link)) × Leaves connections (length xs) w result × EndsBy result xs
+        × AreLinks T.is_honest T.holds T.leaves xs vault.old vault.new
+        × ((log : List Event) → P.tells peers.old log → P.tells peers.new (log ++ events_of xs)) }
     ensures store { result ≡ Err ListenFault.Store → is_broken vault.new ≡ true }
     ensures others { result ≢ Err ListenFault.Store → is_broken vault.new ≡ is_broken vault.old }
     ensures memory { result ≡ Err ListenFault.Memory → vault.new ≡ vault.old }
@@ -97,51 +103,9 @@ pub fn serve_within<L: OpenListener<Stream = TcpStream>, C: Clock, G: Rng, T: Ta
         return Err(ListenFault::Memory);
     };
     for _ in 0..connections {
-        if let Some(stream) = arrivals.next()? {
-            serve_stream(alloc, clock, generator, &routes, &stream, limits, vault)?;
+        if let Some(link) = peers.accept()? {
+            serve_link(alloc, clock, generator, &routes, peers, link, vault)?;
         }
     }
     Ok(())
-}
-
-/// Serves so many connections, one after the other, by one vault: each that comes, whether it was accepted or
-/// lost before.
-///
-/// A connection ends with its bytes, or at a message that closes it; after a fault of its bytes, which is
-/// answered; after 1000 messages, or where the clock can't be read (60); where its peer fails (61, 62); where
-/// a message isn't whole 5 seconds after the connection was accepted or after the answer before it (61), or
-/// an answer isn't taken within 5 seconds (62); 60 seconds after it was accepted (61, or 60 where the next
-/// message was read before); or for want of memory (64). Unless its reader or writer failed, the peer is told
-/// that no more answers come, and what it still sends is thrown away, so that its answers reach it: at most
-/// 64 KiB, for at most 5 seconds. So a peer holds up the others for at most 70 seconds. None of these ends
-/// the service.
-///
-/// 63 Store: the store failed, or the vault was broken before; nothing more is accepted. 64 Memory: memory
-/// was refused before the first connection. 80 Accept: the listener failed.
-pub fn serve_on<L: OpenListener<Stream = TcpStream>, C: Clock, G: Rng, T: Tables>(
-    alloc: Global,
-    clock: &C,
-    generator: &mut G,
-    arrivals: &mut Arrivals<'_, L>,
-    connections: u64,
-    vault: &mut Vault<T>,
-) -> Result<(), ListenFault>
-    requires { arrivals.old.came ≡ 0 }
-    ensures left { let w : Passage = vault_passing T.is_honest T.holds T.leaves vault.old vault.new in
-        Leaves connections arrivals.new.came w result }
-    ensures store { result ≡ Err ListenFault.Store → is_broken vault.new ≡ true }
-    ensures others { result ≢ Err ListenFault.Store → is_broken vault.new ≡ is_broken vault.old }
-    ensures memory { result ≡ Err ListenFault.Memory → vault.new ≡ vault.old }
-    ensures sturdy { T.may_fail ≡ false → is_broken vault.old ≡ false → ¬ (result ≡ Err ListenFault.Store) }
-    ensures honest { T.is_honest (tables_of vault.new) → T.is_honest (tables_of vault.old) }
-{
-    serve_within(
-        alloc,
-        clock,
-        generator,
-        arrivals,
-        connections,
-        Limits::of_service(),
-        vault,
-    )
 }

@@ -11,10 +11,10 @@ use std::io;
 use std::io::{Write, read_to_string};
 use std::net::{Net, OpenListener, Shutdown, TcpListener, TcpStream};
 use std::time::Duration;
-use vault_listen::arrivals::Arrivals;
 use vault_listen::fault::ListenFault;
 use vault_listen::peer::{LONGEST, Limits, PATIENCE};
-use vault_listen::service::{serve_on, serve_within};
+use vault_listen::service::serve_on;
+use vault_listen::tcp::TcpPeers;
 use vault_script::case::wrong;
 use vault_store::memory::MemTables;
 use vault_store::tables::Tables;
@@ -92,14 +92,14 @@ fn serve_at<L: OpenListener<Stream = TcpStream>, T: Tables>(
         turn: Duration::from_millis(200),
         connection: Duration::from_secs(60),
     };
-    let mut arrivals = Arrivals::new(listener);
-    serve_within(
+    let clock = StandingClock::at(moment);
+    let mut peers = TcpPeers::new(alloc, listener, &clock, limits);
+    serve_on(
         alloc,
-        &StandingClock::at(moment),
+        &clock,
         &mut generator,
-        &mut arrivals,
+        &mut peers,
         connections,
-        limits,
         vault,
     )
 }
@@ -119,12 +119,12 @@ fn is_answered<H: Net<Listener = TcpListener, Stream = TcpStream> + AllocGlobal>
     let mut vault = shop(rt.alloc());
     let mut generator = StdRng::seed_from_u64(7);
     let clock = StandingClock::at(1000);
-    let mut arrivals = Arrivals::new(&listener);
+    let mut peers = TcpPeers::new(rt.alloc(), &listener, &clock, Limits::of_service());
     let ended = serve_on(
         rt.alloc(),
         &clock,
         &mut generator,
-        &mut arrivals,
+        &mut peers,
         1,
         &mut vault,
     );

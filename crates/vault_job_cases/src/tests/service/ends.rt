@@ -8,9 +8,10 @@ use std::alloc::Global;
 use std::io;
 use std::io::ErrorKind;
 use std::net::{Net, TcpListener, TcpStream};
-use vault_listen::arrivals::Arrivals;
 use vault_listen::fault::ListenFault;
+use vault_listen::peer::Limits;
 use vault_listen::service::serve_on;
+use vault_listen::tcp::TcpPeers;
 use vault_store::vault::Vault;
 
 /// Connections that are lost before they are accepted.
@@ -99,12 +100,12 @@ fn ends_alone<H: Net<Listener = TcpListener, Stream = TcpStream> + AllocGlobal>(
     let mut vault = shop(rt.alloc());
     let mut generator = StdRng::seed_from_u64(7);
     let clock = StandingClock::unread(1000, 1);
-    let mut arrivals = Arrivals::new(&listener);
+    let mut peers = TcpPeers::new(rt.alloc(), &listener, &clock, Limits::of_service());
     let ended = serve_on(
         rt.alloc(),
         &clock,
         &mut generator,
-        &mut arrivals,
+        &mut peers,
         2,
         &mut vault,
     );

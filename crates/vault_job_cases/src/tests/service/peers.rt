@@ -7,11 +7,12 @@ use std::alloc::{AllocError, Global};
 use std::io;
 use std::io::{Read, Write, read_to_string};
 use std::net::{Net, OpenListener, TcpListener, TcpStream};
+use std::rc::Rc;
 use std::time::Duration;
-use vault_listen::arrivals::Arrivals;
 use vault_listen::linger::discard;
 use vault_listen::peer::{Limits, PATIENCE, Peer, PeerReader, PeerWriter};
-use vault_listen::service::{serve_on, serve_within};
+use vault_listen::service::serve_on;
+use vault_listen::tcp::TcpPeers;
 
 /// Whether peers that go away end their own connection alone.
 fn go_away<H: Net<Listener = TcpListener, Stream = TcpStream> + AllocGlobal>(
@@ -52,15 +53,21 @@ fn an_idle_peer_is_waited_for_as_long_as_patience_lasts(rt: HostRuntime) {
 }
 
 /// Whether the waits of a stream are limited to five seconds both ways.
-fn are_limited<H: Net<Listener = TcpListener, Stream = TcpStream>>(rt: &H) -> io::Result<bool> {
+fn are_limited<H: Net<Listener = TcpListener, Stream = TcpStream> + AllocGlobal>(
+    rt: &H,
+) -> io::Result<bool> {
     let listener = listen(rt)?;
     let _other = open_peer(rt, &listener, b"a")?;
     let (stream, _) = listener.accept()?;
     let clock = StandingClock::at(1000);
-    let peer = Peer::new(&stream, &clock, Limits::of_service())?;
-    let read = PeerReader::new(&peer).read(&mut [0; 9])?;
-    let written = PeerWriter::new(&peer).write(b"ab")?;
+    let peer = Peer::new(stream, &clock, Limits::of_service())?;
+    let Ok(peer) = Rc::new(rt.alloc(), peer) else {
+        return Ok(false);
+    };
+    let read = PeerReader::new(peer.clone()?).read(&mut [0; 9])?;
+    let written = PeerWriter::new(peer.clone()?).write(b"ab")?;
     let patience = Some(Duration::from_secs(PATIENCE));
+    let stream = peer.stream();
     let is_waited = stream.read_timeout()? == patience && stream.write_timeout()? == patience;
     Ok(read == 1 && written == 2 && is_waited)
 }
@@ -84,14 +91,14 @@ fn ends_alone<H: Net<Listener = TcpListener, Stream = TcpStream> + AllocGlobal>(
     let asked = peer(rt, &listener, b"")?;
     let mut vault = shop(rt.alloc());
     let mut generator = StdRng::seed_from_u64(7);
-    let mut arrivals = Arrivals::new(&listener);
-    let ended = serve_within(
+    let clock = StandingClock::at(1000);
+    let mut peers = TcpPeers::new(rt.alloc(), &listener, &clock, NO_TIME);
+    let ended = serve_on(
         rt.alloc(),
-        &StandingClock::at(1000),
+        &clock,
         &mut generator,
-        &mut arrivals,
+        &mut peers,
         1,
-        NO_TIME,
         &mut vault,
     );
     Ok(ended == Ok(()) && is_told(rt.alloc(), asked, ""))
@@ -125,12 +132,12 @@ fn are_answered<H: Net<Listener = TcpListener, Stream = TcpStream> + AllocGlobal
     let mut vault = shop(rt.alloc());
     let mut generator = StdRng::seed_from_u64(7);
     let clock = StepClock::of(step);
-    let mut arrivals = Arrivals::new(&listener);
+    let mut peers = TcpPeers::new(rt.alloc(), &listener, &clock, Limits::of_service());
     let ended = serve_on(
         rt.alloc(),
         &clock,
         &mut generator,
-        &mut arrivals,
+        &mut peers,
         1,
         &mut vault,
     );

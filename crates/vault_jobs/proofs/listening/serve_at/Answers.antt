@@ -1,4 +1,4 @@
-use Rattle.std.proofs.Common.{◌≡◌, ◌++◌, List, ℕ, codes, decimal, inr, refl, subst}
+use Rattle.std.proofs.Common.{◌≡◌, ◌++◌, List, ℕ, codes, decimal, inr, length, refl, subst}
 use Rattle.std.specs.Io.KnownBytes.{Appends}
 use Rattle.vault_http.specs.Passing.{Passage}
 use Rattle.vault_listen.specs.Service.{vault_passing}
@@ -9,7 +9,7 @@ pub returns-in-Ok-serve_on-clause-kept : goal.returns-in-Ok-serve_on-clause-kept
 returns-in-Ok-serve_on-clause-kept g c = λ _.
     let w : Passage = vault_passing g.T.Tables.is_honest g.T.Tables.holds g.T.Tables.leaves
     c.args.vault.now c.serve_on.new.vault in
-    kept_of _ w c.in-Ok-serve_on.ensures.left.1
+    kept_of _ w c.in-Ok-serve_on.ensures.served.1.1
 
 pub returns-clause-kept : goal.returns-clause-kept
 returns-clause-kept g c = λ whole.
@@ -17,7 +17,7 @@ returns-clause-kept g c = λ whole.
     c.args.vault.now c.serve_on.new.vault in
     let e = c.in-Err-serve_on.fault in
     listen_kept e c.args.connections _ w (listen_other e _ _ refl whole c.in-Err-serve_on.ensures.store)
-    c.in-Err-serve_on.ensures.left
+    c.in-Err-serve_on.ensures.served.1
 
 pub returns-clause-torn : goal.returns-clause-torn
 returns-clause-torn g c = λ broken.
@@ -26,7 +26,7 @@ returns-clause-torn g c = λ broken.
     let e = c.in-Err-serve_on.fault in
     listen_torn e c.args.connections _ w
     (listen_store e _ _ _ refl c.requires broken c.in-Err-serve_on.ensures.others)
-    c.in-Err-serve_on.ensures.left
+    c.in-Err-serve_on.ensures.served.1
 
 pub returns-clause-does : goal.returns-clause-does
 returns-clause-does g c =
@@ -40,5 +40,5 @@ returns-clause-does g c =
         subst (λ (text : List ℕ). Appends old new (codes "listening " ++ text ++ codes "\n")) said
             c.in_default-answer.ensures.answered,
       ),
-      (c.serve_on.new.arrivals.came, c.in-Err-serve_on.ensures.left),
+      (length c.in-Err-serve_on.ensures.served.0, c.in-Err-serve_on.ensures.served.1),
     )

@@ -1,0 +1,70 @@
+use Rattle.std.proofs.Common.{◌≡◌, ap, false, refl, true}
+use Rattle.vault_listen.specs.Peers.{Link}
+use Rattle.vault_listen.proofs.Ending.{end_kept, end_undecided}
+use Rattle.vault_listen.proofs.Linking.{link_of}
+use Rattle.vault_listen.proofs.service.serve_link.Goals as goal
+
+pub returns-then-store_failed-clause-served : goal.returns-then-store_failed-clause-served
+returns-then-store_failed-clause-served g c =
+    let e = c.serve_connection-ended in
+    let remaining = g.P.Reader.Read.remaining in
+    let contents = g.P.Writer.Write.contents in
+    let x : Link = record {
+      came = remaining c.new-reader.result.inner;
+      left = remaining e.new.reader.inner;
+      had = contents c.new-writer.result.inner;
+      sent = contents e.new.writer.inner;
+      reader = e.new.reader.stopped;
+      writer = e.new.writer.stopped;
+      ended = e.result;
+    } in (
+      x,
+      link_of g.T.Tables.is_honest g.T.Tables.holds g.T.Tables.leaves x c.args.vault.now e.new.vault
+          c.new-reader.result.stopped c.new-writer.result.stopped e.ensures.told.0 e.ensures.answered.0
+          e.ensures.answered.1 e.ensures.answered.2 e.ensures.answered.3 c.new-reader.ensures.fresh
+          c.new-writer.ensures.fresh e.ensures.told.1 e.ensures.honest,
+      record {
+        gave = ap remaining c.new-reader.ensures.inner;
+        took = ap contents c.new-writer.ensures.inner;
+        closed = c.close.ensures;
+      },
+      c.if-store_failed.ensures.0 refl,
+    )
+
+pub returns-then-store_failed-clause-left : goal.returns-then-store_failed-clause-left
+returns-then-store_failed-clause-left g c =
+    end_undecided c.serve_connection-ended.result _ _ _ (c.if-store_failed.ensures.0 refl) refl
+    c.serve_connection-ended.ensures.answered.2 c.serve_connection-ended.ensures.answered.3
+
+pub returns-clause-served : goal.returns-clause-served
+returns-clause-served g c =
+    let e = c.serve_connection-ended in
+    let remaining = g.P.Reader.Read.remaining in
+    let contents = g.P.Writer.Write.contents in
+    let x : Link = record {
+      came = remaining c.new-reader.result.inner;
+      left = remaining e.new.reader.inner;
+      had = contents c.new-writer.result.inner;
+      sent = contents e.new.writer.inner;
+      reader = e.new.reader.stopped;
+      writer = e.new.writer.stopped;
+      ended = e.result;
+    } in (
+      x,
+      link_of g.T.Tables.is_honest g.T.Tables.holds g.T.Tables.leaves x c.args.vault.now e.new.vault
+          c.new-reader.result.stopped c.new-writer.result.stopped e.ensures.told.0 e.ensures.answered.0
+          e.ensures.answered.1 e.ensures.answered.2 e.ensures.answered.3 c.new-reader.ensures.fresh
+          c.new-writer.ensures.fresh e.ensures.told.1 e.ensures.honest,
+      record {
+        gave = ap remaining c.new-reader.ensures.inner;
+        took = ap contents c.new-writer.ensures.inner;
+        closed = c.close.ensures;
+      },
+      λ same. let e : false ≡ true = c.if-store_failed.ensures.1 same in absurd (cc),
+    )
+
+pub returns-clause-left : goal.returns-clause-left
+returns-clause-left g c =
+    end_kept c.serve_connection-ended.result _ _ _
+    (λ same. let e : false ≡ true = c.if-store_failed.ensures.1 same in absurd (cc)) refl
+    c.serve_connection-ended.ensures.answered.2 c.serve_connection-ended.ensures.answered.3

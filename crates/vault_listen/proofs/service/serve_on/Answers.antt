@@ -1,0 +1,132 @@
+use Rattle.std.proofs.Common.{◌≡◌, ◌+◌, ◌++◌, ◌∷◌, [], ◌∙◌, List, None, Option, Some, ap, arith, length}
+use Rattle.std.proofs.Common.{length-append}
+use Rattle.std.proofs.Common.{refl, subst, sym}
+use Rattle.std.proofs.lemmas.List.Elements.{All-append, All-cons, All-nil}
+use Rattle.vault_store.specs.Applied.{is_broken, tables_of}
+use Rattle.vault_listen.specs.Peers.{AreLinks, GoesOn, Link, events_of}
+use Rattle.vault_listen.specs.Service.{AllKept, OneUndecided, vault_passing}
+use Rattle.vault_listen.proofs.Ending.{lost_kept, none_kept}
+use Rattle.vault_listen.proofs.Following.{failed_in, kept_then, undecided_then}
+use Rattle.vault_listen.proofs.Linking.{closed_then, ended_in, links_then, lost_then, none_then, told_then}
+use Rattle.vault_listen.proofs.service.serve_on.Goals as goal
+use Rattle.vault_listen.proofs.service.serve_on.Goals.{in-Some+in_ok-serve_link, in_default-2}
+
+pub returns-in_default-clause-served : goal.returns-in_default-clause-served
+returns-in_default-clause-served g c = (
+  [],
+  (
+    refl,
+    none_kept (vault_passing g.T.Tables.is_honest g.T.Tables.holds g.T.Tables.leaves c.args.vault.now
+        c.args.vault.now) (λ V b. (b.1, g.met.T.Tables.settled _ V b.1.0 b.0)),
+  ),
+  refl,
+  refl,
+  none_then (g.P.Peers.tells c.args.peers.now),
+)
+
+pub loop-init : goal.loop-init
+loop-init g c = record {
+  links = [];
+  count = refl;
+  told = none_then (g.P.Peers.tells c.args.peers.now);
+  served = refl;
+  on = All-nil GoesOn;
+  left = none_kept (vault_passing g.T.Tables.is_honest g.T.Tables.holds g.T.Tables.leaves c.args.vault.now
+      c.args.vault.now) (λ V b. (b.1, g.met.T.Tables.settled _ V b.1.0 b.0));
+  whole = refl;
+  honest = λ h. h;
+}
+
+pub loop-preserved : goal.loop-preserved
+loop-preserved g c =
+    let inv = c.loop.invariant in
+    let honest = g.T.Tables.is_honest in
+    let holds = g.T.Tables.holds in
+    let leaves = g.T.Tables.leaves in
+    let tells = g.P.Peers.tells in
+    let remaining = g.P.Reader.Read.remaining in
+    let contents = g.P.Writer.Write.contents in
+    let v0 = c.args.vault.now in
+    let v1 = c.loop.vault in
+    elim c.match-branch-2.branch [
+      | in-Some+in_ok-serve_link w ↦
+          let it = w.in_ok-serve_link.ensures.served in
+          let x : Link = it.0 in
+          let v2 = w.serve_link.new.vault in
+          let p2 = w.serve_link.new.peers in
+          record {
+            links = inv.links ++ Some x ∷ [];
+            count = omega (arith, inv.count, length-append inv.links (Some x ∷ []));
+            told = subst (λ p. (log : _) → tells c.args.peers.now log
+                → tells p (log ++ events_of (inv.links ++ Some x ∷ []))) (sym w.peers-is)
+                (told_then (tells c.args.peers.now) (tells c.loop.peers) (tells p2) inv.links (Some x)
+                inv.told
+                (closed_then remaining contents (tells c.loop.peers) (tells c.accept.new.self) (tells p2)
+                c.in_ok-link.field-0 w.in-Some.link x w.in-Some.is c.in_ok-link.ensures.comes it.2));
+            served = subst (λ v. AreLinks honest holds leaves (inv.links ++ Some x ∷ []) v0 v)
+                (sym w.vault-is)
+                (links_then honest holds leaves inv.links (Some x ∷ []) v0 v1 v2 inv.served (v2, it.1, refl));
+            on = All-append GoesOn inv.links (Some x ∷ []) inv.on
+                (All-cons GoesOn (Some x) [] it.3 (All-nil GoesOn));
+            left = subst (λ v. AllKept (c.loop.counter + 1) (vault_passing honest holds leaves v0 v))
+                (sym w.vault-is)
+                (kept_then honest holds leaves v0 v1 v2 w.serve_link.ensures.honest
+                c.loop.counter inv.left w.in_ok-serve_link.ensures.left);
+            whole = ap is_broken w.vault-is ∙ w.in_ok-serve_link.ensures.store ∙ inv.whole;
+            honest = λ h. inv.honest
+                (w.serve_link.ensures.honest (subst (λ v. honest (tables_of v)) w.vault-is h));
+          }
+      | in_default-2 w ↦ let lost : List (Option Link) = None ∷ [] in record {
+        links = inv.links ++ None ∷ [];
+        count = omega (arith, inv.count, length-append inv.links lost);
+        told = subst (λ p. (log : _) → tells c.args.peers.now log
+            → tells p (log ++ events_of (inv.links ++ None ∷ []))) (sym w.peers-is)
+            (told_then (tells c.args.peers.now) (tells c.loop.peers) (tells c.accept.new.self) inv.links None
+            inv.told
+            (lost_then remaining contents (tells c.loop.peers) (tells c.accept.new.self)
+            c.in_ok-link.field-0 w.in_default-2.is c.in_ok-link.ensures.comes));
+        served = subst (λ v. AreLinks honest holds leaves (inv.links ++ None ∷ []) v0 v) (sym w.vault-is)
+            (links_then honest holds leaves inv.links (None ∷ []) v0 v1 v1 inv.served refl);
+        on = All-append GoesOn inv.links lost inv.on (All-cons GoesOn None [] tt (All-nil GoesOn));
+        left = subst (λ v. AllKept (c.loop.counter + 1) (vault_passing honest holds leaves v0 v))
+            (sym w.vault-is)
+            (kept_then honest holds leaves v0 v1 v1 (λ h. h) c.loop.counter inv.left
+            (lost_kept (vault_passing honest holds leaves v1 v1)
+            (λ V b. (b.1, g.met.T.Tables.settled _ V b.1.0 b.0))));
+        whole = ap is_broken w.vault-is ∙ inv.whole;
+        honest = λ h. inv.honest (subst (λ v. honest (tables_of v)) w.vault-is h);
+      }
+    ]
+
+pub returns-in_err-serve_link-clause-served : goal.returns-in_err-serve_link-clause-served
+returns-in_err-serve_link-clause-served g c =
+    let inv = c.loop.invariant in
+    let honest = g.T.Tables.is_honest in
+    let holds = g.T.Tables.holds in
+    let leaves = g.T.Tables.leaves in
+    let tells = g.P.Peers.tells in
+    let v0 = c.args.vault.now in
+    let v1 = c.loop.vault in
+    let v2 = c.serve_link.new.vault in
+    let p2 = c.serve_link.new.peers in
+    let w = vault_passing honest holds leaves v0 v2 in
+    let it = c.in_err-serve_link.ensures.served in
+    let x : Link = it.0 in
+    let xs = inv.links ++ Some x ∷ [] in
+    let r = c.from_residual-in_err-serve_link.result in
+    let passed = c.from_residual-in_err-serve_link.ensures.1 in
+    let store = c.in_err-serve_link.ensures.store.0 in
+    let count : length xs ≡ c.loop.counter + 1 =
+    omega (arith, inv.count, length-append inv.links (Some x ∷ [])) in (
+      xs,
+      failed_in c.args.connections (length xs) w r _ passed store (omega (arith, count, c.loop-test.true))
+          (subst (λ n. OneUndecided n w) (sym count)
+          (undecided_then honest holds leaves v0 v1 v2 c.serve_link.ensures.honest c.loop.counter inv.left
+          c.in_err-serve_link.ensures.left)),
+      ended_in r _ passed store inv.links x inv.on it.3,
+      links_then honest holds leaves inv.links (Some x ∷ []) v0 v1 v2 inv.served (v2, it.1, refl),
+      told_then (tells c.args.peers.now) (tells c.loop.peers) (tells p2) inv.links (Some x) inv.told
+          (closed_then g.P.Reader.Read.remaining g.P.Writer.Write.contents (tells c.loop.peers)
+          (tells c.accept.new.self) (tells p2) c.in_ok-link.field-0 c.in-Some.link x c.in-Some.is
+          c.in_ok-link.ensures.comes it.2),
+    )

@@ -1,0 +1,117 @@
+-- What is told of the peers of a service.
+use Rattle.std.specs.Prelude.{◌≡◌, ◌≢◌, ◌≤◌, ℕ, ◌+◌, List, [], ◌∷◌, ◌++◌, All, Bool, false, Option}
+use Rattle.std.specs.Prelude.{Some, None, Result, Ok, Err, length, MatchResult}
+use Rattle.vault_core.specs.Vault.{Vault as Content}
+use Rattle.vault_store.specs.Applied.{is_broken, tables_of}
+use Rattle.vault_store.specs.declared.vault.Vault.{Vault}
+use Rattle.vault_http.specs.Exchanges.{Pair}
+use Rattle.vault_http.specs.Faults.{Tells, failures}
+use Rattle.vault_http.specs.Passing.{Passage}
+use Rattle.vault_http.specs.Served.{IsServed, IsStopped}
+use Rattle.vault_http.specs.declared.fault.ServeFault.{ServeFault}
+use Rattle.vault_http.specs.declared.fault.ServeFault.TheVariants as fault
+use Rattle.vault_http.specs.declared.served.Served.{Served}
+use Rattle.vault_live.specs.Live.{IsPairOf}
+use Rattle.vault_listen.specs.Service.{vault_passing}
+use Rattle.vault_listen.specs.declared.peers.Accepted.{Accepted}
+use Rattle.vault_listen.specs.declared.fault.ListenFault.{ListenFault}
+use Rattle.vault_listen.specs.declared.fault.ListenFault.TheVariants.{Store, Memory, Accept}
+
+-- bytes as a reader has them left, or as a writer has taken them
+abbrev pub Known : Type 0
+Known = Option (List ℕ)
+
+-- What happens to a connection. It is lost before it is accepted; or it comes, with what its reader has to
+-- give and what its writer has taken, and is closed, with what its reader has left, what its writer has
+-- taken, whether the one and the other failed, and how the service of it ended.
+pub data Event : Type 0 where
+  Lost : Event
+  Came : Known → Known → Event
+  Closed : Known → Known → Bool → Bool → Result Served ServeFault → Event
+
+-- the event of an accept
+abbrev pub coming : {R W : Type 0} → (R → Known) → (W → Known) → Option (Accepted R W) → Event
+coming remaining contents None = Lost
+coming remaining contents (Some it) = Came (remaining it.reader) (contents it.writer)
+
+-- how many connections came, whether they were accepted or lost before
+abbrev pub came_in : List Event → ℕ
+came_in [] = 0
+came_in (Lost ∷ log) = came_in log + 1
+came_in (Came came had ∷ log) = came_in log + 1
+came_in (Closed left sent reader writer ended ∷ log) = came_in log
+
+-- A connection that was accepted and closed: the bytes that its reader had to give and has left, those that
+-- its writer had taken and has taken, whether the one and the other failed, and how the service of it ended.
+pub record Link : Type 0 where
+  pub came : Known
+  pub left : Known
+  pub had : Known
+  pub sent : Known
+  pub reader : Bool
+  pub writer : Bool
+  pub ended : Result Served ServeFault
+
+-- the event of a close
+abbrev pub closing : Link → Event
+closing x = Closed x.left x.sent x.reader x.writer x.ended
+
+-- the connection that was accepted is this one, and it was closed
+pub record IsClosedBy {R W : Type 0} (remaining : R → Known) (contents : W → Known)
+    (old new : List Event → Type 0) (it : Accepted R W) (x : Link) : Type 0 where
+  pub gave : x.came ≡ remaining it.reader
+  pub took : x.had ≡ contents it.writer
+  pub closed : (log : List Event) → old log → new (log ++ closing x ∷ [])
+
+-- the events of connections, one after the other, some of which were lost
+abbrev pub events_of : List (Option Link) → List Event
+events_of [] = []
+events_of (None ∷ xs) = Lost ∷ events_of xs
+events_of (Some x ∷ xs) = Came x.came x.had ∷ closing x ∷ events_of xs
+
+-- the passage of a vault in which a source gave these pairs, and the writer of a connection took its bytes
+abbrev pub link_passing : {T : Type 0} → (T → Type 0) → (T → Content → Type 0)
+    → (T → Content → Content → Type 0) → Vault T → Vault T → List Pair → Link → Passage
+link_passing honest holds leaves v v' pairs x = record (vault_passing honest holds leaves v v') {
+  given_new = pairs;
+  sent_old = x.had;
+  sent_new = x.sent;
+}
+
+-- One connection was served by a vault, or the service of it stopped: what was read are its own bytes, what
+-- went out are its own answers, and its pairs are a moment and a drawing each, at most 1000. A fault comes
+-- exactly where its own one fails.
+pub record IsLink {T : Type 0} (honest : T → Type 0) (holds : T → Content → Type 0)
+    (leaves : T → Content → Content → Type 0) (x : Link) (v v' : Vault T) : Type 0 where
+  pub pairs : List Pair
+  pub few : length pairs ≤ 1000
+  pub own : All (IsPairOf None None) pairs
+  pub answered : MatchResult x.ended
+      (IsServed x.came x.left (link_passing honest holds leaves v v' pairs x))
+      (IsStopped x.came x.left (link_passing honest holds leaves v v' pairs x))
+  pub refused : Bool
+  pub told : Tells x.ended (failures false false false (is_broken v))
+      (failures refused x.reader x.writer (is_broken v'))
+  pub back : honest (tables_of v') → honest (tables_of v)
+
+-- connections were served one after the other, each by the vault that those before it leave
+abbrev pub AreLinks : {T : Type 0} → (T → Type 0) → (T → Content → Type 0)
+    → (T → Content → Content → Type 0) → List (Option Link) → Vault T → Vault T → Type 0
+AreLinks honest holds leaves [] v v' = v' ≡ v
+AreLinks honest holds leaves (None ∷ xs) v v' = AreLinks honest holds leaves xs v v'
+AreLinks {T} honest holds leaves (Some x ∷ xs) v v' = (middle : Vault T)
+    × IsLink honest holds leaves x v middle × AreLinks honest holds leaves xs middle v'
+
+-- the store didn't fail in a connection
+abbrev pub GoesOn : Option Link → Type 0
+GoesOn None = Unit {0}
+GoesOn (Some x) = x.ended ≢ Err fault.Store
+
+-- The connections by how the service ends: the store fails in the last one where it ends with 63, and in none
+-- else; none comes where memory is refused before the first.
+abbrev pub EndsBy : Result Unit ListenFault → List (Option Link) → Type 0
+EndsBy (Ok done) xs = All GoesOn xs
+EndsBy (Err Store) xs = (first : List (Option Link)) × (last : Link) × (xs ≡ first ++ Some last ∷ [])
+    × All GoesOn first × (last.ended ≡ Err fault.Store)
+EndsBy (Err Memory) xs = xs ≡ []
+EndsBy (Err Accept) xs = All GoesOn xs

@@ -1,0 +1,60 @@
+//! Where the connections of a service come from.
+ghost use Rattle.std.specs.Prelude.{◌≡◌, ◌++◌, [], ◌∷◌, List, IfErr, IfOk};
+ghost use Rattle.vault_wire.specs.Watching.{inner_of, is_stopped};
+ghost use Rattle.vault_listen.specs.Peers.{Event, coming};
+ghost use Rattle.vault_listen.specs.declared.fault.ListenFault.TheVariants.{Accept};
+ghost use Rattle.vault_listen.specs.Peers.Event.{Closed};
+
+use crate::fault::ListenFault;
+use std::io::{Read, Write};
+use std::time::Duration;
+use vault_http::fault::ServeFault;
+use vault_http::served::Served;
+use vault_wire::watched::Watched;
+
+/// A connection that was accepted.
+#[derive(Drop)]
+pub struct Accepted<R, W> {
+    /// Reads what its peer sends.
+    pub reader: R,
+    /// Writes what its peer takes.
+    pub writer: W,
+    /// From when on none of its messages is taken up, by the monotonic clock.
+    pub end: Option<Duration>,
+}
+
+/// Peers, whose connections are accepted and closed one after the other.
+///
+/// Contracts see what is told of them: which connections came and were closed so far, with the bytes that
+/// their readers had to give and their writers had taken, where those are known.
+pub trait Peers {
+    ghost use Rattle.std.specs.Prelude.{List};
+    ghost use Rattle.vault_listen.specs.Peers.{Event};
+
+    type Reader: Read + Drop;
+
+    type Writer: Write + Drop;
+
+    // such may the events so far have been
+    ghost tells: { Self → List Event → Type 0 };
+
+    /// Waits for the next connection. One that was lost before it was accepted comes too, without a stream.
+    ///
+    /// 80 Accept: none can be accepted.
+    fn accept(&mut self) -> Result<Option<Accepted<Self::Reader, Self::Writer>>, ListenFault>
+        ensures comes { IfOk result (λ it. (log : List Event) → tells self.old log
+            → tells self.new (log ++ coming Self.Reader.remaining Self.Writer.contents it ∷ [])) }
+        ensures fails { IfErr result (λ fault. (fault ≡ Accept)
+            × ((log : List Event) → tells self.old log → tells self.new log)) };
+
+    /// Closes the connection that was accepted last, whose service ended so.
+    fn close(
+        &mut self,
+        reader: Watched<Self::Reader>,
+        writer: Watched<Self::Writer>,
+        ended: Result<Served, ServeFault>,
+    )
+        ensures { (log : List Event) → tells self.old log → tells self.new (log
+            ++ Closed (Self.Reader.remaining (inner_of reader)) (Self.Writer.contents (inner_of writer))
+            (is_stopped reader) (is_stopped writer) ended ∷ []) };
+}

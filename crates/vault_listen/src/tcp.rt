@@ -1,0 +1,143 @@
+//! The connections that come to a TCP listener.
+ghost use Rattle.std.specs.Prelude.{◌≡◌};
+
+use crate::fault::ListenFault;
+use crate::linger::linger;
+use crate::peer::{Limits, Peer, PeerReader, PeerWriter};
+use crate::peers::{Accepted, Peers};
+use std::alloc::Global;
+use std::io::ErrorKind;
+use std::net::{OpenListener, TcpStream};
+use std::rc::Rc;
+use std::time::Clock;
+use vault_http::fault::ServeFault;
+use vault_http::served::Served;
+use vault_wire::watched::Watched;
+
+/// Whether a failed accept lost one connection, and the listener can go on. A signal isn't among them: the
+/// accept of `TcpListener` calls again after one.
+fn loses_one(kind: ErrorKind) -> bool {
+    match kind {
+        ErrorKind::ConnectionAborted
+        | ErrorKind::ConnectionReset
+        | ErrorKind::HostUnreachable
+        | ErrorKind::NetworkDown
+        | ErrorKind::NetworkUnreachable => true,
+        _ => false,
+    }
+}
+
+/// A TCP listener, how many connections came to it, and the one that is open.
+///
+/// A message that isn't whole in the time of a turn, since the connection was accepted or the answer before
+/// it was taken, ends its connection (61), and so does an answer that isn't taken in that time (62), or the
+/// end of the connection's own time (61, or 60 where the next message was read before). With the limits of a
+/// service that is 5 seconds and 60. Unless its reader or writer failed, the peer is told at the close that
+/// no more answers come, and what it still sends is thrown away, so that its answers reach it: at most
+/// 64 KiB, for at most one turn. So a peer holds up the others for at most 70 seconds. A connection for which
+/// the clock can't be read or memory is refused is lost.
+#[derive(Drop)]
+pub struct TcpPeers<'l, 'c, L, C> {
+    alloc: Global,
+    listener: &'l L,
+    clock: &'c C,
+    limits: Limits,
+    came: u64,
+    open: Option<Rc<Peer<'c, C>>>,
+}
+
+impl<'l, 'c, L: OpenListener<Stream = TcpStream>, C: Clock> TcpPeers<'l, 'c, L, C> {
+    /// A listener to which none came yet, whose peers may take so long.
+    pub fn new(
+        alloc: Global,
+        listener: &'l L,
+        clock: &'c C,
+        limits: Limits,
+    ) -> TcpPeers<'l, 'c, L, C>
+        ensures { result.came ≡ 0 }
+    {
+        TcpPeers {
+            alloc,
+            listener,
+            clock,
+            limits,
+            came: 0,
+            open: None,
+        }
+    }
+
+    /// The reader and the writer of a connection that is accepted now.
+    fn opened(
+        &mut self,
+        stream: TcpStream,
+    ) -> Option<Accepted<PeerReader<'c, C>, PeerWriter<'c, C>>>
+        ensures { self.new.came ≡ self.old.came }
+    {
+        let peer = Peer::new(stream, self.clock, self.limits).ok()?;
+        let end = Some(peer.end());
+        let peer = Rc::new(self.alloc, peer).ok()?;
+        let reader = PeerReader::new(peer.clone().ok()?);
+        let writer = PeerWriter::new(peer.clone().ok()?);
+        self.open = Some(peer);
+        Some(Accepted {
+            reader,
+            writer,
+            end,
+        })
+    }
+}
+
+/// Nothing is told of the bytes, only how many connections came.
+impl<'l, 'c, L: OpenListener<Stream = TcpStream>, C: Clock> Peers for TcpPeers<'l, 'c, L, C> {
+    ghost use Rattle.std.specs.Prelude.{◌++◌, ◌∷◌, [], List, None};
+    ghost use Rattle.vault_wire.specs.Watching.{is_stopped};
+    ghost use Rattle.vault_listen.specs.Peers.{Event, came_in};
+    ghost use Rattle.vault_listen.specs.Peers.Event.{Closed};
+
+    type Reader = PeerReader<'c, C>;
+
+    type Writer = PeerWriter<'c, C>;
+
+    ghost tells = { λ peers log. came_in log ≡ peers.came };
+
+    fn accept(
+        &mut self,
+    ) -> Result<Option<Accepted<PeerReader<'c, C>, PeerWriter<'c, C>>>, ListenFault> {
+        let Some(came) = self.came.checked_add(1) else {
+            return Err(ListenFault::Accept);
+        };
+        let stream = match self.listener.accept() {
+            Ok((stream, _)) => Some(stream),
+            Err(error) if loses_one(error.kind()) => None,
+            Err(_) => return Err(ListenFault::Accept),
+        };
+        self.came = came;
+        match stream {
+            Some(stream) => Ok(self.opened(stream)),
+            None => Ok(None),
+        }
+    }
+
+    #[tactic(auto, using(crate::proofs::Linking::closed_none))]
+    fn close(
+        &mut self,
+        reader: Watched<PeerReader<'c, C>>,
+        writer: Watched<PeerWriter<'c, C>>,
+        ended: Result<Served, ServeFault>,
+    )
+        ensures { (log : List Event) → came_in log ≡ self.old.came
+            → came_in (log
+            ++ Closed None None (is_stopped reader.entry) (is_stopped writer.entry) ended ∷ [])
+            ≡ self.new.came }
+    {
+        let Some(peer) = self.open.take() else {
+            return;
+        };
+        match ended {
+            Err(ServeFault::Read | ServeFault::Write) => {}
+            Ok(_) | Err(ServeFault::Source | ServeFault::Store | ServeFault::Memory) => {
+                linger(&peer)
+            }
+        }
+    }
+}
