@@ -13,13 +13,14 @@ use Rattle.sqlite_wal.specs.Recovery.{Image}
 use Rattle.sql_maps.specs.Schema.{no_schema}
 use Rattle.vault_core.specs.Sound.{Sound}
 use Rattle.vault_core.specs.Vault.{Vault, empty_vault}
-use Rattle.vault_file.proofs.Opening.{no_verdict}
+use Rattle.vault_file.proofs.Opening.{found_in as held_there, no_verdict}
 use Rattle.vault_file.specs.Found.{IsNoVerdict, SparesStopped}
 use Rattle.vault_file.specs.Moved.{LeavesOld, MovesAs, MovesFrom, StaysOld}
 use Rattle.vault_file.specs.declared.fault.NotOpened.{NotOpened}
 use Rattle.vault_file.specs.declared.fault.NotOpened.TheVariants.{Fault}
-use Rattle.vault_file.proofs.Reopened.{in_again, some_again}
-use Rattle.vault_migrate.specs.Moved.{HoldsSoundIn, IsMovable, IsOlder, LeavesIn, LeavesSome}
+use Rattle.vault_file.proofs.Reopened.{in_again, some_again, sound_again}
+use Rattle.vault_migrate.specs.Moved.{HoldsSoundIn, IsKnown, IsMovable, IsOlder, IsSoundWhereFull, LeavesIn}
+use Rattle.vault_migrate.specs.Moved.{LeavesSome}
 use Rattle.vault_file.specs.Reopened.{KeepsIn, KeepsSome, ReopensIn, ReopensSome}
 use Rattle.vault_recover.specs.Crashed.{AreBlank, HoldsEither, HoldsFirst, IsOpenOf, KeepsEither, KeepsFirst}
 use Rattle.vault_recover.specs.Crashed.{Reopens}
@@ -62,8 +63,10 @@ module _ {D : Type 0} {g : Ghosts D} (image : Image) (first last : Held (FileSto
         → (HasCleanDisk (file_state first) → (V W : Vault) → KeepsEither image V W
         → HoldsEither (file_state first) V W)
         → (HasCleanDisk (file_state first) → (before : Trees) → AreBlank before → KeepsFirst image before
-        → HoldsFirst (file_state first) before) → MovesFrom image last
-    moves_from blank sound either one = record {
+        → HoldsFirst (file_state first) before)
+        → IsKnown (file_state first).now
+        → (HasCleanDisk (file_state last) → IsSoundWhereFull (file_state first).now) → MovesFrom image last
+    moves_from blank sound either one known stood = record {
       first = first;
       found = found;
       moved = λ clean v V keeps. moves_on clean v V (found_in clean v V keeps);
@@ -82,6 +85,19 @@ module _ {D : Type 0} {g : Ghosts D} (image : Image) (first last : Held (FileSto
                 (held_in_newest empty_vault (file_state first) ours)
           ]);
       sound = sound;
+      stood = λ clean. (
+        (file_state first).now,
+        held_there image first found (was_clean clean),
+        record {
+          known = known;
+          sound = λ v full.
+              let it = stood clean v full in (
+                it,
+                moves_on clean v it.vault
+                    (sound_again image first (found (was_clean clean)) unlimited v it),
+              );
+        },
+      );
     }
 
   -- a sound vault that is held in a version can be moved
@@ -150,6 +166,16 @@ moves_as image conn left it was after = record {
   blank = λ clean before none keeps bytes may found finds.
       ∥∥₁_map (it.blank (was clean) before none keeps)
       (λ held. after clean empty_vault held bytes may found finds);
+  stood = λ clean.
+      let db = it.stood (was clean) in (
+        db.0,
+        db.1,
+        record {
+          known = db.2.known;
+          sound = λ v full.
+              let stands = db.2.sound v full in (stands.0, after clean stands.0.vault stands.1);
+        },
+      );
 }
 
 -- and after one that is refused

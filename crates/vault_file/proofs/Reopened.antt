@@ -21,6 +21,7 @@ use Rattle.vault_schema.specs.Stands.{lookups_of}
 use Rattle.vault_schema.specs.Versions.{Stand, schema_of}
 use Rattle.vault_schema.specs.declared.version.Version.{Version}
 use Rattle.vault_steps.specs.Entries.{AreSome}
+use Rattle.vault_verdict.specs.Opened.{StandsSoundIn}
 
 -- where each state that a crash leaves stands for the vault in some version
 pub reopens_some : {D : Type 0} {g : Ghosts D} (it : FileStore D g) → IsTrue (files.view it).is_numbered
@@ -57,6 +58,16 @@ module _ {D : Type 0} {g : Ghosts D} (image : Image) (c : Held (FileStore D g)) 
       sound = fine image c is unlimited;
       stand = subst (λ (t : Trees). Stand v t (lookups_of V)) (sym (now_trees image c is unlimited)) a.stand;
     };
+  }
+
+  -- a database that stands for a sound vault in a version
+  pub sound_again : (v : Version) (it : StandsSoundIn v (file_state c).now)
+      → HoldsIn v it.vault (file_state c)
+  sound_again v it = record {
+    free = record { is_open = is.opened.0.is_open; unlimited = unlimited };
+    autocommit = is.opened.0.autocommit;
+    settled = is.opened.0.clean;
+    is = record { schema = it.schema; sound = fine image c is unlimited; stand = it.stand };
   }
 
   -- files that keep the vault in a version

@@ -18,6 +18,7 @@ use Rattle.sql_maps.specs.Schema.{no_schema}
 use Rattle.sql_maps.specs.States.{LeavesNoMore}
 use Rattle.vault_file.specs.Found.{LeavesWhole, MayFindNone, StaysWhole}
 use Rattle.vault_recover.specs.Crashed.{AreBlank, IsOpenOf, MayFind}
+use Rattle.vault_schema.specs.Schema.{newest_schema}
 use Rattle.vault_schema.specs.Stands.{newest}
 use Rattle.vault_schema.specs.Versioned.{HasVersion}
 use Rattle.vault_verdict.proofs.InVersion.{has_version_in}
@@ -37,6 +38,14 @@ fault_of (Err e) other = e
 decided : (told : Bool) (P : Type 0) → Decides told P → P ⊎ ¬ P
 decided true P is = inl (is.0 refl)
 decided false P is = inr (λ holds. let clash : false ≡ true = is.1 holds in cc (clash))
+
+-- where the tables are no other program's there is none, or they are a vault's
+pub whose_of : (h : Holder) (s : Schema) → IsOf h s → (IsForeign s → ⊥)
+    → (s ≡ no_schema) ⊎ (s ≡ newest_schema)
+whose_of holder.Nobody s is other = inl is
+whose_of holder.Vault s is other = inr is
+whose_of holder.Mixed s is other = absurd (other is.0)
+whose_of holder.Other s is other = absurd (other is.0)
 
 module _ {D : Type 0} {g : Ghosts D} where
   -- a call that leaves no more than its open found

@@ -30,6 +30,7 @@ use Rattle.sqlite.specs.Schema.{Schema}
 use Rattle.sqlite_catalog.specs.Listing.{IsSound}
 use Rattle.sqlite_store.specs.FileStore as files
 use Rattle.sql_maps.specs.Schema.{no_schema}
+use Rattle.vault_schema.specs.Schema.{newest_schema}
 
 -- no file's name: nothing at all, `:memory:`, and what begins with `file:`
 abbrev pub IsNoPath : List ℕ → Type 0
@@ -71,6 +72,12 @@ MayFindNone image = (found : Trees) × AreBlank found × MayFind image found
 -- these are the sizes of the vault there: the empty one, where there is no table
 abbrev pub HasSizes : Database → Sizes → Type 0
 HasSizes db sizes = (db.schema ≡ no_schema) × (sizes ≡ sizes_of empty_vault) ⊎ IsSoundOf db sizes
+
+-- A check tells these sizes of such a database alone: it has no table, or those of a vault and no others; and
+-- where no row lacks its last column, the sizes are its.
+pub record IsVaultOf (db : Database) (sizes : Sizes) : Type 0 where
+  pub whose : (db.schema ≡ no_schema) ⊎ (db.schema ≡ newest_schema)
+  pub sizes_are : IsFull db → HasSizes db sizes
 
 module _ {D : Type 0} {g : Ghosts D} where
   -- A connection was opened over files with these bytes, and this one comes from opening the vault there.
@@ -130,8 +137,8 @@ module _ {D : Type 0} {g : Ghosts D} where
   StaysWhole image left = IsClean (view left) → (next : Image) → (files.state left).may_leave next
       → (found : Trees) → MayFind next found → MayFind image found
 
-  -- The files that are left of a check that came to these sizes: those of the vault that the bytes hold; and
-  -- a vault that the bytes keep they keep.
+  -- The files that are left of a check that came to these sizes. The bytes hold no other program's tables,
+  -- and the sizes are those of the vault that they hold; and a vault that the bytes keep they keep.
   pub record ChecksAs (image : Image) (left : FileStore D g) (sizes : Sizes) : Type 0 where
-    pub sizes_are : IsClean (view left) → HoldsSuch image (λ db. IsFull db → HasSizes db sizes)
+    pub sizes_are : IsClean (view left) → HoldsSuch image (λ db. IsVaultOf db sizes)
     pub kept : IsClean (view left) → (V : Vault) → Sound V → Keeps image V → Reopens left V

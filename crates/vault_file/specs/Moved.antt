@@ -1,5 +1,6 @@
 -- What a migration makes of the files at a path, and what it leaves.
 use Rattle.std.specs.Prelude.{◌≡◌, ◌≢◌, ℕ, ℤ}
+use Rattle.sqlite.specs.Effect.{Database}
 use Rattle.sqlite.specs.Files.{file_state}
 use Rattle.sqlite.specs.Held.{Held}
 use Rattle.sqlite.specs.State.{HasCleanDisk}
@@ -15,10 +16,11 @@ use Rattle.vault_file.specs.Found.{HoldsSuch, IsNoVerdict, SparesStopped}
 use Rattle.vault_file.specs.Reopened.{KeepsIn, KeepsSome, ReopensIn, ReopensSome}
 use Rattle.vault_file.specs.declared.fault.NotOpened.{NotOpened}
 use Rattle.vault_file.specs.declared.fault.NotOpened.TheVariants.{Fault}
-use Rattle.vault_migrate.specs.Moved.{FindsBroken, FindsVersion, HoldsSoundIn, IsOlder, LeavesIn}
+use Rattle.vault_migrate.specs.Moved.{FindsBroken, FindsVersion, HoldsSoundIn, IsKnown, IsOlder, LeavesIn}
 use Rattle.vault_migrate.specs.Moved.{LeavesSome}
 use Rattle.vault_recover.specs.Crashed.{AreBlank, HoldsEither, IsOpenOf, Keeps, KeepsEither, KeepsFirst}
 use Rattle.vault_recover.specs.Crashed.{Reopens, ReopensEither, ReopensSuch}
+use Rattle.vault_verdict.specs.Opened.{StandsSoundIn}
 use Rattle.vault_verdict.specs.ReadAs.{IsFullIn}
 use Rattle.vault_verdict.specs.declared.fault.OpenFault.TheVariants.{Damaged, Store, WrongSchema}
 use Rattle.vault_schema.specs.Holds.{AreOurs, Holds}
@@ -31,10 +33,17 @@ pub record TellsOld (image : Image) (why : NotOpened) : Type 0 where
   pub damaged : (rule : ℕ) → why ≡ Fault (Damaged rule) → HoldsSuch image (λ db. FindsBroken db rule)
   pub wrong : (n : ℤ) → why ≡ Fault (WrongSchema n) → HoldsSuch image (λ db. FindsVersion db n)
 
+-- A migration is done of such a database alone: where its schema is no version's it has no table; and where
+-- no row lacks its last column it stands for a sound vault in its version, of which this is true.
+pub record WasVault (db : Database) (Is : Vault → Type 0) : Type 0 where
+  pub known : IsKnown db
+  pub sound : (v : Version) → IsFullIn v db → (it : StandsSoundIn v db) × Is it.vault
+
 module _ {D : Type 0} {g : Ghosts D} where
   -- A connection was opened over files with these bytes, and this one comes from moving what is there to the
   -- newest schema. A vault that the bytes keep, in whatever version, or in one on its way, as a migration
-  -- that was stopped leaves it, is held in the newest one; without a table, the empty vault.
+  -- that was stopped leaves it, is held in the newest one; without a table, the empty vault. The bytes hold
+  -- no other program's tables, and the vault that they hold is the one that is held.
   pub record MovesFrom (image : Image) (conn : Held (FileStore D g)) : Type 0 where
     pub first : Held (FileStore D g)
     pub found : HasCleanDisk (file_state first) → IsOpenOf image first
@@ -49,6 +58,7 @@ module _ {D : Type 0} {g : Ghosts D} where
     pub sound : HasCleanDisk (file_state conn)
         → (v : Version) → IsOlder v → IsFullIn v (file_state first).now
         → HoldsSoundIn newest (file_state conn)
+    pub stood : HasCleanDisk (file_state conn) → HoldsSuch image (λ db. WasVault db (Holds (file_state conn)))
 
   -- what a crash leaves of files with these bytes, which kept a vault in some version, after this refusal:
   -- that vault in some version, and in the one that it had alone after any refusal but 33
@@ -59,7 +69,8 @@ module _ {D : Type 0} {g : Ghosts D} where
         → (v : Version) (V : Vault) → KeepsIn v image V → LeavesIn v V (file_state conn)
 
   -- The files that are left of a migration that is done. A vault that the bytes keep, in whatever version or
-  -- in one on its way, they keep in the newest one; without a table, the empty vault.
+  -- in one on its way, they keep in the newest one; without a table, the empty vault. The bytes hold no other
+  -- program's tables, and the vault that they hold the files keep.
   pub record MovesAs (image : Image) (left : FileStore D g) : Type 0 where
     pub moved : IsClean (view left) → (v : Version) (V : Vault) → KeepsIn v image V → Reopens left V
     pub newest : IsClean (view left) → (V : Vault) → Keeps image V → Reopens left V
@@ -68,6 +79,7 @@ module _ {D : Type 0} {g : Ghosts D} where
     pub either : IsClean (view left) → (V W : Vault) → KeepsEither image V W → ReopensEither left V W
     pub blank : IsClean (view left) → (before : Trees) → AreBlank before → KeepsFirst image before
         → ReopensSuch left (λ found. AreOurs found empty_vault)
+    pub stood : IsClean (view left) → HoldsSuch image (λ db. WasVault db (Reopens left))
 
   -- The files that are left of one that is refused. A vault that the bytes keep in some version they keep in
   -- that one, and after 33 in some version. A sound vault isn't refused for its schema or its rows, in

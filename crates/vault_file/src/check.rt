@@ -7,7 +7,7 @@ ghost use Rattle.sqlite_store.specs.FileStore.{view};
 ghost use Rattle.sqlite_wal.specs.Files.{image_at};
 ghost use Rattle.vault_core.specs.Sound.{Sound};
 ghost use Rattle.vault_core.specs.Vault.{Vault as Content, empty_vault};
-ghost use Rattle.vault_file.specs.Found.{ChecksAs, HasSizes, HoldsSuch, IsNoPath, LeavesWhole};
+ghost use Rattle.vault_file.specs.Found.{ChecksAs, HoldsSuch, IsNoPath, IsVaultOf, LeavesWhole};
 ghost use Rattle.vault_file.specs.Found.{LeavesFrom, SparesStopped, Stays, StaysWhole, TellsFound};
 ghost use Rattle.vault_recover.specs.Crashed.{Keeps};
 ghost use Rattle.vault_verdict.specs.Opened.{IsLeastBroken, IsWrong};
@@ -40,7 +40,7 @@ pub fn check_from<S: Start>(
 >
     ensures no_path { IsNoPath path.now → IsErrAnd result (λ e. e.0 ≡ NotOpened.Refused) }
     ensures sizes { IfOk result (λ told. HasCleanDisk (file_state told.1)
-        → HoldsSuch (image_at S.Start) (λ db. IsFull db → HasSizes db told.0)) }
+        → HoldsSuch (image_at S.Start) (λ db. IsVaultOf db told.0)) }
     ensures kept { IfOk result (λ told. HasCleanDisk (file_state told.1)
         → (V : Content) → Sound V → Keeps (image_at S.Start) V → Holds (file_state told.1) V) }
     ensures left { IfOk result (λ told. LeavesFrom (image_at S.Start) told.1) }

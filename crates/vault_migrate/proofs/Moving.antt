@@ -9,7 +9,7 @@ use Rattle.sql_maps.specs.Schema.{no_schema}
 use Rattle.sql_maps.specs.States.{LeavesNoMore}
 use Rattle.vault_core.specs.Vault.{Vault}
 use Rattle.vault_migrate.specs.Moved.{FindsBroken, FindsVersion, IsMovable, IsNoOlder, IsOlder}
-use Rattle.vault_migrate.specs.Moved.{LeavesIn}
+use Rattle.vault_migrate.specs.Moved.{IsSoundWhereFull, LeavesIn}
 use Rattle.vault_schema.proofs.Newest.{held_by_newest, ours_in_newest}
 use Rattle.vault_schema.proofs.Versions.{last_commit}
 use Rattle.vault_schema.specs.Holds.{Holds, HoldsIn, LeavesEither}
@@ -76,6 +76,16 @@ newest_older Four older same = older
 
 pub older_schema : (v : Version) → IsOlder v → schema_of v ≡ newest_schema → ⊥
 older_schema v older same = newest_older v older (one_version v newest same)
+
+-- what a check finds in the newest version is so in the version of the schema
+pub sound_where_full : (db : Database) → IsNoOlder db → (IsFull db → IsFit db) → IsSoundWhereFull db
+sound_where_full db none checked One full = absurd (none One tt full.schema)
+sound_where_full db none checked Two full = absurd (none Two tt full.schema)
+sound_where_full db none checked Three full = absurd (none Three tt full.schema)
+sound_where_full db none checked Four full = elim (checked full.full) [
+  | inl it ↦ it
+  | inr blank ↦ absurd (never_blank Four (sym full.schema ∙ blank))
+]
 
 -- of each failure
 pub each_err : {A : Type 0} {Q : OpenFault → Type 0} (r : Result A OpenFault) → ((e : OpenFault) → Q e)

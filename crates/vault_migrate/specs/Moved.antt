@@ -28,6 +28,14 @@ IsOlder Four = ⊥
 abbrev pub IsNoOlder : Database → Type 0
 IsNoOlder db = (v : Version) → IsOlder v → ¬ (db.schema ≡ schema_of v)
 
+-- the schema is a version's, or there is no table
+abbrev pub IsKnown : Database → Type 0
+IsKnown db = ((v : Version) → ¬ (db.schema ≡ schema_of v)) → db.schema ≡ no_schema
+
+-- where no row lacks its last column, the database stands for a sound vault in the version of its schema
+abbrev pub IsSoundWhereFull : Database → Type 0
+IsSoundWhereFull db = (v : Version) → IsFullIn v db → StandsSoundIn v db
+
 -- the connection holds a sound vault in this version
 pub record HoldsSoundIn (v : Version) (s : State) : Type 0 where
   pub vault : Vault

@@ -5,11 +5,11 @@ ghost use Rattle.sqlite.specs.State.{HasCleanDisk, IsUnchanged};
 ghost use Rattle.sqlite.specs.View.{doubt};
 ghost use Rattle.sql_maps.specs.Schema.{no_schema};
 ghost use Rattle.vault_core.specs.Vault.{Vault, empty_vault};
-ghost use Rattle.vault_migrate.specs.Moved.{FindsBroken, FindsVersion, HoldsSoundIn, IsMovable, IsNoOlder};
-ghost use Rattle.vault_migrate.specs.Moved.{IsOlder, LeavesClimbed, LeavesIn, LeavesMoved, LeavesSome};
-ghost use Rattle.vault_migrate.specs.Moved.{LeavesStep};
+ghost use Rattle.vault_migrate.specs.Moved.{FindsBroken, FindsVersion, HoldsSoundIn, IsKnown, IsMovable};
+ghost use Rattle.vault_migrate.specs.Moved.{IsNoOlder, IsOlder, IsSoundWhereFull, LeavesClimbed, LeavesIn};
+ghost use Rattle.vault_migrate.specs.Moved.{LeavesMoved, LeavesSome, LeavesStep};
 ghost use Rattle.vault_verdict.specs.Opened.{IsBrokenIn, IsFit, IsLeastBroken, IsNoRefusal, IsVersionIn};
-ghost use Rattle.vault_verdict.specs.Opened.{IsWrong, LeavesFound};
+ghost use Rattle.vault_verdict.specs.Opened.{IsWrong, LeavesFound, StandsSoundIn};
 ghost use Rattle.vault_verdict.specs.ReadAs.{IsFullIn};
 ghost use Rattle.vault_verdict.specs.Reading.{IsFull};
 ghost use Rattle.vault_schema.specs.Holds.{Holds, HoldsIn};
@@ -87,6 +87,9 @@ fn climb_up<S: Alter>(
     ensures sound { HasCleanDisk (state S.Store conn.new)
         → OnOk result (IsFullIn version (state S.Store conn.old).now
         → HoldsSoundIn newest (state S.Store conn.new)) }
+    ensures stood { HasCleanDisk (state S.Store conn.new)
+        → OnOk result (IsFullIn version (state S.Store conn.old).now
+        → StandsSoundIn version (state S.Store conn.old).now) }
     ensures crash { HasCleanDisk (state S.Store conn.new) → (V : Vault)
         → HoldsIn version V (state S.Store conn.old) → LeavesSome V (state S.Store conn.new) }
     ensures stays { HasCleanDisk (state S.Store conn.new) → IfErr result (λ e. e ≢ OpenFault.Store
@@ -124,6 +127,8 @@ fn make_or_check<S: Alter>(alloc: Global, conn: &mut Connection<S>) -> Result<i6
         → (state S.Store conn.old).now.schema ≡ no_schema → Holds (state S.Store conn.new) empty_vault) }
     ensures checked { HasCleanDisk (state S.Store conn.new)
         → OnOk result (IsFull (state S.Store conn.old).now → IsFit (state S.Store conn.old).now) }
+    ensures known { OnOk result (¬ ((state S.Store conn.old).now.schema ≡ newest_schema)
+        → (state S.Store conn.old).now.schema ≡ no_schema) }
     ensures left { HasCleanDisk (state S.Store conn.new)
         → LeavesFound (state S.Store conn.old) (state S.Store conn.new) }
     ensures damaged { HasCleanDisk (state S.Store conn.new)
@@ -227,6 +232,9 @@ pub fn migrate_all<S: Alter>(alloc: Global, conn: &mut Connection<S>) -> Result<
     ensures checked { HasCleanDisk (state S.Store conn.new)
         → OnOk result (IsNoOlder (state S.Store conn.old).now → IsFull (state S.Store conn.old).now
         → IsFit (state S.Store conn.old).now) }
+    ensures known { OnOk result (IsKnown (state S.Store conn.old).now) }
+    ensures stood { HasCleanDisk (state S.Store conn.new)
+        → OnOk result (IsSoundWhereFull (state S.Store conn.old).now) }
     ensures crash { HasCleanDisk (state S.Store conn.new)
         → LeavesClimbed (state S.Store conn.old) (state S.Store conn.new) }
     ensures stays { HasCleanDisk (state S.Store conn.new) → IfErr result (λ e. e ≢ OpenFault.Store

@@ -4,7 +4,7 @@ use Rattle.sqlite_wal.specs.Files.{image_at}
 use Rattle.vault_file.proofs.Leaving.{checked_leaves}
 use Rattle.vault_file.proofs.Opening.{found_damaged, found_in, found_wrong, same_fault, spares}
 use Rattle.vault_file.proofs.Opening.{still_held, there}
-use Rattle.vault_file.proofs.Whole.{checked_less, leaves_whole}
+use Rattle.vault_file.proofs.Whole.{checked_less, leaves_whole, whose_of}
 use Rattle.vault_file.proofs.check.check_from.Goals as goal
 use Rattle.vault_verdict.specs.declared.fault.OpenFault.TheVariants.{WrongSchema, Damaged}
 
@@ -13,7 +13,11 @@ returns-in-Ok-clause-sizes g c clean = (
   (file_state c.in-Some.conn).now,
   found_in (image_at g.S.Start) c.in-Some.conn c.in-Some.ensures.opened
       (omega (arith, c.check.ensures.quiet.clean, clean)),
-  c.in-Ok.ensures.sound clean,
+  record {
+    whose = whose_of c.told-told.result.1 (file_state c.in-Some.conn).now.schema c.told-told.ensures.holder
+        (λ other. c.in-Ok.ensures.foreign other);
+    sizes_are = c.in-Ok.ensures.sound clean;
+  },
 )
 
 pub returns-in-Ok-clause-kept : goal.returns-in-Ok-clause-kept

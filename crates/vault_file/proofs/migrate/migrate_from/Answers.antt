@@ -11,7 +11,7 @@ returns-in-Ok-clause-moved g c =
     moves_from (image_at g.S.Start) c.in-Some.conn c.migrate_all.new.conn c.in-Some.ensures.opened
     c.in-Some.ensures.unlimited c.migrate_all.ensures.clean
     c.in-Ok.ensures.moved c.in-Ok.ensures.blank c.in-Ok.ensures.sound c.in-Some.ensures.either
-    c.in-Some.ensures.first
+    c.in-Some.ensures.first c.in-Ok.ensures.known c.in-Ok.ensures.stood
 
 pub returns-in-Ok-clause-no_path : goal.returns-in-Ok-clause-no_path
 returns-in-Ok-clause-no_path g c none = there c.in-Some.conn (c.in-Some.ensures.no_path none)

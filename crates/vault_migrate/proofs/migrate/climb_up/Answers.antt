@@ -33,6 +33,12 @@ returns-in-Err-clause-crash g c clean V h =
     c.climb.ensures.crash clean (lookups_of V) (c.in_ok-entries.ensures.held early V h)
     (c.in_ok-entries.ensures.given early V h)
 
+pub returns-in-Ok-clause-stood : goal.returns-in-Ok-clause-stood
+returns-in-Ok-clause-stood g c clean =
+    let early : HasCleanDisk (state g.S.Store c.judged.new.conn) =
+    omega (arith, c.climb.ensures.clean, clean) in
+    c.in_ok-entries.ensures.sound early
+
 pub returns-in-Ok-clause-sound : goal.returns-in-Ok-clause-sound
 returns-in-Ok-clause-sound g c clean full =
     let old = state g.S.Store c.args.conn.now in

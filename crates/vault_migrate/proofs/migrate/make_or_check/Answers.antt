@@ -65,3 +65,11 @@ returns-in_ok-check-in-Err-Taken-clause-checked g c clean full =
     let same : c.make_schema.new.conn ≡ c.args.conn.now = c.make_schema.ensures.unchanged taken in
     elim ((rw same at (c.in_ok-check-in-Err-Taken.ensures.sound clean)) full)
     [ inl none ↦ inr none.0 | inr it ↦ inl it.it ]
+
+pub returns-in_ok-check-in-Err-Taken-clause-known :
+    goal.returns-in_ok-check-in-Err-Taken-clause-known
+returns-in_ok-check-in-Err-Taken-clause-known g c other =
+    let taken = c.in-Err-Taken.is ∙ ap (λ e. Err e) c.in-Err-Taken.field-0-is in
+    let same : c.make_schema.new.conn ≡ c.args.conn.now = c.make_schema.ensures.unchanged taken in
+    absurd ((rw same at c.in_ok-check-in-Err-Taken.ensures.foreign)
+    (record { some = c.make_schema.ensures.taken.0 taken; other = other }))

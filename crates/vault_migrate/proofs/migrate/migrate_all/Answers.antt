@@ -2,7 +2,7 @@ use Rattle.std.proofs.Common.{◌≡◌, ◌∙◌, subst, sym}
 use Rattle.sqlite.specs.Held.{state}
 use Rattle.vault_migrate.proofs.Moving.{broken_else, broken_in, each_err, held_newest, left_newest}
 use Rattle.vault_migrate.proofs.Moving.{movable_else, movable_in, never_blank, older_found, older_schema}
-use Rattle.vault_migrate.proofs.Moving.{one_version, version_else, version_in}
+use Rattle.vault_migrate.proofs.Moving.{one_version, sound_where_full, version_else, version_in}
 use Rattle.vault_migrate.proofs.migrate.migrate_all.Given.{Over}
 use Rattle.vault_migrate.proofs.migrate.migrate_all.Goals as goal
 use Rattle.vault_migrate.specs.Moved.{HoldsSoundIn, IsNoOlder, IsOlder, LeavesIn}
@@ -12,6 +12,7 @@ use Rattle.vault_schema.specs.Stands.{newest}
 use Rattle.vault_schema.specs.Versions.{schema_of}
 use Rattle.vault_schema.specs.declared.version.Version.{Version}
 use Rattle.vault_verdict.proofs.Results.{if_err, if_so, on_ok}
+use Rattle.vault_verdict.specs.Opened.{StandsSoundIn}
 use Rattle.vault_verdict.specs.ReadAs.{IsFullIn}
 
 -- ---- an older version
@@ -55,6 +56,17 @@ returns-in-Some-clause-blank g c clean =
 pub returns-in-Some-clause-checked : goal.returns-in-Some-clause-checked
 returns-in-Some-clause-checked g c clean =
     on_ok c.climb_up.result (λ none. absurd (none c.in-Some.version (older g c) (found g c)))
+
+pub returns-in-Some-clause-known : goal.returns-in-Some-clause-known
+returns-in-Some-clause-known g c =
+    on_ok c.climb_up.result (λ none. absurd (none c.in-Some.version (found g c)))
+
+pub returns-in-Some-clause-stood : goal.returns-in-Some-clause-stood
+returns-in-Some-clause-stood g c clean = if_so c.climb_up.result (λ stood v full.
+    let one = one_version c.in-Some.version v (sym (found g c) ∙ full.schema) in
+    subst (λ (x : Version). StandsSoundIn x (state g.S.Store c.args.conn.now).now) one (stood
+    (subst (λ (x : Version). IsFullIn x (state g.S.Store c.args.conn.now).now) (sym one) full)))
+    (c.climb_up.ensures.stood clean)
 
 pub returns-in-Some-clause-crash : goal.returns-in-Some-clause-crash
 returns-in-Some-clause-crash g c clean = record {
@@ -120,6 +132,16 @@ returns-in-None-clause-sound g c clean =
 pub returns-in-None-clause-checked : goal.returns-in-None-clause-checked
 returns-in-None-clause-checked g c clean =
     if_so c.make_or_check.result (λ it none. it) (c.make_or_check.ensures.checked clean)
+
+pub returns-in-None-clause-known : goal.returns-in-None-clause-known
+returns-in-None-clause-known g c =
+    if_so c.make_or_check.result (λ known none. known (none newest)) c.make_or_check.ensures.known
+
+pub returns-in-None-clause-stood : goal.returns-in-None-clause-stood
+returns-in-None-clause-stood g c clean =
+    if_so c.make_or_check.result
+    (sound_where_full (state g.S.Store c.args.conn.now).now (none_older g c))
+    (c.make_or_check.ensures.checked clean)
 
 pub returns-in-None-clause-crash : goal.returns-in-None-clause-crash
 returns-in-None-clause-crash g c clean =
