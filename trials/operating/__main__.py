@@ -45,7 +45,7 @@ def says(tally, machine, name, text, wanted, well=True, seconds=120):
     tally.judge(name, "" if ended == well and found else f"{ended}: {told[-400:]}")
 
 
-def as_caller(name, target, folder="/root/authority", more=""):
+def as_caller(name, target, folder="/srv/authority", more=""):
     """A request of a caller through the front, as one would type it; its body and status are shown."""
     keys = f"--cacert {folder}/callers.pem --cert {folder}/{name}.pem --key {folder}/{name}.key"
     url = f"https://localhost:8443/v1/merchants/shop1{target}"
@@ -55,7 +55,7 @@ def as_caller(name, target, folder="/root/authority", more=""):
 def first_vault(tally, machine, *, readme):
     """The walk of README, as one pastes it where the program is there already."""
     walk = blocks(readme)["A first vault"][0].split("\n", 1)[1]
-    typed_there = f"cd $(mktemp -d)\n{walk}cd /root\n"
+    typed_there = f"cd $(mktemp -d)\n{walk}cd /srv\n"
     says(tally, machine, "README's first vault", typed_there, r'"token":"[0-9]{12}1111"')
 
 
@@ -113,13 +113,13 @@ def older(repository, path):
 
 def moved(tally, machine, *, page, repository):
     """The package isn't replaced under a service that runs; a file of schema 1 moves by the same block."""
-    at_once = "cd /root; apt-get install -y --reinstall ./vault_*.deb"
+    at_once = "cd /srv; apt-get install -y --reinstall ./vault_*.deb"
     says(tally, machine, "no upgrade under a service", at_once, "stop it first", well=False)
     says(tally, machine, "the service goes on", "systemctl is-active vault", "^active$")
-    older(repository, f"{machine.folder}/root/older.db")
+    older(repository, f"{machine.folder}/srv/older.db")
     instead = """systemctl stop vault; cd /var/lib/vault
 mkdir -p kept; mv vault.db* before.db* kept
-install -m 600 -o vault /root/older.db $file
+install -m 600 -o vault /srv/older.db $file
 """
     says(tally, machine, "a file of schema 1", instead + "asvault vault check $file", "30 1", well=False)
     well, told = machine.type(page["Upgrade"][0])
@@ -172,7 +172,7 @@ def removed(tally, machine):
 
 def renewed(tally, machine):
     """A caller of the new authority, by the front's new certificate."""
-    new = "sleep 1\n" + as_caller("back", "/audit", "/root/authority-2")
+    new = "sleep 1\n" + as_caller("back", "/audit", "/srv/authority-2")
     says(tally, machine, "a caller of the new authority", new, '"made":1. 200')
     old = as_caller("back", "/audit", more="-k")
     says(tally, machine, "one of the old authority", old, '"front":495. 400')
@@ -196,7 +196,7 @@ def main(program, repository):
     package = ["sh", f"{repository}/deploy/package.sh", program, "."]
     made = subprocess.run(package, check=True, capture_output=True, text=True).stdout.strip()
     with Machine(f"{os.getcwd()}/machine") as machine:
-        os.rename(made, f"{machine.folder}/root/{os.path.basename(made)}")
+        os.rename(made, f"{machine.folder}/srv/{os.path.basename(made)}")
         for section in SAYS:
             typed(tally, machine, page, section)
             if section in afterwards:

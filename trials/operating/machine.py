@@ -72,7 +72,7 @@ class Machine:
             text=True,
             env={**home, "LANG": "C.UTF-8"},
         )
-        self.shell.stdin.write("cd /root\ntrap 'echo \"failed: $BASH_COMMAND\"; failed=1' ERR\nset -E\n")
+        self.shell.stdin.write("cd /srv\ntrap 'echo \"failed: $BASH_COMMAND\"; failed=1' ERR\nset -E\n")
 
     def __enter__(self):
         return self
@@ -91,7 +91,7 @@ class Machine:
     def type(self, text, seconds=120):
         """Types a text into the shell; whether each command ended well, and what they printed."""
         self.typed += 1
-        at = f"/root/typed-{self.typed}"
+        at = f"/srv/typed-{self.typed}"
         self.put(at, text)
         self.shell.stdin.write(f"failed=0; . {at} < /dev/null > {at}.out 2>&1; echo $failed > {at}.ended\n")
         self.shell.stdin.flush()
