@@ -156,7 +156,22 @@ journalctl -u vault -o cat --no-pager; journalctl -t vault-alarm -t vault -o cat
     says(tally, machine, "the alarm is told", "journalctl -t vault-alarm -o cat", told)
     well = "rmdir $file; mv $file.kept $file; systemctl reset-failed vault; systemctl start vault"
     says(tally, machine, "it starts again", f"{well} && systemctl is-active vault", "^active$")
-    killed = """kill -9 $(systemctl show -p MainPID --value vault); sleep 4
+    no_room = """mv /var/backups/vault /var/backups/kept; touch /var/backups/vault
+! systemctl start vault-backup
+rm /var/backups/vault; mv /var/backups/kept /var/backups/vault; sleep 1
+systemctl is-active vault; journalctl -t vault-alarm -o cat --no-pager
+"""
+    failed = r"^active$[\s\S]*^vault-backup.service has failed$"
+    says(tally, machine, "a copy that fails leaves the service and is told", no_room, failed)
+    on_its_way = """systemctl stop vault; mv $file $file.kept; mkdir $file
+systemctl start --no-block vault; sleep 1; systemctl start --no-block vault-backup; sleep 1
+rmdir $file; mv $file.kept $file
+for turn in $(seq 60); do [ "$(systemctl is-active vault)" = active ] && break; sleep 0.5; done
+systemctl is-active vault
+"""
+    says(tally, machine, "a copy doesn't end a service that waits for its start", on_its_way, r"^active$")
+    killed = """systemctl reset-failed vault
+kill -9 $(systemctl show -p MainPID --value vault); sleep 4
 systemctl is-active vault; systemctl show -p NRestarts --value vault
 """
     says(tally, machine, "after a kill at once", killed, r"^active\n[1-9]")
