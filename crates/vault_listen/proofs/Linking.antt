@@ -14,7 +14,7 @@ use Rattle.vault_http.specs.declared.served.Served.{Served}
 use Rattle.vault_listen.specs.declared.fault.ListenFault.{ListenFault}
 use Rattle.vault_listen.specs.declared.fault.ListenFault.TheVariants.{Store}
 use Rattle.vault_listen.specs.declared.peers.Accepted.{Accepted}
-use Rattle.vault_live.specs.Live.{IsPairOf}
+use Rattle.vault_live.specs.Live.{AreGiven, Turns}
 use Rattle.vault_listen.specs.Peers.{AreLinks, EndsBy, Event, GoesOn, IsClosedBy, IsLink, Known, Link}
 use Rattle.vault_listen.specs.Peers.{came_in, closing, coming, events_of, link_passing}
 use Rattle.vault_listen.specs.Peers.Event.{Lost, Came, Closed}
@@ -87,25 +87,25 @@ told_then old middle new xs x f g log h =
     subst (λ es. new (log ++ es)) (sym (events_of-append xs (x ∷ [])))
     (subst new (append_assoc log (events_of xs) (events_of (x ∷ []))) (g (log ++ events_of xs) (f log h)))
 
-module _ {T : Type 0} (honest : T → Type 0) (holds : T → Content → Type 0)
+module _ {T : Type 0} (tells : Turns) (honest : T → Type 0) (holds : T → Content → Type 0)
     (leaves : T → Content → Content → Type 0) where
   -- connections, and then more of them
   pub links_then : (xs ys : List (Option Link)) (v0 v1 v2 : Vault T)
-      → AreLinks honest holds leaves xs v0 v1 → AreLinks honest holds leaves ys v1 v2
-      → AreLinks honest holds leaves (xs ++ ys) v0 v2
-  links_then [] ys v0 v1 v2 same more = subst (λ v. AreLinks honest holds leaves ys v v2) same more
+      → AreLinks tells honest holds leaves xs v0 v1 → AreLinks tells honest holds leaves ys v1 v2
+      → AreLinks tells honest holds leaves (xs ++ ys) v0 v2
+  links_then [] ys v0 v1 v2 same more = subst (λ v. AreLinks tells honest holds leaves ys v v2) same more
   links_then (None ∷ xs) ys v0 v1 v2 links more = links_then xs ys v0 v1 v2 links more
   links_then (Some x ∷ xs) ys v0 v1 v2 (middle, one, links) more =
       (middle, one, links_then xs ys middle v1 v2 links more)
 
   -- a connection, from a reader and a writer that had not failed
   pub link_of : (x : Link) (v v' : Vault T) (r w refused : Bool) (pairs : List Pair) → length pairs ≤ 1000
-      → All (IsPairOf None None) pairs
+      → AreGiven tells None None pairs
       → MatchResult x.ended (IsServed x.came x.left (link_passing honest holds leaves v v' pairs x))
       (IsStopped x.came x.left (link_passing honest holds leaves v v' pairs x))
       → r ≡ false → w ≡ false
       → Tells x.ended (failures false r w (is_broken v)) (failures refused x.reader x.writer (is_broken v'))
-      → (honest (tables_of v') → honest (tables_of v)) → IsLink honest holds leaves x v v'
+      → (honest (tables_of v') → honest (tables_of v)) → IsLink tells honest holds leaves x v v'
   link_of x v v' r w refused pairs few own answered calm_r calm_w told back = record {
     pairs = pairs;
     few = few;

@@ -11,7 +11,7 @@ use Rattle.vault_http.specs.Served.{IsServed, IsStopped}
 use Rattle.vault_http.specs.declared.fault.ServeFault.{ServeFault}
 use Rattle.vault_http.specs.declared.fault.ServeFault.TheVariants as fault
 use Rattle.vault_http.specs.declared.served.Served.{Served}
-use Rattle.vault_live.specs.Live.{IsPairOf}
+use Rattle.vault_live.specs.Live.{AreGiven, Turns}
 use Rattle.vault_listen.specs.Service.{vault_passing}
 use Rattle.vault_listen.specs.declared.peers.Accepted.{Accepted}
 use Rattle.vault_listen.specs.declared.fault.ListenFault.{ListenFault}
@@ -79,13 +79,13 @@ link_passing honest holds leaves v v' pairs x = record (vault_passing honest hol
 }
 
 -- One connection was served by a vault, or the service of it stopped: what was read are its own bytes, what
--- went out are its own answers, and its pairs are a moment and a drawing each, at most 1000. A fault comes
--- exactly where its own one fails.
-pub record IsLink {T : Type 0} (honest : T → Type 0) (holds : T → Content → Type 0)
+-- went out are its own answers, and its pairs are a moment, told for it alone, and a drawing each, at most
+-- 1000. A fault comes exactly where its own one fails.
+pub record IsLink {T : Type 0} (tells : Turns) (honest : T → Type 0) (holds : T → Content → Type 0)
     (leaves : T → Content → Content → Type 0) (x : Link) (v v' : Vault T) : Type 0 where
   pub pairs : List Pair
   pub few : length pairs ≤ 1000
-  pub own : All (IsPairOf None None) pairs
+  pub own : AreGiven tells None None pairs
   pub answered : MatchResult x.ended
       (IsServed x.came x.left (link_passing honest holds leaves v v' pairs x))
       (IsStopped x.came x.left (link_passing honest holds leaves v v' pairs x))
@@ -95,12 +95,12 @@ pub record IsLink {T : Type 0} (honest : T → Type 0) (holds : T → Content �
   pub back : honest (tables_of v') → honest (tables_of v)
 
 -- connections were served one after the other, each by the vault that those before it leave
-abbrev pub AreLinks : {T : Type 0} → (T → Type 0) → (T → Content → Type 0)
+abbrev pub AreLinks : {T : Type 0} → Turns → (T → Type 0) → (T → Content → Type 0)
     → (T → Content → Content → Type 0) → List (Option Link) → Vault T → Vault T → Type 0
-AreLinks honest holds leaves [] v v' = v' ≡ v
-AreLinks honest holds leaves (None ∷ xs) v v' = AreLinks honest holds leaves xs v v'
-AreLinks {T} honest holds leaves (Some x ∷ xs) v v' = (middle : Vault T)
-    × IsLink honest holds leaves x v middle × AreLinks honest holds leaves xs middle v'
+AreLinks tells honest holds leaves [] v v' = v' ≡ v
+AreLinks tells honest holds leaves (None ∷ xs) v v' = AreLinks tells honest holds leaves xs v v'
+AreLinks {T} tells honest holds leaves (Some x ∷ xs) v v' = (middle : Vault T)
+    × IsLink tells honest holds leaves x v middle × AreLinks tells honest holds leaves xs middle v'
 
 -- the store didn't fail in a connection
 abbrev pub GoesOn : Option Link → Type 0

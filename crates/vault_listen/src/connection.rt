@@ -1,21 +1,22 @@
-//! One connection, answered with the clock's moments and drawn digits.
-ghost use Rattle.std.specs.Prelude.{◌≡◌, ◌≤◌, All, Bool, false, Err, List, [], MatchResult, None, length};
+//! One connection, answered with moments that are told and digits that are drawn.
+ghost use Rattle.std.specs.Prelude.{◌≡◌, ◌≤◌, Bool, false, Err, List, [], MatchResult, None, length};
 ghost use Rattle.vault_store.specs.Applied.{is_broken, tables_of};
 ghost use Rattle.vault_wire.specs.Watching.{inner_of, is_stopped};
 ghost use Rattle.vault_http.specs.Exchanges.{Pair};
 ghost use Rattle.vault_http.specs.Faults.{Tells, failures};
 ghost use Rattle.vault_http.specs.Passing.{Passage, passing};
 ghost use Rattle.vault_http.specs.Served.{IsServed, IsStopped};
-ghost use Rattle.vault_live.specs.Live.{IsPairOf};
+ghost use Rattle.vault_live.specs.Live.{AreGiven};
 
 use rand_core::Rng;
 use std::alloc::Global;
 use std::io::{Read, Write};
-use std::time::{Clock, Duration};
+use std::time::Duration;
 use vault_http::fault::ServeFault;
 use vault_http::serve::serve_by;
 use vault_http::served::Served;
 use vault_live::live::LiveSource;
+use vault_live::time::Timekeeper;
 use vault_routes::route::Routes;
 use vault_store::tables::Tables;
 use vault_store::vault::Vault;
@@ -24,15 +25,15 @@ use vault_wire::watched::Watched;
 /// The most messages of a connection.
 pub const MESSAGES: u64 = 1000;
 
-/// Answers the messages of one connection, at most 1000, each with the clock's second and digits of its own.
-/// None is taken up from `end` on, by the monotonic clock.
+/// Answers the messages of one connection, at most 1000, each with a moment and digits of its own. None is
+/// taken up from `end` on, by the time that passes.
 ///
-/// 60 Source: the 1001st message, one after `end`, or a clock that can't be read. 61 Read and 62 Write: the
+/// 60 Source: the 1001st message, one after `end`, or no moment is told. 61 Read and 62 Write: the
 /// reader or the writer failed. 63 Store: the store failed, or the vault was broken before. 64 Memory: memory
 /// was refused.
-pub fn serve_connection<C: Clock, G: Rng, R: Read, W: Write, T: Tables>(
+pub fn serve_connection<K: Timekeeper, G: Rng, R: Read, W: Write, T: Tables>(
     alloc: Global,
-    clock: &C,
+    time: &K,
     generator: &mut G,
     end: Option<Duration>,
     routes: &Routes,
@@ -40,7 +41,7 @@ pub fn serve_connection<C: Clock, G: Rng, R: Read, W: Write, T: Tables>(
     writer: &mut Watched<W>,
     vault: &mut Vault<T>,
 ) -> Result<Served, ServeFault>
-    ensures answered { (pairs : List Pair) × (length pairs ≤ 1000) × All (IsPairOf None None) pairs
+    ensures answered { (pairs : List Pair) × (length pairs ≤ 1000) × AreGiven (K.tells time.now) None None pairs
         × (let w : Passage = passing (λ ps. ps) [] pairs
         W.contents writer.old writer.new T.is_honest T.holds T.leaves vault.old vault.new in
         MatchResult result
@@ -52,6 +53,6 @@ pub fn serve_connection<C: Clock, G: Rng, R: Read, W: Write, T: Tables>(
     ensures sturdy { T.may_fail ≡ false → is_broken vault.old ≡ false → ¬ (result ≡ Err ServeFault.Store) }
     ensures honest { T.is_honest (tables_of vault.new) → T.is_honest (tables_of vault.old) }
 {
-    let mut source = LiveSource::ending(alloc, clock, generator, MESSAGES, end);
+    let mut source = LiveSource::ending(alloc, time, generator, MESSAGES, end);
     serve_by(alloc, routes, reader, writer, vault, &mut source)
 }

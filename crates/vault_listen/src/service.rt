@@ -11,9 +11,9 @@ use crate::fault::ListenFault;
 use crate::peers::{Accepted, Peers};
 use rand_core::Rng;
 use std::alloc::Global;
-use std::time::Clock;
 use vault_http::fault::ServeFault;
 use vault_http::served::Served;
+use vault_live::time::Timekeeper;
 use vault_routes::route::Routes;
 use vault_store::tables::Tables;
 use vault_store::vault::Vault;
@@ -34,16 +34,16 @@ fn store_failed(ended: Result<Served, ServeFault>) -> bool
 
 /// Serves an accepted connection, and closes it. Its only fault is 63 Store; any other end is that
 /// connection's alone.
-fn serve_link<P: Peers, C: Clock, G: Rng, T: Tables>(
+fn serve_link<P: Peers, K: Timekeeper, G: Rng, T: Tables>(
     alloc: Global,
-    clock: &C,
+    time: &K,
     generator: &mut G,
     routes: &Routes,
     peers: &mut P,
     link: Accepted<P::Reader, P::Writer>,
     vault: &mut Vault<T>,
 ) -> Result<(), ListenFault>
-    ensures served { (x : Link) × IsLink T.is_honest T.holds T.leaves x vault.old vault.new
+    ensures served { (x : Link) × IsLink (K.tells time.now) T.is_honest T.holds T.leaves x vault.old vault.new
         × IsClosedBy P.Reader.remaining P.Writer.contents (P.tells peers.old) (P.tells peers.new) link x
         × MatchResult result (λ _. x.ended ≢ Err ServeFault.Store) (λ _. x.ended ≡ Err ServeFault.Store) }
     ensures left { let w : Passage = vault_passing T.is_honest T.holds T.leaves vault.old vault.new in
@@ -57,7 +57,7 @@ fn serve_link<P: Peers, C: Clock, G: Rng, T: Tables>(
     let mut writer = Watched::new(link.writer);
     let ended = serve_connection(
         alloc,
-        clock,
+        time,
         generator,
         link.end,
         routes,
@@ -76,14 +76,14 @@ fn serve_link<P: Peers, C: Clock, G: Rng, T: Tables>(
 /// accepted or lost before.
 ///
 /// A connection ends with its bytes, or at a message that closes it; after a fault of its bytes, which is
-/// answered; after 1000 messages, at a message after its end, or where the clock can't be read (60); where
+/// answered; after 1000 messages, at a message after its end, or where no moment is told (60); where
 /// its peer fails (61, 62); or for want of memory (64). None of these ends the service.
 ///
 /// 63 Store: the store failed, or the vault was broken before; nothing more is accepted. 64 Memory: memory
 /// was refused before the first connection. 80 Accept: no connection can be accepted.
-pub fn serve_on<P: Peers, C: Clock, G: Rng, T: Tables>(
+pub fn serve_on<P: Peers, K: Timekeeper, G: Rng, T: Tables>(
     alloc: Global,
-    clock: &C,
+    time: &K,
     generator: &mut G,
     peers: &mut P,
     connections: u64,
@@ -91,7 +91,7 @@ pub fn serve_on<P: Peers, C: Clock, G: Rng, T: Tables>(
 ) -> Result<(), ListenFault>
     ensures served { let w : Passage = vault_passing T.is_honest T.holds T.leaves vault.old vault.new in
         (xs : List (Option Link)) × Leaves connections (length xs) w result × EndsBy result xs
-        × AreLinks T.is_honest T.holds T.leaves xs vault.old vault.new
+        × AreLinks (K.tells time.now) T.is_honest T.holds T.leaves xs vault.old vault.new
         × ((log : List Event) → P.tells peers.old log → P.tells peers.new (log ++ events_of xs)) }
     ensures store { result ≡ Err ListenFault.Store → is_broken vault.new ≡ true }
     ensures others { result ≢ Err ListenFault.Store → is_broken vault.new ≡ is_broken vault.old }
@@ -104,7 +104,7 @@ pub fn serve_on<P: Peers, C: Clock, G: Rng, T: Tables>(
     };
     for _ in 0..connections {
         if let Some(link) = peers.accept()? {
-            serve_link(alloc, clock, generator, &routes, peers, link, vault)?;
+            serve_link(alloc, time, generator, &routes, peers, link, vault)?;
         }
     }
     Ok(())

@@ -3,3 +3,4 @@
 
 pub mod draw;
 pub mod live;
+pub mod time;

@@ -1,28 +1,22 @@
-//! A source of the clock's moments and of drawn digits.
+//! A source of moments that are told and of digits that are drawn.
 ghost use Rattle.std.specs.Prelude.{◌≡◌, ◌+◌, ◌∷◌, ◌++◌, [], Some, None, true, false, IfOk, OnOk, OnErr};
-ghost use Rattle.std.specs.Prelude.{IsErr};
+ghost use Rattle.std.specs.Prelude.{IfSome, IsErr, length};
 
 use crate::draw::drawn;
+use crate::time::Timekeeper;
 use rand_core::Rng;
 use std::alloc::Global;
-use std::time::{Clock, Duration, SystemTime, UNIX_EPOCH};
+use std::time::Duration;
 use vault_core::moment::Moment;
 use vault_core::source::{Source, SourceFault};
 use vault_pan::draw::Digits;
 
-/// The clock's second, where the clock can be read and its second is a moment.
-pub fn moment_of<C: Clock>(clock: &C) -> Option<Moment> {
-    let now = SystemTime::now(clock).ok()?;
-    let since = now.duration_since(UNIX_EPOCH).ok()?;
-    Moment::new(since.as_secs()).ok()
-}
-
-/// Gives the clock's second and 300 digits that a generator draws, a number of times, and keeps
-/// the pairs that it gave. The moment, the digits or both may be fixed: then each pair has them. It may have
-/// an end, from which on it gives none.
+/// Gives the time and 300 digits that a generator draws, a number of times, and keeps the pairs that it gave.
+/// The moment, the digits or both may be fixed: then each pair has them. It may have an end, from which on it
+/// gives none.
 #[derive(Drop)]
-pub struct LiveSource<'c, C, G> {
-    clock: &'c C,
+pub struct LiveSource<'t, K, G> {
+    time: &'t K,
     generator: G,
     moment: Option<Moment>,
     digits: Option<Digits>,
@@ -32,31 +26,31 @@ pub struct LiveSource<'c, C, G> {
     refused: bool,
 }
 
-impl<'c, C: Clock, G: Rng> LiveSource<'c, C, G> {
-    ghost use Rattle.vault_live.specs.Live.{Fixes, IsFresh};
+impl<'t, K: Timekeeper, G: Rng> LiveSource<'t, K, G> {
+    ghost use Rattle.vault_live.specs.Live.{Fixes, IsFresh, pairs_of};
 
     /// A source that gives this many pairs. It takes no memory yet.
-    pub fn new(alloc: Global, clock: &'c C, generator: G, times: u64) -> LiveSource<'c, C, G>
+    pub fn new(alloc: Global, time: &'t K, generator: G, times: u64) -> LiveSource<'t, K, G>
         ensures fresh { IsFresh result times }
-        ensures free { Fixes result None None }
+        ensures free { Fixes result time.now None None }
     {
-        LiveSource::fixed(alloc, clock, generator, times, None, None)
+        LiveSource::fixed(alloc, time, generator, times, None, None)
     }
 
     /// A source that gives this many pairs, with this moment and these digits where there are some.
     pub fn fixed(
         alloc: Global,
-        clock: &'c C,
+        time: &'t K,
         generator: G,
         times: u64,
         moment: Option<Moment>,
         digits: Option<Digits>,
-    ) -> LiveSource<'c, C, G>
+    ) -> LiveSource<'t, K, G>
         ensures fresh { IsFresh result times }
-        ensures fixed { Fixes result moment digits }
+        ensures fixed { Fixes result time.now moment digits }
     {
         LiveSource {
-            clock,
+            time,
             generator,
             moment,
             digits,
@@ -71,16 +65,16 @@ impl<'c, C: Clock, G: Rng> LiveSource<'c, C, G> {
     /// is one.
     pub fn ending(
         alloc: Global,
-        clock: &'c C,
+        time: &'t K,
         generator: G,
         times: u64,
         end: Option<Duration>,
-    ) -> LiveSource<'c, C, G>
+    ) -> LiveSource<'t, K, G>
         ensures fresh { IsFresh result times }
-        ensures free { Fixes result None None }
+        ensures free { Fixes result time.now None None }
     {
         LiveSource {
-            clock,
+            time,
             generator,
             moment: None,
             digits: None,
@@ -94,7 +88,7 @@ impl<'c, C: Clock, G: Rng> LiveSource<'c, C, G> {
     // Whether it has come to its end, or can't tell.
     fn is_over(&self) -> bool {
         match self.end {
-            Some(end) => match self.clock.monotonic() {
+            Some(end) => match self.time.passed() {
                 Ok(now) => now >= end,
                 Err(_) => true,
             },
@@ -105,10 +99,12 @@ impl<'c, C: Clock, G: Rng> LiveSource<'c, C, G> {
     // The moment of the next pair.
     fn moment(&self) -> Option<Moment>
         ensures fixed { (now : _) → self.now.moment ≡ Some now → result ≡ Some now }
+        ensures told { self.now.moment ≡ None
+            → IfSome result (K.tells self.now.time.now (length (pairs_of self.now))) }
     {
         match self.moment {
             Some(moment) => Some(moment),
-            None => moment_of(self.clock),
+            None => self.time.moment(self.given.len() as u64),
         }
     }
 
@@ -124,7 +120,7 @@ impl<'c, C: Clock, G: Rng> LiveSource<'c, C, G> {
     }
 }
 
-impl<'c, C: Clock, G: Rng> Source for LiveSource<'c, C, G> {
+impl<'t, K: Timekeeper, G: Rng> Source for LiveSource<'t, K, G> {
     ghost use Rattle.vault_live.specs.Live.{Continues, pairs_of};
     ghost use Rattle.std.proofs.Common.{refl, ◌∙◌};
 
@@ -134,7 +130,7 @@ impl<'c, C: Clock, G: Rng> Source for LiveSource<'c, C, G> {
 
     ghost has_refused = { λ s. s.refused };
 
-    ghost precedes = { Continues };
+    ghost precedes = { Continues K.tells };
 
     fn next(&mut self) -> Result<(Moment, Digits), SourceFault> {
         if self.left == 0 || self.is_over() {
@@ -162,12 +158,12 @@ impl<'c, C: Clock, G: Rng> Source for LiveSource<'c, C, G> {
         self.refused
     }
 
-    ghost reflexive = { λ s. record { fixed = λ m d f. (f, λ all. all); counted = refl } };
+    ghost reflexive = { λ s. record { fixed = λ t m d f. (f, λ all. all); counted = refl } };
 
     ghost transitive = { λ r s t p q. record {
-      fixed = λ m d f. (
-        (q.fixed m d (p.fixed m d f).0).0,
-        λ all. (q.fixed m d (p.fixed m d f).0).1 ((p.fixed m d f).1 all),
+      fixed = λ k m d f. (
+        (q.fixed k m d (p.fixed k m d f).0).0,
+        λ all. (q.fixed k m d (p.fixed k m d f).0).1 ((p.fixed k m d f).1 all),
       );
       counted = q.counted ∙ p.counted;
     } };

@@ -1,16 +1,20 @@
-use Rattle.std.proofs.Common.{List, None, Result, Ok, Err, length, ap, arith, subst, sym}
+use Rattle.std.proofs.Common.{List, [], None, Result, Ok, Err, length, ap, arith, subst, sym}
 use Rattle.std.proofs.lemmas.List.Elements.{All-nil}
 use Rattle.std.specs.Prelude.{All, IfErr, IfOk, MatchResult}
 use Rattle.vault_http.specs.Exchanges.{Pair}
 use Rattle.vault_http.specs.Passing.{passing}
 use Rattle.vault_http.specs.Served.{IsServed, IsStopped}
-use Rattle.vault_live.specs.Live.{IsPairOf, pairs_of}
+use Rattle.vault_live.specs.Live.{AreGiven, IsPairOf, Turns, pairs_of}
 use Rattle.vault_listen.proofs.connection.serve_connection.Goals as goal
 
 either_way : {X E : Type 0} (r : Result X E) (P : X → Type 0) (Q : E → Type 0) → IfOk r P → IfErr r Q
     → MatchResult r P Q
 either_way (Ok x) P Q p q = p
 either_way (Err e) P Q p q = q
+
+-- nothing was given yet
+none_given : {tells : Turns} → AreGiven tells None None []
+none_given = record { each = All-nil (IsPairOf None None); told = λ free. tt }
 
 pub returns-clause-answered : goal.returns-clause-answered
 returns-clause-answered g c =
@@ -28,8 +32,8 @@ returns-clause-answered g c =
         c.ending-source.ensures.fresh.left_is,
         ap (λ (ps : List Pair). length ps) gave,
       ),
-      (c.serve_by.ensures.later.fixed None None c.ending-source.ensures.free).1
-          (subst (λ (ps : List Pair). All (IsPairOf None None) ps) (sym gave) (All-nil (IsPairOf None None))),
+      (c.serve_by.ensures.later.fixed c.args.time.now None None c.ending-source.ensures.free).1
+          (subst (AreGiven (g.K.Timekeeper.tells c.args.time.now) None None) (sym gave) none_given),
       subst
           (λ given. MatchResult c.serve_by.result (IsServed left rest (w given))
           (IsStopped left rest (w given)))

@@ -19,7 +19,7 @@ returns-then-store_failed-clause-served g c =
       ended = e.result;
     } in (
       x,
-      link_of g.T.Tables.is_honest g.T.Tables.holds g.T.Tables.leaves x c.args.vault.now e.new.vault
+      link_of (g.K.Timekeeper.tells c.args.time.now) g.T.Tables.is_honest g.T.Tables.holds g.T.Tables.leaves x c.args.vault.now e.new.vault
           c.new-reader.result.stopped c.new-writer.result.stopped e.ensures.told.0 e.ensures.answered.0
           e.ensures.answered.1 e.ensures.answered.2 e.ensures.answered.3 c.new-reader.ensures.fresh
           c.new-writer.ensures.fresh e.ensures.told.1 e.ensures.honest,
@@ -34,7 +34,7 @@ returns-then-store_failed-clause-served g c =
 pub returns-then-store_failed-clause-left : goal.returns-then-store_failed-clause-left
 returns-then-store_failed-clause-left g c =
     end_undecided c.serve_connection-ended.result _ _ _ (c.if-store_failed.ensures.0 refl) refl
-    c.serve_connection-ended.ensures.answered.2 c.serve_connection-ended.ensures.answered.3
+    c.serve_connection-ended.ensures.answered.2.each c.serve_connection-ended.ensures.answered.3
 
 pub returns-clause-served : goal.returns-clause-served
 returns-clause-served g c =
@@ -51,7 +51,7 @@ returns-clause-served g c =
       ended = e.result;
     } in (
       x,
-      link_of g.T.Tables.is_honest g.T.Tables.holds g.T.Tables.leaves x c.args.vault.now e.new.vault
+      link_of (g.K.Timekeeper.tells c.args.time.now) g.T.Tables.is_honest g.T.Tables.holds g.T.Tables.leaves x c.args.vault.now e.new.vault
           c.new-reader.result.stopped c.new-writer.result.stopped e.ensures.told.0 e.ensures.answered.0
           e.ensures.answered.1 e.ensures.answered.2 e.ensures.answered.3 c.new-reader.ensures.fresh
           c.new-writer.ensures.fresh e.ensures.told.1 e.ensures.honest,
@@ -67,4 +67,4 @@ pub returns-clause-left : goal.returns-clause-left
 returns-clause-left g c =
     end_kept c.serve_connection-ended.result _ _ _
     (λ same. let e : false ≡ true = c.if-store_failed.ensures.1 same in absurd (cc)) refl
-    c.serve_connection-ended.ensures.answered.2 c.serve_connection-ended.ensures.answered.3
+    c.serve_connection-ended.ensures.answered.2.each c.serve_connection-ended.ensures.answered.3

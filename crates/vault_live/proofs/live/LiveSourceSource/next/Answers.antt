@@ -1,8 +1,7 @@
 use Rattle.std.proofs.Common.{◌≡◌, ◌++◌, ◌∷◌, [], ◌∙◌, List, Some, ap, arith, length, length-append, rules}
 use Rattle.std.proofs.Common.{subst, sym}
-use Rattle.std.specs.Prelude.{All}
-use Rattle.std.proofs.lemmas.List.Elements.{All-append, All-cons, All-nil}
-use Rattle.vault_live.specs.Live.{IsPairOf, Pair}
+use Rattle.vault_live.specs.Live.{AreGiven, IsPairOf, Pair}
+use Rattle.vault_live.proofs.Turns.{given_then}
 use Rattle.vault_live.proofs.live.LiveSourceSource.next.Goals as goal
 
 pub returns-then-is_err-clause-later : goal.returns-then-is_err-clause-later
@@ -11,9 +10,13 @@ returns-then-is_err-clause-later g c =
     let kept : c.push.new.self.items ≡ c.args.self.now.given.items =
     (rw c.if-is_err.ensures.negation at c.push.ensures.items) ∙ ap (λ s. s.given.items) same in
     record {
-      fixed = λ moment digits f. (
-        (ap (λ s. s.moment) same ∙ f.0, ap (λ s. s.digits) same ∙ f.1),
-        λ all. subst (λ (pairs : List Pair). All (IsPairOf moment digits) pairs) (sym kept) all,
+      fixed = λ time moment digits f. (
+        (
+          ap (λ s. s.time.now) same ∙ f.0,
+          ap (λ s. s.moment) same ∙ f.1,
+          ap (λ s. s.digits) same ∙ f.2,
+        ),
+        λ all. subst (AreGiven (g.K.Timekeeper.tells time) moment digits) (sym kept) all,
       );
       counted = omega (arith, ap (λ (pairs : List Pair). length pairs) kept, ap (λ s. s.left) same);
     }
@@ -22,28 +25,34 @@ pub returns-clause-later : goal.returns-clause-later
 returns-clause-later g c =
     let same = c.digits-digits.ensures.same in
     let pair : Pair = (c.in-Some.now, c.digits-digits.result) in
-    let more : c.push.new.self.items ≡ c.args.self.now.given.items ++ pair ∷ [] =
+    let before : List Pair = c.args.self.now.given.items in
+    let more : c.push.new.self.items ≡ before ++ pair ∷ [] =
     (rw c.if-is_err.ensures.negation at c.push.ensures.items) ∙ ap (λ s. s.given.items ++ pair ∷ []) same in
     record {
-      fixed = λ moment digits f.
+      fixed = λ time moment digits f.
           let fits : IsPairOf moment digits pair = record {
             moment_is = λ now is.
                 let found : Some c.in-Some.now ≡ Some now =
-                sym c.in-Some.is ∙ c.moment.ensures.fixed now (f.0 ∙ is) in
+                sym c.in-Some.is ∙ c.moment.ensures.fixed now (f.1 ∙ is) in
                 cc (found);
-            digits_are = λ drawn is. c.digits-digits.ensures.fixed drawn (f.1 ∙ is);
+            digits_are = λ drawn is. c.digits-digits.ensures.fixed drawn (f.2 ∙ is);
             is_moment = search (rules, c.moment.type_inv, c.in-Some.is);
             is_drawing = search (rules, c.digits-digits.type_inv);
           } in (
-            (ap (λ s. s.moment) same ∙ f.0, ap (λ s. s.digits) same ∙ f.1),
-            λ all. subst (λ (pairs : List Pair). All (IsPairOf moment digits) pairs) (sym more)
-                (All-append (IsPairOf moment digits) c.args.self.now.given.items (pair ∷ []) all
-                (All-cons (IsPairOf moment digits) pair [] fits (All-nil (IsPairOf moment digits)))),
+            (
+              ap (λ s. s.time.now) same ∙ f.0,
+              ap (λ s. s.moment) same ∙ f.1,
+              ap (λ s. s.digits) same ∙ f.2,
+            ),
+            λ all. subst (AreGiven (g.K.Timekeeper.tells time) moment digits) (sym more)
+                (given_then (g.K.Timekeeper.tells time) moment digits before pair all fits
+                (λ free. subst (λ k. g.K.Timekeeper.tells k (length before) pair.0) f.0
+                (rw c.in-Some.is at c.moment.ensures.told (f.1 ∙ free)))),
           );
       counted = omega (
         arith,
         ap (λ (pairs : List Pair). length pairs) more,
-        length-append c.args.self.now.given.items (pair ∷ []),
+        length-append before (pair ∷ []),
         ap (λ s. s.left) same,
       );
     }
