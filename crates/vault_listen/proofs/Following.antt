@@ -1,77 +1,86 @@
--- Connections after connections.
-use Rattle.std.proofs.Common.{◌≡◌, ℕ, ◌+◌, ◌≤◌, List, [], ◌∷◌, ◌++◌, sym, subst, ap, ◌∙◌}
-use Rattle.std.proofs.Common.{Result, Ok, Err, append_assoc, arith, length-append}
-use Rattle.std.specs.Prelude.{IsErrAnd}
-use Rattle.std.proofs.lemmas.Grind.{flat_map-append}
-use Rattle.std.proofs.lemmas.List.Elements.{All-append}
+-- Connections after connections, said of the vaults that they lead to.
+use Rattle.std.proofs.Common.{◌≡◌, ◌≢◌, ◌<◌, ◌≤◌, ℕ, List, [], ◌∷◌, ◌++◌, Option, Some, None, refl, subst}
+use Rattle.std.proofs.Common.{Result, Ok, Err, ◌∙◌, length, sym}
+use Rattle.std.specs.Prelude.{All, IsErrAnd}
+use Rattle.std.proofs.lemmas.List.Elements.{All-head, All-tail}
 use Rattle.vault_core.specs.Vault.{Vault as Content}
-use Rattle.vault_store.specs.Applied.{tables_of}
+use Rattle.vault_store.specs.Applied.{Contains, tables_of}
 use Rattle.vault_store.specs.declared.vault.Vault.{Vault}
-use Rattle.vault_http.specs.Exchanges.{Exchange, vault_after}
-use Rattle.vault_http.specs.Passing.{Passage, Keeps}
-use Rattle.vault_http.proofs.Exchanging.{vault_after-append}
-use Rattle.vault_listen.specs.Service.{IsConnection, AllKept, Leaves, OneUndecided, all_of, vault_passing}
+use Rattle.vault_http.specs.declared.fault.ServeFault.TheVariants as fault
+use Rattle.vault_live.specs.Live.{Turns}
+use Rattle.vault_listen.specs.Peers.{AreLinks, IsLink, Link, link_passing, vault_passing}
+use Rattle.vault_listen.specs.Service.{AllKept, AllLead, GoesOn, Leads, Leaves, OneUndecided}
 use Rattle.vault_listen.specs.declared.fault.ListenFault.{ListenFault}
-use Rattle.vault_listen.specs.declared.fault.ListenFault.TheVariants.{Store}
+use Rattle.vault_listen.specs.declared.fault.ListenFault.TheVariants.{Accept, Store}
+use Rattle.vault_listen.proofs.Answered.{settled, torn}
 
-all_of-append : (xss yss : List (List Exchange)) → all_of (xss ++ yss) ≡ all_of xss ++ all_of yss
-all_of-append xss yss = flat_map-append (λ (xs : List Exchange). xs) xss yss
+module _ {T : Type 0} (tells : Turns) (honest : T → Type 0) (holds : T → Content → Type 0)
+    (leaves : T → Content → Content → Type 0) where
+  -- a vault is held, and a crash leaves it alone
+  abbrev pub Keeping : Vault T → Content → Type 0
+  Keeping v W = Contains holds v W × leaves (tables_of v) W W
+
+  -- a disk that is honest after connections was so before
+  honest_before : (xs : List (Option Link)) (v v' : Vault T) → AreLinks tells honest holds leaves xs v v'
+      → honest (tables_of v') → honest (tables_of v)
+  honest_before [] v v' same h = subst (λ u. honest (tables_of u)) same h
+  honest_before (None ∷ xs) v v' links h = honest_before xs v v' links h
+  honest_before (Some x ∷ xs) v v' (middle, one, links) h = one.back (honest_before xs middle v' links h)
+
+  -- connections in which the store doesn't fail lead from the vault that is held to one that is kept
+  lead : (xs : List (Option Link)) (v v' : Vault T) (V : Content)
+      → AreLinks tells honest holds leaves xs v v' → All GoesOn xs → honest (tables_of v')
+      → Keeping v V → (W : Content) × AllLead tells V xs W × Keeping v' W
+  lead [] v v' V same on h kept = (V, refl, subst (λ u. Keeping u V) (sym same) kept)
+  lead (None ∷ xs) v v' V links on h kept = lead xs v v' V links (All-tail GoesOn None xs on) h kept
+  lead (Some x ∷ xs) v v' V (middle, one, links) on h kept =
+      let at = honest_before xs middle v' links h in
+      let w = link_passing honest holds leaves v middle one.pairs x in
+      let it = settled w V (at, kept.0) x.ended x.came x.left (All-head GoesOn (Some x) xs on) one.answered in
+      let rest = lead xs middle v' it.0 links (All-tail GoesOn (Some x) xs on) h it.1 in (
+        rest.0,
+        (it.0, record { pairs = one.pairs; few = one.few; own = one.own; answered = it.2 }, rest.1),
+        rest.2,
+      )
+
+  module _ (steady : (t : T) (V : Content) → holds t V → honest t → leaves t V V) where
+    pub kept_after : (xs : List (Option Link)) (v v' : Vault T) → AreLinks tells honest holds leaves xs v v'
+        → All GoesOn xs → AllKept tells xs (vault_passing honest holds leaves v v')
+    kept_after xs v v' links on = λ V b.
+        let first = honest_before xs v v' links b.0 in
+        lead xs v v' V links on b.0 (b.1, steady (tables_of v) V b.1.0 first)
+
+    pub undecided_after : (xs : List (Option Link)) (x : Link) (v middle v' : Vault T)
+        → AreLinks tells honest holds leaves xs v middle → All GoesOn xs
+        → IsLink tells honest holds leaves x middle v' → x.ended ≡ Err fault.Store
+        → OneUndecided tells xs x (vault_passing honest holds leaves v v')
+    undecided_after xs x v middle v' links on one failed = λ V b.
+        let between = one.back b.0 in
+        let kept = kept_after xs v middle links on V (between, b.1) in
+        let w = link_passing honest holds leaves middle v' one.pairs x in
+        let it = torn w kept.0 (b.0, kept.2.0) x.ended x.came x.left failed one.answered in (
+          kept.0,
+          it.0,
+          it.1,
+          kept.1,
+          record { pairs = one.pairs; few = one.few; own = one.own; answered = it.3 },
+          it.2,
+        )
 
 -- the store's fault, which is passed on
-pub failed_in : (most came : ℕ) (w : Passage) (r : Result (Unit {0}) ListenFault) (fault : ListenFault)
-    → IsErrAnd r (λ e. e ≡ fault) → fault ≡ Store → came ≤ most → OneUndecided came w
-    → Leaves most came w r
-failed_in most came w (Ok done) fault never is few one = absurd never
-failed_in most came w (Err e) fault same is few one =
-    subst (λ f. Leaves most came w (Err f)) (sym (same ∙ is)) (few, one)
+pub failed_in : (tells : Turns) (most : ℕ) (first : List (Option Link)) (x : Link) (w : _)
+    (r : Result (Unit {0}) ListenFault) (f : ListenFault) → IsErrAnd r (λ e. e ≡ f) → f ≡ Store
+    → length (first ++ Some x ∷ []) ≤ most → All GoesOn first → x.ended ≡ Err fault.Store
+    → OneUndecided tells first x w → Leaves tells most (first ++ Some x ∷ []) w r
+failed_in tells most first x w (Ok done) f never is few on failed one = absurd never
+failed_in tells most first x w (Err e) f same is few on failed one =
+    subst (λ g. Leaves tells most (first ++ Some x ∷ []) w (Err g)) (sym (same ∙ is))
+    (few, (first, x, refl, on, failed, one))
 
-module _ {T : Type 0} (honest : T → Type 0) (holds : T → Content → Type 0)
-    (leaves : T → Content → Content → Type 0) (v0 v1 v2 : Vault T)
-    (back : honest (tables_of v2) → honest (tables_of v1)) (n : ℕ)
-    (a : AllKept n (vault_passing honest holds leaves v0 v1)) where
-  pub kept_then : AllKept 1 (vault_passing honest holds leaves v1 v2)
-      → AllKept (n + 1) (vault_passing honest holds leaves v0 v2)
-  kept_then b = record {
-    connections = a.connections ++ b.connections;
-    counted = omega (arith, a.counted, b.counted, length-append a.connections b.connections);
-    asked = All-append IsConnection a.connections b.connections a.asked b.asked;
-    kept = λ V before.
-        let w = vault_passing honest holds leaves v0 v2 in
-        let first = a.kept V (back before.0, before.1) in
-        let whole : vault_after V (all_of (a.connections ++ b.connections))
-        ≡ vault_after (vault_after V (all_of a.connections)) (all_of b.connections) =
-        ap (vault_after V) (all_of-append a.connections b.connections)
-        ∙ vault_after-append V (all_of a.connections) (all_of b.connections) in
-        subst (λ W. Keeps w W) (sym whole)
-        (b.kept (vault_after V (all_of a.connections)) (before.0, first.0));
-  }
-
-  pub undecided_then : OneUndecided 1 (vault_passing honest holds leaves v1 v2)
-      → OneUndecided (n + 1) (vault_passing honest holds leaves v0 v2)
-  undecided_then b = record {
-    connections = a.connections ++ b.connections;
-    last = b.last;
-    undecided = b.undecided;
-    counted = omega (arith, a.counted, b.counted, length-append a.connections b.connections);
-    asked = All-append IsConnection a.connections b.connections a.asked b.asked;
-    last_asked = b.last_asked;
-    left = λ V before.
-        let xs = all_of a.connections in
-        let ys = all_of b.connections in
-        let first = a.kept V (back before.0, before.1) in
-        let W : Content = vault_after V xs in
-        let joined : all_of (a.connections ++ b.connections) ++ b.last ≡ xs ++ (ys ++ b.last) =
-        ap (λ us. us ++ b.last) (all_of-append a.connections b.connections) ∙ append_assoc xs ys b.last in
-        let one = ap (vault_after V) joined ∙ vault_after-append V xs (ys ++ b.last) in
-        let other : vault_after V ((all_of (a.connections ++ b.connections) ++ b.last) ++ b.undecided ∷ [])
-        ≡ vault_after W ((ys ++ b.last) ++ b.undecided ∷ []) =
-        ap (λ us. vault_after V (us ++ b.undecided ∷ [])) joined
-        ∙ ap (vault_after V) (append_assoc xs (ys ++ b.last) (b.undecided ∷ []))
-        ∙ vault_after-append V xs ((ys ++ b.last) ++ b.undecided ∷ []) in
-        subst
-        (λ A. leaves (tables_of v2) A
-        (vault_after V ((all_of (a.connections ++ b.connections) ++ b.last) ++ b.undecided ∷ [])))
-        (sym one)
-        (subst (λ B. leaves (tables_of v2) (vault_after W (ys ++ b.last)) B) (sym other)
-        (b.left W (before.0, first.0)));
-  }
+-- and the listener's
+pub unaccepted_in : (tells : Turns) (most : ℕ) (xs : List (Option Link)) (w : _)
+    (r : Result (Unit {0}) ListenFault) (f : ListenFault) → IsErrAnd r (λ e. e ≡ f) → f ≡ Accept
+    → length xs < most → All GoesOn xs → AllKept tells xs w → Leaves tells most xs w r
+unaccepted_in tells most xs w (Ok done) f never is few on kept = absurd never
+unaccepted_in tells most xs w (Err e) f same is few on kept =
+    subst (λ g. Leaves tells most xs w (Err g)) (sym (same ∙ is)) (few, on, kept)

@@ -1,4 +1,3 @@
-pub mod Asking
-pub mod Ending
+pub mod Answered
 pub mod Following
 pub mod Linking

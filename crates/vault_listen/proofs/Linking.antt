@@ -1,7 +1,7 @@
 -- Connections that are served one after the other.
 use Rattle.std.proofs.Common.{◌≡◌, ◌+◌, ◌≤◌, List, [], ◌∷◌, ◌++◌, Option, Some, None, refl, sym, subst}
 use Rattle.std.proofs.Common.{Result, Ok, Err, length, ap, append-nil, append_assoc, arith, ◌∙◌}
-use Rattle.std.specs.Prelude.{All, Bool, false, IsErrAnd, MatchResult}
+use Rattle.std.specs.Prelude.{Bool, false, MatchResult}
 use Rattle.vault_core.specs.Vault.{Vault as Content}
 use Rattle.vault_store.specs.Applied.{is_broken, tables_of}
 use Rattle.vault_store.specs.declared.vault.Vault.{Vault}
@@ -9,13 +9,10 @@ use Rattle.vault_http.specs.Exchanges.{Pair}
 use Rattle.vault_http.specs.Faults.{Tells, failures}
 use Rattle.vault_http.specs.Served.{IsServed, IsStopped}
 use Rattle.vault_http.specs.declared.fault.ServeFault.{ServeFault}
-use Rattle.vault_http.specs.declared.fault.ServeFault.TheVariants as service
 use Rattle.vault_http.specs.declared.served.Served.{Served}
-use Rattle.vault_listen.specs.declared.fault.ListenFault.{ListenFault}
-use Rattle.vault_listen.specs.declared.fault.ListenFault.TheVariants.{Store}
 use Rattle.vault_listen.specs.declared.peers.Accepted.{Accepted}
 use Rattle.vault_live.specs.Live.{AreGiven, Turns}
-use Rattle.vault_listen.specs.Peers.{AreLinks, EndsBy, Event, GoesOn, IsClosedBy, IsLink, Known, Link}
+use Rattle.vault_listen.specs.Peers.{AreLinks, Event, IsClosedBy, IsLink, Known, Link}
 use Rattle.vault_listen.specs.Peers.{came_in, closing, coming, events_of, link_passing}
 use Rattle.vault_listen.specs.Peers.Event.{Lost, Came, Closed}
 
@@ -69,14 +66,6 @@ lost_then remaining contents old new o is comes log h =
 -- nothing more is told
 pub none_then : (tells : List Event → Type 0) (log : List Event) → tells log → tells (log ++ events_of [])
 none_then tells log h = subst tells (sym (append-nil log)) h
-
--- the store's fault, which is passed on
-pub ended_in : (r : Result (Unit {0}) ListenFault) (fault : ListenFault) → IsErrAnd r (λ e. e ≡ fault)
-    → fault ≡ Store → (first : List (Option Link)) (last : Link) → All GoesOn first
-    → last.ended ≡ Err service.Store → EndsBy r (first ++ Some last ∷ [])
-ended_in (Ok done) fault never is first last on ended = absurd never
-ended_in (Err e) fault same is first last on ended =
-    subst (λ f. EndsBy (Err f) (first ++ Some last ∷ [])) (sym (same ∙ is)) (first, last, refl, on, ended)
 
 -- what is told of connections, and then of one more
 pub told_then : (old middle new : List Event → Type 0) (xs : List (Option Link)) (x : Option Link)

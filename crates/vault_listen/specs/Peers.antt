@@ -2,20 +2,16 @@
 use Rattle.std.specs.Prelude.{◌≡◌, ◌≢◌, ◌≤◌, ℕ, ◌+◌, List, [], ◌∷◌, ◌++◌, All, Bool, false, Option}
 use Rattle.std.specs.Prelude.{Some, None, Result, Ok, Err, length, MatchResult}
 use Rattle.vault_core.specs.Vault.{Vault as Content}
-use Rattle.vault_store.specs.Applied.{is_broken, tables_of}
+use Rattle.vault_store.specs.Applied.{Contains, is_broken, tables_of}
 use Rattle.vault_store.specs.declared.vault.Vault.{Vault}
 use Rattle.vault_http.specs.Exchanges.{Pair}
 use Rattle.vault_http.specs.Faults.{Tells, failures}
 use Rattle.vault_http.specs.Passing.{Passage}
 use Rattle.vault_http.specs.Served.{IsServed, IsStopped}
 use Rattle.vault_http.specs.declared.fault.ServeFault.{ServeFault}
-use Rattle.vault_http.specs.declared.fault.ServeFault.TheVariants as fault
 use Rattle.vault_http.specs.declared.served.Served.{Served}
 use Rattle.vault_live.specs.Live.{AreGiven, Turns}
-use Rattle.vault_listen.specs.Service.{vault_passing}
 use Rattle.vault_listen.specs.declared.peers.Accepted.{Accepted}
-use Rattle.vault_listen.specs.declared.fault.ListenFault.{ListenFault}
-use Rattle.vault_listen.specs.declared.fault.ListenFault.TheVariants.{Store, Memory, Accept}
 
 -- bytes as a reader has them left, or as a writer has taken them
 abbrev pub Known : Type 0
@@ -69,6 +65,20 @@ events_of [] = []
 events_of (None ∷ xs) = Lost ∷ events_of xs
 events_of (Some x ∷ xs) = Came x.came x.had ∷ closing x ∷ events_of xs
 
+-- the passage of a vault alone, where no pair and no byte is seen
+abbrev pub vault_passing : {T : Type 0} → (T → Type 0) → (T → Content → Type 0)
+    → (T → Content → Content → Type 0) → Vault T → Vault T → Passage
+vault_passing honest holds leaves v v' = record {
+  given_old = [];
+  given_new = [];
+  sent_old = None;
+  sent_new = None;
+  honest = honest (tables_of v');
+  held_old = Contains holds v;
+  held_new = Contains holds v';
+  left_new = leaves (tables_of v');
+}
+
 -- the passage of a vault in which a source gave these pairs, and the writer of a connection took its bytes
 abbrev pub link_passing : {T : Type 0} → (T → Type 0) → (T → Content → Type 0)
     → (T → Content → Content → Type 0) → Vault T → Vault T → List Pair → Link → Passage
@@ -101,17 +111,3 @@ AreLinks tells honest holds leaves [] v v' = v' ≡ v
 AreLinks tells honest holds leaves (None ∷ xs) v v' = AreLinks tells honest holds leaves xs v v'
 AreLinks {T} tells honest holds leaves (Some x ∷ xs) v v' = (middle : Vault T)
     × IsLink tells honest holds leaves x v middle × AreLinks tells honest holds leaves xs middle v'
-
--- the store didn't fail in a connection
-abbrev pub GoesOn : Option Link → Type 0
-GoesOn None = Unit {0}
-GoesOn (Some x) = x.ended ≢ Err fault.Store
-
--- The connections by how the service ends: the store fails in the last one where it ends with 63, and in none
--- else; none comes where memory is refused before the first.
-abbrev pub EndsBy : Result Unit ListenFault → List (Option Link) → Type 0
-EndsBy (Ok done) xs = All GoesOn xs
-EndsBy (Err Store) xs = (first : List (Option Link)) × (last : Link) × (xs ≡ first ++ Some last ∷ [])
-    × All GoesOn first × (last.ended ≡ Err fault.Store)
-EndsBy (Err Memory) xs = xs ≡ []
-EndsBy (Err Accept) xs = All GoesOn xs

@@ -1,65 +1,69 @@
 -- What connections leave of a vault.
-use Rattle.std.specs.Prelude.{◌≡◌, ℕ, ◌+◌, ◌<◌, ◌≤◌, List, [], ◌∷◌, ◌++◌, length, map, All, None, Result}
-use Rattle.std.specs.Prelude.{Ok, Err}
-use Rattle.std.specs.List.{flat_map}
+use Rattle.std.specs.Prelude.{◌≡◌, ◌≢◌, ℕ, ◌<◌, ◌≤◌, List, [], ◌∷◌, ◌++◌, length, All, Option, Some, None}
+use Rattle.std.specs.Prelude.{MatchResult, Result, Ok, Err}
 use Rattle.vault_core.specs.Vault.{Vault as Content}
-use Rattle.vault_store.specs.Applied.{Contains, tables_of}
-use Rattle.vault_store.specs.declared.vault.Vault.{Vault}
-use Rattle.vault_http.specs.Exchanges.{Pair, Exchange, AskFirst, up_to_close, vault_after}
+use Rattle.vault_http.specs.Exchanges.{Pair}
 use Rattle.vault_http.specs.Passing.{Passage, IsBefore, Keeps}
-use Rattle.vault_live.specs.Live.{IsPairOf}
+use Rattle.vault_http.specs.Served.{IsServed, IsStopped}
+use Rattle.vault_http.specs.declared.fault.ServeFault.TheVariants as fault
+use Rattle.vault_live.specs.Live.{AreGiven, Turns}
+use Rattle.vault_listen.specs.Peers.{Link}
 use Rattle.vault_listen.specs.declared.fault.ListenFault.{ListenFault}
 use Rattle.vault_listen.specs.declared.fault.ListenFault.TheVariants.{Store, Memory, Accept}
 
--- the passage of a vault alone, where no pair and no byte is seen
-abbrev pub vault_passing : {T : Type 0} → (T → Type 0) → (T → Content → Type 0)
-    → (T → Content → Content → Type 0) → Vault T → Vault T → Passage
-vault_passing honest holds leaves v v' = record {
+-- the passage of a connection in which a source gave these pairs, from the vault V to the vault W; a stop
+-- within its last message leaves W or U
+abbrev pub link_from : Content → Content → Content → List Pair → Link → Passage
+link_from V W U pairs x = record {
   given_old = [];
-  given_new = [];
-  sent_old = None;
-  sent_new = None;
-  honest = honest (tables_of v');
-  held_old = Contains holds v;
-  held_new = Contains holds v';
-  left_new = leaves (tables_of v');
+  given_new = pairs;
+  sent_old = x.had;
+  sent_new = x.sent;
+  honest = Unit {0};
+  held_old = λ A. A ≡ V;
+  held_new = λ A. A ≡ W;
+  left_new = λ A B. (A ≡ W) × (B ≡ U);
 }
 
--- exchanges of one connection: their messages, up to the first that closes it, are asked, each with a pair
--- of its own, which is a moment and a drawing
-abbrev pub IsConnection : List Exchange → Type 0
-IsConnection xs = (pairs : List Pair) × All (IsPairOf None None) pairs
-    × AskFirst (up_to_close (map (λ x. x.parts) xs)) pairs xs
+-- One connection was served from the vault V, or the service of it stopped: what was read are its own bytes,
+-- what went out are its own answers, and its pairs are a moment, told for it alone, and a drawing each, at
+-- most 1000. It leaves the vault W, and where the store failed in it W or U.
+pub record Leads (tells : Turns) (V W U : Content) (x : Link) : Type 0 where
+  pub pairs : List Pair
+  pub few : length pairs ≤ 1000
+  pub own : AreGiven tells None None pairs
+  pub answered : MatchResult x.ended (IsServed x.came x.left (link_from V W U pairs x))
+      (IsStopped x.came x.left (link_from V W U pairs x))
 
--- the exchanges of connections, one after the other
-abbrev pub all_of : List (List Exchange) → List Exchange
-all_of connections = flat_map (λ xs. xs) connections
+-- connections were served one after the other, each from the vault that those before it leave, the first from
+-- V; some were lost before; the last leaves W
+abbrev pub AllLead : Turns → Content → List (Option Link) → Content → Type 0
+AllLead tells V [] W = W ≡ V
+AllLead tells V (None ∷ xs) W = AllLead tells V xs W
+AllLead tells V (Some x ∷ xs) W = (M : Content) × Leads tells V M M x × AllLead tells M xs W
 
--- so many connections were served, some of them without an exchange, and the vault after their exchanges
--- is kept
-pub record AllKept (count : ℕ) (w : Passage) : Type 0 where
-  pub connections : List (List Exchange)
-  pub counted : length connections ≡ count
-  pub asked : All IsConnection connections
-  pub kept : (V : Content) → IsBefore w V → Keeps w (vault_after V (all_of connections))
+-- the vault that connections leave is kept
+abbrev pub AllKept : Turns → List (Option Link) → Passage → Type 0
+AllKept tells xs w = (V : Content) → IsBefore w V → (W : Content) × AllLead tells V xs W × Keeps w W
 
--- so many connections came, and the store failed in the last: a crash leaves the vault before the exchange at
--- which it failed, or the one after it
-pub record OneUndecided (count : ℕ) (w : Passage) : Type 0 where
-  pub connections : List (List Exchange)
-  pub last : List Exchange
-  pub undecided : Exchange
-  pub counted : length connections + 1 ≡ count
-  pub asked : All IsConnection connections
-  pub last_asked : IsConnection (last ++ undecided ∷ [])
-  pub left : (V : Content) → IsBefore w V
-      → w.left_new (vault_after V (all_of connections ++ last))
-      (vault_after V (all_of connections ++ last ++ undecided ∷ []))
+-- the store failed in the last connection: a crash leaves the vault before the message at which it failed, or
+-- the one after it
+abbrev pub OneUndecided : Turns → List (Option Link) → Link → Passage → Type 0
+OneUndecided tells first x w = (V : Content) → IsBefore w V → (M W U : Content)
+    × AllLead tells V first M × Leads tells M W U x × w.left_new W U
 
--- What a service of so many connections leaves, where this many came. It is done with the last one; the store
--- fails in the last that came; memory is refused before the first; and where the listener fails, fewer came.
-abbrev pub Leaves : ℕ → ℕ → Passage → Result Unit ListenFault → Type 0
-Leaves most came w (Ok done) = (came ≡ most) × AllKept came w
-Leaves most came w (Err Store) = (came ≤ most) × OneUndecided came w
-Leaves most came w (Err Memory) = (came ≡ 0) × AllKept 0 w
-Leaves most came w (Err Accept) = (came < most) × AllKept came w
+-- the store didn't fail in a connection
+abbrev pub GoesOn : Option Link → Type 0
+GoesOn None = Unit {0}
+GoesOn (Some x) = x.ended ≢ Err fault.Store
+
+-- What a service of so many connections leaves, where these came. It is done with the last one; the store
+-- fails in the last that came, and in none before; memory is refused before the first; and where the listener
+-- fails, fewer came.
+abbrev pub Leaves : Turns → ℕ → List (Option Link) → Passage → Result Unit ListenFault → Type 0
+Leaves tells most xs w (Ok done) = (length xs ≡ most) × All GoesOn xs × AllKept tells xs w
+Leaves tells most xs w (Err Store) = (length xs ≤ most) × ((first : List (Option Link)) × (last : Link)
+    × (xs ≡ first ++ Some last ∷ []) × All GoesOn first × (last.ended ≡ Err fault.Store)
+    × OneUndecided tells first last w)
+Leaves tells most xs w (Err Memory) = (xs ≡ []) × AllKept tells [] w
+Leaves tells most xs w (Err Accept) = (length xs < most) × All GoesOn xs × AllKept tells xs w

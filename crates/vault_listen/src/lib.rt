@@ -4,6 +4,7 @@
 pub mod connection;
 pub mod fault;
 pub mod linger;
+pub mod network;
 pub mod peer;
 pub mod peers;
 pub mod refusal;

@@ -1,10 +1,11 @@
 //! Connections of peers, served one after the other by one vault.
-ghost use Rattle.std.specs.Prelude.{◌≡◌, ◌≢◌, ◌↔◌, ◌++◌, ◌∷◌, [], List, Option, false, length, true, Err};
+ghost use Rattle.std.specs.Prelude.{◌≡◌, ◌≢◌, ◌↔◌, ◌++◌, ◌∷◌, [], List, Option, false, true, Err};
 ghost use Rattle.std.specs.Prelude.{IsTrue, MatchResult};
 ghost use Rattle.vault_store.specs.Applied.{is_broken, tables_of};
 ghost use Rattle.vault_http.specs.Passing.{Passage};
-ghost use Rattle.vault_listen.specs.Peers.{AreLinks, EndsBy, Event, IsClosedBy, IsLink, Link, events_of};
-ghost use Rattle.vault_listen.specs.Service.{AllKept, Leaves, OneUndecided, vault_passing};
+ghost use Rattle.vault_listen.specs.Peers.{AreLinks, Event, IsClosedBy, IsLink, Link, events_of};
+ghost use Rattle.vault_listen.specs.Peers.{vault_passing};
+ghost use Rattle.vault_listen.specs.Service.{Leaves};
 
 use crate::connection::serve_connection;
 use crate::fault::ListenFault;
@@ -46,8 +47,6 @@ fn serve_link<P: Peers, K: Timekeeper, G: Rng, T: Tables>(
     ensures served { (x : Link) × IsLink (K.tells time.now) T.is_honest T.holds T.leaves x vault.old vault.new
         × IsClosedBy P.Reader.remaining P.Writer.contents (P.tells peers.old) (P.tells peers.new) link x
         × MatchResult result (λ _. x.ended ≢ Err ServeFault.Store) (λ _. x.ended ≡ Err ServeFault.Store) }
-    ensures left { let w : Passage = vault_passing T.is_honest T.holds T.leaves vault.old vault.new in
-        MatchResult result (λ _. AllKept 1 w) (λ _. OneUndecided 1 w) }
     ensures store { MatchResult result (λ _. is_broken vault.new ≡ is_broken vault.old)
         (λ fault. (fault ≡ ListenFault.Store) × (is_broken vault.new ≡ true)) }
     ensures sturdy { T.may_fail ≡ false → is_broken vault.old ≡ false → ¬ (result ≡ Err ListenFault.Store) }
@@ -90,7 +89,7 @@ pub fn serve_on<P: Peers, K: Timekeeper, G: Rng, T: Tables>(
     vault: &mut Vault<T>,
 ) -> Result<(), ListenFault>
     ensures served { let w : Passage = vault_passing T.is_honest T.holds T.leaves vault.old vault.new in
-        (xs : List (Option Link)) × Leaves connections (length xs) w result × EndsBy result xs
+        (xs : List (Option Link)) × Leaves (K.tells time.now) connections xs w result
         × AreLinks (K.tells time.now) T.is_honest T.holds T.leaves xs vault.old vault.new
         × ((log : List Event) → P.tells peers.old log → P.tells peers.new (log ++ events_of xs)) }
     ensures store { result ≡ Err ListenFault.Store → is_broken vault.new ≡ true }

@@ -37,33 +37,48 @@ fn loses_one(kind: ErrorKind) -> bool {
 /// 64 KiB, for at most one turn. So a peer holds up the others for at most 70 seconds. A connection for which
 /// the clock can't be read or memory is refused is lost.
 #[derive(Drop)]
-pub struct TcpPeers<'l, 'c, L, C> {
+pub struct TcpPeers<'c, L, C> {
     alloc: Global,
-    listener: &'l L,
+    listener: L,
     clock: &'c C,
     limits: Limits,
     came: u64,
     open: Option<Rc<Peer<'c, C>>>,
 }
 
-impl<'l, 'c, L: OpenListener<Stream = TcpStream>, C: Clock> TcpPeers<'l, 'c, L, C> {
+impl<'c, L: OpenListener<Stream = TcpStream>, C: Clock> TcpPeers<'c, L, C> {
     /// A listener to which none came yet, whose peers may take so long.
-    pub fn new(
+    pub fn new(alloc: Global, listener: L, clock: &'c C, limits: Limits) -> TcpPeers<'c, L, C>
+        ensures { result.came ≡ 0 }
+    {
+        TcpPeers::after(alloc, listener, clock, limits, 0)
+    }
+
+    /// The same, after so many others.
+    pub(crate) fn after(
         alloc: Global,
-        listener: &'l L,
+        listener: L,
         clock: &'c C,
         limits: Limits,
-    ) -> TcpPeers<'l, 'c, L, C>
-        ensures { result.came ≡ 0 }
+        came: u64,
+    ) -> TcpPeers<'c, L, C>
+        ensures { result.came ≡ came }
     {
         TcpPeers {
             alloc,
             listener,
             clock,
             limits,
-            came: 0,
+            came,
             open: None,
         }
+    }
+
+    /// How many came.
+    pub(crate) fn came(&self) -> u64
+        ensures { result ≡ self.now.came }
+    {
+        self.came
     }
 
     /// The reader and the writer of a connection that is accepted now.
@@ -88,7 +103,7 @@ impl<'l, 'c, L: OpenListener<Stream = TcpStream>, C: Clock> TcpPeers<'l, 'c, L, 
 }
 
 /// Nothing is told of the bytes, only how many connections came.
-impl<'l, 'c, L: OpenListener<Stream = TcpStream>, C: Clock> Peers for TcpPeers<'l, 'c, L, C> {
+impl<'c, L: OpenListener<Stream = TcpStream>, C: Clock> Peers for TcpPeers<'c, L, C> {
     ghost use Rattle.std.specs.Prelude.{◌++◌, ◌∷◌, [], List, None};
     ghost use Rattle.vault_wire.specs.Watching.{is_stopped};
     ghost use Rattle.vault_listen.specs.Peers.{Event, came_in};

@@ -1,6 +1,5 @@
 use Rattle.std.proofs.Common.{◌≡◌, ap, false, refl, true}
 use Rattle.vault_listen.specs.Peers.{Link}
-use Rattle.vault_listen.proofs.Ending.{end_kept, end_undecided}
 use Rattle.vault_listen.proofs.Linking.{link_of}
 use Rattle.vault_listen.proofs.service.serve_link.Goals as goal
 
@@ -31,11 +30,6 @@ returns-then-store_failed-clause-served g c =
       c.if-store_failed.ensures.0 refl,
     )
 
-pub returns-then-store_failed-clause-left : goal.returns-then-store_failed-clause-left
-returns-then-store_failed-clause-left g c =
-    end_undecided c.serve_connection-ended.result _ _ _ (c.if-store_failed.ensures.0 refl) refl
-    c.serve_connection-ended.ensures.answered.2.each c.serve_connection-ended.ensures.answered.3
-
 pub returns-clause-served : goal.returns-clause-served
 returns-clause-served g c =
     let e = c.serve_connection-ended in
@@ -62,9 +56,3 @@ returns-clause-served g c =
       },
       λ same. let e : false ≡ true = c.if-store_failed.ensures.1 same in absurd (cc),
     )
-
-pub returns-clause-left : goal.returns-clause-left
-returns-clause-left g c =
-    end_kept c.serve_connection-ended.result _ _ _
-    (λ same. let e : false ≡ true = c.if-store_failed.ensures.1 same in absurd (cc)) refl
-    c.serve_connection-ended.ensures.answered.2.each c.serve_connection-ended.ensures.answered.3

@@ -3,11 +3,10 @@ use Rattle.std.proofs.Common.{length-append}
 use Rattle.std.proofs.Common.{refl, subst, sym}
 use Rattle.std.proofs.lemmas.List.Elements.{All-append, All-cons, All-nil}
 use Rattle.vault_store.specs.Applied.{is_broken, tables_of}
-use Rattle.vault_listen.specs.Peers.{AreLinks, GoesOn, Link, events_of}
-use Rattle.vault_listen.specs.Service.{AllKept, OneUndecided, vault_passing}
-use Rattle.vault_listen.proofs.Ending.{lost_kept, none_kept}
-use Rattle.vault_listen.proofs.Following.{failed_in, kept_then, undecided_then}
-use Rattle.vault_listen.proofs.Linking.{closed_then, ended_in, links_then, lost_then, none_then, told_then}
+use Rattle.vault_listen.specs.Peers.{AreLinks, Link, events_of, vault_passing}
+use Rattle.vault_listen.specs.Service.{GoesOn}
+use Rattle.vault_listen.proofs.Following.{failed_in, kept_after, unaccepted_in, undecided_after}
+use Rattle.vault_listen.proofs.Linking.{closed_then, links_then, lost_then, none_then, told_then}
 use Rattle.vault_listen.proofs.service.serve_on.Goals as goal
 use Rattle.vault_listen.proofs.service.serve_on.Goals.{in-Some+in_ok-serve_link, in_default-2}
 
@@ -16,10 +15,9 @@ returns-in_default-clause-served g c = (
   [],
   (
     refl,
-    none_kept (vault_passing g.T.Tables.is_honest g.T.Tables.holds g.T.Tables.leaves c.args.vault.now
-        c.args.vault.now) (λ V b. (b.1, g.met.T.Tables.settled _ V b.1.0 b.0)),
+    kept_after (g.K.Timekeeper.tells c.args.time.now) g.T.Tables.is_honest g.T.Tables.holds
+        g.T.Tables.leaves g.met.T.Tables.settled [] c.args.vault.now c.args.vault.now refl (All-nil GoesOn),
   ),
-  refl,
   refl,
   none_then (g.P.Peers.tells c.args.peers.now),
 )
@@ -31,8 +29,6 @@ loop-init g c = record {
   told = none_then (g.P.Peers.tells c.args.peers.now);
   served = refl;
   on = All-nil GoesOn;
-  left = none_kept (vault_passing g.T.Tables.is_honest g.T.Tables.holds g.T.Tables.leaves c.args.vault.now
-      c.args.vault.now) (λ V b. (b.1, g.met.T.Tables.settled _ V b.1.0 b.0));
   whole = refl;
   honest = λ h. h;
 }
@@ -68,10 +64,6 @@ loop-preserved g c =
                 (links_then (g.K.Timekeeper.tells c.args.time.now) honest holds leaves inv.links (Some x ∷ []) v0 v1 v2 inv.served (v2, it.1, refl));
             on = All-append GoesOn inv.links (Some x ∷ []) inv.on
                 (All-cons GoesOn (Some x) [] it.3 (All-nil GoesOn));
-            left = subst (λ v. AllKept (c.loop.counter + 1) (vault_passing honest holds leaves v0 v))
-                (sym w.vault-is)
-                (kept_then honest holds leaves v0 v1 v2 w.serve_link.ensures.honest
-                c.loop.counter inv.left w.in_ok-serve_link.ensures.left);
             whole = ap is_broken w.vault-is ∙ w.in_ok-serve_link.ensures.store ∙ inv.whole;
             honest = λ h. inv.honest
                 (w.serve_link.ensures.honest (subst (λ v. honest (tables_of v)) w.vault-is h));
@@ -88,11 +80,6 @@ loop-preserved g c =
         served = subst (λ v. AreLinks (g.K.Timekeeper.tells c.args.time.now) honest holds leaves (inv.links ++ None ∷ []) v0 v) (sym w.vault-is)
             (links_then (g.K.Timekeeper.tells c.args.time.now) honest holds leaves inv.links (None ∷ []) v0 v1 v1 inv.served refl);
         on = All-append GoesOn inv.links lost inv.on (All-cons GoesOn None [] tt (All-nil GoesOn));
-        left = subst (λ v. AllKept (c.loop.counter + 1) (vault_passing honest holds leaves v0 v))
-            (sym w.vault-is)
-            (kept_then honest holds leaves v0 v1 v1 (λ h. h) c.loop.counter inv.left
-            (lost_kept (vault_passing honest holds leaves v1 v1)
-            (λ V b. (b.1, g.met.T.Tables.settled _ V b.1.0 b.0))));
         whole = ap is_broken w.vault-is ∙ inv.whole;
         honest = λ h. inv.honest (subst (λ v. honest (tables_of v)) w.vault-is h);
       }
@@ -105,6 +92,7 @@ returns-in_err-serve_link-clause-served g c =
     let holds = g.T.Tables.holds in
     let leaves = g.T.Tables.leaves in
     let tells = g.P.Peers.tells in
+    let tells_at = g.K.Timekeeper.tells c.args.time.now in
     let v0 = c.args.vault.now in
     let v1 = c.loop.vault in
     let v2 = c.serve_link.new.vault in
@@ -119,14 +107,44 @@ returns-in_err-serve_link-clause-served g c =
     let count : length xs ≡ c.loop.counter + 1 =
     omega (arith, inv.count, length-append inv.links (Some x ∷ [])) in (
       xs,
-      failed_in c.args.connections (length xs) w r _ passed store (omega (arith, count, c.loop-test.true))
-          (subst (λ n. OneUndecided n w) (sym count)
-          (undecided_then honest holds leaves v0 v1 v2 c.serve_link.ensures.honest c.loop.counter inv.left
-          c.in_err-serve_link.ensures.left)),
-      ended_in r _ passed store inv.links x inv.on it.3,
+      failed_in tells_at c.args.connections inv.links x w r _ passed store
+          (omega (arith, count, c.loop-test.true)) inv.on it.3
+          (undecided_after tells_at honest holds leaves g.met.T.Tables.settled inv.links x v0 v1 v2 inv.served
+          inv.on it.1 it.3),
       links_then (g.K.Timekeeper.tells c.args.time.now) honest holds leaves inv.links (Some x ∷ []) v0 v1 v2 inv.served (v2, it.1, refl),
       told_then (tells c.args.peers.now) (tells c.loop.peers) (tells p2) inv.links (Some x) inv.told
           (closed_then g.P.Reader.Read.remaining g.P.Writer.Write.contents (tells c.loop.peers)
           (tells c.accept.new.self) (tells p2) c.in_ok-link.field-0 c.in-Some.link x c.in-Some.is
           c.in_ok-link.ensures.comes it.2),
+    )
+
+pub returns-clause-served : goal.returns-clause-served
+returns-clause-served g c =
+    let inv = c.loop.invariant in (
+      inv.links,
+      (
+        omega (arith, inv.count, c.loop-test.false, c.loop.auto.counter-end),
+        inv.on,
+        kept_after (g.K.Timekeeper.tells c.args.time.now) g.T.Tables.is_honest g.T.Tables.holds
+            g.T.Tables.leaves g.met.T.Tables.settled inv.links c.args.vault.now c.loop.vault inv.served
+            inv.on,
+      ),
+      inv.served,
+      inv.told,
+    )
+
+pub returns-in_err-link-clause-served : goal.returns-in_err-link-clause-served
+returns-in_err-link-clause-served g c =
+    let inv = c.loop.invariant in
+    let tells_at = g.K.Timekeeper.tells c.args.time.now in
+    let w = vault_passing g.T.Tables.is_honest g.T.Tables.holds g.T.Tables.leaves c.args.vault.now
+    c.loop.vault in (
+      inv.links,
+      unaccepted_in tells_at c.args.connections inv.links w c.from_residual.result _
+          c.from_residual.ensures.1 c.in_err-link.ensures.fails.0
+          (omega (arith, inv.count, c.loop-test.true)) inv.on
+          (kept_after tells_at g.T.Tables.is_honest g.T.Tables.holds g.T.Tables.leaves
+          g.met.T.Tables.settled inv.links c.args.vault.now c.loop.vault inv.served inv.on),
+      inv.served,
+      λ log h. c.in_err-link.ensures.fails.1 _ (inv.told log h),
     )

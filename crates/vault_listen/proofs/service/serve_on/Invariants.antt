@@ -1,8 +1,8 @@
 use Rattle.std.proofs.Common.{◌≡◌, ◌++◌, List, Option, length}
 use Rattle.std.specs.Prelude.{All}
 use Rattle.vault_store.specs.Applied.{is_broken, tables_of}
-use Rattle.vault_listen.specs.Peers.{AreLinks, Event, GoesOn, Link, events_of}
-use Rattle.vault_listen.specs.Service.{AllKept, vault_passing}
+use Rattle.vault_listen.specs.Peers.{AreLinks, Event, Link, events_of}
+use Rattle.vault_listen.specs.Service.{GoesOn}
 use Rattle.vault_listen.proofs.service.serve_on.Given as goal
 
 abbrev pub invariant-loop : goal.invariant-loop
@@ -13,8 +13,6 @@ invariant-loop g l = record {
       → g.P.Peers.tells l.peers (log ++ events_of links);
   served : AreLinks (g.K.Timekeeper.tells l.time) g.T.Tables.is_honest g.T.Tables.holds g.T.Tables.leaves links l.initial.vault l.vault;
   on : All GoesOn links;
-  left : AllKept l.counter (vault_passing g.T.Tables.is_honest g.T.Tables.holds g.T.Tables.leaves
-      l.initial.vault l.vault);
   whole : is_broken l.vault ≡ is_broken l.initial.vault;
   honest : g.T.Tables.is_honest (tables_of l.vault) → g.T.Tables.is_honest (tables_of l.initial.vault);
 }

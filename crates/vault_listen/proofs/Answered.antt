@@ -1,0 +1,254 @@
+-- What is said of a connection over tables, said of the vaults that they hold.
+use Rattle.std.proofs.Common.{◌≡◌, ◌≢◌, ◌<◌, ℕ, List, [], ◌++◌, ◌∷◌, ap, inl, inr, length, refl, subst}
+use Rattle.std.proofs.Common.{sym, take}
+use Rattle.std.specs.Prelude.{MatchResult, None, Option, Result, Ok, Err}
+use Rattle.vault_core.specs.Vault.{Vault as Content}
+use Rattle.vault_wire.specs.Parts.{Parts}
+use Rattle.vault_wire.specs.declared.fault.WireFault.{WireFault}
+use Rattle.vault_http.specs.Exchanges.{fault_text, last_text, shown, text_at, texts, up_to_close}
+use Rattle.vault_http.specs.Exchanges.{vault_after}
+use Rattle.vault_http.specs.Passing.{AllAnswered, IsBefore, Keeps, Passage, Sends, Stops, StopsAfter}
+use Rattle.vault_http.specs.Passing.{StopsAtSource, StopsAtStore, StopsAtWrite, StopsBefore}
+use Rattle.vault_http.specs.Served.{IsServed, IsStopped, StopsAmong, StopsAtFault, StopsForMemory}
+use Rattle.vault_http.specs.declared.fault.ServeFault.{ServeFault}
+use Rattle.vault_http.specs.declared.fault.ServeFault.TheVariants as fault
+use Rattle.vault_http.specs.declared.served.Served.{Served}
+
+-- the same passage from one vault to another
+abbrev pub from : Passage → Content → Content → Content → Passage
+from w V W U = record w {
+  honest = Unit {0};
+  held_old = λ A. A ≡ V;
+  held_new = λ A. A ≡ W;
+  left_new = λ A B. (A ≡ W) × (B ≡ U);
+}
+
+-- what is true of the vault that is held before is true of each that is
+at : (w : Passage) (V W U : Content) (P : Content → Type 0) → P V → (A : Content)
+    → IsBefore (from w V W U) A → P A
+at w V W U P h A before = subst P (sym before.1) h
+
+module _ (w : Passage) (V : Content) (b : IsBefore w V) where
+  -- a vault is kept, and this is true of the passage to it
+  abbrev pub Settles : (Passage → Type 0) → Type 0
+  Settles P = (M : Content) × Keeps w M × P (from w V M M)
+
+  all_answered : (ps : List Parts) → AllAnswered w ps → Settles (λ p. AllAnswered p ps)
+  all_answered ps q = let M = vault_after V q.exchanges in (
+    M,
+    (q.answered V b).1,
+    record {
+      pairs = q.pairs;
+      exchanges = q.exchanges;
+      taken = q.taken;
+      asked = q.asked;
+      whole = q.whole;
+      answered = at w V M M (λ A. Sends w (texts A q.exchanges) × Keeps (from w V M M)
+          (vault_after A q.exchanges)) ((q.answered V b).0, (refl, (refl, refl)));
+    },
+  )
+
+  at_source : (ps : List Parts) → StopsAtSource w ps → Settles (λ p. StopsAtSource p ps)
+  at_source ps q = let M = vault_after V q.exchanges in (
+    M,
+    (q.answered V b).1,
+    record {
+      pairs = q.pairs;
+      exchanges = q.exchanges;
+      taken = q.taken;
+      asked = q.asked;
+      more = q.more;
+      answered = at w V M M (λ A. Sends w (texts A q.exchanges) × Keeps (from w V M M)
+          (vault_after A q.exchanges)) ((q.answered V b).0, (refl, (refl, refl)));
+    },
+  )
+
+  at_write : (ps : List Parts) → StopsAtWrite w ps → Settles (λ p. StopsAtWrite p ps)
+  at_write ps q = let M = vault_after V (q.exchanges ++ q.cut ∷ []) in (
+    M,
+    (q.answered V b).2,
+    record {
+      pairs = q.pairs;
+      exchanges = q.exchanges;
+      cut = q.cut;
+      sent = q.sent;
+      taken = q.taken;
+      asked = q.asked;
+      answered = at w V M M (λ A. (q.sent < length (text_at (vault_after A q.exchanges) q.cut))
+          × Sends w (texts A q.exchanges ++ take q.sent (text_at (vault_after A q.exchanges) q.cut))
+          × Keeps (from w V M M) (vault_after A (q.exchanges ++ q.cut ∷ [])))
+          ((q.answered V b).0, (q.answered V b).1, (refl, (refl, refl)));
+    },
+  )
+
+  before_one : (ps : List Parts) → StopsBefore w ps → Settles (λ p. StopsBefore p ps)
+  before_one ps q = let M = vault_after V q.exchanges in (
+    M,
+    (q.answered V b).1,
+    record {
+      pairs = q.pairs;
+      unused = q.unused;
+      exchanges = q.exchanges;
+      one = q.one;
+      taken = q.taken;
+      asked = q.asked;
+      answered = at w V M M (λ A. Sends w (texts A q.exchanges) × Keeps (from w V M M)
+          (vault_after A q.exchanges)) ((q.answered V b).0, (refl, (refl, refl)));
+    },
+  )
+
+  after_one : (ps : List Parts) → StopsAfter w ps → Settles (λ p. StopsAfter p ps)
+  after_one ps q = let M = vault_after V (q.exchanges ++ q.silent ∷ []) in (
+    M,
+    (q.answered V b).1,
+    record {
+      pairs = q.pairs;
+      exchanges = q.exchanges;
+      silent = q.silent;
+      taken = q.taken;
+      asked = q.asked;
+      answered = at w V M M (λ A. Sends w (texts A q.exchanges)
+          × Keeps (from w V M M) (vault_after A (q.exchanges ++ q.silent ∷ [])))
+          ((q.answered V b).0, (refl, (refl, refl)));
+    },
+  )
+
+  -- but where the store fails
+  stops : (e : ServeFault) (ps : List Parts) → e ≢ fault.Store → Stops e w ps → Settles (λ p. Stops e p ps)
+  stops fault.Source ps n q = at_source ps q
+  stops fault.Read ps n q = all_answered ps q
+  stops fault.Write ps n q = at_write ps q
+  stops fault.Store ps n q = absurd (n refl)
+  stops fault.Memory ps n (inl q) = let it = before_one ps q in (it.0, it.1, inl it.2)
+  stops fault.Memory ps n (inr q) = let it = after_one ps q in (it.0, it.1, inr it.2)
+
+  among : (e : ServeFault) (old new : Option (List ℕ)) (f : Option WireFault) → e ≢ fault.Store
+      → StopsAmong e old new w f → Settles (λ p. StopsAmong e old new p f)
+  among e old new f n q = let it = stops e (up_to_close (shown q.messages)) n q.stops in (
+    it.0,
+    it.1,
+    record {
+      bytes = q.bytes;
+      messages = q.messages;
+      read = q.read;
+      reads = q.reads;
+      stops = it.2;
+    },
+  )
+
+  at_fault : (old new : Option (List ℕ)) → StopsAtFault old new w → Settles (StopsAtFault old new)
+  at_fault old new q = let M = vault_after V q.exchanges in (
+    M,
+    (q.answered V b).1,
+    record {
+      bytes = q.bytes;
+      messages = q.messages;
+      fault = q.fault;
+      pairs = q.pairs;
+      exchanges = q.exchanges;
+      sent = q.sent;
+      read = q.read;
+      reads = q.reads;
+      open_till = q.open_till;
+      taken = q.taken;
+      asked = q.asked;
+      whole = q.whole;
+      part = q.part;
+      answered = at w V M M (λ A. Sends w (texts A q.exchanges ++ take q.sent (fault_text q.fault))
+          × Keeps (from w V M M) (vault_after A q.exchanges)) ((q.answered V b).0, (refl, (refl, refl)));
+    },
+  )
+
+  stopped : (e : ServeFault) (old new : Option (List ℕ)) → e ≢ fault.Store → IsStopped old new w e
+      → Settles (λ p. IsStopped old new p e)
+  stopped fault.Source old new n (f, q) =
+      let it = among fault.Source old new f n q in (it.0, it.1, (f, it.2))
+  stopped fault.Read old new n q = among fault.Read old new None n q
+  stopped fault.Write old new n (inl (f, q)) =
+      let it = among fault.Write old new f n q in (it.0, it.1, inl (f, it.2))
+  stopped fault.Write old new n (inr q) = let it = at_fault old new q in (it.0, it.1, inr it.2)
+  stopped fault.Store old new n q = absurd (n refl)
+  stopped fault.Memory old new n q =
+      let it = stops fault.Memory (up_to_close (shown q.messages)) n q.stops in (
+        it.0,
+        it.1,
+        record {
+          bytes = q.bytes;
+          messages = q.messages;
+          read = q.read;
+          begins = q.begins;
+          stops = it.2;
+        },
+      )
+
+  served : (s : Served) (old new : Option (List ℕ)) → IsServed old new w s
+      → Settles (λ p. IsServed old new p s)
+  served s old new q = let M = vault_after V q.exchanges in (
+    M,
+    (q.answered V b).1,
+    record {
+      bytes = q.bytes;
+      messages = q.messages;
+      fault = q.fault;
+      pairs = q.pairs;
+      exchanges = q.exchanges;
+      read = q.read;
+      reads = q.reads;
+      taken = q.taken;
+      asked = q.asked;
+      whole = q.whole;
+      counted = q.counted;
+      told = q.told;
+      ended = q.ended;
+      answered = at w V M M (λ A. Sends w (texts A q.exchanges ++ last_text s.fault)
+          × Keeps (from w V M M) (vault_after A q.exchanges)) ((q.answered V b).0, (refl, (refl, refl)));
+    },
+  )
+
+  -- a connection in which the store doesn't fail leaves one vault
+  pub settled : (r : Result Served ServeFault) (old new : Option (List ℕ)) → r ≢ Err fault.Store
+      → MatchResult r (IsServed old new w) (IsStopped old new w)
+      → Settles (λ p. MatchResult r (IsServed old new p) (IsStopped old new p))
+  settled (Ok s) old new n q = served s old new q
+  settled (Err e) old new n q = stopped e old new (λ same. n (ap Err same)) q
+
+  undecided : (old new : Option (List ℕ)) → IsStopped old new w fault.Store
+      → (M U : Content) × w.left_new M U × IsStopped old new (from w V M U) fault.Store
+  undecided old new (f, q) =
+      let s = q.stops in
+      let M = vault_after V s.exchanges in
+      let U = vault_after V (s.exchanges ++ s.undecided ∷ []) in (
+        M,
+        U,
+        (s.answered V b).1,
+        (
+          f,
+          record {
+            bytes = q.bytes;
+            messages = q.messages;
+            read = q.read;
+            reads = q.reads;
+            stops = record {
+              pairs = s.pairs;
+              exchanges = s.exchanges;
+              undecided = s.undecided;
+              taken = s.taken;
+              asked = s.asked;
+              answered = at w V M U (λ A. Sends w (texts A s.exchanges) × (from w V M U).left_new
+                  (vault_after A s.exchanges) (vault_after A (s.exchanges ++ s.undecided ∷ [])))
+                  ((s.answered V b).0, (refl, refl));
+            };
+          },
+        ),
+      )
+
+  -- one in which it fails leaves the one or the other
+  pub torn : (r : Result Served ServeFault) (old new : Option (List ℕ)) → r ≡ Err fault.Store
+      → MatchResult r (IsServed old new w) (IsStopped old new w)
+      → (M U : Content) × w.left_new M U
+      × MatchResult r (IsServed old new (from w V M U)) (IsStopped old new (from w V M U))
+  torn (Ok s) old new is q = absurd (cc (is))
+  torn (Err e) old new is q =
+      let same : e ≡ fault.Store = cc (is) in
+      let it = undecided old new (subst (IsStopped old new w) same q) in
+      (it.0, it.1, it.2, subst (IsStopped old new (from w V it.0 it.1)) (sym same) it.3)
