@@ -16,13 +16,13 @@ use Rattle.vault_core.specs.declared.reply.Reply.{Reply}
 use Rattle.vault_core.specs.declared.reply.Reply.TheVariants as answer
 use Rattle.vault_core.specs.declared.right.Right.{Right}
 use Rattle.vault_http.specs.Passing.{IsBefore, Passage}
-use Rattle.vault_listen.specs.Service.{vault_passing}
+use Rattle.vault_listen.specs.Peers.{vault_passing}
 use Rattle.vault_rights.specs.Named.{Row}
 use Rattle.vault_store.specs.Applied.{Contains, tables_of}
 use Rattle.vault_store.specs.declared.vault.Fault.{Fault}
 use Rattle.vault_store.specs.declared.vault.Fault.TheVariants.{Memory, Store, Reopen}
 use Rattle.vault_store.specs.declared.vault.Vault.{Vault}
-use Rattle.vault_jobs.specs.Carried.{Carries, IsKept, IsTorn, reply_of}
+use Rattle.vault_jobs.specs.Carried.{Carries, reply_of}
 use Rattle.vault_jobs.specs.Grants.{AreDone, CarriesAll, grants_at}
 use Rattle.vault_jobs.specs.declared.change.Verdict.{Verdict}
 use Rattle.vault_jobs.specs.declared.change.Verdict.TheVariants.{Done, Refused}
@@ -143,7 +143,7 @@ module _ {T : Type 0} (honest : T → Type 0) (holds : T → Content → Type 0)
     below,
     λ V b.
         let W : Content = run (take i cs) V in
-        absurd (carried.1 is W (ready V b) (plain W).0 (plain W).1),
+        absurd ((carried.1 is W (ready V b)).0 (plain W).0 (plain W).1),
   )
 
   -- the command was stopped
@@ -156,31 +156,3 @@ module _ {T : Type 0} (honest : T → Type 0) (holds : T → Content → Type 0)
   )
   stopped_then Store carried plain = store_then broken refl carried plain
   stopped_then Reopen carried plain = carried
-
--- the commands up to one are those before it and one more
-one_more : (cs : List Command) (k : ℕ) → k < length cs
-    → (c : Command) × (take (k + 1) cs ≡ take k cs ++ c ∷ [])
-one_more [] k below = let never : ⊥ = omega (arith, below) in absurd never
-one_more (c ∷ cs) k below = (get_or (c ∷ cs) k c, take_more (c ∷ cs) k c below)
-
--- rights that were given leave a vault that is kept, or one that is torn at one of them
-pub given_kept : (cs : List Command) (w : Passage) (r : Result Verdict Fault) (broken : Bool) → broken ≡ false
-    → CarriesAll cs w broken r → IsKept w
-given_kept cs w (Ok Done) broken whole h = (cs, λ V b. (h V b).1)
-given_kept cs w (Ok (Refused n)) broken whole (k, below, h) = (take (k + 1) cs, λ V b. (h V b).1)
-given_kept cs w (Err Memory) broken whole (k, below, h) = (take k cs, λ V b. (h V b).1)
-given_kept cs w (Err Store) broken whole (k, below, h) = ([], λ V b. absurd (cc (whole, (h V b).0)))
-given_kept cs w (Err Reopen) broken whole h = absurd h
-
-pub given_torn : (cs : List Command) (w : Passage) (r : Result Verdict Fault) (broken : Bool)
-    → r ≡ Err Store → CarriesAll cs w broken r → IsTorn w
-given_torn cs w (Ok v) broken is h = absurd (cc (is))
-given_torn cs w (Err Memory) broken is h = absurd (cc (is))
-given_torn cs w (Err Store) broken is (k, below, h) =
-    let one = one_more cs k below in (
-      take k cs,
-      one.0 ∷ [],
-      omega arith,
-      λ V b. subst (λ ds. w.left_new (run (take k cs) V) (run ds V)) one.1 (h V b).2,
-    )
-given_torn cs w (Err Reopen) broken is h = absurd h

@@ -1,9 +1,8 @@
 pub mod Along
-pub mod Batching
-pub mod Carrying
+pub mod Breaking
 pub mod Flushing
 pub mod Giving
-pub mod Moments
+pub mod Parts
 pub mod Purging
 pub mod Refining
 pub mod Stops

@@ -1,6 +1,6 @@
 -- What a task does in one passage it does in any that refines it: where what was before and what is kept is
 -- said of other things, as of files in place of tables.
-use Rattle.std.proofs.Common.{ℕ, List, Bool, Option, Result, Ok, Err, inl, inr}
+use Rattle.std.proofs.Common.{ℕ, List, [], Bool, Option, Result, Ok, Err, inl, inr}
 use Rattle.vault_core.specs.Vault.{Vault as Content}
 use Rattle.vault_core.specs.declared.command.Command.{Command}
 use Rattle.vault_wire.specs.Parts.{Parts}
@@ -16,6 +16,8 @@ use Rattle.vault_batch.specs.declared.asker.Asker.{Asker}
 use Rattle.vault_batch.specs.declared.counts.Counts.{Counts}
 use Rattle.vault_batch.specs.declared.fault.BatchFault.{BatchFault}
 use Rattle.vault_batch.specs.declared.fault.BatchFault.TheVariants as row
+use Rattle.vault_live.specs.Live.{Turns}
+use Rattle.vault_listen.specs.Peers.{Link}
 use Rattle.vault_listen.specs.Service.{AllKept, Leaves}
 use Rattle.vault_listen.specs.declared.fault.ListenFault.{ListenFault}
 use Rattle.vault_listen.specs.declared.fault.ListenFault.TheVariants as listen
@@ -24,7 +26,7 @@ use Rattle.vault_store.specs.declared.vault.Fault.TheVariants.{Memory, Store, Re
 use Rattle.vault_jobs.specs.Batched.{StopsBatch}
 use Rattle.vault_jobs.specs.Carried.{Carries}
 use Rattle.vault_jobs.specs.Doing.{BatchEnds, CommandsEnd, Does, IsUntouched, PipeEnds, ServeEnds}
-use Rattle.vault_jobs.specs.Doing.{SweepEnds}
+use Rattle.vault_jobs.specs.Doing.{SweepEnds, Works}
 use Rattle.vault_jobs.specs.Grants.{CarriesAll, grants_at}
 use Rattle.vault_jobs.specs.Piped.{IsPiped, StopsPiping}
 use Rattle.vault_jobs.specs.Streams.{Known, Streams}
@@ -59,7 +61,7 @@ module _ (H : Type 0) (O N : Content → Type 0) (L : Content → Content → Ty
   carries c broken (Err Memory) h = λ V b. kept b.0 _ (h V (was V b.0 b.1))
   carries c broken (Err Store) h = (
     λ is V b. torn b.0 _ _ (h.0 is V (was V b.0 b.1)),
-    λ is V b v. h.1 is V (was V b.0 b.1) v,
+    λ is V b. let it = h.1 is V (was V b.0 b.1) in (it.0, kept b.0 _ it.1),
   )
   carries c broken (Err Reopen) h = absurd h
 
@@ -91,29 +93,24 @@ module _ (H : Type 0) (O N : Content → Type 0) (L : Content → Content → Ty
   )
   sweeps who now broken (Err Reopen) h = absurd h
 
-  all_kept : (n : ℕ) → AllKept n w → AllKept n (over H O N L w)
-  all_kept n a = record {
-    connections = a.connections;
-    counted = a.counted;
-    asked = a.asked;
-    kept = λ V b. kept b.0 _ (a.kept V (was V b.0 b.1));
-  }
+  all_kept : (tells : Turns) (xs : List (Option Link)) → AllKept tells xs w → AllKept tells xs (over H O N L w)
+  all_kept tells xs h = λ V b. let it = h V (was V b.0 b.1) in (it.0, it.1, kept b.0 _ it.2)
 
-  leaves : (n came : ℕ) (f : ListenFault) → Leaves n came w (Err f) → Leaves n came (over H O N L w) (Err f)
-  leaves n came listen.Store (few, a) = (
+  leaves : (tells : Turns) (n : ℕ) (xs : List (Option Link)) (f : ListenFault) → Leaves tells n xs w (Err f)
+      → Leaves tells n xs (over H O N L w) (Err f)
+  leaves tells n xs listen.Store (few, (first, last, are, on, failed, h)) = (
     few,
-    record {
-      connections = a.connections;
-      last = a.last;
-      undecided = a.undecided;
-      counted = a.counted;
-      asked = a.asked;
-      last_asked = a.last_asked;
-      left = λ V b. torn b.0 _ _ (a.left V (was V b.0 b.1));
-    },
+    (
+      first,
+      last,
+      are,
+      on,
+      failed,
+      λ V b. let it = h V (was V b.0 b.1) in (it.0, it.1, it.2, it.3, it.4, torn b.0 _ _ it.5),
+    ),
   )
-  leaves n came listen.Memory (none, a) = (none, all_kept 0 a)
-  leaves n came listen.Accept (few, a) = (few, all_kept came a)
+  leaves tells n xs listen.Memory (none, h) = (none, all_kept tells [] h)
+  leaves tells n xs listen.Accept (few, on, h) = (few, on, all_kept tells xs h)
 
   all_answered : (ps : List Parts) → AllAnswered w ps → AllAnswered (over H O N L w) ps
   all_answered ps s = record {
@@ -355,19 +352,22 @@ module _ (H : Type 0) (O N : Content → Type 0) (L : Content → Content → Ty
   stops_batch left who e (inl s) = inl (batch_stops left who e s)
   stops_batch left who e (inr (is, (counts, s))) = inr (is, (counts, batched left who counts s))
 
-  serve_ends : (port n : ℕ) (r : Result Outcome Stop) (unsent : Type 0) (old new : Known) (writer : Bool)
-      → ServeEnds port n w r unsent old new writer → ServeEnds port n (over H O N L w) r unsent old new writer
-  serve_ends port n (Ok outcome.Done) unsent old new writer (calm, told, a) = (calm, told, all_kept n a)
-  serve_ends port n (Ok (outcome.Refused k)) unsent old new writer a = a
-  serve_ends port n (Ok outcome.SomeRefused) unsent old new writer a = a
-  serve_ends port n (Err (Vault f)) unsent old new writer a = a
-  serve_ends port n (Err (Service f)) unsent old new writer (same, why) = (untouched same, why)
-  serve_ends port n (Err (Listener f)) unsent old new writer (inl (is, silent, same)) =
-      inl (is, silent, untouched same)
-  serve_ends port n (Err (Listener f)) unsent old new writer (inr (told, (came, a))) =
-      inr (told, (came, leaves n came f a))
-  serve_ends port n (Err (Rights f)) unsent old new writer a = a
-  serve_ends port n (Err (stop.Batch f)) unsent old new writer a = a
+  serve_ends : (tells : Turns) (port n : ℕ) (r : Result Outcome Stop) (unsent : Type 0) (old new : Known)
+      (writer : Bool) (xs : List (Option Link)) → ServeEnds tells port n w r unsent old new writer xs
+      → ServeEnds tells port n (over H O N L w) r unsent old new writer xs
+  serve_ends tells port n (Ok outcome.Done) unsent old new writer xs (calm, told, (all, on, h)) =
+      (calm, told, (all, on, all_kept tells xs h))
+  serve_ends tells port n (Ok (outcome.Refused k)) unsent old new writer xs a = a
+  serve_ends tells port n (Ok outcome.SomeRefused) unsent old new writer xs a = a
+  serve_ends tells port n (Err (Vault f)) unsent old new writer xs a = a
+  serve_ends tells port n (Err (Service f)) unsent old new writer xs (same, none, why) =
+      (untouched same, none, why)
+  serve_ends tells port n (Err (Listener f)) unsent old new writer xs (inl (is, silent, same, none)) =
+      inl (is, silent, untouched same, none)
+  serve_ends tells port n (Err (Listener f)) unsent old new writer xs (inr (told, a)) =
+      inr (told, leaves tells n xs f a)
+  serve_ends tells port n (Err (Rights f)) unsent old new writer xs a = a
+  serve_ends tells port n (Err (stop.Batch f)) unsent old new writer xs a = a
 
   commands_end : (P Q : Result Verdict Fault → Type 0) → ((r : Result Verdict Fault) → P r → Q r)
       → (line : List ℕ) (r : Result Outcome Stop) (unsent : Type 0) (old new : Known) (writer : Bool)
@@ -402,49 +402,61 @@ module _ (H : Type 0) (O N : Content → Type 0) (L : Content → Content → Ty
     (was : (V : Content) → H → O V → IsBefore w V)
     (kept : H → (V : Content) → Keeps w V → N V × L V V)
     (torn : H → (V W : Content) → w.left_new V W → L V W) (s : Streams) where
-  batch_ends : (who : Asker) (now : Option ℕ) (digits : Option (List ℕ)) (r : Result Outcome Stop)
-      (unread unsent : Type 0) → BatchEnds who now digits w r unread unsent s
-      → BatchEnds who now digits (over H O N L w) r unread unsent s
-  batch_ends who now digits (Ok outcome.Done) unread unsent (counts, none, (pairs, few, fixed, h)) =
-      (counts, none, (pairs, few, fixed, batched H O N L _ was kept torn s.left_old who counts h))
-  batch_ends who now digits (Ok (outcome.Refused n)) unread unsent h = h
-  batch_ends who now digits (Ok outcome.SomeRefused) unread unsent (counts, some, (pairs, few, fixed, h)) =
-      (counts, some, (pairs, few, fixed, batched H O N L _ was kept torn s.left_old who counts h))
-  batch_ends who now digits (Err (Vault f)) unread unsent h = h
-  batch_ends who now digits (Err (Service f)) unread unsent h = h
-  batch_ends who now digits (Err (Listener f)) unread unsent h = h
-  batch_ends who now digits (Err (Rights f)) unread unsent h = h
-  batch_ends who now digits (Err (stop.Batch f)) unread unsent (inl (is, calm, silent, same)) =
+  batch_ends : (tells : Turns) (who : Asker) (now : Option ℕ) (digits : Option (List ℕ)) (r : Result Outcome Stop)
+      (unread unsent : Type 0) → BatchEnds tells who now digits w r unread unsent s
+      → BatchEnds tells who now digits (over H O N L w) r unread unsent s
+  batch_ends tells who now digits (Ok outcome.Done) unread unsent (calm, counts, none, end, (pairs, few, fixed, h)) =
+      (calm, counts, none, end, (pairs, few, fixed, batched H O N L _ was kept torn s.left_old who counts h))
+  batch_ends tells who now digits (Ok (outcome.Refused n)) unread unsent h = h
+  batch_ends tells who now digits (Ok outcome.SomeRefused) unread unsent (calm, counts, some, end, (pairs, few, fixed, h)) =
+      (calm, counts, some, end, (pairs, few, fixed, batched H O N L _ was kept torn s.left_old who counts h))
+  batch_ends tells who now digits (Err (Vault f)) unread unsent h = h
+  batch_ends tells who now digits (Err (Service f)) unread unsent h = h
+  batch_ends tells who now digits (Err (Listener f)) unread unsent h = h
+  batch_ends tells who now digits (Err (Rights f)) unread unsent h = h
+  batch_ends tells who now digits (Err (stop.Batch f)) unread unsent (inl (is, calm, silent, same)) =
       inl (is, calm, silent, untouched H O N L w was kept torn same)
-  batch_ends who now digits (Err (stop.Batch f)) unread unsent (inr (pairs, few, fixed, h)) =
+  batch_ends tells who now digits (Err (stop.Batch f)) unread unsent (inr (pairs, few, fixed, h)) =
       inr (pairs, few, fixed, stops_batch H O N L _ was kept torn s.left_old who f h)
 
-  pipe_ends : (now : Option ℕ) (digits : Option (List ℕ)) (r : Result Outcome Stop)
-      (unread unsent : Type 0) → PipeEnds now digits w r unread unsent s
-      → PipeEnds now digits (over H O N L w) r unread unsent s
-  pipe_ends now digits (Ok outcome.Done) unread unsent (pairs, few, fixed, h) =
-      (pairs, few, fixed, piped H O N L _ was kept torn s.left_old s.left_new h)
-  pipe_ends now digits (Ok (outcome.Refused n)) unread unsent h = h
-  pipe_ends now digits (Ok outcome.SomeRefused) unread unsent h = h
-  pipe_ends now digits (Err (Vault f)) unread unsent h = h
-  pipe_ends now digits (Err (Service f)) unread unsent (inl (is, calm, silent, same)) =
+  pipe_ends : (tells : Turns) (now : Option ℕ) (digits : Option (List ℕ)) (r : Result Outcome Stop)
+      (unread unsent : Type 0) → PipeEnds tells now digits w r unread unsent s
+      → PipeEnds tells now digits (over H O N L w) r unread unsent s
+  pipe_ends tells now digits (Ok outcome.Done) unread unsent (calm, (pairs, few, fixed, h)) =
+      (calm, (pairs, few, fixed, piped H O N L _ was kept torn s.left_old s.left_new h))
+  pipe_ends tells now digits (Ok (outcome.Refused n)) unread unsent h = h
+  pipe_ends tells now digits (Ok outcome.SomeRefused) unread unsent h = h
+  pipe_ends tells now digits (Err (Vault f)) unread unsent h = h
+  pipe_ends tells now digits (Err (Service f)) unread unsent (inl (is, calm, silent, same)) =
       inl (is, calm, silent, untouched H O N L w was kept torn same)
-  pipe_ends now digits (Err (Service f)) unread unsent (inr (pairs, few, fixed, h)) =
+  pipe_ends tells now digits (Err (Service f)) unread unsent (inr (pairs, few, fixed, h)) =
       inr (pairs, few, fixed, stops_piping H O N L _ was kept torn s.left_old s.left_new f h)
-  pipe_ends now digits (Err (Listener f)) unread unsent h = h
-  pipe_ends now digits (Err (Rights f)) unread unsent h = h
-  pipe_ends now digits (Err (stop.Batch f)) unread unsent h = h
+  pipe_ends tells now digits (Err (Listener f)) unread unsent h = h
+  pipe_ends tells now digits (Err (Rights f)) unread unsent h = h
+  pipe_ends tells now digits (Err (stop.Batch f)) unread unsent h = h
 
-  pub refined : (task : Task) (broken : Bool) (r : Result Outcome Stop) (unread unsent : Type 0)
-      → Does task w broken r unread unsent s → Does task (over H O N L w) broken r unread unsent s
-  refined (Change c) broken r unread unsent h =
+  works : (tells : Turns) (task : Task) (broken : Bool) (r : Result Outcome Stop) (unread unsent : Type 0)
+      → Works tells task w broken r unread unsent s → Works tells task (over H O N L w) broken r unread unsent s
+  works tells (Change c) broken r unread unsent h =
       commands_end H O N L w was kept torn _ _ (carries H O N L w was kept torn c broken) _ r unsent _ _ _ h
-  refined (Give rows now) broken r unread unsent h =
+  works tells (Give rows now) broken r unread unsent h =
       commands_end H O N L w was kept torn _ _
       (carries_all H O N L w was kept torn (grants_at now rows.items) broken) _ r unsent _ _ _ h
-  refined (Sweep who now) broken r unread unsent h =
+  works tells (Sweep who now) broken r unread unsent h =
       sweep_ends H O N L w was kept torn who now broken r unsent _ _ _ h
-  refined (Batch who now digits) broken r unread unsent h = batch_ends who now digits r unread unsent h
-  refined (Pipe now digits) broken r unread unsent h = pipe_ends now digits r unread unsent h
-  refined (Serve port connections) broken r unread unsent h =
-      serve_ends H O N L w was kept torn port connections r unsent _ _ _ h
+  works tells (Batch who now digits) broken r unread unsent h =
+      batch_ends tells who now digits r unread unsent h
+  works tells (Pipe now digits) broken r unread unsent h = pipe_ends tells now digits r unread unsent h
+  works tells (Serve port connections) broken r unread unsent h =
+      serve_ends H O N L w was kept torn tells port connections r unsent _ _ _ _ h
+
+  pub refined : (tells : Turns) (task : Task) (broken : Bool) (r : Result Outcome Stop)
+      (unread unsent : Type 0) → Does tells task w broken r unread unsent s
+      → Does tells task (over H O N L w) broken r unread unsent s
+  refined tells task broken r unread unsent h = record {
+    works = works tells task broken r unread unsent h.works;
+    begun = h.begun;
+    alone = h.alone;
+    caused = h.caused;
+    breaks = h.breaks;
+  }

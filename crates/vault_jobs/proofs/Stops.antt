@@ -4,12 +4,12 @@ use Rattle.std.proofs.Common.{false, cond, Option, Some, None, inl, inr, sym, �
 use Rattle.std.proofs.Common.{append-nil, arith}
 use Rattle.std.proofs.Math.Seq.{take-append-add, take-append_seam, take-length}
 use Rattle.std.proofs.lemmas.List.{length-map}
-use Rattle.std.proofs.lemmas.List.Elements.{All-take}
 use Rattle.std.proofs.Common.{Result, Ok, Err}
-use Rattle.std.specs.Prelude.{All, IfErr, OnErr, OnOk}
+use Rattle.std.specs.Prelude.{IfErr, OnErr, OnOk}
 use Rattle.std.specs.Io.KnownBytes.{Appends, Consumes}
 use Rattle.vault_core.specs.Vault.{Vault as Content}
-use Rattle.vault_live.specs.Live.{Continues, Fixes, IsPairOf, pairs_of}
+use Rattle.vault_live.specs.Live.{AreGiven, Continues, Fixes, Turns, pairs_of}
+use Rattle.vault_live.proofs.Turns.{given_first, none_given}
 use Rattle.vault_live.specs.declared.live.LiveSource.{LiveSource}
 use Rattle.vault_wire.specs.Messages.{Reads, Request}
 use Rattle.vault_wire.specs.Parts.{Parts, parts_of}
@@ -30,19 +30,14 @@ use Rattle.vault_jobs.specs.Streams.{Known}
 use Rattle.vault_jobs.specs.Trial.{IsCut, IsLast, IsTrial}
 
 -- the first messages are asked with such pairs, and of the texts that answer them a beginning went out
-record Begun (w : Passage) (ps : List Parts) (V : Content) (now : Option ℕ) (digits : Option (List ℕ))
+record Begun (tells : Turns) (w : Passage) (ps : List Parts) (V : Content) (now : Option ℕ) (digits : Option (List ℕ))
     : Type 0 where
   pairs : List Pair
   exchanges : List Exchange
   count : ℕ
-  fixed : All (IsPairOf now digits) pairs
+  fixed : AreGiven tells now digits pairs
   asked : AskFirst ps pairs exchanges
   sent : Sends w (take count (texts V exchanges))
-
--- what all elements are, those of the first part are
-all_first : {X : Type 0} (P : X → Type 0) → (xs ys : List X) → All P (xs ++ ys) → All P xs
-all_first P xs ys all =
-    subst (λ zs. All P zs) (take-append_seam xs ys) (All-take P (length xs) (xs ++ ys) all)
 
 -- the texts before the last one, and of that one a part
 last_part : (V : Content) (xs : List Exchange) (x : Exchange) (n : ℕ)
@@ -61,16 +56,16 @@ but_last V xs x =
     ap (λ ts. take (length (texts V xs)) ts) (texts-append V xs (x ∷ []))
     ∙ take-append_seam (texts V xs) (text_at (vault_after V xs) x ++ [])
 
-module _ (w : Passage) (V : Content) (now : Option ℕ) (digits : Option (List ℕ)) (before : IsBefore w V)
-    (fresh : w.given_old ≡ []) (fits : All (IsPairOf now digits) w.given_new) where
-  fixed_in : (pairs : List Pair) → Takes w pairs → All (IsPairOf now digits) pairs
+module _ (tells : Turns) (w : Passage) (V : Content) (now : Option ℕ) (digits : Option (List ℕ)) (before : IsBefore w V)
+    (fresh : w.given_old ≡ []) (fits : AreGiven tells now digits w.given_new) where
+  fixed_in : (pairs : List Pair) → Takes w pairs → AreGiven tells now digits pairs
   fixed_in pairs taken =
-      subst (λ (ds : List Pair). All (IsPairOf now digits) ds) (taken ∙ ap (λ ds. ds ++ pairs) fresh) fits
+      subst (λ (ds : List Pair). AreGiven tells now digits ds) (taken ∙ ap (λ ds. ds ++ pairs) fresh) fits
 
   -- all texts went out
   begun_whole : (ps : List Parts) (pairs : List Pair) (xs : List Exchange) → Takes w pairs
       → AskFirst ps pairs xs
-      → Sends w (texts V xs) → Begun w ps V now digits
+      → Sends w (texts V xs) → Begun tells w ps V now digits
   begun_whole ps pairs xs taken asked sent = record {
     pairs = pairs;
     exchanges = xs;
@@ -82,7 +77,7 @@ module _ (w : Passage) (V : Content) (now : Option ℕ) (digits : Option (List �
 
   -- all texts but the last one's went out
   begun_last : (ps : List Parts) (pairs : List Pair) (xs : List Exchange) (x : Exchange) → Takes w pairs
-      → AskFirst ps pairs (xs ++ x ∷ []) → Sends w (texts V xs) → Begun w ps V now digits
+      → AskFirst ps pairs (xs ++ x ∷ []) → Sends w (texts V xs) → Begun tells w ps V now digits
   begun_last ps pairs xs x taken asked sent = record {
     pairs = pairs;
     exchanges = xs ++ x ∷ [];
@@ -92,7 +87,7 @@ module _ (w : Passage) (V : Content) (now : Option ℕ) (digits : Option (List �
     sent = subst (λ t. Sends w t) (sym (but_last V xs x)) sent;
   }
 
-  begun : (e : ServeFault) (ps : List Parts) → Stops e w ps → Begun w ps V now digits
+  begun : (e : ServeFault) (ps : List Parts) → Stops e w ps → Begun tells w ps V now digits
   begun fault.Source ps s = begun_whole ps s.pairs s.exchanges s.taken s.asked (s.answered V before).0
   begun fault.Read ps s = begun_whole ps s.pairs s.exchanges s.taken s.asked (s.answered V before).0
   begun fault.Write ps s = record {
@@ -109,7 +104,7 @@ module _ (w : Passage) (V : Content) (now : Option ℕ) (digits : Option (List �
     pairs = s.pairs;
     exchanges = s.exchanges;
     count = length (texts V s.exchanges);
-    fixed = all_first (IsPairOf now digits) s.pairs s.unused (fixed_in (s.pairs ++ s.unused) s.taken);
+    fixed = given_first tells now digits s.pairs s.unused (fixed_in (s.pairs ++ s.unused) s.taken);
     asked = s.asked;
     sent = subst (λ t. Sends w t) (sym (take-length (texts V s.exchanges))) (s.answered V before).0;
   }
@@ -118,7 +113,7 @@ module _ (w : Passage) (V : Content) (now : Option ℕ) (digits : Option (List �
 
   -- a service to its end is a trial
   pub trial_of : (old new : Known) (served : Served) → IsServed old new w served
-      → IsTrial old new w.sent_old w.sent_new V now digits
+      → IsTrial tells old new w.sent_old w.sent_new V now digits
   trial_of old new served s =
       let P : Option WireFault → Type 0 = λ e. Sends w (texts V s.exchanges ++ last_text e) in
       record {
@@ -138,7 +133,7 @@ module _ (w : Passage) (V : Content) (now : Option ℕ) (digits : Option (List �
 
   cut_among : (old new : Known) (bytes : List ℕ) (ms : List Request) → Consumes old new bytes
       → Begins bytes ms
-      → Begun w (up_to_close (shown ms)) V now digits → IsCut old new w.sent_old w.sent_new V now digits
+      → Begun tells w (up_to_close (shown ms)) V now digits → IsCut tells old new w.sent_old w.sent_new V now digits
   cut_among old new bytes ms read begins b = record {
     bytes = bytes;
     messages = ms;
@@ -155,7 +150,7 @@ module _ (w : Passage) (V : Content) (now : Option ℕ) (digits : Option (List �
   }
 
   cut_at_fault : (old new : Known) → StopsAtFault old new w
-      → IsCut old new w.sent_old w.sent_new V now digits
+      → IsCut tells old new w.sent_old w.sent_new V now digits
   cut_at_fault old new s = record {
     bytes = s.bytes;
     messages = s.messages;
@@ -175,7 +170,7 @@ module _ (w : Passage) (V : Content) (now : Option ℕ) (digits : Option (List �
 
   -- a service that stopped went through a beginning of a trial
   pub cut_of : (e : ServeFault) (old new : Known) → IsStopped old new w e
-      → IsCut old new w.sent_old w.sent_new V now digits
+      → IsCut tells old new w.sent_old w.sent_new V now digits
   cut_of fault.Source old new (f, s) =
       cut_among old new s.bytes s.messages s.read (begins_of s.bytes s.messages f s.reads)
       (begun fault.Source (up_to_close (shown s.messages)) s.stops)
@@ -193,9 +188,9 @@ module _ (w : Passage) (V : Content) (now : Option ℕ) (digits : Option (List �
       (begun fault.Memory (up_to_close (shown s.messages)) s.stops)
 
 -- nothing was read and nothing went out
-pub nothing_cut : (left sent : Known) (V : Content) (now : Option ℕ) (digits : Option (List ℕ))
-    → IsCut left left sent sent V now digits
-nothing_cut left sent V now digits = record {
+pub nothing_cut : (tells : Turns) (left sent : Known) (V : Content) (now : Option ℕ) (digits : Option (List ℕ))
+    → IsCut tells left left sent sent V now digits
+nothing_cut tells left sent V now digits = record {
   bytes = [];
   messages = [];
   pairs = [];
@@ -208,7 +203,7 @@ nothing_cut left sent V now digits = record {
     whole = refl;
     each = λ k m below. let never : ⊥ = omega (arith, below) in absurd never;
   };
-  fixed = λ k p below. let never : ⊥ = omega (arith, below) in absurd never;
+  fixed = none_given;
   asked = tt;
   ends = tt;
   sent = appends_nothing sent;
@@ -227,9 +222,9 @@ ends_at bytes ms xs (Some e) false h reads whole = (
 )
 
 -- a trial is a beginning of itself
-pub cut_whole : (old new out gone : Known) (V : Content) (now : Option ℕ) (digits : Option (List ℕ))
-    → IsTrial old new out gone V now digits → IsCut old new out gone V now digits
-cut_whole old new out gone V now digits t =
+pub cut_whole : (tells : Turns) (old new out gone : Known) (V : Content) (now : Option ℕ) (digits : Option (List ℕ))
+    → IsTrial tells old new out gone V now digits → IsCut tells old new out gone V now digits
+cut_whole tells old new out gone V now digits t =
     let last : Option WireFault = answered_fault t.messages t.fault in
     let all : List ℕ = texts V t.exchanges ++ last_text last in
     record {
@@ -264,27 +259,25 @@ if_err_then (Ok x) P Q then h = tt
 if_err_then (Err e) P Q then h = then e h
 
 -- the pairs of a source that goes on from none have what is fixed
-pub fixed_pairs : {C G : Type 0} (old new : LiveSource C G) (now : Option ℕ) (digits : Option (List ℕ))
-    → pairs_of old ≡ [] → Fixes old now digits → Continues old new → All (IsPairOf now digits) (pairs_of new)
-fixed_pairs old new now digits none fixes goes =
-    let nothing : All (IsPairOf now digits) [] = λ k p below.
-    let never : ⊥ = omega (arith, below) in
-    absurd never in
-    (goes.fixed now digits fixes).1
-    (subst (λ (ps : List Pair). All (IsPairOf now digits) ps) (sym none) nothing)
+pub fixed_pairs : {K G : Type 0} (tells : K → Turns) (old new : LiveSource K G) (time : K) (now : Option ℕ)
+    (digits : Option (List ℕ)) → pairs_of old ≡ [] → Fixes old time now digits → Continues tells old new
+    → AreGiven (tells time) now digits (pairs_of new)
+fixed_pairs tells old new time now digits none fixes goes =
+    (goes.fixed time now digits fixes).1
+    (subst (λ (ps : List Pair). AreGiven (tells time) now digits ps) (sym none) none_given)
 
 -- and they are no more than it was to give
-pub few_pairs : {C G : Type 0} (old new : LiveSource C G) (most : ℕ) → pairs_of old ≡ [] → old.left ≡ most
-    → Continues old new → length (pairs_of new) ≤ most
-few_pairs old new most none left goes =
+pub few_pairs : {K G : Type 0} (tells : K → Turns) (old new : LiveSource K G) (most : ℕ)
+    → pairs_of old ≡ [] → old.left ≡ most → Continues tells old new → length (pairs_of new) ≤ most
+few_pairs tells old new most none left goes =
     omega (arith, goes.counted, left, ap (λ (pairs : List Pair). length pairs) none)
 
 -- what stops the answering of an input is a beginning of a trial
-pub cut_piping : (w : Passage) (V : Content) (now : Option ℕ) (digits : Option (List ℕ)) → IsBefore w V
-    → w.given_old ≡ [] → All (IsPairOf now digits) w.given_new → (old new : Known) (e : ServeFault)
-    → StopsPiping old new w e → IsCut old new w.sent_old w.sent_new V now digits
-cut_piping w V now digits before fresh fits old new e (inl s) =
-    cut_of w V now digits before fresh fits e old new s
-cut_piping w V now digits before fresh fits old new e (inr (is, (served, s))) =
-    cut_whole old new w.sent_old w.sent_new V now digits
-    (trial_of w V now digits before fresh fits old new served s)
+pub cut_piping : (tells : Turns) (w : Passage) (V : Content) (now : Option ℕ) (digits : Option (List ℕ)) → IsBefore w V
+    → w.given_old ≡ [] → AreGiven tells now digits w.given_new → (old new : Known) (e : ServeFault)
+    → StopsPiping old new w e → IsCut tells old new w.sent_old w.sent_new V now digits
+cut_piping tells w V now digits before fresh fits old new e (inl s) =
+    cut_of tells w V now digits before fresh fits e old new s
+cut_piping tells w V now digits before fresh fits old new e (inr (is, (served, s))) =
+    cut_whole tells old new w.sent_old w.sent_new V now digits
+    (trial_of tells w V now digits before fresh fits old new served s)

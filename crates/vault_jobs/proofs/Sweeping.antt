@@ -20,13 +20,12 @@ use Rattle.vault_core.specs.declared.row.Entry.{Entry}
 use Rattle.vault_core.specs.declared.reply.Reply.TheVariants as answer
 use Rattle.vault_batch.specs.declared.asker.Asker.{Asker}
 use Rattle.vault_http.specs.Passing.{IsBefore, Passage}
-use Rattle.vault_listen.specs.Service.{vault_passing}
+use Rattle.vault_listen.specs.Peers.{vault_passing}
 use Rattle.vault_store.specs.declared.vault.Vault.{Vault}
 use Rattle.vault_store.specs.Applied.{Contains, breaks, is_broken, tables_of}
 use Rattle.vault_store.specs.Left.{LeavesBy}
 use Rattle.vault_store.specs.declared.vault.Fault.{Fault}
 use Rattle.vault_store.specs.declared.vault.Fault.TheVariants.{Memory, Store, Reopen}
-use Rattle.vault_jobs.specs.Carried.{IsKept, IsTorn}
 use Rattle.vault_jobs.specs.Grants.{AreDone, CarriesAll}
 use Rattle.vault_jobs.specs.Sweeps.{AreSwept, Begin, Sweeps, left_dead, purge_at, purges_at, swept_vault}
 use Rattle.vault_jobs.specs.declared.change.Verdict.TheVariants as verdict
@@ -446,29 +445,3 @@ module _ {T : Type 0} (honest : T → Type 0) (holds : T → Content → Type 0)
         ),
   )
   page_stopped Reopen carried = carried
-
--- what a sweep leaves of a vault is kept, or torn at one of its purges
-pub swept_kept : (who : Asker) (now : ℕ) (w : Passage) (r : Result Swept Fault) (broken : Bool)
-    → broken ≡ false → Sweeps who now w broken r → IsKept w
-swept_kept who now w (Ok (Purged count)) broken sound (tokens, h) =
-    (purges_at who now tokens, λ V b. (h V b).3)
-swept_kept who now w (Ok (Refused n)) broken sound (tokens, next, h) =
-    (purges_at who now tokens, λ V b. (h V b).3)
-swept_kept who now w (Err Memory) broken sound (tokens, h) =
-    (purges_at who now tokens, λ V b. (h V b).1)
-swept_kept who now w (Err Store) broken sound (tokens, next, one, h) =
-    ([], λ V b. absurd (cc (sound, (h V b).0)))
-swept_kept who now w (Err Reopen) broken sound h = absurd h
-
-pub swept_torn : (who : Asker) (now : ℕ) (w : Passage) (r : Result Swept Fault) (broken : Bool)
-    → r ≡ Err Store → Sweeps who now w broken r → IsTorn w
-swept_torn who now w (Ok s) broken is h = absurd (cc (is))
-swept_torn who now w (Err Memory) broken is h = absurd (cc (is))
-swept_torn who now w (Err Store) broken is (tokens, next, one, h) = (
-  purges_at who now tokens,
-  purges_at who now next,
-  omega (arith, one, length-map next (λ (t : Bytes). purge_at who now t)),
-  λ V b. subst (λ ds. w.left_new (swept_vault who now tokens V) (run ds V)) (purges_then who now tokens next)
-      (h V b).3,
-)
-swept_torn who now w (Err Reopen) broken is h = absurd h

@@ -1,6 +1,5 @@
 -- What a job leaves of the vault that it works on.
-use Rattle.std.specs.Prelude.{◌≡◌, ◌≢◌, ◌≤◌, List, ◌++◌, length, Bool, true, false, Result, Ok, Err}
-use Rattle.vault_core.specs.Runs.{run}
+use Rattle.std.specs.Prelude.{◌≡◌, ◌≢◌, Bool, true, false, Result, Ok, Err}
 use Rattle.vault_core.specs.Table.{after, reply}
 use Rattle.vault_core.specs.Vault.{Vault as Content}
 use Rattle.vault_core.specs.declared.command.Command.{Command}
@@ -12,16 +11,6 @@ use Rattle.vault_store.specs.declared.vault.Fault.TheVariants.{Memory, Store, Re
 use Rattle.vault_jobs.specs.declared.change.Verdict.{Verdict}
 use Rattle.vault_jobs.specs.declared.change.Verdict.TheVariants.{Done, Refused}
 
--- commands were carried out one after the other: the vault after them is held, and a crash leaves it alone
-abbrev pub IsKept : Passage → Type 0
-IsKept w = (commands : List Command) × ((V : Content) → IsBefore w V → Keeps w (run commands V))
-
--- commands were carried out, and the store failed at one more at most: a crash leaves the vault before it or
--- the one after it
-abbrev pub IsTorn : Passage → Type 0
-IsTorn w = (commands more : List Command) × (length more ≤ 1)
-    × ((V : Content) → IsBefore w V → w.left_new (run commands V) (run (commands ++ more) V))
-
 -- the reply that a verdict stands for
 abbrev pub reply_of : Verdict → Reply
 reply_of Done = answer.Done
@@ -29,11 +18,13 @@ reply_of (Refused n) = answer.Refused n
 
 -- One command is carried out. Done or refused: so the vault replies, and the vault after it is kept. 20: the
 -- vault before it is. 21: the store failed, the vault is broken, and a crash leaves the vault before the
--- command or the one after it; or it isn't broken, and its reply is neither done nor refused.
+-- command or the one after it; or it isn't broken, its reply is neither done nor refused, and the vault after
+-- it is kept.
 abbrev pub Carries : Command → Passage → Bool → Result Verdict Fault → Type 0
 Carries c w broken (Ok v) = (V : Content) → IsBefore w V → (reply V c ≡ reply_of v) × Keeps w (after V c)
 Carries c w broken (Err Memory) = (V : Content) → IsBefore w V → Keeps w V
 Carries c w broken (Err Store) =
     (broken ≡ true → (V : Content) → IsBefore w V → w.left_new V (after V c))
-    × (broken ≡ false → (V : Content) → IsBefore w V → (v : Verdict) → reply V c ≢ reply_of v)
+    × (broken ≡ false → (V : Content) → IsBefore w V
+    → ((v : Verdict) → reply V c ≢ reply_of v) × Keeps w (after V c))
 Carries c w broken (Err Reopen) = ⊥

@@ -1,9 +1,9 @@
 -- What a task does with a vault, by how it ends.
-use Rattle.std.specs.Prelude.{◌≡◌, ◌≢◌, ◌⊎◌, ℕ, ◌≤◌, List, [], All, Option, Bool, true, false, Result, Ok}
+use Rattle.std.specs.Prelude.{◌≡◌, ◌≢◌, ◌⊎◌, ℕ, ◌≤◌, List, [], IfErr, Option, Bool, true, false, Result, Ok}
 use Rattle.std.specs.Prelude.{Err, codes, length}
-use Rattle.std.specs.Io.KnownBytes.{Appends}
+use Rattle.std.specs.Io.KnownBytes.{Appends, IsAtEnd}
 use Rattle.vault_core.specs.Vault.{Vault as Content}
-use Rattle.vault_live.specs.Live.{IsPairOf}
+use Rattle.vault_live.specs.Live.{AreGiven, Turns}
 use Rattle.vault_http.specs.Exchanges.{Pair}
 use Rattle.vault_http.specs.Passing.{IsBefore, Keeps, Passage}
 use Rattle.vault_http.specs.declared.fault.ServeFault.TheVariants as service
@@ -11,16 +11,19 @@ use Rattle.vault_batch.specs.Stops.{IsBatched}
 use Rattle.vault_batch.specs.declared.asker.Asker.{Asker}
 use Rattle.vault_batch.specs.declared.counts.Counts.{Counts}
 use Rattle.vault_batch.specs.declared.fault.BatchFault.TheVariants as row
-use Rattle.vault_listen.specs.Service.{AllKept, Leaves}
+use Rattle.vault_listen.specs.Peers.{Link}
+use Rattle.vault_listen.specs.Service.{Leaves}
 use Rattle.vault_listen.specs.declared.fault.ListenFault.TheVariants as listener
 use Rattle.vault_store.specs.declared.vault.Fault.{Fault}
 use Rattle.vault_jobs.specs.Batched.{StopsBatch}
 use Rattle.vault_jobs.specs.Carried.{Carries}
+use Rattle.vault_jobs.specs.Causes.{IsCauseOf}
 use Rattle.vault_jobs.specs.Grants.{CarriesAll, grants_at}
 use Rattle.vault_jobs.specs.Piped.{IsPiped, StopsPiping}
 use Rattle.vault_jobs.specs.Streams.{Known, Streams}
 use Rattle.vault_jobs.specs.Sweeps.{Sweeps}
-use Rattle.vault_jobs.specs.Tasks.{granted_line, listening_line, purged_line}
+use Rattle.vault_jobs.specs.Tasks.{BreaksBy, HasNoLinks, IsTaskBegun, granted_line}
+use Rattle.vault_jobs.specs.Tasks.{listening_line, purged_line}
 use Rattle.vault_jobs.specs.declared.change.Verdict.{Verdict}
 use Rattle.vault_jobs.specs.declared.change.Verdict.TheVariants as verdict
 use Rattle.vault_jobs.specs.declared.stop.Stop.{Stop}
@@ -41,10 +44,11 @@ along w s pairs = record w {
   sent_new = s.sent_new;
 }
 
--- in a passage along so many pairs at most, which have this moment and these digits, where they are fixed
-abbrev pub Along : ℕ → Option ℕ → Option (List ℕ) → Passage → Streams → (Passage → Type 0) → Type 0
-Along most now digits w s P = (pairs : List Pair) × (length pairs ≤ most) × All (IsPairOf now digits) pairs
-    × P (along w s pairs)
+-- in a passage along so many pairs at most, which have this moment and these digits, where they are fixed, and
+-- else a moment that was told for each
+abbrev pub Along : Turns → ℕ → Option ℕ → Option (List ℕ) → Passage → Streams → (Passage → Type 0) → Type 0
+Along tells most now digits w s P = (pairs : List Pair) × (length pairs ≤ most)
+    × AreGiven tells now digits pairs × P (along w s pairs)
 
 -- the vault that was held is held, and a crash leaves it alone
 abbrev pub IsUntouched : Passage → Type 0
@@ -85,70 +89,83 @@ SweepEnds who now w broken (Err (Rights f)) unsent old new writer = ⊥
 SweepEnds who now w broken (Err (stop.Batch f)) unsent old new writer = ⊥
 
 -- how a batch ends: its rows are answered, by nobody else and with such pairs; or it wasn't begun
-abbrev pub BatchEnds : Asker → Option ℕ → Option (List ℕ) → Passage → Result Outcome Stop → Type 0 → Type 0
+abbrev pub BatchEnds : Turns → Asker → Option ℕ → Option (List ℕ) → Passage → Result Outcome Stop → Type 0 → Type 0
     → Streams → Type 0
-BatchEnds who now digits w (Ok outcome.Done) unread unsent s =
-    (counts : Counts) × (counts.refused ≡ 0)
-    × Along 100000 now digits w s (λ p. IsBatched s.left_old p who counts)
-BatchEnds who now digits w (Ok (outcome.Refused n)) unread unsent s = ⊥
-BatchEnds who now digits w (Ok outcome.SomeRefused) unread unsent s =
-    (counts : Counts) × (counts.refused ≢ 0)
-    × Along 100000 now digits w s (λ p. IsBatched s.left_old p who counts)
-BatchEnds who now digits w (Err (Vault f)) unread unsent s = ⊥
-BatchEnds who now digits w (Err (Service f)) unread unsent s = ⊥
-BatchEnds who now digits w (Err (Listener f)) unread unsent s = ⊥
-BatchEnds who now digits w (Err (Rights f)) unread unsent s = ⊥
-BatchEnds who now digits w (Err (stop.Batch f)) unread unsent s =
+BatchEnds tells who now digits w (Ok outcome.Done) unread unsent s =
+    (s.writer ≡ false) × (counts : Counts) × (counts.refused ≡ 0) × IsAtEnd s.left_new
+    × Along tells 100000 now digits w s (λ p. IsBatched s.left_old p who counts)
+BatchEnds tells who now digits w (Ok (outcome.Refused n)) unread unsent s = ⊥
+BatchEnds tells who now digits w (Ok outcome.SomeRefused) unread unsent s =
+    (s.writer ≡ false) × (counts : Counts) × (counts.refused ≢ 0) × IsAtEnd s.left_new
+    × Along tells 100000 now digits w s (λ p. IsBatched s.left_old p who counts)
+BatchEnds tells who now digits w (Err (Vault f)) unread unsent s = ⊥
+BatchEnds tells who now digits w (Err (Service f)) unread unsent s = ⊥
+BatchEnds tells who now digits w (Err (Listener f)) unread unsent s = ⊥
+BatchEnds tells who now digits w (Err (Rights f)) unread unsent s = ⊥
+BatchEnds tells who now digits w (Err (stop.Batch f)) unread unsent s =
     (f ≡ row.Source) × unread × unsent × IsUntouched w
-    ⊎ Along 100000 now digits w s (λ p. StopsBatch s.left_old p who f)
+    ⊎ Along tells 100000 now digits w s (λ p. StopsBatch s.left_old p who f)
 
 -- how messages end: they are served with such pairs; or it wasn't begun
-abbrev pub PipeEnds : Option ℕ → Option (List ℕ) → Passage → Result Outcome Stop → Type 0 → Type 0
+abbrev pub PipeEnds : Turns → Option ℕ → Option (List ℕ) → Passage → Result Outcome Stop → Type 0 → Type 0
     → Streams → Type 0
-PipeEnds now digits w (Ok outcome.Done) unread unsent s =
-    Along 1000 now digits w s (IsPiped s.left_old s.left_new)
-PipeEnds now digits w (Ok (outcome.Refused n)) unread unsent s = ⊥
-PipeEnds now digits w (Ok outcome.SomeRefused) unread unsent s = ⊥
-PipeEnds now digits w (Err (Vault f)) unread unsent s = ⊥
-PipeEnds now digits w (Err (Service f)) unread unsent s =
+PipeEnds tells now digits w (Ok outcome.Done) unread unsent s =
+    (s.writer ≡ false) × Along tells 1000 now digits w s (IsPiped s.left_old s.left_new)
+PipeEnds tells now digits w (Ok (outcome.Refused n)) unread unsent s = ⊥
+PipeEnds tells now digits w (Ok outcome.SomeRefused) unread unsent s = ⊥
+PipeEnds tells now digits w (Err (Vault f)) unread unsent s = ⊥
+PipeEnds tells now digits w (Err (Service f)) unread unsent s =
     (f ≡ service.Source) × unread × unsent × IsUntouched w
-    ⊎ Along 1000 now digits w s (λ p. StopsPiping s.left_old s.left_new p f)
-PipeEnds now digits w (Err (Listener f)) unread unsent s = ⊥
-PipeEnds now digits w (Err (Rights f)) unread unsent s = ⊥
-PipeEnds now digits w (Err (stop.Batch f)) unread unsent s = ⊥
+    ⊎ Along tells 1000 now digits w s (λ p. StopsPiping s.left_old s.left_new p f)
+PipeEnds tells now digits w (Err (Listener f)) unread unsent s = ⊥
+PipeEnds tells now digits w (Err (Rights f)) unread unsent s = ⊥
+PipeEnds tells now digits w (Err (stop.Batch f)) unread unsent s = ⊥
 
 -- the service said on which port it listens: the one that was asked for, or any where that is 0
 abbrev pub IsListening : ℕ → Known → Known → Type 0
 IsListening port old new = (bound : ℕ) × (port ≢ 0 → bound ≡ port) × Appends old new (listening_line bound)
 
--- How a service on a port ends: it said where it listens, and so many connections came, or it stopped among
--- them; or it wasn't begun, for want of digits or of a port, or since the writer failed.
-abbrev pub ServeEnds : ℕ → ℕ → Passage → Result Outcome Stop → Type 0 → Known → Known → Bool → Type 0
-ServeEnds port most w (Ok outcome.Done) unsent old new writer =
-    (writer ≡ false) × IsListening port old new × AllKept most w
-ServeEnds port most w (Ok (outcome.Refused n)) unsent old new writer = ⊥
-ServeEnds port most w (Ok outcome.SomeRefused) unsent old new writer = ⊥
-ServeEnds port most w (Err (Vault f)) unsent old new writer = ⊥
-ServeEnds port most w (Err (Service f)) unsent old new writer =
-    IsUntouched w × ((f ≡ service.Source) × unsent ⊎ (f ≡ service.Write) × (writer ≡ true))
-ServeEnds port most w (Err (Listener f)) unsent old new writer =
-    (f ≡ listener.Accept) × unsent × IsUntouched w
-    ⊎ IsListening port old new × ((came : ℕ) × Leaves most came w (Err f))
-ServeEnds port most w (Err (Rights f)) unsent old new writer = ⊥
-ServeEnds port most w (Err (stop.Batch f)) unsent old new writer = ⊥
+-- How a service on a port ends: it said where it listens, and of the connections that came each was answered;
+-- or it wasn't begun, for want of digits or of a port, or since the writer failed, and none came.
+abbrev pub ServeEnds : Turns → ℕ → ℕ → Passage → Result Outcome Stop → Type 0 → Known → Known → Bool
+    → List (Option Link) → Type 0
+ServeEnds tells port most w (Ok outcome.Done) unsent old new writer links =
+    (writer ≡ false) × IsListening port old new × Leaves tells most links w (Ok tt)
+ServeEnds tells port most w (Ok (outcome.Refused n)) unsent old new writer links = ⊥
+ServeEnds tells port most w (Ok outcome.SomeRefused) unsent old new writer links = ⊥
+ServeEnds tells port most w (Err (Vault f)) unsent old new writer links = ⊥
+ServeEnds tells port most w (Err (Service f)) unsent old new writer links = IsUntouched w × (links ≡ [])
+    × ((f ≡ service.Source) × unsent ⊎ (f ≡ service.Write) × (writer ≡ true))
+ServeEnds tells port most w (Err (Listener f)) unsent old new writer links =
+    (f ≡ listener.Accept) × unsent × IsUntouched w × (links ≡ [])
+    ⊎ IsListening port old new × Leaves tells most links w (Err f)
+ServeEnds tells port most w (Err (Rights f)) unsent old new writer links = ⊥
+ServeEnds tells port most w (Err (stop.Batch f)) unsent old new writer links = ⊥
 
--- what a task does with a vault, and with the streams, by how it ends
-abbrev pub Does : Task → Passage → Bool → Result Outcome Stop → Type 0 → Type 0 → Streams → Type 0
-Does (Change c) w broken result unread unsent s =
+-- what a task does with a vault, and what goes out, by how it ends
+abbrev pub Works : Turns → Task → Passage → Bool → Result Outcome Stop → Type 0 → Type 0 → Streams → Type 0
+Works tells (Change c) w broken result unread unsent s =
     CommandsEnd (Carries c w broken) (codes "done\n") result
     unsent s.sent_old s.sent_new s.writer
-Does (Give rows now) w broken result unread unsent s =
+Works tells (Give rows now) w broken result unread unsent s =
     CommandsEnd (CarriesAll (grants_at now rows.items) w broken) (granted_line (length rows.items)) result
     unsent s.sent_old s.sent_new s.writer
-Does (Sweep who now) w broken result unread unsent s =
+Works tells (Sweep who now) w broken result unread unsent s =
     SweepEnds who now w broken result unsent s.sent_old s.sent_new s.writer
-Does (Batch who now digits) w broken result unread unsent s =
-    BatchEnds who now digits w result unread unsent s
-Does (Pipe now digits) w broken result unread unsent s = PipeEnds now digits w result unread unsent s
-Does (Serve port connections) w broken result unread unsent s =
-    ServeEnds port connections w result unsent s.sent_old s.sent_new s.writer
+Works tells (Batch who now digits) w broken result unread unsent s =
+    BatchEnds tells who now digits w result unread unsent s
+Works tells (Pipe now digits) w broken result unread unsent s =
+    PipeEnds tells now digits w result unread unsent s
+Works tells (Serve port connections) w broken result unread unsent s =
+    ServeEnds tells port connections w result unsent s.sent_old s.sent_new s.writer s.links
+
+-- What a task does: it works so; the input is unread, but by a batch and messages; no connection comes, but to
+-- a service; a reader or a writer stops it only where that failed; and the vault is broken by a store that
+-- fails.
+pub record Does (tells : Turns) (task : Task) (w : Passage) (broken : Bool) (result : Result Outcome Stop)
+    (unread unsent : Type 0) (s : Streams) : Type 0 where
+  pub works : Works tells task w broken result unread unsent s
+  pub begun : IsTaskBegun task unread
+  pub alone : HasNoLinks task s
+  pub caused : IfErr result (λ stop. IsCauseOf stop s)
+  pub breaks : BreaksBy task result broken

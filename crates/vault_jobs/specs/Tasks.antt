@@ -1,18 +1,15 @@
 -- What is done with a vault.
-use Rattle.std.specs.Prelude.{◌≡◌, ◌≢◌, ℕ, List, Bool, true, false, Result, Ok, Err, ◌++◌, length, codes}
-use Rattle.std.specs.Prelude.{decimal}
-use Rattle.std.specs.Io.KnownBytes.{Appends}
+use Rattle.std.specs.Prelude.{◌≡◌, ◌⊎◌, ℕ, List, [], Bool, true, false, Result, Ok, Err, ◌++◌, codes, decimal}
 use Rattle.vault_core.specs.Proper.{HasLivesInRange}
 use Rattle.vault_http.specs.declared.fault.ServeFault.TheVariants as service
-use Rattle.vault_batch.specs.declared.counts.Counts.{Counts}
-use Rattle.vault_jobs.specs.Batched.{IsTabled}
-use Rattle.vault_jobs.specs.Causes.{IsCauseOf}
-use Rattle.vault_jobs.specs.Streams.{IsHeard, Known, Streams, Writes}
+use Rattle.vault_batch.specs.declared.fault.BatchFault.TheVariants as row
+use Rattle.vault_listen.specs.declared.fault.ListenFault.TheVariants as listener
+use Rattle.vault_store.specs.declared.vault.Fault.TheVariants as vault
+use Rattle.vault_jobs.specs.Streams.{Streams}
 use Rattle.vault_jobs.specs.declared.stop.Stop.{Stop}
 use Rattle.vault_jobs.specs.declared.stop.Stop.TheVariants.{Vault, Service, Listener, Rights}
 use Rattle.vault_jobs.specs.declared.stop.Stop.TheVariants as stop
 use Rattle.vault_jobs.specs.declared.task.Outcome.{Outcome}
-use Rattle.vault_jobs.specs.declared.task.Outcome.TheVariants as outcome
 use Rattle.vault_jobs.specs.declared.task.Task.{Task}
 use Rattle.vault_jobs.specs.declared.task.Task.TheVariants.{Change, Give, Sweep, Batch, Pipe, Serve}
 
@@ -46,35 +43,7 @@ IsOfCommands (Batch who now digits) = ⊥
 IsOfCommands (Pipe now digits) = ⊥
 IsOfCommands (Serve port connections) = ⊥
 
--- the writer stops it only where it failed, and the reader doesn't
-abbrev pub IsListeningStop : Stop → Bool → Type 0
-IsListeningStop (Vault f) writer = Unit {0}
-IsListeningStop (Service service.Source) writer = Unit {0}
-IsListeningStop (Service service.Read) writer = ⊥
-IsListeningStop (Service service.Write) writer = writer ≡ true
-IsListeningStop (Service service.Store) writer = Unit {0}
-IsListeningStop (Service service.Memory) writer = Unit {0}
-IsListeningStop (Listener f) writer = Unit {0}
-IsListeningStop (Rights f) writer = ⊥
-IsListeningStop (stop.Batch f) writer = ⊥
-
--- with Done the line went out, with a refusal nothing
-abbrev pub Says : Result Outcome Stop → Type 0 → Known → Known → Bool → List ℕ → Type 0
-Says (Ok outcome.Done) unsent old new writer line = (writer ≡ false) × Appends old new line
-Says (Ok (outcome.Refused n)) unsent old new writer line = unsent
-Says (Ok outcome.SomeRefused) unsent old new writer line = ⊥
-Says (Err stop) unsent old new writer line = IsListeningStop stop writer
-
--- what a task that is done read and wrote
-abbrev pub IsTaskDone : Task → Type 0 → Streams → Type 0
-IsTaskDone (Change c) unread s = unread × Writes s (codes "done\n")
-IsTaskDone (Give rows now) unread s = unread × Writes s (granted_line (length rows.items))
-IsTaskDone (Sweep who now) unread s = unread × ((count : ℕ) × Writes s (purged_line count))
-IsTaskDone (Batch who now digits) unread s = (counts : Counts) × IsTabled s counts × (counts.refused ≡ 0)
-IsTaskDone (Pipe now digits) unread s = IsHeard s
-IsTaskDone (Serve port connections) unread s = unread × ((bound : ℕ) × Writes s (listening_line bound))
-
--- what a task that is stopped read
+-- the input is unread, but by a batch and messages
 abbrev pub IsTaskBegun : Task → Type 0 → Type 0
 IsTaskBegun (Change c) unread = unread
 IsTaskBegun (Give rows now) unread = unread
@@ -83,18 +52,25 @@ IsTaskBegun (Batch who now digits) unread = Unit {0}
 IsTaskBegun (Pipe now digits) unread = Unit {0}
 IsTaskBegun (Serve port connections) unread = unread
 
--- it is a batch, of which some rows are refused
-abbrev pub IsRefusedInPart : Task → Streams → Type 0
-IsRefusedInPart (Change c) s = ⊥
-IsRefusedInPart (Give rows now) s = ⊥
-IsRefusedInPart (Sweep who now) s = ⊥
-IsRefusedInPart (Batch who now digits) s = (counts : Counts) × IsTabled s counts × (counts.refused ≢ 0)
-IsRefusedInPart (Pipe now digits) s = ⊥
-IsRefusedInPart (Serve port connections) s = ⊥
+-- no connection came, but to a service
+abbrev pub HasNoLinks : Task → Streams → Type 0
+HasNoLinks (Change c) s = s.links ≡ []
+HasNoLinks (Give rows now) s = s.links ≡ []
+HasNoLinks (Sweep who now) s = s.links ≡ []
+HasNoLinks (Batch who now digits) s = s.links ≡ []
+HasNoLinks (Pipe now digits) s = s.links ≡ []
+HasNoLinks (Serve port connections) s = Unit {0}
 
--- how a task ends on a vault
-abbrev pub TaskEnds : Task → Result Outcome Stop → Type 0 → Type 0 → Streams → Type 0
-TaskEnds task (Ok outcome.Done) unread unsent s = (s.writer ≡ false) × IsTaskDone task unread s
-TaskEnds task (Ok (outcome.Refused n)) unread unsent s = unread × unsent × IsOfCommands task
-TaskEnds task (Ok outcome.SomeRefused) unread unsent s = (s.writer ≡ false) × IsRefusedInPart task s
-TaskEnds task (Err stop) unread unsent s = IsCauseOf stop s × IsTaskBegun task unread
+-- the store failed
+abbrev pub FailsStore : Result Outcome Stop → Type 0
+FailsStore (Ok end) = ⊥
+FailsStore (Err (Vault f)) = f ≡ vault.Store
+FailsStore (Err (Service f)) = f ≡ service.Store
+FailsStore (Err (Listener f)) = f ≡ listener.Store
+FailsStore (Err (Rights f)) = ⊥
+FailsStore (Err (stop.Batch f)) = f ≡ row.Store
+
+-- a vault is broken only by a store that fails, and always but by a command whose reply is no verdict
+abbrev pub BreaksBy : Task → Result Outcome Stop → Bool → Type 0
+BreaksBy task result broken =
+    (broken ≡ true → FailsStore result) × (FailsStore result → (broken ≡ true) ⊎ IsOfCommands task)

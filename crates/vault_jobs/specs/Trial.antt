@@ -1,5 +1,5 @@
 -- The vault of a trial, and what a trial does with its input.
-use Rattle.std.specs.Prelude.{◌≡◌, ℕ, List, [], ◌∷◌, ◌++◌, length, map, take, All, false}
+use Rattle.std.specs.Prelude.{◌≡◌, ℕ, List, [], ◌∷◌, ◌++◌, length, map, take, false}
 use Rattle.std.specs.Prelude.{Option, Some, None}
 use Rattle.std.specs.Io.KnownBytes.{Appends, Consumes, IsAtEnd}
 use Rattle.vault_pan.specs.declared.lead.Lead.TheVariants.{Six}
@@ -10,7 +10,7 @@ use Rattle.vault_core.specs.declared.command.Command.TheVariants.{SetMerchant, G
 use Rattle.vault_core.specs.declared.right.Right.{Right}
 use Rattle.vault_core.specs.declared.right.Right.TheVariants.{Tokenize, Detokenize, View}
 use Rattle.vault_core.specs.declared.right.Right.TheVariants.{Revoke, Purge, Audit}
-use Rattle.vault_live.specs.Live.{IsPairOf}
+use Rattle.vault_live.specs.Live.{AreGiven, Turns}
 use Rattle.vault_wire.specs.Messages.{Request, Reads}
 use Rattle.vault_wire.specs.declared.fault.WireFault.{WireFault}
 use Rattle.vault_http.specs.Exchanges.{AskFirst, Exchange, Pair, has_close, last_text, shown, texts}
@@ -42,10 +42,11 @@ trial_vault caller m life now =
     left_by_all empty_vault (SetMerchant m life 0 Six now ∷ grants caller m now all_rights)
 
 -- The bytes that were read are messages, and an open rest or a fault. All messages up to the first that
--- closes are asked, each with a pair of the fixed moment and digits, where these are fixed; what went out is
+-- closes are asked, each with a pair of the fixed moment and digits, where these are fixed, or else of
+-- a moment told for it; what went out is
 -- the texts that answer them, each by the vault that those before it leave, and then the one that answers
 -- the fault; and where nothing closes, no byte is left.
-pub record IsTrial (left_old left_new sent_old sent_new : Known) (V : Content)
+pub record IsTrial (tells : Turns) (left_old left_new sent_old sent_new : Known) (V : Content)
     (now : Option ℕ) (digits : Option (List ℕ)) : Type 0 where
   pub bytes : List ℕ
   pub messages : List Request
@@ -54,7 +55,7 @@ pub record IsTrial (left_old left_new sent_old sent_new : Known) (V : Content)
   pub exchanges : List Exchange
   pub read : Consumes left_old left_new bytes
   pub reads : Reads bytes messages fault
-  pub fixed : All (IsPairOf now digits) pairs
+  pub fixed : AreGiven tells now digits pairs
   pub asked : AskFirst (up_to_close (shown messages)) pairs exchanges
   pub whole : length exchanges ≡ length (up_to_close (shown messages))
   pub ended : has_close (shown messages) ≡ false → fault ≡ None → IsAtEnd left_new
@@ -70,7 +71,7 @@ IsLast bytes messages exchanges (Some e) =
 -- The bytes that were read begin with messages. The first of them, up to the first that closes at most, are
 -- asked as in a trial, and of the texts that answer them, and the one that answers a fault after them, a
 -- beginning went out.
-pub record IsCut (left_old left_new sent_old sent_new : Known) (V : Content)
+pub record IsCut (tells : Turns) (left_old left_new sent_old sent_new : Known) (V : Content)
     (now : Option ℕ) (digits : Option (List ℕ)) : Type 0 where
   pub bytes : List ℕ
   pub messages : List Request
@@ -80,7 +81,7 @@ pub record IsCut (left_old left_new sent_old sent_new : Known) (V : Content)
   pub count : ℕ
   pub read : Consumes left_old left_new bytes
   pub begins : Begins bytes messages
-  pub fixed : All (IsPairOf now digits) pairs
+  pub fixed : AreGiven tells now digits pairs
   pub asked : AskFirst (up_to_close (shown messages)) pairs exchanges
   pub ends : IsLast bytes messages exchanges last
   pub sent : Appends sent_old sent_new (take count (texts V exchanges ++ last_text last))

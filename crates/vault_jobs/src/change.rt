@@ -3,8 +3,8 @@ ghost use Rattle.std.specs.Prelude.{◌≡◌, Err, false, true};
 ghost use Rattle.vault_core.specs.Proper.{HasLivesInRange};
 ghost use Rattle.vault_store.specs.Applied.{is_broken, tables_of};
 ghost use Rattle.vault_http.specs.Passing.{Passage};
-ghost use Rattle.vault_listen.specs.Service.{vault_passing};
-ghost use Rattle.vault_jobs.specs.Carried.{Carries, IsKept, IsTorn};
+ghost use Rattle.vault_listen.specs.Peers.{vault_passing};
+ghost use Rattle.vault_jobs.specs.Carried.{Carries};
 
 use vault_core::command::Command;
 use vault_core::reply::Reply;
@@ -28,10 +28,6 @@ pub fn change<T: Tables>(vault: &mut Vault<T>, command: &Command) -> Result<Verd
     requires unbroken { is_broken vault.old ≡ false }
     ensures carried { let w : Passage = vault_passing T.is_honest T.holds T.leaves vault.old vault.new in
         Carries command.now w (is_broken vault.new) result }
-    ensures kept { let w : Passage = vault_passing T.is_honest T.holds T.leaves vault.old vault.new in
-        is_broken vault.new ≡ false → IsKept w }
-    ensures torn { let w : Passage = vault_passing T.is_honest T.holds T.leaves vault.old vault.new in
-        is_broken vault.new ≡ true → IsTorn w }
     ensures broken { is_broken vault.new ≡ true → result ≡ Err Fault.Store }
     ensures honest { T.is_honest (tables_of vault.new) → T.is_honest (tables_of vault.old) }
 {

@@ -5,11 +5,11 @@ ghost use Rattle.vault_live.specs.Live.{Fixes, IsFresh};
 use rand::make_rng;
 use rand::rngs::StdRng;
 use std::random::RandomSource;
-use std::time::Clock;
 use vault_batch::fault::BatchFault;
 use vault_core::moment::Moment;
 use vault_http::fault::ServeFault;
 use vault_live::live::LiveSource;
+use vault_live::time::Timekeeper;
 use vault_pan::draw::Digits;
 
 /// The most messages of one job.
@@ -18,36 +18,38 @@ const MOST_MESSAGES: u64 = 1000;
 /// The most rows of one batch.
 const MOST_ROWS: u64 = 100_000;
 
-/// So many pairs, each with the moment and the digits that the words give, or else the clock's and drawn
-/// ones; none where there is nothing to draw digits from.
-fn pairs<H: AllocGlobal + Clock + RandomSource>(
+/// So many pairs, each with the moment and the digits that the words give, or else with one that is told and
+/// drawn ones; none where there is nothing to draw digits from.
+fn pairs<'t, H: AllocGlobal + RandomSource, K: Timekeeper>(
     rt: &H,
+    time: &'t K,
     times: u64,
     moment: Option<Moment>,
     digits: Option<Digits>,
-) -> Option<LiveSource<'_, H, StdRng>>
+) -> Option<LiveSource<'t, K, StdRng>>
     ensures fresh { IfSome result (λ s. IsFresh s times) }
-    ensures fixed { IfSome result (λ s. Fixes s moment digits) }
+    ensures fixed { IfSome result (λ s. Fixes s time.now moment digits) }
 {
     let Ok(generator) = make_rng(rt) else {
         return None;
     };
-    Some(LiveSource::fixed(rt.alloc(), rt, generator, times, moment, digits))
+    Some(LiveSource::fixed(rt.alloc(), time, generator, times, moment, digits))
 }
 
 /// The pairs of a job's messages: 1000 of them.
 ///
 /// 60 Source: there is nothing to draw digits from.
-pub fn source<H: AllocGlobal + Clock + RandomSource>(
+pub fn source<'t, H: AllocGlobal + RandomSource, K: Timekeeper>(
     rt: &H,
+    time: &'t K,
     moment: Option<Moment>,
     digits: Option<Digits>,
-) -> Result<LiveSource<'_, H, StdRng>, ServeFault>
+) -> Result<LiveSource<'t, K, StdRng>, ServeFault>
     ensures fresh { IfOk result (λ s. IsFresh s 1000) }
-    ensures fixed { IfOk result (λ s. Fixes s moment digits) }
+    ensures fixed { IfOk result (λ s. Fixes s time.now moment digits) }
     ensures fault { IfErr result (λ e. e ≡ ServeFault.Source) }
 {
-    match pairs(rt, MOST_MESSAGES, moment, digits) {
+    match pairs(rt, time, MOST_MESSAGES, moment, digits) {
         Some(source) => Ok(source),
         None => Err(ServeFault::Source),
     }
@@ -56,16 +58,17 @@ pub fn source<H: AllocGlobal + Clock + RandomSource>(
 /// The pairs of a batch's rows: 100000 of them.
 ///
 /// 46 Source: there is nothing to draw digits from.
-pub fn row_source<H: AllocGlobal + Clock + RandomSource>(
+pub fn row_source<'t, H: AllocGlobal + RandomSource, K: Timekeeper>(
     rt: &H,
+    time: &'t K,
     moment: Option<Moment>,
     digits: Option<Digits>,
-) -> Result<LiveSource<'_, H, StdRng>, BatchFault>
+) -> Result<LiveSource<'t, K, StdRng>, BatchFault>
     ensures fresh { IfOk result (λ s. IsFresh s 100000) }
-    ensures fixed { IfOk result (λ s. Fixes s moment digits) }
+    ensures fixed { IfOk result (λ s. Fixes s time.now moment digits) }
     ensures fault { IfErr result (λ e. e ≡ BatchFault.Source) }
 {
-    match pairs(rt, MOST_ROWS, moment, digits) {
+    match pairs(rt, time, MOST_ROWS, moment, digits) {
         Some(source) => Ok(source),
         None => Err(BatchFault::Source),
     }

@@ -2,7 +2,7 @@
 ghost use Rattle.std.specs.Prelude.{◌≡◌, Err, false, true};
 ghost use Rattle.vault_store.specs.Applied.{is_broken, tables_of};
 ghost use Rattle.vault_http.specs.Passing.{Passage};
-ghost use Rattle.vault_listen.specs.Service.{vault_passing};
+ghost use Rattle.vault_listen.specs.Peers.{vault_passing};
 ghost use Rattle.vault_jobs.specs.Grants.{CarriesAll};
 ghost use Rattle.vault_jobs.specs.Sweeps.{Sweeps, purges_at};
 

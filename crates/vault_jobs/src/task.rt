@@ -1,16 +1,16 @@
 //! What is done with a vault.
-ghost use Rattle.std.specs.Prelude.{◌≡◌, IsErr, MatchResult, codes, false, length, true};
+ghost use Rattle.std.specs.Prelude.{◌≡◌, ◌++◌, IfErr, List, Option, codes, false, length, true};
 ghost use Rattle.vault_core.specs.Proper.{HasLivesInRange};
 ghost use Rattle.vault_store.specs.Applied.{is_broken, tables_of};
 ghost use Rattle.vault_http.specs.Passing.{Passage};
-ghost use Rattle.vault_listen.specs.Service.{vault_passing};
-ghost use Rattle.vault_jobs.specs.Carried.{Carries, IsKept, IsTorn};
+ghost use Rattle.vault_listen.specs.Peers.{Event, Link, events_of, vault_passing};
+ghost use Rattle.vault_jobs.specs.Carried.{Carries};
 ghost use Rattle.vault_wire.specs.Watching.{inner_of, is_stopped};
 ghost use Rattle.vault_jobs.specs.Causes.{IsCauseOf};
-ghost use Rattle.vault_jobs.specs.Streams.{IsHeard, Streams, streams};
+ghost use Rattle.vault_jobs.specs.Streams.{Streams, streams, with_links};
 ghost use Rattle.vault_jobs.specs.Doing.{BatchEnds, CommandsEnd, Does, PipeEnds, SweepEnds};
 ghost use Rattle.vault_jobs.specs.Grants.{CarriesAll, grants_at};
-ghost use Rattle.vault_jobs.specs.Tasks.{IsProper, Says, TaskEnds, granted_line};
+ghost use Rattle.vault_jobs.specs.Tasks.{BreaksBy, FailsStore, IsProper, granted_line};
 ghost use Rattle.vault_jobs.specs.declared.task.Task.{Task};
 
 use crate::answer::answer;
@@ -29,6 +29,8 @@ use vault_core::command::Command;
 use vault_core::moment::Moment;
 use vault_core::name::{Caller, MerchantId};
 use vault_core::right::Right;
+use vault_listen::network::Network;
+use vault_live::time::Timekeeper;
 use vault_pan::draw::Digits;
 use vault_store::tables::Tables;
 use vault_store::vault::Vault;
@@ -70,17 +72,11 @@ fn do_change<W: Write, T: Tables>(
 ) -> Result<Outcome, Stop>
     requires lives { HasLivesInRange command.now }
     requires unbroken { is_broken vault.old ≡ false }
-    ensures said { Says result (output.new ≡ output.old) (W.contents (inner_of output.old))
-        (W.contents (inner_of output.new)) (is_stopped output.new) (codes "done\n") }
     ensures does { let w : Passage = vault_passing T.is_honest T.holds T.leaves vault.old vault.new in
         CommandsEnd (Carries command.now w (is_broken vault.new)) (codes "done\n") result
         (output.new ≡ output.old) (W.contents (inner_of output.old)) (W.contents (inner_of output.new))
         (is_stopped output.new) }
-    ensures kept { let w : Passage = vault_passing T.is_honest T.holds T.leaves vault.old vault.new in
-        is_broken vault.new ≡ false → IsKept w }
-    ensures torn { let w : Passage = vault_passing T.is_honest T.holds T.leaves vault.old vault.new in
-        is_broken vault.new ≡ true → IsTorn w }
-    ensures broken { is_broken vault.new ≡ true → IsErr result }
+    ensures breaks { is_broken vault.new ≡ true → FailsStore result }
     ensures honest { T.is_honest (tables_of vault.new) → T.is_honest (tables_of vault.old) }
 {
     match change(vault, command) {
@@ -101,17 +97,11 @@ fn do_give<W: Write, T: Tables>(
     output: &mut Watched<W>,
 ) -> Result<Outcome, Stop>
     requires { is_broken vault.old ≡ false }
-    ensures said { Says result (output.new ≡ output.old) (W.contents (inner_of output.old))
-        (W.contents (inner_of output.new)) (is_stopped output.new) (granted_line (length rights.now)) }
     ensures does { let w : Passage = vault_passing T.is_honest T.holds T.leaves vault.old vault.new in
         CommandsEnd (CarriesAll (grants_at now rights.now) w (is_broken vault.new))
         (granted_line (length rights.now)) result (output.new ≡ output.old)
         (W.contents (inner_of output.old)) (W.contents (inner_of output.new)) (is_stopped output.new) }
-    ensures kept { let w : Passage = vault_passing T.is_honest T.holds T.leaves vault.old vault.new in
-        is_broken vault.new ≡ false → IsKept w }
-    ensures torn { let w : Passage = vault_passing T.is_honest T.holds T.leaves vault.old vault.new in
-        is_broken vault.new ≡ true → IsTorn w }
-    ensures broken { is_broken vault.new ≡ true → IsErr result }
+    ensures breaks { is_broken vault.new ≡ true → FailsStore result }
     ensures honest { T.is_honest (tables_of vault.new) → T.is_honest (tables_of vault.old) }
 {
     match give_all(vault, rights, now) {
@@ -138,11 +128,7 @@ fn do_sweep<W: Write, T: Tables>(
     ensures swept { let w : Passage = vault_passing T.is_honest T.holds T.leaves vault.old vault.new in
         SweepEnds asker now w (is_broken vault.new) result (output.new ≡ output.old)
         (W.contents (inner_of output.old)) (W.contents (inner_of output.new)) (is_stopped output.new) }
-    ensures kept { let w : Passage = vault_passing T.is_honest T.holds T.leaves vault.old vault.new in
-        is_broken vault.new ≡ false → IsKept w }
-    ensures torn { let w : Passage = vault_passing T.is_honest T.holds T.leaves vault.old vault.new in
-        is_broken vault.new ≡ true → IsTorn w }
-    ensures broken { is_broken vault.new ≡ true → IsErr result }
+    ensures breaks { is_broken vault.new ≡ true → FailsStore result }
     ensures honest { T.is_honest (tables_of vault.new) → T.is_honest (tables_of vault.old) }
 {
     match sweep(vault, &asker, now) {
@@ -159,8 +145,9 @@ fn do_sweep<W: Write, T: Tables>(
 }
 
 /// Answers the rows of the input.
-fn do_batch<R: Read, W: Write, T: Tables>(
+fn do_batch<K: Timekeeper, R: Read, W: Write, T: Tables>(
     rt: &HostRuntime,
+    time: &K,
     asker: Asker,
     moment: Option<Moment>,
     digits: Option<Digits>,
@@ -169,20 +156,17 @@ fn do_batch<R: Read, W: Write, T: Tables>(
     output: &mut Watched<W>,
 ) -> Result<Outcome, Stop>
     requires { is_broken vault.old ≡ false }
-    ensures ends { let s : Streams =
-        streams R.remaining input.old input.new W.contents output.old output.new in
-        TaskEnds (Task.Batch asker moment digits) result (input.new ≡ input.old) (output.new ≡ output.old) s }
     ensures does { let w : Passage = vault_passing T.is_honest T.holds T.leaves vault.old vault.new in
         let s : Streams = streams R.remaining input.old input.new W.contents output.old output.new in
-        BatchEnds asker moment digits w result (input.new ≡ input.old) (output.new ≡ output.old) s }
-    ensures kept { let w : Passage = vault_passing T.is_honest T.holds T.leaves vault.old vault.new in
-        is_broken vault.new ≡ false → IsKept w }
-    ensures torn { let w : Passage = vault_passing T.is_honest T.holds T.leaves vault.old vault.new in
-        is_broken vault.new ≡ true → IsTorn w }
-    ensures broken { is_broken vault.new ≡ true → IsErr result }
+        BatchEnds (K.tells time.now) asker moment digits w result (input.new ≡ input.old)
+        (output.new ≡ output.old) s }
+    ensures caused { let s : Streams =
+        streams R.remaining input.old input.new W.contents output.old output.new in
+        IfErr result (λ stop. IsCauseOf stop s) }
+    ensures breaks { BreaksBy (Task.Batch asker moment digits) result (is_broken vault.new) }
     ensures honest { T.is_honest (tables_of vault.new) → T.is_honest (tables_of vault.old) }
 {
-    let mut pairs = match row_source(rt, moment, digits) {
+    let mut pairs = match row_source(rt, time, moment, digits) {
         Ok(pairs) => pairs,
         Err(fault) => return Err(Stop::Batch(fault)),
     };
@@ -194,8 +178,9 @@ fn do_batch<R: Read, W: Write, T: Tables>(
 }
 
 /// Answers the messages of the input.
-fn do_pipe<R: Read, W: Write, T: Tables>(
+fn do_pipe<K: Timekeeper, R: Read, W: Write, T: Tables>(
     rt: &HostRuntime,
+    time: &K,
     moment: Option<Moment>,
     digits: Option<Digits>,
     vault: &mut Vault<T>,
@@ -203,20 +188,17 @@ fn do_pipe<R: Read, W: Write, T: Tables>(
     output: &mut Watched<W>,
 ) -> Result<Outcome, Stop>
     requires { is_broken vault.old ≡ false }
-    ensures streams { let s : Streams =
-        streams R.remaining input.old input.new W.contents output.old output.new in
-        TaskEnds (Task.Pipe moment digits) result (input.new ≡ input.old) (output.new ≡ output.old) s }
     ensures does { let w : Passage = vault_passing T.is_honest T.holds T.leaves vault.old vault.new in
         let s : Streams = streams R.remaining input.old input.new W.contents output.old output.new in
-        PipeEnds moment digits w result (input.new ≡ input.old) (output.new ≡ output.old) s }
-    ensures kept { let w : Passage = vault_passing T.is_honest T.holds T.leaves vault.old vault.new in
-        is_broken vault.new ≡ false → IsKept w }
-    ensures torn { let w : Passage = vault_passing T.is_honest T.holds T.leaves vault.old vault.new in
-        is_broken vault.new ≡ true → IsTorn w }
-    ensures broken { is_broken vault.new ≡ true → IsErr result }
+        PipeEnds (K.tells time.now) moment digits w result (input.new ≡ input.old)
+        (output.new ≡ output.old) s }
+    ensures caused { let s : Streams =
+        streams R.remaining input.old input.new W.contents output.old output.new in
+        IfErr result (λ stop. IsCauseOf stop s) }
+    ensures breaks { BreaksBy (Task.Pipe moment digits) result (is_broken vault.new) }
     ensures honest { T.is_honest (tables_of vault.new) → T.is_honest (tables_of vault.old) }
 {
-    let mut pairs = match source(rt, moment, digits) {
+    let mut pairs = match source(rt, time, moment, digits) {
         Ok(pairs) => pairs,
         Err(fault) => return Err(Stop::Service(fault)),
     };
@@ -227,8 +209,10 @@ fn do_pipe<R: Read, W: Write, T: Tables>(
 }
 
 /// Does a task on a vault.
-pub fn do_task<R: Read, W: Write, T: Tables>(
+pub fn do_task<K: Timekeeper, N: Network, R: Read, W: Write, T: Tables>(
     rt: &HostRuntime,
+    time: &K,
+    network: &mut N,
     task: &Task,
     vault: &mut Vault<T>,
     input: &mut Watched<R>,
@@ -236,17 +220,12 @@ pub fn do_task<R: Read, W: Write, T: Tables>(
 ) -> Result<Outcome, Stop>
     requires proper { IsProper task.now }
     requires unbroken { is_broken vault.old ≡ false }
-    ensures ends { let s : Streams =
-        streams R.remaining input.old input.new W.contents output.old output.new in
-        TaskEnds task.now result (input.new ≡ input.old) (output.new ≡ output.old) s }
     ensures does { let w : Passage = vault_passing T.is_honest T.holds T.leaves vault.old vault.new in
         let s : Streams = streams R.remaining input.old input.new W.contents output.old output.new in
-        Does task.now w (is_broken vault.new) result (input.new ≡ input.old) (output.new ≡ output.old) s }
-    ensures kept { let w : Passage = vault_passing T.is_honest T.holds T.leaves vault.old vault.new in
-        is_broken vault.new ≡ false → IsKept w }
-    ensures torn { let w : Passage = vault_passing T.is_honest T.holds T.leaves vault.old vault.new in
-        is_broken vault.new ≡ true → IsTorn w }
-    ensures broken { is_broken vault.new ≡ true → IsErr result }
+        (links : List (Option Link))
+        × ((log : List Event) → N.tells network.old log → N.tells network.new (log ++ events_of links))
+        × Does (K.tells time.now) task.now w (is_broken vault.new) result (input.new ≡ input.old)
+        (output.new ≡ output.old) (with_links s links) }
     ensures honest { T.is_honest (tables_of vault.new) → T.is_honest (tables_of vault.old) }
 {
     match *task {
@@ -254,9 +233,11 @@ pub fn do_task<R: Read, W: Write, T: Tables>(
         Task::Give(ref rights, now) => do_give(vault, rights, now, output),
         Task::Sweep(asker, now) => do_sweep(vault, asker, now, output),
         Task::Batch(asker, moment, digits) => {
-            do_batch(rt, asker, moment, digits, vault, input, output)
+            do_batch(rt, time, asker, moment, digits, vault, input, output)
         }
-        Task::Pipe(moment, digits) => do_pipe(rt, moment, digits, vault, input, output),
-        Task::Serve(port, connections) => serve_at(rt, port, connections, vault, output),
+        Task::Pipe(moment, digits) => do_pipe(rt, time, moment, digits, vault, input, output),
+        Task::Serve(port, connections) => {
+            serve_at(rt, time, network, port, connections, vault, output)
+        },
     }
 }

@@ -14,12 +14,12 @@ use crate::source::source;
 use std::alloc::{AllocError, Global};
 use std::io::{Read, Write};
 use std::random::RandomSource;
-use std::time::Clock;
 use vault_core::command::Command;
 use vault_core::moment::Moment;
 use vault_core::name::{Caller, MerchantId};
 use vault_core::right::Right;
 use vault_http::fault::ServeFault;
+use vault_live::time::Timekeeper;
 use vault_pan::draw::Digits;
 use vault_pan::lead::Lead;
 use vault_store::memory::MemTables;
@@ -35,9 +35,9 @@ pub struct Trial {
     pub life: u64,
     /// The moment of the merchant and of its rights.
     pub made: Moment,
-    /// The moment of each message, where it isn't the clock's.
+    /// The moment of each message, where it is fixed.
     pub moment: Option<Moment>,
-    /// The digits of each message, where they aren't drawn.
+    /// The digits of each message, where they are fixed.
     pub digits: Option<Digits>,
 }
 
@@ -104,25 +104,26 @@ fn give(vault: &mut Vault<MemTables>, trial: &Trial, right: Right) -> Result<(),
 
 /// Answers the messages of the input, up to its end, to a message that closes the connection, or to a
 /// fault of the bytes, which is answered too. Each message has the moment and the digits that the trial
-/// fixes, or else the clock's and drawn ones.
+/// fixes, or else one that is told and drawn ones.
 ///
-/// 60 Source: 1000 messages were answered and there is another one, the clock can't be read, or there is
+/// 60 Source: 1000 messages were answered and there is another one, no moment is told, or there is
 /// nothing to draw digits from. 61 Read: the reader failed. 62 Write: the writer failed, perhaps only when
 /// it was to hand on what it had taken. 64 Memory: memory was refused.
-pub fn serve_trial<H: AllocGlobal + Clock + RandomSource, R: Read, W: Write>(
+pub fn serve_trial<H: AllocGlobal + RandomSource, K: Timekeeper, R: Read, W: Write>(
     rt: &H,
+    time: &K,
     trial: &Trial,
     input: &mut Watched<R>,
     output: &mut Watched<W>,
 ) -> Result<(), ServeFault>
     requires { IsLife trial.now.life }
-    ensures served { OnOk result (IsTrial
+    ensures served { OnOk result (IsTrial (K.tells time.now)
         (R.remaining (inner_of input.old)) (R.remaining (inner_of input.new))
         (W.contents (inner_of output.old)) (W.contents (inner_of output.new))
         (trial_vault_lem trial.now.caller trial.now.merchant trial.now.life trial.now.made)
         trial.now.moment trial.now.digits) }
     ensures handed_on { OnOk result (is_stopped output.new ≡ false) }
-    ensures cut { OnErr result (IsCut
+    ensures cut { OnErr result (IsCut (K.tells time.now)
         (R.remaining (inner_of input.old)) (R.remaining (inner_of input.new))
         (W.contents (inner_of output.old)) (W.contents (inner_of output.new))
         (trial_vault_lem trial.now.caller trial.now.merchant trial.now.life trial.now.made)
@@ -132,6 +133,6 @@ pub fn serve_trial<H: AllocGlobal + Clock + RandomSource, R: Read, W: Write>(
 {
     let alloc = rt.alloc();
     let mut vault = trial_vault(alloc, trial)?;
-    let mut pairs = source(rt, trial.moment, trial.digits)?;
+    let mut pairs = source(rt, time, trial.moment, trial.digits)?;
     pipe(alloc, input, output, &mut vault, &mut pairs)
 }

@@ -1,5 +1,5 @@
 use Rattle.std.proofs.Common.{◌≡◌, false}
-use Rattle.vault_listen.specs.Service.{vault_passing}
+use Rattle.vault_listen.specs.Peers.{vault_passing}
 use Rattle.vault_store.specs.Applied.{is_broken, tables_of}
 use Rattle.vault_jobs.proofs.Sweeping.{IsSweeping}
 use Rattle.vault_jobs.proofs.sweep.sweep.Given as goal

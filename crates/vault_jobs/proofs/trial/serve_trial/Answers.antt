@@ -14,7 +14,7 @@ returns-in_err-vault-clause-cut g c =
     let V = trial_vault trial.caller trial.merchant trial.life trial.made in
     let left = g.R.Read.remaining c.args.input.now.inner in
     let old = g.W.Write.contents c.args.output.now.inner in
-    on_err c.from_residual.result _ (nothing_cut left old V trial.moment trial.digits)
+    on_err c.from_residual.result _ (nothing_cut _ left old V trial.moment trial.digits)
 
 pub returns-in_err-pairs-clause-cut : goal.returns-in_err-pairs-clause-cut
 returns-in_err-pairs-clause-cut g c =
@@ -22,7 +22,7 @@ returns-in_err-pairs-clause-cut g c =
     let V = trial_vault trial.caller trial.merchant trial.life trial.made in
     let left = g.R.Read.remaining c.args.input.now.inner in
     let old = g.W.Write.contents c.args.output.now.inner in
-    on_err c.from_residual-in_err-pairs.result _ (nothing_cut left old V trial.moment trial.digits)
+    on_err c.from_residual-in_err-pairs.result _ (nothing_cut _ left old V trial.moment trial.digits)
 
 pub returns-clause-served : goal.returns-clause-served
 returns-clause-served g c =
@@ -36,10 +36,10 @@ returns-clause-served g c =
     c.args.output.now c.pipe.new.output (λ t. Unit {0}) IsHeld (λ t V W. IsHeld t V ⊎ IsHeld t W)
     c.in_ok-vault.vault c.pipe.new.vault in
     let none = c.in_ok-pairs.ensures.fresh.gave in
-    let all = fixed_pairs c.in_ok-pairs.pairs c.pipe.new.source trial.moment trial.digits none
+    let all = fixed_pairs g.K.Timekeeper.tells c.in_ok-pairs.pairs c.pipe.new.source c.args.time.now trial.moment trial.digits none
     c.in_ok-pairs.ensures.fixed c.pipe.ensures.later in
-    on_ok_then c.pipe.result (IsPiped left rest w) (IsTrial left rest old new V trial.moment trial.digits)
-    (λ p. trial_of w V trial.moment trial.digits (tt, c.in_ok-vault.ensures.holds) none all left rest p.0 p.1)
+    on_ok_then c.pipe.result (IsPiped left rest w) (IsTrial (g.K.Timekeeper.tells c.args.time.now) left rest old new V trial.moment trial.digits)
+    (λ p. trial_of (g.K.Timekeeper.tells c.args.time.now) w V trial.moment trial.digits (tt, c.in_ok-vault.ensures.holds) none all left rest p.0 p.1)
     c.pipe.ensures.served
 
 pub returns-clause-cut : goal.returns-clause-cut
@@ -54,8 +54,8 @@ returns-clause-cut g c =
     c.args.output.now c.pipe.new.output (λ t. Unit {0}) IsHeld (λ t V W. IsHeld t V ⊎ IsHeld t W)
     c.in_ok-vault.vault c.pipe.new.vault in
     let none = c.in_ok-pairs.ensures.fresh.gave in
-    let all = fixed_pairs c.in_ok-pairs.pairs c.pipe.new.source trial.moment trial.digits none
+    let all = fixed_pairs g.K.Timekeeper.tells c.in_ok-pairs.pairs c.pipe.new.source c.args.time.now trial.moment trial.digits none
     c.in_ok-pairs.ensures.fixed c.pipe.ensures.later in
-    if_err_then c.pipe.result (StopsPiping left rest w) (IsCut left rest old new V trial.moment trial.digits)
-    (cut_piping w V trial.moment trial.digits (tt, c.in_ok-vault.ensures.holds) none all
+    if_err_then c.pipe.result (StopsPiping left rest w) (IsCut (g.K.Timekeeper.tells c.args.time.now) left rest old new V trial.moment trial.digits)
+    (cut_piping (g.K.Timekeeper.tells c.args.time.now) w V trial.moment trial.digits (tt, c.in_ok-vault.ensures.holds) none all
     left rest) c.pipe.ensures.stopped

@@ -1,20 +1,16 @@
-use Rattle.std.proofs.Common.{List, [], None, Result, Ok, Err, length, ap, arith, subst, sym}
-use Rattle.std.proofs.lemmas.List.Elements.{All-nil}
-use Rattle.std.specs.Prelude.{All, IfErr, IfOk, MatchResult}
+use Rattle.std.proofs.Common.{List, None, Result, Ok, Err, length, ap, arith, subst, sym}
+use Rattle.std.specs.Prelude.{IfErr, IfOk, MatchResult}
 use Rattle.vault_http.specs.Exchanges.{Pair}
 use Rattle.vault_http.specs.Passing.{passing}
 use Rattle.vault_http.specs.Served.{IsServed, IsStopped}
-use Rattle.vault_live.specs.Live.{AreGiven, IsPairOf, Turns, pairs_of}
+use Rattle.vault_live.specs.Live.{AreGiven, pairs_of}
+use Rattle.vault_live.proofs.Turns.{none_given}
 use Rattle.vault_listen.proofs.connection.serve_connection.Goals as goal
 
 either_way : {X E : Type 0} (r : Result X E) (P : X → Type 0) (Q : E → Type 0) → IfOk r P → IfErr r Q
     → MatchResult r P Q
 either_way (Ok x) P Q p q = p
 either_way (Err e) P Q p q = q
-
--- nothing was given yet
-none_given : {tells : Turns} → AreGiven tells None None []
-none_given = record { each = All-nil (IsPairOf None None); told = λ free. tt }
 
 pub returns-clause-answered : goal.returns-clause-answered
 returns-clause-answered g c =

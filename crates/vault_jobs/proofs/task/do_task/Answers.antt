@@ -1,0 +1,95 @@
+use Rattle.std.proofs.Common.{◌≡◌, [], refl}
+use Rattle.vault_store.specs.Applied.{is_broken}
+use Rattle.vault_http.specs.Passing.{Passage}
+use Rattle.vault_listen.specs.Peers.{vault_passing}
+use Rattle.vault_listen.proofs.Linking.{none_then}
+use Rattle.vault_jobs.proofs.Parts.{change_done, give_done, serve_done, sweep_done}
+use Rattle.vault_jobs.specs.Streams.{Streams, streams, with_links}
+use Rattle.vault_jobs.proofs.task.do_task.Goals as goal
+
+pub returns-in-Change-clause-does : goal.returns-in-Change-clause-does
+returns-in-Change-clause-does g c =
+    let tells = g.K.Timekeeper.tells c.args.time.now in
+    let w : Passage = vault_passing g.T.Tables.is_honest g.T.Tables.holds g.T.Tables.leaves c.args.vault.now
+    c.do_change.new.vault in
+    let s : Streams = streams g.R.Read.remaining c.args.input.now c.args.input.now g.W.Write.contents
+    c.args.output.now c.do_change.new.output in
+    rw c.in-Change.is (
+      [],
+      none_then (g.N.Network.tells c.args.network.now),
+      change_done tells w (is_broken c.do_change.new.vault) c.do_change.result
+          (c.args.input.now ≡ c.args.input.now) (c.do_change.new.output ≡ c.args.output.now) s c.in-Change.command refl refl
+          c.do_change.ensures.breaks c.do_change.ensures.does,
+    )
+
+pub returns-in-Give-clause-does : goal.returns-in-Give-clause-does
+returns-in-Give-clause-does g c =
+    let tells = g.K.Timekeeper.tells c.args.time.now in
+    let w : Passage = vault_passing g.T.Tables.is_honest g.T.Tables.holds g.T.Tables.leaves c.args.vault.now
+    c.do_give.new.vault in
+    let s : Streams = streams g.R.Read.remaining c.args.input.now c.args.input.now g.W.Write.contents
+    c.args.output.now c.do_give.new.output in
+    rw c.in-Give.is (
+      [],
+      none_then (g.N.Network.tells c.args.network.now),
+      give_done tells w (is_broken c.do_give.new.vault) c.do_give.result
+          (c.args.input.now ≡ c.args.input.now) (c.do_give.new.output ≡ c.args.output.now) s c.in-Give.rights c.in-Give.now
+          c.in-Give.now c.deref.result.now c.deref.ensures.value refl refl refl
+          c.do_give.ensures.breaks (rw c.in-Give.is at c.do_give.ensures.does),
+    )
+
+pub returns-in-Sweep-clause-does : goal.returns-in-Sweep-clause-does
+returns-in-Sweep-clause-does g c =
+    let tells = g.K.Timekeeper.tells c.args.time.now in
+    let w : Passage = vault_passing g.T.Tables.is_honest g.T.Tables.holds g.T.Tables.leaves c.args.vault.now
+    c.do_sweep.new.vault in
+    let s : Streams = streams g.R.Read.remaining c.args.input.now c.args.input.now g.W.Write.contents
+    c.args.output.now c.do_sweep.new.output in
+    rw c.in-Sweep.is (
+      [],
+      none_then (g.N.Network.tells c.args.network.now),
+      sweep_done tells w (is_broken c.do_sweep.new.vault) c.do_sweep.result
+          (c.args.input.now ≡ c.args.input.now) (c.do_sweep.new.output ≡ c.args.output.now) s c.in-Sweep.asker c.in-Sweep.now refl refl
+          c.do_sweep.ensures.breaks c.do_sweep.ensures.swept,
+    )
+
+pub returns-in-Batch-clause-does : goal.returns-in-Batch-clause-does
+returns-in-Batch-clause-does g c = rw c.in-Batch.is (
+  [],
+  none_then (g.N.Network.tells c.args.network.now),
+  record {
+    works = c.do_batch.ensures.does;
+    begun = tt;
+    alone = refl;
+    caused = c.do_batch.ensures.caused;
+    breaks = c.do_batch.ensures.breaks;
+  },
+)
+
+pub returns-in-Pipe-clause-does : goal.returns-in-Pipe-clause-does
+returns-in-Pipe-clause-does g c = rw c.in-Pipe.is (
+  [],
+  none_then (g.N.Network.tells c.args.network.now),
+  record {
+    works = c.do_pipe.ensures.does;
+    begun = tt;
+    alone = refl;
+    caused = c.do_pipe.ensures.caused;
+    breaks = c.do_pipe.ensures.breaks;
+  },
+)
+
+pub returns-in-Serve-clause-does : goal.returns-in-Serve-clause-does
+returns-in-Serve-clause-does g c =
+    let tells = g.K.Timekeeper.tells c.args.time.now in
+    let w : Passage = vault_passing g.T.Tables.is_honest g.T.Tables.holds g.T.Tables.leaves c.args.vault.now
+    c.serve_at.new.vault in
+    let s : Streams = streams g.R.Read.remaining c.args.input.now c.args.input.now g.W.Write.contents
+    c.args.output.now c.serve_at.new.output in
+    rw c.in-Serve.is (
+      c.serve_at.ensures.does.0,
+      c.serve_at.ensures.does.1,
+      serve_done tells w (is_broken c.serve_at.new.vault) c.serve_at.result
+          (c.args.input.now ≡ c.args.input.now) (c.serve_at.new.output ≡ c.args.output.now) (with_links s c.serve_at.ensures.does.0)
+          c.in-Serve.port c.in-Serve.connections refl c.serve_at.ensures.breaks c.serve_at.ensures.does.2,
+    )
