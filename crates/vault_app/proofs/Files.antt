@@ -19,19 +19,19 @@ use Rattle.vault_file.specs.declared.fault.NotOpened.TheVariants as file
 use Rattle.vault_jobs.proofs.Refining.{refined}
 use Rattle.vault_jobs.specs.Doing.{Does}
 use Rattle.vault_jobs.specs.Streams.{Streams}
-use Rattle.vault_jobs.specs.Tasks.{TaskEnds}
 use Rattle.vault_jobs.specs.declared.stop.Stop.{Stop}
 use Rattle.vault_jobs.specs.declared.task.Outcome.{Outcome}
 use Rattle.vault_jobs.specs.declared.task.Outcome.TheVariants as outcome
 use Rattle.vault_jobs.specs.declared.task.Task.{Task}
-use Rattle.vault_listen.specs.Service.{vault_passing}
+use Rattle.vault_listen.specs.Peers.{vault_passing}
+use Rattle.vault_live.specs.Live.{Turns}
 use Rattle.vault_recover.specs.Crashed.{Reopens, ReopensEither}
 use Rattle.vault_schema.specs.Holds.{Holds, LeavesEither}
 use Rattle.vault_store.specs.Applied.{Contains}
 use Rattle.vault_store.specs.declared.vault.Vault.{Vault}
 use Rattle.vault_verdict.specs.Sizes.{sizes_of}
 use Rattle.vault_verdict.specs.declared.sizes.Sizes.{Sizes}
-use Rattle.vault_app.specs.Files.{DoesOnFile, EndsOnFile, FileEnds, WorksOn, ending_for}
+use Rattle.vault_app.specs.Files.{DoesOnFile, EndsOnFile, WorksOn, ending_for}
 use Rattle.vault_app.specs.Jobs.{IsChecked, IsMoved}
 use Rattle.vault_app.specs.declared.ending.Ending.TheVariants.{NotOpened}
 
@@ -43,7 +43,7 @@ module _ {D : Type 0} {g : Ghosts D} {T : Type 0} (conn_of : T → Held (FileSto
       (failed t ≡ false)
       × (HasCleanDisk (file_state (conn_of t)) → Holds (file_state (conn_of t)) V × Past t V)
 
-  pub works : (image : Image) (v v' : Vault T) (left : FileStore D g) (task : Task) (r : Result Outcome Stop)
+  pub works : (tells : Turns) (image : Image) (v v' : Vault T) (left : FileStore D g) (task : Task) (r : Result Outcome Stop)
       (broken : Bool) (unread unsent : Type 0) (s : Streams)
       → OpensFrom image (conn_of v.tables) → (failed v.tables ≡ false) × ((V : Content) → Past v.tables V)
       → (HasCleanDisk (file_state (conn_of v'.tables)) → HasCleanDisk (file_state (conn_of v.tables)))
@@ -51,10 +51,10 @@ module _ {D : Type 0} {g : Ghosts D} {T : Type 0} (conn_of : T → Held (FileSto
       → (IsClean (view left) → (V : Content) → Contains held v' V → Reopens left V)
       → (IsClean (view left) → (V W : Content) → LeavesEither (file_state (conn_of v'.tables)) V W
       → ReopensEither left V W)
-      → Does task (vault_passing (λ t. HasCleanDisk (file_state (conn_of t))) held
+      → Does tells task (vault_passing (λ t. HasCleanDisk (file_state (conn_of t))) held
       (λ t V W. LeavesEither (file_state (conn_of t)) V W) v v') broken r unread unsent s
-      → WorksOn image left (λ p b. Does task p b r unread unsent s)
-  works image v v' left task r broken unread unsent s found fresh honest closed after either does = record {
+      → WorksOn image left (λ p b. Does tells task p b r unread unsent s)
+  works tells image v v' left task r broken unread unsent s found fresh honest closed after either does = record {
     opened = conn_of v.tables;
     broken = broken;
     found = found;
@@ -66,21 +66,13 @@ module _ {D : Type 0} {g : Ghosts D} {T : Type 0} (conn_of : T → Held (FileSto
         (λ V clean was. (closed clean, ((fresh.0, λ _. (was.0, fresh.1 V)), was.1)))
         (λ clean V kept. ((after clean V kept.0, kept.0.1), either clean V V kept.1))
         (λ clean V W torn. either clean V W torn)
-        s task broken r unread unsent does;
+        s tells task broken r unread unsent does;
   }
 
--- how a task came out, as an ending
-pub ends_of : (unread unsent : Type 0) (s : Streams) (task : Task) (r : Result Outcome Stop)
-    → TaskEnds task r unread unsent s → FileEnds task (ending_for r) unread unsent s
-ends_of unread unsent s task (Ok outcome.Done) ends = ends
-ends_of unread unsent s task (Ok (outcome.Refused n)) ends = ends
-ends_of unread unsent s task (Ok outcome.SomeRefused) ends = ends
-ends_of unread unsent s task (Err stop) ends = ends
-
-module _ {D : Type 0} {g : Ghosts D} (image : Image) (unread unsent : Type 0) (s : Streams) where
+module _ {D : Type 0} {g : Ghosts D} (tells : Turns) (image : Image) (unread unsent : Type 0) (s : Streams) where
   pub ended : (left : FileStore D g) (task : Task) (r : Result Outcome Stop)
-      → WorksOn image left (λ p b. Does task p b r unread unsent s)
-      → DoesOnFile image left task (ending_for r) unread unsent s
+      → WorksOn image left (λ p b. Does tells task p b r unread unsent s)
+      → DoesOnFile tells image left task (ending_for r) unread unsent s
   ended left task (Ok outcome.Done) works = works
   ended left task (Ok (outcome.Refused n)) works = works
   ended left task (Ok outcome.SomeRefused) works = works
@@ -91,7 +83,7 @@ module _ {D : Type 0} {g : Ghosts D} (image : Image) (unread unsent : Type 0) (s
       → IfSome left (λ it. IsClean (view it) → SparesStopped image why)
       → IfSome left (λ it. IsClean (view it) → TellsFound image why)
       → IfSome left (Stays image) → IfSome left (λ it. ¬ MayFindNone image → StaysWhole image it)
-      → unread → unsent → EndsOnFile image left task (NotOpened why) unread unsent s
+      → unread → unsent → EndsOnFile tells image left task (NotOpened why) unread unsent s
   refused_file None task why is never tells stays same calm silent =
       (ap (λ f. NotOpened f) (is.1 refl), calm, silent)
   refused_file (Some left) task why is never tells stays same calm silent =

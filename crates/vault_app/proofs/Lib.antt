@@ -1,5 +1,4 @@
-pub mod Files
-pub mod Lines
-pub mod Refusing
-pub mod Running
-pub mod Values
+mod Files
+mod Lines
+mod Unread
+mod Values

@@ -1,5 +1,5 @@
 -- What is done with the vault in a file.
-use Rattle.std.specs.Prelude.{◌≡◌, [], Option, Some, None, Result, Ok, Err, Bool, false}
+use Rattle.std.specs.Prelude.{◌≡◌, [], Option, Some, None, Result, Ok, Err, Bool}
 use Rattle.sqlite.specs.Files.{file_state}
 use Rattle.sqlite.specs.Held.{Held}
 use Rattle.sqlite.specs.State.{HasCleanDisk}
@@ -16,10 +16,9 @@ use Rattle.vault_file.specs.Found.{TellsFound}
 use Rattle.vault_file.specs.declared.fault.NotOpened.{NotOpened as FileFault}
 use Rattle.vault_file.specs.declared.fault.NotOpened.TheVariants as file
 use Rattle.vault_http.specs.Passing.{Passage}
-use Rattle.vault_jobs.specs.Causes.{IsCauseOf}
+use Rattle.vault_live.specs.Live.{Turns}
 use Rattle.vault_jobs.specs.Doing.{Does}
 use Rattle.vault_jobs.specs.Streams.{Streams}
-use Rattle.vault_jobs.specs.Tasks.{IsOfCommands, IsRefusedInPart, IsTaskBegun, IsTaskDone}
 use Rattle.vault_jobs.specs.declared.stop.Stop.{Stop}
 use Rattle.vault_jobs.specs.declared.task.Outcome.{Outcome}
 use Rattle.vault_jobs.specs.declared.task.Outcome.TheVariants as outcome
@@ -34,16 +33,6 @@ ending_for (Ok outcome.Done) = Done
 ending_for (Ok (outcome.Refused n)) = Refused n
 ending_for (Ok outcome.SomeRefused) = SomeRefused
 ending_for (Err stop) = Stopped stop
-
--- how a task ends on the vault in a file; where that isn't opened both streams stay as they were
-abbrev pub FileEnds : Task → Ending → Type 0 → Type 0 → Streams → Type 0
-FileEnds task Done unread unsent s = (s.writer ≡ false) × IsTaskDone task unread s
-FileEnds task Version unread unsent s = ⊥
-FileEnds task (Refused n) unread unsent s = unread × unsent × IsOfCommands task
-FileEnds task SomeRefused unread unsent s = (s.writer ≡ false) × IsRefusedInPart task s
-FileEnds task BadWords unread unsent s = ⊥
-FileEnds task (NotOpened f) unread unsent s = unread × unsent
-FileEnds task (Stopped stop) unread unsent s = IsCauseOf stop s × IsTaskBegun task unread
 
 module _ {D : Type 0} {g : Ghosts D} where
   -- The passage of the vault in files that were opened by this connection, and are left, closed. All of it
@@ -80,21 +69,21 @@ module _ {D : Type 0} {g : Ghosts D} where
     pub same : ¬ MayFindNone image → StaysWhole image left
 
   -- what was done with the vault in files with these bytes, by how a task on it ended
-  abbrev pub DoesOnFile : Image → FileStore D g → Task → Ending → Type 0 → Type 0 → Streams → Type 0
-  DoesOnFile image left task Done unread unsent s =
-      WorksOn image left (λ p broken. Does task p broken (Ok outcome.Done) unread unsent s)
-  DoesOnFile image left task Version unread unsent s = ⊥
-  DoesOnFile image left task (Refused n) unread unsent s =
-      WorksOn image left (λ p broken. Does task p broken (Ok (outcome.Refused n)) unread unsent s)
-  DoesOnFile image left task SomeRefused unread unsent s =
-      WorksOn image left (λ p broken. Does task p broken (Ok outcome.SomeRefused) unread unsent s)
-  DoesOnFile image left task BadWords unread unsent s = ⊥
-  DoesOnFile image left task (NotOpened why) unread unsent s = RefusesFile image left why × unread × unsent
-  DoesOnFile image left task (Stopped stop) unread unsent s =
-      WorksOn image left (λ p broken. Does task p broken (Err stop) unread unsent s)
+  abbrev pub DoesOnFile : Turns → Image → FileStore D g → Task → Ending → Type 0 → Type 0 → Streams → Type 0
+  DoesOnFile tells image left task Done unread unsent s =
+      WorksOn image left (λ p broken. Does tells task p broken (Ok outcome.Done) unread unsent s)
+  DoesOnFile tells image left task Version unread unsent s = ⊥
+  DoesOnFile tells image left task (Refused n) unread unsent s =
+      WorksOn image left (λ p broken. Does tells task p broken (Ok (outcome.Refused n)) unread unsent s)
+  DoesOnFile tells image left task SomeRefused unread unsent s =
+      WorksOn image left (λ p broken. Does tells task p broken (Ok outcome.SomeRefused) unread unsent s)
+  DoesOnFile tells image left task BadWords unread unsent s = ⊥
+  DoesOnFile tells image left task (NotOpened why) unread unsent s = RefusesFile image left why × unread × unsent
+  DoesOnFile tells image left task (Stopped stop) unread unsent s =
+      WorksOn image left (λ p broken. Does tells task p broken (Err stop) unread unsent s)
 
   -- The same, where files are left only if they were opened, or refused with a connection: none are where the
   -- host or the database refuses the file itself.
-  abbrev pub EndsOnFile : Image → Option (FileStore D g) → Task → Ending → Type 0 → Type 0 → Streams → Type 0
-  EndsOnFile image (Some left) task ending unread unsent s = DoesOnFile image left task ending unread unsent s
-  EndsOnFile image None task ending unread unsent s = (ending ≡ NotOpened file.Refused) × unread × unsent
+  abbrev pub EndsOnFile : Turns → Image → Option (FileStore D g) → Task → Ending → Type 0 → Type 0 → Streams → Type 0
+  EndsOnFile tells image (Some left) task ending unread unsent s = DoesOnFile tells image left task ending unread unsent s
+  EndsOnFile tells image None task ending unread unsent s = (ending ≡ NotOpened file.Refused) × unread × unsent

@@ -12,6 +12,7 @@ use Rattle.vault_batch.specs.declared.asker.Asker.{Asker}
 use Rattle.vault_file.specs.declared.fault.NotOpened.{NotOpened as FileFault}
 use Rattle.vault_http.specs.declared.fault.ServeFault.{ServeFault}
 use Rattle.vault_http.specs.declared.fault.ServeFault.TheVariants as service
+use Rattle.vault_live.specs.Live.{Turns}
 use Rattle.vault_verdict.specs.declared.sizes.Sizes.{Sizes}
 use Rattle.vault_words.specs.declared.commands.trial.TrialJob.{TrialJob}
 use Rattle.vault_words.specs.declared.jobs.Job.{Job}
@@ -26,8 +27,7 @@ use Rattle.vault_jobs.specs.declared.stop.Unread.{Unread}
 use Rattle.vault_jobs.specs.declared.task.Task.{Task}
 use Rattle.vault_jobs.specs.declared.task.Task.TheVariants as task
 use Rattle.vault_jobs.specs.declared.trial.Trial.{Trial as Asked}
-use Rattle.vault_app.specs.Files.{FileEnds}
-use Rattle.vault_app.specs.Ran.{AreNames, AsksFor, IsMisnamed, Unasked, schema_line, sound_line}
+use Rattle.vault_app.specs.Asked.{AreNames, AsksFor, IsMisnamed, Unasked, schema_line, sound_line}
 use Rattle.vault_app.specs.Rights.{IsListed, IsRefusedText}
 use Rattle.vault_app.specs.Values.{AreValues}
 use Rattle.vault_app.specs.declared.ending.Ending.{Ending}
@@ -36,61 +36,65 @@ use Rattle.vault_app.specs.declared.ending.Ending.TheVariants.{BadWords, NotOpen
 use Rattle.vault_app.specs.declared.plan.Plan.{Plan}
 use Rattle.vault_app.specs.declared.plan.Plan.TheVariants as plan
 
+-- no moment is told
+abbrev pub untold : Turns
+untold turn now = ⊥
+
 -- the connections after which a service ends that goes on until it is ended: more than any lives to see
 abbrev pub without_end : ℕ
 without_end = 18446744073709551615
 
--- the task that the words of a job ask for, whose names are names, at the moment that they fix, where they
--- fix one
-abbrev pub IsTaskOf : Job → Task → Type 0
-IsTaskOf (Trial j) t = ⊥
-IsTaskOf (Merchant j) t = IsName j.name.now × ((now : ℕ) × IsMomentOf j.now now
+-- the task that the words of a job ask for, whose names are names, at the moment that they fix, or else at one
+-- that was told
+abbrev pub IsTaskOf : Turns → Job → Task → Type 0
+IsTaskOf tells (Trial j) t = ⊥
+IsTaskOf tells (Merchant j) t = IsName j.name.now × ((now : ℕ) × IsMomentOf tells j.now now
     × (t ≡ task.Change (command.SetMerchant j.name.now j.single_life j.multi_life j.lead now)))
-IsTaskOf (Grant j) t = AreNames j.given
-    × ((right : Right) × (now : ℕ) × (j.given.right.now ≡ right_word right) × IsMomentOf j.given.now now
+IsTaskOf tells (Grant j) t = AreNames j.given
+    × ((right : Right) × (now : ℕ) × (j.given.right.now ≡ right_word right) × IsMomentOf tells j.given.now now
     × (t ≡ task.Change (command.Grant j.given.caller.now j.given.merchant.now right j.until now)))
-IsTaskOf (Withdraw j) t = AreNames j
-    × ((right : Right) × (now : ℕ) × (j.right.now ≡ right_word right) × IsMomentOf j.now now
+IsTaskOf tells (Withdraw j) t = AreNames j
+    × ((right : Right) × (now : ℕ) × (j.right.now ≡ right_word right) × IsMomentOf tells j.now now
     × (t ≡ task.Change (command.Withdraw j.caller.now j.merchant.now right now)))
-IsTaskOf (Rights j) (task.Give rows now) = IsListed rows.items × IsMomentOf j.now now
-IsTaskOf (Rights j) (task.Change c) = ⊥
-IsTaskOf (Rights j) (task.Sweep who now) = ⊥
-IsTaskOf (Rights j) (task.Batch who now digits) = ⊥
-IsTaskOf (Rights j) (task.Pipe now digits) = ⊥
-IsTaskOf (Rights j) (task.Serve port connections) = ⊥
-IsTaskOf (Pipe j) t = t ≡ task.Pipe j.now j.digits
-IsTaskOf (Batch j) t = (IsName j.caller.now × IsName j.merchant.now)
+IsTaskOf tells (Rights j) (task.Give rows now) = IsListed rows.items × IsMomentOf tells j.now now
+IsTaskOf tells (Rights j) (task.Change c) = ⊥
+IsTaskOf tells (Rights j) (task.Sweep who now) = ⊥
+IsTaskOf tells (Rights j) (task.Batch who now digits) = ⊥
+IsTaskOf tells (Rights j) (task.Pipe now digits) = ⊥
+IsTaskOf tells (Rights j) (task.Serve port connections) = ⊥
+IsTaskOf tells (Pipe j) t = t ≡ task.Pipe j.now j.digits
+IsTaskOf tells (Batch j) t = (IsName j.caller.now × IsName j.merchant.now)
     × ((who : Asker) × (who.caller ≡ j.caller.now) × (who.merchant ≡ j.merchant.now)
     × (t ≡ task.Batch who j.now j.digits))
-IsTaskOf (Serve j) t = t ≡ task.Serve j.port (unwrap_or j.connections without_end)
-IsTaskOf (Sweep j) t = (IsName j.caller.now × IsName j.merchant.now)
+IsTaskOf tells (Serve j) t = t ≡ task.Serve j.port (unwrap_or j.connections without_end)
+IsTaskOf tells (Sweep j) t = (IsName j.caller.now × IsName j.merchant.now)
     × ((who : Asker) × (now : ℕ) × (who.caller ≡ j.caller.now) × (who.merchant ≡ j.merchant.now)
-    × IsMomentOf j.now now × (t ≡ task.Sweep who now))
-IsTaskOf (Check j) t = ⊥
-IsTaskOf (Migrate j) t = ⊥
+    × IsMomentOf tells j.now now × (t ≡ task.Sweep who now))
+IsTaskOf tells (Check j) t = ⊥
+IsTaskOf tells (Migrate j) t = ⊥
 
 -- the trial that the words ask for
-pub record IsTrialOf (j : TrialJob) (t : Asked) : Type 0 where
+pub record IsTrialOf (tells : Turns) (j : TrialJob) (t : Asked) : Type 0 where
   pub caller : t.caller ≡ j.caller.now
   pub merchant : t.merchant ≡ j.merchant.now
   pub life : t.life ≡ j.life
-  pub made : IsMomentOf j.now t.made
+  pub made : IsMomentOf tells j.now t.made
   pub moment : t.moment ≡ j.now
   pub digits : t.digits ≡ j.digits
 
 -- the plan of a job: its task, with the vault in its file
-abbrev pub IsPlanOf : Job → Plan → Type 0
-IsPlanOf (Trial j) p = (t : Asked) × IsTrialOf j t × (p ≡ plan.Trial t)
-IsPlanOf (Merchant j) p = (t : Task) × IsTaskOf (Merchant j) t × (p ≡ plan.Do j.file t)
-IsPlanOf (Grant j) p = (t : Task) × IsTaskOf (Grant j) t × (p ≡ plan.Do j.given.file t)
-IsPlanOf (Withdraw j) p = (t : Task) × IsTaskOf (Withdraw j) t × (p ≡ plan.Do j.file t)
-IsPlanOf (Rights j) p = (t : Task) × IsTaskOf (Rights j) t × (p ≡ plan.Do j.file t)
-IsPlanOf (Pipe j) p = (t : Task) × IsTaskOf (Pipe j) t × (p ≡ plan.Do j.file t)
-IsPlanOf (Batch j) p = (t : Task) × IsTaskOf (Batch j) t × (p ≡ plan.Do j.file t)
-IsPlanOf (Serve j) p = (t : Task) × IsTaskOf (Serve j) t × (p ≡ plan.Do j.file t)
-IsPlanOf (Sweep j) p = (t : Task) × IsTaskOf (Sweep j) t × (p ≡ plan.Do j.file t)
-IsPlanOf (Check j) p = p ≡ plan.Check j.file
-IsPlanOf (Migrate j) p = p ≡ plan.Migrate j.file
+abbrev pub IsPlanOf : Turns → Job → Plan → Type 0
+IsPlanOf tells (Trial j) p = (t : Asked) × IsTrialOf tells j t × (p ≡ plan.Trial t)
+IsPlanOf tells (Merchant j) p = (t : Task) × IsTaskOf tells (Merchant j) t × (p ≡ plan.Do j.file t)
+IsPlanOf tells (Grant j) p = (t : Task) × IsTaskOf tells (Grant j) t × (p ≡ plan.Do j.given.file t)
+IsPlanOf tells (Withdraw j) p = (t : Task) × IsTaskOf tells (Withdraw j) t × (p ≡ plan.Do j.file t)
+IsPlanOf tells (Rights j) p = (t : Task) × IsTaskOf tells (Rights j) t × (p ≡ plan.Do j.file t)
+IsPlanOf tells (Pipe j) p = (t : Task) × IsTaskOf tells (Pipe j) t × (p ≡ plan.Do j.file t)
+IsPlanOf tells (Batch j) p = (t : Task) × IsTaskOf tells (Batch j) t × (p ≡ plan.Do j.file t)
+IsPlanOf tells (Serve j) p = (t : Task) × IsTaskOf tells (Serve j) t × (p ≡ plan.Do j.file t)
+IsPlanOf tells (Sweep j) p = (t : Task) × IsTaskOf tells (Sweep j) t × (p ≡ plan.Do j.file t)
+IsPlanOf tells (Check j) p = p ≡ plan.Check j.file
+IsPlanOf tells (Migrate j) p = p ≡ plan.Migrate j.file
 
 -- the parts of its task are values of their types, or the life of its trial is a life
 abbrev pub IsProperPlan : Plan → Type 0
@@ -159,18 +163,18 @@ EndsPlanless words ending unsent =
     AsksFor words (λ job. EndsBefore job ending) × unsent ⊎ Unasked words ending (Unit {0}) unsent
 
 -- how a trial ends: with the answers of its vault, or with the first of them
-abbrev pub TrialEnds : Asked → Ending → Streams → Type 0
-TrialEnds t Done s = (s.writer ≡ false)
-    × memory.IsTrial s.left_old s.left_new s.sent_old s.sent_new
+abbrev pub TrialEnds : Turns → Asked → Ending → Streams → Type 0
+TrialEnds tells t Done s = (s.writer ≡ false)
+    × memory.IsTrial tells s.left_old s.left_new s.sent_old s.sent_new
     (memory.trial_vault t.caller t.merchant t.life t.made) t.moment t.digits
-TrialEnds t Version s = ⊥
-TrialEnds t (Refused n) s = ⊥
-TrialEnds t SomeRefused s = ⊥
-TrialEnds t BadWords s = ⊥
-TrialEnds t (NotOpened f) s = ⊥
-TrialEnds t (Stopped why) s = IsCauseOf why s
+TrialEnds tells t Version s = ⊥
+TrialEnds tells t (Refused n) s = ⊥
+TrialEnds tells t SomeRefused s = ⊥
+TrialEnds tells t BadWords s = ⊥
+TrialEnds tells t (NotOpened f) s = ⊥
+TrialEnds tells t (Stopped why) s = IsCauseOf why s
     × ((fault : ServeFault) × (why ≡ stop.Service fault) × (fault ≢ service.Store))
-    × memory.IsCut s.left_old s.left_new s.sent_old s.sent_new
+    × memory.IsCut tells s.left_old s.left_new s.sent_old s.sent_new
     (memory.trial_vault t.caller t.merchant t.life t.made) t.moment t.digits
 
 -- a job that is done wrote this line, or the writer failed
@@ -192,12 +196,3 @@ TellsSizes (Err why) ending unsent old new writer = (ending ≡ NotOpened why) �
 abbrev pub TellsMoved : Result ℤ FileFault → Ending → Type 0 → Known → Known → Bool → Type 0
 TellsMoved (Ok version) ending unsent old new writer = LineEnds schema_line ending old new writer
 TellsMoved (Err why) ending unsent old new writer = (ending ≡ NotOpened why) × unsent
-
--- what a plan reads and writes, by how it ends
-abbrev pub PlanEnds : Plan → Ending → Type 0 → Type 0 → Streams → Type 0
-PlanEnds (plan.Trial t) ending unread unsent s = TrialEnds t ending s
-PlanEnds (plan.Check path) ending unread unsent s = unread
-    × ((told : Result Sizes FileFault) × TellsSizes told ending unsent s.sent_old s.sent_new s.writer)
-PlanEnds (plan.Migrate path) ending unread unsent s = unread
-    × ((told : Result ℤ FileFault) × TellsMoved told ending unsent s.sent_old s.sent_new s.writer)
-PlanEnds (plan.Do path t) ending unread unsent s = FileEnds t ending unread unsent s

@@ -1,12 +1,13 @@
 //! What is to be done for a job.
 ghost use Rattle.std.specs.Prelude.{IfOk, MatchResult};
 ghost use Rattle.vault_app.specs.Plans.{EndsBefore, IsPlanOf, IsProperPlan};
-ghost use Rattle.vault_app.specs.Ran.{HasLives};
+ghost use Rattle.vault_app.specs.Asked.{HasLives};
 
 use crate::commands::{batch, merchant, pipe, rights, rights_file, serve, sweep, trial};
 use crate::ending::Ending;
 use vault_jobs::task::Task;
 use vault_jobs::trial::Trial;
+use vault_live::time::Timekeeper;
 use vault_words::jobs::Job;
 
 /// What is to be done for a job: its names, its rights and its moment are read.
@@ -24,21 +25,25 @@ pub enum Plan<'a> {
 
 /// The plan of a job, or how it ends without one: refused by a name, a right or a list, or stopped since
 /// there is no moment (60) or the list isn't read (74, 80).
-pub(crate) fn plan_of<'a>(rt: &HostRuntime, asked: &Job<'a>) -> Result<Plan<'a>, Ending>
+pub(crate) fn plan_of<'a, K: Timekeeper>(
+    rt: &HostRuntime,
+    time: &K,
+    asked: &Job<'a>,
+) -> Result<Plan<'a>, Ending>
     requires { HasLives asked.now }
-    ensures planned { MatchResult result (IsPlanOf asked.now) (EndsBefore asked.now) }
+    ensures planned { MatchResult result (IsPlanOf (K.tells time.now) asked.now) (EndsBefore asked.now) }
     ensures proper { IfOk result IsProperPlan }
 {
     match asked {
-        Job::Trial(job) => Ok(Plan::Trial(trial::plan(rt, job)?)),
-        Job::Merchant(job) => Ok(Plan::Do(job.file, merchant::task(rt, job)?)),
-        Job::Grant(job) => Ok(Plan::Do(job.given.file, rights::grant(rt, job)?)),
-        Job::Withdraw(job) => Ok(Plan::Do(job.file, rights::withdraw(rt, job)?)),
-        Job::Rights(job) => Ok(Plan::Do(job.file, rights_file::task(rt, job)?)),
+        Job::Trial(job) => Ok(Plan::Trial(trial::plan(time, job)?)),
+        Job::Merchant(job) => Ok(Plan::Do(job.file, merchant::task(time, job)?)),
+        Job::Grant(job) => Ok(Plan::Do(job.given.file, rights::grant(time, job)?)),
+        Job::Withdraw(job) => Ok(Plan::Do(job.file, rights::withdraw(time, job)?)),
+        Job::Rights(job) => Ok(Plan::Do(job.file, rights_file::task(rt, time, job)?)),
         Job::Pipe(job) => Ok(Plan::Do(job.file, pipe::task(job))),
         Job::Batch(job) => Ok(Plan::Do(job.file, batch::task(job)?)),
         Job::Serve(job) => Ok(Plan::Do(job.file, serve::task(job))),
-        Job::Sweep(job) => Ok(Plan::Do(job.file, sweep::task(rt, job)?)),
+        Job::Sweep(job) => Ok(Plan::Do(job.file, sweep::task(time, job)?)),
         Job::Check(job) => Ok(Plan::Check(job.file)),
         Job::Migrate(job) => Ok(Plan::Migrate(job.file)),
     }

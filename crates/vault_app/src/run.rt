@@ -1,15 +1,16 @@
 //! The program, but for what the process gives it.
-ghost use Rattle.std.specs.Prelude.{◌≡◌, ◌≢◌, ◌↔◌, ◌⊎◌, IfErr, IfOk, map};
+ghost use Rattle.std.specs.Prelude.{◌≡◌, ◌≢◌, ◌↔◌, ◌⊎◌, ◌++◌, IfErr, IfOk, List, Option, map};
 ghost use Rattle.std.specs.IoError.{error_kind};
 ghost use Rattle.sqlite_wal.specs.Files.{image_at};
 ghost use Rattle.vault_wire.specs.Watching.{inner_of, is_stopped};
 ghost use Rattle.vault_wire.specs.declared.watched.Watched.{Watched};
-ghost use Rattle.vault_jobs.specs.Streams.{Streams, streams};
+ghost use Rattle.vault_listen.specs.Peers.{Event, Link, events_of};
+ghost use Rattle.vault_jobs.specs.Streams.{Streams, streams, with_links};
 ghost use Rattle.vault_jobs.specs.Told.{Tells};
 ghost use Rattle.vault_app.specs.Ending.{bad_words_line, stop_line};
 ghost use Rattle.vault_app.specs.Jobs.{Does, DoesPlan, RunsAs};
-ghost use Rattle.vault_app.specs.Plans.{EndsPlanless, IsPlanOf, IsProperPlan, PlanEnds};
-ghost use Rattle.vault_app.specs.Ran.{AsksFor, IsBatch, Ran};
+ghost use Rattle.vault_app.specs.Plans.{EndsPlanless, IsPlanOf, IsProperPlan};
+ghost use Rattle.vault_app.specs.Asked.{AsksFor, IsBatch};
 
 use crate::commands::check::tell_sizes;
 use crate::commands::migrate::tell_moved;
@@ -27,6 +28,8 @@ use vault_file::open::open_vault;
 use vault_jobs::stop::Stop;
 use vault_jobs::task::Task;
 use vault_jobs::told::tell;
+use vault_listen::network::Network;
+use vault_live::time::Timekeeper;
 use vault_recover::options::Cache;
 use vault_store::vault::Fault;
 use vault_wire::watched::Watched;
@@ -37,19 +40,20 @@ use vault_words::jobs::JobFault;
 pub type Left<S> = Option<FileStore<FileFrom<S>>>;
 
 /// What is to be done for the words, or how the program ends without it.
-fn planned<'a, A: AsStr, W: Write>(
+fn planned<'a, K: Timekeeper, A: AsStr, W: Write>(
     rt: &HostRuntime,
+    time: &K,
     words: &'a [A],
     output: &mut Watched<W>,
 ) -> Result<Plan<'a>, Ending>
     ensures planned { IfOk result (λ plan. (output.new ≡ output.old)
-        × AsksFor (map A.text words.now) (λ job. IsPlanOf job plan)) }
+        × AsksFor (map A.text words.now) (λ job. IsPlanOf (K.tells time.now) job plan)) }
     ensures proper { IfOk result IsProperPlan }
     ensures planless { IfErr result
         (λ ending. EndsPlanless (map A.text words.now) ending (output.new ≡ output.old)) }
 {
     match job(rt.alloc(), words) {
-        Ok(asked) => plan_of(rt, &asked),
+        Ok(asked) => plan_of(rt, time, &asked),
         Err(JobFault::Help(text)) => {
             tell(output, &[text.as_str()]);
             Err(Ending::Done)
@@ -70,24 +74,25 @@ fn cache_for(task: &Task) -> Cache {
 }
 
 /// Carries out a plan over the files at its path.
-fn carry_out<S: Start, R: Read, W: Write>(
+fn carry_out<S: Start, K: Timekeeper, N: Network, R: Read, W: Write>(
     rt: &HostRuntime,
     start: S,
+    time: &K,
+    network: &mut N,
     plan: Plan<'_>,
     input: &mut Watched<R>,
     output: &mut Watched<W>,
 ) -> (Ending, Left<S>)
     requires { IsProperPlan plan }
-    ensures ends { let s : Streams =
-        streams R.remaining input.old input.new W.contents output.old output.new in
-        PlanEnds plan.entry result.0 (input.new ≡ input.old) (output.new ≡ output.old) s }
     ensures does { let s : Streams =
         streams R.remaining input.old input.new W.contents output.old output.new in
-        DoesPlan (image_at S.Start) result.1 plan.entry result.0
-        (input.new ≡ input.old) (output.new ≡ output.old) s }
+        (links : List (Option Link))
+        × ((log : List Event) → N.tells network.old log → N.tells network.new (log ++ events_of links))
+        × DoesPlan (K.tells time.now) (image_at S.Start) result.1 plan.entry result.0
+        (input.new ≡ input.old) (output.new ≡ output.old) (with_links s links) }
 {
     match plan {
-        Plan::Trial(trial) => (trial::serve(rt, &trial, input, output), None),
+        Plan::Trial(trial) => (trial::serve(rt, time, &trial, input, output), None),
         Plan::Check(path) => {
             let (checked, left) = check_file(rt, path, start);
             (tell_sizes(checked, output), left)
@@ -98,7 +103,7 @@ fn carry_out<S: Start, R: Read, W: Write>(
         }
         Plan::Do(path, task) => match open_vault(rt, path, start, cache_for(&task)) {
             Ok(vault) => {
-                let (ending, left) = do_on_file(rt, vault, &task, input, output);
+                let (ending, left) = do_on_file(rt, time, network, vault, &task, input, output);
                 (ending, Some(left))
             }
             Err((fault, left)) => (Ending::NotOpened(fault), left),
@@ -107,42 +112,49 @@ fn carry_out<S: Start, R: Read, W: Write>(
 }
 
 /// Does what the words ask for.
-fn ended<S: Start, A: AsStr, R: Read, W: Write>(
+fn ended<S: Start, K: Timekeeper, N: Network, A: AsStr, R: Read, W: Write>(
     rt: &HostRuntime,
     start: S,
+    time: &K,
+    network: &mut N,
     words: &[A],
     input: &mut Watched<R>,
     output: &mut Watched<W>,
 ) -> (Ending, Left<S>)
-    ensures ran { let s : Streams =
-        streams R.remaining input.old input.new W.contents output.old output.new in
-        Ran (map A.text words.now) result.0 (input.new ≡ input.old) (output.new ≡ output.old) s }
     ensures does { let s : Streams =
         streams R.remaining input.old input.new W.contents output.old output.new in
-        Does (image_at S.Start) result.1 (map A.text words.now) result.0
-        (input.new ≡ input.old) (output.new ≡ output.old) s }
+        (links : List (Option Link))
+        × ((log : List Event) → N.tells network.old log → N.tells network.new (log ++ events_of links))
+        × Does (K.tells time.now) (image_at S.Start) result.1 (map A.text words.now) result.0
+        (input.new ≡ input.old) (output.new ≡ output.old) (with_links s links) }
 {
-    match planned(rt, words, output) {
-        Ok(plan) => carry_out(rt, start, plan, input, output),
+    match planned(rt, time, words, output) {
+        Ok(plan) => carry_out(rt, start, time, network, plan, input, output),
         Err(ending) => (ending, None),
     }
 }
 
 /// Reads the words, does their job over the three streams, says how it ended, and answers the exit status and
-/// the files that it leaves. `start` stands for what the files at the job's path hold.
+/// the files that it leaves. `start` stands for what the files at the job's path hold, `time` tells the
+/// moments that the words don't fix, and on `network` a service listens.
 ///
 /// The first word is the program's name. A line on the output or on the errors goes with each status but 0:
 /// `refused n`, `vault: bad words`, `vault: file not opened n` or `n m`, `vault: stopped n`.
-pub fn run<S: Start, A: AsStr, R: Read, W: Write, E: Write>(
+pub fn run<S: Start, K: Timekeeper, N: Network, A: AsStr, R: Read, W: Write, E: Write>(
     rt: &HostRuntime,
     start: S,
+    time: &K,
+    network: &mut N,
     words: &[A],
     input: &mut Watched<R>,
     output: &mut Watched<W>,
     errors: &mut Watched<E>,
 ) -> (u8, Left<S>)
-    ensures does { (told : Watched W) × RunsAs R.remaining W.contents E.contents (image_at S.Start) result.1
-        (map A.text words.now) result.0 input.old input.new output.old told output.new errors.old errors.new }
+    ensures does { (told : Watched W) × (links : List (Option Link))
+        × ((log : List Event) → N.tells network.old log → N.tells network.new (log ++ events_of links))
+        × RunsAs R.remaining W.contents E.contents (K.tells time.now) (image_at S.Start) result.1
+        (map A.text words.now) result.0 links input.old input.new output.old told output.new errors.old
+        errors.new }
     ensures status { (result.0 ≡ 0) ⊎ (result.0 ≡ 1) ⊎ (result.0 ≡ 2) ⊎ (result.0 ≡ 3) ⊎ (result.0 ≡ 4) }
     ensures silent { (result.0 ≡ 0) ⊎ (result.0 ≡ 1) → errors.new ≡ errors.old }
     ensures unread { (result.0 ≡ 2) ⊎ (result.0 ≡ 3) → input.new ≡ input.old }
@@ -150,7 +162,7 @@ pub fn run<S: Start, A: AsStr, R: Read, W: Write, E: Write>(
         → (input.new ≡ input.old) ⊎ AsksFor (map A.text words.now) IsBatch }
     ensures unsent { (result.0 ≡ 2) ⊎ (result.0 ≡ 3) → output.new ≡ output.old }
 {
-    let (ending, left) = ended(rt, start, words, input, output);
+    let (ending, left) = ended(rt, start, time, network, words, input, output);
     (report(&ending, output, errors), left)
 }
 

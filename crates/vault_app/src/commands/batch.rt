@@ -1,7 +1,7 @@
 //! `batch`: rows answered by the vault of a file.
 ghost use Rattle.std.specs.Prelude.{IfOk, MatchResult};
 ghost use Rattle.vault_words.specs.declared.jobs.Job.{Job};
-ghost use Rattle.vault_app.specs.Plans.{EndsBefore, IsTaskOf};
+ghost use Rattle.vault_app.specs.Plans.{EndsBefore, IsTaskOf, untold};
 ghost use Rattle.vault_app.specs.Values.{AreValues};
 
 use crate::asker::asker_of;
@@ -13,7 +13,7 @@ use vault_words::commands::batch::BatchJob;
 /// Rows are answered in a caller's name at a merchant. Refused by 4 where a name is none.
 pub(crate) fn task(job: &BatchJob<'_>) -> Result<Task, Ending>
     ensures task { MatchResult result
-        (IsTaskOf (Job.Batch job.entry.now)) (EndsBefore (Job.Batch job.entry.now)) }
+        (IsTaskOf untold (Job.Batch job.entry.now)) (EndsBefore (Job.Batch job.entry.now)) }
     ensures proper { IfOk result AreValues }
 {
     match asker_of(job.caller, job.merchant) {

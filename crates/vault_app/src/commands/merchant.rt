@@ -11,21 +11,23 @@ use vault_core::name::MerchantId;
 use vault_core::refusal::BAD_NAME;
 use vault_jobs::clock::moment;
 use vault_jobs::task::Task;
+use vault_live::time::Timekeeper;
 use vault_words::commands::merchant::MerchantJob;
 
 /// A merchant is set. Refused by 4 where the name is none, and when it is done by 18 where there are as many
 /// merchants as there may be.
-pub(crate) fn task(rt: &HostRuntime, job: &MerchantJob<'_>) -> Result<Task, Ending>
+pub(crate) fn task<K: Timekeeper>(time: &K, job: &MerchantJob<'_>) -> Result<Task, Ending>
     requires single { IsLife job.now.single_life }
     requires multi { IsLife job.now.multi_life }
     ensures task { MatchResult result
-        (IsTaskOf (Job.Merchant job.entry.now)) (EndsBefore (Job.Merchant job.entry.now)) }
+        (IsTaskOf (K.tells time.now) (Job.Merchant job.entry.now))
+        (EndsBefore (Job.Merchant job.entry.now)) }
     ensures proper { IfOk result AreValues }
 {
     let Ok(merchant) = MerchantId::read(job.name.as_bytes()) else {
         return Err(Ending::Refused(BAD_NAME));
     };
-    let now = match moment(rt, job.now) {
+    let now = match moment(time, job.now) {
         Ok(now) => now,
         Err(stop) => return Err(Ending::Stopped(stop)),
     };

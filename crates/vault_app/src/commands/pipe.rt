@@ -1,6 +1,6 @@
 //! `pipe`: messages answered by the vault of a file.
 ghost use Rattle.vault_words.specs.declared.jobs.Job.{Job};
-ghost use Rattle.vault_app.specs.Plans.{IsTaskOf};
+ghost use Rattle.vault_app.specs.Plans.{IsTaskOf, untold};
 ghost use Rattle.vault_app.specs.Values.{AreValues};
 
 use crate::typed::{fixed_digits, fixed_moment};
@@ -9,7 +9,7 @@ use vault_words::commands::pipe::PipeJob;
 
 /// Messages are answered, with the moment and the digits that the words fix.
 pub(crate) fn task(job: &PipeJob<'_>) -> Task
-    ensures task { IsTaskOf (Job.Pipe job.entry.now) result }
+    ensures task { IsTaskOf untold (Job.Pipe job.entry.now) result }
     ensures proper { AreValues result }
 {
     Task::Pipe(fixed_moment(job.now), fixed_digits(job.digits))

@@ -3,7 +3,7 @@ ghost use Rattle.std.specs.Prelude.{◌≡◌, IfOk, MatchResult};
 ghost use Rattle.vault_core.specs.Words.{right_word};
 ghost use Rattle.vault_words.specs.declared.jobs.Job.{Job};
 ghost use Rattle.vault_app.specs.Plans.{EndsBefore, IsTaskOf};
-ghost use Rattle.vault_app.specs.Ran.{AreNames, IsMisnamed};
+ghost use Rattle.vault_app.specs.Asked.{AreNames, IsMisnamed};
 ghost use Rattle.vault_app.specs.Values.{AreValues};
 
 use crate::ending::Ending;
@@ -14,6 +14,7 @@ use vault_core::refusal::BAD_NAME;
 use vault_core::right::Right;
 use vault_jobs::clock::moment;
 use vault_jobs::task::Task;
+use vault_live::time::Timekeeper;
 use vault_rights::fault::UNKNOWN_RIGHT;
 use vault_words::commands::rights::{GrantJob, RightJob};
 
@@ -50,16 +51,17 @@ fn read(job: &RightJob<'_>) -> Result<Entitlement, u8>
 
 /// A caller gets a right at a merchant, up to an end or for good. Refused by 4 where a name is none, by 71
 /// where the right is none, and when it is done by 7 where the merchant isn't known.
-pub(crate) fn grant(rt: &HostRuntime, job: &GrantJob<'_>) -> Result<Task, Ending>
+pub(crate) fn grant<K: Timekeeper>(time: &K, job: &GrantJob<'_>) -> Result<Task, Ending>
     ensures task { MatchResult result
-        (IsTaskOf (Job.Grant job.entry.now)) (EndsBefore (Job.Grant job.entry.now)) }
+        (IsTaskOf (K.tells time.now) (Job.Grant job.entry.now))
+        (EndsBefore (Job.Grant job.entry.now)) }
     ensures proper { IfOk result AreValues }
 {
     let asked = match read(&job.given) {
         Ok(asked) => asked,
         Err(number) => return Err(Ending::Refused(number)),
     };
-    let now = match moment(rt, job.given.now) {
+    let now = match moment(time, job.given.now) {
         Ok(now) => now,
         Err(stop) => return Err(Ending::Stopped(stop)),
     };
@@ -73,16 +75,17 @@ pub(crate) fn grant(rt: &HostRuntime, job: &GrantJob<'_>) -> Result<Task, Ending
 }
 
 /// A right of a caller at a merchant is taken away. Refused as a grant is.
-pub(crate) fn withdraw(rt: &HostRuntime, job: &RightJob<'_>) -> Result<Task, Ending>
+pub(crate) fn withdraw<K: Timekeeper>(time: &K, job: &RightJob<'_>) -> Result<Task, Ending>
     ensures task { MatchResult result
-        (IsTaskOf (Job.Withdraw job.entry.now)) (EndsBefore (Job.Withdraw job.entry.now)) }
+        (IsTaskOf (K.tells time.now) (Job.Withdraw job.entry.now))
+        (EndsBefore (Job.Withdraw job.entry.now)) }
     ensures proper { IfOk result AreValues }
 {
     let asked = match read(job) {
         Ok(asked) => asked,
         Err(number) => return Err(Ending::Refused(number)),
     };
-    let now = match moment(rt, job.now) {
+    let now = match moment(time, job.now) {
         Ok(now) => now,
         Err(stop) => return Err(Ending::Stopped(stop)),
     };

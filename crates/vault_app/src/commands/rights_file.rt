@@ -14,6 +14,7 @@ use vault_core::right::Right;
 use vault_jobs::clock::moment;
 use vault_jobs::stop::{Stop, Unread};
 use vault_jobs::task::Task;
+use vault_live::time::Timekeeper;
 use vault_rights::fault::RightsFault;
 use vault_rights::read::read_rights;
 use vault_words::commands::rights_file::RightsFileJob;
@@ -51,13 +52,18 @@ fn read(
 
 /// The rights that a file lists are given, each with its end, up to the first that is refused: by 7 where its
 /// merchant isn't known. The vault's file isn't touched where the list isn't read.
-pub(crate) fn task(rt: &HostRuntime, job: &RightsFileJob<'_>) -> Result<Task, Ending>
+pub(crate) fn task<K: Timekeeper>(
+    rt: &HostRuntime,
+    time: &K,
+    job: &RightsFileJob<'_>,
+) -> Result<Task, Ending>
     ensures task { MatchResult result
-        (IsTaskOf (Job.Rights job.entry.now)) (EndsBefore (Job.Rights job.entry.now)) }
+        (IsTaskOf (K.tells time.now) (Job.Rights job.entry.now))
+        (EndsBefore (Job.Rights job.entry.now)) }
     ensures proper { IfOk result AreValues }
 {
     let rows = read(rt, job.rights)?;
-    match moment(rt, job.now) {
+    match moment(time, job.now) {
         Ok(now) => Ok(Task::Give(rows, now)),
         Err(stop) => Err(Ending::Stopped(stop)),
     }

@@ -1,6 +1,6 @@
 //! `serve`: the vault of a file served on a port.
 ghost use Rattle.vault_words.specs.declared.jobs.Job.{Job};
-ghost use Rattle.vault_app.specs.Plans.{IsTaskOf};
+ghost use Rattle.vault_app.specs.Plans.{IsTaskOf, untold};
 ghost use Rattle.vault_app.specs.Values.{AreValues};
 
 use vault_jobs::task::Task;
@@ -11,7 +11,7 @@ const WITHOUT_END: u64 = u64::MAX;
 
 /// So many connections are served on a port, or connections without an end.
 pub(crate) fn task(job: &ServeJob<'_>) -> Task
-    ensures task { IsTaskOf (Job.Serve job.entry.now) result }
+    ensures task { IsTaskOf untold (Job.Serve job.entry.now) result }
     ensures proper { AreValues result }
 {
     Task::Serve(job.port, job.connections.unwrap_or(WITHOUT_END))

@@ -8,20 +8,22 @@ use crate::asker::asker_of;
 use crate::ending::Ending;
 use vault_jobs::clock::moment;
 use vault_jobs::task::Task;
+use vault_live::time::Timekeeper;
 use vault_words::commands::sweep::SweepJob;
 
 /// The card numbers of a merchant's dead tokens are purged. Refused by 4 where a name is none, and when it is
 /// done by 8 where a token is dead and the caller may not purge.
-pub(crate) fn task(rt: &HostRuntime, job: &SweepJob<'_>) -> Result<Task, Ending>
+pub(crate) fn task<K: Timekeeper>(time: &K, job: &SweepJob<'_>) -> Result<Task, Ending>
     ensures task { MatchResult result
-        (IsTaskOf (Job.Sweep job.entry.now)) (EndsBefore (Job.Sweep job.entry.now)) }
+        (IsTaskOf (K.tells time.now) (Job.Sweep job.entry.now))
+        (EndsBefore (Job.Sweep job.entry.now)) }
     ensures proper { IfOk result AreValues }
 {
     let asker = match asker_of(job.caller, job.merchant) {
         Ok(asker) => asker,
         Err(number) => return Err(Ending::Refused(number)),
     };
-    match moment(rt, job.now) {
+    match moment(time, job.now) {
         Ok(now) => Ok(Task::Sweep(asker, now)),
         Err(stop) => Err(Ending::Stopped(stop)),
     }

@@ -13,13 +13,15 @@ use vault_core::refusal::BAD_NAME;
 use vault_jobs::clock::moment;
 use vault_jobs::stop::Stop;
 use vault_jobs::trial::{Trial, serve_trial};
+use vault_live::time::Timekeeper;
 use vault_wire::watched::Watched;
 use vault_words::commands::trial::TrialJob;
 
 /// What the trial is asked with. Refused by 4 where a name is none.
-pub(crate) fn plan(rt: &HostRuntime, job: &TrialJob<'_>) -> Result<Trial, Ending>
+pub(crate) fn plan<K: Timekeeper>(time: &K, job: &TrialJob<'_>) -> Result<Trial, Ending>
     requires { IsLife job.now.life }
-    ensures trial { MatchResult result (IsTrialOf job.entry.now) (EndsBefore (Job.Trial job.entry.now)) }
+    ensures trial { MatchResult result (IsTrialOf (K.tells time.now) job.entry.now)
+        (EndsBefore (Job.Trial job.entry.now)) }
     ensures life { IfOk result (λ trial. IsLife trial.life) }
 {
     let Ok(caller) = Caller::read(job.caller.as_bytes()) else {
@@ -28,7 +30,7 @@ pub(crate) fn plan(rt: &HostRuntime, job: &TrialJob<'_>) -> Result<Trial, Ending
     let Ok(merchant) = MerchantId::read(job.merchant.as_bytes()) else {
         return Err(Ending::Refused(BAD_NAME));
     };
-    let made = match moment(rt, job.now) {
+    let made = match moment(time, job.now) {
         Ok(made) => made,
         Err(stop) => return Err(Ending::Stopped(stop)),
     };
@@ -43,17 +45,18 @@ pub(crate) fn plan(rt: &HostRuntime, job: &TrialJob<'_>) -> Result<Trial, Ending
 }
 
 /// Answers the messages of the input by a vault in memory.
-pub(crate) fn serve<R: Read, W: Write>(
+pub(crate) fn serve<K: Timekeeper, R: Read, W: Write>(
     rt: &HostRuntime,
+    time: &K,
     trial: &Trial,
     input: &mut Watched<R>,
     output: &mut Watched<W>,
 ) -> Ending
     requires { IsLife trial.now.life }
     ensures { let s : Streams = streams R.remaining input.old input.new W.contents output.old output.new in
-        TrialEnds trial.now result s }
+        TrialEnds (K.tells time.now) trial.now result s }
 {
-    match serve_trial(rt, trial, input, output) {
+    match serve_trial(rt, time, trial, input, output) {
         Ok(()) => Ending::Done,
         Err(fault) => Ending::Stopped(Stop::Service(fault)),
     }

@@ -1,22 +1,39 @@
-use Rattle.vault_jobs.specs.Streams.{Streams, streams}
-use Rattle.vault_app.proofs.Refusing.{unread_of}
+use Rattle.std.proofs.Common.{◌≡◌, ◌⊎◌, ℕ, inl, inr, sym, ◌∙◌}
+use Rattle.vault_app.specs.Ending.{status_of}
+use Rattle.vault_app.specs.declared.ending.Ending.{Ending}
+use Rattle.vault_app.proofs.Unread.{calm_at, refused_at, said_at}
 use Rattle.vault_app.proofs.run.run.Goals as goal
-
-pub returns-clause-unread_refused : goal.returns-clause-unread_refused
-returns-clause-unread_refused g c = λ one.
-    let s : Streams = streams g.R.Read.remaining c.args.input.now c.ended-ending.new.input
-    g.W.Write.contents c.args.output.now c.ended-ending.new.output in
-    unread_of _ c.ended-ending.result.0 _ _ s c.report.result c.ended-ending.ensures.ran
-    c.report.ensures.status one
 
 pub returns-clause-does : goal.returns-clause-does
 returns-clause-does g c = (
   c.ended-ending.new.output,
+  c.ended-ending.ensures.does.0,
+  c.ended-ending.ensures.does.1,
   record {
     ending = c.ended-ending.result.0;
     exits = c.report.ensures.status;
-    ran = c.ended-ending.ensures.ran;
     says = c.report.ensures.said;
-    does = c.ended-ending.ensures.does;
+    does = c.ended-ending.ensures.does.2;
   },
 )
+
+-- the status of the run is that of its ending
+status_at : (ending : Ending) (status : ℕ) → status ≡ status_of ending → (status ≡ 2) ⊎ (status ≡ 3)
+    → (status_of ending ≡ 2) ⊎ (status_of ending ≡ 3)
+status_at ending status is (inl two) = inl (sym is ∙ two)
+status_at ending status is (inr three) = inr (sym is ∙ three)
+
+pub returns-clause-unread : goal.returns-clause-unread
+returns-clause-unread g c = λ at.
+    let end = status_at c.ended-ending.result.0 _ c.report.ensures.status at in
+    (calm_at _ _ _ _ _ _ _ c.ended-ending.result.0 end c.ended-ending.ensures.does.2).0
+
+pub returns-clause-unsent : goal.returns-clause-unsent
+returns-clause-unsent g c = λ at.
+    let end = status_at c.ended-ending.result.0 _ c.report.ensures.status at in
+    said_at c.ended-ending.result.0 _ _ _ _ end c.report.ensures.said
+    ∙ (calm_at _ _ _ _ _ _ _ c.ended-ending.result.0 end c.ended-ending.ensures.does.2).1
+
+pub returns-clause-unread_refused : goal.returns-clause-unread_refused
+returns-clause-unread_refused g c = λ one. refused_at _ _ _ _ _ _ _ c.ended-ending.result.0
+    (sym c.report.ensures.status ∙ one) c.ended-ending.ensures.does.2

@@ -4,9 +4,9 @@ use Rattle.vault_app.proofs.Values.{listed_proper}
 use Rattle.vault_app.proofs.commands.rights_file.task.Goals as goal
 
 pub returns-in-Err-clause-task : goal.returns-in-Err-clause-task
-returns-in-Err-clause-task c = inl (c.in-Err.ensures.fault, c.in-Err.ensures.needed)
+returns-in-Err-clause-task g c = inl (c.in-Err.ensures.fault, c.in-Err.ensures.needed)
 
 pub returns-in-Ok-clause-proper : goal.returns-in-Ok-clause-proper
-returns-in-Ok-clause-proper c =
+returns-in-Ok-clause-proper g c =
     let moment : IsMoment c.in-Ok.now = search (rules, c.moment.type_inv, c.in-Ok.is) in
     listed_proper c.in-Ok.now moment c.in_ok-rows.rows.items c.in_ok-rows.ensures.listed

@@ -1,0 +1,248 @@
+-- What a run that ends with words that are bad, a file that isn't opened or a refusal read and wrote.
+use Rattle.std.proofs.Common.{◌≡◌, ◌⊎◌, inl, inr, ℕ, ℤ, List, Bool, Option, Some, None, Result, Ok, Err, refl}
+use Rattle.std.proofs.Common.{arith, subst, ◌∙◌, sym}
+use Rattle.clap.specs.Words.{Text}
+use Rattle.sqlite_disk.specs.declared.Disk.{Ghosts}
+use Rattle.sqlite_store.specs.declared.store.FileStore.{FileStore}
+use Rattle.sqlite_wal.specs.Recovery.{Image}
+use Rattle.vault_file.specs.declared.fault.NotOpened.{NotOpened as FileFault}
+use Rattle.vault_http.specs.Passing.{Passage}
+use Rattle.vault_live.specs.Live.{Turns}
+use Rattle.vault_verdict.specs.declared.sizes.Sizes.{Sizes}
+use Rattle.vault_words.specs.declared.jobs.Job.{Job}
+use Rattle.vault_words.specs.declared.jobs.Job.TheVariants.{Trial, Merchant, Grant, Withdraw, Rights, Pipe}
+use Rattle.vault_words.specs.declared.jobs.Job.TheVariants.{Batch, Serve, Sweep, Check, Migrate}
+use Rattle.vault_jobs.specs.Doing.{Works}
+use Rattle.vault_jobs.specs.Doing.{Does as Performs}
+use Rattle.vault_jobs.specs.Streams.{Streams}
+use Rattle.vault_jobs.specs.declared.task.Outcome.TheVariants as outcome
+use Rattle.vault_jobs.specs.declared.task.Task.{Task}
+use Rattle.vault_jobs.specs.declared.task.Task.TheVariants as task
+use Rattle.vault_app.specs.Asked.{AsksFor, IsBatch, Unasked}
+use Rattle.vault_app.specs.Ending.{Says, status_of}
+use Rattle.vault_app.specs.Files.{EndsOnFile}
+use Rattle.vault_app.specs.Jobs.{Does, DoesJob, DoesPlan}
+use Rattle.vault_app.specs.Plans.{IsPlanOf, IsTaskOf, TellsMoved, TellsSizes}
+use Rattle.vault_app.specs.declared.ending.Ending.{Ending}
+use Rattle.vault_app.specs.declared.ending.Ending.TheVariants.{Done, Version, Refused, SomeRefused}
+use Rattle.vault_app.specs.declared.ending.Ending.TheVariants.{BadWords, NotOpened, Stopped}
+use Rattle.vault_app.specs.declared.plan.Plan.{Plan}
+use Rattle.vault_app.specs.declared.plan.Plan.TheVariants as plan
+
+-- without a job nothing is read
+pub unasked : (words : List Text) (ending : Ending) (unread unsent : Type 0) → unread
+    → Unasked words ending (Unit {0}) unsent → Unasked words ending unread unsent
+unasked words ending unread unsent calm (inl (how, _)) = inl (how, calm)
+unasked words ending unread unsent calm (inr (inl (none, is, _, silent))) = inr (inl (none, is, calm, silent))
+unasked words ending unread unsent calm (inr (inr (is, _, silent))) = inr (inr (is, calm, silent))
+
+-- at these statuses nothing more goes out
+pub said_at : (ending : Ending) (same_output same_errors : Type 0) (output errors : List ℕ → Type 0)
+    → (status_of ending ≡ 2) ⊎ (status_of ending ≡ 3)
+    → Says ending same_output same_errors output errors → same_output
+said_at BadWords A B o e at said = said.0
+said_at (NotOpened f) A B o e at said = said.0
+said_at Done A B o e at said = said.0
+said_at SomeRefused A B o e at said = said.0
+said_at (Stopped why) A B o e at said = said.0
+said_at Version A B o e (inl at) said = absurd (omega (arith, at))
+said_at Version A B o e (inr at) said = absurd (omega (arith, at))
+said_at (Refused n) A B o e (inl at) said = absurd (omega (arith, at))
+said_at (Refused n) A B o e (inr at) said = absurd (omega (arith, at))
+
+-- the task answers rows
+abbrev IsOfRows : Task → Type 0
+IsOfRows (task.Change c) = ⊥
+IsOfRows (task.Give rows now) = ⊥
+IsOfRows (task.Sweep who now) = ⊥
+IsOfRows (task.Batch who now digits) = Unit {0}
+IsOfRows (task.Pipe now digits) = ⊥
+IsOfRows (task.Serve port connections) = ⊥
+
+-- the words ask for such a task only by a batch
+batch_of : (tells : Turns) (job : Job) (t : Task) → IsTaskOf tells job t → IsOfRows t → IsBatch job
+batch_of tells (Trial j) t is rows = absurd is
+batch_of tells (Merchant j) t (name, (now, moment, same)) rows = absurd (subst IsOfRows same rows)
+batch_of tells (Grant j) t (names, (right, now, word, moment, same)) rows = absurd (subst IsOfRows same rows)
+batch_of tells (Withdraw j) t (names, (right, now, word, moment, same)) rows =
+    absurd (subst IsOfRows same rows)
+batch_of tells (Rights j) (task.Give given now) is rows = absurd rows
+batch_of tells (Rights j) (task.Change c) is rows = absurd is
+batch_of tells (Rights j) (task.Sweep who now) is rows = absurd is
+batch_of tells (Rights j) (task.Batch who now digits) is rows = absurd is
+batch_of tells (Rights j) (task.Pipe now digits) is rows = absurd is
+batch_of tells (Rights j) (task.Serve port connections) is rows = absurd is
+batch_of tells (Pipe j) t same rows = absurd (subst IsOfRows same rows)
+batch_of tells (Batch j) t is rows = (j, refl)
+batch_of tells (Serve j) t same rows = absurd (subst IsOfRows same rows)
+batch_of tells (Sweep j) t (names, (who, now, caller, merchant, moment, same)) rows =
+    absurd (subst IsOfRows same rows)
+batch_of tells (Check j) t is rows = absurd is
+batch_of tells (Migrate j) t is rows = absurd is
+
+module _ (tells : Turns) (unread unsent : Type 0) (s : Streams) where
+  rows_of : (t : Task) (w : Passage) (broken : Bool)
+      → Works tells t w broken (Ok outcome.SomeRefused) unread unsent s → IsOfRows t
+  rows_of (task.Change c) w broken h = h
+  rows_of (task.Give rows now) w broken h = h
+  rows_of (task.Sweep who now) w broken h = h
+  rows_of (task.Batch who now digits) w broken h = tt
+  rows_of (task.Pipe now digits) w broken h = h
+  rows_of (task.Serve port connections) w broken h = h
+
+  unread_by : (t : Task) (w : Passage) (broken : Bool) (n : ℕ)
+      → Performs tells t w broken (Ok (outcome.Refused n)) unread unsent s → unread
+  unread_by (task.Change c) w broken n d = d.begun
+  unread_by (task.Give rows now) w broken n d = d.begun
+  unread_by (task.Sweep who now) w broken n d = d.begun
+  unread_by (task.Batch who now digits) w broken n d = absurd d.works
+  unread_by (task.Pipe now digits) w broken n d = absurd d.works
+  unread_by (task.Serve port connections) w broken n d = d.begun
+
+module _ {D : Type 0} {g : Ghosts D} (tells : Turns) (image : Image) (left : Option (FileStore D g))
+    (unread unsent : Type 0) (s : Streams) where
+  -- a plan doesn't end with bad words
+  sizes_bad : (told : Result Sizes FileFault) → ¬ (TellsSizes told BadWords unsent s.sent_old s.sent_new
+      s.writer)
+  sizes_bad (Ok sizes) h = h
+  sizes_bad (Err why) h = let is = h.0 in absurd (cc (is))
+
+  moved_bad : (told : Result ℤ FileFault) → ¬ (TellsMoved told BadWords unsent s.sent_old s.sent_new s.writer)
+  moved_bad (Ok version) h = h
+  moved_bad (Err why) h = let is = h.0 in absurd (cc (is))
+
+  file_bad : (left : Option (FileStore D g)) (t : Task)
+      → ¬ (EndsOnFile tells image left t BadWords unread unsent s)
+  file_bad (Some it) t h = h
+  file_bad None t h = let is = h.0 in absurd (cc (is))
+
+  plan_bad : (p : Plan) → ¬ (DoesPlan tells image left p BadWords unread unsent s)
+  plan_bad (plan.Trial t) h = h.1
+  plan_bad (plan.Check path) h = sizes_bad h.1.0 h.1.2
+  plan_bad (plan.Migrate path) h = moved_bad h.1.0 h.1.2
+  plan_bad (plan.Do path t) h = file_bad left t h
+
+  -- where its file isn't opened it reads and writes nothing
+  sizes_closed : (told : Result Sizes FileFault) (f : FileFault)
+      → TellsSizes told (NotOpened f) unsent s.sent_old s.sent_new s.writer → unsent
+  sizes_closed (Ok sizes) f h = absurd h
+  sizes_closed (Err why) f h = h.1
+
+  moved_closed : (told : Result ℤ FileFault) (f : FileFault)
+      → TellsMoved told (NotOpened f) unsent s.sent_old s.sent_new s.writer → unsent
+  moved_closed (Ok version) f h = absurd h
+  moved_closed (Err why) f h = h.1
+
+  file_closed : (left : Option (FileStore D g)) (t : Task) (f : FileFault)
+      → EndsOnFile tells image left t (NotOpened f) unread unsent s → unread × unsent
+  file_closed (Some it) t f h = (h.1, h.2)
+  file_closed None t f h = (h.1, h.2)
+
+  plan_closed : (p : Plan) (f : FileFault) → DoesPlan tells image left p (NotOpened f) unread unsent s
+      → unread × unsent
+  plan_closed (plan.Trial t) f h = absurd h.1
+  plan_closed (plan.Check path) f h = (h.0, sizes_closed h.1.0 f h.1.2)
+  plan_closed (plan.Migrate path) f h = (h.0, moved_closed h.1.0 f h.1.2)
+  plan_closed (plan.Do path t) f h = file_closed left t f h
+
+  -- where the vault refuses it reads nothing
+  file_refused : (left : Option (FileStore D g)) (t : Task) (n : ℕ)
+      → EndsOnFile tells image left t (Refused n) unread unsent s → unread
+  file_refused (Some it) t n h = unread_by tells unread unsent s t _ h.broken n h.done
+  file_refused None t n h = h.1
+
+  plan_refused : (p : Plan) (n : ℕ) → DoesPlan tells image left p (Refused n) unread unsent s → unread
+  plan_refused (plan.Trial t) n h = absurd h.1
+  plan_refused (plan.Check path) n h = h.0
+  plan_refused (plan.Migrate path) n h = h.0
+  plan_refused (plan.Do path t) n h = file_refused left t n h
+
+  -- only a batch is refused in part
+  sizes_part : (told : Result Sizes FileFault) → ¬ (TellsSizes told SomeRefused unsent s.sent_old s.sent_new
+      s.writer)
+  sizes_part (Ok sizes) h = h
+  sizes_part (Err why) h = let is = h.0 in absurd (cc (is))
+
+  moved_part : (told : Result ℤ FileFault) → ¬ (TellsMoved told SomeRefused unsent s.sent_old s.sent_new
+      s.writer)
+  moved_part (Ok version) h = h
+  moved_part (Err why) h = let is = h.0 in absurd (cc (is))
+
+  file_part : (left : Option (FileStore D g)) (t : Task)
+      → EndsOnFile tells image left t SomeRefused unread unsent s → IsOfRows t
+  file_part (Some it) t h = rows_of tells unread unsent s t _ h.broken h.done.works
+  file_part None t h = let is = h.0 in absurd (cc (is))
+
+  -- a plan that may be refused in part is a task of rows
+  abbrev IsPart : Plan → Type 0
+  IsPart (plan.Trial t) = ⊥
+  IsPart (plan.Check path) = ⊥
+  IsPart (plan.Migrate path) = ⊥
+  IsPart (plan.Do path t) = IsOfRows t
+
+  plan_part : (p : Plan) → DoesPlan tells image left p SomeRefused unread unsent s → IsPart p
+  plan_part (plan.Trial t) h = absurd h.1
+  plan_part (plan.Check path) h = absurd (sizes_part h.1.0 h.1.2)
+  plan_part (plan.Migrate path) h = absurd (moved_part h.1.0 h.1.2)
+  plan_part (plan.Do path t) h = file_part left t h
+
+  batch_in : (job : Job) (p : Plan) → IsPlanOf tells job p → IsPart p → IsBatch job
+  batch_in (Trial j) p (t, is, same) h = absurd (subst IsPart same h)
+  batch_in (Merchant j) p (t, is, same) h = batch_of tells (Merchant j) t is (subst IsPart same h)
+  batch_in (Grant j) p (t, is, same) h = batch_of tells (Grant j) t is (subst IsPart same h)
+  batch_in (Withdraw j) p (t, is, same) h = batch_of tells (Withdraw j) t is (subst IsPart same h)
+  batch_in (Rights j) p (t, is, same) h = batch_of tells (Rights j) t is (subst IsPart same h)
+  batch_in (Pipe j) p (t, is, same) h = batch_of tells (Pipe j) t is (subst IsPart same h)
+  batch_in (Batch j) p is h = (j, refl)
+  batch_in (Serve j) p (t, is, same) h = batch_of tells (Serve j) t is (subst IsPart same h)
+  batch_in (Sweep j) p (t, is, same) h = batch_of tells (Sweep j) t is (subst IsPart same h)
+  batch_in (Check j) p same h = absurd (subst IsPart same h)
+  batch_in (Migrate j) p same h = absurd (subst IsPart same h)
+
+  -- with a status of 2 or 3 nothing was read, and nothing written by a job
+  pub calm_at : (words : List Text) (ending : Ending) → (status_of ending ≡ 2) ⊎ (status_of ending ≡ 3)
+      → Does tells image left words ending unread unsent s → unread × unsent
+  calm_at words BadWords at (inl (job, asked, inl (p, is, proper, h))) = absurd (plan_bad p h)
+  calm_at words BadWords at (inl (job, asked, inr (never, none, calm, silent))) = absurd never
+  calm_at words BadWords at (inr (none, inl (inl (help, is), calm))) = absurd (cc (is))
+  calm_at words BadWords at (inr (none, inl (inr (version, is, silent), calm))) = absurd (cc (is))
+  calm_at words BadWords at (inr (none, inr (inl (unknown, is, calm, silent)))) = (calm, silent)
+  calm_at words BadWords at (inr (none, inr (inr (is, calm, silent)))) = absurd (cc (is))
+  calm_at words (NotOpened f) at (inl (job, asked, inl (p, is, proper, h))) = plan_closed p f h
+  calm_at words (NotOpened f) at (inl (job, asked, inr (never, none, calm, silent))) = absurd never
+  calm_at words (NotOpened f) at (inr (none, inl (inl (help, is), calm))) = absurd (cc (is))
+  calm_at words (NotOpened f) at (inr (none, inl (inr (version, is, silent), calm))) = absurd (cc (is))
+  calm_at words (NotOpened f) at (inr (none, inr (inl (unknown, is, calm, silent)))) = absurd (cc (is))
+  calm_at words (NotOpened f) at (inr (none, inr (inr (is, calm, silent)))) = absurd (cc (is))
+  calm_at words Done (inl at) h = absurd (omega (arith, at))
+  calm_at words Done (inr at) h = absurd (omega (arith, at))
+  calm_at words Version (inl at) h = absurd (omega (arith, at))
+  calm_at words Version (inr at) h = absurd (omega (arith, at))
+  calm_at words (Refused n) (inl at) h = absurd (omega (arith, at))
+  calm_at words (Refused n) (inr at) h = absurd (omega (arith, at))
+  calm_at words SomeRefused (inl at) h = absurd (omega (arith, at))
+  calm_at words SomeRefused (inr at) h = absurd (omega (arith, at))
+  calm_at words (Stopped why) (inl at) h = absurd (omega (arith, at))
+  calm_at words (Stopped why) (inr at) h = absurd (omega (arith, at))
+
+  -- with 1 nothing was read, or the words ask for a batch
+  pub refused_at : (words : List Text) (ending : Ending) → status_of ending ≡ 1
+      → Does tells image left words ending unread unsent s → unread ⊎ AsksFor words IsBatch
+  refused_at words (Refused n) at (inl (job, asked, inl (p, is, proper, h))) = inl (plan_refused p n h)
+  refused_at words (Refused n) at (inl (job, asked, inr (before, none, calm, silent))) = inl calm
+  refused_at words (Refused n) at (inr (none, inl (inl (help, is), calm))) = inl calm
+  refused_at words (Refused n) at (inr (none, inl (inr (version, is, silent), calm))) = inl calm
+  refused_at words (Refused n) at (inr (none, inr (inl (unknown, is, calm, silent)))) = inl calm
+  refused_at words (Refused n) at (inr (none, inr (inr (is, calm, silent)))) = inl calm
+  refused_at words SomeRefused at (inl (job, asked, inl (p, is, proper, h))) =
+      inr (job, asked, batch_in job p is (plan_part p h))
+  refused_at words SomeRefused at (inl (job, asked, inr (never, none, calm, silent))) = absurd never
+  refused_at words SomeRefused at (inr (none, inl (inl (help, is), calm))) = inl calm
+  refused_at words SomeRefused at (inr (none, inl (inr (version, is, silent), calm))) = inl calm
+  refused_at words SomeRefused at (inr (none, inr (inl (unknown, is, calm, silent)))) = inl calm
+  refused_at words SomeRefused at (inr (none, inr (inr (is, calm, silent)))) = inl calm
+  refused_at words Done at h = absurd (omega (arith, at))
+  refused_at words Version at h = absurd (omega (arith, at))
+  refused_at words BadWords at h = absurd (omega (arith, at))
+  refused_at words (NotOpened f) at h = absurd (omega (arith, at))
+  refused_at words (Stopped why) at h = absurd (omega (arith, at))

@@ -1,0 +1,80 @@
+-- What words ask for, and the lines of those that ask for no vault.
+use Rattle.std.specs.Prelude.{◌≡◌, ◌⊎◌, ℕ, ◌++◌, List, codes, decimal}
+use Rattle.clap.specs.Words.{IsAmong, Text, fault_of}
+use Rattle.clap.specs.declared.error.kind.ErrorKind.TheVariants.{DisplayHelp, DisplayVersion}
+use Rattle.vault_core.specs.Name.{IsName}
+use Rattle.vault_core.specs.Scalar.{IsLife}
+use Rattle.vault_core.specs.Words.{right_word}
+use Rattle.vault_core.specs.declared.right.Right.{Right}
+use Rattle.vault_store.specs.declared.vault.Fault.TheVariants as vault
+use Rattle.vault_verdict.specs.declared.sizes.Sizes.{Sizes}
+use Rattle.vault_words.specs.Commands.{program_app}
+use Rattle.vault_words.specs.Jobs.{IsAsked}
+use Rattle.vault_words.specs.declared.commands.batch.BatchJob.{BatchJob}
+use Rattle.vault_words.specs.declared.commands.rights.RightJob.{RightJob}
+use Rattle.vault_words.specs.declared.jobs.Job.{Job}
+use Rattle.vault_words.specs.declared.jobs.Job.TheVariants.{Trial, Merchant, Grant, Withdraw, Rights, Pipe}
+use Rattle.vault_words.specs.declared.jobs.Job.TheVariants.{Batch, Serve, Sweep, Check, Migrate}
+use Rattle.vault_jobs.specs.declared.stop.Stop.TheVariants.{Vault}
+use Rattle.vault_app.specs.declared.ending.Ending.{Ending}
+use Rattle.vault_app.specs.declared.ending.Ending.TheVariants.{Done, Version}
+use Rattle.vault_app.specs.declared.ending.Ending.TheVariants.{BadWords, Stopped}
+
+-- the lives of a job are lives
+abbrev pub HasLives : Job → Type 0
+HasLives (Trial j) = IsLife j.life
+HasLives (Merchant j) = IsLife j.single_life × IsLife j.multi_life
+HasLives (Grant j) = Unit {0}
+HasLives (Withdraw j) = Unit {0}
+HasLives (Rights j) = Unit {0}
+HasLives (Pipe j) = Unit {0}
+HasLives (Batch j) = Unit {0}
+HasLives (Serve j) = Unit {0}
+HasLives (Sweep j) = Unit {0}
+HasLives (Check j) = Unit {0}
+HasLives (Migrate j) = Unit {0}
+
+-- the line of a file that is sound
+abbrev pub sound_line : Sizes → List ℕ
+sound_line sizes = codes "sound " ++ decimal sizes.merchants ++ codes " " ++ decimal sizes.entries
+    ++ codes " " ++ decimal sizes.records ++ codes "\n"
+
+-- the line of a file that is in the newest schema: the version of that is 4
+abbrev pub schema_line : List ℕ
+schema_line = codes "schema 4\n"
+
+-- both names of a right are names
+abbrev pub AreNames : RightJob → Type 0
+AreNames j = IsName j.caller.now × IsName j.merchant.now
+
+-- and its word is a right's
+abbrev pub IsRight : RightJob → Type 0
+IsRight j = (right : Right) × (j.right.now ≡ right_word right)
+
+-- a name that is none is refused by 4, and then a word that is no right by 71
+abbrev pub IsMisnamed : RightJob → ℕ → Type 0
+IsMisnamed j n = (n ≡ 4) × ¬ (AreNames j) ⊎ (n ≡ 71) × (AreNames j × ¬ (IsRight j))
+
+-- it is a batch
+abbrev pub IsBatch : Job → Type 0
+IsBatch job = (j : BatchJob) × (job ≡ Batch j)
+
+-- the words ask for a job of which P holds
+abbrev pub AsksFor : List Text → (Job → Type 0) → Type 0
+AsksFor words P = (job : Job) × IsAsked program_app words job × P job
+
+-- the words ask for help
+abbrev pub AsksHelp : List Text → Type 0
+AsksHelp words = IsAmong DisplayHelp (fault_of program_app words)
+
+-- the words ask for the version
+abbrev pub AsksVersion : List Text → Type 0
+AsksVersion words = IsAmong DisplayVersion (fault_of program_app words)
+
+-- How the program ends without a job: with help, which is done; with its version; with words that ask for no
+-- job; or for want of memory before there is a job.
+abbrev pub Unasked : List Text → Ending → Type 0 → Type 0 → Type 0
+Unasked words ending unread unsent =
+    (AsksHelp words × (ending ≡ Done) ⊎ AsksVersion words × (ending ≡ Version) × unsent) × unread
+    ⊎ (((job : Job) → ¬ (IsAsked program_app words job)) × (ending ≡ BadWords) × unread × unsent
+    ⊎ (ending ≡ Stopped (Vault vault.Memory)) × unread × unsent)
