@@ -27,7 +27,7 @@ use Rattle.vault_core.specs.declared.command.Command.{Command}
 use Rattle.vault_core.specs.declared.command.Command.TheVariants.{Tokenize}
 use Rattle.vault_http.specs.Exchanges.{Pair, commands_in}
 use Rattle.vault_http.specs.Passing.{IsBefore, Passage, Takes}
-use Rattle.vault_live.specs.Live.{IsPairOf}
+use Rattle.vault_live.specs.Live.{IsPairOf, Turns}
 use Rattle.vault_pan.specs.CardText.{digits_of}
 use Rattle.vault_routes.specs.Wanted.{Wanted}
 use Rattle.vault_jobs.specs.Doing.{BatchEnds, along}
@@ -256,21 +256,21 @@ module _ (who : Asker) (now : Option ℕ) (digits : Option (List ℕ)) (named : 
         answered q.rows (inr (fields_in q.next ∷ [], inr q.records)) (fits (pairs_of q.rows) q.answered.taken)
         q.answered.asked (all_went q.rows it.0) it.1.1
 
-  pub batch_works : (r : Result Outcome Stop) (unread unsent : Type 0) → (unsent → IsQuiet s)
-      → BatchEnds who now digits w r unread unsent s → Goal
-  batch_works (Ok outcome.Done) unread unsent quiet (counts, none, (pairs, few, fixed, q)) =
-      whole pairs fixed counts q
-  batch_works (Ok (outcome.Refused n)) unread unsent quiet h = absurd h
-  batch_works (Ok outcome.SomeRefused) unread unsent quiet (counts, some, (pairs, few, fixed, q)) =
-      whole pairs fixed counts q
-  batch_works (Err (stop.Vault f)) unread unsent quiet h = absurd h
-  batch_works (Err (stop.Service f)) unread unsent quiet h = absurd h
-  batch_works (Err (stop.Listener f)) unread unsent quiet h = absurd h
-  batch_works (Err (stop.Rights f)) unread unsent quiet h = absurd h
-  batch_works (Err (stop.Batch f)) unread unsent quiet (inl (is, calm, silent, same)) =
+  pub batch_works : (tells : Turns) (r : Result Outcome Stop) (unread unsent : Type 0) → (unsent → IsQuiet s)
+      → BatchEnds tells who now digits w r unread unsent s → Goal
+  batch_works tells (Ok outcome.Done) unread unsent quiet (calm, counts, none, end, (pairs, few, given, q)) =
+      whole pairs given.each counts q
+  batch_works tells (Ok (outcome.Refused n)) unread unsent quiet h = absurd h
+  batch_works tells (Ok outcome.SomeRefused) unread unsent quiet (calm, counts, some, end, (pairs, few, given, q)) =
+      whole pairs given.each counts q
+  batch_works tells (Err (stop.Vault f)) unread unsent quiet h = absurd h
+  batch_works tells (Err (stop.Service f)) unread unsent quiet h = absurd h
+  batch_works tells (Err (stop.Listener f)) unread unsent quiet h = absurd h
+  batch_works tells (Err (stop.Rights f)) unread unsent quiet h = absurd h
+  batch_works tells (Err (stop.Batch f)) unread unsent quiet (inl (is, calm, silent, same)) =
       let nil : All (IsPairOf now digits) [] = All-nil (IsPairOf now digits) in
       none [] nil (quiet_went [] nil (quiet silent)) (same V b).1
-  batch_works (Err (stop.Batch f)) unread unsent quiet (inr (pairs, few, fixed, inl q)) =
-      stopped pairs fixed f q
-  batch_works (Err (stop.Batch f)) unread unsent quiet (inr (pairs, few, fixed, inr (is, (counts, q)))) =
-      whole pairs fixed counts q
+  batch_works tells (Err (stop.Batch f)) unread unsent quiet (inr (pairs, few, given, inl q)) =
+      stopped pairs given.each f q
+  batch_works tells (Err (stop.Batch f)) unread unsent quiet (inr (pairs, few, given, inr (is, (counts, q)))) =
+      whole pairs given.each counts q

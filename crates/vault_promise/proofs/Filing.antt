@@ -1,5 +1,5 @@
 -- Whatever a run does with files, it is one up to the bytes with which the next begins.
-use Rattle.std.proofs.Common.{◌≡◌, ◌⊎◌, List, [], Option, Some, None, Result, Ok, Err, Bool}
+use Rattle.std.proofs.Common.{◌≡◌, ◌⊎◌, ℕ, List, [], Option, Some, None, Result, Ok, Err, Bool}
 use Rattle.std.proofs.Common.{inl, inr, refl, sym}
 use Rattle.std.proofs.Common.{arith, subst}
 use Rattle.std.proofs.Math.Logic.{∥∥₁_map}
@@ -24,8 +24,11 @@ use Rattle.vault_schema.specs.Stands.{newest}
 use Rattle.std.specs.Prelude.{IfSome}
 use Rattle.vault_recover.specs.Crashed.{AreBlank, KeepsEither, KeepsSuch, MayFind}
 use Rattle.vault_schema.specs.Holds.{AreOurs, Holds}
+use Rattle.vault_live.specs.Live.{Turns}
+use Rattle.vault_listen.specs.Peers.{Link}
+use Rattle.vault_jobs.specs.Moments.{IsMomentOf}
 use Rattle.vault_jobs.specs.Doing.{Does}
-use Rattle.vault_jobs.specs.Streams.{Known, Streams, streams}
+use Rattle.vault_jobs.specs.Streams.{Known, Streams, streams, with_links}
 use Rattle.vault_jobs.specs.declared.stop.Stop.{Stop}
 use Rattle.vault_jobs.specs.declared.task.Outcome.{Outcome}
 use Rattle.vault_jobs.specs.declared.task.Outcome.TheVariants as outcome
@@ -39,7 +42,7 @@ use Rattle.vault_words.specs.declared.jobs.Job.{Job}
 use Rattle.vault_words.specs.declared.jobs.Job.TheVariants as job
 use Rattle.vault_app.specs.Jobs.{Does as DoesWords, DoesPlan, IsChecked, IsMoved}
 use Rattle.vault_app.specs.Plans.{IsPlanOf, IsProperPlan, IsTaskOf}
-use Rattle.vault_app.specs.Ran.{AsksFor, Unasked}
+use Rattle.vault_app.specs.Asked.{AsksFor, Unasked}
 use Rattle.vault_app.specs.Values.{AreValues}
 use Rattle.vault_file.specs.Moved.{MovesAs}
 use Rattle.vault_file.specs.declared.fault.NotOpened.{NotOpened as FileFault}
@@ -55,7 +58,7 @@ use Rattle.vault_promise.proofs.Piping.{pipe_works}
 use Rattle.vault_promise.proofs.Serving.{serve_works}
 use Rattle.vault_promise.proofs.Sweeping.{sweep_works}
 use Rattle.vault_promise.proofs.Working.{Works, change_works, give_works}
-use Rattle.vault_promise.specs.Runs.{AreOf, Bear, Comes, EveryRunIsOne, IsAside, IsRun, Leaves}
+use Rattle.vault_promise.specs.Runs.{AreOf, Bear, anytime, Comes, EveryRunIsOne, IsAside, IsRun, Leaves}
 use Rattle.vault_promise.specs.Runs.{Rests, Run, Work, kept_by, perhaps, undecided_by}
 use Rattle.vault_promise.specs.Told.{IsQuiet, Tells}
 
@@ -64,42 +67,75 @@ abbrev IsStill : Streams → Type 0
 IsStill s = Consumes s.left_old s.left_new []
 
 -- what a task does, by its clause
-works : (t : Task) (w : Passage) (V : Content) (b : IsBefore w V) → Sound V → (s : Streams)
+works : (tells : Turns) (t : Task) (w : Passage) (V : Content) (b : IsBefore w V) → Sound V → (s : Streams)
     (broken : Bool) (r : Result Outcome Stop) (unread unsent : Type 0) → (unread → IsStill s)
     → (unsent → IsQuiet s) → AreValues t
-    → (F : Type 0) → (F → r ≡ Ok outcome.Done) → Does t w broken r unread unsent s → Works w V t F s
-works (task.Change c) w V b sound s broken r unread unsent still quiet values F fin h =
-    change_works w V b s unsent quiet F c values.0 values.1 broken r fin h
-works (task.Give rights now) w V b sound s broken r unread unsent still quiet values F fin h =
-    give_works w V b s unsent quiet F rights now values broken r fin h
-works (task.Sweep who now) w V b sound s broken r unread unsent still quiet values F fin h =
-    sweep_works who now values.0 values.1 values.2 w V b sound s unsent quiet F broken r fin h
-works (task.Batch who now digits) w V b sound s broken r unread unsent still quiet values F fin h =
-    batch_works who now digits values.0 values.1 w V b s F r unread unsent quiet h
-works (task.Pipe now digits) w V b sound s broken r unread unsent still quiet values F fin h =
-    pipe_works now digits w V b s F r unread unsent still quiet h
-works (task.Serve port connections) w V b sound s broken r unread unsent still quiet values F fin h =
-    serve_works w V b s port connections F r unsent h
+    → (F : Type 0) → (F → r ≡ Ok outcome.Done) → Does tells t w broken r unread unsent s → Works w V t F s
+works tells (task.Change c) w V b sound s broken r unread unsent still quiet values F fin h =
+    change_works w V b s unsent quiet F c values.0 values.1 broken r fin h.works
+works tells (task.Give rights now) w V b sound s broken r unread unsent still quiet values F fin h =
+    give_works w V b s unsent quiet F rights now values broken r fin h.works
+works tells (task.Sweep who now) w V b sound s broken r unread unsent still quiet values F fin h =
+    sweep_works who now values.0 values.1 values.2 w V b sound s unsent quiet F broken r fin h.works
+works tells (task.Batch who now digits) w V b sound s broken r unread unsent still quiet values F fin h =
+    batch_works who now digits values.0 values.1 w V b s F tells r unread unsent quiet h.works
+works tells (task.Pipe now digits) w V b sound s broken r unread unsent still quiet values F fin h =
+    pipe_works now digits w V b s F tells r unread unsent still quiet h.works
+works tells (task.Serve port connections) w V b sound s broken r unread unsent still quiet values F fin h =
+    serve_works tells w V b s port connections F r unsent h.works
 
 -- what a job with this plan asks for
 abbrev Fits : Job → Plan → Type 0
 Fits job (plan.Trial t) = IsAside job
 Fits job (plan.Check path) = IsAside job
 Fits job (plan.Migrate path) = IsAside job
-Fits job (plan.Do path t) = IsTaskOf job t
+Fits job (plan.Do path t) = IsTaskOf anytime job t
 
-fits : (job : Job) (p : Plan) → IsPlanOf job p → Fits job p
-fits (job.Trial j) p (t, is, same) = subst (Fits (job.Trial j)) (sym same) tt
-fits (job.Merchant j) p (t, is, same) = subst (Fits (job.Merchant j)) (sym same) is
-fits (job.Grant j) p (t, is, same) = subst (Fits (job.Grant j)) (sym same) is
-fits (job.Withdraw j) p (t, is, same) = subst (Fits (job.Withdraw j)) (sym same) is
-fits (job.Rights j) p (t, is, same) = subst (Fits (job.Rights j)) (sym same) is
-fits (job.Pipe j) p (t, is, same) = subst (Fits (job.Pipe j)) (sym same) is
-fits (job.Batch j) p (t, is, same) = subst (Fits (job.Batch j)) (sym same) is
-fits (job.Serve j) p (t, is, same) = subst (Fits (job.Serve j)) (sym same) is
-fits (job.Sweep j) p (t, is, same) = subst (Fits (job.Sweep j)) (sym same) is
-fits (job.Check j) p same = subst (Fits (job.Check j)) (sym same) tt
-fits (job.Migrate j) p same = subst (Fits (job.Migrate j)) (sym same) tt
+-- a task at a moment that was told is one at any moment
+any_moment : (tells : Turns) (fixed : Option ℕ) (now : ℕ) → IsMomentOf tells fixed now
+    → IsMomentOf anytime fixed now
+any_moment tells fixed now is = (is.0, λ free. tt)
+
+any_task : (tells : Turns) (job : Job) (t : Task) → IsTaskOf tells job t → IsTaskOf anytime job t
+any_task tells (job.Trial j) t is = is
+any_task tells (job.Merchant j) t (name, (now, moment, same)) =
+    (name, (now, any_moment tells j.now now moment, same))
+any_task tells (job.Grant j) t (names, (right, now, word, moment, same)) =
+    (names, (right, now, word, any_moment tells j.given.now now moment, same))
+any_task tells (job.Withdraw j) t (names, (right, now, word, moment, same)) =
+    (names, (right, now, word, any_moment tells j.now now moment, same))
+any_task tells (job.Rights j) (task.Give rows now) (listed, moment) =
+    (listed, any_moment tells j.now now moment)
+any_task tells (job.Rights j) (task.Change c) is = is
+any_task tells (job.Rights j) (task.Sweep who now) is = is
+any_task tells (job.Rights j) (task.Batch who now digits) is = is
+any_task tells (job.Rights j) (task.Pipe now digits) is = is
+any_task tells (job.Rights j) (task.Serve port connections) is = is
+any_task tells (job.Pipe j) t is = is
+any_task tells (job.Batch j) t is = is
+any_task tells (job.Serve j) t is = is
+any_task tells (job.Sweep j) t (names, (who, now, caller, merchant, moment, same)) =
+    (names, (who, now, caller, merchant, any_moment tells j.now now moment, same))
+any_task tells (job.Check j) t is = is
+any_task tells (job.Migrate j) t is = is
+
+fits : (tells : Turns) (job : Job) (p : Plan) → IsPlanOf tells job p → Fits job p
+fits tells (job.Trial j) p (t, is, same) = subst (Fits (job.Trial j)) (sym same) tt
+fits tells (job.Merchant j) p (t, is, same) =
+    subst (Fits (job.Merchant j)) (sym same) (any_task tells (job.Merchant j) t is)
+fits tells (job.Grant j) p (t, is, same) =
+    subst (Fits (job.Grant j)) (sym same) (any_task tells (job.Grant j) t is)
+fits tells (job.Withdraw j) p (t, is, same) =
+    subst (Fits (job.Withdraw j)) (sym same) (any_task tells (job.Withdraw j) t is)
+fits tells (job.Rights j) p (t, is, same) =
+    subst (Fits (job.Rights j)) (sym same) (any_task tells (job.Rights j) t is)
+fits tells (job.Pipe j) p (t, is, same) = subst (Fits (job.Pipe j)) (sym same) is
+fits tells (job.Batch j) p (t, is, same) = subst (Fits (job.Batch j)) (sym same) is
+fits tells (job.Serve j) p (t, is, same) = subst (Fits (job.Serve j)) (sym same) is
+fits tells (job.Sweep j) p (t, is, same) =
+    subst (Fits (job.Sweep j)) (sym same) (any_task tells (job.Sweep j) t is)
+fits tells (job.Check j) p same = subst (Fits (job.Check j)) (sym same) tt
+fits tells (job.Migrate j) p same = subst (Fits (job.Migrate j)) (sym same) tt
 
 -- words that ask for no job
 unasked : (words : List Text) (end : Ending) (unread unsent quiet : Type 0) → (unsent → quiet)
@@ -144,7 +180,7 @@ abbrev IsFrom : Image → Run → Image → Type 0
 IsFrom image r next = (V : Content) (c : Option Command) → Sound V → IfSome c IsProper → AreOf image V c
     → ∥ ((it : Comes V c r) × AreOf next (kept_by V c r it) (undecided_by V c r it)) ∥₁
 
-module _ {D : Type 0} {g : Ghosts D} (image next : Image) where
+module _ {D : Type 0} {g : Ghosts D} (tells : Turns) (image next : Image) where
   -- files that keep what they kept
   stays_run : (left : FileStore D g) → Leaves image (Some left) next → (it : Run)
       → Rests it → Stays image left → IsFrom image it next
@@ -187,7 +223,7 @@ module _ {D : Type 0} {g : Ghosts D} (image next : Image) where
   -- a file that is opened, or refused with a connection
   module _ (left : FileStore D g) (may : Leaves image (Some left) next) (t : Task) (end : Ending)
       (s : Streams) (values : AreValues t) (r : Run) (ends : r.ending ≡ end)
-      (asked : AsksFor r.words (λ job. IsTaskOf job t))
+      (asked : AsksFor r.words (λ job. IsTaskOf anytime job t))
       (of : (X : Content) (cs : List Command) → Tells t X cs s → Tells t X cs r.streams)
       (calm : (why : FileFault) → end ≡ ending.NotOpened why → IsQuiet s → Rests r)
       (bear : (X : Content) → Bear image X → Bear r.begins X) where
@@ -215,7 +251,7 @@ module _ {D : Type 0} {g : Ghosts D} (image next : Image) where
 
     module _ (result : Result Outcome Stop) (unread unsent : Type 0) (still : unread → IsStill s)
         (quiet : unsent → IsQuiet s) (fin : r.ending ≡ ending.Done → result ≡ Ok outcome.Done)
-        (on : WorksOn image left (λ p broken. Does t p broken result unread unsent s)) where
+        (on : WorksOn image left (λ p broken. Does tells t p broken result unread unsent s)) where
       abbrev conn : Held (FileStore D g)
       conn = on.opened
 
@@ -240,7 +276,7 @@ module _ {D : Type 0} {g : Ghosts D} (image next : Image) where
           → (it : Comes V c r) × AreOf next (kept_by V c r it) (undecided_by V c r it)
       on_one V c W is sound held holds =
           work_on V c W is held w
-          (works t w W (may.0, (holds, sound)) sound s on.broken result unread unsent still quiet values
+          (works tells t w W (may.0, (holds, sound)) sound s on.broken result unread unsent still quiet values
           (r.ending ≡ ending.Done) fin on.done)
           (λ A B leaves. leaves next may.1)
 
@@ -270,10 +306,10 @@ module _ {D : Type 0} {g : Ghosts D} (image next : Image) where
 
     -- a task on files that are opened, or refused with a connection
     on_some : (unread unsent : Type 0) → (unread → IsStill s) → (unsent → IsQuiet s)
-        → EndsOnFile image (Some left) t end unread unsent s → IsFrom image r next
+        → EndsOnFile tells image (Some left) t end unread unsent s → IsFrom image r next
     on_some unread unsent still quiet h = by_ending end refl h
       where
-        by_ending : (e : Ending) → end ≡ e → DoesOnFile image left t e unread unsent s → IsFrom image r next
+        by_ending : (e : Ending) → end ≡ e → DoesOnFile tells image left t e unread unsent s → IsFrom image r next
         by_ending ending.Done is h = worked (Ok outcome.Done) unread unsent still quiet (λ _. refl) h
         by_ending ending.Version is h = absurd h
         by_ending (ending.Refused n) is h =
@@ -289,7 +325,7 @@ module _ {D : Type 0} {g : Ghosts D} (image next : Image) where
   each : (left : Option (FileStore D g)) (words : List Text) (job : Job) → IsAsked program_app words job
       → (p : Plan) → Fits job p → (end : Ending) (s : Streams) (unread unsent : Type 0)
       → (unread → IsStill s) → (unsent → IsQuiet s) → IsProperPlan p
-      → DoesPlan image left p end unread unsent s
+      → DoesPlan tells image left p end unread unsent s
       → Leaves image left next
       → IsRun (record { begins = image; words = words; ending = end; streams = s }) next
   each left words job asked (plan.Trial t) asks end s unread unsent still quiet values h leaves =
@@ -319,11 +355,11 @@ module _ {D : Type 0} {g : Ghosts D} (image next : Image) where
   -- and whatever words it has
   all : (left : Option (FileStore D g)) (words : List Text) (end : Ending) (s : Streams)
       (unread unsent : Type 0) → (unread → IsStill s) → (unsent → IsQuiet s)
-      → DoesWords image left words end unread unsent s
+      → DoesWords tells image left words end unread unsent s
       → Leaves image left next
       → IsRun (record { begins = image; words = words; ending = end; streams = s }) next
   all left words end s unread unsent still quiet (inl (job, asked, inl (p, is, proper, h))) leaves =
-      each left words job asked p (fits job p is) end s unread unsent still quiet proper h leaves
+      each left words job asked p (fits tells job p is) end s unread unsent still quiet proper h leaves
   all left words end s unread unsent still quiet
       (inl (job, asked, inr (why, none, calm, silent))) leaves =
       rests next (record { begins = image; words = words; ending = end; streams = s })
@@ -334,10 +370,12 @@ module _ {D : Type 0} {g : Ghosts D} (image next : Image) where
       (inl (inr (unasked words end unread unsent (IsQuiet s) quiet without)))
       (subst (λ l. Leaves image l next) none leaves)
 
-pub each_is_run : {D R W E : Type 0} (g : Ghosts D) (remaining : R → Known) (contents : W → Known)
-    (said : E → Known) → EveryRunIsOne g remaining contents said
-each_is_run g remaining contents said image next left words status i i' o told o' e e' h leaves =
-    all image next left words h.ending (streams remaining i i' contents o told) (i' ≡ i) (told ≡ o)
+pub each_is_run : {D R W E K : Type 0} (g : Ghosts D) (remaining : R → Known) (contents : W → Known)
+    (said : E → Known) (tells : K → Turns) → EveryRunIsOne g remaining contents said tells
+each_is_run g remaining contents said tells image next left words status time links i i' o told o' e e' h
+    leaves =
+    all (tells time) image next left words h.ending
+    (with_links (streams remaining i i' contents o told) links) (i' ≡ i) (told ≡ o)
     (λ same. subst (λ u. Consumes (remaining i.inner) (remaining u.inner) []) (sym same)
     (consumes_nothing (remaining i.inner)))
     (λ same. subst (λ u. Appends (contents o.inner) (contents u.inner) []) (sym same)

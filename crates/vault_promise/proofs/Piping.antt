@@ -12,6 +12,7 @@ use Rattle.std.specs.Io.KnownBytes.{Appends, Consumes}
 use Rattle.vault_http.specs.Exchanges.{Exchange, commands_in, commands_of, last_text, texts, vault_after}
 use Rattle.vault_wire.specs.declared.fault.WireFault.{WireFault}
 use Rattle.vault_http.specs.Passing.{IsBefore, Passage}
+use Rattle.vault_live.specs.Live.{Turns}
 use Rattle.vault_routes.specs.Wanted.{Wanted}
 use Rattle.vault_jobs.specs.Doing.{PipeEnds}
 use Rattle.vault_jobs.specs.Streams.{Streams}
@@ -94,9 +95,9 @@ module _ (now : Option ℕ) (digits : Option (List ℕ)) (w : Passage) (V : Cont
       }
   answered xs (x ∷ y ∷ us) heard few proper left went = absurd (omega (arith, few))
 
-  pub pipe_works : (r : Result Outcome Stop) (unread unsent : Type 0)
+  pub pipe_works : (tells : Turns) (r : Result Outcome Stop) (unread unsent : Type 0)
       → (unread → Consumes s.left_old s.left_new []) → (unsent → IsQuiet s)
-      → PipeEnds now digits w r unread unsent s → Works w V (task.Pipe now digits) F s
-  pipe_works r unread unsent still quiet h =
-      let a = answers_of now digits w s r unread unsent still quiet h in
+      → PipeEnds tells now digits w r unread unsent s → Works w V (task.Pipe now digits) F s
+  pipe_works tells r unread unsent still quiet h =
+      let a = answers_of tells now digits w s r unread unsent still quiet h in
       answered a.exchanges a.undecided a.heard a.few a.proper (a.left V b) (a.went V b)

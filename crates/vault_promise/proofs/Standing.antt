@@ -1,5 +1,5 @@
 -- Answers stand in later runs.
-use Rattle.std.proofs.Common.{◌≡◌, ℕ, List, [], ◌∷◌, ◌++◌, Option, None, inl, inr}
+use Rattle.std.proofs.Common.{◌≡◌, ℕ, List, [], ◌∷◌, ◌++◌, Option, Some, None, inl, inr}
 use Rattle.std.proofs.Common.{refl, sym, ap, subst, ◌∙◌, append-nil, append_assoc}
 use Rattle.std.proofs.Math.Logic.{∥∥₁_map}
 use Rattle.sqlite_wal.specs.Recovery.{Image}
@@ -18,18 +18,19 @@ use Rattle.vault_batch.specs.Asking.{Asked}
 use Rattle.vault_batch.specs.Lines as rows
 use Rattle.vault_http.specs.Exchanges.{commands_in, commands_of}
 use Rattle.vault_recover.specs.Histories.{Answered, IsHistory, Step, last}
+use Rattle.vault_listen.specs.Peers.{Link}
 use Rattle.vault_jobs.specs.Streams.{Streams}
 use Rattle.vault_jobs.specs.declared.task.Task.{Task}
 use Rattle.vault_jobs.specs.declared.task.Task.TheVariants as task
 use Rattle.vault_promise.proofs.Batching.{as_run as rows_run}
 use Rattle.vault_promise.proofs.Coming.{answers_last, opening_last}
 use Rattle.vault_promise.proofs.Lasting.{last-append, parts}
-use Rattle.vault_promise.proofs.Piping.{as_run, commands-append}
+use Rattle.vault_promise.proofs.Piping.{as_run, commands-append, run_append}
 use Rattle.vault_promise.specs.Lasting.{HistoriesLast}
 use Rattle.vault_promise.specs.Runs.{Come, Run, RunsComeToHistories, answers, history, opening}
 use Rattle.vault_promise.specs.Standing.{AnsweredIn, Answers, AnswersStand, Stand, TellsStanding}
-use Rattle.vault_promise.specs.Standing.{TokensStand}
-use Rattle.vault_promise.specs.Told.{Tells}
+use Rattle.vault_promise.specs.Standing.{LinksStand, TextsStand, TokensStand}
+use Rattle.vault_promise.specs.Told.{AllAnswer, AreAnswered, Tells, streams_of}
 
 abbrev Steps : Type 0
 Steps = List (Step × Content)
@@ -111,10 +112,59 @@ module _ (lasting : HistoriesLast) (V : Content) (sound : Sound V) where
       both.1.1.0 ∙ (lasting V (h ++ other.first) sound both.0).again one.first (one.more ++ other.first)
       a again token expires one.next begun same
 
+-- a list of commands has this one, which is answered so from the vault
+abbrev AnswersIn : Content → List Command → Command → Reply → Type 0
+AnswersIn W cs x y = (first more : List Command) × (cs ≡ first ++ x ∷ more) × (reply (run first W) x ≡ y)
+
 -- the texts of messages stand where the answers to their commands do
+messages_stand : (now : Option ℕ) (digits : Option (List ℕ)) (W : Content) (cs : List Command) (s : Streams)
+    (Later : Command → Reply → Type 0) → TokensStand (AnswersIn W cs) Later
+    → (it : AreAnswered now digits W cs s) → TextsStand now digits W s Later
+messages_stand now digits W cs s Later stand (xs, are, heard, (fault, sent, went)) = record {
+  exchanges = xs;
+  heard = heard;
+  fault = fault;
+  sent = sent;
+  went = went;
+  stand = λ a again token expires y (first, more, it, is, wanted, replied) same later.
+      stand a again token expires y (
+        commands_of first,
+        commands_of more,
+        are ∙ ap commands_of is ∙ commands-append first (it ∷ more)
+            ∙ ap (λ w. commands_of first ++ (commands_in w ++ commands_of more)) wanted,
+        subst (λ U. reply U (command_of a) ≡ Token token expires) (as_run W first) replied,
+      ) same later;
+}
+
+-- and so those of connections
+links_stand : (xs : List (Option Link)) (W : Content) (cs : List Command) (Later : Command → Reply → Type 0)
+    → TokensStand (AnswersIn W cs) Later → AllAnswer W xs cs → LinksStand W xs Later
+unfolding messages_stand
+links_stand [] W cs Later stand told = tt
+links_stand (None ∷ xs) W cs Later stand told = links_stand xs W cs Later stand told
+links_stand (Some x ∷ xs) W cs Later stand (first, more, is, here, rest) = (
+  messages_stand None None W first (streams_of x) Later
+      (λ a again token expires y (front, behind, same, replied).
+      stand a again token expires y (
+        front,
+        behind ++ more,
+        is ∙ ap (λ ds. ds ++ more) same ∙ append_assoc front (command_of a ∷ behind) more,
+        replied,
+      )) here,
+  subst (λ U. LinksStand U xs Later) (ap (λ ds. run ds W) here.1 ∙ sym (as_run W here.0))
+      (links_stand xs (run first W) more Later
+      (λ a again token expires y (front, behind, same, replied).
+      stand a again token expires y (
+        first ++ front,
+        behind,
+        is ∙ ap (λ ds. first ++ ds) same ∙ sym (append_assoc first front (command_of a ∷ behind)),
+        subst (λ U. reply U (command_of a) ≡ Token token expires) (sym (run_append first front W)) replied,
+      )) rest),
+)
+
+-- what went out of a task stands
 texts_stand : (t : Task) (W : Content) (cs : List Command) (s : Streams) (Later : Command → Reply → Type 0)
-    → TokensStand (λ x y. (first more : List Command) × (cs ≡ first ++ x ∷ more)
-    × (reply (run first W) x ≡ y)) Later → Tells t W cs s → TellsStanding t W s Later
+    → TokensStand (AnswersIn W cs) Later → Tells t W cs s → TellsStanding t W s Later
 texts_stand (task.Change c) W cs s Later stand told = tt
 texts_stand (task.Give rights now) W cs s Later stand told = tt
 texts_stand (task.Sweep who now) W cs s Later stand told = tt
@@ -132,22 +182,8 @@ texts_stand (task.Batch who now digits) W cs s Later stand (xs, asked, are, read
         subst (λ U. reply U (command_of a) ≡ Token token expires) (rows_run W first) replied,
       ) same later;
 }
-texts_stand (task.Pipe now digits) W cs s Later stand (xs, are, heard, (fault, sent, went)) = record {
-  exchanges = xs;
-  heard = heard;
-  fault = fault;
-  sent = sent;
-  went = went;
-  stand = λ a again token expires y (first, more, it, is, wanted, replied) same later.
-      stand a again token expires y (
-        commands_of first,
-        commands_of more,
-        are ∙ ap commands_of is ∙ commands-append first (it ∷ more)
-            ∙ ap (λ w. commands_of first ++ (commands_in w ++ commands_of more)) wanted,
-        subst (λ U. reply U (command_of a) ≡ Token token expires) (as_run W first) replied,
-      ) same later;
-}
-texts_stand (task.Serve port connections) W cs s Later stand told = tt
+texts_stand (task.Pipe now digits) W cs s Later stand told = messages_stand now digits W cs s Later stand told
+texts_stand (task.Serve port connections) W cs s Later stand told = links_stand s.links W cs Later stand told
 
 stand_in : HistoriesLast → (V : Content) (c : Option Command) (rs : List Run) (end : Image)
     (come : Come V c rs end) → Sound V → IsHistory V (history V c rs end come) → Stand V c rs end come

@@ -124,7 +124,7 @@ module _ (w : Passage) (V : Content) (b : IsBefore w V) (s : Streams) (unsent : 
     }
     change_works false (Err (stop.Vault Store)) fin h =
         let v = own_verdict V c own in
-        absurd (h.1.1 refl V b v.0 v.1)
+        absurd ((h.1.1 refl V b).0 v.0 v.1)
     change_works broken (Err (stop.Vault Reopen)) fin h = absurd h.1
     change_works broken (Err (stop.Service f)) fin h = change_done broken h.2
     change_works broken (Err (stop.Listener f)) fin h = absurd h

@@ -21,23 +21,25 @@ use Rattle.vault_recover.specs.Crashed.{AreBlank, KeepsEither, KeepsFirst, MayFi
 use Rattle.vault_schema.specs.Stands.{lookups_of}
 use Rattle.vault_steps.specs.Entries.{AreSome}
 use Rattle.vault_recover.specs.Histories.{Answered, IsHistory, Reopened, Step, Undecided}
+use Rattle.vault_live.specs.Live.{Turns}
+use Rattle.vault_listen.specs.Peers.{Link}
 use Rattle.vault_wire.specs.declared.watched.Watched.{Watched}
-use Rattle.vault_jobs.specs.Streams.{Known, Streams, streams}
+use Rattle.vault_jobs.specs.Streams.{Known, Streams, streams, with_links}
 use Rattle.vault_jobs.specs.declared.task.Task.{Task}
 use Rattle.vault_words.specs.declared.jobs.Job.{Job}
 use Rattle.vault_words.specs.declared.jobs.Job.TheVariants.{Trial, Merchant, Grant, Withdraw, Rights, Pipe}
 use Rattle.vault_words.specs.declared.jobs.Job.TheVariants.{Batch, Serve, Sweep, Check, Migrate}
 use Rattle.vault_app.specs.Jobs.{RunsAs}
 use Rattle.vault_app.specs.Plans.{EndsPlanless, IsTaskOf}
-use Rattle.vault_app.specs.Ran.{AsksFor}
+use Rattle.vault_app.specs.Asked.{AsksFor}
 use Rattle.vault_app.specs.declared.ending.Ending.{Ending}
 use Rattle.vault_app.specs.declared.ending.Ending.TheVariants.{Done, NotOpened}
 use Rattle.vault_file.specs.declared.fault.NotOpened.{NotOpened as FileFault}
 use Rattle.vault_promise.specs.Lasting.{Lasts}
 use Rattle.vault_promise.specs.Told.{AllDone, IsQuiet, Tells}
 
--- a run: the bytes that the files had before it, its words, how it ended, and what came in and went out but
--- for the line that says how it ended
+-- a run: the bytes that the files had before it, its words, how it ended, and what came in and went out, with
+-- its connections, but for the line that says how it ended
 pub record Run : Type 0 where
   pub begins : Image
   pub words : List Text
@@ -78,6 +80,10 @@ abbrev pub ShownIsLeft : {D : Type 0} → Ghosts D → Type 0
 ShownIsLeft {D} g = (image : Image) (left : FileStore D g) → IsClean (files.view left)
     → Leaves image (Some left) (shown left)
 
+-- any moment may be told
+abbrev pub anytime : Turns
+anytime turn now = Unit {0}
+
 -- the job asks for nothing of the vault in a file: it is a trial, a check or a move to the newest schema
 abbrev pub IsAside : Job → Type 0
 IsAside (Trial j) = Unit {0}
@@ -104,7 +110,7 @@ Rests r = EndsPlanless r.words r.ending (IsQuiet r.streams)
 -- failed at one more at most. What went out tells of those answered; and so does the end, where it is done.
 pub record Work (V : Content) (c : Option Command) (r : Run) : Type 0 where
   pub task : Task
-  pub asked : AsksFor r.words (λ job. IsTaskOf job task)
+  pub asked : AsksFor r.words (λ job. IsTaskOf anytime job task)
   pub opened : Content
   pub is : (opened ≡ V) ⊎ (opened ≡ perhaps V c)
   pub holds : Bear r.begins opened
@@ -136,13 +142,13 @@ IsRun r next = (V : Content) (c : Option Command) → Sound V → IfSome c IsPro
 
 -- Whatever a run of the program does with files that had these bytes, by the clause `does` of `run`, and with
 -- whatever bytes the next one begins: it is a run up to these.
-abbrev pub EveryRunIsOne : {D R W E : Type 0} (g : Ghosts D) → (R → Known) → (W → Known) → (E → Known)
-    → Type 0
-EveryRunIsOne {D} {R} {W} {E} g remaining contents said =
-    (image next : Image) (left : Option (FileStore D g)) (words : List Text) (status : ℕ) (i i' : Watched R)
-    (o told o' : Watched W) (e e' : Watched E)
-    → (it : RunsAs remaining contents said image left words status i i' o told o' e e')
-    → Leaves image left next → (let s : Streams = streams remaining i i' contents o told in
+abbrev pub EveryRunIsOne : {D R W E K : Type 0} (g : Ghosts D) → (R → Known) → (W → Known) → (E → Known)
+    → (K → Turns) → Type 0
+EveryRunIsOne {D} {R} {W} {E} {K} g remaining contents said tells =
+    (image next : Image) (left : Option (FileStore D g)) (words : List Text) (status : ℕ) (time : K)
+    (links : List (Option Link)) (i i' : Watched R) (o told o' : Watched W) (e e' : Watched E)
+    → (it : RunsAs remaining contents said (tells time) image left words status links i i' o told o' e e')
+    → Leaves image left next → (let s : Streams = with_links (streams remaining i i' contents o told) links in
     IsRun (record { begins = image; words = words; ending = it.ending; streams = s }) next)
 
 -- the bytes with which the first of runs begins, or those at the end where there is none

@@ -1,6 +1,6 @@
 -- What an answer of one run means to whoever asks again in a later one.
 use Rattle.std.proofs.Common.{inl, inr}
-use Rattle.std.specs.Prelude.{◌≡◌, ◌⊎◌, ℕ, List, [], ◌∷◌, ◌++◌, Ok, Option, None, take}
+use Rattle.std.specs.Prelude.{◌≡◌, ◌⊎◌, ℕ, List, [], ◌∷◌, ◌++◌, Ok, Option, Some, None, take}
 use Rattle.std.specs.Io.KnownBytes.{Appends}
 use Rattle.sqlite_wal.specs.Recovery.{Image}
 use Rattle.vault_core.specs.Keys.{Bytes}
@@ -17,11 +17,12 @@ use Rattle.vault_batch.specs.Asking.{Asked}
 use Rattle.vault_batch.specs.Lines.{first_line, lines, vault_after as vault_after_rows}
 use Rattle.vault_http.specs.Exchanges.{Exchange, last_text, texts, vault_after}
 use Rattle.vault_wire.specs.declared.fault.WireFault.{WireFault}
+use Rattle.vault_listen.specs.Peers.{Link}
 use Rattle.vault_jobs.specs.Streams.{Streams}
 use Rattle.vault_jobs.specs.declared.task.Task.{Task}
 use Rattle.vault_jobs.specs.declared.task.Task.TheVariants.{Change, Give, Sweep, Batch, Pipe, Serve}
 use Rattle.vault_promise.specs.Runs.{AreOf, Come, Run, Runs, Work, before}
-use Rattle.vault_promise.specs.Told.{AreHeard, AreRead}
+use Rattle.vault_promise.specs.Told.{AreHeard, AreRead, streams_of}
 
 -- a run that worked answered this command so
 abbrev pub Answers : {V : Content} {c : Option Command} {r : Run} → Work V c r → Command → Reply → Type 0
@@ -68,14 +69,21 @@ pub record LinesStand (now : Option ℕ) (digits : Option (List ℕ)) (W : Conte
       (λ x y. (first more : List Asked) × (it : Asked) × (rows ≡ first ++ it ∷ more)
       × (it.wanted ≡ Ok x) × (reply (vault_after_rows W first) x ≡ y)) Later
 
--- so of a run that answered the messages or the rows of its input
+-- and so the texts of each connection, from the vault that those before it leave
+abbrev pub LinksStand : Content → List (Option Link) → (Command → Reply → Type 0) → Type 0
+LinksStand W [] Later = Unit {0}
+LinksStand W (None ∷ xs) Later = LinksStand W xs Later
+LinksStand W (Some x ∷ xs) Later = (it : TextsStand None None W (streams_of x) Later)
+    × LinksStand (vault_after W it.exchanges) xs Later
+
+-- so of a run that answered the messages or the rows of its input, or those of connections
 abbrev pub TellsStanding : Task → Content → Streams → (Command → Reply → Type 0) → Type 0
 TellsStanding (Change c) W s Later = Unit {0}
 TellsStanding (Give rights now) W s Later = Unit {0}
 TellsStanding (Sweep who now) W s Later = Unit {0}
 TellsStanding (Batch who now digits) W s Later = LinesStand now digits W s Later
 TellsStanding (Pipe now digits) W s Later = TextsStand now digits W s Later
-TellsStanding (Serve port connections) W s Later = Unit {0}
+TellsStanding (Serve port connections) W s Later = LinksStand W s.links Later
 
 -- and of each of the runs, with those after it
 abbrev pub Stand : (V : Content) (c : Option Command) (rs : List Run) (end : Image) → Come V c rs end → Type 0

@@ -1,7 +1,8 @@
 -- What goes out of a task tells of commands that were answered.
-use Rattle.std.specs.Prelude.{◌≡◌, ◌⊎◌, ◌≤◌, ℕ, List, [], ◌∷◌, ◌++◌, All, Option, length, take}
+use Rattle.std.specs.Prelude.{◌≡◌, ◌⊎◌, ◌≤◌, ℕ, List, [], ◌∷◌, ◌++◌, All, Option, Some, None, length, take}
 use Rattle.std.specs.Io.KnownBytes.{Appends, Consumes}
 use Rattle.vault_core.specs.Keys.{Bytes}
+use Rattle.vault_core.specs.Runs.{run}
 use Rattle.vault_core.specs.Table.{reply}
 use Rattle.vault_core.specs.Vault.{Vault as Content}
 use Rattle.vault_core.specs.declared.command.Command.{Command}
@@ -17,7 +18,7 @@ use Rattle.vault_batch.specs.Batched.{pairs_of, rows_of}
 use Rattle.vault_batch.specs.Lines.{first_line, lines}
 use Rattle.vault_batch.specs.Lines as rows
 use Rattle.vault_batch.specs.Rows.{AreRecordsOf, BeginRecordsOf, Fields, records_with}
-use Rattle.vault_listen.specs.Service.{IsConnection, all_of}
+use Rattle.vault_listen.specs.Peers.{Link}
 use Rattle.vault_jobs.specs.Grants.{AreDone, grants_at}
 use Rattle.vault_jobs.specs.Streams.{Streams}
 use Rattle.vault_jobs.specs.Sweeps.{AreSwept, left_dead, purges_at}
@@ -64,11 +65,37 @@ AllDone (Batch who now digits) V cs = Unit {0}
 AllDone (Pipe now digits) V cs = Unit {0}
 AllDone (Serve port connections) V cs = Unit {0}
 
+-- Messages answered commands from the vault V: they were read, and what went out are the texts that answer
+-- them, or the first bytes of these and of the text that answers a fault.
+abbrev pub AreAnswered : Option ℕ → Option (List ℕ) → Content → List Command → Streams → Type 0
+AreAnswered now digits V cs s = (xs : List Exchange) × (cs ≡ commands_of xs) × AreHeard now digits s xs
+    × ((fault : Option WireFault) × (sent : ℕ)
+    × Appends s.sent_old s.sent_new (take sent (texts V xs ++ last_text fault)))
+
+-- the streams of a connection: what its reader had to give and has left, what its writer had taken and has
+abbrev pub streams_of : Link → Streams
+streams_of x = record {
+  left_old = x.came;
+  left_new = x.left;
+  sent_old = x.had;
+  sent_new = x.sent;
+  reader = x.reader;
+  writer = x.writer;
+  links = [];
+}
+
+-- Connections answered commands from the vault V, one connection after the other: those of each are answered
+-- to its own messages, from the vault that those before it leave.
+abbrev pub AllAnswer : Content → List (Option Link) → List Command → Type 0
+AllAnswer V [] cs = cs ≡ []
+AllAnswer V (None ∷ xs) cs = AllAnswer V xs cs
+AllAnswer V (Some x ∷ xs) cs = (first more : List Command) × (cs ≡ first ++ more)
+    × AreAnswered None None V first (streams_of x) × AllAnswer (run first V) xs more
+
 -- Commands were answered from the vault V, one after the other, and what went out tells of these alone. A
 -- line of `done`, of rights or of numbers that are purged, or a part of it, says that all are done; lines of
--- rows and texts of messages, which were read, are those that answer them, or the first bytes of these. Of
--- sockets it isn't told what went out, only which messages of each connection were answered, and of the last
--- one a beginning.
+-- rows and texts of messages, which were read, are those that answer them, or the first bytes of these; and so
+-- are the texts of each connection of a service.
 abbrev pub Tells : Task → Content → List Command → Streams → Type 0
 Tells (Change c) V cs s = IsQuiet s ⊎ (cs ≡ c ∷ []) × (reply V c ≡ Done)
 Tells (Give rights now) V cs s =
@@ -78,8 +105,5 @@ Tells (Sweep who now) V cs s = (tokens : List Bytes) × (cs ≡ purges_at who no
 Tells (Batch who now digits) V cs s = (asked : List Asked) × All (Asks who) asked
     × (cs ≡ rows.commands_of asked) × AreRead now digits s asked
     × ((sent : ℕ) × Appends s.sent_old s.sent_new (take sent (first_line ++ lines V asked)))
-Tells (Pipe now digits) V cs s = (xs : List Exchange) × (cs ≡ commands_of xs) × AreHeard now digits s xs
-    × ((fault : Option WireFault) × (sent : ℕ)
-    × Appends s.sent_old s.sent_new (take sent (texts V xs ++ last_text fault)))
-Tells (Serve port connections) V cs s = (xss : List (List Exchange)) × (last rest : List Exchange)
-    × All IsConnection xss × IsConnection (last ++ rest) × (cs ≡ commands_of (all_of xss ++ last))
+Tells (Pipe now digits) V cs s = AreAnswered now digits V cs s
+Tells (Serve port connections) V cs s = AllAnswer V s.links cs
