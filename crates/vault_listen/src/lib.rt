@@ -10,3 +10,4 @@ pub mod peers;
 pub mod refusal;
 pub mod service;
 pub mod tcp;
+mod waiting;

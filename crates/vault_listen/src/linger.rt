@@ -2,9 +2,8 @@
 ghost use Rattle.std.specs.Prelude.{ℕ, ◌≤◌, List, length};
 ghost use Rattle.std.specs.Io.KnownBytes.{Consumes};
 
-use crate::peer::{Peer, PeerReader};
+use crate::peer::{LastReader, Peer};
 use std::io::Read;
-use std::rc::Rc;
 use std::time::Clock;
 
 /// The most bytes that are thrown away at once.
@@ -29,15 +28,14 @@ pub fn discard<R: Read>(reader: &mut R)
     }
 }
 
-/// Tells the peer that no more answers come, and takes at most 64 KiB of what it still sends, for one turn.
+/// Tells the peer that no more answers come, and takes at most 64 KiB of what it still sends, for one turn, or
+/// for 50 milliseconds where it was ended for another.
 ///
 /// A connection that is closed while bytes of its peer are unread is reset, and what was under way to the
 /// peer may be lost.
-pub(crate) fn linger<C: Clock>(peer: &Rc<Peer<'_, C>>) {
+pub(crate) fn linger<C: Clock>(peer: &Peer<'_, C>) {
     if peer.begin_last_turn().is_err() {
         return;
     }
-    if let Ok(peer) = peer.clone() {
-        discard(&mut PeerReader::new(peer));
-    }
+    discard(&mut LastReader::new(peer));
 }

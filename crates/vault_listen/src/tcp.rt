@@ -8,6 +8,7 @@ use crate::peers::{Accepted, Peers};
 use std::alloc::Global;
 use std::io::ErrorKind;
 use std::net::{OpenListener, TcpStream};
+use std::os::fd::AsRawFd;
 use std::rc::Rc;
 use std::time::Clock;
 use vault_http::fault::ServeFault;
@@ -34,7 +35,8 @@ fn loses_one(kind: ErrorKind) -> bool {
 /// end of the connection's own time (61, or 60 where the next message was read before). With the limits of a
 /// service that is 5 seconds and 60. Unless its reader or writer failed, the peer is told at the close that
 /// no more answers come, and what it still sends is thrown away, so that its answers reach it: at most
-/// 64 KiB, for at most one turn. So a peer holds up the others for at most 70 seconds. A connection for which
+/// 64 KiB, for at most one turn. A peer that was quiet for 50 milliseconds, with no message begun, is ended
+/// where another one waits. So a peer holds up the others for at most 70 seconds, and an idle one for 0.1. A connection for which
 /// the clock can't be read or memory is refused is lost.
 #[derive(Drop)]
 pub struct TcpPeers<'c, L, C> {
@@ -46,7 +48,7 @@ pub struct TcpPeers<'c, L, C> {
     open: Option<Rc<Peer<'c, C>>>,
 }
 
-impl<'c, L: OpenListener<Stream = TcpStream>, C: Clock> TcpPeers<'c, L, C> {
+impl<'c, L: OpenListener<Stream = TcpStream> + AsRawFd, C: Clock> TcpPeers<'c, L, C> {
     /// A listener to which none came yet, whose peers may take so long.
     pub fn new(alloc: Global, listener: L, clock: &'c C, limits: Limits) -> TcpPeers<'c, L, C>
         ensures { result.came ≡ 0 }
@@ -88,10 +90,11 @@ impl<'c, L: OpenListener<Stream = TcpStream>, C: Clock> TcpPeers<'c, L, C> {
     ) -> Option<Accepted<PeerReader<'c, C>, PeerWriter<'c, C>>>
         ensures { self.new.came ≡ self.old.came }
     {
-        let peer = Peer::new(stream, self.clock, self.limits).ok()?;
+        let door = self.listener.as_raw_fd();
+        let peer = Peer::new(stream, self.clock, self.limits, door).ok()?;
         let end = Some(peer.end());
         let peer = Rc::new(self.alloc, peer).ok()?;
-        let reader = PeerReader::new(peer.clone().ok()?);
+        let reader = PeerReader::new(self.alloc, peer.clone().ok()?);
         let writer = PeerWriter::new(peer.clone().ok()?);
         self.open = Some(peer);
         Some(Accepted {
@@ -103,7 +106,7 @@ impl<'c, L: OpenListener<Stream = TcpStream>, C: Clock> TcpPeers<'c, L, C> {
 }
 
 /// Nothing is told of the bytes, only how many connections came.
-impl<'c, L: OpenListener<Stream = TcpStream>, C: Clock> Peers for TcpPeers<'c, L, C> {
+impl<'c, L: OpenListener<Stream = TcpStream> + AsRawFd, C: Clock> Peers for TcpPeers<'c, L, C> {
     ghost use Rattle.std.specs.Prelude.{◌++◌, ◌∷◌, [], List, None};
     ghost use Rattle.vault_wire.specs.Watching.{is_stopped};
     ghost use Rattle.vault_listen.specs.Peers.{Event, came_in};
