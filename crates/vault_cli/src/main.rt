@@ -5,6 +5,9 @@ use sqlite::Unknown;
 use std::process::ExitCode;
 use std::{env, io};
 use vault_app::run::{no_words, run};
+use vault_listen::network::Loopback;
+use vault_listen::peer::Limits;
+use vault_live::time::ClockTime;
 use vault_wire::watched::Watched;
 
 /// The words that the program was started with.
@@ -18,8 +21,19 @@ fn main(rt: HostRuntime) -> ExitCode {
     let mut errors = Watched::new(rt.stderr());
     let status = match words(&rt) {
         Ok(words) => {
-            let words = words.as_slice();
-            run(&rt, Unknown, words, &mut input, &mut output, &mut errors).0
+            let time = ClockTime::new(&rt);
+            let mut network = Loopback::new(&rt, Limits::of_service());
+            run(
+                &rt,
+                Unknown,
+                &time,
+                &mut network,
+                words.as_slice(),
+                &mut input,
+                &mut output,
+                &mut errors,
+            )
+            .0
         }
         Err(error) => no_words(&error, &mut output, &mut errors),
     };

@@ -4,6 +4,9 @@ use std::alloc::Global;
 use std::fs;
 use std::io::{Read, Write};
 use vault_app::run::run;
+use vault_listen::network::Loopback;
+use vault_listen::peer::Limits;
+use vault_live::time::ClockTime;
 use vault_wire::watched::Watched;
 
 /// The answer to the worked message.
@@ -42,7 +45,19 @@ pub fn status_of<R: Read, W: Write, E: Write>(
     output: &mut Watched<W>,
     errors: &mut Watched<E>,
 ) -> u8 {
-    run(rt, Unknown, words, input, output, errors).0
+    let time = ClockTime::new(rt);
+    let mut network = Loopback::new(rt, Limits::of_service());
+    run(
+        rt,
+        Unknown,
+        &time,
+        &mut network,
+        words,
+        input,
+        output,
+        errors,
+    )
+    .0
 }
 
 /// The words of a line, with a space between two, with this file in place of `FILE`, and with a space in the

@@ -6,6 +6,7 @@ use std::alloc::Global;
 use vault_core::moment::Moment;
 use vault_core::source::Source;
 use vault_live::live::LiveSource;
+use vault_live::time::ClockTime;
 use vault_pan::draw::{Digits, candidate};
 use vault_pan::pan::Pan;
 use vault_pan::token::Token;
@@ -29,13 +30,15 @@ fn gives_two<S: Source>(source: &mut S) -> bool {
 #[test]
 fn it_gives_the_clocks_second_so_many_times(rt: HostRuntime) {
     let clock = StandingClock::at(1000);
-    let mut source = LiveSource::new(rt.alloc(), &clock, StdRng::seed_from_u64(7), 2);
+    let time = ClockTime::new(&clock);
+    let mut source = LiveSource::new(rt.alloc(), &time, StdRng::seed_from_u64(7), 2);
     assert!(rt; gives_two(&mut source));
 }
 
 /// Whether a source over this clock gives no pair and says so.
 fn gives_none(alloc: Global, clock: &StandingClock) -> bool {
-    let mut source = LiveSource::new(alloc, clock, StdRng::seed_from_u64(7), 2);
+    let time = ClockTime::new(clock);
+    let mut source = LiveSource::new(alloc, &time, StdRng::seed_from_u64(7), 2);
     next_of(&mut source).is_none() && source.refused()
 }
 
@@ -56,7 +59,8 @@ fn given(
     let moment = seconds.and_then(|seconds| Moment::new(seconds).ok());
     let digits = digit.and_then(|digit| Digits::new(&[digit; 300]));
     let generator = StdRng::seed_from_u64(7);
-    let mut source = LiveSource::fixed(alloc, clock, generator, 2, moment, digits);
+    let time = ClockTime::new(clock);
+    let mut source = LiveSource::fixed(alloc, &time, generator, 2, moment, digits);
     let _ = next_of(&mut source)?;
     next_of(&mut source)
 }

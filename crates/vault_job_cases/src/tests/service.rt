@@ -4,17 +4,20 @@ mod fakes;
 mod peers;
 
 use super::clocks::StandingClock;
+use fakes::Lent;
 use rand::SeedableRng;
 use rand::rngs::StdRng;
 use std::alloc::Global;
 use std::io;
 use std::io::{Write, read_to_string};
 use std::net::{Net, OpenListener, Shutdown, TcpListener, TcpStream};
+use std::os::fd::AsRawFd;
 use std::time::Duration;
 use vault_listen::fault::ListenFault;
 use vault_listen::peer::{LONGEST, Limits, PATIENCE};
 use vault_listen::service::serve_on;
 use vault_listen::tcp::TcpPeers;
+use vault_live::time::ClockTime;
 use vault_script::case::wrong;
 use vault_store::memory::MemTables;
 use vault_store::tables::Tables;
@@ -80,7 +83,7 @@ fn is_told(alloc: Global, peer: TcpStream, wanted: &str) -> bool {
 }
 
 /// Serves so many connections at a moment, where a message or an answer may take 200 milliseconds.
-fn serve_at<L: OpenListener<Stream = TcpStream>, T: Tables>(
+fn serve_at<L: OpenListener<Stream = TcpStream> + AsRawFd, T: Tables>(
     alloc: Global,
     listener: &L,
     connections: u64,
@@ -93,10 +96,10 @@ fn serve_at<L: OpenListener<Stream = TcpStream>, T: Tables>(
         connection: Duration::from_secs(60),
     };
     let clock = StandingClock::at(moment);
-    let mut peers = TcpPeers::new(alloc, listener, &clock, limits);
+    let mut peers = TcpPeers::new(alloc, Lent::new(listener), &clock, limits);
     serve_on(
         alloc,
-        &clock,
+        &ClockTime::new(&clock),
         &mut generator,
         &mut peers,
         connections,
@@ -119,10 +122,15 @@ fn is_answered<H: Net<Listener = TcpListener, Stream = TcpStream> + AllocGlobal>
     let mut vault = shop(rt.alloc());
     let mut generator = StdRng::seed_from_u64(7);
     let clock = StandingClock::at(1000);
-    let mut peers = TcpPeers::new(rt.alloc(), &listener, &clock, Limits::of_service());
+    let mut peers = TcpPeers::new(
+        rt.alloc(),
+        Lent::new(&listener),
+        &clock,
+        Limits::of_service(),
+    );
     let ended = serve_on(
         rt.alloc(),
-        &clock,
+        &ClockTime::new(&clock),
         &mut generator,
         &mut peers,
         1,

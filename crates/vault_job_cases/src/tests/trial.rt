@@ -7,6 +7,7 @@ use vault_core::name::{Caller, MerchantId};
 use vault_jobs::pipe::pipe;
 use vault_jobs::trial::{Trial, trial_vault};
 use vault_live::live::LiveSource;
+use vault_live::time::ClockTime;
 use vault_wire::watched::Watched;
 
 /// The messages that ask for so many tokens of one number, each with a request number of its own; and then
@@ -40,7 +41,8 @@ fn answers(rt: &HostRuntime) -> Option<Vec<u8>> {
     };
     let mut vault = trial_vault(alloc, &asked).ok()?;
     let generator = StdRng::seed_from_u64(7);
-    let mut pairs = LiveSource::fixed(alloc, rt, generator, 1002, Some(made), None);
+    let time = ClockTime::new(rt);
+    let mut pairs = LiveSource::fixed(alloc, &time, generator, 1002, Some(made), None);
     let input = requests(alloc, 1001).ok()?;
     let mut output = Vec::new(alloc);
     let mut reader = Watched::new(input.as_bytes());

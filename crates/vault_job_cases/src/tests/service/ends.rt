@@ -1,5 +1,5 @@
 //! What ends the service, and what ends one connection alone.
-use super::fakes::{Failing, Stuck};
+use super::fakes::{Failing, Lent, Stuck};
 use super::{ANSWERED, ASKED, is_told, listen, peer, serve_at, shop};
 use crate::tests::clocks::StandingClock;
 use rand::SeedableRng;
@@ -12,6 +12,7 @@ use vault_listen::fault::ListenFault;
 use vault_listen::peer::Limits;
 use vault_listen::service::serve_on;
 use vault_listen::tcp::TcpPeers;
+use vault_live::time::ClockTime;
 use vault_store::vault::Vault;
 
 /// Connections that are lost before they are accepted.
@@ -100,10 +101,15 @@ fn ends_alone<H: Net<Listener = TcpListener, Stream = TcpStream> + AllocGlobal>(
     let mut vault = shop(rt.alloc());
     let mut generator = StdRng::seed_from_u64(7);
     let clock = StandingClock::unread(1000, 1);
-    let mut peers = TcpPeers::new(rt.alloc(), &listener, &clock, Limits::of_service());
+    let mut peers = TcpPeers::new(
+        rt.alloc(),
+        Lent::new(&listener),
+        &clock,
+        Limits::of_service(),
+    );
     let ended = serve_on(
         rt.alloc(),
-        &clock,
+        &ClockTime::new(&clock),
         &mut generator,
         &mut peers,
         2,

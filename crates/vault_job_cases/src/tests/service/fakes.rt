@@ -7,6 +7,7 @@ use std::cell::Cell;
 use std::io;
 use std::io::{Error, ErrorKind};
 use std::net::{OpenListener, SocketAddr, TcpListener, TcpStream};
+use std::os::fd::{AsRawFd, RawFd};
 use vault_core::changes::Changes;
 use vault_core::moment::Moment;
 use vault_core::name::{Caller, MerchantId};
@@ -17,6 +18,32 @@ use vault_pan::pan::Pan;
 use vault_pan::token::Token;
 use vault_store::memory::MemTables;
 use vault_store::tables::{Tables, TablesFault};
+
+/// A listener that is lent.
+#[derive(Drop)]
+pub(super) struct Lent<'a, L> {
+    listener: &'a L,
+}
+
+impl<'a, L> Lent<'a, L> {
+    pub(super) fn new(listener: &'a L) -> Lent<'a, L> {
+        Lent { listener }
+    }
+}
+
+impl<'a, L: OpenListener<Stream = TcpStream>> OpenListener for Lent<'a, L> {
+    type Stream = TcpStream;
+
+    fn accept(&self) -> io::Result<(TcpStream, SocketAddr)> {
+        self.listener.accept()
+    }
+}
+
+impl<'a, L: AsRawFd> AsRawFd for Lent<'a, L> {
+    fn as_raw_fd(&self) -> RawFd {
+        self.listener.as_raw_fd()
+    }
+}
 
 /// A listener whose first accepts fail with these kinds, and that counts its accepts.
 #[derive(Drop)]
@@ -51,6 +78,12 @@ impl<'a> OpenListener for Failing<'a> {
             Some(kind) => Err(Error::from(*kind)),
             None => self.listener.accept(),
         }
+    }
+}
+
+impl<'a> AsRawFd for Failing<'a> {
+    fn as_raw_fd(&self) -> RawFd {
+        self.listener.as_raw_fd()
     }
 }
 

@@ -1,4 +1,5 @@
 //! Peers that are silent, cut short, gone or in the way: the service goes on to the next one.
+use super::fakes::Lent;
 use super::{ANSWERED, ASKED, is_served, is_told, listen, open_peer, peer, shop};
 use crate::tests::clocks::{StandingClock, StepClock};
 use rand::SeedableRng;
@@ -7,12 +8,14 @@ use std::alloc::{AllocError, Global};
 use std::io;
 use std::io::{Read, Write, read_to_string};
 use std::net::{Net, OpenListener, TcpListener, TcpStream};
+use std::os::fd::AsRawFd;
 use std::rc::Rc;
-use std::time::Duration;
+use std::time::{Clock, Duration};
 use vault_listen::linger::discard;
 use vault_listen::peer::{Limits, PATIENCE, Peer, PeerReader, PeerWriter};
 use vault_listen::service::serve_on;
 use vault_listen::tcp::TcpPeers;
+use vault_live::time::ClockTime;
 
 /// Whether peers that go away end their own connection alone.
 fn go_away<H: Net<Listener = TcpListener, Stream = TcpStream> + AllocGlobal>(
@@ -35,21 +38,63 @@ fn peers_that_go_away_end_their_own_connection_alone(rt: HostRuntime) {
     assert!(rt; go_away(&rt).unwrap_or(false));
 }
 
-/// Whether an idle peer is answered, and after it the next one.
-fn is_waited_for<H: Net<Listener = TcpListener, Stream = TcpStream> + AllocGlobal>(
+/// How long it takes to serve a peer that sends no more, and then the next one, where a message may take five
+/// seconds; none where one of them isn't answered so.
+fn time_of_both<H: Net<Listener = TcpListener, Stream = TcpStream> + AllocGlobal + Clock>(
     rt: &H,
-) -> io::Result<bool> {
+    sent: &[u8],
+    wanted: &str,
+) -> io::Result<Option<Duration>> {
     let listener = listen(rt)?;
-    let idle = open_peer(rt, &listener, ASKED.as_bytes())?;
+    let idle = open_peer(rt, &listener, sent)?;
     let next = peer(rt, &listener, ASKED.as_bytes())?;
-    let served = is_served(rt.alloc(), &listener, 2);
-    let are_told = is_told(rt.alloc(), next, ANSWERED) && is_told(rt.alloc(), idle, ANSWERED);
-    Ok(served && are_told)
+    let mut vault = shop(rt.alloc());
+    let mut generator = StdRng::seed_from_u64(7);
+    let limits = Limits {
+        turn: Duration::from_secs(1),
+        connection: Duration::from_secs(60),
+    };
+    let clock = StandingClock::at(1000);
+    let mut peers = TcpPeers::new(rt.alloc(), Lent::new(&listener), &clock, limits);
+    let begun = rt.monotonic()?;
+    let ended = serve_on(
+        rt.alloc(),
+        &ClockTime::new(&clock),
+        &mut generator,
+        &mut peers,
+        2,
+        &mut vault,
+    );
+    let took = rt.monotonic()?.saturating_sub(begun);
+    let are_told = is_told(rt.alloc(), next, ANSWERED) && is_told(rt.alloc(), idle, wanted);
+    Ok((ended == Ok(()) && are_told).then_some(took))
+}
+
+/// Whether that takes at least so many milliseconds and less than so many.
+fn takes<H: Net<Listener = TcpListener, Stream = TcpStream> + AllocGlobal + Clock>(
+    rt: &H,
+    sent: &[u8],
+    wanted: &str,
+    least: u64,
+    most: u64,
+) -> bool {
+    match time_of_both(rt, sent, wanted) {
+        Ok(Some(took)) => {
+            took >= Duration::from_millis(least) && took < Duration::from_millis(most)
+        }
+        Ok(None) | Err(_) => false,
+    }
 }
 
 #[test]
-fn an_idle_peer_is_waited_for_as_long_as_patience_lasts(rt: HostRuntime) {
-    assert!(rt; is_waited_for(&rt).unwrap_or(false));
+fn a_quiet_peer_gives_way_to_one_that_waits(rt: HostRuntime) {
+    assert!(rt; takes(&rt, ASKED.as_bytes(), ANSWERED, 50, 900));
+    assert!(rt; takes(&rt, b"", "", 50, 900));
+}
+
+#[test]
+fn a_message_that_has_begun_keeps_its_time(rt: HostRuntime) {
+    assert!(rt; takes(&rt, &ASKED.as_bytes()[..99], "", 1000, 5000));
 }
 
 /// Whether the waits of a stream are limited to five seconds both ways.
@@ -60,11 +105,11 @@ fn are_limited<H: Net<Listener = TcpListener, Stream = TcpStream> + AllocGlobal>
     let _other = open_peer(rt, &listener, b"a")?;
     let (stream, _) = listener.accept()?;
     let clock = StandingClock::at(1000);
-    let peer = Peer::new(stream, &clock, Limits::of_service())?;
+    let peer = Peer::new(stream, &clock, Limits::of_service(), listener.as_raw_fd())?;
     let Ok(peer) = Rc::new(rt.alloc(), peer) else {
         return Ok(false);
     };
-    let read = PeerReader::new(peer.clone()?).read(&mut [0; 9])?;
+    let read = PeerReader::new(rt.alloc(), peer.clone()?).read(&mut [0; 9])?;
     let written = PeerWriter::new(peer.clone()?).write(b"ab")?;
     let patience = Some(Duration::from_secs(PATIENCE));
     let stream = peer.stream();
@@ -92,10 +137,10 @@ fn ends_alone<H: Net<Listener = TcpListener, Stream = TcpStream> + AllocGlobal>(
     let mut vault = shop(rt.alloc());
     let mut generator = StdRng::seed_from_u64(7);
     let clock = StandingClock::at(1000);
-    let mut peers = TcpPeers::new(rt.alloc(), &listener, &clock, NO_TIME);
+    let mut peers = TcpPeers::new(rt.alloc(), Lent::new(&listener), &clock, NO_TIME);
     let ended = serve_on(
         rt.alloc(),
-        &clock,
+        &ClockTime::new(&clock),
         &mut generator,
         &mut peers,
         1,
@@ -132,10 +177,15 @@ fn are_answered<H: Net<Listener = TcpListener, Stream = TcpStream> + AllocGlobal
     let mut vault = shop(rt.alloc());
     let mut generator = StdRng::seed_from_u64(7);
     let clock = StepClock::of(step);
-    let mut peers = TcpPeers::new(rt.alloc(), &listener, &clock, Limits::of_service());
+    let mut peers = TcpPeers::new(
+        rt.alloc(),
+        Lent::new(&listener),
+        &clock,
+        Limits::of_service(),
+    );
     let ended = serve_on(
         rt.alloc(),
-        &clock,
+        &ClockTime::new(&clock),
         &mut generator,
         &mut peers,
         1,
