@@ -1,14 +1,14 @@
 //! The file at a path moves to the newest schema.
-ghost use Rattle.std.specs.Prelude.{◌≡◌, ◌↔◌, ℕ, ℤ, pos, None, Err, IfOk, IfErr, IfSome, IsErrAnd};
+ghost use Rattle.std.specs.Prelude.{◌≡◌, ◌≢◌, ◌↔◌, ℕ, ℤ, pos, None, Err, IfOk, IfErr, IfSome, IsErrAnd};
 ghost use Rattle.sqlite.specs.Files.{file_state};
 ghost use Rattle.sqlite.specs.State.{HasCleanDisk};
 ghost use Rattle.sqlite.specs.View.{IsClean};
 ghost use Rattle.sqlite_store.specs.FileStore.{view};
 ghost use Rattle.vault_core.specs.Sound.{Sound};
 ghost use Rattle.vault_core.specs.Vault.{Vault as Content};
-ghost use Rattle.vault_file.specs.Found.{HoldsSuch, IsNoPath, IsNoVerdict, LeavesFrom, SparesStopped};
-ghost use Rattle.vault_file.specs.Found.{Stays};
-ghost use Rattle.vault_file.specs.Moved.{LeavesOld, MovesAs, MovesFrom, StaysOld, TellsOld};
+ghost use Rattle.vault_file.specs.Found.{HoldsSuch, IsNoPath, IsNoVerdict, LeavesFrom, LeavesWhole};
+ghost use Rattle.vault_file.specs.Found.{MayFindNone, SparesStopped, Stays, StaysWhole};
+ghost use Rattle.vault_file.specs.Moved.{LeavesOld, MayFindOlder, MovesAs, MovesFrom, StaysOld, TellsOld};
 ghost use Rattle.vault_file.specs.Paths.{Each};
 ghost use Rattle.vault_file.specs.Reopened.{KeepsIn, KeepsSome};
 ghost use Rattle.vault_migrate.specs.Moved.{FindsBroken, FindsVersion};
@@ -16,7 +16,7 @@ ghost use Rattle.vault_schema.specs.declared.version.Version.{Version};
 
 use crate::fault::NotOpened;
 use crate::paths::Paths;
-use crate::reopen::close_moved;
+use crate::reopen::{close_moved, settled};
 use sqlite::{Connection, FileStore};
 use vault_migrate::migrate::migrate_all;
 use vault_recover::options::Cache;
@@ -60,10 +60,17 @@ pub fn migrate_from<P: Paths>(
         (λ e. IfSome e.1 (λ conn. Each (P.holds paths path.now) (λ image. LeavesFrom image conn))) }
     ensures left_old { IfErr result
         (λ e. IfSome e.1 (λ conn. Each (P.holds paths path.now) (λ image. LeavesOld image e.0 conn))) }
+    // A refusal by any number but 33 writes nothing.
+    ensures same { IfErr result (λ e. IfSome e.1 (λ conn. Each (P.holds paths path.now)
+        (λ image. e.0 ≢ NotOpened.Fault OpenFault.Store → LeavesWhole image conn))) }
+    // Where there is a table, and no older version's tables are there, nor does 33.
+    ensures same_unmoved { IfErr result (λ e. IfSome e.1 (λ conn. Each (P.holds paths path.now)
+        (λ image. ¬ MayFindNone image → ¬ MayFindOlder image → LeavesWhole image conn))) }
 {
     let Some(mut conn) = paths.open(rt, path, Cache::Moved) else {
         return Err((NotOpened::Refused, None));
     };
+    settled(&conn);
     match migrate_all(rt.alloc(), &mut conn) {
         Ok(version) => Ok((version, conn)),
         Err(fault) => Err((NotOpened::Fault(fault), Some(conn))),
@@ -89,6 +96,12 @@ pub fn migrate_file<P: Paths>(
         (λ image. IsClean (view left) → TellsOld image why))) }
     ensures stays { IfErr result.0 (λ _. IfSome result.1
         (λ left. Each (P.holds paths path.now) (λ image. Stays image left))) }
+    // A refusal by any number but 33 writes nothing.
+    ensures same { IfErr result.0 (λ why. IfSome result.1 (λ left. Each (P.holds paths path.now)
+        (λ image. why ≢ NotOpened.Fault OpenFault.Store → StaysWhole image left))) }
+    // Where there is a table, and no older version's tables are there, nor does 33.
+    ensures same_unmoved { IfErr result.0 (λ _. IfSome result.1 (λ left. Each (P.holds paths path.now)
+        (λ image. ¬ MayFindNone image → ¬ MayFindOlder image → StaysWhole image left))) }
 {
     match migrate_from(rt, path, paths) {
         Ok((version, conn)) => (Ok(version), Some(close(conn))),

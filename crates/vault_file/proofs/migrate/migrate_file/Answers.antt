@@ -3,6 +3,7 @@ use Rattle.sqlite.specs.Files.{file_state}
 use Rattle.sqlite.specs.State.{HasCleanDisk}
 use Rattle.vault_file.proofs.Leaving.{stays}
 use Rattle.vault_file.proofs.Moving.{moves_as, stays_old}
+use Rattle.vault_file.proofs.Whole.{stays_whole}
 use Rattle.vault_file.proofs.migrate.migrate_file.Goals as goal
 
 pub returns-in-Ok-clause-no_path : goal.returns-in-Ok-clause-no_path
@@ -38,3 +39,16 @@ returns-in-Err-default-Some-clause-left g c image holds =
     ((rw c.in-Err-default-Some.field-0-1-is at c.in-Err-default-Some.ensures.never_in) image holds)
     ((rw c.in-Err-default-Some.field-0-1-is at c.in-Err-default-Some.ensures.never_some) image holds)
     ((rw c.in-Err-default-Some.field-0-1-is at c.in-Err-default-Some.ensures.never) image holds)
+
+pub returns-in-Err-default-Some-clause-same : goal.returns-in-Err-default-Some-clause-same
+returns-in-Err-default-Some-clause-same g c image holds other =
+    stays_whole image c.in-Err-default-Some.conn c.close_moved.result
+    ((rw c.in-Err-default-Some.field-0-1-is at c.in-Err-default-Some.ensures.same) image holds other)
+    (λ clean. omega (arith, c.close_moved.ensures.clean, clean)) c.close_moved.ensures.found_after
+
+pub returns-in-Err-default-Some-clause-same_unmoved : goal.returns-in-Err-default-Some-clause-same_unmoved
+returns-in-Err-default-Some-clause-same_unmoved g c image holds some none =
+    stays_whole image c.in-Err-default-Some.conn c.close_moved.result
+    ((rw c.in-Err-default-Some.field-0-1-is at c.in-Err-default-Some.ensures.same_unmoved) image holds some
+    none)
+    (λ clean. omega (arith, c.close_moved.ensures.clean, clean)) c.close_moved.ensures.found_after

@@ -1,8 +1,11 @@
+use Rattle.std.proofs.Common.{ap, arith}
 use Rattle.sqlite.specs.Files.{file_state}
 use Rattle.vault_file.proofs.Leaving.{leaves_from}
 use Rattle.vault_file.proofs.Moving.{leaves_old, movable, moves_from, never_in, never_some, was_clean}
 use Rattle.vault_file.proofs.Opening.{found_in, same_fault, spares, there}
+use Rattle.vault_file.proofs.Whole.{leaves_whole, none_older, some_there}
 use Rattle.vault_file.proofs.migrate.migrate_from.Goals as goal
+use Rattle.vault_file.specs.declared.fault.NotOpened.TheVariants.{Fault}
 use Rattle.vault_verdict.specs.declared.fault.OpenFault.TheVariants.{WrongSchema, Damaged}
 
 pub returns-in-Ok-clause-moved : goal.returns-in-Ok-clause-moved
@@ -68,3 +71,18 @@ returns-in-Err-clause-left_old g c image holds =
     leaves_old image c.in-Some.conn c.migrate_all.new.conn (c.in-Some.ensures.opened image holds)
     c.in-Some.ensures.unlimited c.migrate_all.ensures.clean c.in-Err.fault
     (λ clean. (c.migrate_all.ensures.crash clean).older) c.in-Err.ensures.stays
+
+pub returns-in-Err-clause-same : goal.returns-in-Err-clause-same
+returns-in-Err-clause-same g c image holds other =
+    leaves_whole image c.in-Some.conn c.migrate_all.new.conn (c.in-Some.ensures.opened image holds)
+    c.settled.ensures c.migrate_all.ensures.clean
+    (λ clean. c.in-Err.ensures.unwritten clean (λ same. other (ap (λ fault. Fault fault) same)))
+
+pub returns-in-Err-clause-same_unmoved : goal.returns-in-Err-clause-same_unmoved
+returns-in-Err-clause-same_unmoved g c image holds some none =
+    let opened = c.in-Some.ensures.opened image holds in
+    leaves_whole image c.in-Some.conn c.migrate_all.new.conn opened c.settled.ensures
+    c.migrate_all.ensures.clean
+    (λ clean. c.in-Err.ensures.unmoved clean
+    (none_older image c.in-Some.conn opened none (omega (arith, c.migrate_all.ensures.clean, clean)))
+    (some_there image c.in-Some.conn opened some (omega (arith, c.migrate_all.ensures.clean, clean))))
