@@ -17,10 +17,13 @@ use Rattle.sqlite_wal.specs.Recovery.{Image}
 use Rattle.sql_maps.specs.Schema.{no_schema}
 use Rattle.sql_maps.specs.States.{LeavesNoMore}
 use Rattle.vault_file.specs.Found.{LeavesWhole, MayFindNone, StaysWhole}
+use Rattle.vault_file.specs.Moved.{MayFindOlder}
+use Rattle.vault_migrate.specs.Moved.{IsNoOlder}
 use Rattle.vault_recover.specs.Crashed.{AreBlank, IsOpenOf, MayFind}
 use Rattle.vault_schema.specs.Schema.{newest_schema}
 use Rattle.vault_schema.specs.Stands.{newest}
 use Rattle.vault_schema.specs.Versioned.{HasVersion}
+use Rattle.vault_schema.specs.Versions.{schema_of}
 use Rattle.vault_verdict.proofs.InVersion.{has_version_in}
 use Rattle.vault_verdict.specs.Names.{IsForeign, IsMixed, IsOf, vault_names}
 use Rattle.vault_verdict.specs.Reading.{IsQuietWhere}
@@ -87,6 +90,22 @@ module _ {D : Type 0} {g : Ghosts D} where
         (file_state first).committed.trees,
         subst (λ (d : Trees). AreBlank d) (ap (λ (d : Database). d.trees) it.opened.0.clean)
             (subst (λ (s : Schema). IsSound s (file_state first).now.trees) none
+            (it.opened.1 it.opened.0.is_open).0),
+        it.found.holds,
+      )
+
+  -- where no older version's tables are there, the open found none
+  pub none_older : (image : Image) (first : Held (FileStore D g))
+      → (HasCleanDisk (file_state first) → IsOpenOf image first) → ¬ MayFindOlder image
+      → HasCleanDisk (file_state first) → IsNoOlder (file_state first).now
+  none_older image first found none clean v older schema =
+      let it : IsOpenOf image first = found clean in
+      none (
+        v,
+        (file_state first).committed.trees,
+        older,
+        subst (λ (d : Trees). IsSound (schema_of v) d) (ap (λ (d : Database). d.trees) it.opened.0.clean)
+            (subst (λ (s : Schema). IsSound s (file_state first).now.trees) schema
             (it.opened.1 it.opened.0.is_open).0),
         it.found.holds,
       )

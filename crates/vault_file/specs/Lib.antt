@@ -1,4 +1,5 @@
 pub mod Faults
 pub mod Found
 pub mod Moved
+pub mod Paths
 pub mod Reopened

@@ -6,6 +6,7 @@ use Rattle.sqlite.specs.Held.{Held}
 use Rattle.sqlite.specs.State.{HasCleanDisk}
 use Rattle.sqlite.specs.Tree.{Trees}
 use Rattle.sqlite.specs.View.{IsClean}
+use Rattle.sqlite_catalog.specs.Listing.{IsSound}
 use Rattle.sqlite_disk.specs.declared.Disk.{Ghosts}
 use Rattle.sqlite_store.specs.FileStore.{view}
 use Rattle.sqlite_store.specs.declared.store.FileStore.{FileStore}
@@ -19,13 +20,19 @@ use Rattle.vault_file.specs.declared.fault.NotOpened.TheVariants.{Fault}
 use Rattle.vault_migrate.specs.Moved.{FindsBroken, FindsVersion, HoldsSoundIn, IsKnown, IsOlder, LeavesIn}
 use Rattle.vault_migrate.specs.Moved.{LeavesSome}
 use Rattle.vault_recover.specs.Crashed.{AreBlank, HoldsEither, IsOpenOf, Keeps, KeepsEither, KeepsFirst}
-use Rattle.vault_recover.specs.Crashed.{Reopens, ReopensEither, ReopensSuch}
+use Rattle.vault_recover.specs.Crashed.{MayFind, Reopens, ReopensEither, ReopensSuch}
 use Rattle.vault_verdict.specs.Opened.{StandsSoundIn}
 use Rattle.vault_verdict.specs.ReadAs.{IsFullIn}
 use Rattle.vault_verdict.specs.declared.fault.OpenFault.TheVariants.{Damaged, Store, WrongSchema}
 use Rattle.vault_schema.specs.Holds.{AreOurs, Holds}
 use Rattle.vault_schema.specs.Stands.{newest}
+use Rattle.vault_schema.specs.Versions.{schema_of}
 use Rattle.vault_schema.specs.declared.version.Version.{Version}
+
+-- an open of files with these bytes may find the tables of an older version
+abbrev pub MayFindOlder : Image → Type 0
+MayFindOlder image = (v : Version) × (found : Trees) × IsOlder v × IsSound (schema_of v) found
+    × MayFind image found
 
 -- A refusal of a migration tells what the bytes hold, in whatever version: 31 the least rule that the rows
 -- break, and 30 the version that is said.

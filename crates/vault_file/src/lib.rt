@@ -3,7 +3,8 @@
 
 pub mod check;
 pub mod fault;
-mod make;
+pub mod host;
 pub mod migrate;
 pub mod open;
+pub mod paths;
 pub mod reopen;

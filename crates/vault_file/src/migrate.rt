@@ -1,23 +1,23 @@
 //! The file at a path moves to the newest schema.
-ghost use Rattle.std.specs.Prelude.{◌≡◌, ◌↔◌, ℕ, ℤ, pos, None, Err, IfOk, IfErr, IfSome, IsErrAnd};
+ghost use Rattle.std.specs.Prelude.{◌≡◌, ◌≢◌, ◌↔◌, ℕ, ℤ, pos, None, Err, IfOk, IfErr, IfSome, IsErrAnd};
 ghost use Rattle.sqlite.specs.Files.{file_state};
 ghost use Rattle.sqlite.specs.State.{HasCleanDisk};
 ghost use Rattle.sqlite.specs.View.{IsClean};
 ghost use Rattle.sqlite_store.specs.FileStore.{view};
-ghost use Rattle.sqlite_wal.specs.Files.{image_at};
 ghost use Rattle.vault_core.specs.Sound.{Sound};
 ghost use Rattle.vault_core.specs.Vault.{Vault as Content};
-ghost use Rattle.vault_file.specs.Found.{HoldsSuch, IsNoPath, IsNoVerdict, LeavesFrom, SparesStopped};
-ghost use Rattle.vault_file.specs.Found.{Stays};
-ghost use Rattle.vault_file.specs.Moved.{LeavesOld, MovesAs, MovesFrom, StaysOld, TellsOld};
+ghost use Rattle.vault_file.specs.Found.{HoldsSuch, IsNoPath, IsNoVerdict, LeavesFrom, LeavesWhole};
+ghost use Rattle.vault_file.specs.Found.{MayFindNone, SparesStopped, Stays, StaysWhole};
+ghost use Rattle.vault_file.specs.Moved.{LeavesOld, MayFindOlder, MovesAs, MovesFrom, StaysOld, TellsOld};
+ghost use Rattle.vault_file.specs.Paths.{Each};
 ghost use Rattle.vault_file.specs.Reopened.{KeepsIn, KeepsSome};
 ghost use Rattle.vault_migrate.specs.Moved.{FindsBroken, FindsVersion};
 ghost use Rattle.vault_schema.specs.declared.version.Version.{Version};
 
 use crate::fault::NotOpened;
-use crate::make::open_private;
-use crate::reopen::close_moved;
-use sqlite::{Connection, FileFrom, FileStore, Start};
+use crate::paths::Paths;
+use crate::reopen::{close_moved, settled};
+use sqlite::{Connection, FileStore};
 use vault_migrate::migrate::migrate_all;
 use vault_recover::options::Cache;
 use vault_recover::reopen::close;
@@ -28,36 +28,49 @@ use vault_verdict::fault::OpenFault;
 /// `open_from` makes it, and gets the tables of the empty vault.
 ///
 /// Refused by 30 to 33 as `vault_migrate::migrate_all` refuses, by 34 as `open_from` refuses.
-pub fn migrate_from<S: Start>(
+pub fn migrate_from<P: Paths>(
     rt: &HostRuntime,
     path: &str,
-    start: S,
+    paths: P,
 ) -> Result<
-    (i64, Connection<FileStore<FileFrom<S>>>),
-    (NotOpened, Option<Connection<FileStore<FileFrom<S>>>>),
+    (i64, Connection<FileStore<P::Disk>>),
+    (NotOpened, Option<Connection<FileStore<P::Disk>>>),
 >
     ensures no_path { IsNoPath path.now → IsErrAnd result (λ e. e.0 ≡ NotOpened.Refused) }
     ensures version { IfOk result (λ told. told.0 ≡ pos 4) }
-    ensures moved { IfOk result (λ told. MovesFrom (image_at S.Start) told.1) }
+    ensures moved { IfOk result
+        (λ told. Each (P.holds paths path.now) (λ image. MovesFrom image told.1)) }
     ensures refused { IfErr result (λ e. (e.0 ≡ NotOpened.Refused) ↔ (e.1 ≡ None)) }
-    ensures damaged { IfErr result (λ e. IfSome e.1 (λ conn. HasCleanDisk (file_state conn)
-        → (rule : ℕ) → e.0 ≡ NotOpened.Fault (OpenFault.Damaged rule)
-        → HoldsSuch (image_at S.Start) (λ db. FindsBroken db rule))) }
-    ensures wrong { IfErr result (λ e. IfSome e.1 (λ conn. HasCleanDisk (file_state conn)
-        → (n : ℤ) → e.0 ≡ NotOpened.Fault (OpenFault.WrongSchema n)
-        → HoldsSuch (image_at S.Start) (λ db. FindsVersion db n))) }
-    ensures never_in { IfErr result (λ e. IfSome e.1 (λ conn. HasCleanDisk (file_state conn)
-        → (v : Version) (V : Content) → Sound V → KeepsIn v (image_at S.Start) V → IsNoVerdict e.0)) }
-    ensures never { IfErr result (λ e. IfSome e.1 (λ conn. HasCleanDisk (file_state conn)
-        → SparesStopped (image_at S.Start) e.0)) }
-    ensures never_some { IfErr result (λ e. IfSome e.1 (λ conn. HasCleanDisk (file_state conn)
-        → (V : Content) → Sound V → KeepsSome (image_at S.Start) V → IsNoVerdict e.0)) }
-    ensures left { IfErr result (λ e. IfSome e.1 (LeavesFrom (image_at S.Start))) }
-    ensures left_old { IfErr result (λ e. IfSome e.1 (LeavesOld (image_at S.Start) e.0)) }
+    ensures refused_there { IfErr result (λ e. e.0 ≡ NotOpened.Refused → P.refuses paths path.now) }
+    ensures damaged { IfErr result (λ e. IfSome e.1 (λ conn. Each (P.holds paths path.now) (λ image.
+        HasCleanDisk (file_state conn) → (rule : ℕ) → e.0 ≡ NotOpened.Fault (OpenFault.Damaged rule)
+        → HoldsSuch image (λ db. FindsBroken db rule)))) }
+    ensures wrong { IfErr result (λ e. IfSome e.1 (λ conn. Each (P.holds paths path.now) (λ image.
+        HasCleanDisk (file_state conn) → (n : ℤ) → e.0 ≡ NotOpened.Fault (OpenFault.WrongSchema n)
+        → HoldsSuch image (λ db. FindsVersion db n)))) }
+    ensures never_in { IfErr result (λ e. IfSome e.1 (λ conn. Each (P.holds paths path.now) (λ image.
+        HasCleanDisk (file_state conn)
+        → (v : Version) (V : Content) → Sound V → KeepsIn v image V → IsNoVerdict e.0))) }
+    ensures never { IfErr result (λ e. IfSome e.1 (λ conn. Each (P.holds paths path.now) (λ image.
+        HasCleanDisk (file_state conn) → SparesStopped image e.0))) }
+    ensures never_some { IfErr result (λ e. IfSome e.1 (λ conn. Each (P.holds paths path.now) (λ image.
+        HasCleanDisk (file_state conn)
+        → (V : Content) → Sound V → KeepsSome image V → IsNoVerdict e.0))) }
+    ensures left { IfErr result
+        (λ e. IfSome e.1 (λ conn. Each (P.holds paths path.now) (λ image. LeavesFrom image conn))) }
+    ensures left_old { IfErr result
+        (λ e. IfSome e.1 (λ conn. Each (P.holds paths path.now) (λ image. LeavesOld image e.0 conn))) }
+    // A refusal by any number but 33 writes nothing.
+    ensures same { IfErr result (λ e. IfSome e.1 (λ conn. Each (P.holds paths path.now)
+        (λ image. e.0 ≢ NotOpened.Fault OpenFault.Store → LeavesWhole image conn))) }
+    // Where there is a table, and no older version's tables are there, nor does 33.
+    ensures same_unmoved { IfErr result (λ e. IfSome e.1 (λ conn. Each (P.holds paths path.now)
+        (λ image. ¬ MayFindNone image → ¬ MayFindOlder image → LeavesWhole image conn))) }
 {
-    let Some(mut conn) = open_private(rt, path, start, Cache::Moved) else {
+    let Some(mut conn) = paths.open(rt, path, Cache::Moved) else {
         return Err((NotOpened::Refused, None));
     };
+    settled(&conn);
     match migrate_all(rt.alloc(), &mut conn) {
         Ok(version) => Ok((version, conn)),
         Err(fault) => Err((NotOpened::Fault(fault), Some(conn))),
@@ -66,21 +79,31 @@ pub fn migrate_from<S: Start>(
 
 /// Moves the file at a path to the newest schema, as `migrate_from` does, and hands out the files, closed,
 /// where there are some.
-pub fn migrate_file<S: Start>(
+pub fn migrate_file<P: Paths>(
     rt: &HostRuntime,
     path: &str,
-    start: S,
-) -> (Result<i64, NotOpened>, Option<FileStore<FileFrom<S>>>)
+    paths: P,
+) -> (Result<i64, NotOpened>, Option<FileStore<P::Disk>>)
     ensures no_path { IsNoPath path.now → result.0 ≡ Err NotOpened.Refused }
     ensures refused { (result.1 ≡ None) ↔ (result.0 ≡ Err NotOpened.Refused) }
+    ensures refused_there { result.0 ≡ Err NotOpened.Refused → P.refuses paths path.now }
     ensures version { IfOk result.0 (λ version. version ≡ pos 4) }
-    ensures moved { IfOk result.0 (λ _. IfSome result.1 (MovesAs (image_at S.Start))) }
-    ensures left { IfErr result.0 (λ why. IfSome result.1 (λ left. StaysOld (image_at S.Start) left why)) }
-    ensures tells { IfErr result.0 (λ why. IfSome result.1 (λ left. IsClean (view left)
-        → TellsOld (image_at S.Start) why)) }
-    ensures stays { IfErr result.0 (λ _. IfSome result.1 (Stays (image_at S.Start))) }
+    ensures moved { IfOk result.0 (λ _. IfSome result.1
+        (λ left. Each (P.holds paths path.now) (λ image. MovesAs image left))) }
+    ensures left { IfErr result.0 (λ why. IfSome result.1
+        (λ left. Each (P.holds paths path.now) (λ image. StaysOld image left why))) }
+    ensures tells { IfErr result.0 (λ why. IfSome result.1 (λ left. Each (P.holds paths path.now)
+        (λ image. IsClean (view left) → TellsOld image why))) }
+    ensures stays { IfErr result.0 (λ _. IfSome result.1
+        (λ left. Each (P.holds paths path.now) (λ image. Stays image left))) }
+    // A refusal by any number but 33 writes nothing.
+    ensures same { IfErr result.0 (λ why. IfSome result.1 (λ left. Each (P.holds paths path.now)
+        (λ image. why ≢ NotOpened.Fault OpenFault.Store → StaysWhole image left))) }
+    // Where there is a table, and no older version's tables are there, nor does 33.
+    ensures same_unmoved { IfErr result.0 (λ _. IfSome result.1 (λ left. Each (P.holds paths path.now)
+        (λ image. ¬ MayFindNone image → ¬ MayFindOlder image → StaysWhole image left))) }
 {
-    match migrate_from(rt, path, start) {
+    match migrate_from(rt, path, paths) {
         Ok((version, conn)) => (Ok(version), Some(close(conn))),
         Err((fault, Some(conn))) => (Err(fault), Some(close_moved(conn))),
         Err((fault, None)) => (Err(fault), None),

@@ -4,10 +4,10 @@ ghost use Rattle.sqlite.specs.Files.{file_state};
 ghost use Rattle.sqlite.specs.State.{HasCleanDisk};
 ghost use Rattle.sqlite.specs.View.{IsClean, doubt};
 ghost use Rattle.sqlite_store.specs.FileStore.{view};
-ghost use Rattle.sqlite_wal.specs.Files.{image_at};
 ghost use Rattle.vault_core.specs.Vault.{Vault as Content};
 ghost use Rattle.vault_file.specs.Found.{HoldsSuch, IsNoPath, LeavesWhole, LeavesFrom, MayFindNone};
 ghost use Rattle.vault_file.specs.Found.{OpensFrom, SparesStopped, Stays, StaysWhole, TellsFound};
+ghost use Rattle.vault_file.specs.Paths.{Each};
 ghost use Rattle.vault_recover.specs.Crashed.{Reopens, ReopensEither};
 ghost use Rattle.vault_verdict.specs.Opened.{IsLeastBroken, IsWrong};
 ghost use Rattle.vault_verdict.specs.Reading.{IsFull};
@@ -16,9 +16,9 @@ ghost use Rattle.vault_sql.specs.Held.{AreFresh, AreHeld};
 ghost use Rattle.vault_store.specs.Applied.{Contains, is_broken, tables_of};
 
 use crate::fault::NotOpened;
-use crate::make::open_private;
+use crate::paths::Paths;
 use crate::reopen::{close_moved, settled, told};
-use sqlite::{Connection, FileFrom, FileStore, Start};
+use sqlite::{Connection, FileStore};
 use sqlite_disk::Disk;
 use vault_recover::open::open;
 use vault_recover::options::Cache;
@@ -27,8 +27,8 @@ use vault_sql::tables::SqlTables;
 use vault_store::vault::Vault;
 use vault_verdict::fault::OpenFault;
 
-/// The tables in a file that held what `S` says.
-pub type TablesFrom<S> = SqlTables<FileStore<FileFrom<S>>>;
+/// The tables in a file at a path.
+pub type TablesAt<P> = SqlTables<FileStore<<P as Paths>::Disk>>;
 
 /// Opens the vault in the file at a path. A file that isn't there is made, empty, for its owner alone to
 /// read and write, and so is its log; a file that is there keeps its mode. An empty file gets the tables
@@ -39,29 +39,32 @@ pub type TablesFrom<S> = SqlTables<FileStore<FileFrom<S>>>;
 /// was a connection, which looks the same. Such a file is as it was, but beside one that is no database an
 /// empty log may stay: to take it away isn't safe, since a program that opens the file now may use it.
 /// Refused by 30 to 33 as `vault_recover::open` refuses.
-pub fn open_from<S: Start>(
+pub fn open_from<P: Paths>(
     rt: &HostRuntime,
     path: &str,
-    start: S,
+    paths: P,
     cache: Cache,
-) -> Result<Vault<TablesFrom<S>>, (NotOpened, Option<Connection<FileStore<FileFrom<S>>>>)>
+) -> Result<Vault<TablesAt<P>>, (NotOpened, Option<Connection<FileStore<P::Disk>>>)>
     ensures no_path { IsNoPath path.now → IsErrAnd result (λ e. e.0 ≡ NotOpened.Refused) }
     ensures fresh { IfOk result (λ vault. (is_broken vault ≡ false) × AreFresh (tables_of vault)) }
-    ensures found { IfOk result (λ vault. OpensFrom (image_at S.Start) (tables_of vault).conn) }
+    ensures found { IfOk result (λ vault. Each (P.holds paths path.now)
+        (λ image. OpensFrom image (tables_of vault).conn)) }
     ensures refused { IfErr result (λ e. (e.0 ≡ NotOpened.Refused) ↔ (e.1 ≡ None)) }
-    ensures damaged { IfErr result (λ e. IfSome e.1 (λ conn. HasCleanDisk (file_state conn)
-        → (rule : ℕ) → e.0 ≡ NotOpened.Fault (OpenFault.Damaged rule)
-        → HoldsSuch (image_at S.Start) (λ db. IsFull db → IsLeastBroken db rule))) }
-    ensures wrong { IfErr result (λ e. IfSome e.1 (λ conn. HasCleanDisk (file_state conn)
-        → (n : ℤ) → e.0 ≡ NotOpened.Fault (OpenFault.WrongSchema n)
-        → HoldsSuch (image_at S.Start) (λ db. IsWrong db n))) }
-    ensures never { IfErr result (λ e. IfSome e.1 (λ conn. HasCleanDisk (file_state conn)
-        → SparesStopped (image_at S.Start) e.0)) }
-    ensures left { IfErr result (λ e. IfSome e.1 (LeavesFrom (image_at S.Start))) }
-    ensures same { IfErr result (λ e. IfSome e.1
-        (λ conn. ¬ MayFindNone (image_at S.Start) → LeavesWhole (image_at S.Start) conn)) }
+    ensures refused_there { IfErr result (λ e. e.0 ≡ NotOpened.Refused → P.refuses paths path.now) }
+    ensures damaged { IfErr result (λ e. IfSome e.1 (λ conn. Each (P.holds paths path.now) (λ image.
+        HasCleanDisk (file_state conn) → (rule : ℕ) → e.0 ≡ NotOpened.Fault (OpenFault.Damaged rule)
+        → HoldsSuch image (λ db. IsFull db → IsLeastBroken db rule)))) }
+    ensures wrong { IfErr result (λ e. IfSome e.1 (λ conn. Each (P.holds paths path.now) (λ image.
+        HasCleanDisk (file_state conn) → (n : ℤ) → e.0 ≡ NotOpened.Fault (OpenFault.WrongSchema n)
+        → HoldsSuch image (λ db. IsWrong db n)))) }
+    ensures never { IfErr result (λ e. IfSome e.1 (λ conn. Each (P.holds paths path.now) (λ image.
+        HasCleanDisk (file_state conn) → SparesStopped image e.0))) }
+    ensures left { IfErr result
+        (λ e. IfSome e.1 (λ conn. Each (P.holds paths path.now) (λ image. LeavesFrom image conn))) }
+    ensures same { IfErr result (λ e. IfSome e.1 (λ conn. Each (P.holds paths path.now)
+        (λ image. ¬ MayFindNone image → LeavesWhole image conn))) }
 {
-    let Some(conn) = open_private(rt, path, start, cache) else {
+    let Some(conn) = paths.open(rt, path, cache) else {
         return Err((NotOpened::Refused, None));
     };
     settled(&conn);
@@ -75,25 +78,28 @@ pub fn open_from<S: Start>(
 
 /// Opens the vault in the file at a path, and refuses as `open_from` does; a refusal comes with the files,
 /// closed, where there are some.
-pub fn open_vault<S: Start>(
+pub fn open_vault<P: Paths>(
     rt: &HostRuntime,
     path: &str,
-    start: S,
+    paths: P,
     cache: Cache,
-) -> Result<Vault<TablesFrom<S>>, (NotOpened, Option<FileStore<FileFrom<S>>>)>
+) -> Result<Vault<TablesAt<P>>, (NotOpened, Option<FileStore<P::Disk>>)>
     ensures no_path { IsNoPath path.now → IsErrAnd result (λ e. e.0 ≡ NotOpened.Refused) }
     ensures fresh { IfOk result (λ vault. (is_broken vault ≡ false) × AreFresh (tables_of vault)) }
-    ensures found { IfOk result (λ vault. OpensFrom (image_at S.Start) (tables_of vault).conn) }
+    ensures found { IfOk result (λ vault. Each (P.holds paths path.now)
+        (λ image. OpensFrom image (tables_of vault).conn)) }
     ensures refused { IfErr result (λ e. (e.0 ≡ NotOpened.Refused) ↔ (e.1 ≡ None)) }
-    ensures never { IfErr result (λ e. IfSome e.1 (λ left. IsClean (view left)
-        → SparesStopped (image_at S.Start) e.0)) }
-    ensures tells { IfErr result (λ e. IfSome e.1 (λ left. IsClean (view left)
-        → TellsFound (image_at S.Start) e.0)) }
-    ensures left { IfErr result (λ e. IfSome e.1 (Stays (image_at S.Start))) }
-    ensures same { IfErr result (λ e. IfSome e.1
-        (λ left. ¬ MayFindNone (image_at S.Start) → StaysWhole (image_at S.Start) left)) }
+    ensures refused_there { IfErr result (λ e. e.0 ≡ NotOpened.Refused → P.refuses paths path.now) }
+    ensures never { IfErr result (λ e. IfSome e.1 (λ left. Each (P.holds paths path.now)
+        (λ image. IsClean (view left) → SparesStopped image e.0))) }
+    ensures tells { IfErr result (λ e. IfSome e.1 (λ left. Each (P.holds paths path.now)
+        (λ image. IsClean (view left) → TellsFound image e.0))) }
+    ensures left { IfErr result
+        (λ e. IfSome e.1 (λ left. Each (P.holds paths path.now) (λ image. Stays image left))) }
+    ensures same { IfErr result (λ e. IfSome e.1 (λ left. Each (P.holds paths path.now)
+        (λ image. ¬ MayFindNone image → StaysWhole image left))) }
 {
-    match open_from(rt, path, start, cache) {
+    match open_from(rt, path, paths, cache) {
         Ok(vault) => Ok(vault),
         Err((fault, Some(conn))) => Err((fault, Some(close_moved(conn)))),
         Err((fault, None)) => Err((fault, None)),

@@ -1,6 +1,7 @@
 -- What a move comes to.
 use Rattle.std.proofs.Common.{Ok, Err, ◌≡◌, ◌⊎◌, ◌∙◌, ap, inl, inr, length, not, refl, sym, subst, false}
-use Rattle.std.proofs.Common.{Bool, None, IsTrue, Result, IfErr, arith, ℕ, ℤ}
+use Rattle.std.proofs.Common.{Bool, true, None, IsTrue, Result, IfErr, arith, ℕ, ℤ}
+use Rattle.std.specs.Prelude.{Decides}
 use Rattle.sqlite.specs.Effect.{Database, IsDatabase}
 use Rattle.sqlite.specs.Schema.{Schema}
 use Rattle.sqlite.specs.State.{State, HasCleanDisk, IsUnchanged}
@@ -208,6 +209,15 @@ found_after old new quiet clean alone some = record {
       (quiet.left clean (has_version_in newest old.now.schema h.schema));
   blank = λ ready none. absurd (some none);
 }
+
+-- a check leaves no more, whether or not a version is told
+pub checked_less : (old new : State) (told : Bool) → Decides told (HasVersion old.now.schema)
+    → IsQuietWhere (HasVersion old.now.schema) old new → (¬ (HasVersion old.now.schema) → new ≡ old)
+    → HasCleanDisk new → LeavesNoMore old new
+checked_less old new true is quiet same clean db left = quiet.left clean (is.0 refl) db left
+checked_less old new false is quiet same clean db left =
+    subst (λ (s : State). s.may_leave db)
+    (same (λ has. let clash : false ≡ true = is.1 has in cc (clash))) left
 
 -- where no older schema is there, a vault that is held is held in the newest
 pub held_newest : (old : State) → IsNoOlder old.now → (v : Version) (V : Vault) → HoldsIn v V old

@@ -4,6 +4,7 @@ ghost use Rattle.sqlite.specs.Held.{state};
 ghost use Rattle.sqlite.specs.State.{HasCleanDisk, IsUnchanged};
 ghost use Rattle.sqlite.specs.View.{doubt};
 ghost use Rattle.sql_maps.specs.Schema.{no_schema};
+ghost use Rattle.sql_maps.specs.States.{LeavesNoMore};
 ghost use Rattle.vault_core.specs.Vault.{Vault, empty_vault};
 ghost use Rattle.vault_migrate.specs.Moved.{FindsBroken, FindsVersion, HoldsSoundIn, IsKnown, IsMovable};
 ghost use Rattle.vault_migrate.specs.Moved.{IsNoOlder, IsOlder, IsSoundWhereFull, LeavesClimbed, LeavesIn};
@@ -21,6 +22,7 @@ ghost use Rattle.vault_schema.specs.Versions.{next_of, number_of, schema_of};
 use crate::movable::{judged, older_in};
 use sqlite::{Alter, Connection};
 use std::alloc::Global;
+use vault_schema::v1::shape::has_version;
 use vault_schema::version::{NEWEST, Version};
 use vault_sql::schema::{SchemaFault, make_schema};
 use vault_steps::climb::climb;
@@ -52,6 +54,9 @@ fn move_up<S: Alter>(
     ensures stays { HasCleanDisk (state S.Store conn.new) → IfErr result (λ e. e ≢ OpenFault.Store
         → (V : Vault) → HoldsIn version V (state S.Store conn.old)
         → LeavesIn version V (state S.Store conn.new)) }
+    ensures unwritten { HasCleanDisk (state S.Store conn.new) → IfErr result (λ e. e ≢ OpenFault.Store
+        → (state S.Store conn.old).now.schema ≡ schema_of version
+        → LeavesNoMore (state S.Store conn.old) (state S.Store conn.new)) }
     ensures damaged { HasCleanDisk (state S.Store conn.new)
         → IfErr result (λ e. (rule : ℕ) → e ≡ OpenFault.Damaged rule
         → IsFullIn version (state S.Store conn.old).now
@@ -95,6 +100,9 @@ fn climb_up<S: Alter>(
     ensures stays { HasCleanDisk (state S.Store conn.new) → IfErr result (λ e. e ≢ OpenFault.Store
         → (V : Vault) → HoldsIn version V (state S.Store conn.old)
         → LeavesIn version V (state S.Store conn.new)) }
+    ensures unwritten { HasCleanDisk (state S.Store conn.new) → IfErr result (λ e. e ≢ OpenFault.Store
+        → (state S.Store conn.old).now.schema ≡ schema_of version
+        → LeavesNoMore (state S.Store conn.old) (state S.Store conn.new)) }
     ensures damaged { HasCleanDisk (state S.Store conn.new)
         → IfErr result (λ e. (rule : ℕ) → e ≡ OpenFault.Damaged rule
         → IsFullIn version (state S.Store conn.old).now
@@ -131,6 +139,13 @@ fn make_or_check<S: Alter>(alloc: Global, conn: &mut Connection<S>) -> Result<i6
         → (state S.Store conn.old).now.schema ≡ no_schema) }
     ensures left { HasCleanDisk (state S.Store conn.new)
         → LeavesFound (state S.Store conn.old) (state S.Store conn.new) }
+    // A refusal by any number but 33 writes nothing.
+    ensures unwritten { HasCleanDisk (state S.Store conn.new) → IfErr result (λ e. e ≢ OpenFault.Store
+        → LeavesNoMore (state S.Store conn.old) (state S.Store conn.new)) }
+    // Where there is a table, nor does 33.
+    ensures unmade { HasCleanDisk (state S.Store conn.new)
+        → IfErr result (λ e. ¬ ((state S.Store conn.old).now.schema ≡ no_schema)
+        → LeavesNoMore (state S.Store conn.old) (state S.Store conn.new)) }
     ensures damaged { HasCleanDisk (state S.Store conn.new)
         → IfErr result (λ e. (rule : ℕ) → e ≡ OpenFault.Damaged rule
         → IsFull (state S.Store conn.old).now → IsLeastBroken (state S.Store conn.old).now rule) }
@@ -143,6 +158,8 @@ fn make_or_check<S: Alter>(alloc: Global, conn: &mut Connection<S>) -> Result<i6
     match make_schema(conn) {
         Ok(()) => Ok(NEWEST.number()),
         Err(SchemaFault::Taken) => {
+            // What a crash leaves of a refusal follows by cases of this.
+            let _told = has_version(conn.schema());
             check(alloc, conn)?;
             Ok(NEWEST.number())
         }
@@ -190,6 +207,14 @@ pub fn migrate<S: Alter>(alloc: Global, conn: &mut Connection<S>) -> Result<i64,
     ensures stays { HasCleanDisk (state S.Store conn.new) → IfErr result (λ e. e ≢ OpenFault.Store
         → (v : Version) (V : Vault) → HoldsIn v V (state S.Store conn.old)
         → LeavesIn v V (state S.Store conn.new)) }
+    // A refusal by any number but 33 writes nothing.
+    ensures unwritten { HasCleanDisk (state S.Store conn.new) → IfErr result (λ e. e ≢ OpenFault.Store
+        → LeavesNoMore (state S.Store conn.old) (state S.Store conn.new)) }
+    // Where there is a table, and no older schema, nor does 33.
+    ensures unmoved { HasCleanDisk (state S.Store conn.new)
+        → IfErr result (λ e. IsNoOlder (state S.Store conn.old).now
+        → ¬ ((state S.Store conn.old).now.schema ≡ no_schema)
+        → LeavesNoMore (state S.Store conn.old) (state S.Store conn.new)) }
     ensures damaged { HasCleanDisk (state S.Store conn.new)
         → IfErr result (λ e. (rule : ℕ) → e ≡ OpenFault.Damaged rule
         → FindsBroken (state S.Store conn.old).now rule) }
@@ -240,6 +265,14 @@ pub fn migrate_all<S: Alter>(alloc: Global, conn: &mut Connection<S>) -> Result<
     ensures stays { HasCleanDisk (state S.Store conn.new) → IfErr result (λ e. e ≢ OpenFault.Store
         → (v : Version) (V : Vault) → HoldsIn v V (state S.Store conn.old)
         → LeavesIn v V (state S.Store conn.new)) }
+    // A refusal by any number but 33 writes nothing.
+    ensures unwritten { HasCleanDisk (state S.Store conn.new) → IfErr result (λ e. e ≢ OpenFault.Store
+        → LeavesNoMore (state S.Store conn.old) (state S.Store conn.new)) }
+    // Where there is a table, and no older schema, nor does 33.
+    ensures unmoved { HasCleanDisk (state S.Store conn.new)
+        → IfErr result (λ e. IsNoOlder (state S.Store conn.old).now
+        → ¬ ((state S.Store conn.old).now.schema ≡ no_schema)
+        → LeavesNoMore (state S.Store conn.old) (state S.Store conn.new)) }
     ensures damaged { HasCleanDisk (state S.Store conn.new)
         → IfErr result (λ e. (rule : ℕ) → e ≡ OpenFault.Damaged rule
         → FindsBroken (state S.Store conn.old).now rule) }

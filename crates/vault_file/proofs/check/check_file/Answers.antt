@@ -3,69 +3,68 @@ use Rattle.sqlite.specs.Files.{file_state}
 use Rattle.sqlite.specs.State.{HasCleanDisk}
 use Rattle.sqlite.specs.View.{IsClean}
 use Rattle.sqlite_store.specs.FileStore.{view}
-use Rattle.sqlite_wal.specs.Files.{image_at}
 use Rattle.vault_file.proofs.Leaving.{stays}
 use Rattle.vault_file.proofs.Whole.{stays_whole}
 use Rattle.vault_file.proofs.check.check_file.Goals as goal
 use Rattle.vault_verdict.proofs.Holders.{no_sizes}
 
 pub returns-in-Ok-clause-sound : goal.returns-in-Ok-clause-sound
-returns-in-Ok-clause-sound g c =
+returns-in-Ok-clause-sound g c image holds =
     let was : IsClean (view c.close_moved.result) → HasCleanDisk (file_state c.in-Ok.conn) =
     λ clean. omega (arith, c.close_moved.ensures.clean, clean) in
     record {
-      sizes_are = λ clean. c.in-Ok.ensures.sizes (was clean);
+      sizes_are = λ clean. c.in-Ok.ensures.sizes image holds (was clean);
       kept = λ clean V sound keeps. c.close_moved.ensures.after clean V
-          (c.in-Ok.ensures.kept (was clean) V sound keeps);
+          (c.in-Ok.ensures.kept image holds (was clean) V sound keeps);
     }
 
 pub returns-in-Err-default-Some-clause-damaged : goal.returns-in-Err-default-Some-clause-damaged
-returns-in-Err-default-Some-clause-damaged g c clean =
+returns-in-Err-default-Some-clause-damaged g c image holds clean =
     let was : HasCleanDisk (file_state c.in-Err-default-Some.conn) =
     omega (arith, c.close_moved-in-Err-default-Some.ensures.clean, clean) in
-    (rw c.in-Err-default-Some.field-0-1-is at c.in-Err-default-Some.ensures.damaged) was
+    (rw c.in-Err-default-Some.field-0-1-is at c.in-Err-default-Some.ensures.damaged) image holds was
 
 pub returns-in-Err-default-Some-clause-never : goal.returns-in-Err-default-Some-clause-never
-returns-in-Err-default-Some-clause-never g c clean =
+returns-in-Err-default-Some-clause-never g c image holds clean =
     let was : HasCleanDisk (file_state c.in-Err-default-Some.conn) =
     omega (arith, c.close_moved-in-Err-default-Some.ensures.clean, clean) in
-    (rw c.in-Err-default-Some.field-0-1-is at c.in-Err-default-Some.ensures.never) was
+    (rw c.in-Err-default-Some.field-0-1-is at c.in-Err-default-Some.ensures.never) image holds was
 
 pub returns-then-is_missing-clause-empty : goal.returns-then-is_missing-clause-empty
-returns-then-is_missing-clause-empty g c = λ _. no_sizes
+returns-then-is_missing-clause-empty g c = λ _. (no_sizes, c.is_missing.ensures c.if-is_missing.true)
 
 pub returns-in-Ok-clause-same : goal.returns-in-Ok-clause-same
-returns-in-Ok-clause-same g c =
-    stays_whole (image_at g.S.Start) c.in-Ok.conn c.close_moved.result c.in-Ok.ensures.same
+returns-in-Ok-clause-same g c image holds =
+    stays_whole image c.in-Ok.conn c.close_moved.result (c.in-Ok.ensures.same image holds)
     (λ clean. omega (arith, c.close_moved.ensures.clean, clean)) c.close_moved.ensures.found_after
 
 pub returns-in-Err-default-Some-clause-same : goal.returns-in-Err-default-Some-clause-same
-returns-in-Err-default-Some-clause-same g c =
-    stays_whole (image_at g.S.Start) c.in-Err-default-Some.conn
+returns-in-Err-default-Some-clause-same g c image holds =
+    stays_whole image c.in-Err-default-Some.conn
     c.close_moved-in-Err-default-Some.result
-    (rw c.in-Err-default-Some.field-0-1-is at c.in-Err-default-Some.ensures.same_refused)
+    ((rw c.in-Err-default-Some.field-0-1-is at c.in-Err-default-Some.ensures.same_refused) image holds)
     (λ clean. omega (arith, c.close_moved-in-Err-default-Some.ensures.clean, clean))
     c.close_moved-in-Err-default-Some.ensures.found_after
 
 pub returns-in-Ok-clause-left : goal.returns-in-Ok-clause-left
-returns-in-Ok-clause-left g c =
-    stays (image_at g.S.Start) c.in-Ok.conn c.close_moved.result c.in-Ok.ensures.left
+returns-in-Ok-clause-left g c image holds =
+    stays image c.in-Ok.conn c.close_moved.result (c.in-Ok.ensures.left image holds)
     (λ clean. omega (arith, c.close_moved.ensures.clean, clean)) c.close_moved.ensures.either_after
     c.close_moved.ensures.first_after c.close_moved.ensures.some_after
 
 pub returns-in-Err-default-Some-clause-tells : goal.returns-in-Err-default-Some-clause-tells
-returns-in-Err-default-Some-clause-tells g c clean =
+returns-in-Err-default-Some-clause-tells g c image holds clean =
     let was : HasCleanDisk (file_state c.in-Err-default-Some.conn) =
     omega (arith, c.close_moved-in-Err-default-Some.ensures.clean, clean) in
     record {
-      damaged = (rw c.in-Err-default-Some.field-0-1-is at c.in-Err-default-Some.ensures.damaged) was;
-      wrong = (rw c.in-Err-default-Some.field-0-1-is at c.in-Err-default-Some.ensures.wrong) was;
+      damaged = (rw c.in-Err-default-Some.field-0-1-is at c.in-Err-default-Some.ensures.damaged) image holds was;
+      wrong = (rw c.in-Err-default-Some.field-0-1-is at c.in-Err-default-Some.ensures.wrong) image holds was;
     }
 
 pub returns-in-Err-default-Some-clause-left : goal.returns-in-Err-default-Some-clause-left
-returns-in-Err-default-Some-clause-left g c =
-    stays (image_at g.S.Start) c.in-Err-default-Some.conn c.close_moved-in-Err-default-Some.result
-    (rw c.in-Err-default-Some.field-0-1-is at c.in-Err-default-Some.ensures.left_refused)
+returns-in-Err-default-Some-clause-left g c image holds =
+    stays image c.in-Err-default-Some.conn c.close_moved-in-Err-default-Some.result
+    ((rw c.in-Err-default-Some.field-0-1-is at c.in-Err-default-Some.ensures.left_refused) image holds)
     (λ clean. omega (arith, c.close_moved-in-Err-default-Some.ensures.clean, clean))
     c.close_moved-in-Err-default-Some.ensures.either_after
     c.close_moved-in-Err-default-Some.ensures.first_after c.close_moved-in-Err-default-Some.ensures.some_after

@@ -1,6 +1,5 @@
 use Rattle.std.proofs.Common.{arith}
 use Rattle.sqlite.specs.Files.{file_state}
-use Rattle.sqlite_wal.specs.Files.{image_at}
 use Rattle.vault_file.proofs.Leaving.{checked_leaves}
 use Rattle.vault_file.proofs.Opening.{found_damaged, found_in, found_wrong, same_fault, spares}
 use Rattle.vault_file.proofs.Opening.{still_held, there}
@@ -9,9 +8,9 @@ use Rattle.vault_file.proofs.check.check_from.Goals as goal
 use Rattle.vault_verdict.specs.declared.fault.OpenFault.TheVariants.{WrongSchema, Damaged}
 
 pub returns-in-Ok-clause-sizes : goal.returns-in-Ok-clause-sizes
-returns-in-Ok-clause-sizes g c clean = (
+returns-in-Ok-clause-sizes g c image holds clean = (
   (file_state c.in-Some.conn).now,
-  found_in (image_at g.S.Start) c.in-Some.conn c.in-Some.ensures.opened
+  found_in image c.in-Some.conn (c.in-Some.ensures.opened image holds)
       (omega (arith, c.check.ensures.quiet.clean, clean)),
   record {
     whose = whose_of c.told-told.result.1 (file_state c.in-Some.conn).now.schema c.told-told.ensures.holder
@@ -21,8 +20,9 @@ returns-in-Ok-clause-sizes g c clean = (
 )
 
 pub returns-in-Ok-clause-kept : goal.returns-in-Ok-clause-kept
-returns-in-Ok-clause-kept g c clean V sound keeps =
-    let held = c.in-Some.ensures.again (omega (arith, c.check.ensures.quiet.clean, clean)) V keeps in
+returns-in-Ok-clause-kept g c image holds clean V sound keeps =
+    let held = c.in-Some.ensures.again image holds (omega (arith, c.check.ensures.quiet.clean, clean)) V
+    keeps in
     still_held (file_state c.in-Some.conn) (file_state c.check.new.conn)
     (c.in-Ok.ensures.kept clean held.schema) c.check.ensures.quiet.limit V held
 
@@ -33,55 +33,57 @@ pub returns-in-Err-clause-no_path : goal.returns-in-Err-clause-no_path
 returns-in-Err-clause-no_path g c none = absurd (there c.in-Some.conn (c.in-Some.ensures.no_path none))
 
 pub returns-in-Err-clause-damaged : goal.returns-in-Err-clause-damaged
-returns-in-Err-clause-damaged g c clean rule same = (
+returns-in-Err-clause-damaged g c image holds clean rule same = (
   (file_state c.in-Some.conn).now,
-  found_damaged (image_at g.S.Start) c.in-Some.conn
-      c.in-Some.ensures.opened c.in-Some.ensures.again
+  found_damaged image c.in-Some.conn
+      (c.in-Some.ensures.opened image holds) (c.in-Some.ensures.again image holds)
       c.check.new.conn c.in-Err.fault
       c.in-Err.ensures.never (λ some. c.check.ensures.quiet.clean) clean rule same,
   c.in-Err.ensures.damaged clean rule (same_fault c.in-Err.fault (Damaged rule) same),
 )
 
 pub returns-in-Err-clause-wrong : goal.returns-in-Err-clause-wrong
-returns-in-Err-clause-wrong g c clean n same = (
+returns-in-Err-clause-wrong g c image holds clean n same = (
   (file_state c.in-Some.conn).now,
-  found_wrong (image_at g.S.Start) c.in-Some.conn
-      c.in-Some.ensures.opened c.in-Some.ensures.again
+  found_wrong image c.in-Some.conn
+      (c.in-Some.ensures.opened image holds) (c.in-Some.ensures.again image holds)
       c.check.new.conn c.in-Err.fault
       c.in-Err.ensures.never (λ some. c.check.ensures.quiet.clean) clean n same,
   c.in-Err.ensures.wrong clean n (same_fault c.in-Err.fault (WrongSchema n) same),
 )
 
 pub returns-in-Err-clause-never : goal.returns-in-Err-clause-never
-returns-in-Err-clause-never g c clean =
-    spares (image_at g.S.Start) c.in-Some.conn
-    c.in-Some.ensures.opened c.in-Some.ensures.again
+returns-in-Err-clause-never g c image holds clean =
+    spares image c.in-Some.conn
+    (c.in-Some.ensures.opened image holds) (c.in-Some.ensures.again image holds)
     c.check.new.conn c.in-Err.fault
     c.in-Err.ensures.never (λ some. c.check.ensures.quiet.clean) clean
-    c.in-Some.ensures.either c.in-Some.ensures.first
+    (c.in-Some.ensures.either image holds) (c.in-Some.ensures.first image holds)
 
 pub returns-in-Ok-clause-same : goal.returns-in-Ok-clause-same
-returns-in-Ok-clause-same g c =
-    leaves_whole (image_at g.S.Start) c.in-Some.conn c.check.new.conn c.in-Some.ensures.opened
+returns-in-Ok-clause-same g c image holds =
+    leaves_whole image c.in-Some.conn c.check.new.conn (c.in-Some.ensures.opened image holds)
     c.settled.ensures c.check.ensures.quiet.clean
     (checked_less c.in-Some.conn c.check.new.conn c.told-told.result.0 c.told-told.ensures.version
     c.check.ensures.quiet c.check.ensures.untouched)
 
 pub returns-in-Err-clause-same_refused : goal.returns-in-Err-clause-same_refused
-returns-in-Err-clause-same_refused g c =
-    leaves_whole (image_at g.S.Start) c.in-Some.conn c.check.new.conn c.in-Some.ensures.opened
+returns-in-Err-clause-same_refused g c image holds =
+    leaves_whole image c.in-Some.conn c.check.new.conn (c.in-Some.ensures.opened image holds)
     c.settled.ensures c.check.ensures.quiet.clean
     (checked_less c.in-Some.conn c.check.new.conn c.told-told.result.0 c.told-told.ensures.version
     c.check.ensures.quiet c.check.ensures.untouched)
 
 pub returns-in-Ok-clause-left : goal.returns-in-Ok-clause-left
-returns-in-Ok-clause-left g c =
-    checked_leaves (image_at g.S.Start) c.in-Some.conn c.check.new.conn c.in-Some.ensures.opened
+returns-in-Ok-clause-left g c image holds =
+    checked_leaves image c.in-Some.conn c.check.new.conn (c.in-Some.ensures.opened image holds)
     c.in-Some.ensures.unlimited c.settled.ensures c.check.ensures.quiet c.check.ensures.untouched
-    c.in-Some.ensures.again c.in-Some.ensures.either c.in-Some.ensures.first
+    (c.in-Some.ensures.again image holds) (c.in-Some.ensures.either image holds)
+    (c.in-Some.ensures.first image holds)
 
 pub returns-in-Err-clause-left_refused : goal.returns-in-Err-clause-left_refused
-returns-in-Err-clause-left_refused g c =
-    checked_leaves (image_at g.S.Start) c.in-Some.conn c.check.new.conn c.in-Some.ensures.opened
+returns-in-Err-clause-left_refused g c image holds =
+    checked_leaves image c.in-Some.conn c.check.new.conn (c.in-Some.ensures.opened image holds)
     c.in-Some.ensures.unlimited c.settled.ensures c.check.ensures.quiet c.check.ensures.untouched
-    c.in-Some.ensures.again c.in-Some.ensures.either c.in-Some.ensures.first
+    (c.in-Some.ensures.again image holds) (c.in-Some.ensures.either image holds)
+    (c.in-Some.ensures.first image holds)

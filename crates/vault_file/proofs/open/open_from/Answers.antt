@@ -1,6 +1,5 @@
 use Rattle.std.proofs.Common.{arith}
 use Rattle.sqlite.specs.Files.{file_state}
-use Rattle.sqlite_wal.specs.Files.{image_at}
 use Rattle.vault_file.proofs.Leaving.{leaves_from, older_left}
 use Rattle.vault_file.proofs.Opening.{found_damaged, found_wrong, opens_from, same_fault, spares, there}
 use Rattle.vault_file.proofs.Whole.{leaves_whole, opened_less, some_there}
@@ -9,10 +8,11 @@ use Rattle.vault_verdict.specs.declared.fault.OpenFault.TheVariants.{WrongSchema
 use Rattle.vault_store.specs.Applied.{tables_of}
 
 pub returns-in-Ok-clause-found : goal.returns-in-Ok-clause-found
-returns-in-Ok-clause-found g c =
-    opens_from (image_at g.S.Start) c.in-Some.conn c.in-Some.ensures.opened c.in-Some.ensures.again
-    (tables_of c.in-Ok.vault).conn c.in-Some.ensures.unlimited c.in-Some.ensures.either
-    c.in-Some.ensures.first c.in-Ok.ensures.opens c.in-Ok.ensures.clean
+returns-in-Ok-clause-found g c image holds =
+    opens_from image c.in-Some.conn (c.in-Some.ensures.opened image holds)
+    (c.in-Some.ensures.again image holds) (tables_of c.in-Ok.vault).conn c.in-Some.ensures.unlimited
+    (c.in-Some.ensures.either image holds) (c.in-Some.ensures.first image holds) c.in-Ok.ensures.opens
+    c.in-Ok.ensures.clean
 
 pub returns-in-Ok-clause-no_path : goal.returns-in-Ok-clause-no_path
 returns-in-Ok-clause-no_path g c none = there c.in-Some.conn (c.in-Some.ensures.no_path none)
@@ -21,48 +21,48 @@ pub returns-in-Err-clause-no_path : goal.returns-in-Err-clause-no_path
 returns-in-Err-clause-no_path g c none = absurd (there c.in-Some.conn (c.in-Some.ensures.no_path none))
 
 pub returns-in-Err-clause-damaged : goal.returns-in-Err-clause-damaged
-returns-in-Err-clause-damaged g c clean rule same = (
+returns-in-Err-clause-damaged g c image holds clean rule same = (
   (file_state c.in-Some.conn).now,
-  found_damaged (image_at g.S.Start) c.in-Some.conn
-      c.in-Some.ensures.opened c.in-Some.ensures.again
+  found_damaged image c.in-Some.conn
+      (c.in-Some.ensures.opened image holds) (c.in-Some.ensures.again image holds)
       c.in-Err.refusal.1 c.in-Err.refusal.0
       c.in-Err.ensures.never (λ some. (c.in-Err.ensures.quiet some).clean) clean rule same,
   c.in-Err.ensures.damaged clean rule (same_fault c.in-Err.refusal.0 (Damaged rule) same),
 )
 
 pub returns-in-Err-clause-wrong : goal.returns-in-Err-clause-wrong
-returns-in-Err-clause-wrong g c clean n same = (
+returns-in-Err-clause-wrong g c image holds clean n same = (
   (file_state c.in-Some.conn).now,
-  found_wrong (image_at g.S.Start) c.in-Some.conn
-      c.in-Some.ensures.opened c.in-Some.ensures.again
+  found_wrong image c.in-Some.conn
+      (c.in-Some.ensures.opened image holds) (c.in-Some.ensures.again image holds)
       c.in-Err.refusal.1 c.in-Err.refusal.0
       c.in-Err.ensures.never (λ some. (c.in-Err.ensures.quiet some).clean) clean n same,
   c.in-Err.ensures.wrong clean n (same_fault c.in-Err.refusal.0 (WrongSchema n) same),
 )
 
 pub returns-in-Err-clause-never : goal.returns-in-Err-clause-never
-returns-in-Err-clause-never g c clean =
-    spares (image_at g.S.Start) c.in-Some.conn
-    c.in-Some.ensures.opened c.in-Some.ensures.again
+returns-in-Err-clause-never g c image holds clean =
+    spares image c.in-Some.conn
+    (c.in-Some.ensures.opened image holds) (c.in-Some.ensures.again image holds)
     c.in-Err.refusal.1 c.in-Err.refusal.0
     c.in-Err.ensures.never (λ some. (c.in-Err.ensures.quiet some).clean) clean
-    c.in-Some.ensures.either c.in-Some.ensures.first
+    (c.in-Some.ensures.either image holds) (c.in-Some.ensures.first image holds)
 
 pub returns-in-Err-clause-same : goal.returns-in-Err-clause-same
-returns-in-Err-clause-same g c some clean =
-    leaves_whole (image_at g.S.Start) c.in-Some.conn c.in-Err.refusal.1 c.in-Some.ensures.opened
+returns-in-Err-clause-same g c image holds some clean =
+    leaves_whole image c.in-Some.conn c.in-Err.refusal.1 (c.in-Some.ensures.opened image holds)
     c.settled.ensures c.in-Err.ensures.clean_refused
     (λ whole. opened_less c.in-Some.conn c.in-Err.refusal.1 _ c.in-Err.refusal.0
-    (some_there (image_at g.S.Start) c.in-Some.conn c.in-Some.ensures.opened some
+    (some_there image c.in-Some.conn (c.in-Some.ensures.opened image holds) some
     (omega (arith, c.in-Err.ensures.clean_refused, whole)))
     c.told-told.result.0 c.told-told.result.1 c.told-told.ensures.version c.told-told.ensures.holder
     c.in-Err.ensures.quiet c.in-Err.ensures.mixed c.in-Err.ensures.strange whole) clean
 
 pub returns-in-Err-clause-left : goal.returns-in-Err-clause-left
-returns-in-Err-clause-left g c =
-    leaves_from (image_at g.S.Start) c.in-Some.conn c.in-Err.refusal.1 c.in-Some.ensures.opened
+returns-in-Err-clause-left g c image holds =
+    leaves_from image c.in-Some.conn c.in-Err.refusal.1 (c.in-Some.ensures.opened image holds)
     c.in-Some.ensures.unlimited c.in-Err.ensures.left_refused c.in-Err.ensures.clean_refused
     (older_left (file_state c.in-Some.conn) (file_state c.in-Err.refusal.1) c.settled.ensures
     c.in-Err.ensures.quiet)
-    c.in-Some.ensures.again
-    c.in-Some.ensures.either c.in-Some.ensures.first
+    (c.in-Some.ensures.again image holds)
+    (c.in-Some.ensures.either image holds) (c.in-Some.ensures.first image holds)

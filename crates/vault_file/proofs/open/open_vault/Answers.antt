@@ -1,35 +1,34 @@
 use Rattle.std.proofs.Common.{arith}
 use Rattle.sqlite.specs.Files.{file_state}
 use Rattle.sqlite.specs.State.{HasCleanDisk}
-use Rattle.sqlite_wal.specs.Files.{image_at}
 use Rattle.vault_file.proofs.Leaving.{stays}
 use Rattle.vault_file.proofs.Whole.{stays_whole}
 use Rattle.vault_file.proofs.open.open_vault.Goals as goal
 
 pub returns-in-Err-default-Some-clause-never : goal.returns-in-Err-default-Some-clause-never
-returns-in-Err-default-Some-clause-never g c clean =
+returns-in-Err-default-Some-clause-never g c image holds clean =
     let was : HasCleanDisk (file_state c.in-Err-default-Some.conn) =
     omega (arith, c.close_moved.ensures.clean, clean) in
-    (rw c.in-Err-default-Some.field-0-1-is at c.in-Err-default-Some.ensures.never) was
+    (rw c.in-Err-default-Some.field-0-1-is at c.in-Err-default-Some.ensures.never) image holds was
 
 pub returns-in-Err-default-Some-clause-same : goal.returns-in-Err-default-Some-clause-same
-returns-in-Err-default-Some-clause-same g c some =
-    stays_whole (image_at g.S.Start) c.in-Err-default-Some.conn c.close_moved.result
-    ((rw c.in-Err-default-Some.field-0-1-is at c.in-Err-default-Some.ensures.same) some)
+returns-in-Err-default-Some-clause-same g c image holds some =
+    stays_whole image c.in-Err-default-Some.conn c.close_moved.result
+    ((rw c.in-Err-default-Some.field-0-1-is at c.in-Err-default-Some.ensures.same) image holds some)
     (λ clean. omega (arith, c.close_moved.ensures.clean, clean)) c.close_moved.ensures.found_after
 
 pub returns-in-Err-default-Some-clause-tells : goal.returns-in-Err-default-Some-clause-tells
-returns-in-Err-default-Some-clause-tells g c clean =
+returns-in-Err-default-Some-clause-tells g c image holds clean =
     let was : HasCleanDisk (file_state c.in-Err-default-Some.conn) =
     omega (arith, c.close_moved.ensures.clean, clean) in
     record {
-      damaged = (rw c.in-Err-default-Some.field-0-1-is at c.in-Err-default-Some.ensures.damaged) was;
-      wrong = (rw c.in-Err-default-Some.field-0-1-is at c.in-Err-default-Some.ensures.wrong) was;
+      damaged = (rw c.in-Err-default-Some.field-0-1-is at c.in-Err-default-Some.ensures.damaged) image holds was;
+      wrong = (rw c.in-Err-default-Some.field-0-1-is at c.in-Err-default-Some.ensures.wrong) image holds was;
     }
 
 pub returns-in-Err-default-Some-clause-left : goal.returns-in-Err-default-Some-clause-left
-returns-in-Err-default-Some-clause-left g c =
-    stays (image_at g.S.Start) c.in-Err-default-Some.conn c.close_moved.result
-    (rw c.in-Err-default-Some.field-0-1-is at c.in-Err-default-Some.ensures.left)
+returns-in-Err-default-Some-clause-left g c image holds =
+    stays image c.in-Err-default-Some.conn c.close_moved.result
+    ((rw c.in-Err-default-Some.field-0-1-is at c.in-Err-default-Some.ensures.left) image holds)
     (λ clean. omega (arith, c.close_moved.ensures.clean, clean))
     c.close_moved.ensures.either_after c.close_moved.ensures.first_after c.close_moved.ensures.some_after

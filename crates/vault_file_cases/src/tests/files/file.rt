@@ -6,8 +6,10 @@ use std::fs;
 use std::os::unix::fs::{PermissionsExt, symlink};
 use vault_file::check::check_file;
 use vault_file::fault::NotOpened;
+use vault_file::host::HostPaths;
 use vault_file::migrate::migrate_file;
 use vault_file::open::{close_files, open_vault};
+use vault_file::paths::Paths;
 use vault_recover::options::Cache;
 use vault_script::case::answer_told;
 use vault_script::told::text;
@@ -24,7 +26,7 @@ pub fn refusal(alloc: Global, fault: NotOpened) -> String {
 
 /// What opening a file and closing it again says.
 pub fn opened(rt: &HostRuntime, path: &str) -> String {
-    match open_vault(rt, path, Unknown, Cache::Large) {
+    match open_vault(rt, path, HostPaths::new(Unknown), Cache::Large) {
         Ok(vault) => {
             drop(close_files(vault));
             text(rt.alloc(), "opened")
@@ -36,7 +38,7 @@ pub fn opened(rt: &HostRuntime, path: &str) -> String {
 /// What checking a file says: how many merchants, entries and records there are, or why it isn't opened.
 pub fn checked(rt: &HostRuntime, path: &str) -> String {
     let alloc = rt.alloc();
-    match check_file(rt, path, Unknown).0 {
+    match check_file(rt, path, HostPaths::new(Unknown)).0 {
         Ok(sizes) => {
             let (merchants, entries, records) = (sizes.merchants, sizes.entries, sizes.records);
             let told = format!(in alloc; "{merchants} {entries} {records}");
@@ -49,7 +51,7 @@ pub fn checked(rt: &HostRuntime, path: &str) -> String {
 /// What moving a file to the newest schema says: its version, or why it isn't opened.
 pub fn migrated(rt: &HostRuntime, path: &str) -> String {
     let alloc = rt.alloc();
-    match migrate_file(rt, path, Unknown).0 {
+    match migrate_file(rt, path, HostPaths::new(Unknown)).0 {
         Ok(version) => {
             let told = format!(in alloc; "schema {version}");
             told.unwrap_or(String::new(alloc))
@@ -67,7 +69,7 @@ pub fn is_refused(rt: &HostRuntime, path: &str) -> bool {
 
 /// Whether they are while the file is open.
 pub fn is_busy(rt: &HostRuntime, path: &str) -> bool {
-    match open_vault(rt, path, Unknown, Cache::Large) {
+    match open_vault(rt, path, HostPaths::new(Unknown), Cache::Large) {
         Ok(vault) => {
             let is_refused = is_refused(rt, path);
             drop(close_files(vault));
@@ -79,7 +81,7 @@ pub fn is_busy(rt: &HostRuntime, path: &str) -> bool {
 
 /// What the vault in a file answers to a line.
 pub fn answered(rt: &HostRuntime, path: &str, line: &str) -> String {
-    match open_vault(rt, path, Unknown, Cache::Large) {
+    match open_vault(rt, path, HostPaths::new(Unknown), Cache::Large) {
         Ok(mut vault) => {
             let told = answer_told(rt.alloc(), &mut vault, line);
             drop(close_files(vault));
@@ -146,7 +148,7 @@ pub fn is_written(rt: &HostRuntime, path: &str, bytes: &[u8]) -> bool {
 
 /// Whether a file holds these bytes.
 pub fn holds(rt: &HostRuntime, path: &str, bytes: &[u8]) -> bool {
-    match fs::read(rt, path) {
+    match HostPaths::new(Unknown).read(rt, path) {
         Ok(found) => found.as_slice() == bytes,
         Err(_) => false,
     }

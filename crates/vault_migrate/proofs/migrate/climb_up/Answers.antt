@@ -1,7 +1,7 @@
 use Rattle.std.proofs.Common.{arith}
 use Rattle.sqlite.specs.Held.{state}
 use Rattle.sqlite.specs.State.{HasCleanDisk}
-use Rattle.vault_migrate.proofs.Moving.{holds_sound}
+use Rattle.vault_migrate.proofs.Moving.{each_err, holds_sound}
 use Rattle.vault_migrate.proofs.migrate.climb_up.Goals as goal
 use Rattle.vault_schema.proofs.Versions.{last_commit}
 use Rattle.vault_schema.specs.Stands.{lookups_of, newest}
@@ -50,3 +50,7 @@ returns-in-Ok-clause-sound g c clean full =
     c.requires.unlimited c.is_autocommit-settled.ensures.settled
     (c.in_ok-entries.ensures.kept early full.schema) in
     record { vault = it.vault; sound = it.sound; holds = returns-in-Ok-clause-moved g c clean it.vault h }
+
+pub returns-in_err-entries-clause-unwritten : goal.returns-in_err-entries-clause-unwritten
+returns-in_err-entries-clause-unwritten g c clean =
+    each_err c.from_residual.result (λ e other schema. c.judged.ensures.quiet.left clean schema)

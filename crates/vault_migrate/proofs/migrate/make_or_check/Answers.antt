@@ -1,6 +1,6 @@
 use Rattle.std.proofs.Common.{◌≡◌, ◌∙◌, ap, arith, inl, inr, Err}
 use Rattle.sqlite.specs.Held.{state}
-use Rattle.vault_migrate.proofs.Moving.{found_after}
+use Rattle.vault_migrate.proofs.Moving.{checked_less, each_err, found_after}
 use Rattle.vault_verdict.proofs.Results.{passed_as}
 use Rattle.vault_migrate.proofs.migrate.make_or_check.Goals as goal
 
@@ -73,3 +73,23 @@ returns-in_ok-check-in-Err-Taken-clause-known g c other =
     let same : c.make_schema.new.conn ≡ c.args.conn.now = c.make_schema.ensures.unchanged taken in
     absurd ((rw same at c.in_ok-check-in-Err-Taken.ensures.foreign)
     (record { some = c.make_schema.ensures.taken.0 taken; other = other }))
+
+pub returns-in_err-check-in-Err-Taken-clause-unwritten :
+    goal.returns-in_err-check-in-Err-Taken-clause-unwritten
+returns-in_err-check-in-Err-Taken-clause-unwritten g c clean =
+    let taken = c.in-Err-Taken.is ∙ ap (λ e. Err e) c.in-Err-Taken.field-0-is in
+    let same : c.make_schema.new.conn ≡ c.args.conn.now = c.make_schema.ensures.unchanged taken in
+    let told = c.schema.ensures.value ∙ ap (λ h. (state g.S.Store h).now.schema) same in
+    each_err c.from_residual.result (λ e other. checked_less _ _ c.has_version-told.result
+    (rw told at c.has_version-told.ensures) (rw same at c.check.ensures.quiet)
+    (λ none. ap (state g.S.Store) ((rw same at c.check.ensures.untouched) none)) clean)
+
+pub returns-in_err-check-in-Err-Taken-clause-unmade :
+    goal.returns-in_err-check-in-Err-Taken-clause-unmade
+returns-in_err-check-in-Err-Taken-clause-unmade g c clean =
+    let taken = c.in-Err-Taken.is ∙ ap (λ e. Err e) c.in-Err-Taken.field-0-is in
+    let same : c.make_schema.new.conn ≡ c.args.conn.now = c.make_schema.ensures.unchanged taken in
+    let told = c.schema.ensures.value ∙ ap (λ h. (state g.S.Store h).now.schema) same in
+    each_err c.from_residual.result (λ e some. checked_less _ _ c.has_version-told.result
+    (rw told at c.has_version-told.ensures) (rw same at c.check.ensures.quiet)
+    (λ none. ap (state g.S.Store) ((rw same at c.check.ensures.untouched) none)) clean)

@@ -100,6 +100,14 @@ returns-in-Some-clause-never g c clean =
     (found g c) c.move_up.result
     (c.move_up.ensures.damaged clean) (c.move_up.ensures.wrong clean)
 
+pub returns-in-Some-clause-unwritten : goal.returns-in-Some-clause-unwritten
+returns-in-Some-clause-unwritten g c clean =
+    if_err c.move_up.result (λ e less other. less other (found g c)) (c.move_up.ensures.unwritten clean)
+
+pub returns-in-Some-clause-unmoved : goal.returns-in-Some-clause-unmoved
+returns-in-Some-clause-unmoved g c clean =
+    each_err c.move_up.result (λ e none. absurd (none c.in-Some.version (older g c) (found g c)))
+
 -- ---- no older version
 
 none_older : (g : Over) (c : goal.After-make_or_check g) → IsNoOlder (state g.S.Store c.args.conn.now).now
@@ -172,3 +180,7 @@ pub returns-in-None-clause-never : goal.returns-in-None-clause-never
 returns-in-None-clause-never g c clean =
     movable_else (state g.S.Store c.args.conn.now).now (none_older g c) c.make_or_check.result
     (c.make_or_check.ensures.never clean)
+
+pub returns-in-None-clause-unmoved : goal.returns-in-None-clause-unmoved
+returns-in-None-clause-unmoved g c clean =
+    if_err c.make_or_check.result (λ e less none. less) (c.make_or_check.ensures.unmade clean)

@@ -1,0 +1,77 @@
+//! What stands at the paths of a host.
+ghost use Rattle.std.specs.Prelude.{◌≡◌, ◌↔◌, false, None, IfOk, IfSome, IsTrue};
+ghost use Rattle.sqlite.specs.Files.{file_state};
+ghost use Rattle.sqlite.specs.State.{HasCleanDisk};
+ghost use Rattle.sqlite.specs.Tree.{Trees};
+ghost use Rattle.vault_core.specs.Vault.{Vault};
+ghost use Rattle.vault_file.specs.Found.{IsNoPath};
+ghost use Rattle.vault_file.specs.Paths.{Each};
+ghost use Rattle.vault_recover.specs.Crashed.{AreBlank, HoldsEither, HoldsFirst, IsOpenOf};
+ghost use Rattle.vault_recover.specs.Crashed.{Keeps, KeepsEither, KeepsFirst};
+ghost use Rattle.vault_schema.specs.Holds.{Holds};
+
+use sqlite::{Connection, FileStore};
+use sqlite_disk::Disk;
+use std::io;
+use vault_recover::options::Cache;
+
+/// Whether the words name no file: the database keeps `:memory:` and what begins with `file:` for itself.
+pub(crate) fn is_no_path(path: &str) -> bool
+    ensures { IsTrue result ↔ IsNoPath path.now }
+{
+    path.is_empty() || path == ":memory:" || path.starts_with("file:")
+}
+
+/// The paths of a host, and what stands at them.
+///
+/// Contracts see what is told of a path: which bytes its database file and its log hold, that nothing has its
+/// name, that its files may not be opened, and which text its file is. Code over any `Paths` is told each of
+/// these by a call for this very path alone.
+pub trait Paths: Drop {
+    ghost use Rattle.std.specs.Prelude.{ℕ, List};
+    ghost use Rattle.sqlite_wal.specs.Recovery.{Image};
+
+    type Disk: Disk + Drop;
+
+    // the database file at a path and its log hold such bytes
+    ghost holds: { Self → List ℕ → Image → Type 0 };
+
+    // nothing has the name, in a folder that is there
+    ghost lacks: { Self → List ℕ → Type 0 };
+
+    // an open of the files at a path may fail
+    ghost refuses: { Self → List ℕ → Type 0 };
+
+    // the bytes of the file at a path are such a text
+    ghost says: { Self → List ℕ → List ℕ → Type 0 };
+
+    /// Whether nothing has the name, in a folder that is there.
+    fn is_missing(&self, rt: &HostRuntime, path: &str) -> bool
+        ensures { IsTrue result → lacks self.now path.now };
+
+    /// The bytes of the file at a path.
+    fn read(&self, rt: &HostRuntime, path: &str) -> io::Result<Vec<u8>>
+        ensures { IfOk result (λ text. says self.now path.now text.items) };
+
+    /// Opens the files at a path, or makes them for their owner alone: a database without a table, in small
+    /// pages.
+    fn open(
+        self,
+        rt: &HostRuntime,
+        path: &str,
+        cache: Cache,
+    ) -> Option<Connection<FileStore<Self::Disk>>>
+        ensures no_path { IsNoPath path.now → result ≡ None }
+        ensures refused { result ≡ None → refuses self path.now }
+        ensures idle { IfSome result (λ c. c.in_transaction ≡ false) }
+        ensures unlimited { IfSome result (λ c. c.step_limit ≡ None) }
+        ensures opened { IfSome result (λ c. Each (holds self path.now)
+            (λ image. HasCleanDisk (file_state c) → IsOpenOf image c)) }
+        ensures again { IfSome result (λ c. Each (holds self path.now) (λ image. HasCleanDisk (file_state c)
+            → (V : Vault) → Keeps image V → Holds (file_state c) V)) }
+        ensures either { IfSome result (λ c. Each (holds self path.now) (λ image. HasCleanDisk (file_state c)
+            → (V W : Vault) → KeepsEither image V W → HoldsEither (file_state c) V W)) }
+        ensures first { IfSome result (λ c. Each (holds self path.now) (λ image. HasCleanDisk (file_state c)
+            → (before : Trees) → AreBlank before → KeepsFirst image before
+            → HoldsFirst (file_state c) before)) };
+}
