@@ -6,7 +6,7 @@ import sys
 import threading
 import time
 
-from peers import slow
+from peers import kept, slow
 from peers.shop import Service, asked, expires_of, made, token_of
 from shared.runs import must, run
 from shared.tally import Tally, unlike
@@ -14,10 +14,10 @@ from shared.tally import Tally, unlike
 # A peer, and after how many seconds another one has its answer, at least and at most.
 PEERS = (
     (slow.a_byte_a_second, 4, 6),
-    (slow.idle, 4, 6),
+    (slow.idle, 0, 1),
     (slow.takes_a_byte_a_second, 4, 6),
     (slow.says_close_and_stays, 4, 6),
-    (slow.a_message_each_four_seconds, 55, 65),
+    (slow.a_message_each_four_seconds, 0, 1),
 )
 
 
@@ -38,6 +38,46 @@ def behind(program, tally, work, least, most):
         tally.judge(f"behind {work.__name__}: after {least} to {most} s", fault)
         print(f"behind {work.__name__}: {seconds:.1f} s", flush=True)
     thread.join()
+
+
+def idlers(program, tally):
+    """A message behind ten peers that connect and say nothing."""
+    made(program, "idlers.db")
+    with Service(program, "idlers.db") as service:
+        peers = [service.connect() for _ in range(10)]
+        seconds, answer = service.answered(7)
+        fault = "no token" if token_of(answer) is None else ""
+        tally.judge("behind ten idle peers: within 2 s", fault or ("" if seconds <= 2 else f"{seconds:.1f} s"))
+        print(f"behind ten idle peers: {seconds:.2f} s", flush=True)
+        for peer in peers:
+            peer.close()
+
+
+def crowd(program, tally):
+    """Eight clients that keep their connections, each with a message a second, are all answered soon."""
+    made(program, "crowd.db")
+    with Service(program, "crowd.db") as service:
+        clients = [kept.Client(service, 1000 * turn, 15, 1) for turn in range(1, 9)]
+        for client in clients:
+            client.start()
+        for client in clients:
+            client.join()
+    answered = [len(client.waited) for client in clients]
+    longest = max(max(client.waited, default=0) for client in clients)
+    tally.judge("eight that keep their connections: all answered", unlike(answered, [15] * 8))
+    tally.judge("within 2 s each", "" if longest <= 2 else f"{longest:.1f} s")
+    print(f"eight that keep their connections: {longest:.2f} s at most", flush=True)
+
+
+def alone(program, tally):
+    """A client that nobody waits behind keeps its one connection over its pauses."""
+    made(program, "alone.db")
+    with Service(program, "alone.db") as service:
+        client = kept.Client(service, 1000, 4, 3)
+        client.start()
+        client.join()
+    tally.judge("alone: all answered", unlike(len(client.waited), 4))
+    tally.judge("on one connection", unlike(client.connections, 1))
 
 
 def patience(program, tally):
@@ -139,7 +179,7 @@ def ended(program, tally):
 
 def main(program):
     tally = Tally()
-    for part in (patience, tokens, moments, address, unchecked, ended):
+    for part in (patience, tokens, moments, address, unchecked, ended, idlers, crowd, alone):
         part(program, tally)
     threads = [threading.Thread(target=behind, args=(program, tally, *pair)) for pair in PEERS]
     for thread in threads:

@@ -4,7 +4,6 @@ use Rattle.std.proofs.Common.{arith, subst, ◌∙◌, sym}
 use Rattle.clap.specs.Words.{Text}
 use Rattle.sqlite_disk.specs.declared.Disk.{Ghosts}
 use Rattle.sqlite_store.specs.declared.store.FileStore.{FileStore}
-use Rattle.sqlite_wal.specs.Recovery.{Image}
 use Rattle.vault_file.specs.declared.fault.NotOpened.{NotOpened as FileFault}
 use Rattle.vault_http.specs.Passing.{Passage}
 use Rattle.vault_live.specs.Live.{Turns}
@@ -23,6 +22,7 @@ use Rattle.vault_app.specs.Ending.{Says, status_of}
 use Rattle.vault_app.specs.Files.{EndsOnFile}
 use Rattle.vault_app.specs.Jobs.{Does, DoesJob, DoesPlan}
 use Rattle.vault_app.specs.Plans.{IsPlanOf, IsTaskOf, TellsMoved, TellsSizes}
+use Rattle.vault_app.specs.World.{World}
 use Rattle.vault_app.specs.declared.ending.Ending.{Ending}
 use Rattle.vault_app.specs.declared.ending.Ending.TheVariants.{Done, Version, Refused, SomeRefused}
 use Rattle.vault_app.specs.declared.ending.Ending.TheVariants.{BadWords, NotOpened, Stopped}
@@ -60,25 +60,25 @@ IsOfRows (task.Pipe now digits) = ⊥
 IsOfRows (task.Serve port connections) = ⊥
 
 -- the words ask for such a task only by a batch
-batch_of : (tells : Turns) (job : Job) (t : Task) → IsTaskOf tells job t → IsOfRows t → IsBatch job
-batch_of tells (Trial j) t is rows = absurd is
-batch_of tells (Merchant j) t (name, (now, moment, same)) rows = absurd (subst IsOfRows same rows)
-batch_of tells (Grant j) t (names, (right, now, word, moment, same)) rows = absurd (subst IsOfRows same rows)
-batch_of tells (Withdraw j) t (names, (right, now, word, moment, same)) rows =
+batch_of : (world : World) (job : Job) (t : Task) → IsTaskOf world job t → IsOfRows t → IsBatch job
+batch_of world (Trial j) t is rows = absurd is
+batch_of world (Merchant j) t (name, (now, moment, same)) rows = absurd (subst IsOfRows same rows)
+batch_of world (Grant j) t (names, (right, now, word, moment, same)) rows = absurd (subst IsOfRows same rows)
+batch_of world (Withdraw j) t (names, (right, now, word, moment, same)) rows =
     absurd (subst IsOfRows same rows)
-batch_of tells (Rights j) (task.Give given now) is rows = absurd rows
-batch_of tells (Rights j) (task.Change c) is rows = absurd is
-batch_of tells (Rights j) (task.Sweep who now) is rows = absurd is
-batch_of tells (Rights j) (task.Batch who now digits) is rows = absurd is
-batch_of tells (Rights j) (task.Pipe now digits) is rows = absurd is
-batch_of tells (Rights j) (task.Serve port connections) is rows = absurd is
-batch_of tells (Pipe j) t same rows = absurd (subst IsOfRows same rows)
-batch_of tells (Batch j) t is rows = (j, refl)
-batch_of tells (Serve j) t same rows = absurd (subst IsOfRows same rows)
-batch_of tells (Sweep j) t (names, (who, now, caller, merchant, moment, same)) rows =
+batch_of world (Rights j) (task.Give given now) is rows = absurd rows
+batch_of world (Rights j) (task.Change c) is rows = absurd is
+batch_of world (Rights j) (task.Sweep who now) is rows = absurd is
+batch_of world (Rights j) (task.Batch who now digits) is rows = absurd is
+batch_of world (Rights j) (task.Pipe now digits) is rows = absurd is
+batch_of world (Rights j) (task.Serve port connections) is rows = absurd is
+batch_of world (Pipe j) t same rows = absurd (subst IsOfRows same rows)
+batch_of world (Batch j) t is rows = (j, refl)
+batch_of world (Serve j) t same rows = absurd (subst IsOfRows same rows)
+batch_of world (Sweep j) t (names, (who, now, caller, merchant, moment, same)) rows =
     absurd (subst IsOfRows same rows)
-batch_of tells (Check j) t is rows = absurd is
-batch_of tells (Migrate j) t is rows = absurd is
+batch_of world (Check j) t is rows = absurd is
+batch_of world (Migrate j) t is rows = absurd is
 
 module _ (tells : Turns) (unread unsent : Type 0) (s : Streams) where
   rows_of : (t : Task) (w : Passage) (broken : Bool)
@@ -99,7 +99,7 @@ module _ (tells : Turns) (unread unsent : Type 0) (s : Streams) where
   unread_by (task.Pipe now digits) w broken n d = absurd d.works
   unread_by (task.Serve port connections) w broken n d = d.begun
 
-module _ {D : Type 0} {g : Ghosts D} (tells : Turns) (image : Image) (left : Option (FileStore D g))
+module _ {D : Type 0} {g : Ghosts D} (world : World) (left : Option (FileStore D g))
     (unread unsent : Type 0) (s : Streams) where
   -- a plan doesn't end with bad words
   sizes_bad : (told : Result Sizes FileFault) → ¬ (TellsSizes told BadWords unsent s.sent_old s.sent_new
@@ -111,16 +111,16 @@ module _ {D : Type 0} {g : Ghosts D} (tells : Turns) (image : Image) (left : Opt
   moved_bad (Ok version) h = h
   moved_bad (Err why) h = let is = h.0 in absurd (cc (is))
 
-  file_bad : (left : Option (FileStore D g)) (t : Task)
-      → ¬ (EndsOnFile tells image left t BadWords unread unsent s)
-  file_bad (Some it) t h = h
-  file_bad None t h = let is = h.0 in absurd (cc (is))
+  file_bad : (path : List ℕ) (left : Option (FileStore D g)) (t : Task)
+      → ¬ (EndsOnFile world path left t BadWords unread unsent s)
+  file_bad path (Some it) t h = h
+  file_bad path None t h = let is = h.0 in absurd (cc (is))
 
-  plan_bad : (p : Plan) → ¬ (DoesPlan tells image left p BadWords unread unsent s)
+  plan_bad : (p : Plan) → ¬ (DoesPlan world left p BadWords unread unsent s)
   plan_bad (plan.Trial t) h = h.1
   plan_bad (plan.Check path) h = sizes_bad h.1.0 h.1.2
   plan_bad (plan.Migrate path) h = moved_bad h.1.0 h.1.2
-  plan_bad (plan.Do path t) h = file_bad left t h
+  plan_bad (plan.Do path t) h = file_bad path.now left t h
 
   -- where its file isn't opened it reads and writes nothing
   sizes_closed : (told : Result Sizes FileFault) (f : FileFault)
@@ -133,29 +133,29 @@ module _ {D : Type 0} {g : Ghosts D} (tells : Turns) (image : Image) (left : Opt
   moved_closed (Ok version) f h = absurd h
   moved_closed (Err why) f h = h.1
 
-  file_closed : (left : Option (FileStore D g)) (t : Task) (f : FileFault)
-      → EndsOnFile tells image left t (NotOpened f) unread unsent s → unread × unsent
-  file_closed (Some it) t f h = (h.1, h.2)
-  file_closed None t f h = (h.1, h.2)
+  file_closed : (path : List ℕ) (left : Option (FileStore D g)) (t : Task) (f : FileFault)
+      → EndsOnFile world path left t (NotOpened f) unread unsent s → unread × unsent
+  file_closed path (Some it) t f h = (h.1, h.2)
+  file_closed path None t f h = (h.2, h.3)
 
-  plan_closed : (p : Plan) (f : FileFault) → DoesPlan tells image left p (NotOpened f) unread unsent s
+  plan_closed : (p : Plan) (f : FileFault) → DoesPlan world left p (NotOpened f) unread unsent s
       → unread × unsent
   plan_closed (plan.Trial t) f h = absurd h.1
   plan_closed (plan.Check path) f h = (h.0, sizes_closed h.1.0 f h.1.2)
   plan_closed (plan.Migrate path) f h = (h.0, moved_closed h.1.0 f h.1.2)
-  plan_closed (plan.Do path t) f h = file_closed left t f h
+  plan_closed (plan.Do path t) f h = file_closed path.now left t f h
 
   -- where the vault refuses it reads nothing
-  file_refused : (left : Option (FileStore D g)) (t : Task) (n : ℕ)
-      → EndsOnFile tells image left t (Refused n) unread unsent s → unread
-  file_refused (Some it) t n h = unread_by tells unread unsent s t _ h.broken n h.done
-  file_refused None t n h = h.1
+  file_refused : (path : List ℕ) (left : Option (FileStore D g)) (t : Task) (n : ℕ)
+      → EndsOnFile world path left t (Refused n) unread unsent s → unread
+  file_refused path (Some it) t n h = unread_by world.tells unread unsent s t _ h.broken n h.done
+  file_refused path None t n h = h.2
 
-  plan_refused : (p : Plan) (n : ℕ) → DoesPlan tells image left p (Refused n) unread unsent s → unread
+  plan_refused : (p : Plan) (n : ℕ) → DoesPlan world left p (Refused n) unread unsent s → unread
   plan_refused (plan.Trial t) n h = absurd h.1
   plan_refused (plan.Check path) n h = h.0
   plan_refused (plan.Migrate path) n h = h.0
-  plan_refused (plan.Do path t) n h = file_refused left t n h
+  plan_refused (plan.Do path t) n h = file_refused path.now left t n h
 
   -- only a batch is refused in part
   sizes_part : (told : Result Sizes FileFault) → ¬ (TellsSizes told SomeRefused unsent s.sent_old s.sent_new
@@ -168,10 +168,10 @@ module _ {D : Type 0} {g : Ghosts D} (tells : Turns) (image : Image) (left : Opt
   moved_part (Ok version) h = h
   moved_part (Err why) h = let is = h.0 in absurd (cc (is))
 
-  file_part : (left : Option (FileStore D g)) (t : Task)
-      → EndsOnFile tells image left t SomeRefused unread unsent s → IsOfRows t
-  file_part (Some it) t h = rows_of tells unread unsent s t _ h.broken h.done.works
-  file_part None t h = let is = h.0 in absurd (cc (is))
+  file_part : (path : List ℕ) (left : Option (FileStore D g)) (t : Task)
+      → EndsOnFile world path left t SomeRefused unread unsent s → IsOfRows t
+  file_part path (Some it) t h = rows_of world.tells unread unsent s t _ h.broken h.done.works
+  file_part path None t h = let is = h.0 in absurd (cc (is))
 
   -- a plan that may be refused in part is a task of rows
   abbrev IsPart : Plan → Type 0
@@ -180,28 +180,28 @@ module _ {D : Type 0} {g : Ghosts D} (tells : Turns) (image : Image) (left : Opt
   IsPart (plan.Migrate path) = ⊥
   IsPart (plan.Do path t) = IsOfRows t
 
-  plan_part : (p : Plan) → DoesPlan tells image left p SomeRefused unread unsent s → IsPart p
+  plan_part : (p : Plan) → DoesPlan world left p SomeRefused unread unsent s → IsPart p
   plan_part (plan.Trial t) h = absurd h.1
   plan_part (plan.Check path) h = absurd (sizes_part h.1.0 h.1.2)
   plan_part (plan.Migrate path) h = absurd (moved_part h.1.0 h.1.2)
-  plan_part (plan.Do path t) h = file_part left t h
+  plan_part (plan.Do path t) h = file_part path.now left t h
 
-  batch_in : (job : Job) (p : Plan) → IsPlanOf tells job p → IsPart p → IsBatch job
+  batch_in : (job : Job) (p : Plan) → IsPlanOf world job p → IsPart p → IsBatch job
   batch_in (Trial j) p (t, is, same) h = absurd (subst IsPart same h)
-  batch_in (Merchant j) p (t, is, same) h = batch_of tells (Merchant j) t is (subst IsPart same h)
-  batch_in (Grant j) p (t, is, same) h = batch_of tells (Grant j) t is (subst IsPart same h)
-  batch_in (Withdraw j) p (t, is, same) h = batch_of tells (Withdraw j) t is (subst IsPart same h)
-  batch_in (Rights j) p (t, is, same) h = batch_of tells (Rights j) t is (subst IsPart same h)
-  batch_in (Pipe j) p (t, is, same) h = batch_of tells (Pipe j) t is (subst IsPart same h)
+  batch_in (Merchant j) p (t, is, same) h = batch_of world (Merchant j) t is (subst IsPart same h)
+  batch_in (Grant j) p (t, is, same) h = batch_of world (Grant j) t is (subst IsPart same h)
+  batch_in (Withdraw j) p (t, is, same) h = batch_of world (Withdraw j) t is (subst IsPart same h)
+  batch_in (Rights j) p (t, is, same) h = batch_of world (Rights j) t is (subst IsPart same h)
+  batch_in (Pipe j) p (t, is, same) h = batch_of world (Pipe j) t is (subst IsPart same h)
   batch_in (Batch j) p is h = (j, refl)
-  batch_in (Serve j) p (t, is, same) h = batch_of tells (Serve j) t is (subst IsPart same h)
-  batch_in (Sweep j) p (t, is, same) h = batch_of tells (Sweep j) t is (subst IsPart same h)
+  batch_in (Serve j) p (t, is, same) h = batch_of world (Serve j) t is (subst IsPart same h)
+  batch_in (Sweep j) p (t, is, same) h = batch_of world (Sweep j) t is (subst IsPart same h)
   batch_in (Check j) p same h = absurd (subst IsPart same h)
   batch_in (Migrate j) p same h = absurd (subst IsPart same h)
 
   -- with a status of 2 or 3 nothing was read, and nothing written by a job
   pub calm_at : (words : List Text) (ending : Ending) → (status_of ending ≡ 2) ⊎ (status_of ending ≡ 3)
-      → Does tells image left words ending unread unsent s → unread × unsent
+      → Does world left words ending unread unsent s → unread × unsent
   calm_at words BadWords at (inl (job, asked, inl (p, is, proper, h))) = absurd (plan_bad p h)
   calm_at words BadWords at (inl (job, asked, inr (never, none, calm, silent))) = absurd never
   calm_at words BadWords at (inr (none, inl (inl (help, is), calm))) = absurd (cc (is))
@@ -227,7 +227,7 @@ module _ {D : Type 0} {g : Ghosts D} (tells : Turns) (image : Image) (left : Opt
 
   -- with 1 nothing was read, or the words ask for a batch
   pub refused_at : (words : List Text) (ending : Ending) → status_of ending ≡ 1
-      → Does tells image left words ending unread unsent s → unread ⊎ AsksFor words IsBatch
+      → Does world left words ending unread unsent s → unread ⊎ AsksFor words IsBatch
   refused_at words (Refused n) at (inl (job, asked, inl (p, is, proper, h))) = inl (plan_refused p n h)
   refused_at words (Refused n) at (inl (job, asked, inr (before, none, calm, silent))) = inl calm
   refused_at words (Refused n) at (inr (none, inl (inl (help, is), calm))) = inl calm

@@ -70,8 +70,8 @@ rows_proper now moment (row ∷ rows) each =
     let it : IsProperRow row = each.0 in
     ((it.0, it.1, it.2, moment), rows_proper now moment rows each.1)
 
-pub listed_proper : (now : ℕ) → IsMoment now → (rows : List Row) → IsListed rows
-    → AllProper (grants_at now rows)
-listed_proper now moment rows (text, document, is, proper, list) =
+pub listed_proper : (says : List ℕ → Type 0) (now : ℕ) → IsMoment now → (rows : List Row)
+    → IsListed says rows → AllProper (grants_at now rows)
+listed_proper says now moment rows (text, document, said, is, proper, list) =
     rows_proper now moment rows (all-contained IsProperRow rows
     (λ row inside. row_proper document proper row ((list.1 row).0 inside)))

@@ -1,5 +1,5 @@
 -- What is done with the vault in a file.
-use Rattle.std.specs.Prelude.{◌≡◌, [], Option, Some, None, Result, Ok, Err, Bool}
+use Rattle.std.specs.Prelude.{◌≡◌, ℕ, List, [], Option, Some, None, Result, Ok, Err, Bool}
 use Rattle.sqlite.specs.Files.{file_state}
 use Rattle.sqlite.specs.Held.{Held}
 use Rattle.sqlite.specs.State.{HasCleanDisk}
@@ -13,6 +13,7 @@ use Rattle.vault_recover.specs.Crashed.{Reopens, ReopensEither}
 use Rattle.vault_schema.specs.Holds.{Holds}
 use Rattle.vault_file.specs.Found.{MayFindNone, OpensFrom, SparesStopped, Stays, StaysWhole}
 use Rattle.vault_file.specs.Found.{TellsFound}
+use Rattle.vault_file.specs.Paths.{Each}
 use Rattle.vault_file.specs.declared.fault.NotOpened.{NotOpened as FileFault}
 use Rattle.vault_file.specs.declared.fault.NotOpened.TheVariants as file
 use Rattle.vault_http.specs.Passing.{Passage}
@@ -23,6 +24,7 @@ use Rattle.vault_jobs.specs.declared.stop.Stop.{Stop}
 use Rattle.vault_jobs.specs.declared.task.Outcome.{Outcome}
 use Rattle.vault_jobs.specs.declared.task.Outcome.TheVariants as outcome
 use Rattle.vault_jobs.specs.declared.task.Task.{Task}
+use Rattle.vault_app.specs.World.{World}
 use Rattle.vault_app.specs.declared.ending.Ending.{Ending}
 use Rattle.vault_app.specs.declared.ending.Ending.TheVariants.{Done, Version, Refused, SomeRefused}
 use Rattle.vault_app.specs.declared.ending.Ending.TheVariants.{BadWords, NotOpened, Stopped}
@@ -50,40 +52,44 @@ module _ {D : Type 0} {g : Ghosts D} where
     left_new = ReopensEither left;
   }
 
-  -- The vault in files with these bytes was opened, this was done with it, and these files are left. A vault
+  -- The vault in files with such bytes was opened, this was done with it, and these files are left. A vault
   -- that the bytes keep was held, and of two that they may keep one.
-  pub record WorksOn (image : Image) (left : FileStore D g) (Done : Passage → Bool → Type 0) : Type 0 where
+  pub record WorksOn (Holding : Image → Type 0) (left : FileStore D g) (Done : Passage → Bool → Type 0)
+      : Type 0 where
     pub opened : Held (FileStore D g)
     pub broken : Bool
-    pub found : OpensFrom image opened
+    pub found : Each Holding (λ image. OpensFrom image opened)
     pub clean : IsClean (view left) → HasCleanDisk (file_state opened)
     pub done : Done (file_passing opened left) broken
 
-  -- Files with these bytes weren't opened, and these are left. What a stop leaves of a sound vault isn't
+  -- Files with such bytes weren't opened, and these are left. What a stop leaves of a sound vault isn't
   -- refused for its schema or its rows, and what is refused so is told by what the files hold; what they kept
   -- they keep; and where there was a table, whatever is in them stays.
-  pub record RefusesFile (image : Image) (left : FileStore D g) (why : FileFault) : Type 0 where
-    pub never : IsClean (view left) → SparesStopped image why
-    pub tells : IsClean (view left) → TellsFound image why
-    pub stays : Stays image left
-    pub same : ¬ MayFindNone image → StaysWhole image left
+  pub record RefusesFile (Holding : Image → Type 0) (left : FileStore D g) (why : FileFault) : Type 0 where
+    pub never : Each Holding (λ image. IsClean (view left) → SparesStopped image why)
+    pub tells : Each Holding (λ image. IsClean (view left) → TellsFound image why)
+    pub stays : Each Holding (λ image. Stays image left)
+    pub same : Each Holding (λ image. ¬ MayFindNone image → StaysWhole image left)
 
-  -- what was done with the vault in files with these bytes, by how a task on it ended
-  abbrev pub DoesOnFile : Turns → Image → FileStore D g → Task → Ending → Type 0 → Type 0 → Streams → Type 0
-  DoesOnFile tells image left task Done unread unsent s =
-      WorksOn image left (λ p broken. Does tells task p broken (Ok outcome.Done) unread unsent s)
-  DoesOnFile tells image left task Version unread unsent s = ⊥
-  DoesOnFile tells image left task (Refused n) unread unsent s =
-      WorksOn image left (λ p broken. Does tells task p broken (Ok (outcome.Refused n)) unread unsent s)
-  DoesOnFile tells image left task SomeRefused unread unsent s =
-      WorksOn image left (λ p broken. Does tells task p broken (Ok outcome.SomeRefused) unread unsent s)
-  DoesOnFile tells image left task BadWords unread unsent s = ⊥
-  DoesOnFile tells image left task (NotOpened why) unread unsent s = RefusesFile image left why × unread × unsent
-  DoesOnFile tells image left task (Stopped stop) unread unsent s =
-      WorksOn image left (λ p broken. Does tells task p broken (Err stop) unread unsent s)
+  -- what was done with the vault in files with such bytes, by how a task on it ended
+  abbrev pub DoesOnFile : Turns → (Image → Type 0) → FileStore D g → Task → Ending → Type 0 → Type 0 → Streams → Type 0
+  DoesOnFile tells Holding left task Done unread unsent s =
+      WorksOn Holding left (λ p broken. Does tells task p broken (Ok outcome.Done) unread unsent s)
+  DoesOnFile tells Holding left task Version unread unsent s = ⊥
+  DoesOnFile tells Holding left task (Refused n) unread unsent s =
+      WorksOn Holding left (λ p broken. Does tells task p broken (Ok (outcome.Refused n)) unread unsent s)
+  DoesOnFile tells Holding left task SomeRefused unread unsent s =
+      WorksOn Holding left (λ p broken. Does tells task p broken (Ok outcome.SomeRefused) unread unsent s)
+  DoesOnFile tells Holding left task BadWords unread unsent s = ⊥
+  DoesOnFile tells Holding left task (NotOpened why) unread unsent s = RefusesFile Holding left why × unread × unsent
+  DoesOnFile tells Holding left task (Stopped stop) unread unsent s =
+      WorksOn Holding left (λ p broken. Does tells task p broken (Err stop) unread unsent s)
 
-  -- The same, where files are left only if they were opened, or refused with a connection: none are where the
-  -- host or the database refuses the file itself.
-  abbrev pub EndsOnFile : Turns → Image → Option (FileStore D g) → Task → Ending → Type 0 → Type 0 → Streams → Type 0
-  EndsOnFile tells image (Some left) task ending unread unsent s = DoesOnFile tells image left task ending unread unsent s
-  EndsOnFile tells image None task ending unread unsent s = (ending ≡ NotOpened file.Refused) × unread × unsent
+  -- The same at a path, where files are left only if they were opened, or refused with a connection: none are
+  -- where an open of the path may fail.
+  abbrev pub EndsOnFile : World → List ℕ → Option (FileStore D g) → Task → Ending → Type 0 → Type 0 → Streams
+      → Type 0
+  EndsOnFile world path (Some left) task ending unread unsent s =
+      DoesOnFile world.tells (world.holds path) left task ending unread unsent s
+  EndsOnFile world path None task ending unread unsent s =
+      (ending ≡ NotOpened file.Refused) × world.refuses path × unread × unsent

@@ -5,3 +5,4 @@ pub mod Jobs
 pub mod Plans
 pub mod Rights
 pub mod Values
+pub mod World

@@ -30,15 +30,12 @@ use Rattle.vault_jobs.specs.declared.trial.Trial.{Trial as Asked}
 use Rattle.vault_app.specs.Asked.{AreNames, AsksFor, IsMisnamed, Unasked, schema_line, sound_line}
 use Rattle.vault_app.specs.Rights.{IsListed, IsRefusedText}
 use Rattle.vault_app.specs.Values.{AreValues}
+use Rattle.vault_app.specs.World.{World}
 use Rattle.vault_app.specs.declared.ending.Ending.{Ending}
 use Rattle.vault_app.specs.declared.ending.Ending.TheVariants.{Done, Version, Refused, SomeRefused}
 use Rattle.vault_app.specs.declared.ending.Ending.TheVariants.{BadWords, NotOpened, Stopped}
 use Rattle.vault_app.specs.declared.plan.Plan.{Plan}
 use Rattle.vault_app.specs.declared.plan.Plan.TheVariants as plan
-
--- no moment is told
-abbrev pub untold : Turns
-untold turn now = ⊥
 
 -- the connections after which a service ends that goes on until it is ended: more than any lives to see
 abbrev pub without_end : ℕ
@@ -46,55 +43,55 @@ without_end = 18446744073709551615
 
 -- the task that the words of a job ask for, whose names are names, at the moment that they fix, or else at one
 -- that was told
-abbrev pub IsTaskOf : Turns → Job → Task → Type 0
-IsTaskOf tells (Trial j) t = ⊥
-IsTaskOf tells (Merchant j) t = IsName j.name.now × ((now : ℕ) × IsMomentOf tells j.now now
+abbrev pub IsTaskOf : World → Job → Task → Type 0
+IsTaskOf world (Trial j) t = ⊥
+IsTaskOf world (Merchant j) t = IsName j.name.now × ((now : ℕ) × IsMomentOf world.tells j.now now
     × (t ≡ task.Change (command.SetMerchant j.name.now j.single_life j.multi_life j.lead now)))
-IsTaskOf tells (Grant j) t = AreNames j.given
-    × ((right : Right) × (now : ℕ) × (j.given.right.now ≡ right_word right) × IsMomentOf tells j.given.now now
+IsTaskOf world (Grant j) t = AreNames j.given
+    × ((right : Right) × (now : ℕ) × (j.given.right.now ≡ right_word right) × IsMomentOf world.tells j.given.now now
     × (t ≡ task.Change (command.Grant j.given.caller.now j.given.merchant.now right j.until now)))
-IsTaskOf tells (Withdraw j) t = AreNames j
-    × ((right : Right) × (now : ℕ) × (j.right.now ≡ right_word right) × IsMomentOf tells j.now now
+IsTaskOf world (Withdraw j) t = AreNames j
+    × ((right : Right) × (now : ℕ) × (j.right.now ≡ right_word right) × IsMomentOf world.tells j.now now
     × (t ≡ task.Change (command.Withdraw j.caller.now j.merchant.now right now)))
-IsTaskOf tells (Rights j) (task.Give rows now) = IsListed rows.items × IsMomentOf tells j.now now
-IsTaskOf tells (Rights j) (task.Change c) = ⊥
-IsTaskOf tells (Rights j) (task.Sweep who now) = ⊥
-IsTaskOf tells (Rights j) (task.Batch who now digits) = ⊥
-IsTaskOf tells (Rights j) (task.Pipe now digits) = ⊥
-IsTaskOf tells (Rights j) (task.Serve port connections) = ⊥
-IsTaskOf tells (Pipe j) t = t ≡ task.Pipe j.now j.digits
-IsTaskOf tells (Batch j) t = (IsName j.caller.now × IsName j.merchant.now)
+IsTaskOf world (Rights j) (task.Give rows now) = IsListed (world.says j.rights.now) rows.items × IsMomentOf world.tells j.now now
+IsTaskOf world (Rights j) (task.Change c) = ⊥
+IsTaskOf world (Rights j) (task.Sweep who now) = ⊥
+IsTaskOf world (Rights j) (task.Batch who now digits) = ⊥
+IsTaskOf world (Rights j) (task.Pipe now digits) = ⊥
+IsTaskOf world (Rights j) (task.Serve port connections) = ⊥
+IsTaskOf world (Pipe j) t = t ≡ task.Pipe j.now j.digits
+IsTaskOf world (Batch j) t = (IsName j.caller.now × IsName j.merchant.now)
     × ((who : Asker) × (who.caller ≡ j.caller.now) × (who.merchant ≡ j.merchant.now)
     × (t ≡ task.Batch who j.now j.digits))
-IsTaskOf tells (Serve j) t = t ≡ task.Serve j.port (unwrap_or j.connections without_end)
-IsTaskOf tells (Sweep j) t = (IsName j.caller.now × IsName j.merchant.now)
+IsTaskOf world (Serve j) t = t ≡ task.Serve j.port (unwrap_or j.connections without_end)
+IsTaskOf world (Sweep j) t = (IsName j.caller.now × IsName j.merchant.now)
     × ((who : Asker) × (now : ℕ) × (who.caller ≡ j.caller.now) × (who.merchant ≡ j.merchant.now)
-    × IsMomentOf tells j.now now × (t ≡ task.Sweep who now))
-IsTaskOf tells (Check j) t = ⊥
-IsTaskOf tells (Migrate j) t = ⊥
+    × IsMomentOf world.tells j.now now × (t ≡ task.Sweep who now))
+IsTaskOf world (Check j) t = ⊥
+IsTaskOf world (Migrate j) t = ⊥
 
 -- the trial that the words ask for
-pub record IsTrialOf (tells : Turns) (j : TrialJob) (t : Asked) : Type 0 where
+pub record IsTrialOf (world : World) (j : TrialJob) (t : Asked) : Type 0 where
   pub caller : t.caller ≡ j.caller.now
   pub merchant : t.merchant ≡ j.merchant.now
   pub life : t.life ≡ j.life
-  pub made : IsMomentOf tells j.now t.made
+  pub made : IsMomentOf world.tells j.now t.made
   pub moment : t.moment ≡ j.now
   pub digits : t.digits ≡ j.digits
 
 -- the plan of a job: its task, with the vault in its file
-abbrev pub IsPlanOf : Turns → Job → Plan → Type 0
-IsPlanOf tells (Trial j) p = (t : Asked) × IsTrialOf tells j t × (p ≡ plan.Trial t)
-IsPlanOf tells (Merchant j) p = (t : Task) × IsTaskOf tells (Merchant j) t × (p ≡ plan.Do j.file t)
-IsPlanOf tells (Grant j) p = (t : Task) × IsTaskOf tells (Grant j) t × (p ≡ plan.Do j.given.file t)
-IsPlanOf tells (Withdraw j) p = (t : Task) × IsTaskOf tells (Withdraw j) t × (p ≡ plan.Do j.file t)
-IsPlanOf tells (Rights j) p = (t : Task) × IsTaskOf tells (Rights j) t × (p ≡ plan.Do j.file t)
-IsPlanOf tells (Pipe j) p = (t : Task) × IsTaskOf tells (Pipe j) t × (p ≡ plan.Do j.file t)
-IsPlanOf tells (Batch j) p = (t : Task) × IsTaskOf tells (Batch j) t × (p ≡ plan.Do j.file t)
-IsPlanOf tells (Serve j) p = (t : Task) × IsTaskOf tells (Serve j) t × (p ≡ plan.Do j.file t)
-IsPlanOf tells (Sweep j) p = (t : Task) × IsTaskOf tells (Sweep j) t × (p ≡ plan.Do j.file t)
-IsPlanOf tells (Check j) p = p ≡ plan.Check j.file
-IsPlanOf tells (Migrate j) p = p ≡ plan.Migrate j.file
+abbrev pub IsPlanOf : World → Job → Plan → Type 0
+IsPlanOf world (Trial j) p = (t : Asked) × IsTrialOf world j t × (p ≡ plan.Trial t)
+IsPlanOf world (Merchant j) p = (t : Task) × IsTaskOf world (Merchant j) t × (p ≡ plan.Do j.file t)
+IsPlanOf world (Grant j) p = (t : Task) × IsTaskOf world (Grant j) t × (p ≡ plan.Do j.given.file t)
+IsPlanOf world (Withdraw j) p = (t : Task) × IsTaskOf world (Withdraw j) t × (p ≡ plan.Do j.file t)
+IsPlanOf world (Rights j) p = (t : Task) × IsTaskOf world (Rights j) t × (p ≡ plan.Do j.file t)
+IsPlanOf world (Pipe j) p = (t : Task) × IsTaskOf world (Pipe j) t × (p ≡ plan.Do j.file t)
+IsPlanOf world (Batch j) p = (t : Task) × IsTaskOf world (Batch j) t × (p ≡ plan.Do j.file t)
+IsPlanOf world (Serve j) p = (t : Task) × IsTaskOf world (Serve j) t × (p ≡ plan.Do j.file t)
+IsPlanOf world (Sweep j) p = (t : Task) × IsTaskOf world (Sweep j) t × (p ≡ plan.Do j.file t)
+IsPlanOf world (Check j) p = p ≡ plan.Check j.file
+IsPlanOf world (Migrate j) p = p ≡ plan.Migrate j.file
 
 -- the parts of its task are values of their types, or the life of its trial is a life
 abbrev pub IsProperPlan : Plan → Type 0

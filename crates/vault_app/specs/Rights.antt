@@ -11,9 +11,10 @@ use Rattle.vault_app.specs.declared.ending.Ending.{Ending}
 use Rattle.vault_app.specs.declared.ending.Ending.TheVariants.{Done, Version, Refused, SomeRefused}
 use Rattle.vault_app.specs.declared.ending.Ending.TheVariants.{BadWords, NotOpened, Stopped}
 
--- the rows are the rights that a text's document names, in order and each once, with the latest of its ends
-abbrev pub IsListed : List Row → Type 0
-IsListed rows = (text : List ℕ) × (document : Members)
+-- the rows are the rights that the document of a text that is said names, in order and each once, with the
+-- latest of its ends
+abbrev pub IsListed : (List ℕ → Type 0) → List Row → Type 0
+IsListed says rows = (text : List ℕ) × (document : Members) × says text
     × IsDocument text document × IsProper document × IsListOf (Names document) rows
 
 -- a text names no rights by a fault of this number, which isn't want of memory

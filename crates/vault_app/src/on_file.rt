@@ -1,25 +1,21 @@
 //! What is done with the vault in a file.
-ghost use Rattle.std.specs.Prelude.{◌≡◌, ◌++◌, List, Option, Result, false};
-ghost use Rattle.sqlite_wal.specs.Recovery.{Image};
-ghost use Rattle.vault_store.specs.Applied.{is_broken, tables_of};
-ghost use Rattle.vault_file.specs.Found.{OpensFrom};
+ghost use Rattle.std.specs.Prelude.{◌≡◌, ◌++◌, List, Option, Result};
 ghost use Rattle.vault_listen.specs.Peers.{Event, Link, events_of};
-ghost use Rattle.vault_sql.specs.Held.{AreFresh};
 ghost use Rattle.vault_jobs.specs.Streams.{Streams, streams, with_links};
 ghost use Rattle.vault_jobs.specs.Tasks.{IsProper};
-ghost use Rattle.vault_app.specs.Files.{DoesOnFile, ending_for};
+ghost use Rattle.vault_app.specs.Files.{EndsOnFile, ending_for};
+ghost use Rattle.vault_app.specs.World.{World, world_of};
 
 use crate::ending::Ending;
 use sqlite::FileStore;
-use sqlite_disk::Disk;
 use std::io::{Read, Write};
-use vault_file::open::close_files;
+use vault_file::open::{close_files, open_vault};
+use vault_file::paths::Paths;
 use vault_jobs::stop::Stop;
 use vault_jobs::task::{Outcome, Task, do_task};
 use vault_listen::network::Network;
 use vault_live::time::Timekeeper;
-use vault_sql::tables::SqlTables;
-use vault_store::vault::Vault;
+use vault_recover::options::Cache;
 use vault_wire::watched::Watched;
 
 /// How a job ends whose task came to this.
@@ -34,29 +30,40 @@ fn ending_of(outcome: Result<Outcome, Stop>) -> Ending
     }
 }
 
-/// Does a task with the vault in files, and closes them.
-pub(crate) fn do_on_file<D: Disk + Drop, K: Timekeeper, N: Network, R: Read, W: Write>(
+/// How much of its file a task keeps in memory: a sweep writes each dead token's rows once, at places without
+/// an order.
+fn cache_for(task: &Task) -> Cache {
+    match task {
+        Task::Sweep(_, _) => Cache::Whole,
+        _ => Cache::Large,
+    }
+}
+
+/// Opens the vault in the file at a path, does a task with it, and closes the files.
+pub(crate) fn do_on_file<P: Paths, K: Timekeeper, N: Network, R: Read, W: Write>(
     rt: &HostRuntime,
+    path: &str,
+    paths: P,
     time: &K,
     network: &mut N,
-    vault: Vault<SqlTables<FileStore<D>>>,
     task: &Task,
     input: &mut Watched<R>,
     output: &mut Watched<W>,
-) -> (Ending, FileStore<D>)
+) -> (Ending, Option<FileStore<P::Disk>>)
     requires proper { IsProper task.now }
-    requires unbroken { is_broken vault ≡ false }
-    requires fresh { AreFresh (tables_of vault) }
-    ensures does { let s : Streams =
-        streams R.remaining input.old input.new W.contents output.old output.new in
+    ensures does { let world : World =
+        world_of (K.tells time.now) (P.holds paths) (P.lacks paths) (P.refuses paths) (P.says paths) in
+        let s : Streams = streams R.remaining input.old input.new W.contents output.old output.new in
         (links : List (Option Link))
         × ((log : List Event) → N.tells network.old log → N.tells network.new (log ++ events_of links))
-        × ((image : Image) → OpensFrom image (tables_of vault).conn
-        → DoesOnFile (K.tells time.now) image result.1 task.now result.0 (input.new ≡ input.old)
-        (output.new ≡ output.old) (with_links s links)) }
+        × EndsOnFile world path.now result.1 task.now result.0 (input.new ≡ input.old)
+        (output.new ≡ output.old) (with_links s links) }
 {
-    let mut vault = vault;
+    let mut vault = match open_vault(rt, path, paths, cache_for(task)) {
+        Ok(vault) => vault,
+        Err((fault, left)) => return (Ending::NotOpened(fault), left),
+    };
     let outcome = do_task(rt, time, network, task, &mut vault, input, output);
     let left = close_files(vault);
-    (ending_of(outcome), left)
+    (ending_of(outcome), Some(left))
 }

@@ -2,9 +2,11 @@
 ghost use Rattle.std.specs.Prelude.{IfOk, MatchResult};
 ghost use Rattle.vault_app.specs.Plans.{EndsBefore, IsPlanOf, IsProperPlan};
 ghost use Rattle.vault_app.specs.Asked.{HasLives};
+ghost use Rattle.vault_app.specs.World.{World, world_of};
 
 use crate::commands::{batch, merchant, pipe, rights, rights_file, serve, sweep, trial};
 use crate::ending::Ending;
+use vault_file::paths::Paths;
 use vault_jobs::task::Task;
 use vault_jobs::trial::Trial;
 use vault_live::time::Timekeeper;
@@ -25,13 +27,16 @@ pub enum Plan<'a> {
 
 /// The plan of a job, or how it ends without one: refused by a name, a right or a list, or stopped since
 /// there is no moment (60) or the list isn't read (74, 80).
-pub(crate) fn plan_of<'a, K: Timekeeper>(
+pub(crate) fn plan_of<'a, P: Paths, K: Timekeeper>(
     rt: &HostRuntime,
+    paths: &P,
     time: &K,
     asked: &Job<'a>,
 ) -> Result<Plan<'a>, Ending>
     requires { HasLives asked.now }
-    ensures planned { MatchResult result (IsPlanOf (K.tells time.now) asked.now) (EndsBefore asked.now) }
+    ensures planned { let world : World = world_of (K.tells time.now) (P.holds paths.now) (P.lacks paths.now)
+        (P.refuses paths.now) (P.says paths.now) in
+        MatchResult result (IsPlanOf world asked.now) (EndsBefore asked.now) }
     ensures proper { IfOk result IsProperPlan }
 {
     match asked {
@@ -39,7 +44,7 @@ pub(crate) fn plan_of<'a, K: Timekeeper>(
         Job::Merchant(job) => Ok(Plan::Do(job.file, merchant::task(time, job)?)),
         Job::Grant(job) => Ok(Plan::Do(job.given.file, rights::grant(time, job)?)),
         Job::Withdraw(job) => Ok(Plan::Do(job.file, rights::withdraw(time, job)?)),
-        Job::Rights(job) => Ok(Plan::Do(job.file, rights_file::task(rt, time, job)?)),
+        Job::Rights(job) => Ok(Plan::Do(job.file, rights_file::task(rt, paths, time, job)?)),
         Job::Pipe(job) => Ok(Plan::Do(job.file, pipe::task(job))),
         Job::Batch(job) => Ok(Plan::Do(job.file, batch::task(job)?)),
         Job::Serve(job) => Ok(Plan::Do(job.file, serve::task(job))),

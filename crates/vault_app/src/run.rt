@@ -1,7 +1,6 @@
 //! The program, but for what the process gives it.
 ghost use Rattle.std.specs.Prelude.{◌≡◌, ◌≢◌, ◌↔◌, ◌⊎◌, ◌++◌, IfErr, IfOk, List, Option, map};
 ghost use Rattle.std.specs.IoError.{error_kind};
-ghost use Rattle.sqlite_wal.specs.Files.{image_at};
 ghost use Rattle.vault_wire.specs.Watching.{inner_of, is_stopped};
 ghost use Rattle.vault_wire.specs.declared.watched.Watched.{Watched};
 ghost use Rattle.vault_listen.specs.Peers.{Event, Link, events_of};
@@ -11,6 +10,7 @@ ghost use Rattle.vault_app.specs.Ending.{bad_words_line, stop_line};
 ghost use Rattle.vault_app.specs.Jobs.{Does, DoesPlan, RunsAs};
 ghost use Rattle.vault_app.specs.Plans.{EndsPlanless, IsPlanOf, IsProperPlan};
 ghost use Rattle.vault_app.specs.Asked.{AsksFor, IsBatch};
+ghost use Rattle.vault_app.specs.World.{World, world_of};
 
 use crate::commands::check::tell_sizes;
 use crate::commands::migrate::tell_moved;
@@ -19,41 +19,40 @@ use crate::ending::Ending;
 use crate::on_file::do_on_file;
 use crate::plan::{Plan, plan_of};
 use crate::report::report;
-use sqlite::{FileFrom, FileStore, Start};
+use sqlite::FileStore;
 use std::convert::AsStr;
 use std::io::{Error, ErrorKind, Read, Write};
 use vault_file::check::check_file;
 use vault_file::migrate::migrate_file;
-use vault_file::open::open_vault;
+use vault_file::paths::Paths;
 use vault_jobs::stop::Stop;
-use vault_jobs::task::Task;
 use vault_jobs::told::tell;
 use vault_listen::network::Network;
 use vault_live::time::Timekeeper;
-use vault_recover::options::Cache;
 use vault_store::vault::Fault;
 use vault_wire::watched::Watched;
 use vault_words::job::job;
 use vault_words::jobs::JobFault;
 
-/// The files that a run leaves, closed, where it had some.
-pub type Left<S> = Option<FileStore<FileFrom<S>>>;
-
 /// What is to be done for the words, or how the program ends without it.
-fn planned<'a, K: Timekeeper, A: AsStr, W: Write>(
+fn planned<'a, P: Paths, K: Timekeeper, A: AsStr, W: Write>(
     rt: &HostRuntime,
+    paths: &P,
     time: &K,
     words: &'a [A],
     output: &mut Watched<W>,
 ) -> Result<Plan<'a>, Ending>
-    ensures planned { IfOk result (λ plan. (output.new ≡ output.old)
-        × AsksFor (map A.text words.now) (λ job. IsPlanOf (K.tells time.now) job plan)) }
+    ensures planned { let world : World =
+        world_of (K.tells time.now) (P.holds paths.now) (P.lacks paths.now) (P.refuses paths.now)
+        (P.says paths.now) in
+        IfOk result (λ plan. (output.new ≡ output.old)
+        × AsksFor (map A.text words.now) (λ job. IsPlanOf world job plan)) }
     ensures proper { IfOk result IsProperPlan }
     ensures planless { IfErr result
         (λ ending. EndsPlanless (map A.text words.now) ending (output.new ≡ output.old)) }
 {
     match job(rt.alloc(), words) {
-        Ok(asked) => plan_of(rt, time, &asked),
+        Ok(asked) => plan_of(rt, paths, time, &asked),
         Err(JobFault::Help(text)) => {
             tell(output, &[text.as_str()]);
             Err(Ending::Done)
@@ -64,95 +63,84 @@ fn planned<'a, K: Timekeeper, A: AsStr, W: Write>(
     }
 }
 
-/// How much of its file a task keeps in memory: a sweep writes each dead token's rows once, at places without
-/// an order.
-fn cache_for(task: &Task) -> Cache {
-    match task {
-        Task::Sweep(_, _) => Cache::Whole,
-        _ => Cache::Large,
-    }
-}
-
 /// Carries out a plan over the files at its path.
-fn carry_out<S: Start, K: Timekeeper, N: Network, R: Read, W: Write>(
+fn carry_out<P: Paths, K: Timekeeper, N: Network, R: Read, W: Write>(
     rt: &HostRuntime,
-    start: S,
+    paths: P,
     time: &K,
     network: &mut N,
     plan: Plan<'_>,
     input: &mut Watched<R>,
     output: &mut Watched<W>,
-) -> (Ending, Left<S>)
+) -> (Ending, Option<FileStore<P::Disk>>)
     requires { IsProperPlan plan }
-    ensures does { let s : Streams =
-        streams R.remaining input.old input.new W.contents output.old output.new in
+    ensures does { let world : World =
+        world_of (K.tells time.now) (P.holds paths) (P.lacks paths) (P.refuses paths) (P.says paths) in
+        let s : Streams = streams R.remaining input.old input.new W.contents output.old output.new in
         (links : List (Option Link))
         × ((log : List Event) → N.tells network.old log → N.tells network.new (log ++ events_of links))
-        × DoesPlan (K.tells time.now) (image_at S.Start) result.1 plan.entry result.0
+        × DoesPlan world result.1 plan.entry result.0
         (input.new ≡ input.old) (output.new ≡ output.old) (with_links s links) }
 {
     match plan {
         Plan::Trial(trial) => (trial::serve(rt, time, &trial, input, output), None),
         Plan::Check(path) => {
-            let (checked, left) = check_file(rt, path, start);
+            let (checked, left) = check_file(rt, path, paths);
             (tell_sizes(checked, output), left)
         }
         Plan::Migrate(path) => {
-            let (moved, left) = migrate_file(rt, path, start);
+            let (moved, left) = migrate_file(rt, path, paths);
             (tell_moved(moved, output), left)
         }
-        Plan::Do(path, task) => match open_vault(rt, path, start, cache_for(&task)) {
-            Ok(vault) => {
-                let (ending, left) = do_on_file(rt, time, network, vault, &task, input, output);
-                (ending, Some(left))
-            }
-            Err((fault, left)) => (Ending::NotOpened(fault), left),
-        },
+        Plan::Do(path, task) => { do_on_file(rt, path, paths, time, network, &task, input, output) }
     }
 }
 
 /// Does what the words ask for.
-fn ended<S: Start, K: Timekeeper, N: Network, A: AsStr, R: Read, W: Write>(
+fn ended<P: Paths, K: Timekeeper, N: Network, A: AsStr, R: Read, W: Write>(
     rt: &HostRuntime,
-    start: S,
+    paths: P,
     time: &K,
     network: &mut N,
     words: &[A],
     input: &mut Watched<R>,
     output: &mut Watched<W>,
-) -> (Ending, Left<S>)
-    ensures does { let s : Streams =
-        streams R.remaining input.old input.new W.contents output.old output.new in
+) -> (Ending, Option<FileStore<P::Disk>>)
+    ensures does { let world : World =
+        world_of (K.tells time.now) (P.holds paths) (P.lacks paths) (P.refuses paths) (P.says paths) in
+        let s : Streams = streams R.remaining input.old input.new W.contents output.old output.new in
         (links : List (Option Link))
         × ((log : List Event) → N.tells network.old log → N.tells network.new (log ++ events_of links))
-        × Does (K.tells time.now) (image_at S.Start) result.1 (map A.text words.now) result.0
+        × Does world result.1 (map A.text words.now) result.0
         (input.new ≡ input.old) (output.new ≡ output.old) (with_links s links) }
 {
-    match planned(rt, time, words, output) {
-        Ok(plan) => carry_out(rt, start, time, network, plan, input, output),
+    match planned(rt, &paths, time, words, output) {
+        Ok(plan) => carry_out(rt, paths, time, network, plan, input, output),
         Err(ending) => (ending, None),
     }
 }
 
 /// Reads the words, does their job over the three streams, says how it ended, and answers the exit status and
-/// the files that it leaves. `start` stands for what the files at the job's path hold, `time` tells the
-/// moments that the words don't fix, and on `network` a service listens.
+/// the files that it leaves. `paths` tells what stands at paths, `time` the moments that the words don't
+/// fix, and on `network` a service listens.
 ///
 /// The first word is the program's name. A line on the output or on the errors goes with each status but 0:
 /// `refused n`, `vault: bad words`, `vault: file not opened n` or `n m`, `vault: stopped n`.
-pub fn run<S: Start, K: Timekeeper, N: Network, A: AsStr, R: Read, W: Write, E: Write>(
+pub fn run<P: Paths, K: Timekeeper, N: Network, A: AsStr, R: Read, W: Write, E: Write>(
     rt: &HostRuntime,
-    start: S,
+    paths: P,
     time: &K,
     network: &mut N,
     words: &[A],
     input: &mut Watched<R>,
     output: &mut Watched<W>,
     errors: &mut Watched<E>,
-) -> (u8, Left<S>)
-    ensures does { (told : Watched W) × (links : List (Option Link))
+) -> (u8, Option<FileStore<P::Disk>>)
+    ensures does { let world : World =
+        world_of (K.tells time.now) (P.holds paths) (P.lacks paths) (P.refuses paths) (P.says paths) in
+        (told : Watched W) × (links : List (Option Link))
         × ((log : List Event) → N.tells network.old log → N.tells network.new (log ++ events_of links))
-        × RunsAs R.remaining W.contents E.contents (K.tells time.now) (image_at S.Start) result.1
+        × RunsAs R.remaining W.contents E.contents world result.1
         (map A.text words.now) result.0 links input.old input.new output.old told output.new errors.old
         errors.new }
     ensures status { (result.0 ≡ 0) ⊎ (result.0 ≡ 1) ⊎ (result.0 ≡ 2) ⊎ (result.0 ≡ 3) ⊎ (result.0 ≡ 4) }
@@ -162,7 +150,7 @@ pub fn run<S: Start, K: Timekeeper, N: Network, A: AsStr, R: Read, W: Write, E: 
         → (input.new ≡ input.old) ⊎ AsksFor (map A.text words.now) IsBatch }
     ensures unsent { (result.0 ≡ 2) ⊎ (result.0 ≡ 3) → output.new ≡ output.old }
 {
-    let (ending, left) = ended(rt, start, time, network, words, input, output);
+    let (ending, left) = ended(rt, paths, time, network, words, input, output);
     (report(&ending, output, errors), left)
 }
 

@@ -5,6 +5,7 @@ use sqlite::Unknown;
 use std::process::ExitCode;
 use std::{env, io};
 use vault_app::run::{no_words, run};
+use vault_file::host::HostPaths;
 use vault_listen::network::Loopback;
 use vault_listen::peer::Limits;
 use vault_live::time::ClockTime;
@@ -25,7 +26,7 @@ fn main(rt: HostRuntime) -> ExitCode {
             let mut network = Loopback::new(&rt, Limits::of_service());
             run(
                 &rt,
-                Unknown,
+                HostPaths::new(Unknown),
                 &time,
                 &mut network,
                 words.as_slice(),

@@ -13,7 +13,7 @@ use Rattle.sqlite_wal.specs.Recovery.{Image}
 use Rattle.vault_core.specs.Sound.{Sound}
 use Rattle.vault_core.specs.Vault.{Vault as Content}
 use Rattle.vault_core.specs.declared.command.Command.{Command}
-use Rattle.vault_file.specs.Found.{Stays}
+use Rattle.vault_file.specs.Found.{OpensFrom, Stays}
 use Rattle.vault_http.proofs.Bytes.{appends_nothing, consumes_nothing}
 use Rattle.vault_http.specs.Passing.{IsBefore, Passage}
 use Rattle.sqlite.specs.Held.{Held}
@@ -44,6 +44,7 @@ use Rattle.vault_app.specs.Jobs.{Does as DoesWords, DoesPlan, IsChecked, IsMoved
 use Rattle.vault_app.specs.Plans.{IsPlanOf, IsProperPlan, IsTaskOf}
 use Rattle.vault_app.specs.Asked.{AsksFor, Unasked}
 use Rattle.vault_app.specs.Values.{AreValues}
+use Rattle.vault_app.specs.World.{World, anything, world_of}
 use Rattle.vault_file.specs.Moved.{MovesAs}
 use Rattle.vault_file.specs.declared.fault.NotOpened.{NotOpened as FileFault}
 use Rattle.vault_file.specs.declared.fault.NotOpened.TheVariants as file
@@ -58,8 +59,8 @@ use Rattle.vault_promise.proofs.Piping.{pipe_works}
 use Rattle.vault_promise.proofs.Serving.{serve_works}
 use Rattle.vault_promise.proofs.Sweeping.{sweep_works}
 use Rattle.vault_promise.proofs.Working.{Works, change_works, give_works}
-use Rattle.vault_promise.specs.Runs.{AreOf, Bear, anytime, Comes, EveryRunIsOne, IsAside, IsRun, Leaves}
-use Rattle.vault_promise.specs.Runs.{Rests, Run, Work, kept_by, perhaps, undecided_by}
+use Rattle.vault_promise.specs.Runs.{AreOf, Bear, Comes, EveryRunIsOne, IsAside, IsFound, IsRun, Leaves}
+use Rattle.vault_promise.specs.Runs.{file_of, Rests, Run, Work, kept_by, perhaps, undecided_by}
 use Rattle.vault_promise.specs.Told.{IsQuiet, Tells}
 
 -- nothing came in
@@ -89,53 +90,83 @@ abbrev Fits : Job → Plan → Type 0
 Fits job (plan.Trial t) = IsAside job
 Fits job (plan.Check path) = IsAside job
 Fits job (plan.Migrate path) = IsAside job
-Fits job (plan.Do path t) = IsTaskOf anytime job t
+Fits job (plan.Do path t) = IsTaskOf anything job t
 
--- a task at a moment that was told is one at any moment
+-- a task at a moment that was told, of a text that was, is one whatever may be told
 any_moment : (tells : Turns) (fixed : Option ℕ) (now : ℕ) → IsMomentOf tells fixed now
-    → IsMomentOf anytime fixed now
+    → IsMomentOf anything.tells fixed now
 any_moment tells fixed now is = (is.0, λ free. tt)
 
-any_task : (tells : Turns) (job : Job) (t : Task) → IsTaskOf tells job t → IsTaskOf anytime job t
-any_task tells (job.Trial j) t is = is
-any_task tells (job.Merchant j) t (name, (now, moment, same)) =
-    (name, (now, any_moment tells j.now now moment, same))
-any_task tells (job.Grant j) t (names, (right, now, word, moment, same)) =
-    (names, (right, now, word, any_moment tells j.given.now now moment, same))
-any_task tells (job.Withdraw j) t (names, (right, now, word, moment, same)) =
-    (names, (right, now, word, any_moment tells j.now now moment, same))
-any_task tells (job.Rights j) (task.Give rows now) (listed, moment) =
-    (listed, any_moment tells j.now now moment)
-any_task tells (job.Rights j) (task.Change c) is = is
-any_task tells (job.Rights j) (task.Sweep who now) is = is
-any_task tells (job.Rights j) (task.Batch who now digits) is = is
-any_task tells (job.Rights j) (task.Pipe now digits) is = is
-any_task tells (job.Rights j) (task.Serve port connections) is = is
-any_task tells (job.Pipe j) t is = is
-any_task tells (job.Batch j) t is = is
-any_task tells (job.Serve j) t is = is
-any_task tells (job.Sweep j) t (names, (who, now, caller, merchant, moment, same)) =
-    (names, (who, now, caller, merchant, any_moment tells j.now now moment, same))
-any_task tells (job.Check j) t is = is
-any_task tells (job.Migrate j) t is = is
+any_task : (world : World) (job : Job) (t : Task) → IsTaskOf world job t → IsTaskOf anything job t
+any_task world (job.Trial j) t is = is
+any_task world (job.Merchant j) t (name, (now, moment, same)) =
+    (name, (now, any_moment world.tells j.now now moment, same))
+any_task world (job.Grant j) t (names, (right, now, word, moment, same)) =
+    (names, (right, now, word, any_moment world.tells j.given.now now moment, same))
+any_task world (job.Withdraw j) t (names, (right, now, word, moment, same)) =
+    (names, (right, now, word, any_moment world.tells j.now now moment, same))
+any_task world (job.Rights j) (task.Give rows now) ((text, (document, said, listed)), moment) =
+    ((text, (document, tt, listed)), any_moment world.tells j.now now moment)
+any_task world (job.Rights j) (task.Change c) is = is
+any_task world (job.Rights j) (task.Sweep who now) is = is
+any_task world (job.Rights j) (task.Batch who now digits) is = is
+any_task world (job.Rights j) (task.Pipe now digits) is = is
+any_task world (job.Rights j) (task.Serve port connections) is = is
+any_task world (job.Pipe j) t is = is
+any_task world (job.Batch j) t is = is
+any_task world (job.Serve j) t is = is
+any_task world (job.Sweep j) t (names, (who, now, caller, merchant, moment, same)) =
+    (names, (who, now, caller, merchant, any_moment world.tells j.now now moment, same))
+any_task world (job.Check j) t is = is
+any_task world (job.Migrate j) t is = is
 
-fits : (tells : Turns) (job : Job) (p : Plan) → IsPlanOf tells job p → Fits job p
-fits tells (job.Trial j) p (t, is, same) = subst (Fits (job.Trial j)) (sym same) tt
-fits tells (job.Merchant j) p (t, is, same) =
-    subst (Fits (job.Merchant j)) (sym same) (any_task tells (job.Merchant j) t is)
-fits tells (job.Grant j) p (t, is, same) =
-    subst (Fits (job.Grant j)) (sym same) (any_task tells (job.Grant j) t is)
-fits tells (job.Withdraw j) p (t, is, same) =
-    subst (Fits (job.Withdraw j)) (sym same) (any_task tells (job.Withdraw j) t is)
-fits tells (job.Rights j) p (t, is, same) =
-    subst (Fits (job.Rights j)) (sym same) (any_task tells (job.Rights j) t is)
-fits tells (job.Pipe j) p (t, is, same) = subst (Fits (job.Pipe j)) (sym same) is
-fits tells (job.Batch j) p (t, is, same) = subst (Fits (job.Batch j)) (sym same) is
-fits tells (job.Serve j) p (t, is, same) = subst (Fits (job.Serve j)) (sym same) is
-fits tells (job.Sweep j) p (t, is, same) =
-    subst (Fits (job.Sweep j)) (sym same) (any_task tells (job.Sweep j) t is)
-fits tells (job.Check j) p same = subst (Fits (job.Check j)) (sym same) tt
-fits tells (job.Migrate j) p same = subst (Fits (job.Migrate j)) (sym same) tt
+fits : (world : World) (job : Job) (p : Plan) → IsPlanOf world job p → Fits job p
+fits world (job.Trial j) p (t, is, same) = subst (Fits (job.Trial j)) (sym same) tt
+fits world (job.Merchant j) p (t, is, same) =
+    subst (Fits (job.Merchant j)) (sym same) (any_task world (job.Merchant j) t is)
+fits world (job.Grant j) p (t, is, same) =
+    subst (Fits (job.Grant j)) (sym same) (any_task world (job.Grant j) t is)
+fits world (job.Withdraw j) p (t, is, same) =
+    subst (Fits (job.Withdraw j)) (sym same) (any_task world (job.Withdraw j) t is)
+fits world (job.Rights j) p (t, is, same) =
+    subst (Fits (job.Rights j)) (sym same) (any_task world (job.Rights j) t is)
+fits world (job.Pipe j) p (t, is, same) = subst (Fits (job.Pipe j)) (sym same) is
+fits world (job.Batch j) p (t, is, same) = subst (Fits (job.Batch j)) (sym same) is
+fits world (job.Serve j) p (t, is, same) = subst (Fits (job.Serve j)) (sym same) is
+fits world (job.Sweep j) p (t, is, same) =
+    subst (Fits (job.Sweep j)) (sym same) (any_task world (job.Sweep j) t is)
+fits world (job.Check j) p same = subst (Fits (job.Check j)) (sym same) tt
+fits world (job.Migrate j) p same = subst (Fits (job.Migrate j)) (sym same) tt
+
+-- the bytes that the files of a plan hold
+abbrev IsAt : World → Image → Plan → Type 0
+IsAt world image (plan.Trial t) = Unit {0}
+IsAt world image (plan.Check path) = world.holds path.now image
+IsAt world image (plan.Migrate path) = world.holds path.now image
+IsAt world image (plan.Do path t) = world.holds path.now image
+
+-- are those at the path of its job
+found_at : (world : World) (image : Image) (job : Job) (p : Plan) → IsPlanOf world job p
+    → ((path : List ℕ) → file_of job ≡ Some path → world.holds path image) → IsAt world image p
+found_at world image (job.Trial j) p (t, is, same) at = subst (IsAt world image) (sym same) tt
+found_at world image (job.Merchant j) p (t, is, same) at =
+    subst (IsAt world image) (sym same) (at j.file.now refl)
+found_at world image (job.Grant j) p (t, is, same) at =
+    subst (IsAt world image) (sym same) (at j.given.file.now refl)
+found_at world image (job.Withdraw j) p (t, is, same) at =
+    subst (IsAt world image) (sym same) (at j.file.now refl)
+found_at world image (job.Rights j) p (t, is, same) at =
+    subst (IsAt world image) (sym same) (at j.file.now refl)
+found_at world image (job.Pipe j) p (t, is, same) at =
+    subst (IsAt world image) (sym same) (at j.file.now refl)
+found_at world image (job.Batch j) p (t, is, same) at =
+    subst (IsAt world image) (sym same) (at j.file.now refl)
+found_at world image (job.Serve j) p (t, is, same) at =
+    subst (IsAt world image) (sym same) (at j.file.now refl)
+found_at world image (job.Sweep j) p (t, is, same) at =
+    subst (IsAt world image) (sym same) (at j.file.now refl)
+found_at world image (job.Check j) p same at = subst (IsAt world image) (sym same) (at j.file.now refl)
+found_at world image (job.Migrate j) p same at = subst (IsAt world image) (sym same) (at j.file.now refl)
 
 -- words that ask for no job
 unasked : (words : List Text) (end : Ending) (unread unsent quiet : Type 0) → (unsent → quiet)
@@ -180,7 +211,7 @@ abbrev IsFrom : Image → Run → Image → Type 0
 IsFrom image r next = (V : Content) (c : Option Command) → Sound V → IfSome c IsProper → AreOf image V c
     → ∥ ((it : Comes V c r) × AreOf next (kept_by V c r it) (undecided_by V c r it)) ∥₁
 
-module _ {D : Type 0} {g : Ghosts D} (tells : Turns) (image next : Image) where
+module _ {D : Type 0} {g : Ghosts D} (world : World) (image next : Image) where
   -- files that keep what they kept
   stays_run : (left : FileStore D g) → Leaves image (Some left) next → (it : Run)
       → Rests it → Stays image left → IsFrom image it next
@@ -209,21 +240,22 @@ module _ {D : Type 0} {g : Ghosts D} (tells : Turns) (image next : Image) where
       ) ∣₁
 
   -- what a check and a migration come to
-  checked : (left : FileStore D g) (told : Result Sizes FileFault) → IsChecked image (Some left) told
-      → Stays image left
-  checked left (Ok sizes) h = h.2
-  checked left (Err why) h = h.2
+  checked : (path : List ℕ) → world.holds path image → (left : FileStore D g) (told : Result Sizes FileFault)
+      → IsChecked world path (Some left) told → Stays image left
+  checked path at left (Ok sizes) h = (h image at).2
+  checked path at left (Err why) h = (h image at).2
 
-  moved : (left : FileStore D g) (told : Result ℤ FileFault) → IsMoved image (Some left) told
-      → Leaves image (Some left) next → (it : Run) → Rests it
+  moved : (path : List ℕ) → world.holds path image → (left : FileStore D g) (told : Result ℤ FileFault)
+      → IsMoved world path (Some left) told → Leaves image (Some left) next → (it : Run) → Rests it
       → IsFrom image it next
-  moved left (Ok version) h may it calm = moves_run left may it calm h
-  moved left (Err why) h may it calm = stays_run left may it calm h.2
+  moved path at left (Ok version) h may it calm = moves_run left may it calm (h image at)
+  moved path at left (Err why) h may it calm = stays_run left may it calm (h image at).2
 
   -- a file that is opened, or refused with a connection
-  module _ (left : FileStore D g) (may : Leaves image (Some left) next) (t : Task) (end : Ending)
+  module _ (path : List ℕ) (at : world.holds path image) (left : FileStore D g)
+      (may : Leaves image (Some left) next) (t : Task) (end : Ending)
       (s : Streams) (values : AreValues t) (r : Run) (ends : r.ending ≡ end)
-      (asked : AsksFor r.words (λ job. IsTaskOf anytime job t))
+      (asked : AsksFor r.words (λ job. IsTaskOf anything job t))
       (of : (X : Content) (cs : List Command) → Tells t X cs s → Tells t X cs r.streams)
       (calm : (why : FileFault) → end ≡ ending.NotOpened why → IsQuiet s → Rests r)
       (bear : (X : Content) → Bear image X → Bear r.begins X) where
@@ -251,24 +283,28 @@ module _ {D : Type 0} {g : Ghosts D} (tells : Turns) (image next : Image) where
 
     module _ (result : Result Outcome Stop) (unread unsent : Type 0) (still : unread → IsStill s)
         (quiet : unsent → IsQuiet s) (fin : r.ending ≡ ending.Done → result ≡ Ok outcome.Done)
-        (on : WorksOn image left (λ p broken. Does tells t p broken result unread unsent s)) where
+        (on : WorksOn (world.holds path) left
+        (λ p broken. Does world.tells t p broken result unread unsent s)) where
       abbrev conn : Held (FileStore D g)
       conn = on.opened
+
+      abbrev opens : OpensFrom image conn
+      opens = on.found image at
 
       abbrev w : Passage
       w = file_passing conn left
 
       -- the trees that the open found in the bytes
       abbrev found : Trees
-      found = (file_state on.found.first).committed.trees
+      found = (file_state opens.first).committed.trees
 
       clean : HasCleanDisk (file_state conn)
       clean = on.clean may.0
 
       finds : MayFind image found
       finds =
-          let was : HasCleanDisk (file_state on.found.first) = omega (arith, on.found.clean, clean) in
-          (on.found.found was).found.holds
+          let was : HasCleanDisk (file_state opens.first) = omega (arith, opens.clean, clean) in
+          (opens.found was).found.holds
 
       -- a vault that is held
       on_one : (V : Content) (c : Option Command) (W : Content) → (W ≡ V) ⊎ (W ≡ perhaps V c) → Sound W
@@ -276,7 +312,7 @@ module _ {D : Type 0} {g : Ghosts D} (tells : Turns) (image next : Image) where
           → (it : Comes V c r) × AreOf next (kept_by V c r it) (undecided_by V c r it)
       on_one V c W is sound held holds =
           work_on V c W is held w
-          (works tells t w W (may.0, (holds, sound)) sound s on.broken result unread unsent still quiet values
+          (works world.tells t w W (may.0, (holds, sound)) sound s on.broken result unread unsent still quiet values
           (r.ending ≡ ending.Done) fin on.done)
           (λ A B leaves. leaves next may.1)
 
@@ -285,13 +321,13 @@ module _ {D : Type 0} {g : Ghosts D} (tells : Turns) (image next : Image) where
           let other : Sound (perhaps V c) = perhaps_sound V c sound proper in
           ∥∥₁_map (keeps found finds) (λ ours. elim ours [
             | inl is ↦ on_one V c V (inl refl) sound (bears image V found finds is)
-                (on.found.stands clean V sound is)
+                (opens.stands clean V sound is)
             | inr is ↦ on_one V c (perhaps V c) (inr refl) other (bears image (perhaps V c) found finds is)
-                (on.found.stands clean (perhaps V c) other is)
+                (opens.stands clean (perhaps V c) other is)
           ])
       worked V c sound proper (inr (inl (none, some))) =
           let held : Bear image V = ∥∥₁_map (some found finds) (λ it. (found, finds, inl it)) in
-          ∥∥₁_map (on.found.some clean V sound some) (on_one V c V (inl refl) sound held)
+          ∥∥₁_map (opens.some clean V sound some) (on_one V c V (inl refl) sound held)
       worked V c sound proper (inr (inr (none, empty, (before, blank, first)))) =
           let held : Bear image V = ∥∥₁_map (first found finds) (λ it. elim it [
             | inl same ↦ (found, finds, inr (empty, subst AreBlank (sym same) blank))
@@ -301,15 +337,15 @@ module _ {D : Type 0} {g : Ghosts D} (tells : Turns) (image next : Image) where
               inl (newest, ours_in_newest V found (subst (λ W. AreOurs found W) (sym empty) ours)),
             )
           ]) in
-          ∥∥₁_map (on.found.empty clean before blank first)
+          ∥∥₁_map (opens.empty clean before blank first)
           (λ is. on_one V c V (inl refl) sound held (subst (Holds (file_state conn)) (sym empty) is))
 
     -- a task on files that are opened, or refused with a connection
     on_some : (unread unsent : Type 0) → (unread → IsStill s) → (unsent → IsQuiet s)
-        → EndsOnFile tells image (Some left) t end unread unsent s → IsFrom image r next
+        → EndsOnFile world path (Some left) t end unread unsent s → IsFrom image r next
     on_some unread unsent still quiet h = by_ending end refl h
       where
-        by_ending : (e : Ending) → end ≡ e → DoesOnFile tells image left t e unread unsent s → IsFrom image r next
+        by_ending : (e : Ending) → end ≡ e → DoesOnFile world.tells (world.holds path) left t e unread unsent s → IsFrom image r next
         by_ending ending.Done is h = worked (Ok outcome.Done) unread unsent still quiet (λ _. refl) h
         by_ending ending.Version is h = absurd h
         by_ending (ending.Refused n) is h =
@@ -317,7 +353,7 @@ module _ {D : Type 0} {g : Ghosts D} (tells : Turns) (image next : Image) where
         by_ending ending.SomeRefused is h =
             worked (Ok outcome.SomeRefused) unread unsent still quiet (λ d. absurd (cc (d, ends, is))) h
         by_ending ending.BadWords is h = absurd h
-        by_ending (ending.NotOpened why) is h = stays_run left may r (calm why is (quiet h.2)) h.0.stays
+        by_ending (ending.NotOpened why) is h = stays_run left may r (calm why is (quiet h.2)) (h.0.stays image at)
         by_ending (ending.Stopped stop) is h =
             worked (Err stop) unread unsent still quiet (λ d. absurd (cc (d, ends, is))) h
 
@@ -325,58 +361,63 @@ module _ {D : Type 0} {g : Ghosts D} (tells : Turns) (image next : Image) where
   each : (left : Option (FileStore D g)) (words : List Text) (job : Job) → IsAsked program_app words job
       → (p : Plan) → Fits job p → (end : Ending) (s : Streams) (unread unsent : Type 0)
       → (unread → IsStill s) → (unsent → IsQuiet s) → IsProperPlan p
-      → DoesPlan tells image left p end unread unsent s
-      → Leaves image left next
+      → DoesPlan world left p end unread unsent s
+      → IsAt world image p → Leaves image left next
       → IsRun (record { begins = image; words = words; ending = end; streams = s }) next
-  each left words job asked (plan.Trial t) asks end s unread unsent still quiet values h leaves =
+  each left words job asked (plan.Trial t) asks end s unread unsent still quiet values h at leaves =
       rests next (record { begins = image; words = words; ending = end; streams = s })
       (inr (inr (job, asked, asks)))
       (subst (λ l. Leaves image l next) h.0 leaves)
-  each (Some left) words job asked (plan.Check path) asks end s unread unsent still quiet values h leaves =
+  each (Some left) words job asked (plan.Check path) asks end s unread unsent still quiet values h at leaves =
       stays_run left leaves (record { begins = image; words = words; ending = end; streams = s })
-      (inr (inr (job, asked, asks))) (checked left h.1.0 h.1.1)
-  each None words job asked (plan.Check path) asks end s unread unsent still quiet values h leaves =
+      (inr (inr (job, asked, asks))) (checked path.now at left h.1.0 h.1.1)
+  each None words job asked (plan.Check path) asks end s unread unsent still quiet values h at leaves =
       rests next (record { begins = image; words = words; ending = end; streams = s })
       (inr (inr (job, asked, asks))) leaves
-  each (Some left) words job asked (plan.Migrate path) asks end s unread unsent still quiet values h leaves =
-      moved left h.1.0 h.1.1 leaves (record { begins = image; words = words; ending = end; streams = s })
+  each (Some left) words job asked (plan.Migrate path) asks end s unread unsent still quiet values h at leaves =
+      moved path.now at left h.1.0 h.1.1 leaves (record { begins = image; words = words; ending = end; streams = s })
       (inr (inr (job, asked, asks)))
-  each None words job asked (plan.Migrate path) asks end s unread unsent still quiet values h leaves =
+  each None words job asked (plan.Migrate path) asks end s unread unsent still quiet values h at leaves =
       rests next (record { begins = image; words = words; ending = end; streams = s })
       (inr (inr (job, asked, asks))) leaves
-  each (Some left) words job asked (plan.Do path t) asks end s unread unsent still quiet values h leaves =
-      on_some left leaves t end s values (record { begins = image; words = words; ending = end; streams = s })
+  each (Some left) words job asked (plan.Do path t) asks end s unread unsent still quiet values h at leaves =
+      on_some path.now at left leaves t end s values (record { begins = image; words = words; ending = end; streams = s })
       refl (job, asked, asks) (λ X cs told. told) (λ why is silent. inr (inl ((why, is), silent)))
       (λ X held. held) unread unsent still quiet h
-  each None words job asked (plan.Do path t) asks end s unread unsent still quiet values h leaves =
+  each None words job asked (plan.Do path t) asks end s unread unsent still quiet values h at leaves =
       rests next (record { begins = image; words = words; ending = end; streams = s })
-      (inr (inl ((file.Refused, h.0), quiet h.2))) leaves
+      (inr (inl ((file.Refused, h.0), quiet h.3))) leaves
 
   -- and whatever words it has
   all : (left : Option (FileStore D g)) (words : List Text) (end : Ending) (s : Streams)
       (unread unsent : Type 0) → (unread → IsStill s) → (unsent → IsQuiet s)
-      → DoesWords tells image left words end unread unsent s
-      → Leaves image left next
+      → DoesWords world left words end unread unsent s
+      → IsFound words (λ path. world.holds path image) → Leaves image left next
       → IsRun (record { begins = image; words = words; ending = end; streams = s }) next
-  all left words end s unread unsent still quiet (inl (job, asked, inl (p, is, proper, h))) leaves =
-      each left words job asked p (fits tells job p is) end s unread unsent still quiet proper h leaves
+  all left words end s unread unsent still quiet (inl (job, asked, inl (p, is, proper, h))) at leaves =
+      each left words job asked p (fits world job p is) end s unread unsent still quiet proper h
+      (found_at world image job p is (λ path named. at job path asked named)) leaves
   all left words end s unread unsent still quiet
-      (inl (job, asked, inr (why, none, calm, silent))) leaves =
+      (inl (job, asked, inr (why, none, calm, silent))) at leaves =
       rests next (record { begins = image; words = words; ending = end; streams = s })
       (inl (inl ((job, asked, why), quiet silent)))
       (subst (λ l. Leaves image l next) none leaves)
-  all left words end s unread unsent still quiet (inr (none, without)) leaves =
+  all left words end s unread unsent still quiet (inr (none, without)) at leaves =
       rests next (record { begins = image; words = words; ending = end; streams = s })
       (inl (inr (unasked words end unread unsent (IsQuiet s) quiet without)))
       (subst (λ l. Leaves image l next) none leaves)
 
-pub each_is_run : {D R W E K : Type 0} (g : Ghosts D) (remaining : R → Known) (contents : W → Known)
-    (said : E → Known) (tells : K → Turns) → EveryRunIsOne g remaining contents said tells
-each_is_run g remaining contents said tells image next left words status time links i i' o told o' e e' h
-    leaves =
-    all (tells time) image next left words h.ending
+pub each_is_run : {D R W E K P : Type 0} (g : Ghosts D) (remaining : R → Known) (contents : W → Known)
+    (said : E → Known) (tells : K → Turns) (holds : P → List ℕ → Image → Type 0)
+    (lacks refuses : P → List ℕ → Type 0) (says : P → List ℕ → List ℕ → Type 0)
+    → EveryRunIsOne g remaining contents said tells holds lacks refuses says
+each_is_run g remaining contents said tells holds lacks refuses says image next left words status time paths
+    links i i' o told o' e e' h at leaves =
+    let world : World =
+        world_of (tells time) (holds paths) (lacks paths) (refuses paths) (says paths) in
+    all world image next left words h.ending
     (with_links (streams remaining i i' contents o told) links) (i' ≡ i) (told ≡ o)
     (λ same. subst (λ u. Consumes (remaining i.inner) (remaining u.inner) []) (sym same)
     (consumes_nothing (remaining i.inner)))
     (λ same. subst (λ u. Appends (contents o.inner) (contents u.inner) []) (sym same)
-    (appends_nothing (contents o.inner))) h.does leaves
+    (appends_nothing (contents o.inner))) h.does at leaves

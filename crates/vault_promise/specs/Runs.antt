@@ -26,12 +26,15 @@ use Rattle.vault_listen.specs.Peers.{Link}
 use Rattle.vault_wire.specs.declared.watched.Watched.{Watched}
 use Rattle.vault_jobs.specs.Streams.{Known, Streams, streams, with_links}
 use Rattle.vault_jobs.specs.declared.task.Task.{Task}
+use Rattle.vault_words.specs.Commands.{program_app}
+use Rattle.vault_words.specs.Jobs.{IsAsked}
 use Rattle.vault_words.specs.declared.jobs.Job.{Job}
 use Rattle.vault_words.specs.declared.jobs.Job.TheVariants.{Trial, Merchant, Grant, Withdraw, Rights, Pipe}
 use Rattle.vault_words.specs.declared.jobs.Job.TheVariants.{Batch, Serve, Sweep, Check, Migrate}
 use Rattle.vault_app.specs.Jobs.{RunsAs}
 use Rattle.vault_app.specs.Plans.{EndsPlanless, IsTaskOf}
 use Rattle.vault_app.specs.Asked.{AsksFor}
+use Rattle.vault_app.specs.World.{anything, world_of}
 use Rattle.vault_app.specs.declared.ending.Ending.{Ending}
 use Rattle.vault_app.specs.declared.ending.Ending.TheVariants.{Done, NotOpened}
 use Rattle.vault_file.specs.declared.fault.NotOpened.{NotOpened as FileFault}
@@ -80,10 +83,6 @@ abbrev pub ShownIsLeft : {D : Type 0} → Ghosts D → Type 0
 ShownIsLeft {D} g = (image : Image) (left : FileStore D g) → IsClean (files.view left)
     → Leaves image (Some left) (shown left)
 
--- any moment may be told
-abbrev pub anytime : Turns
-anytime turn now = Unit {0}
-
 -- the job asks for nothing of the vault in a file: it is a trial, a check or a move to the newest schema
 abbrev pub IsAside : Job → Type 0
 IsAside (Trial j) = Unit {0}
@@ -110,7 +109,7 @@ Rests r = EndsPlanless r.words r.ending (IsQuiet r.streams)
 -- failed at one more at most. What went out tells of those answered; and so does the end, where it is done.
 pub record Work (V : Content) (c : Option Command) (r : Run) : Type 0 where
   pub task : Task
-  pub asked : AsksFor r.words (λ job. IsTaskOf anytime job task)
+  pub asked : AsksFor r.words (λ job. IsTaskOf anything job task)
   pub opened : Content
   pub is : (opened ≡ V) ⊎ (opened ≡ perhaps V c)
   pub holds : Bear r.begins opened
@@ -140,16 +139,40 @@ abbrev pub IsRun : Run → Image → Type 0
 IsRun r next = (V : Content) (c : Option Command) → Sound V → IfSome c IsProper → AreOf r.begins V c
     → ∥ ((it : Comes V c r) × AreOf next (kept_by V c r it) (undecided_by V c r it)) ∥₁
 
--- Whatever a run of the program does with files that had these bytes, by the clause `does` of `run`, and with
--- whatever bytes the next one begins: it is a run up to these.
-abbrev pub EveryRunIsOne : {D R W E K : Type 0} (g : Ghosts D) → (R → Known) → (W → Known) → (E → Known)
-    → (K → Turns) → Type 0
-EveryRunIsOne {D} {R} {W} {E} {K} g remaining contents said tells =
-    (image next : Image) (left : Option (FileStore D g)) (words : List Text) (status : ℕ) (time : K)
-    (links : List (Option Link)) (i i' : Watched R) (o told o' : Watched W) (e e' : Watched E)
-    → (it : RunsAs remaining contents said (tells time) image left words status links i i' o told o' e e')
-    → Leaves image left next → (let s : Streams = with_links (streams remaining i i' contents o told) links in
-    IsRun (record { begins = image; words = words; ending = it.ending; streams = s }) next)
+-- the path of the file with which a job works, if it works with one
+abbrev pub file_of : Job → Option (List ℕ)
+file_of (Trial j) = None
+file_of (Merchant j) = Some j.file.now
+file_of (Grant j) = Some j.given.file.now
+file_of (Withdraw j) = Some j.file.now
+file_of (Rights j) = Some j.file.now
+file_of (Pipe j) = Some j.file.now
+file_of (Batch j) = Some j.file.now
+file_of (Serve j) = Some j.file.now
+file_of (Sweep j) = Some j.file.now
+file_of (Check j) = Some j.file.now
+file_of (Migrate j) = Some j.file.now
+
+-- such bytes are held at the path for which these words ask, if they ask for one
+abbrev pub IsFound : List Text → (List ℕ → Type 0) → Type 0
+IsFound words Holding = (job : Job) (path : List ℕ) → IsAsked program_app words job
+    → file_of job ≡ Some path → Holding path
+
+-- Whatever a run of the program does, by the clause `does` of `run`, in a world where the files at the path of
+-- its words hold these bytes; and with whatever bytes the next one begins: it is a run up to these.
+module _ {D R W E K P : Type 0} (g : Ghosts D) (remaining : R → Known) (contents : W → Known) (said : E → Known)
+    (tells : K → Turns) (holds : P → List ℕ → Image → Type 0) (lacks refuses : P → List ℕ → Type 0)
+    (says : P → List ℕ → List ℕ → Type 0) where
+  abbrev pub EveryRunIsOne : Type 0
+  EveryRunIsOne =
+      (image next : Image) (left : Option (FileStore D g)) (words : List Text) (status : ℕ) (time : K) (paths : P)
+      (links : List (Option Link)) (i i' : Watched R) (o told o' : Watched W) (e e' : Watched E)
+      → (it : RunsAs remaining contents said
+      (world_of (tells time) (holds paths) (lacks paths) (refuses paths) (says paths)) left words status links i i'
+      o told o' e e')
+      → IsFound words (λ path. holds paths path image) → Leaves image left next
+      → (let s : Streams = with_links (streams remaining i i' contents o told) links in
+      IsRun (record { begins = image; words = words; ending = it.ending; streams = s }) next)
 
 -- the bytes with which the first of runs begins, or those at the end where there is none
 abbrev pub before : List Run → Image → Image

@@ -1,7 +1,8 @@
 //! `batch`: rows answered by the vault of a file.
 ghost use Rattle.std.specs.Prelude.{IfOk, MatchResult};
 ghost use Rattle.vault_words.specs.declared.jobs.Job.{Job};
-ghost use Rattle.vault_app.specs.Plans.{EndsBefore, IsTaskOf, untold};
+ghost use Rattle.vault_app.specs.Plans.{EndsBefore, IsTaskOf};
+ghost use Rattle.vault_app.specs.World.{untold};
 ghost use Rattle.vault_app.specs.Values.{AreValues};
 
 use crate::asker::asker_of;

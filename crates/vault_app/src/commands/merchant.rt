@@ -2,6 +2,7 @@
 ghost use Rattle.std.specs.Prelude.{IfOk, MatchResult};
 ghost use Rattle.vault_core.specs.Scalar.{IsLife};
 ghost use Rattle.vault_words.specs.declared.jobs.Job.{Job};
+ghost use Rattle.vault_app.specs.World.{told};
 ghost use Rattle.vault_app.specs.Plans.{EndsBefore, IsTaskOf};
 ghost use Rattle.vault_app.specs.Values.{AreValues};
 
@@ -20,7 +21,7 @@ pub(crate) fn task<K: Timekeeper>(time: &K, job: &MerchantJob<'_>) -> Result<Tas
     requires single { IsLife job.now.single_life }
     requires multi { IsLife job.now.multi_life }
     ensures task { MatchResult result
-        (IsTaskOf (K.tells time.now) (Job.Merchant job.entry.now))
+        (IsTaskOf (told (K.tells time.now)) (Job.Merchant job.entry.now))
         (EndsBefore (Job.Merchant job.entry.now)) }
     ensures proper { IfOk result AreValues }
 {

@@ -1,6 +1,7 @@
 //! `pipe`: messages answered by the vault of a file.
 ghost use Rattle.vault_words.specs.declared.jobs.Job.{Job};
-ghost use Rattle.vault_app.specs.Plans.{IsTaskOf, untold};
+ghost use Rattle.vault_app.specs.Plans.{IsTaskOf};
+ghost use Rattle.vault_app.specs.World.{untold};
 ghost use Rattle.vault_app.specs.Values.{AreValues};
 
 use crate::typed::{fixed_digits, fixed_moment};

@@ -1,16 +1,17 @@
 //! `rights`: the rights that a file lists.
 ghost use Rattle.std.specs.Prelude.{◌≡◌, ◌≢◌, IfErr, IfOk, MatchResult};
 ghost use Rattle.vault_words.specs.declared.jobs.Job.{Job};
+ghost use Rattle.vault_app.specs.World.{said};
 ghost use Rattle.vault_app.specs.Plans.{EndsBefore, IsTaskOf};
 ghost use Rattle.vault_app.specs.Rights.{IsListed, IsUnlisted};
 ghost use Rattle.vault_app.specs.Values.{AreValues};
 
 use crate::ending::Ending;
-use std::fs;
 use std::io::ErrorKind;
 use vault_core::moment::Moment;
 use vault_core::name::{Caller, MerchantId};
 use vault_core::right::Right;
+use vault_file::paths::Paths;
 use vault_jobs::clock::moment;
 use vault_jobs::stop::{Stop, Unread};
 use vault_jobs::task::Task;
@@ -32,14 +33,15 @@ fn why_unread(kind: ErrorKind) -> Unread
 
 /// The rights that a file lists, or how the job ends without them: refused by 70 to 73 or 75, or stopped by
 /// 74 or, where the file can't be read, by 80.
-fn read(
+fn read<P: Paths>(
     rt: &HostRuntime,
+    paths: &P,
     path: &str,
 ) -> Result<Vec<(Caller, MerchantId, Right, Option<Moment>)>, Ending>
-    ensures listed { IfOk result (λ rows. IsListed rows.items) }
+    ensures listed { IfOk result (λ rows. IsListed (P.says paths.now path.now) rows.items) }
     ensures unlisted { IfErr result IsUnlisted }
 {
-    let text = match fs::read(rt, path) {
+    let text = match paths.read(rt, path) {
         Ok(text) => text,
         Err(error) => return Err(Ending::Stopped(Stop::Rights(why_unread(error.kind())))),
     };
@@ -52,17 +54,18 @@ fn read(
 
 /// The rights that a file lists are given, each with its end, up to the first that is refused: by 7 where its
 /// merchant isn't known. The vault's file isn't touched where the list isn't read.
-pub(crate) fn task<K: Timekeeper>(
+pub(crate) fn task<P: Paths, K: Timekeeper>(
     rt: &HostRuntime,
+    paths: &P,
     time: &K,
     job: &RightsFileJob<'_>,
 ) -> Result<Task, Ending>
     ensures task { MatchResult result
-        (IsTaskOf (K.tells time.now) (Job.Rights job.entry.now))
+        (IsTaskOf (said (K.tells time.now) (P.says paths.now)) (Job.Rights job.entry.now))
         (EndsBefore (Job.Rights job.entry.now)) }
     ensures proper { IfOk result AreValues }
 {
-    let rows = read(rt, job.rights)?;
+    let rows = read(rt, paths, job.rights)?;
     match moment(time, job.now) {
         Ok(now) => Ok(Task::Give(rows, now)),
         Err(stop) => Err(Ending::Stopped(stop)),

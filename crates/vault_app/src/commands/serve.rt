@@ -1,6 +1,7 @@
 //! `serve`: the vault of a file served on a port.
 ghost use Rattle.vault_words.specs.declared.jobs.Job.{Job};
-ghost use Rattle.vault_app.specs.Plans.{IsTaskOf, untold};
+ghost use Rattle.vault_app.specs.Plans.{IsTaskOf};
+ghost use Rattle.vault_app.specs.World.{untold};
 ghost use Rattle.vault_app.specs.Values.{AreValues};
 
 use vault_jobs::task::Task;

@@ -1,6 +1,7 @@
 //! `sweep`: a merchant's dead tokens, whose card numbers are purged in the vault of a file.
 ghost use Rattle.std.specs.Prelude.{IfOk, MatchResult};
 ghost use Rattle.vault_words.specs.declared.jobs.Job.{Job};
+ghost use Rattle.vault_app.specs.World.{told};
 ghost use Rattle.vault_app.specs.Plans.{EndsBefore, IsTaskOf};
 ghost use Rattle.vault_app.specs.Values.{AreValues};
 
@@ -15,7 +16,7 @@ use vault_words::commands::sweep::SweepJob;
 /// done by 8 where a token is dead and the caller may not purge.
 pub(crate) fn task<K: Timekeeper>(time: &K, job: &SweepJob<'_>) -> Result<Task, Ending>
     ensures task { MatchResult result
-        (IsTaskOf (K.tells time.now) (Job.Sweep job.entry.now))
+        (IsTaskOf (told (K.tells time.now)) (Job.Sweep job.entry.now))
         (EndsBefore (Job.Sweep job.entry.now)) }
     ensures proper { IfOk result AreValues }
 {

@@ -4,6 +4,7 @@ ghost use Rattle.vault_core.specs.Scalar.{IsLife};
 ghost use Rattle.vault_wire.specs.Watching.{inner_of};
 ghost use Rattle.vault_words.specs.declared.jobs.Job.{Job};
 ghost use Rattle.vault_jobs.specs.Streams.{Streams, streams};
+ghost use Rattle.vault_app.specs.World.{told};
 ghost use Rattle.vault_app.specs.Plans.{EndsBefore, IsTrialOf, TrialEnds};
 
 use crate::ending::Ending;
@@ -20,7 +21,7 @@ use vault_words::commands::trial::TrialJob;
 /// What the trial is asked with. Refused by 4 where a name is none.
 pub(crate) fn plan<K: Timekeeper>(time: &K, job: &TrialJob<'_>) -> Result<Trial, Ending>
     requires { IsLife job.now.life }
-    ensures trial { MatchResult result (IsTrialOf (K.tells time.now) job.entry.now)
+    ensures trial { MatchResult result (IsTrialOf (told (K.tells time.now)) job.entry.now)
         (EndsBefore (Job.Trial job.entry.now)) }
     ensures life { IfOk result (λ trial. IsLife trial.life) }
 {

@@ -4,6 +4,7 @@ use std::alloc::Global;
 use std::fs;
 use std::io::{Read, Write};
 use vault_app::run::run;
+use vault_file::host::HostPaths;
 use vault_listen::network::Loopback;
 use vault_listen::peer::Limits;
 use vault_live::time::ClockTime;
@@ -49,7 +50,7 @@ pub fn status_of<R: Read, W: Write, E: Write>(
     let mut network = Loopback::new(rt, Limits::of_service());
     run(
         rt,
-        Unknown,
+        HostPaths::new(Unknown),
         &time,
         &mut network,
         words,

@@ -4,6 +4,9 @@ use vault_core::moment::Moment;
 use vault_core::name::{Caller, MerchantId};
 use vault_core::right::Right;
 use vault_jobs::task::{Outcome, Task, do_task};
+use vault_listen::network::Loopback;
+use vault_listen::peer::Limits;
+use vault_live::time::ClockTime;
 use vault_rights::fault::RightsFault;
 use vault_rights::read::read_rights;
 use vault_script::case::wrong;
@@ -122,7 +125,16 @@ fn granted(rt: &HostRuntime, vault: &mut Vault<MemTables>, text: &str) -> Option
     if vault.broken() {
         return None;
     }
-    match do_task(rt, &Task::Give(rows, now), vault, &mut reader, &mut writer) {
+    let mut network = Loopback::new(rt, Limits::of_service());
+    match do_task(
+        rt,
+        &ClockTime::new(rt),
+        &mut network,
+        &Task::Give(rows, now),
+        vault,
+        &mut reader,
+        &mut writer,
+    ) {
         Ok(Outcome::Done) => Some(output),
         _ => None,
     }

@@ -1,29 +1,55 @@
-use Rattle.std.proofs.Common.{◌≡◌, arith, subst, sym}
+use Rattle.std.proofs.Common.{◌≡◌, [], Some, arith, refl, subst, sym}
 use Rattle.vault_jobs.specs.Streams.{Streams, streams, with_links}
+use Rattle.vault_listen.proofs.Linking.{none_then}
 use Rattle.vault_sql.specs.Places.{IsPast}
 use Rattle.vault_store.specs.Applied.{is_broken}
-use Rattle.vault_app.proofs.Files.{ended, works}
-use Rattle.vault_app.specs.Files.{DoesOnFile}
+use Rattle.vault_app.proofs.Files.{ended, refused_file, works}
+use Rattle.vault_app.specs.Files.{EndsOnFile}
+use Rattle.vault_app.specs.World.{World, world_of}
 use Rattle.vault_app.proofs.on_file.do_on_file.Goals as goal
+
+pub returns-in-Err : goal.returns-in-Err
+returns-in-Err g c =
+    let paths = c.args.paths in
+    let world : World = world_of (g.K.Timekeeper.tells c.args.time.now) (g.P.Paths.holds paths)
+    (g.P.Paths.lacks paths) (g.P.Paths.refuses paths) (g.P.Paths.says paths) in
+    let s : Streams = with_links (streams g.R.Read.remaining c.args.input.now c.args.input.now
+    g.W.Write.contents c.args.output.now c.args.output.now) [] in
+    let told = c.in-Err.ensures in
+    record {
+      does = (
+        [],
+        none_then (g.N.Network.tells c.args.network.now),
+        refused_file world c.args.path.now (c.args.input.now ≡ c.args.input.now)
+            (c.args.output.now ≡ c.args.output.now) s c.in-Err.left c.args.task.now c.in-Err.fault told.refused
+            told.refused_there told.never told.tells told.left told.same refl refl,
+      );
+    }
 
 pub returns : goal.returns
 returns g c =
     let it = c.do_task-outcome.ensures.does in
-    let tells = g.K.Timekeeper.tells c.args.time.now in
+    let paths = c.args.paths in
+    let world : World = world_of (g.K.Timekeeper.tells c.args.time.now) (g.P.Paths.holds paths)
+    (g.P.Paths.lacks paths) (g.P.Paths.refuses paths) (g.P.Paths.says paths) in
     let s : Streams = with_links (streams g.R.Read.remaining c.args.input.now c.do_task-outcome.new.input
     g.W.Write.contents c.args.output.now c.do_task-outcome.new.output) it.0 in
     let unread : Type 0 = c.do_task-outcome.new.input ≡ c.args.input.now in
     let unsent : Type 0 = c.do_task-outcome.new.output ≡ c.args.output.now in
-    let left = c.close_files-left.result in record {
+    let left = c.close_files-left.result in
+    let fresh = c.in-Ok.ensures.fresh in
+    record {
       does = (
         it.0,
         it.1,
-        λ image found. subst (λ e. DoesOnFile tells image left c.args.task.now e unread unsent s) (sym c.ending_of.ensures)
-            (ended tells image unread unsent s left c.args.task.now c.do_task-outcome.result
-            (works (λ t. t.conn) (λ t. t.failed) (λ t V. IsPast t.place V) tells image c.args.vault
+        subst (λ e. EndsOnFile world c.args.path.now (Some left) c.args.task.now e unread unsent s)
+            (sym c.ending_of.ensures)
+            (ended world c.args.path.now unread unsent s left c.args.task.now c.do_task-outcome.result
+            (works (λ t. t.conn) (λ t. t.failed) (λ t V. IsPast t.place V) world.tells
+            (world.holds c.args.path.now) c.in-Ok.vault
             c.do_task-outcome.new.vault left c.args.task.now c.do_task-outcome.result
-            (is_broken c.do_task-outcome.new.vault) unread unsent s found
-            (c.requires.fresh.0, λ V. subst (λ place. IsPast place V) (sym c.requires.fresh.1) tt)
+            (is_broken c.do_task-outcome.new.vault) unread unsent s c.in-Ok.ensures.found
+            (fresh.1.0, λ V. subst (λ place. IsPast place V) (sym fresh.1.1) tt)
             c.do_task-outcome.ensures.honest
             (λ clean. omega (arith, c.close_files-left.ensures.clean, clean)) c.close_files-left.ensures.after
             c.close_files-left.ensures.either_after it.2)),

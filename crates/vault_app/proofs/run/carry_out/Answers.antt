@@ -1,12 +1,17 @@
 use Rattle.std.proofs.Common.{◌≡◌, [], refl}
 use Rattle.vault_listen.proofs.Linking.{none_then}
-use Rattle.sqlite_wal.specs.Files.{image_at}
-use Rattle.vault_jobs.specs.Streams.{Streams, streams}
-use Rattle.vault_app.proofs.Files.{checked, moved, refused_file}
+use Rattle.vault_jobs.specs.Streams.{Streams, streams, with_links}
+use Rattle.vault_app.proofs.Files.{checked, moved}
+use Rattle.vault_app.specs.World.{World, world_of}
 use Rattle.vault_app.proofs.run.carry_out.Goals as goal
 
 pub returns-in-Check : goal.returns-in-Check
 returns-in-Check g c =
+    let paths = c.args.paths in
+    let world : World = world_of (g.K.Timekeeper.tells c.args.time.now) (g.P.Paths.holds paths)
+    (g.P.Paths.lacks paths) (g.P.Paths.refuses paths) (g.P.Paths.says paths) in
+    let s : Streams = with_links (streams g.R.Read.remaining c.args.input.now c.args.input.now
+    g.W.Write.contents c.args.output.now c.tell_sizes.new.output) [] in
     let told = c.check_file-checked.ensures in
     rw c.in-Check.is (record {
       does = (
@@ -16,8 +21,10 @@ returns-in-Check g c =
           refl,
           (
             c.check_file-checked.result.0,
-            checked (image_at g.S.Start) c.check_file-checked.result.1 c.check_file-checked.result.0 told.empty
-                told.refused told.sound told.never told.tells told.same told.left,
+            checked world c.in-Check.path.now (c.args.input.now ≡ c.args.input.now)
+                (c.tell_sizes.new.output ≡ c.args.output.now) s c.check_file-checked.result.1
+                c.check_file-checked.result.0 told.empty told.refused told.refused_there told.sound told.never
+                told.tells told.same told.left,
             c.tell_sizes.ensures,
           ),
         ),
@@ -26,6 +33,11 @@ returns-in-Check g c =
 
 pub returns-in-Migrate : goal.returns-in-Migrate
 returns-in-Migrate g c =
+    let paths = c.args.paths in
+    let world : World = world_of (g.K.Timekeeper.tells c.args.time.now) (g.P.Paths.holds paths)
+    (g.P.Paths.lacks paths) (g.P.Paths.refuses paths) (g.P.Paths.says paths) in
+    let s : Streams = with_links (streams g.R.Read.remaining c.args.input.now c.args.input.now
+    g.W.Write.contents c.args.output.now c.tell_moved.new.output) [] in
     let told = c.migrate_file-moved.ensures in
     rw c.in-Migrate.is (record {
       does = (
@@ -35,34 +47,19 @@ returns-in-Migrate g c =
           refl,
           (
             c.migrate_file-moved.result.0,
-            moved (image_at g.S.Start) c.migrate_file-moved.result.1 c.migrate_file-moved.result.0 told.refused
-                told.moved told.left told.tells told.stays,
+            moved world c.in-Migrate.path.now (c.args.input.now ≡ c.args.input.now)
+                (c.tell_moved.new.output ≡ c.args.output.now) s c.migrate_file-moved.result.1
+                c.migrate_file-moved.result.0 told.refused told.refused_there told.moved told.left told.tells
+                told.stays told.same told.same_unmoved,
             c.tell_moved.ensures,
           ),
         ),
       );
     })
 
-pub returns-in-Ok : goal.returns-in-Ok
-returns-in-Ok g c =
-    let it = c.do_on_file-ending.ensures.does in
-    rw c.in-Do.is (record { does = (it.0, it.1, it.2 (image_at g.S.Start) c.in-Ok.ensures.found) })
+pub returns-in-Do : goal.returns-in-Do
+returns-in-Do g c = rw c.in-Do.is c.do_on_file.ensures
 
 pub returns-in-Trial : goal.returns-in-Trial
 returns-in-Trial g c =
     rw c.in-Trial.is (record { does = ([], none_then (g.N.Network.tells c.args.network.now), (refl, c.serve.ensures)) })
-
-pub returns : goal.returns
-returns g c =
-    let s : Streams = streams g.R.Read.remaining c.args.input.now c.args.input.now g.W.Write.contents
-    c.args.output.now c.args.output.now in
-    rw c.in-Do.is (record {
-      does = (
-        [],
-        none_then (g.N.Network.tells c.args.network.now),
-        refused_file (g.K.Timekeeper.tells c.args.time.now) (image_at g.S.Start)
-            (c.args.input.now ≡ c.args.input.now) (c.args.output.now ≡ c.args.output.now) s c.in-Err.left
-            c.in-Do.task c.in-Err.fault c.in-Err.ensures.refused c.in-Err.ensures.never c.in-Err.ensures.tells
-            c.in-Err.ensures.left c.in-Err.ensures.same refl refl,
-      );
-    })

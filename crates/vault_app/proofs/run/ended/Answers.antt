@@ -1,15 +1,18 @@
 use Rattle.std.proofs.Common.{◌≡◌, [], inl, inr, refl, subst}
 use Rattle.vault_jobs.specs.Streams.{Streams, streams, with_links}
 use Rattle.vault_listen.proofs.Linking.{none_then}
-use Rattle.sqlite_wal.specs.Files.{image_at}
 use Rattle.vault_app.specs.Jobs.{DoesPlan}
+use Rattle.vault_app.specs.World.{World, world_of}
 use Rattle.vault_app.proofs.Unread.{unasked}
 use Rattle.vault_app.proofs.run.ended.Goals as goal
 
 pub returns-in-Ok : goal.returns-in-Ok
 returns-in-Ok g c =
     let asked = c.in-Ok.ensures.planned.1 in
-    let it = c.carry_out.ensures.does in record {
+    let it = c.carry_out.ensures.does in
+    let paths = c.args.paths in
+    let world : World = world_of (g.K.Timekeeper.tells c.args.time.now) (g.P.Paths.holds paths)
+    (g.P.Paths.lacks paths) (g.P.Paths.refuses paths) (g.P.Paths.says paths) in record {
       does = (
         it.0,
         it.1,
@@ -20,8 +23,7 @@ returns-in-Ok g c =
             c.in-Ok.plan,
             asked.2,
             c.in-Ok.ensures.proper,
-            subst (λ o. DoesPlan (g.K.Timekeeper.tells c.args.time.now) (image_at g.S.Start)
-                c.carry_out.result.1 c.in-Ok.plan c.carry_out.result.0
+            subst (λ o. DoesPlan world c.carry_out.result.1 c.in-Ok.plan c.carry_out.result.0
                 (c.carry_out.new.input ≡ c.args.input.now) (c.carry_out.new.output ≡ o)
                 (with_links (streams g.R.Read.remaining c.args.input.now c.carry_out.new.input
                 g.W.Write.contents o c.carry_out.new.output) it.0)) c.in-Ok.ensures.planned.0 it.2,

@@ -26,14 +26,14 @@ status_at ending status is (inr three) = inr (sym is ∙ three)
 pub returns-clause-unread : goal.returns-clause-unread
 returns-clause-unread g c = λ at.
     let end = status_at c.ended-ending.result.0 _ c.report.ensures.status at in
-    (calm_at _ _ _ _ _ _ _ c.ended-ending.result.0 end c.ended-ending.ensures.does.2).0
+    (calm_at _ _ _ _ _ _ c.ended-ending.result.0 end c.ended-ending.ensures.does.2).0
 
 pub returns-clause-unsent : goal.returns-clause-unsent
 returns-clause-unsent g c = λ at.
     let end = status_at c.ended-ending.result.0 _ c.report.ensures.status at in
     said_at c.ended-ending.result.0 _ _ _ _ end c.report.ensures.said
-    ∙ (calm_at _ _ _ _ _ _ _ c.ended-ending.result.0 end c.ended-ending.ensures.does.2).1
+    ∙ (calm_at _ _ _ _ _ _ c.ended-ending.result.0 end c.ended-ending.ensures.does.2).1
 
 pub returns-clause-unread_refused : goal.returns-clause-unread_refused
-returns-clause-unread_refused g c = λ one. refused_at _ _ _ _ _ _ _ c.ended-ending.result.0
+returns-clause-unread_refused g c = λ one. refused_at _ _ _ _ _ _ c.ended-ending.result.0
     (sym c.report.ensures.status ∙ one) c.ended-ending.ensures.does.2
