@@ -105,8 +105,8 @@ any_task world (job.Grant j) t (names, (right, now, word, moment, same)) =
     (names, (right, now, word, any_moment world.tells j.given.now now moment, same))
 any_task world (job.Withdraw j) t (names, (right, now, word, moment, same)) =
     (names, (right, now, word, any_moment world.tells j.now now moment, same))
-any_task world (job.Rights j) (task.Give rows now) ((text, (document, said, listed)), moment) =
-    ((text, (document, tt, listed)), any_moment world.tells j.now now moment)
+any_task world (job.Rights j) (task.Give rows now) ((text, document, said, is, proper, listed), moment) =
+    ((text, document, tt, is, proper, listed), any_moment world.tells j.now now moment)
 any_task world (job.Rights j) (task.Change c) is = is
 any_task world (job.Rights j) (task.Sweep who now) is = is
 any_task world (job.Rights j) (task.Batch who now digits) is = is
@@ -414,7 +414,7 @@ pub each_is_run : {D R W E K P : Type 0} (g : Ghosts D) (remaining : R → Known
 each_is_run g remaining contents said tells holds lacks refuses says image next left words status time paths
     links i i' o told o' e e' h at leaves =
     let world : World =
-        world_of (tells time) (holds paths) (lacks paths) (refuses paths) (says paths) in
+    world_of (tells time) (holds paths) (lacks paths) (refuses paths) (says paths) in
     all world image next left words h.ending
     (with_links (streams remaining i i' contents o told) links) (i' ≡ i) (told ≡ o)
     (λ same. subst (λ u. Consumes (remaining i.inner) (remaining u.inner) []) (sym same)
