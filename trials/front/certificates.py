@@ -37,3 +37,13 @@ def make():
     for caller in CALLERS:
         by_script("caller", ".", caller)
     signed("nobody", "/CN=No Body")
+
+
+def untaken():
+    """Two certificates of a caller's name that aren't taken: another authority's, and one of yesterday."""
+    words = ("-x509", *CURVE, "-days", "2", "-subj", "/CN=back")
+    openssl("req", *words, "-keyout", "stranger.key", "-out", "stranger.pem")
+    signed("expired", "/CN=back")
+    by = ("-CA", "callers.pem", "-CAkey", "authority.key", "-CAcreateserial", "-days", "-1")
+    words = ("-req", "-in", "expired.csr", *by, "-extfile", "expired.ext", "-out", "expired.pem")
+    openssl("x509", *words)

@@ -38,6 +38,12 @@ class Vault:
         if not LISTENING.fullmatch(line):
             raise SystemExit(f"the vault said {line!r}\n0 passed, 1 failed")
 
+    def stop(self):
+        """Ends it as its unit does."""
+        self.process.terminate()
+        self.process.wait()
+        self.process.stdout.close()
+
     def kill(self):
         """Ends it as nothing can prevent."""
         self.process.kill()
@@ -58,8 +64,10 @@ class Front:
         for old, new in (
             ("/etc/vault/", f"{folder}/front-files/"),
             ("/var/log/nginx/", f"{folder}/"),
+            ("/var/log/vault/", f"{folder}/"),
             ("/run/nginx.pid", f"{folder}/nginx.pid"),
             ("/run/vault-front", f"{folder}/bodies"),
+            ("/usr/share/vault/office", f"{os.path.dirname(os.path.abspath(configuration))}/office"),
             ("listen 8443 ssl", f"listen 127.0.0.1:{self.port} ssl"),
             ("127.0.0.1:8087", f"127.0.0.1:{first.port}"),
             ("# ~^/v1/merchants/shop2/ 127.0.0.1:8088", f"~^/v1/merchants/shop2/ 127.0.0.1:{second.port}"),
