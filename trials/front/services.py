@@ -57,7 +57,7 @@ class Front:
     def __init__(self, configuration, first, second):
         self.port = free_port()
         self.folder = folder = os.getcwd()
-        os.mkdir("front-files")
+        os.makedirs("front-files", exist_ok=True)
         for name in ("server.pem", "server.key", "callers.pem", "revoked.pem"):
             shutil.copy(name, "front-files")
         text = open(configuration).read()
