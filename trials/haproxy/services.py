@@ -11,6 +11,8 @@ import urllib.request
 
 from front.services import free_port
 
+# the log is a file here, and a socket of syslog where it is installed
+TO_FILE = (("log /dev/log local0", "log stdout format raw local0"),)
 FILES = ("server.pem", "server.key", "callers.pem", "revoked.pem")
 
 
@@ -26,8 +28,9 @@ def changed(text, *pairs):
 class Front:
     """The master and its worker; what they log stands in front.log, and their alarms in haproxy.err."""
 
-    def __init__(self, repository, vault, other=None, merchant="shop2", pairs=()):
+    def __init__(self, repository, vault, other=None, merchant="shop2", pairs=(), log="front.log"):
         self.port, self.figures = free_port(), free_port()
+        self.log = log
         self.folder = folder = os.getcwd()
         os.makedirs("front-files", exist_ok=True)
         os.makedirs("nowhere", exist_ok=True)
@@ -39,7 +42,7 @@ class Front:
             ("/etc/vault/", f"{folder}/front-files/"),
             ("/usr/share/vault/office", f"{os.path.abspath(repository)}/deploy/office"),
             ("chroot /var/lib/haproxy", f"chroot {folder}/nowhere"),
-            ("log /dev/log local0", "log stdout format raw local0"),
+            *(TO_FILE if log == "front.log" else ()),
             ("bind :8443", f"bind 127.0.0.1:{self.port}"),
             ("127.0.0.1:8405", f"127.0.0.1:{self.figures}"),
             ("127.0.0.1:8087", f"127.0.0.1:{vault.port}"),
@@ -57,7 +60,7 @@ class Front:
     def start(self):
         """Starts it as its unit does, with a master that can load its files anew."""
         words = ["haproxy", "-W", "-db", "-f", "haproxy.cfg"]
-        with open("front.log", "ab") as log, open("haproxy.err", "ab") as errors:
+        with open(self.log, "ab") as log, open("haproxy.err", "ab") as errors:
             self.process = subprocess.Popen(words, stdout=log, stderr=errors)
         for _ in range(100):
             try:

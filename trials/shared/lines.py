@@ -1,5 +1,6 @@
 """The lines of a front's log: their shape, in which a card number has no place."""
 
+import gzip
 import json
 import re
 
@@ -38,8 +39,8 @@ def fault_of(line):
 
 
 def read(path):
-    """The lines of a log."""
-    with open(path) as file:
+    """The lines of a log, which may be compressed."""
+    with (gzip.open if path.endswith(".gz") else open)(path, "rt") as file:
         return file.read().splitlines()
 
 
