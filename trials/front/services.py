@@ -23,7 +23,7 @@ class Vault:
     """A vault with one merchant, served on a port of its own; it can be killed and started again."""
 
     def __init__(self, program, merchant, till):
-        self.program, self.file, self.port = program, f"{merchant}.db", free_port()
+        self.program, self.merchant, self.file, self.port = program, merchant, f"{merchant}.db", free_port()
         must(program, "merchant", self.file, merchant, 86400, 0)
         must(program, "grant", self.file, till, merchant, "tokenize")
         for right in ("detokenize", "audit"):

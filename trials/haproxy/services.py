@@ -25,10 +25,26 @@ def changed(text, *pairs):
     return text
 
 
+def route(merchant, backend):
+    """The line of the file by which a merchant has a vault."""
+    return f"use_backend {backend} if {{ path -m beg /v1/merchants/{merchant}/ }}"
+
+
+def routes(vaults):
+    """The lines for vaults, each of which has the name of its merchant."""
+    return "\n".join(f"    {route(it.merchant, it.merchant)}" for it in vaults)
+
+
+def backends(vaults):
+    """What they are."""
+    parts = (f"backend {it.merchant}\n    server vault 127.0.0.1:{it.port} maxconn 4\n" for it in vaults)
+    return "\n".join(parts)
+
+
 class Front:
     """The master and its worker; what they log stands in front.log, and their alarms in haproxy.err."""
 
-    def __init__(self, repository, vault, other=None, merchant="shop2", pairs=(), log="front.log"):
+    def __init__(self, repository, vault, *others, pairs=(), log="front.log"):
         self.port, self.figures = free_port(), free_port()
         self.log = log
         self.folder = folder = os.getcwd()
@@ -46,11 +62,10 @@ class Front:
             ("bind :8443", f"bind 127.0.0.1:{self.port}"),
             ("127.0.0.1:8405", f"127.0.0.1:{self.figures}"),
             ("127.0.0.1:8087", f"127.0.0.1:{vault.port}"),
+            (f"    # {route('shop2', 'north')}", routes(others)),
+            ("backend north\n    server north 127.0.0.1:8088 maxconn 4\n", backends(others)),
             *pairs,
         )
-        if other:
-            route = f"use_backend north if {{ path -m beg /v1/merchants/{merchant}/ }}"
-            text = changed(text, ("127.0.0.1:8088", f"127.0.0.1:{other.port}"), (f"# {route}", route))
         if os.getuid():
             text = re.sub(r"(?m)^    (?:user|group|chroot) .*\n", "", text)
         with open("haproxy.cfg", "w") as file:
