@@ -2,9 +2,9 @@
 
     spread.py PROGRAM REPOSITORY FOLDER VAULTS..
 
-Each vault has a merchant, a file and a till of its own. LASTING (5) is how many seconds each number of vaults is asked,
-and CLIENTS (16) how many connections ask each of them. A line of the table has the rate, the greatest memory of
-a vault and of the front, and the share of the processors' time that each part had.
+Each vault has a merchant, a file and a till of its own. LASTING (5) is how many seconds each number of vaults
+is asked, and CLIENTS (16) how many connections ask each of them. A line of the table has the rate, the
+greatest memory of a vault and of the front, and how many processors each part had on average.
 """
 
 import json
@@ -20,7 +20,7 @@ from front.clients import Client
 from front.services import Vault
 from haproxy.services import Front
 
-SECONDS = float(os.environ.get("LASTING", "5"))
+LASTING = float(os.environ.get("LASTING", "5"))
 CLIENTS = int(os.environ.get("CLIENTS", "16"))
 BODY = json.dumps({"number": "4111111111111111", "use": "single"})
 # more requests than a caller may have otherwise
@@ -95,7 +95,7 @@ def used(processes):
 
 def measured(front, vaults):
     """The tokens a second of these vaults, the errors, and what each part had of memory and processors."""
-    queue, ends = multiprocessing.Queue(), time.monotonic() + SECONDS
+    queue, ends = multiprocessing.Queue(), time.monotonic() + LASTING
     parts = {"vaults": [it.process.pid for it in vaults], "front": front.workers()}
     before = {name: used(it) for name, it in parts.items()}
     words = [(front.port, place, ends, queue) for place in range(1, len(vaults) + 1)]
@@ -105,9 +105,9 @@ def measured(front, vaults):
     counts = [it for _ in processes for it in queue.get()]
     for process in processes:
         process.join()
-    spent = {name: (used(it) - before[name]) / SECONDS for name, it in parts.items()}
+    spent = {name: (used(it) - before[name]) / LASTING for name, it in parts.items()}
     memory = {name: peak(it) for name, it in parts.items()}
-    return sum(it for it in counts if it > 0) / SECONDS, counts.count(-1), memory, spent
+    return sum(it for it in counts if it > 0) / LASTING, counts.count(-1), memory, spent
 
 
 def kept(program, vaults):
@@ -137,13 +137,13 @@ def one(program, repository, folder, many):
         front.end()
     figures = f"{rate:.0f} | {memory['vaults']:.1f} | {memory['front']:.1f}"
     print(f"| {many} | {figures} | {spent['vaults']:.2f} | {spent['front']:.2f} |", flush=True)
-    return round(rate * SECONDS), errors, kept(program, vaults)
+    return round(rate * LASTING), errors, kept(program, vaults)
 
 
 def table(program, repository, folder, sizes):
     """The whole table."""
     load = os.getloadavg()[0]
-    print(f"{os.cpu_count()} processors, load {load:.1f}, {CLIENTS} clients a vault, {SECONDS:.0f} s a line")
+    print(f"{os.cpu_count()} processors, load {load:.1f}, {CLIENTS} clients a vault, {LASTING:.0f} s a line")
     print()
     print("| Vaults | Tokens a second | A vault, MiB | Front, MiB | Vaults, processors | Front, processors |")
     print("|---|---|---|---|---|---|")

@@ -1,7 +1,8 @@
 #!/bin/sh
 # New tokens a second of 1, 2, 4 and 8 vaults behind a front by HAProxy, all on this machine, with the load.
 # sh bench/spread.sh [PROGRAM]
-# VAULTS is which numbers of vaults there are, LASTING how many seconds each is asked, CLIENTS how many ask each vault.
+# VAULTS is which numbers of vaults there are, LASTING how many seconds each is asked, and CLIENTS how many
+# ask each vault.
 set -eu
 here=$(cd "$(dirname "$0")" && pwd)
 program=$(realpath "${1:-$here/../crates/vault_cli/out/vault_cli}")

@@ -1,6 +1,6 @@
 #!/bin/sh
-# The exporter of deploy/ before a front and two vaults: what it says of merchants, of a vault that is away and
-# of a right that it hasn't; and the alerts, by promtool. sh trials/exporter.sh [PROGRAM]
+# The exporter of deploy/ before a front and two vaults: what it says of merchants, of a vault that is away
+# and of a right that it hasn't; and the alerts, by promtool. sh trials/exporter.sh [PROGRAM]
 set -eu
 . "$(dirname "$0")/shared/begin.sh"
 . "$here/shared/need.sh"

@@ -47,7 +47,8 @@ step "its address can be written to" "$(if grep -qi noreply control; then echo n
 
 # The units, with programs that are there.
 mkdir unit
-for unit in vault vault-failed vault-backup vault-backup-failed vault@ vault-failed@ vault-backup@ vault-exporter; do
+for unit in vault vault-failed vault-backup vault-backup-failed vault@ vault-failed@ vault-backup@ \
+    vault-exporter; do
     sed -e "s#/usr/bin/vault#$program#" -e "s#/usr/lib/vault/#$PWD/lib/#" "$deploy/$unit.service" \
         > "unit/$unit.service"
 done
@@ -63,8 +64,8 @@ if need systemd-analyze systemd; then
     step "its exposure is at most 1.5" "$small" "$level"
     # one of several vaults has the same rules but for its name, its port and whom it tells
     diff "$deploy/vault.service" "$deploy/vault@.service" | sed -n 's/^[<>] //p' | grep -v '^#' > differs || :
-    grep -Evx '(Description|OnFailure|Environment|EnvironmentFile|ExecStart|StateDirectory|RuntimeDirectory|SocketBindAllow)=.*' \
-        differs > others || :
+    own='Description|OnFailure|Environment|EnvironmentFile|ExecStart|StateDirectory|RuntimeDirectory'
+    grep -Evx "($own|SocketBindAllow)=.*" differs > others || :
     step "one of several vaults has the same rules" "$([ -s others ] && echo no || echo yes)" "$(cat others)"
 else
     echo "systemd-analyze isn't there: those steps are left out"

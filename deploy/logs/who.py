@@ -3,11 +3,11 @@
 
     who.py MERCHANT [--days N] [--until DAY] [--asked WORD] [--each] [--folder FOLDER]
 
-It reads `front.log` of FOLDER and the files that logrotate made of it, compressed or not, and prints a line for
-each caller: how many numbers it got, how many times it was refused, of how many tokens (as far as their last
-four digits tell), and its first and last time. `--each` prints each request in its place. N is 7, counted back
-from now or from the end of DAY, as 2026-11-27, in UTC. WORD is `detokenize`, or another that the log has:
-`tokenize`, `view`, `revoke`, `purge`, `audit`. A line that isn't one of the log's is counted on standard error.
+It reads `front.log` of FOLDER and the files that logrotate made of it, compressed or not, and prints a line
+for each caller: how many numbers it got, how many times it was refused, of how many tokens (as far as their
+last four digits tell), and its first and last time. `--each` prints each request in its place. N is 7, counted
+back from now or from the end of DAY, as 2026-11-27, in UTC. WORD is `detokenize`, or another that the log has:
+`tokenize`, `view`, `revoke`, `purge`, `audit`. A line that isn't the log's is counted on standard error.
 """
 
 import argparse

@@ -65,7 +65,8 @@ function inWords(status, told) {
 async function ask(method, target) {
   const turn = ++busy;
   say("", false);
-  const late = setTimeout(() => turn === busy && say("The vault is away; this waits for it.", false), PATIENCE);
+  const waits = () => turn === busy && say("The vault is away; this waits for it.", false);
+  const late = setTimeout(waits, PATIENCE);
   try {
     const answer = await fetch(target, {
       method, cache: "no-store", credentials: "same-origin", mode: "same-origin", redirect: "error",
@@ -169,7 +170,8 @@ at("count").addEventListener("click", async () => {
   at("counts-of").textContent = `Counts of ${name}`;
   for (const id of ["made", "given", "denied"]) at(id).textContent = told[id].toLocaleString("en-GB");
   at("full").value = told.made;
-  at("room").textContent = `${(told.made / 10000).toFixed(1)} % of the 1,000,000 tokens that a merchant has for good`;
+  const percent = (told.made / 10000).toFixed(1);
+  at("room").textContent = `${percent} % of the 1,000,000 tokens that a merchant has for good`;
   at("counts").hidden = false;
 });
 

@@ -1,4 +1,4 @@
-"""The programs that write and turn the log, by the files that an installation has, in this trial's folders."""
+"""The programs that write and turn the log, by the files of an installation, in this trial's folder."""
 
 import os
 import shutil
