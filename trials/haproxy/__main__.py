@@ -86,12 +86,13 @@ def numbers(tally, port, token):
 
 
 def floods(tally, port):
-    """A caller that asks without an end is refused; another one isn't."""
+    """A caller that asks for more than it may is refused, and another one isn't; here 20 in four seconds."""
     guest = Client(port, "guest")
-    statuses = [guest.ask("GET", AUDIT).status for _ in range(2400)]
-    refused = statuses.count(429)
-    print(f"of 2,400 requests of one caller over one connection {refused} were refused by 429")
+    statuses = [guest.ask("GET", AUDIT).status for _ in range(60)]
     tally.judge("a flood has two answers", unlike(set(statuses), {403, 429}))
+    tally.judge(
+        "it is answered for a while", "" if 15 <= statuses.count(403) <= 45 else f"{statuses.count(403)}"
+    )
     tally.judge("another caller isn't refused", unlike(Client(port, "back").ask("GET", AUDIT).status, 200))
 
 
@@ -136,13 +137,19 @@ def main(program, repository):
         guards.typed_wrong(tally, port)
         guards.by_browsers(tally, port)
         numbers(tally, port, token)
-        floods(tally, port)
         by_merchant(tally, port)
         waiting.join()
         tally.judge("half a request is told in time", unlike(json.loads(late[0].body), {"front": 408}))
         guards.page(tally, port)
         waits.stopped(tally, port, first)
         waits.gone(tally, port, first, front)
+        waits.crowded(tally, port, first)
+        front.end()
+        # less patience, and fewer requests than a caller may have otherwise
+        less = ("retries 240", "retries 4"), ("rate gt 2000", "rate gt 20")
+        front = Front(repository, first, second, pairs=less)
+        floods(tally, front.port)
+        waits.told_at_last(tally, front.port, first)
         front.end()
         # more requests a second than a caller may have otherwise
         front = Front(repository, first, second, pairs=(("rate gt 2000", "rate gt 200000"),))

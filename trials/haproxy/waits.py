@@ -9,6 +9,7 @@ from shared.tally import unlike
 
 # how long a vault is away at most, and what a wait may take beyond that
 AWAY, MORE = 6.0, 4.0
+CROWD = 300
 
 
 def stopped(tally, port, vault):
@@ -59,6 +60,39 @@ def restarted(tally, port, vault):
     tally.judge("no client's connection failed at a restart", "; ".join(load.faults[:3]))
     told = {status: load.statuses.count(status) for status in set(load.statuses)}
     tally.judge("no 503 at a restart", unlike(told, {200: MESSAGES}))
+
+
+def crowded(tally, port, vault):
+    """One caller's requests wait in a crowd that has an end, and others wait beside it."""
+    vault.kill()
+    statuses = []
+
+    def one(caller):
+        answer = Client(port, caller).ask("GET", "/v1/merchants/shop1/audit")
+        statuses.append((caller, answer.status))
+
+    threads = [threading.Thread(target=one, args=("guest",)) for _ in range(CROWD)]
+    for thread in threads:
+        thread.start()
+    time.sleep(4)
+    beside = threading.Thread(target=one, args=("back",))
+    beside.start()
+    vault.start()
+    for thread in (*threads, beside):
+        thread.join()
+    many = statuses.count(("guest", 429))
+    tally.judge("some of a crowd are refused", "" if 0 < CROWD - many <= 256 else f"{many} of {CROWD}")
+    tally.judge("and the others answered", unlike(statuses.count(("guest", 403)), CROWD - many))
+    tally.judge("a caller beside it is answered", unlike(statuses.count(("back", 200)), 1))
+
+
+def told_at_last(tally, port, vault):
+    """What is told where the vault doesn't come back for as long as a front waits."""
+    vault.kill()
+    answer = Client(port, "back").ask("GET", "/v1/merchants/shop1/audit")
+    told = answer.status, answer.json(), answer.fields.get("Retry-After")
+    tally.judge("a vault that stays away is told at last", unlike(told, (503, {"away": True}, "1")))
+    vault.start()
 
 
 def gone(tally, port, vault, front):

@@ -17,7 +17,7 @@ SHAPES = {
     "milliseconds": r"[0-9-]{1,9}",
 }
 # what HAProxy says of its own parts as it starts and stops
-OWN = re.compile(r"Proxy [A-Za-z<>]+ (?:started|stopped \(cumulated conns: FE: [0-9]+, BE: [0-9]+\))\.")
+OWN = re.compile(r"Proxy [A-Za-z0-9<>]+ (?:started|stopped \(cumulated conns: FE: [0-9]+, BE: [0-9]+\))\.")
 # ten digits, alone or with a sign between two
 NUMBER = re.compile(r"[0-9](?:(?:[ -]|%20)?[0-9]){9,}")
 
