@@ -1,5 +1,6 @@
 """The whole trial: python3 -m haproxy PROGRAM REPOSITORY"""
 
+import contextlib
 import json
 import sys
 import threading
@@ -114,52 +115,58 @@ def by_merchant(tally, port):
     tally.judge("the other shop has made one", unlike(made.get("made"), 1))
 
 
+def guarded(tally, front):
+    """What the front lets through, and what it doesn't."""
+    port, late = front.port, []
+    waiting = threading.Thread(target=slow, args=(port, late))
+    waiting.start()
+    token = one_token(tally, port)
+    strangers(tally, port)
+    subjects.judge(tally, port)
+    subjects.revoked(tally, port, front)
+    subjects.renewed(tally, port, front)
+    refused_by_the_front(tally, port)
+    forged.judge(tally, port)
+    forged.by_other_ways(tally, port, token)
+    forged.too_large(tally, port)
+    forged.of_numbers(tally, port)
+    guards.typed_wrong(tally, port)
+    guards.by_browsers(tally, port)
+    numbers(tally, port, token)
+    by_merchant(tally, port)
+    guards.page(tally, port)
+    waiting.join()
+    tally.judge("half a request is told in time", unlike(json.loads(late[0].body), {"front": 408}))
+
+
+def at_a_front(repository, vaults, *changes):
+    """A front before the vaults, with some changes of its file; it is over at the end of a `with`."""
+    return contextlib.closing(Front(repository, *vaults, pairs=changes))
+
+
 def main(program, repository):
     tally = Tally()
     certificates.make()
-    first, second = Vault(program, "shop1", "till-1"), Vault(program, "shop2", "till-2")
-    front = Front(repository, first, second)
-    port = front.port
-    late = []
-    waiting = threading.Thread(target=slow, args=(port, late))
+    vaults = first, _ = Vault(program, "shop1", "till-1"), Vault(program, "shop2", "till-2")
     try:
-        waiting.start()
-        token = one_token(tally, port)
-        strangers(tally, port)
-        subjects.judge(tally, port)
-        subjects.revoked(tally, port, front)
-        subjects.renewed(tally, port, front)
-        refused_by_the_front(tally, port)
-        forged.judge(tally, port)
-        forged.by_other_ways(tally, port, token)
-        forged.too_large(tally, port)
-        forged.of_numbers(tally, port)
-        guards.typed_wrong(tally, port)
-        guards.by_browsers(tally, port)
-        numbers(tally, port, token)
-        by_merchant(tally, port)
-        waiting.join()
-        tally.judge("half a request is told in time", unlike(json.loads(late[0].body), {"front": 408}))
-        guards.page(tally, port)
-        waits.stopped(tally, port, first)
-        waits.gone(tally, port, first, front)
-        waits.crowded(tally, port, first)
-        front.end()
+        with at_a_front(repository, vaults) as front:
+            guarded(tally, front)
+            waits.stopped(tally, front.port, first)
+            waits.gone(tally, front.port, first, front)
+            waits.crowded(tally, front.port, first)
         # less patience, and fewer requests than a caller may have otherwise
         less = ("retries 240", "retries 4"), ("rate gt 2000", "rate gt 20")
-        front = Front(repository, first, second, pairs=less)
-        floods(tally, front.port)
-        waits.told_at_last(tally, front.port, first)
-        front.end()
-        # more requests a second than a caller may have otherwise
-        front = Front(repository, first, second, pairs=(("rate gt 2000", "rate gt 200000"),))
-        waits.under_load(tally, front.port, first)
-        waits.restarted(tally, front.port, first)
-        figures(tally, front)
+        with at_a_front(repository, vaults, *less) as front:
+            floods(tally, front.port)
+            waits.told_at_last(tally, front.port, first)
+        # more requests than a caller may have otherwise
+        with at_a_front(repository, vaults, ("rate gt 2000", "rate gt 200000")) as front:
+            waits.under_load(tally, front.port, first)
+            waits.restarted(tally, front.port, first)
+            figures(tally, front)
         guards.logged(tally, "haproxy.err")
     finally:
-        front.end()
-        for vault in (first, second):
+        for vault in vaults:
             vault.kill()
     tally.end()
 

@@ -110,6 +110,10 @@ class Front:
         with urllib.request.urlopen(f"http://127.0.0.1:{self.figures}/metrics", timeout=10) as answer:
             return answer.read().decode()
 
+    def close(self):
+        """The same as `end`, for a `with`."""
+        self.end()
+
     def end(self):
         self.process.terminate()
         try:

@@ -204,7 +204,8 @@ def waited_for(tally, machine):
     says(tally, machine, "it is logged masked by HAProxy", "sleep 1; cat /var/log/vault/front.log", masked)
     nowhere = f"! grep -r {NUMBER} /var/log/vault /var/log/haproxy.log /var/log/syslog"
     says(tally, machine, "and nowhere whole by HAProxy", nowhere, "")
-    mode = "logrotate -f /etc/logrotate.d/vault-front; stat -c '%a %U' /var/log/vault/front.log"
+    turned = "rm /var/log/vault/front.log-*; logrotate -f /etc/logrotate.d/vault-front"
+    mode = f"{turned}; stat -c '%a %U' /var/log/vault/front.log"
     says(tally, machine, "the log is for a few still", mode, r"\A640 www-data\n\Z")
     again = f"{audit}sleep 1; cat /var/log/vault/front.log"
     says(tally, machine, "and goes on once it was turned", again, '"caller":"back"')
