@@ -37,7 +37,7 @@ def routes(vaults):
 
 def backends(vaults):
     """What they are."""
-    parts = (f"backend {it.merchant}\n    server vault 127.0.0.1:{it.port} maxconn 4\n" for it in vaults)
+    parts = (f"backend {it.merchant}\n    server vault 127.0.0.1:{it.port} maxconn 64\n" for it in vaults)
     return "\n".join(parts)
 
 
@@ -63,7 +63,7 @@ class Front:
             ("127.0.0.1:8405", f"127.0.0.1:{self.figures}"),
             ("127.0.0.1:8087", f"127.0.0.1:{vault.port}"),
             (f"    # {route('shop2', 'north')}", routes(others)),
-            ("backend north\n    server north 127.0.0.1:8088 maxconn 4\n", backends(others)),
+            ("backend north\n    server north 127.0.0.1:8088 maxconn 64\n", backends(others)),
             *pairs,
         )
         if os.getuid():
@@ -80,9 +80,11 @@ class Front:
         for _ in range(100):
             try:
                 socket.create_connection(("127.0.0.1", self.port)).close()
-                return
+                if self.workers():
+                    return
             except OSError:
-                time.sleep(0.05)
+                pass
+            time.sleep(0.05)
         self.end()
         raise SystemExit(f"the front didn't start: {open('haproxy.err').read()}\n0 passed, 1 failed")
 
