@@ -223,11 +223,9 @@ def several(tally, machine):
     says(tally, machine, "a copy of it", copy, r"^sound 1 0 0$")
     killed = "kill -9 $(systemctl show -p MainPID --value vault@north)\n"
     says(tally, machine, "a kill of it is a wait", killed + audit, '"made":0. 200')
-    first = "systemctl show -p NRestarts --value vault vault@north"
-    says(tally, machine, "and the first goes on", first, r"^0\n\n1$")
-    other = "echo PORT=9000 > /etc/vault/south.env; timeout 5 systemctl start vault@south"
-    says(tally, machine, "no port but those of vaults", other, "", well=False)
-    says(tally, machine, "and it is stopped", "systemctl stop vault@south; systemctl reset-failed", "")
+    show = "systemctl show -p NRestarts --value"
+    says(tally, machine, "it has started again", f"{show} vault@north", r"^1$")
+    says(tally, machine, "and the first goes on", f"{show} vault", r"^0$")
 
 
 def renewed(tally, machine):
