@@ -3,6 +3,7 @@
 import concurrent.futures
 import re
 
+from front import certificates
 from front.clients import NUMBER
 from front.raw import begun, message
 from shared.tally import unlike
@@ -111,8 +112,20 @@ def judge(tally, port):
         fault = "the counts came" if b"denied" in found else ""
         good = [it for it in statuses if it < 400 and it != 100]
         tally.judge(f"by a guest: {name}", fault or (f"answered {good}" if good else ""))
+    chained(tally, port)
     told = passed(port, "back", audit("Connection: close, X-Vault-Caller, X-Vault-Request"))[0]
     tally.judge("the front's own field isn't the client's to drop", unlike(told, [200]))
+
+
+def chained(tally, port):
+    """A certificate that a caller signed is nobody's, and another's behind one's own gives nothing."""
+    certificates.chains()
+    statuses, found = passed(port, "below", audit())
+    fault = "the counts came" if b"denied" in found else ""
+    tally.judge("a certificate that a caller signed", fault or unlike([it for it in statuses if it != 400], []))
+    statuses, found = passed(port, "before", audit())
+    told = statuses, found.endswith(b'{"refused":8}')
+    tally.judge("another's certificate behind one's own", unlike(told, ([403], True)))
 
 
 def ways_to_a_number(token):
