@@ -2,8 +2,8 @@
 # package.sh PROGRAM FOLDER
 #
 # Builds a Debian package of the built program in FOLDER, for amd64 alone, as the program is: the program, its
-# units, its man page, completions for bash, the pages for those who run it, and as examples the front, the
-# scripts of this folder and two clients. It prints the package's name.
+# units, its man page, completions for bash, the page for the back office, the pages for those who run it, and
+# as examples both fronts, the scripts of this folder and three clients. It prints the package's name.
 #
 # The package makes the user `vault` and the folder /var/lib/vault. It starts nothing, and its removal takes
 # away neither the folder nor a vault's file.
@@ -23,27 +23,41 @@ place() { install -D -m "$1" "$2" "$root$3"; }
 place 755 "$program" /usr/bin/vault
 strip --strip-all "$root/usr/bin/vault"
 for unit in vault.service vault-failed.service \
-    vault-backup.service vault-backup-failed.service vault-backup.timer; do
+    vault-backup.service vault-backup-failed.service vault-backup.timer \
+    vault@.service vault-failed@.service vault-backup@.service vault-backup@.timer vault-exporter.service; do
     place 644 "$here/$unit" "/lib/systemd/system/$unit"
 done
-for step in pause listens backup-now; do
+for step in pause listens backup-now exporter.py; do
     place 755 "$here/$step" "/usr/lib/vault/$step"
 done
 place 644 "$here/vault.1" /usr/share/man/man1/vault.1
 gzip -9n "$root/usr/share/man/man1/vault.1"
 place 644 "$here/vault.bash-completion" /usr/share/bash-completion/completions/vault
 doc=/usr/share/doc/vault
-for page in OPERATING.md API.md REFUSALS.md PROVED.md MODEL.md TRIALS.md DECISIONS.md openapi.yaml; do
+for page in OPERATING.md SCALE.md API.md REFUSALS.md PROVED.md MODEL.md TRIALS.md DECISIONS.md \
+    openapi.yaml; do
     place 644 "$top/docs/$page" "$doc/$page"
+done
+for picture in "$top"/docs/office-*.png; do
+    place 644 "$picture" "$doc/${picture##*/}"
 done
 place 644 "$top/SECURITY.md" "$doc/SECURITY.md"
 place 644 "$top/CHANGELOG.md" "$doc/CHANGELOG.md"
-place 644 "$here/nginx.conf" "$doc/examples/nginx.conf"
+for file in nginx.conf haproxy.cfg alerts.yaml; do
+    place 644 "$here/$file" "$doc/examples/$file"
+done
+for file in logrotate rsyslog.conf; do
+    place 644 "$here/logs/$file" "$doc/examples/logs/$file"
+done
+place 755 "$here/logs/who.py" "$doc/examples/logs/who.py"
+for file in index.html office.css office.js; do
+    place 644 "$here/office/$file" "/usr/share/vault/office/$file"
+done
 place 755 "$top/examples/rebuild.sh" "$doc/examples/rebuild.sh"
 for script in backup.sh restore.sh certificates.sh; do
     place 755 "$here/$script" "$doc/examples/$script"
 done
-for client in till.py back_office.py; do
+for client in till.py back_office.py batch.py; do
     place 755 "$top/examples/clients/$client" "$doc/examples/clients/$client"
 done
 place 644 "$here/debian/copyright" "$doc/copyright"
@@ -63,7 +77,7 @@ Architecture: amd64
 Maintainer: $maintainer
 Installed-Size: $(du -sk "$root" | cut -f1)
 Depends: adduser, libc6 (>= 2.34)
-Suggests: nginx, openssl, sqlite3, python3
+Suggests: nginx | haproxy, openssl, sqlite3, python3, python3-prometheus-client
 Description: keeps card numbers, and gives tokens for them
  A service keeps card numbers in one file. Tills and back offices get tokens
  in their place, and the few that are entitled bring a token back.

@@ -39,6 +39,9 @@ try disk.sh all
 try damage.sh all
 try memory.sh all
 try bytes.sh --streams 3000
+for script in front haproxy office exporter logs batch spread; do
+    try "$script.sh"
+done
 echo
 echo '| Trial | Passed | Failed | Seconds |'
 echo '|---|---|---|---|'

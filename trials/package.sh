@@ -32,23 +32,29 @@ fi
 # What is in it: what the pages and the package itself name.
 dpkg-deb -c "$package" | awk '{ print $1, $6 }' > inside
 step "its root is open" "$(holds grep -qx 'drwxr-xr-x ./' inside)" "$(head -n 1 inside)"
-for name in OPERATING.md API.md REFUSALS.md PROVED.md SECURITY.md CHANGELOG.md openapi.yaml \
+for name in OPERATING.md SCALE.md API.md REFUSALS.md PROVED.md SECURITY.md CHANGELOG.md openapi.yaml \
     examples/nginx.conf examples/certificates.sh examples/backup.sh examples/restore.sh examples/rebuild.sh \
-    examples/clients/till.py examples/clients/back_office.py; do
+    examples/clients/till.py examples/clients/back_office.py examples/clients/batch.py examples/haproxy.cfg \
+    examples/alerts.yaml examples/logs/logrotate examples/logs/rsyslog.conf \
+    examples/logs/who.py; do
     step "$name is in it" "$(holds grep -q " ./usr/share/doc/vault/$name\$" inside)"
+done
+for name in index.html office.css office.js; do
+    step "$name of the page is in it" "$(holds grep -q " ./usr/share/vault/office/$name\$" inside)"
 done
 dpkg-deb -f "$package" > control
 step "its address can be written to" "$(if grep -qi noreply control; then echo no; else echo yes; fi)"
 
 # The units, with programs that are there.
 mkdir unit
-for unit in vault vault-failed vault-backup vault-backup-failed; do
+for unit in vault vault-failed vault-backup vault-backup-failed vault@ vault-failed@ vault-backup@ \
+    vault-exporter; do
     sed -e "s#/usr/bin/vault#$program#" -e "s#/usr/lib/vault/#$PWD/lib/#" "$deploy/$unit.service" \
         > "unit/$unit.service"
 done
-cp "$deploy/vault-backup.timer" unit
+cp "$deploy/vault-backup.timer" "$deploy/vault-backup@.timer" unit
 mkdir lib
-cp "$deploy/pause" "$deploy/listens" "$deploy/backup-now" lib
+cp "$deploy/pause" "$deploy/listens" "$deploy/backup-now" "$deploy/exporter.py" lib
 if need systemd-analyze systemd; then
     step "the units are verified" "$(holds systemd-analyze verify --man=no unit/*)" "$(cat said)"
     step "nothing is said of them" "$([ -s said ] && echo no || echo yes)" "$(cat said)"
@@ -56,6 +62,11 @@ if need systemd-analyze systemd; then
     level=$(sed -n 's/.*exposure level.*: \([0-9.]*\) .*/\1/p' said)
     small=$(awk -v it="$level" 'BEGIN { print it != "" && it <= 1.5 ? "yes" : "no" }')
     step "its exposure is at most 1.5" "$small" "$level"
+    # one of several vaults has the same rules but for its name, its port and whom it tells
+    diff "$deploy/vault.service" "$deploy/vault@.service" | sed -n 's/^[<>] //p' | grep -v '^#' > differs || :
+    own='Description|OnFailure|Environment|EnvironmentFile|ExecStart|StateDirectory|RuntimeDirectory'
+    grep -Evx "($own|SocketBindAllow)=.*" differs > others || :
+    step "one of several vaults has the same rules" "$([ -s others ] && echo no || echo yes)" "$(cat others)"
 else
     echo "systemd-analyze isn't there: those steps are left out"
 fi

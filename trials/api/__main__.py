@@ -11,6 +11,7 @@ from api.clients import Examples, clients, hurried
 from api.description import Description, errors_of, refusals_of
 from api.generated import Generated
 from front import certificates
+from front.raw import received
 from front.services import Front, Vault
 from shared.runs import must, run
 from shared.tally import Tally, unlike
@@ -118,14 +119,14 @@ def at_a_port(tally, description, client, examples, port):
     examples.vault.kill()
     refusals.away(tally, description, client, port)
     examples.vault.start()
-    tally.judge("half a request has no answer", unlike(refusals.received(slow), b""))
+    tally.judge("half a request has no answer", unlike(received(slow), b""))
 
 
 def behind_a_front(tally, program, repository, description, client):
     """The same at a front as it is shipped, and a front that has too many requests."""
     configuration = f"{repository}/deploy/nginx.conf"
     certificates.make()
-    refusals.untaken()
+    certificates.untaken()
     with contextlib.ExitStack() as ending:
         vaults = Vault(program, shop.SHOP, "till-1"), Vault(program, "shop2", "till-2")
         for vault in vaults:

@@ -5,11 +5,9 @@ import json
 import os
 import re
 import shutil
-import socket
 
 from api.shop import SHOP
-from front import certificates
-from front.clients import Answer, Client
+from front.raw import answer, begun, message
 from shared.tally import unlike
 
 AUDIT = f"/v1/merchants/{SHOP}/audit"
@@ -19,13 +17,6 @@ TOKENS = f"/v1/merchants/{SHOP}/tokens"
 OTHERS = {(408, 408), (502, 502), (504, 504)}
 # What no message of a trial brings about.
 UNSEEN = {(500, 500)}
-
-
-def message(line, *fields, body=""):
-    """The bytes of a message, by its first line and the fields beyond those that each has."""
-    more = (f"Content-Length: {len(body)}",) if body else ()
-    fields = ("Host: localhost", "Connection: close", *fields, *more)
-    return ("\r\n".join((line, *fields, "", "")) + body).encode()
 
 
 def refused():
@@ -42,36 +33,13 @@ def refused():
     yield "a subject that is no caller's name", "nobody", audit, 403, 403
     from_elsewhere = message(f"GET {AUDIT} HTTP/1.1", "Sec-Fetch-Site: cross-site")
     yield "a browser at another site", "back", from_elsewhere, 403, 403
-    for target in ("/", "/v2/merchants/shop1/audit", "/v1", "/front/400"):
+    for target in ("/x", "/v2/merchants/shop1/audit", "/v1", "/front/400"):
         yield f"the target {target}", "till-1", message(f"GET {target} HTTP/1.1"), 404, 404
     yield "the method TRACE", "till-1", message(f"TRACE {AUDIT} HTTP/1.1"), 405, 405
     yield "a large body", "till-1", message(f"POST {TOKENS} HTTP/1.1", body="x" * 5120), 413, 413
     yield "a long target", "till-1", message(f"GET /v1/merchants/{'x' * 9000} HTTP/1.1"), 414, 414
     yield "another coding", "till-1", message(f"POST {TOKENS} HTTP/1.1", "Transfer-Encoding: gzip"), 501, 501
     yield "another HTTP", "till-1", message(f"GET {AUDIT} HTTP/2.0"), 505, 505
-
-
-def begun(port, caller, sent):
-    """A connection over which a message was sent, or a part of one."""
-    peer = socket.create_connection(("localhost", port), timeout=60)
-    if caller != "clear":
-        peer = Client(port, caller).context.wrap_socket(peer, server_hostname="localhost")
-    peer.sendall(sent)
-    return peer
-
-
-def received(peer):
-    """All that comes over a connection up to its end."""
-    with peer:
-        return b"".join(iter(lambda: peer.recv(65536), b""))
-
-
-def answer(port, caller, sent):
-    """What a message is answered over a connection of its own."""
-    found = received(begun(port, caller, sent))
-    head, _, body = found.partition(b"\r\n\r\n")
-    line, *fields = head.decode().split("\r\n")
-    return Answer(int(line.split()[1]), dict(field.split(": ", 1) for field in fields), body)
 
 
 def said_of(description, told):
@@ -142,13 +110,3 @@ def too_many(tally, description, port):
     tally.judge("of six requests some are too many", "" if 0 < len(late) < 6 else f"{len(late)} were")
     for told in late[:1]:
         judged(tally, description, "a request too many", told, 429, {"front": 429})
-
-
-def untaken():
-    """Two certificates of a caller's name that aren't taken: another authority's, and one of yesterday."""
-    words = ("-x509", *certificates.CURVE, "-days", "2", "-subj", "/CN=back")
-    certificates.openssl("req", *words, "-keyout", "stranger.key", "-out", "stranger.pem")
-    certificates.signed("expired", "/CN=back")
-    by = ("-CA", "callers.pem", "-CAkey", "authority.key", "-CAcreateserial", "-days", "-1")
-    words = ("-req", "-in", "expired.csr", *by, "-extfile", "expired.ext", "-out", "expired.pem")
-    certificates.openssl("x509", *words)

@@ -5,7 +5,7 @@ import ssl
 import subprocess
 import sys
 
-from front import certificates, guards, subjects
+from front import certificates, forged, guards, subjects
 from front.clients import NUMBER, Client
 from front.load import MESSAGES, Load
 from front.services import Front, Vault
@@ -51,7 +51,7 @@ def refused_by_the_front(tally, port):
     till = Client(port, "till-1")
     large = till.ask("POST", "/v1/merchants/shop1/tokens", "x" * 5120, **{"X-Vault-Request": "1"})
     tally.judge("a body of 5 KiB", unlike(large.status, 413))
-    for target in ("/", "/v2/merchants/shop1/audit", "/status"):
+    for target in ("/x", "/v2/merchants/shop1/audit", "/status"):
         tally.judge(f"{target} is refused", unlike(Client(port, "till-1").ask("GET", target).status, 404))
 
 
@@ -142,6 +142,10 @@ def main(program, repository):
         subjects.revoked(tally, port, front)
         subjects.renewed(tally, port, front)
         refused_by_the_front(tally, port)
+        forged.judge(tally, port)
+        forged.by_other_ways(tally, port, token)
+        forged.too_large(tally, port)
+        forged.of_numbers(tally, port)
         guards.typed_wrong(tally, port)
         guards.bodies(tally, port)
         guards.by_browsers(tally, port)
@@ -149,7 +153,8 @@ def main(program, repository):
         away(tally, port, first)
         under_load(tally, port, first)
         examples(tally, port, program, repository, first)
-        guards.logged(tally)
+        guards.page(tally, port)
+        guards.logged(tally, "vault-error.log")
         by_merchant(tally, port, program, (first, second))
     finally:
         front.end()

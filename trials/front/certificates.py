@@ -37,3 +37,25 @@ def make():
     for caller in CALLERS:
         by_script("caller", ".", caller)
     signed("nobody", "/CN=No Body")
+
+
+def untaken():
+    """Two certificates of a caller's name that aren't taken: another authority's, and one of yesterday."""
+    words = ("-x509", *CURVE, "-days", "2", "-subj", "/CN=back")
+    openssl("req", *words, "-keyout", "stranger.key", "-out", "stranger.pem")
+    signed("expired", "/CN=back")
+    by = ("-CA", "callers.pem", "-CAkey", "authority.key", "-CAcreateserial", "-days", "-1")
+    words = ("-req", "-in", "expired.csr", *by, "-extfile", "expired.ext", "-out", "expired.pem")
+    openssl("x509", *words)
+
+
+def chains():
+    """Two files of certificates that mislead: one that a caller signed, and one's own before another's."""
+    openssl("req", *CURVE, "-keyout", "below.key", "-out", "below.csr", "-subj", "/CN=back")
+    by = ("-CA", "guest.pem", "-CAkey", "guest.key", "-CAcreateserial", "-days", "2")
+    openssl("x509", "-req", "-in", "below.csr", *by, "-extfile", "nobody.ext", "-out", "below-1.pem")
+    for name, parts in (("below", ("below-1", "guest")), ("before", ("guest", "back"))):
+        with open(f"{name}.pem", "w") as chain:
+            chain.writelines(open(f"{part}.pem").read() for part in parts)
+    with open("before.key", "w") as key:
+        key.write(open("guest.key").read())

@@ -8,6 +8,16 @@ from typing import NamedTuple
 NUMBER = "4111111111111111"
 
 
+class Fields(dict):
+    """The fields of an answer; their names are the same in small letters and capitals."""
+
+    def __init__(self, pairs):
+        super().__init__((name.lower(), value) for name, value in pairs)
+
+    def get(self, name, default=None):
+        return super().get(name.lower(), default)
+
+
 class Answer(NamedTuple):
     status: int
     fields: dict
@@ -39,7 +49,7 @@ class Client:
         try:
             self.connection.request(method, target, body, fields)
             found = self.connection.getresponse()
-            return Answer(found.status, dict(found.getheaders()), found.read())
+            return Answer(found.status, Fields(found.getheaders()), found.read())
         except (http.client.HTTPException, OSError):
             self.connection.close()
             self.connection = None

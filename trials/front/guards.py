@@ -2,11 +2,11 @@
 
 import http.client
 import os
-import re
 import ssl
 import threading
 
 from front.clients import NUMBER, Client
+from shared import lines
 from shared.tally import unlike
 
 TOKENS = "/v1/merchants/shop1/tokens"
@@ -36,15 +36,50 @@ def typed_wrong(tally, port):
         tally.judge(f"{method} of a number", "" if status in range(400, 500) else f"status {status}")
 
 
-def logged(tally):
+def logged(tally, errors):
     """After all that was asked: what the logs say, and that no number of a card or a token is in one."""
-    log, errors = open("vault.log").read(), open("vault-error.log").read()
-    shown = f'back "GET {TOKENS}/****{NUMBER[-4:]}" 400'
-    tally.judge("the line of a number that was typed", "" if shown in log else log[-300:])
-    for name, text in (("log", log), ("error log", errors)):
-        found = re.findall(r"[0-9](?:(?:[ -]|%20)?[0-9]){9,}", re.sub(r"(?m)^[-0-9T:+]{25} ", "", text))
-        tally.judge(f"no number in the {name}", f"{len(found)} of them" if found else "")
-    tally.judge("the error log has no request", "" if "request:" not in errors else errors[-300:])
+    told = lines.judge(tally, "front.log")
+    typed = {
+        "caller": "back",
+        "merchant": "shop1",
+        "token": f"****{NUMBER[-4:]}",
+        "asked": "view",
+        "status": 400,
+    }
+    shown = any(typed.items() <= it.items() for it in told)
+    tally.judge("the line of a number that was typed", "" if shown else f"none of {len(told)}")
+    asked = {it["asked"] for it in told}
+    wanted = {"tokenize", "detokenize", "view", "revoke", "purge", "audit", "page", "elsewhere"}
+    tally.judge("each that can be asked is logged", unlike(wanted - asked, set()))
+    text = open(errors).read()
+    found = lines.NUMBER.findall(text)
+    tally.judge(f"no number in {errors}", f"{len(found)} of them" if found else "")
+    tally.judge(f"{errors} has no request", "" if "request:" not in text else text[-300:])
+
+
+def page(tally, port):
+    """The page for the back office is a caller's, and says what a browser may do with it."""
+    for target, kind in (("/", "text/html"), ("/office.css", "text/css"), ("/office.js", "text/javascript")):
+        told = Client(port, "back").ask("GET", target)
+        seen = (
+            told.status,
+            told.fields.get("Content-Type", "").split(";")[0],
+            told.fields.get("Cache-Control"),
+        )
+        tally.judge(f"{target} of the page", unlike(seen, (200, kind, "no-store")))
+        policy = told.fields.get("Content-Security-Policy", "")
+        tally.judge(f"{target} asks nobody else", "" if policy.startswith("default-src 'none'") else policy)
+        tally.judge(f"{target} is what it says", unlike(told.fields.get("X-Content-Type-Options"), "nosniff"))
+        stranger = Client(port, "nobody").ask("GET", target)
+        tally.judge(f"{target} is not for strangers", unlike(stranger.json(), {"front": 403}))
+    for method, target in (
+        ("POST", "/"),
+        ("GET", "/index.html"),
+        ("GET", "/office.css/x"),
+        ("GET", "/../office.js"),
+    ):
+        status = Client(port, "back").ask(method, target).status
+        tally.judge(f"{method} {target} is no page", "" if status in (400, 403, 404) else f"{status}")
 
 
 def bodies(tally, port):

@@ -30,26 +30,29 @@ class Load:
             time.sleep(0.1)
         return None
 
-    def client(self, first):
+    def client(self, first, last):
         """One client's share of all requests."""
         client = Client(self.port, "till-1")
         try:
-            for request in range(first, MESSAGES + 1, CLIENTS):
+            for request in range(first, last + 1, CLIENTS):
                 token = self.until_answered(client, request)
                 with self.lock:
                     self.tokens[request] = token
         except OSError as error:
             self.faults.append(repr(error))
 
-    def run(self, vault, kills):
-        """Sends all messages, and kills the vault so many times in the midst."""
-        threads = [threading.Thread(target=self.client, args=(first,)) for first in range(1, CLIENTS + 1)]
+    def run(self, vault, ends, first=1, by=None):
+        """Sends all messages, whose numbers begin with the first, and ends the vault so many times in the
+        midst: by a kill, where nothing else is said."""
+        last = first + MESSAGES - 1
+        clients = range(first, first + CLIENTS)
+        threads = [threading.Thread(target=self.client, args=(it, last)) for it in clients]
         for thread in threads:
             thread.start()
-        for turn in range(1, kills + 1):
-            while len(self.tokens) < MESSAGES * turn // (kills + 1) and any(it.is_alive() for it in threads):
+        for turn in range(1, ends + 1):
+            while len(self.tokens) < MESSAGES * turn // (ends + 1) and any(it.is_alive() for it in threads):
                 time.sleep(0.01)
-            vault.kill()
+            (by or vault.kill)()
             time.sleep(0.3)
             vault.start()
         for thread in threads:

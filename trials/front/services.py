@@ -23,7 +23,7 @@ class Vault:
     """A vault with one merchant, served on a port of its own; it can be killed and started again."""
 
     def __init__(self, program, merchant, till):
-        self.program, self.file, self.port = program, f"{merchant}.db", free_port()
+        self.program, self.merchant, self.file, self.port = program, merchant, f"{merchant}.db", free_port()
         must(program, "merchant", self.file, merchant, 86400, 0)
         must(program, "grant", self.file, till, merchant, "tokenize")
         for right in ("detokenize", "audit"):
@@ -38,6 +38,12 @@ class Vault:
         if not LISTENING.fullmatch(line):
             raise SystemExit(f"the vault said {line!r}\n0 passed, 1 failed")
 
+    def stop(self):
+        """Ends it as its unit does."""
+        self.process.terminate()
+        self.process.wait()
+        self.process.stdout.close()
+
     def kill(self):
         """Ends it as nothing can prevent."""
         self.process.kill()
@@ -51,15 +57,17 @@ class Front:
     def __init__(self, configuration, first, second):
         self.port = free_port()
         self.folder = folder = os.getcwd()
-        os.mkdir("front-files")
+        os.makedirs("front-files", exist_ok=True)
         for name in ("server.pem", "server.key", "callers.pem", "revoked.pem"):
             shutil.copy(name, "front-files")
         text = open(configuration).read()
         for old, new in (
             ("/etc/vault/", f"{folder}/front-files/"),
             ("/var/log/nginx/", f"{folder}/"),
+            ("/var/log/vault/", f"{folder}/"),
             ("/run/nginx.pid", f"{folder}/nginx.pid"),
             ("/run/vault-front", f"{folder}/bodies"),
+            ("/usr/share/vault/office", f"{os.path.dirname(os.path.abspath(configuration))}/office"),
             ("listen 8443 ssl", f"listen 127.0.0.1:{self.port} ssl"),
             ("127.0.0.1:8087", f"127.0.0.1:{first.port}"),
             ("# ~^/v1/merchants/shop2/ 127.0.0.1:8088", f"~^/v1/merchants/shop2/ 127.0.0.1:{second.port}"),

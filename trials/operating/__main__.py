@@ -21,12 +21,16 @@ SAYS = {
     "Certificates": ("",),
     "The front": (r"test is successful",),
     "The first token": (r'^\{"expires":[0-9]+,"token":"[0-9]{12}1111"\}',),
+    "The page for the back office": ("",),
+    "The log": (r"^caller +given +refused",),
     "Backup": (r"^file sound 1 1 1\ncopy sound 1 1 1\n/var/backups/vault/vault-",),
     "Restore": (r"^sound 1 1 1$",),
     "Upgrade": (r"^schema 4\nsound 1 1 1$",),
     "A till was stolen": (r"^revoked 1$",),
     "The authority is renewed": ("", ""),
-    "What to watch": ("",),
+    "HAProxy in place of nginx": ("",),
+    "Several vaults": (r"^done\ndone$",),
+    "What to watch": ("", r'^vault_up\{merchant="shop2"\} 1'),
 }
 
 
@@ -71,11 +75,12 @@ def logs(tally, machine):
     """A number typed where a token belongs isn't in a log, and the logs are for a few."""
     wrong = as_caller("back", f"/tokens/{NUMBER}")
     says(tally, machine, "a number in place of a token", wrong, '"refused":3')
-    says(tally, machine, "it is logged masked", "cat /var/log/nginx/vault.log", r"tokens/\*{4}1111. 400")
-    says(tally, machine, "and nowhere whole", f"! grep -r {NUMBER} /var/log/nginx", "")
-    mode = "stat -c '%a %U' /var/log/nginx/vault.log /var/log/nginx/vault-error.log"
+    masked = r'"token":"\*{4}1111","asked":"view","status":400'
+    says(tally, machine, "it is logged masked", "cat /var/log/vault/front.log", masked)
+    says(tally, machine, "and nowhere whole", f"! grep -r {NUMBER} /var/log/nginx /var/log/vault", "")
+    mode = "stat -c '%a %U' /var/log/vault/front.log /var/log/nginx/vault-error.log"
     says(tally, machine, "the logs' modes", mode, r"\A640 www-data\n640 www-data\n\Z")
-    turned = f"logrotate -f /etc/logrotate.d/nginx && {mode}"
+    turned = f"logrotate -f /etc/logrotate.d/nginx && logrotate -f /etc/logrotate.d/vault-front && {mode}"
     says(tally, machine, "and once they were turned", turned, r"640 www-data\n640 www-data\n\Z")
     workers = "for it in $(pidof nginx); do stat -c %U /proc/$it; done | sort | uniq -c"
     says(tally, machine, "the front's workers have a user", workers, "www-data")
@@ -185,6 +190,44 @@ def removed(tally, machine):
     says(tally, machine, "no unit is left enabled", links, r"^0$")
 
 
+def waited_for(tally, machine):
+    """Behind HAProxy a vault that is away is a wait; its lines stand in the same log, without a number."""
+    audit = as_caller("back", "/audit", "/srv/authority-2")
+    says(tally, machine, "a caller behind HAProxy", audit, '"made":1. 200')
+    stop = "systemctl stop vault; (sleep 3; systemctl start vault) &\n"
+    says(tally, machine, "a vault that is away is waited for", f"{stop}{audit}wait\n", '"made":1. 200')
+    page = "curl -s --cacert callers.pem --cert back.pem --key back.key https://localhost:8443/"
+    says(tally, machine, "the page for the back office", page, "<title>Vault: back office</title>")
+    wrong = as_caller("back", f"/tokens/{NUMBER}", "/srv/authority-2")
+    says(tally, machine, "a number in place of a token, again", wrong, '"refused":3')
+    masked = r'"token":"\*{4}1111","asked":"view","status":400,"milli'
+    says(tally, machine, "it is logged masked by HAProxy", "sleep 1; cat /var/log/vault/front.log", masked)
+    nowhere = f"! grep -r {NUMBER} /var/log/vault /var/log/haproxy.log /var/log/syslog"
+    says(tally, machine, "and nowhere whole by HAProxy", nowhere, "")
+    turned = "rm /var/log/vault/front.log-*; logrotate -f /etc/logrotate.d/vault-front"
+    mode = f"{turned}; stat -c '%a %U' /var/log/vault/front.log"
+    says(tally, machine, "the log is for a few still", mode, r"\A640 www-data\n\Z")
+    again = f"{audit}sleep 1; cat /var/log/vault/front.log"
+    says(tally, machine, "and goes on once it was turned", again, '"caller":"back"')
+    url = "http://127.0.0.1:8087/v1/merchants/shop1/audit"
+    ask = f"runuser -u nobody -- curl -s -H 'X-Vault-Caller: back' {url}"
+    says(tally, machine, "the port isn't for others still", ask, "", well=False)
+
+
+def several(tally, machine):
+    """A second vault beside the first: its merchant, its copy, its port, and a kill of it alone."""
+    keys = "--cacert callers.pem --cert back.pem --key back.key"
+    audit = f"curl -s -w ' %{{http_code}}\\n' {keys} https://localhost:8443/v1/merchants/shop2/audit\n"
+    says(tally, machine, "a merchant of the second vault", audit, '"made":0. 200')
+    copy = "systemctl start vault-backup@north && cat /var/backups/vault-north/*.sound"
+    says(tally, machine, "a copy of it", copy, r"^sound 1 0 0$")
+    killed = "kill -9 $(systemctl show -p MainPID --value vault@north)\n"
+    says(tally, machine, "a kill of it is a wait", killed + audit, '"made":0. 200')
+    show = "systemctl show -p NRestarts --value"
+    says(tally, machine, "it has started again", f"{show} vault@north", r"^1$")
+    says(tally, machine, "and the first goes on", f"{show} vault", r"^0$")
+
+
 def renewed(tally, machine):
     """A caller of the new authority, by the front's new certificate."""
     new = "sleep 1\n" + as_caller("back", "/audit", "/srv/authority-2")
@@ -206,6 +249,8 @@ def main(program, repository):
         "Upgrade": functools.partial(moved, page=page, repository=repository),
         "A till was stolen": stolen,
         "The authority is renewed": renewed,
+        "HAProxy in place of nginx": waited_for,
+        "Several vaults": several,
         "What to watch": alarms,
     }
     package = ["sh", f"{repository}/deploy/package.sh", program, "."]

@@ -9,7 +9,10 @@ SUITE = "bookworm"
 # What a machine has before anything is typed.
 EMPTY = "systemd-sysv,dbus,adduser,ca-certificates"
 # What the page installs, which comes without a network once it was fetched.
-FETCHED = ("nginx-light", "openssl", "curl", "sqlite3", "chrony", "nftables", "logrotate", "python3-minimal")
+FETCHED = (
+    *("nginx-light", "openssl", "curl", "sqlite3", "chrony", "nftables", "logrotate", "python3"),
+    *("haproxy", "rsyslog", "procps", "python3-prometheus-client"),
+)
 
 
 def must(*words):

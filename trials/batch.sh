@@ -1,0 +1,9 @@
+#!/bin/sh
+# A batch through a front, by examples/clients/batch.py: its answers are those of `vault batch`, and a run
+# that is stopped, or whose vault is, goes on. sh trials/batch.sh [PROGRAM]
+set -eu
+. "$(dirname "$0")/shared/begin.sh"
+. "$here/shared/need.sh"
+need haproxy haproxy || leave_out haproxy
+need openssl openssl || leave_out openssl
+python3 -m batch "$program" "$here/.."

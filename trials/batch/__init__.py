@@ -1,0 +1,1 @@
+"""A batch through a front, while the service runs."""

@@ -1,0 +1,1 @@
+"""The exporter of counts, and the alerts."""

@@ -1,0 +1,9 @@
+#!/bin/sh
+# A front by HAProxy before two vaults, by deploy/haproxy.cfg: subjects of certificates, attempts to get past
+# it, what is logged, and vaults that are away, which are a wait and no error. sh trials/haproxy.sh [PROGRAM]
+set -eu
+. "$(dirname "$0")/shared/begin.sh"
+. "$here/shared/need.sh"
+need haproxy haproxy || leave_out haproxy
+need openssl openssl || leave_out openssl
+python3 -m haproxy "$program" "$here/.."

@@ -1,0 +1,1 @@
+"""A front by HAProxy before two vaults."""

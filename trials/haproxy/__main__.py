@@ -1,0 +1,174 @@
+"""The whole trial: python3 -m haproxy PROGRAM REPOSITORY"""
+
+import contextlib
+import json
+import sys
+import threading
+import time
+
+from front import certificates, forged, guards, subjects
+from front.clients import NUMBER, Client
+from front.raw import answer, message
+from front.services import Vault
+from haproxy import waits
+from haproxy.services import Front
+from shared.tally import Tally, unlike
+
+AUDIT = "/v1/merchants/shop1/audit"
+TOKENS = "/v1/merchants/shop1/tokens"
+
+
+def one_token(tally, port):
+    """A token over TLS, the same again, and its number for who is entitled; answers the token."""
+    till, back = Client(port, "till-1"), Client(port, "back")
+    first = till.token("shop1", 100001)
+    tally.judge("a token over TLS", unlike(first.status, 200))
+    tally.judge("again, with its number", unlike(till.token("shop1", 100001).body, first.body))
+    token = first.json()["token"]
+    target = f"{TOKENS}/{token}/number"
+    tally.judge("its number", unlike(back.ask("POST", target).json(), {"number": NUMBER}))
+    tally.judge("not for a till", unlike(till.ask("POST", target).status, 403))
+    kept = back.ask("GET", AUDIT).fields.get("Cache-Control")
+    tally.judge("no answer is kept", unlike(kept, "no-store"))
+    return token
+
+
+def strangers(tally, port):
+    """Who has no certificate of the authority, or one that has run out, or none with a name."""
+    certificates.untaken()
+    audit = message(f"GET {AUDIT} HTTP/1.1", "X-Vault-Caller: back")
+    for name, caller, status, number in (
+        ("no certificate", None, 400, 496),
+        ("another authority's certificate", "stranger", 400, 495),
+        ("a certificate that has expired", "expired", 400, 495),
+        ("a subject that is no caller's name", "nobody", 403, 403),
+    ):
+        told = answer(port, caller, audit)
+        tally.judge(name, unlike((told.status, told.json()), (status, {"front": number})))
+
+
+def refused_by_the_front(tally, port):
+    """What never reaches the vault, and in which words."""
+    for name, sent, status, number in (
+        ("a target outside", message("GET /v2/merchants/shop1/audit HTTP/1.1"), 404, 404),
+        ("a target with a host", message(f"GET https://localhost{AUDIT} HTTP/1.1"), 404, 404),
+        ("TRACE", message(f"TRACE {AUDIT} HTTP/1.1"), 405, 405),
+        ("a body of 5 KiB", message(f"POST {TOKENS} HTTP/1.1", body="x" * 5120), 413, 413),
+        ("a page of another site", message(f"GET {AUDIT} HTTP/1.1", "Sec-Fetch-Site: cross-site"), 403, 403),
+        ("two sites", message(f"GET {AUDIT} HTTP/1.1", *["Sec-Fetch-Site: none"] * 2), 403, 403),
+        ("a list of sites", message(f"GET {AUDIT} HTTP/1.1", "Sec-Fetch-Site: none, same-site"), 403, 403),
+    ):
+        told = answer(port, "back", sent)
+        kept = told.fields.get("Cache-Control")
+        wanted = status, {"front": number}, "no-store"
+        tally.judge(f"{name} is refused", unlike((told.status, told.json(), kept), wanted))
+    told = answer(port, "back", b"GIVE ME A TOKEN\r\n\r\n")
+    tally.judge("no HTTP is refused", unlike(told.status, 400))
+    chunks = message(f"POST {TOKENS} HTTP/1.1", "Transfer-Encoding: chunked") + b"0\r\n\r\n"
+    told = answer(port, "till-1", chunks)
+    tally.judge("a body in chunks is refused by the vault", unlike(told.json(), {"refused": 53}))
+
+
+def slow(port, found):
+    """A request of which the half doesn't come; what it is told, after ten seconds."""
+    sent = message(f"POST {TOKENS} HTTP/1.1", "X-Vault-Request: 1", body="x" * 100)[:-50]
+    found.append(answer(port, "till-1", sent))
+
+
+def numbers(tally, port, token):
+    """One caller brings back twenty numbers in four seconds, and other requests go on."""
+    back = Client(port, "back")
+    time.sleep(5)  # until what was asked before doesn't count any more
+    statuses = [back.ask("POST", f"{TOKENS}/{token}/number").status for _ in range(guards.AT_ONCE)]
+    given = statuses.count(200)
+    tally.judge("some twenty numbers at once are given", "" if 15 <= given <= 24 else f"{given}")
+    tally.judge("and the others refused", unlike(statuses.count(429), guards.AT_ONCE - given))
+    tally.judge("other requests go on", unlike(back.ask("GET", AUDIT).status, 200))
+
+
+def floods(tally, port):
+    """A caller that asks for more than it may is refused, and another one isn't; here 20 in four seconds."""
+    guest = Client(port, "guest")
+    statuses = [guest.ask("GET", AUDIT).status for _ in range(60)]
+    tally.judge("a flood has two answers", unlike(set(statuses), {403, 429}))
+    tally.judge(
+        "it is answered for a while", "" if 15 <= statuses.count(403) <= 45 else f"{statuses.count(403)}"
+    )
+    tally.judge("another caller isn't refused", unlike(Client(port, "back").ask("GET", AUDIT).status, 200))
+
+
+def figures(tally, front):
+    """What the exporter says, and to whom."""
+    told = front.numbers()
+    for name in ("haproxy_backend_http_responses_total", "haproxy_backend_current_queue"):
+        tally.judge(f"the exporter has {name}", "" if name in told else told[:200])
+    tally.judge("and no number of a card", f"{NUMBER} is there" if NUMBER in told else "")
+    bound = [it for it in open("haproxy.cfg").read().splitlines() if it.strip().startswith("bind")]
+    tally.judge("it listens here alone", "" if all(" 127.0.0.1:" in it for it in bound) else f"{bound}")
+
+
+def by_merchant(tally, port):
+    """Two vaults: each has the tokens of its own merchant alone."""
+    other = Client(port, "till-2")
+    tally.judge("a token of the other shop", unlike(other.token("shop2", 1).status, 200))
+    made = Client(port, "back").ask("GET", "/v1/merchants/shop2/audit").json()
+    tally.judge("the other shop has made one", unlike(made.get("made"), 1))
+
+
+def guarded(tally, front):
+    """What the front lets through, and what it doesn't."""
+    port, late = front.port, []
+    waiting = threading.Thread(target=slow, args=(port, late))
+    waiting.start()
+    token = one_token(tally, port)
+    strangers(tally, port)
+    subjects.judge(tally, port)
+    subjects.revoked(tally, port, front)
+    subjects.renewed(tally, port, front)
+    refused_by_the_front(tally, port)
+    forged.judge(tally, port)
+    forged.by_other_ways(tally, port, token)
+    forged.too_large(tally, port)
+    forged.of_numbers(tally, port)
+    guards.typed_wrong(tally, port)
+    guards.by_browsers(tally, port)
+    numbers(tally, port, token)
+    by_merchant(tally, port)
+    guards.page(tally, port)
+    waiting.join()
+    tally.judge("half a request is told in time", unlike(json.loads(late[0].body), {"front": 408}))
+
+
+def at_a_front(repository, vaults, *changes):
+    """A front before the vaults, with some changes of its file; it is over at the end of a `with`."""
+    return contextlib.closing(Front(repository, *vaults, pairs=changes))
+
+
+def main(program, repository):
+    tally = Tally()
+    certificates.make()
+    vaults = first, _ = Vault(program, "shop1", "till-1"), Vault(program, "shop2", "till-2")
+    try:
+        with at_a_front(repository, vaults) as front:
+            guarded(tally, front)
+            waits.stopped(tally, front.port, first)
+            waits.gone(tally, front.port, first, front)
+            waits.crowded(tally, front.port, first)
+        # less patience, and fewer requests than a caller may have otherwise
+        less = ("retries 240", "retries 4"), ("rate gt 2000", "rate gt 20")
+        with at_a_front(repository, vaults, *less) as front:
+            floods(tally, front.port)
+            waits.told_at_last(tally, front.port, first)
+        # more requests than a caller may have otherwise
+        with at_a_front(repository, vaults, ("rate gt 2000", "rate gt 200000")) as front:
+            waits.under_load(tally, front.port, first)
+            waits.restarted(tally, front.port, first)
+            figures(tally, front)
+        guards.logged(tally, "haproxy.err")
+    finally:
+        for vault in vaults:
+            vault.kill()
+    tally.end()
+
+
+main(*sys.argv[1:])

@@ -1,0 +1,127 @@
+"""HAProxy by the file that an installation starts from, with this machine's ports and folders."""
+
+import os
+import re
+import shutil
+import signal
+import socket
+import subprocess
+import time
+import urllib.request
+
+from front.services import free_port
+
+# the log is a file here, and a socket of syslog where it is installed
+TO_FILE = (("log /dev/log local0", "log stdout format raw local0"),)
+FILES = ("server.pem", "server.key", "callers.pem", "revoked.pem")
+
+
+def changed(text, *pairs):
+    """A text with one thing in place of another, each of which has to be there."""
+    for old, new in pairs:
+        if old not in text:
+            raise SystemExit(f"haproxy.cfg hasn't {old}\n0 passed, 1 failed")
+        text = text.replace(old, new)
+    return text
+
+
+def route(merchant, backend):
+    """The line of the file by which a merchant has a vault."""
+    return f"use_backend {backend} if {{ path -m beg /v1/merchants/{merchant}/ }}"
+
+
+def routes(vaults):
+    """The lines for vaults, each of which has the name of its merchant."""
+    return "\n".join(f"    {route(it.merchant, it.merchant)}" for it in vaults)
+
+
+def backends(vaults):
+    """What they are."""
+    parts = (f"backend {it.merchant}\n    server vault 127.0.0.1:{it.port} maxconn 64\n" for it in vaults)
+    return "\n".join(parts)
+
+
+class Front:
+    """The master and its worker; what they log stands in front.log, and their alarms in haproxy.err."""
+
+    def __init__(self, repository, vault, *others, pairs=(), log="front.log"):
+        self.port, self.figures = free_port(), free_port()
+        self.log = log
+        self.folder = folder = os.getcwd()
+        os.makedirs("front-files", exist_ok=True)
+        os.makedirs("nowhere", exist_ok=True)
+        for name in FILES:
+            shutil.copy(name, "front-files")
+        shutil.copy("server.key", "front-files/server.pem.key")
+        text = changed(
+            open(f"{repository}/deploy/haproxy.cfg").read(),
+            ("/etc/vault/", f"{folder}/front-files/"),
+            ("/usr/share/vault/office", f"{os.path.abspath(repository)}/deploy/office"),
+            ("chroot /var/lib/haproxy", f"chroot {folder}/nowhere"),
+            *(TO_FILE if log == "front.log" else ()),
+            ("bind :8443", f"bind 127.0.0.1:{self.port}"),
+            ("127.0.0.1:8405", f"127.0.0.1:{self.figures}"),
+            ("127.0.0.1:8087", f"127.0.0.1:{vault.port}"),
+            (f"    # {route('shop2', 'north')}", routes(others)),
+            ("backend north\n    server north 127.0.0.1:8088 maxconn 64\n", backends(others)),
+            *pairs,
+        )
+        if os.getuid():
+            text = re.sub(r"(?m)^    (?:user|group|chroot) .*\n", "", text)
+        with open("haproxy.cfg", "w") as file:
+            file.write(text)
+        self.start()
+
+    def start(self):
+        """Starts it as its unit does, with a master that can load its files anew."""
+        words = ["haproxy", "-W", "-db", "-f", "haproxy.cfg"]
+        with open(self.log, "ab") as log, open("haproxy.err", "ab") as errors:
+            self.process = subprocess.Popen(words, stdout=log, stderr=errors)
+        for _ in range(100):
+            try:
+                socket.create_connection(("127.0.0.1", self.port)).close()
+                if self.workers():
+                    return
+            except OSError:
+                pass
+            time.sleep(0.05)
+        self.end()
+        raise SystemExit(f"the front didn't start: {open('haproxy.err').read()}\n0 passed, 1 failed")
+
+    def workers(self):
+        """The processes that answer just now."""
+        with open(f"/proc/{self.process.pid}/task/{self.process.pid}/children") as file:
+            return set(file.read().split())
+
+    def take(self, **files):
+        """Gives it other files, as `take(revoked="revoked.pem")`, and reloads it; a new process answers
+        then."""
+        for name, path in files.items():
+            shutil.copy(path, f"front-files/{name}.pem")
+        before = self.workers()
+        self.process.send_signal(signal.SIGUSR2)
+        for _ in range(200):
+            time.sleep(0.05)
+            if self.workers() - before:
+                time.sleep(0.5)
+                return
+        raise SystemExit("the front didn't reload\n0 passed, 1 failed")
+
+    def numbers(self):
+        """What its exporter says."""
+        with urllib.request.urlopen(f"http://127.0.0.1:{self.figures}/metrics", timeout=10) as answer:
+            return answer.read().decode()
+
+    def close(self):
+        """The same as `end`, for a `with`."""
+        self.end()
+
+    def end(self):
+        self.process.terminate()
+        try:
+            self.process.wait(5)
+        except subprocess.TimeoutExpired:
+            for worker in self.workers():
+                os.kill(int(worker), signal.SIGKILL)
+            self.process.kill()
+            self.process.wait()

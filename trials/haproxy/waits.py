@@ -1,0 +1,113 @@
+"""Vaults that are away: a wait, and no error."""
+
+import threading
+import time
+
+from front.clients import Client
+from front.load import MESSAGES, Load
+from shared.tally import unlike
+
+# how long a vault is away at most, and what a wait may take beyond that
+AWAY, MORE = 6.0, 4.0
+CROWD = 300
+
+
+def stopped(tally, port, vault):
+    """A request that comes while the vault is stopped is answered once it is back."""
+    vault.kill()
+    found = []
+
+    def one():
+        begun = time.monotonic()
+        answer = Client(port, "till-1").token("shop1", 100003)
+        found.append((answer.status, time.monotonic() - begun))
+
+    thread = threading.Thread(target=one)
+    thread.start()
+    time.sleep(AWAY)
+    vault.start()
+    thread.join()
+    status, spent = found[0]
+    tally.judge("a request to a vault that is away is answered 200", unlike(status, 200))
+    fault = "" if AWAY <= spent <= AWAY + MORE else f"{spent:.1f} s"
+    tally.judge(f"within {MORE:.0f} s of its return", fault)
+    print(f"a vault was away for {AWAY:.0f} s, and one request waited for {spent:.1f} s")
+
+
+def under_load(tally, port, vault):
+    """32 clients, 2,000 messages, and a vault that is killed three times among them."""
+    load = Load(port)
+    begun = time.monotonic()
+    load.run(vault, 3)
+    spent = time.monotonic() - begun
+    tally.judge("no client's connection failed", "; ".join(load.faults[:3]))
+    answered = sum(token is not None for token in load.tokens.values())
+    tally.judge("each message was answered", unlike(answered, MESSAGES))
+    tally.judge("by 200 once", unlike(load.statuses.count(200), MESSAGES))
+    tally.judge("each by a token of its own", unlike(len(set(load.tokens.values())), MESSAGES))
+    others = [it for it in load.statuses if it != 200]
+    tally.judge("and by an error of the front else", unlike(set(others) - {502, 503}, set()))
+    till = Client(port, "till-1")
+    lost = [it for it, token in load.tokens.items() if till.token("shop1", it).json().get("token") != token]
+    tally.judge("every answer that came is found again", f"{len(lost)} lost: {lost[:5]}" if lost else "")
+    print(f"{MESSAGES} messages over three kills took {spent:.1f} s, with {len(others)} errors: {others[:5]}")
+
+
+def restarted(tally, port, vault):
+    """Two orderly restarts of the vault under load: nobody is told an error."""
+    load = Load(port)
+    load.run(vault, 2, first=MESSAGES + 1, by=vault.stop)
+    tally.judge("no client's connection failed at a restart", "; ".join(load.faults[:3]))
+    told = {status: load.statuses.count(status) for status in set(load.statuses)}
+    tally.judge("no 503 at a restart", unlike(told, {200: MESSAGES}))
+
+
+def crowded(tally, port, vault):
+    """One caller's requests wait in a crowd that has an end, and others wait beside it."""
+    vault.kill()
+    statuses = []
+
+    def one(caller):
+        answer = Client(port, caller).ask("GET", "/v1/merchants/shop1/audit")
+        statuses.append((caller, answer.status))
+
+    threads = [threading.Thread(target=one, args=("guest",)) for _ in range(CROWD)]
+    for thread in threads:
+        thread.start()
+    time.sleep(4)
+    beside = threading.Thread(target=one, args=("back",))
+    beside.start()
+    vault.start()
+    for thread in (*threads, beside):
+        thread.join()
+    many = statuses.count(("guest", 429))
+    tally.judge("some of a crowd are refused", "" if 0 < CROWD - many <= 256 else f"{many} of {CROWD}")
+    tally.judge("and the others answered", unlike(statuses.count(("guest", 403)), CROWD - many))
+    tally.judge("a caller beside it is answered", unlike(statuses.count(("back", 200)), 1))
+
+
+def told_at_last(tally, port, vault):
+    """What is told where the vault doesn't come back for as long as a front waits."""
+    vault.kill()
+    answer = Client(port, "back").ask("GET", "/v1/merchants/shop1/audit")
+    told = answer.status, answer.json(), answer.fields.get("Retry-After")
+    tally.judge("a vault that stays away is told at last", unlike(told, (503, {"away": True}, "1")))
+    vault.start()
+
+
+def gone(tally, port, vault, front):
+    """Who hangs up while it waits is forgotten; others wait on."""
+    vault.kill()
+    client = Client(port, "till-1")
+    client.connect()
+    client.connection.timeout = 1
+    try:
+        client.token("shop1", 100004)
+        told = "an answer"
+    except OSError:
+        told = ""
+    tally.judge("who waits for a second has no answer", told)
+    time.sleep(1)
+    waiting = [it for it in front.numbers().splitlines() if it.startswith("haproxy_backend_current_queue")]
+    tally.judge("and isn't waited for", "" if all(it.endswith(" 0") for it in waiting) else f"{waiting}")
+    vault.start()

@@ -1,0 +1,1 @@
+"""The log of the fronts: what is kept, and who it tells of."""

@@ -1,0 +1,1 @@
+"""The page for the back office in a browser."""

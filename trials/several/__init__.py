@@ -1,0 +1,1 @@
+"""Several vaults behind one front."""
