@@ -22,7 +22,8 @@ returns-in-Err-default-Some-clause-tells g c image holds clean =
     let was : HasCleanDisk (file_state c.in-Err-default-Some.conn) =
     omega (arith, c.close_moved.ensures.clean, clean) in
     record {
-      damaged = (rw c.in-Err-default-Some.field-0-1-is at c.in-Err-default-Some.ensures.damaged) image holds was;
+      damaged =
+          (rw c.in-Err-default-Some.field-0-1-is at c.in-Err-default-Some.ensures.damaged) image holds was;
       wrong = (rw c.in-Err-default-Some.field-0-1-is at c.in-Err-default-Some.ensures.wrong) image holds was;
     }
 
