@@ -1,5 +1,6 @@
 -- A task on the vault in files, said of the files.
-use Rattle.std.proofs.Common.{◌≡◌, ◌≢◌, ◌↔◌, ℕ, List, Bool, Option, Some, None, Result, Ok, Err, false, ap, refl}
+use Rattle.std.proofs.Common.{◌≡◌, ◌≢◌, ◌↔◌, ℕ, List, Bool, Option, Some, None, Result, Ok, Err, false}
+use Rattle.std.proofs.Common.{ap, refl}
 use Rattle.std.specs.Prelude.{ℤ, IfErr, IfOk, IfSome}
 use Rattle.sqlite.specs.Files.{file_state}
 use Rattle.sqlite.specs.Held.{Held}
@@ -46,9 +47,10 @@ module _ {D : Type 0} {g : Ghosts D} {T : Type 0} (conn_of : T → Held (FileSto
       (failed t ≡ false)
       × (HasCleanDisk (file_state (conn_of t)) → Holds (file_state (conn_of t)) V × Past t V)
 
-  pub works : (tells : Turns) (Holding : Image → Type 0) (v v' : Vault T) (left : FileStore D g) (task : Task) (r : Result Outcome Stop)
-      (broken : Bool) (unread unsent : Type 0) (s : Streams)
-      → Each Holding (λ image. OpensFrom image (conn_of v.tables)) → (failed v.tables ≡ false) × ((V : Content) → Past v.tables V)
+  pub works : (tells : Turns) (Holding : Image → Type 0) (v v' : Vault T) (left : FileStore D g)
+      (task : Task) (r : Result Outcome Stop) (broken : Bool) (unread unsent : Type 0) (s : Streams)
+      → Each Holding (λ image. OpensFrom image (conn_of v.tables)) → (failed v.tables ≡ false)
+      × ((V : Content) → Past v.tables V)
       → (HasCleanDisk (file_state (conn_of v'.tables)) → HasCleanDisk (file_state (conn_of v.tables)))
       → (IsClean (view left) → HasCleanDisk (file_state (conn_of v'.tables)))
       → (IsClean (view left) → (V : Content) → Contains held v' V → Reopens left V)
@@ -57,20 +59,21 @@ module _ {D : Type 0} {g : Ghosts D} {T : Type 0} (conn_of : T → Held (FileSto
       → Does tells task (vault_passing (λ t. HasCleanDisk (file_state (conn_of t))) held
       (λ t V W. LeavesEither (file_state (conn_of t)) V W) v v') broken r unread unsent s
       → WorksOn Holding left (λ p b. Does tells task p b r unread unsent s)
-  works tells Holding v v' left task r broken unread unsent s found fresh honest closed after either does = record {
-    opened = conn_of v.tables;
-    broken = broken;
-    found = found;
-    clean = λ clean. honest (closed clean);
-    done = refined (IsClean (view left)) (λ V. Holds (file_state (conn_of v.tables)) V × Sound V)
-        (λ V. Reopens left V × Sound V) (ReopensEither left)
-        (vault_passing (λ t. HasCleanDisk (file_state (conn_of t))) held
-        (λ t V W. LeavesEither (file_state (conn_of t)) V W) v v')
-        (λ V clean was. (closed clean, ((fresh.0, λ _. (was.0, fresh.1 V)), was.1)))
-        (λ clean V kept. ((after clean V kept.0, kept.0.1), either clean V V kept.1))
-        (λ clean V W torn. either clean V W torn)
-        s tells task broken r unread unsent does;
-  }
+  works tells Holding v v' left task r broken unread unsent s found fresh honest closed after either does =
+      record {
+        opened = conn_of v.tables;
+        broken = broken;
+        found = found;
+        clean = λ clean. honest (closed clean);
+        done = refined (IsClean (view left)) (λ V. Holds (file_state (conn_of v.tables)) V × Sound V)
+            (λ V. Reopens left V × Sound V) (ReopensEither left)
+            (vault_passing (λ t. HasCleanDisk (file_state (conn_of t))) held
+            (λ t V W. LeavesEither (file_state (conn_of t)) V W) v v')
+            (λ V clean was. (closed clean, ((fresh.0, λ _. (was.0, fresh.1 V)), was.1)))
+            (λ clean V kept. ((after clean V kept.0, kept.0.1), either clean V V kept.1))
+            (λ clean V W torn. either clean V W torn)
+            s tells task broken r unread unsent does;
+      }
 
 module _ {D : Type 0} {g : Ghosts D} (world : World) (path : List ℕ) (unread unsent : Type 0) (s : Streams)
   where
@@ -128,7 +131,8 @@ module _ {D : Type 0} {g : Ghosts D} (world : World) (path : List ℕ) (unread u
         → IfErr r (λ _. IfSome left (λ it. Each (world.holds path)
         (λ image. ¬ MayFindNone image → ¬ MayFindOlder image → StaysWhole image it)))
         → IsMoved world path left r
-    moved None (Ok version) refused there moves old tells stays same unmoved = let clash = refused.0 refl in cc
+    moved None (Ok version) refused there moves old tells stays same unmoved =
+        let clash = refused.0 refl in cc
     moved None (Err why) refused there moves old tells stays same unmoved =
         let is : Err why ≡ Err file.Refused = refused.0 refl in (cc (is), there is)
     moved (Some left) (Ok version) refused there moves old tells stays same unmoved = moves

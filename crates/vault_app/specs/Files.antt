@@ -72,7 +72,8 @@ module _ {D : Type 0} {g : Ghosts D} where
     pub same : Each Holding (λ image. ¬ MayFindNone image → StaysWhole image left)
 
   -- what was done with the vault in files with such bytes, by how a task on it ended
-  abbrev pub DoesOnFile : Turns → (Image → Type 0) → FileStore D g → Task → Ending → Type 0 → Type 0 → Streams → Type 0
+  abbrev pub DoesOnFile : Turns → (Image → Type 0) → FileStore D g → Task → Ending → Type 0 → Type 0
+      → Streams → Type 0
   DoesOnFile tells Holding left task Done unread unsent s =
       WorksOn Holding left (λ p broken. Does tells task p broken (Ok outcome.Done) unread unsent s)
   DoesOnFile tells Holding left task Version unread unsent s = ⊥
@@ -81,7 +82,8 @@ module _ {D : Type 0} {g : Ghosts D} where
   DoesOnFile tells Holding left task SomeRefused unread unsent s =
       WorksOn Holding left (λ p broken. Does tells task p broken (Ok outcome.SomeRefused) unread unsent s)
   DoesOnFile tells Holding left task BadWords unread unsent s = ⊥
-  DoesOnFile tells Holding left task (NotOpened why) unread unsent s = RefusesFile Holding left why × unread × unsent
+  DoesOnFile tells Holding left task (NotOpened why) unread unsent s =
+      RefusesFile Holding left why × unread × unsent
   DoesOnFile tells Holding left task (Stopped stop) unread unsent s =
       WorksOn Holding left (λ p broken. Does tells task p broken (Err stop) unread unsent s)
 

@@ -86,8 +86,8 @@ module _ {D : Type 0} {g : Ghosts D} where
     pub does : Does world left words ending unread unsent s
 
 -- What a run of the program does over its three streams, in this world, which leaves these
--- files: its job reads, answers these connections, and writes up to `told`; and then the run says on the output or
--- the errors how it ended.
+-- files: its job reads, answers these connections, and writes up to `told`; and then the run says on the
+-- output or the errors how it ended.
 module _ {D R W E : Type 0} {g : Ghosts D} (remaining : R → Known) (contents : W → Known) (said : E → Known)
   where
     abbrev pub RunsAs : World → Option (FileStore D g) → List Text → ℕ → List (Option Link)

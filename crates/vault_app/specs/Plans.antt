@@ -41,19 +41,21 @@ use Rattle.vault_app.specs.declared.plan.Plan.TheVariants as plan
 abbrev pub without_end : ℕ
 without_end = 18446744073709551615
 
--- the task that the words of a job ask for, whose names are names, at the moment that they fix, or else at one
--- that was told
+-- the task that the words of a job ask for, whose names are names, at the moment that they fix, or else at
+-- one that was told
 abbrev pub IsTaskOf : World → Job → Task → Type 0
 IsTaskOf world (Trial j) t = ⊥
 IsTaskOf world (Merchant j) t = IsName j.name.now × ((now : ℕ) × IsMomentOf world.tells j.now now
     × (t ≡ task.Change (command.SetMerchant j.name.now j.single_life j.multi_life j.lead now)))
 IsTaskOf world (Grant j) t = AreNames j.given
-    × ((right : Right) × (now : ℕ) × (j.given.right.now ≡ right_word right) × IsMomentOf world.tells j.given.now now
+    × ((right : Right) × (now : ℕ) × (j.given.right.now ≡ right_word right)
+    × IsMomentOf world.tells j.given.now now
     × (t ≡ task.Change (command.Grant j.given.caller.now j.given.merchant.now right j.until now)))
 IsTaskOf world (Withdraw j) t = AreNames j
     × ((right : Right) × (now : ℕ) × (j.right.now ≡ right_word right) × IsMomentOf world.tells j.now now
     × (t ≡ task.Change (command.Withdraw j.caller.now j.merchant.now right now)))
-IsTaskOf world (Rights j) (task.Give rows now) = IsListed (world.says j.rights.now) rows.items × IsMomentOf world.tells j.now now
+IsTaskOf world (Rights j) (task.Give rows now) = IsListed (world.says j.rights.now) rows.items
+    × IsMomentOf world.tells j.now now
 IsTaskOf world (Rights j) (task.Change c) = ⊥
 IsTaskOf world (Rights j) (task.Sweep who now) = ⊥
 IsTaskOf world (Rights j) (task.Batch who now digits) = ⊥

@@ -3,8 +3,8 @@ use Rattle.std.specs.Prelude.{ℕ, List}
 use Rattle.sqlite_wal.specs.Recovery.{Image}
 use Rattle.vault_live.specs.Live.{Turns}
 
--- Which moments are told at which turn; and of each path which bytes its files may hold, that nothing is there,
--- that an open of it may fail, and which text it may have.
+-- Which moments are told at which turn; and of each path which bytes its files may hold, that nothing is
+-- there, that an open of it may fail, and which text it may have.
 pub record World : Type 1 where
   pub tells : Turns
   pub holds : List ℕ → Image → Type 0

@@ -1,5 +1,6 @@
 -- What a task does, by what its parts do.
-use Rattle.std.proofs.Common.{◌≡◌, ℕ, List, [], Bool, true, Option, Result, Ok, Err, inl, inr, length, subst, sym}
+use Rattle.std.proofs.Common.{◌≡◌, ℕ, List, [], Bool, true, Option, Result, Ok, Err, inl, inr, length}
+use Rattle.std.proofs.Common.{subst, sym}
 use Rattle.std.specs.Prelude.{IfErr}
 use Rattle.vault_http.specs.Passing.{Passage}
 use Rattle.vault_http.specs.declared.fault.ServeFault.TheVariants as service

@@ -93,7 +93,8 @@ module _ (H : Type 0) (O N : Content → Type 0) (L : Content → Content → Ty
   )
   sweeps who now broken (Err Reopen) h = absurd h
 
-  all_kept : (tells : Turns) (xs : List (Option Link)) → AllKept tells xs w → AllKept tells xs (over H O N L w)
+  all_kept : (tells : Turns) (xs : List (Option Link)) → AllKept tells xs w
+      → AllKept tells xs (over H O N L w)
   all_kept tells xs h = λ V b. let it = h V (was V b.0 b.1) in (it.0, it.1, kept b.0 _ it.2)
 
   leaves : (tells : Turns) (n : ℕ) (xs : List (Option Link)) (f : ListenFault) → Leaves tells n xs w (Err f)
@@ -402,13 +403,16 @@ module _ (H : Type 0) (O N : Content → Type 0) (L : Content → Content → Ty
     (was : (V : Content) → H → O V → IsBefore w V)
     (kept : H → (V : Content) → Keeps w V → N V × L V V)
     (torn : H → (V W : Content) → w.left_new V W → L V W) (s : Streams) where
-  batch_ends : (tells : Turns) (who : Asker) (now : Option ℕ) (digits : Option (List ℕ)) (r : Result Outcome Stop)
+  batch_ends : (tells : Turns) (who : Asker) (now : Option ℕ) (digits : Option (List ℕ))
+      (r : Result Outcome Stop)
       (unread unsent : Type 0) → BatchEnds tells who now digits w r unread unsent s
       → BatchEnds tells who now digits (over H O N L w) r unread unsent s
-  batch_ends tells who now digits (Ok outcome.Done) unread unsent (calm, counts, none, end, (pairs, few, fixed, h)) =
+  batch_ends tells who now digits (Ok outcome.Done) unread unsent
+      (calm, counts, none, end, (pairs, few, fixed, h)) =
       (calm, counts, none, end, (pairs, few, fixed, batched H O N L _ was kept torn s.left_old who counts h))
   batch_ends tells who now digits (Ok (outcome.Refused n)) unread unsent h = h
-  batch_ends tells who now digits (Ok outcome.SomeRefused) unread unsent (calm, counts, some, end, (pairs, few, fixed, h)) =
+  batch_ends tells who now digits (Ok outcome.SomeRefused) unread unsent
+      (calm, counts, some, end, (pairs, few, fixed, h)) =
       (calm, counts, some, end, (pairs, few, fixed, batched H O N L _ was kept torn s.left_old who counts h))
   batch_ends tells who now digits (Err (Vault f)) unread unsent h = h
   batch_ends tells who now digits (Err (Service f)) unread unsent h = h
@@ -436,7 +440,8 @@ module _ (H : Type 0) (O N : Content → Type 0) (L : Content → Content → Ty
   pipe_ends tells now digits (Err (stop.Batch f)) unread unsent h = h
 
   works : (tells : Turns) (task : Task) (broken : Bool) (r : Result Outcome Stop) (unread unsent : Type 0)
-      → Works tells task w broken r unread unsent s → Works tells task (over H O N L w) broken r unread unsent s
+      → Works tells task w broken r unread unsent s
+      → Works tells task (over H O N L w) broken r unread unsent s
   works tells (Change c) broken r unread unsent h =
       commands_end H O N L w was kept torn _ _ (carries H O N L w was kept torn c broken) _ r unsent _ _ _ h
   works tells (Give rows now) broken r unread unsent h =

@@ -30,7 +30,8 @@ use Rattle.vault_jobs.specs.Streams.{Known}
 use Rattle.vault_jobs.specs.Trial.{IsCut, IsLast, IsTrial}
 
 -- the first messages are asked with such pairs, and of the texts that answer them a beginning went out
-record Begun (tells : Turns) (w : Passage) (ps : List Parts) (V : Content) (now : Option ℕ) (digits : Option (List ℕ))
+record Begun (tells : Turns) (w : Passage) (ps : List Parts) (V : Content) (now : Option ℕ)
+    (digits : Option (List ℕ))
     : Type 0 where
   pairs : List Pair
   exchanges : List Exchange
@@ -56,7 +57,8 @@ but_last V xs x =
     ap (λ ts. take (length (texts V xs)) ts) (texts-append V xs (x ∷ []))
     ∙ take-append_seam (texts V xs) (text_at (vault_after V xs) x ++ [])
 
-module _ (tells : Turns) (w : Passage) (V : Content) (now : Option ℕ) (digits : Option (List ℕ)) (before : IsBefore w V)
+module _ (tells : Turns) (w : Passage) (V : Content) (now : Option ℕ) (digits : Option (List ℕ))
+    (before : IsBefore w V)
     (fresh : w.given_old ≡ []) (fits : AreGiven tells now digits w.given_new) where
   fixed_in : (pairs : List Pair) → Takes w pairs → AreGiven tells now digits pairs
   fixed_in pairs taken =
@@ -133,7 +135,8 @@ module _ (tells : Turns) (w : Passage) (V : Content) (now : Option ℕ) (digits 
 
   cut_among : (old new : Known) (bytes : List ℕ) (ms : List Request) → Consumes old new bytes
       → Begins bytes ms
-      → Begun tells w (up_to_close (shown ms)) V now digits → IsCut tells old new w.sent_old w.sent_new V now digits
+      → Begun tells w (up_to_close (shown ms)) V now digits
+      → IsCut tells old new w.sent_old w.sent_new V now digits
   cut_among old new bytes ms read begins b = record {
     bytes = bytes;
     messages = ms;
@@ -188,7 +191,8 @@ module _ (tells : Turns) (w : Passage) (V : Content) (now : Option ℕ) (digits 
       (begun fault.Memory (up_to_close (shown s.messages)) s.stops)
 
 -- nothing was read and nothing went out
-pub nothing_cut : (tells : Turns) (left sent : Known) (V : Content) (now : Option ℕ) (digits : Option (List ℕ))
+pub nothing_cut : (tells : Turns) (left sent : Known) (V : Content) (now : Option ℕ)
+    (digits : Option (List ℕ))
     → IsCut tells left left sent sent V now digits
 nothing_cut tells left sent V now digits = record {
   bytes = [];
@@ -222,7 +226,8 @@ ends_at bytes ms xs (Some e) false h reads whole = (
 )
 
 -- a trial is a beginning of itself
-pub cut_whole : (tells : Turns) (old new out gone : Known) (V : Content) (now : Option ℕ) (digits : Option (List ℕ))
+pub cut_whole : (tells : Turns) (old new out gone : Known) (V : Content) (now : Option ℕ)
+    (digits : Option (List ℕ))
     → IsTrial tells old new out gone V now digits → IsCut tells old new out gone V now digits
 cut_whole tells old new out gone V now digits t =
     let last : Option WireFault = answered_fault t.messages t.fault in
@@ -273,7 +278,8 @@ few_pairs tells old new most none left goes =
     omega (arith, goes.counted, left, ap (λ (pairs : List Pair). length pairs) none)
 
 -- what stops the answering of an input is a beginning of a trial
-pub cut_piping : (tells : Turns) (w : Passage) (V : Content) (now : Option ℕ) (digits : Option (List ℕ)) → IsBefore w V
+pub cut_piping : (tells : Turns) (w : Passage) (V : Content) (now : Option ℕ) (digits : Option (List ℕ))
+    → IsBefore w V
     → w.given_old ≡ [] → AreGiven tells now digits w.given_new → (old new : Known) (e : ServeFault)
     → StopsPiping old new w e → IsCut tells old new w.sent_old w.sent_new V now digits
 cut_piping tells w V now digits before fresh fits old new e (inl s) =

@@ -44,8 +44,8 @@ along w s pairs = record w {
   sent_new = s.sent_new;
 }
 
--- in a passage along so many pairs at most, which have this moment and these digits, where they are fixed, and
--- else a moment that was told for each
+-- in a passage along so many pairs at most, which have this moment and these digits, where they are fixed,
+-- and else a moment that was told for each
 abbrev pub Along : Turns → ℕ → Option ℕ → Option (List ℕ) → Passage → Streams → (Passage → Type 0) → Type 0
 Along tells most now digits w s P = (pairs : List Pair) × (length pairs ≤ most)
     × AreGiven tells now digits pairs × P (along w s pairs)
@@ -89,8 +89,8 @@ SweepEnds who now w broken (Err (Rights f)) unsent old new writer = ⊥
 SweepEnds who now w broken (Err (stop.Batch f)) unsent old new writer = ⊥
 
 -- how a batch ends: its rows are answered, by nobody else and with such pairs; or it wasn't begun
-abbrev pub BatchEnds : Turns → Asker → Option ℕ → Option (List ℕ) → Passage → Result Outcome Stop → Type 0 → Type 0
-    → Streams → Type 0
+abbrev pub BatchEnds : Turns → Asker → Option ℕ → Option (List ℕ) → Passage → Result Outcome Stop
+    → Type 0 → Type 0 → Streams → Type 0
 BatchEnds tells who now digits w (Ok outcome.Done) unread unsent s =
     (s.writer ≡ false) × (counts : Counts) × (counts.refused ≡ 0) × IsAtEnd s.left_new
     × Along tells 100000 now digits w s (λ p. IsBatched s.left_old p who counts)
@@ -159,8 +159,8 @@ Works tells (Pipe now digits) w broken result unread unsent s =
 Works tells (Serve port connections) w broken result unread unsent s =
     ServeEnds tells port connections w result unsent s.sent_old s.sent_new s.writer s.links
 
--- What a task does: it works so; the input is unread, but by a batch and messages; no connection comes, but to
--- a service; a reader or a writer stops it only where that failed; and the vault is broken by a store that
+-- What a task does: it works so; the input is unread, but by a batch and messages; no connection comes, but
+-- to a service; a reader or a writer stops it only where that failed; and the vault is broken by a store that
 -- fails.
 pub record Does (tells : Turns) (task : Task) (w : Passage) (broken : Bool) (result : Result Outcome Stop)
     (unread unsent : Type 0) (s : Streams) : Type 0 where

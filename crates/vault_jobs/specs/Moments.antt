@@ -4,4 +4,5 @@ use Rattle.vault_live.specs.Live.{Turns}
 
 -- the moment is the one that is fixed, where one is, and else one that was told
 abbrev pub IsMomentOf : Turns → Option ℕ → ℕ → Type 0
-IsMomentOf tells fixed moment = ((now : ℕ) → fixed ≡ Some now → moment ≡ now) × (fixed ≡ None → tells 0 moment)
+IsMomentOf tells fixed moment = ((now : ℕ) → fixed ≡ Some now → moment ≡ now)
+    × (fixed ≡ None → tells 0 moment)

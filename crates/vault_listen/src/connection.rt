@@ -41,7 +41,8 @@ pub fn serve_connection<K: Timekeeper, G: Rng, R: Read, W: Write, T: Tables>(
     writer: &mut Watched<W>,
     vault: &mut Vault<T>,
 ) -> Result<Served, ServeFault>
-    ensures answered { (pairs : List Pair) × (length pairs ≤ 1000) × AreGiven (K.tells time.now) None None pairs
+    ensures answered { (pairs : List Pair) × (length pairs ≤ 1000)
+        × AreGiven (K.tells time.now) None None pairs
         × (let w : Passage = passing (λ ps. ps) [] pairs
         W.contents writer.old writer.new T.is_honest T.holds T.leaves vault.old vault.new in
         MatchResult result

@@ -28,8 +28,8 @@ pub fn discard<R: Read>(reader: &mut R)
     }
 }
 
-/// Tells the peer that no more answers come, and takes at most 64 KiB of what it still sends, for one turn, or
-/// for 50 milliseconds where it was ended for another.
+/// Tells the peer that no more answers come, and takes at most 64 KiB of what it still sends, for one turn,
+/// or for 50 milliseconds where it was ended for another.
 ///
 /// A connection that is closed while bytes of its peer are unread is reset, and what was under way to the
 /// peer may be lost.

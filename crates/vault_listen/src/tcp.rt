@@ -36,8 +36,8 @@ fn loses_one(kind: ErrorKind) -> bool {
 /// service that is 5 seconds and 60. Unless its reader or writer failed, the peer is told at the close that
 /// no more answers come, and what it still sends is thrown away, so that its answers reach it: at most
 /// 64 KiB, for at most one turn. A peer that was quiet for 50 milliseconds, with no message begun, is ended
-/// where another one waits. So a peer holds up the others for at most 70 seconds, and an idle one for 0.1. A connection for which
-/// the clock can't be read or memory is refused is lost.
+/// where another one waits. So a peer holds up the others for at most 70 seconds, and an idle one for 0.1. A
+/// connection for which the clock can't be read or memory is refused is lost.
 #[derive(Drop)]
 pub struct TcpPeers<'c, L, C> {
     alloc: Global,

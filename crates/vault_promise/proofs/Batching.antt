@@ -261,7 +261,8 @@ module _ (who : Asker) (now : Option ℕ) (digits : Option (List ℕ)) (named : 
   batch_works tells (Ok outcome.Done) unread unsent quiet (calm, counts, none, end, (pairs, few, given, q)) =
       whole pairs given.each counts q
   batch_works tells (Ok (outcome.Refused n)) unread unsent quiet h = absurd h
-  batch_works tells (Ok outcome.SomeRefused) unread unsent quiet (calm, counts, some, end, (pairs, few, given, q)) =
+  batch_works tells (Ok outcome.SomeRefused) unread unsent quiet
+      (calm, counts, some, end, (pairs, few, given, q)) =
       whole pairs given.each counts q
   batch_works tells (Err (stop.Vault f)) unread unsent quiet h = absurd h
   batch_works tells (Err (stop.Service f)) unread unsent quiet h = absurd h
@@ -272,5 +273,6 @@ module _ (who : Asker) (now : Option ℕ) (digits : Option (List ℕ)) (named : 
       none [] nil (quiet_went [] nil (quiet silent)) (same V b).1
   batch_works tells (Err (stop.Batch f)) unread unsent quiet (inr (pairs, few, given, inl q)) =
       stopped pairs given.each f q
-  batch_works tells (Err (stop.Batch f)) unread unsent quiet (inr (pairs, few, given, inr (is, (counts, q)))) =
+  batch_works tells (Err (stop.Batch f)) unread unsent quiet
+      (inr (pairs, few, given, inr (is, (counts, q)))) =
       whole pairs given.each counts q

@@ -312,7 +312,8 @@ module _ {D : Type 0} {g : Ghosts D} (world : World) (image next : Image) where
           → (it : Comes V c r) × AreOf next (kept_by V c r it) (undecided_by V c r it)
       on_one V c W is sound held holds =
           work_on V c W is held w
-          (works world.tells t w W (may.0, (holds, sound)) sound s on.broken result unread unsent still quiet values
+          (works world.tells t w W (may.0, (holds, sound)) sound s on.broken result unread unsent still quiet
+          values
           (r.ending ≡ ending.Done) fin on.done)
           (λ A B leaves. leaves next may.1)
 
@@ -345,7 +346,8 @@ module _ {D : Type 0} {g : Ghosts D} (world : World) (image next : Image) where
         → EndsOnFile world path (Some left) t end unread unsent s → IsFrom image r next
     on_some unread unsent still quiet h = by_ending end refl h
       where
-        by_ending : (e : Ending) → end ≡ e → DoesOnFile world.tells (world.holds path) left t e unread unsent s → IsFrom image r next
+        by_ending : (e : Ending) → end ≡ e
+            → DoesOnFile world.tells (world.holds path) left t e unread unsent s → IsFrom image r next
         by_ending ending.Done is h = worked (Ok outcome.Done) unread unsent still quiet (λ _. refl) h
         by_ending ending.Version is h = absurd h
         by_ending (ending.Refused n) is h =
@@ -353,7 +355,8 @@ module _ {D : Type 0} {g : Ghosts D} (world : World) (image next : Image) where
         by_ending ending.SomeRefused is h =
             worked (Ok outcome.SomeRefused) unread unsent still quiet (λ d. absurd (cc (d, ends, is))) h
         by_ending ending.BadWords is h = absurd h
-        by_ending (ending.NotOpened why) is h = stays_run left may r (calm why is (quiet h.2)) (h.0.stays image at)
+        by_ending (ending.NotOpened why) is h = stays_run left may r (calm why is (quiet h.2))
+            (h.0.stays image at)
         by_ending (ending.Stopped stop) is h =
             worked (Err stop) unread unsent still quiet (λ d. absurd (cc (d, ends, is))) h
 
@@ -374,14 +377,17 @@ module _ {D : Type 0} {g : Ghosts D} (world : World) (image next : Image) where
   each None words job asked (plan.Check path) asks end s unread unsent still quiet values h at leaves =
       rests next (record { begins = image; words = words; ending = end; streams = s })
       (inr (inr (job, asked, asks))) leaves
-  each (Some left) words job asked (plan.Migrate path) asks end s unread unsent still quiet values h at leaves =
-      moved path.now at left h.1.0 h.1.1 leaves (record { begins = image; words = words; ending = end; streams = s })
+  each (Some left) words job asked (plan.Migrate path) asks end s unread unsent still quiet values
+      h at leaves =
+      moved path.now at left h.1.0 h.1.1 leaves
+      (record { begins = image; words = words; ending = end; streams = s })
       (inr (inr (job, asked, asks)))
   each None words job asked (plan.Migrate path) asks end s unread unsent still quiet values h at leaves =
       rests next (record { begins = image; words = words; ending = end; streams = s })
       (inr (inr (job, asked, asks))) leaves
   each (Some left) words job asked (plan.Do path t) asks end s unread unsent still quiet values h at leaves =
-      on_some path.now at left leaves t end s values (record { begins = image; words = words; ending = end; streams = s })
+      on_some path.now at left leaves t end s values
+      (record { begins = image; words = words; ending = end; streams = s })
       refl (job, asked, asks) (λ X cs told. told) (λ why is silent. inr (inl ((why, is), silent)))
       (λ X held. held) unread unsent still quiet h
   each None words job asked (plan.Do path t) asks end s unread unsent still quiet values h at leaves =

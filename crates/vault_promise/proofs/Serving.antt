@@ -203,7 +203,8 @@ module _ (tells : Turns) (w : Passage) (V : Content) (b : IsBefore w V) (s : Str
   serve_works (Err (stop.Vault f)) unsent h = absurd h
   serve_works (Err (stop.Service f)) unsent h = none_kept h.0 h.1
   serve_works (Err (stop.Listener f)) unsent (inl h) = none_kept h.2 h.3
-  serve_works (Err (stop.Listener listener.Store)) unsent (inr (says, (few, (first, x, are, on, failed, it)))) =
+  serve_works (Err (stop.Listener listener.Store)) unsent
+      (inr (says, (few, (first, x, are, on, failed, it)))) =
       one_undecided first x are it
   serve_works (Err (stop.Listener listener.Memory)) unsent (inr (says, (none, it))) =
       all_kept (subst (λ xs. AllKept tells xs w) (sym none) it)

@@ -158,18 +158,18 @@ abbrev pub IsFound : List Text → (List ℕ → Type 0) → Type 0
 IsFound words Holding = (job : Job) (path : List ℕ) → IsAsked program_app words job
     → file_of job ≡ Some path → Holding path
 
--- Whatever a run of the program does, by the clause `does` of `run`, in a world where the files at the path of
--- its words hold these bytes; and with whatever bytes the next one begins: it is a run up to these.
-module _ {D R W E K P : Type 0} (g : Ghosts D) (remaining : R → Known) (contents : W → Known) (said : E → Known)
-    (tells : K → Turns) (holds : P → List ℕ → Image → Type 0) (lacks refuses : P → List ℕ → Type 0)
-    (says : P → List ℕ → List ℕ → Type 0) where
+-- Whatever a run of the program does, by the clause `does` of `run`, in a world where the files at the path
+-- of its words hold these bytes; and with whatever bytes the next one begins: it is a run up to these.
+module _ {D R W E K P : Type 0} (g : Ghosts D) (remaining : R → Known) (contents : W → Known)
+    (said : E → Known) (tells : K → Turns) (holds : P → List ℕ → Image → Type 0)
+    (lacks refuses : P → List ℕ → Type 0) (says : P → List ℕ → List ℕ → Type 0) where
   abbrev pub EveryRunIsOne : Type 0
   EveryRunIsOne =
-      (image next : Image) (left : Option (FileStore D g)) (words : List Text) (status : ℕ) (time : K) (paths : P)
-      (links : List (Option Link)) (i i' : Watched R) (o told o' : Watched W) (e e' : Watched E)
+      (image next : Image) (left : Option (FileStore D g)) (words : List Text) (status : ℕ) (time : K)
+      (paths : P) (links : List (Option Link)) (i i' : Watched R) (o told o' : Watched W) (e e' : Watched E)
       → (it : RunsAs remaining contents said
-      (world_of (tells time) (holds paths) (lacks paths) (refuses paths) (says paths)) left words status links i i'
-      o told o' e e')
+      (world_of (tells time) (holds paths) (lacks paths) (refuses paths) (says paths)) left words status
+      links i i' o told o' e e')
       → IsFound words (λ path. holds paths path image) → Leaves image left next
       → (let s : Streams = with_links (streams remaining i i' contents o told) links in
       IsRun (record { begins = image; words = words; ending = it.ending; streams = s }) next)

@@ -94,8 +94,8 @@ AllAnswer V (Some x ∷ xs) cs = (first more : List Command) × (cs ≡ first ++
 
 -- Commands were answered from the vault V, one after the other, and what went out tells of these alone. A
 -- line of `done`, of rights or of numbers that are purged, or a part of it, says that all are done; lines of
--- rows and texts of messages, which were read, are those that answer them, or the first bytes of these; and so
--- are the texts of each connection of a service.
+-- rows and texts of messages, which were read, are those that answer them, or the first bytes of these; and
+-- so are the texts of each connection of a service.
 abbrev pub Tells : Task → Content → List Command → Streams → Type 0
 Tells (Change c) V cs s = IsQuiet s ⊎ (cs ≡ c ∷ []) × (reply V c ≡ Done)
 Tells (Give rights now) V cs s =

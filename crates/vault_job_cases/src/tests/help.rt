@@ -138,7 +138,8 @@ It listens on 127.0.0.1 alone. The line `listening P` on standard output says
 that it does, and P is its port. Connections are served one after the other.
 A message has to be whole 5 seconds after its connection was accepted, or after
 the answer before it; an answer has to be taken within 5 seconds. A connection
-lasts 60 seconds at most.
+lasts 60 seconds at most. One that is quiet between two messages ends where
+another waits.
 ";
 
 /// `vault help sweep`

@@ -21,8 +21,8 @@ returns-in-Err g c =
         [],
         none_then (g.N.Network.tells c.args.network.now),
         refused_file world c.args.path.now (c.args.input.now ≡ c.args.input.now)
-            (c.args.output.now ≡ c.args.output.now) s c.in-Err.left c.args.task.now c.in-Err.fault told.refused
-            told.refused_there told.never told.tells told.left told.same refl refl,
+            (c.args.output.now ≡ c.args.output.now) s c.in-Err.left c.args.task.now c.in-Err.fault
+            told.refused told.refused_there told.never told.tells told.left told.same refl refl,
       );
     }
 

@@ -62,4 +62,5 @@ returns-in-Do g c = rw c.in-Do.is c.do_on_file.ensures
 
 pub returns-in-Trial : goal.returns-in-Trial
 returns-in-Trial g c =
-    rw c.in-Trial.is (record { does = ([], none_then (g.N.Network.tells c.args.network.now), (refl, c.serve.ensures)) })
+    rw c.in-Trial.is
+    (record { does = ([], none_then (g.N.Network.tells c.args.network.now), (refl, c.serve.ensures)) })

@@ -17,16 +17,19 @@ returns-in-Ok-batch_input-clause-does g c =
     c.args.output.now c.batch_input.new.output g.T.Tables.is_honest g.T.Tables.holds g.T.Tables.leaves
     c.args.vault.now c.batch_input.new.vault in
     let fresh = c.in-Ok.ensures.fresh.gave in
-    let fixed = fixed_pairs g.K.Timekeeper.tells c.in-Ok.pairs c.batch_input.new.source c.args.time.now c.args.moment c.args.digits fresh
+    let fixed = fixed_pairs g.K.Timekeeper.tells c.in-Ok.pairs c.batch_input.new.source c.args.time.now
+    c.args.moment c.args.digits fresh
     c.in-Ok.ensures.fixed c.batch_input.ensures.later in
-    let few = few_pairs g.K.Timekeeper.tells c.in-Ok.pairs c.batch_input.new.source 100000 fresh c.in-Ok.ensures.fresh.left_is
+    let few = few_pairs g.K.Timekeeper.tells c.in-Ok.pairs c.batch_input.new.source 100000 fresh
+    c.in-Ok.ensures.fresh.left_is
     c.batch_input.ensures.later in
     let counts = c.in-Ok-batch_input.counts in (
       c.in-Ok-batch_input.ensures.handed_on,
       counts,
       search,
       c.in-Ok-batch_input.ensures.end,
-      along_of tells 100000 c.args.moment c.args.digits p s (λ q. IsBatched s.left_old q c.args.asker counts) fresh
+      along_of tells 100000 c.args.moment c.args.digits p s (λ q. IsBatched s.left_old q c.args.asker counts)
+          fresh
           few fixed c.in-Ok-batch_input.ensures.batched,
     )
 
@@ -39,16 +42,19 @@ returns-in-Ok-2-clause-does g c =
     c.args.output.now c.batch_input.new.output g.T.Tables.is_honest g.T.Tables.holds g.T.Tables.leaves
     c.args.vault.now c.batch_input.new.vault in
     let fresh = c.in-Ok.ensures.fresh.gave in
-    let fixed = fixed_pairs g.K.Timekeeper.tells c.in-Ok.pairs c.batch_input.new.source c.args.time.now c.args.moment c.args.digits fresh
+    let fixed = fixed_pairs g.K.Timekeeper.tells c.in-Ok.pairs c.batch_input.new.source c.args.time.now
+    c.args.moment c.args.digits fresh
     c.in-Ok.ensures.fixed c.batch_input.ensures.later in
-    let few = few_pairs g.K.Timekeeper.tells c.in-Ok.pairs c.batch_input.new.source 100000 fresh c.in-Ok.ensures.fresh.left_is
+    let few = few_pairs g.K.Timekeeper.tells c.in-Ok.pairs c.batch_input.new.source 100000 fresh
+    c.in-Ok.ensures.fresh.left_is
     c.batch_input.ensures.later in
     let counts = c.in-Ok-batch_input.counts in (
       c.in-Ok-batch_input.ensures.handed_on,
       counts,
       search,
       c.in-Ok-batch_input.ensures.end,
-      along_of tells 100000 c.args.moment c.args.digits p s (λ q. IsBatched s.left_old q c.args.asker counts) fresh
+      along_of tells 100000 c.args.moment c.args.digits p s (λ q. IsBatched s.left_old q c.args.asker counts)
+          fresh
           few fixed c.in-Ok-batch_input.ensures.batched,
     )
 
@@ -61,10 +67,13 @@ returns-clause-does g c =
     c.args.output.now c.batch_input.new.output g.T.Tables.is_honest g.T.Tables.holds g.T.Tables.leaves
     c.args.vault.now c.batch_input.new.vault in
     let fresh = c.in-Ok.ensures.fresh.gave in
-    let fixed = fixed_pairs g.K.Timekeeper.tells c.in-Ok.pairs c.batch_input.new.source c.args.time.now c.args.moment c.args.digits fresh
+    let fixed = fixed_pairs g.K.Timekeeper.tells c.in-Ok.pairs c.batch_input.new.source c.args.time.now
+    c.args.moment c.args.digits fresh
     c.in-Ok.ensures.fixed c.batch_input.ensures.later in
-    let few = few_pairs g.K.Timekeeper.tells c.in-Ok.pairs c.batch_input.new.source 100000 fresh c.in-Ok.ensures.fresh.left_is
+    let few = few_pairs g.K.Timekeeper.tells c.in-Ok.pairs c.batch_input.new.source 100000 fresh
+    c.in-Ok.ensures.fresh.left_is
     c.batch_input.ensures.later in
     let e = c.in-Err-batch_input.fault in
-    inr (along_of tells 100000 c.args.moment c.args.digits p s (λ q. StopsBatch s.left_old q c.args.asker e) fresh
+    inr (along_of tells 100000 c.args.moment c.args.digits p s (λ q. StopsBatch s.left_old q c.args.asker e)
+    fresh
     few fixed c.in-Err-batch_input.ensures.stopped)

@@ -16,9 +16,11 @@ returns-in-Ok-pipe-clause-does g c =
     c.args.output.now c.pipe.new.output g.T.Tables.is_honest g.T.Tables.holds g.T.Tables.leaves
     c.args.vault.now c.pipe.new.vault in
     let fresh = c.in-Ok.ensures.fresh.gave in
-    let fixed = fixed_pairs g.K.Timekeeper.tells c.in-Ok.pairs c.pipe.new.source c.args.time.now c.args.moment c.args.digits fresh
+    let fixed = fixed_pairs g.K.Timekeeper.tells c.in-Ok.pairs c.pipe.new.source c.args.time.now
+    c.args.moment c.args.digits fresh
     c.in-Ok.ensures.fixed c.pipe.ensures.later in
-    let few = few_pairs g.K.Timekeeper.tells c.in-Ok.pairs c.pipe.new.source 1000 fresh c.in-Ok.ensures.fresh.left_is
+    let few = few_pairs g.K.Timekeeper.tells c.in-Ok.pairs c.pipe.new.source 1000 fresh
+    c.in-Ok.ensures.fresh.left_is
     c.pipe.ensures.later in (
       c.in-Ok-pipe.ensures.handed_on,
       along_of tells 1000 c.args.moment c.args.digits p s
@@ -34,10 +36,13 @@ returns-clause-does g c =
     c.args.output.now c.pipe.new.output g.T.Tables.is_honest g.T.Tables.holds g.T.Tables.leaves
     c.args.vault.now c.pipe.new.vault in
     let fresh = c.in-Ok.ensures.fresh.gave in
-    let fixed = fixed_pairs g.K.Timekeeper.tells c.in-Ok.pairs c.pipe.new.source c.args.time.now c.args.moment c.args.digits fresh
+    let fixed = fixed_pairs g.K.Timekeeper.tells c.in-Ok.pairs c.pipe.new.source c.args.time.now
+    c.args.moment c.args.digits fresh
     c.in-Ok.ensures.fixed c.pipe.ensures.later in
-    let few = few_pairs g.K.Timekeeper.tells c.in-Ok.pairs c.pipe.new.source 1000 fresh c.in-Ok.ensures.fresh.left_is
+    let few = few_pairs g.K.Timekeeper.tells c.in-Ok.pairs c.pipe.new.source 1000 fresh
+    c.in-Ok.ensures.fresh.left_is
     c.pipe.ensures.later in
     let e = c.in-Err-pipe.fault in
-    inr (along_of tells 1000 c.args.moment c.args.digits p s (λ q. StopsPiping s.left_old s.left_new q e) fresh few
+    inr (along_of tells 1000 c.args.moment c.args.digits p s (λ q. StopsPiping s.left_old s.left_new q e)
+    fresh few
     fixed c.in-Err-pipe.ensures.stopped)

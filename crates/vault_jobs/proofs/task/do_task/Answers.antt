@@ -18,7 +18,8 @@ returns-in-Change-clause-does g c =
       [],
       none_then (g.N.Network.tells c.args.network.now),
       change_done tells w (is_broken c.do_change.new.vault) c.do_change.result
-          (c.args.input.now ≡ c.args.input.now) (c.do_change.new.output ≡ c.args.output.now) s c.in-Change.command refl refl
+          (c.args.input.now ≡ c.args.input.now) (c.do_change.new.output ≡ c.args.output.now) s
+          c.in-Change.command refl refl
           c.do_change.ensures.breaks c.do_change.ensures.does,
     )
 
@@ -33,7 +34,8 @@ returns-in-Give-clause-does g c =
       [],
       none_then (g.N.Network.tells c.args.network.now),
       give_done tells w (is_broken c.do_give.new.vault) c.do_give.result
-          (c.args.input.now ≡ c.args.input.now) (c.do_give.new.output ≡ c.args.output.now) s c.in-Give.rights c.in-Give.now
+          (c.args.input.now ≡ c.args.input.now) (c.do_give.new.output ≡ c.args.output.now) s c.in-Give.rights
+          c.in-Give.now
           c.in-Give.now c.deref.result.now c.deref.ensures.value refl refl refl
           c.do_give.ensures.breaks (rw c.in-Give.is at c.do_give.ensures.does),
     )
@@ -49,7 +51,8 @@ returns-in-Sweep-clause-does g c =
       [],
       none_then (g.N.Network.tells c.args.network.now),
       sweep_done tells w (is_broken c.do_sweep.new.vault) c.do_sweep.result
-          (c.args.input.now ≡ c.args.input.now) (c.do_sweep.new.output ≡ c.args.output.now) s c.in-Sweep.asker c.in-Sweep.now refl refl
+          (c.args.input.now ≡ c.args.input.now) (c.do_sweep.new.output ≡ c.args.output.now) s
+          c.in-Sweep.asker c.in-Sweep.now refl refl
           c.do_sweep.ensures.breaks c.do_sweep.ensures.swept,
     )
 
@@ -90,6 +93,7 @@ returns-in-Serve-clause-does g c =
       c.serve_at.ensures.does.0,
       c.serve_at.ensures.does.1,
       serve_done tells w (is_broken c.serve_at.new.vault) c.serve_at.result
-          (c.args.input.now ≡ c.args.input.now) (c.serve_at.new.output ≡ c.args.output.now) (with_links s c.serve_at.ensures.does.0)
+          (c.args.input.now ≡ c.args.input.now) (c.serve_at.new.output ≡ c.args.output.now)
+          (with_links s c.serve_at.ensures.does.0)
           c.in-Serve.port c.in-Serve.connections refl c.serve_at.ensures.breaks c.serve_at.ensures.does.2,
     )

@@ -36,10 +36,13 @@ returns-clause-served g c =
     c.args.output.now c.pipe.new.output (λ t. Unit {0}) IsHeld (λ t V W. IsHeld t V ⊎ IsHeld t W)
     c.in_ok-vault.vault c.pipe.new.vault in
     let none = c.in_ok-pairs.ensures.fresh.gave in
-    let all = fixed_pairs g.K.Timekeeper.tells c.in_ok-pairs.pairs c.pipe.new.source c.args.time.now trial.moment trial.digits none
+    let all = fixed_pairs g.K.Timekeeper.tells c.in_ok-pairs.pairs c.pipe.new.source c.args.time.now
+    trial.moment trial.digits none
     c.in_ok-pairs.ensures.fixed c.pipe.ensures.later in
-    on_ok_then c.pipe.result (IsPiped left rest w) (IsTrial (g.K.Timekeeper.tells c.args.time.now) left rest old new V trial.moment trial.digits)
-    (λ p. trial_of (g.K.Timekeeper.tells c.args.time.now) w V trial.moment trial.digits (tt, c.in_ok-vault.ensures.holds) none all left rest p.0 p.1)
+    on_ok_then c.pipe.result (IsPiped left rest w) (IsTrial (g.K.Timekeeper.tells c.args.time.now) left rest
+    old new V trial.moment trial.digits)
+    (λ p. trial_of (g.K.Timekeeper.tells c.args.time.now) w V trial.moment trial.digits
+    (tt, c.in_ok-vault.ensures.holds) none all left rest p.0 p.1)
     c.pipe.ensures.served
 
 pub returns-clause-cut : goal.returns-clause-cut
@@ -54,8 +57,11 @@ returns-clause-cut g c =
     c.args.output.now c.pipe.new.output (λ t. Unit {0}) IsHeld (λ t V W. IsHeld t V ⊎ IsHeld t W)
     c.in_ok-vault.vault c.pipe.new.vault in
     let none = c.in_ok-pairs.ensures.fresh.gave in
-    let all = fixed_pairs g.K.Timekeeper.tells c.in_ok-pairs.pairs c.pipe.new.source c.args.time.now trial.moment trial.digits none
+    let all = fixed_pairs g.K.Timekeeper.tells c.in_ok-pairs.pairs c.pipe.new.source c.args.time.now
+    trial.moment trial.digits none
     c.in_ok-pairs.ensures.fixed c.pipe.ensures.later in
-    if_err_then c.pipe.result (StopsPiping left rest w) (IsCut (g.K.Timekeeper.tells c.args.time.now) left rest old new V trial.moment trial.digits)
-    (cut_piping (g.K.Timekeeper.tells c.args.time.now) w V trial.moment trial.digits (tt, c.in_ok-vault.ensures.holds) none all
+    if_err_then c.pipe.result (StopsPiping left rest w) (IsCut (g.K.Timekeeper.tells c.args.time.now) left
+    rest old new V trial.moment trial.digits)
+    (cut_piping (g.K.Timekeeper.tells c.args.time.now) w V trial.moment trial.digits
+    (tt, c.in_ok-vault.ensures.holds) none all
     left rest) c.pipe.ensures.stopped

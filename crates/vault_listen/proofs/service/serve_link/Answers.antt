@@ -18,7 +18,8 @@ returns-then-store_failed-clause-served g c =
       ended = e.result;
     } in (
       x,
-      link_of (g.K.Timekeeper.tells c.args.time.now) g.T.Tables.is_honest g.T.Tables.holds g.T.Tables.leaves x c.args.vault.now e.new.vault
+      link_of (g.K.Timekeeper.tells c.args.time.now) g.T.Tables.is_honest g.T.Tables.holds g.T.Tables.leaves
+          x c.args.vault.now e.new.vault
           c.new-reader.result.stopped c.new-writer.result.stopped e.ensures.told.0 e.ensures.answered.0
           e.ensures.answered.1 e.ensures.answered.2 e.ensures.answered.3 c.new-reader.ensures.fresh
           c.new-writer.ensures.fresh e.ensures.told.1 e.ensures.honest,
@@ -45,7 +46,8 @@ returns-clause-served g c =
       ended = e.result;
     } in (
       x,
-      link_of (g.K.Timekeeper.tells c.args.time.now) g.T.Tables.is_honest g.T.Tables.holds g.T.Tables.leaves x c.args.vault.now e.new.vault
+      link_of (g.K.Timekeeper.tells c.args.time.now) g.T.Tables.is_honest g.T.Tables.holds g.T.Tables.leaves
+          x c.args.vault.now e.new.vault
           c.new-reader.result.stopped c.new-writer.result.stopped e.ensures.told.0 e.ensures.answered.0
           e.ensures.answered.1 e.ensures.answered.2 e.ensures.answered.3 c.new-reader.ensures.fresh
           c.new-writer.ensures.fresh e.ensures.told.1 e.ensures.honest,

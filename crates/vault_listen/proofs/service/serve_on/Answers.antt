@@ -59,9 +59,11 @@ loop-preserved g c =
                 inv.told
                 (closed_then remaining contents (tells c.loop.peers) (tells c.accept.new.self) (tells p2)
                 c.in_ok-link.field-0 w.in-Some.link x w.in-Some.is c.in_ok-link.ensures.comes it.2));
-            served = subst (λ v. AreLinks (g.K.Timekeeper.tells c.args.time.now) honest holds leaves (inv.links ++ Some x ∷ []) v0 v)
+            served = subst (λ v. AreLinks (g.K.Timekeeper.tells c.args.time.now) honest holds leaves
+                (inv.links ++ Some x ∷ []) v0 v)
                 (sym w.vault-is)
-                (links_then (g.K.Timekeeper.tells c.args.time.now) honest holds leaves inv.links (Some x ∷ []) v0 v1 v2 inv.served (v2, it.1, refl));
+                (links_then (g.K.Timekeeper.tells c.args.time.now) honest holds leaves inv.links
+                (Some x ∷ []) v0 v1 v2 inv.served (v2, it.1, refl));
             on = All-append GoesOn inv.links (Some x ∷ []) inv.on
                 (All-cons GoesOn (Some x) [] it.3 (All-nil GoesOn));
             whole = ap is_broken w.vault-is ∙ w.in_ok-serve_link.ensures.store ∙ inv.whole;
@@ -77,8 +79,10 @@ loop-preserved g c =
             inv.told
             (lost_then remaining contents (tells c.loop.peers) (tells c.accept.new.self)
             c.in_ok-link.field-0 w.in_default-2.is c.in_ok-link.ensures.comes));
-        served = subst (λ v. AreLinks (g.K.Timekeeper.tells c.args.time.now) honest holds leaves (inv.links ++ None ∷ []) v0 v) (sym w.vault-is)
-            (links_then (g.K.Timekeeper.tells c.args.time.now) honest holds leaves inv.links (None ∷ []) v0 v1 v1 inv.served refl);
+        served = subst (λ v. AreLinks (g.K.Timekeeper.tells c.args.time.now) honest holds leaves
+            (inv.links ++ None ∷ []) v0 v) (sym w.vault-is)
+            (links_then (g.K.Timekeeper.tells c.args.time.now) honest holds leaves inv.links
+            (None ∷ []) v0 v1 v1 inv.served refl);
         on = All-append GoesOn inv.links lost inv.on (All-cons GoesOn None [] tt (All-nil GoesOn));
         whole = ap is_broken w.vault-is ∙ inv.whole;
         honest = λ h. inv.honest (subst (λ v. honest (tables_of v)) w.vault-is h);
@@ -111,7 +115,8 @@ returns-in_err-serve_link-clause-served g c =
           (omega (arith, count, c.loop-test.true)) inv.on it.3
           (undecided_after tells_at honest holds leaves g.met.T.Tables.settled inv.links x v0 v1 v2 inv.served
           inv.on it.1 it.3),
-      links_then (g.K.Timekeeper.tells c.args.time.now) honest holds leaves inv.links (Some x ∷ []) v0 v1 v2 inv.served (v2, it.1, refl),
+      links_then (g.K.Timekeeper.tells c.args.time.now) honest holds leaves inv.links
+          (Some x ∷ []) v0 v1 v2 inv.served (v2, it.1, refl),
       told_then (tells c.args.peers.now) (tells c.loop.peers) (tells p2) inv.links (Some x) inv.told
           (closed_then g.P.Reader.Read.remaining g.P.Writer.Write.contents (tells c.loop.peers)
           (tells c.accept.new.self) (tells p2) c.in_ok-link.field-0 c.in-Some.link x c.in-Some.is

@@ -9,4 +9,5 @@ returns-in-Err-clause-task g c = inl (c.in-Err.ensures.fault, c.in-Err.ensures.n
 pub returns-in-Ok-clause-proper : goal.returns-in-Ok-clause-proper
 returns-in-Ok-clause-proper g c =
     let moment : IsMoment c.in-Ok.now = search (rules, c.moment.type_inv, c.in-Ok.is) in
-    listed_proper (g.P.Paths.says c.args.paths.now c.args.job.now.rights.now) c.in-Ok.now moment c.in_ok-rows.rows.items c.in_ok-rows.ensures.listed
+    listed_proper (g.P.Paths.says c.args.paths.now c.args.job.now.rights.now) c.in-Ok.now moment
+    c.in_ok-rows.rows.items c.in_ok-rows.ensures.listed
