@@ -83,9 +83,9 @@ fn is_told(alloc: Global, peer: TcpStream, wanted: &str) -> bool {
 }
 
 /// Serves so many connections at a moment, where a message or an answer may take 200 milliseconds.
-fn serve_at<L: OpenListener<Stream = TcpStream> + AsRawFd, T: Tables>(
+fn serve_at<L: OpenListener<Stream = TcpStream> + AsRawFd + Drop, T: Tables>(
     alloc: Global,
-    listener: &L,
+    listener: L,
     connections: u64,
     moment: u64,
     vault: &mut Vault<T>,
@@ -96,7 +96,7 @@ fn serve_at<L: OpenListener<Stream = TcpStream> + AsRawFd, T: Tables>(
         connection: Duration::from_secs(60),
     };
     let clock = StandingClock::at(moment);
-    let mut peers = TcpPeers::new(alloc, Lent::new(listener), &clock, limits);
+    let mut peers = TcpPeers::new(alloc, listener, &clock, limits);
     serve_on(
         alloc,
         &ClockTime::new(&clock),
@@ -110,7 +110,7 @@ fn serve_at<L: OpenListener<Stream = TcpStream> + AsRawFd, T: Tables>(
 /// Whether so many connections of the shop are served to their end at the moment 1000.
 fn is_served(alloc: Global, listener: &TcpListener, connections: u64) -> bool {
     let mut vault = shop(alloc);
-    serve_at(alloc, listener, connections, 1000, &mut vault) == Ok(())
+    serve_at(alloc, Lent::new(listener), connections, 1000, &mut vault) == Ok(())
 }
 
 /// Whether the service, with its own patience, answers the worked message byte for byte.
@@ -177,7 +177,7 @@ fn draw_their_own<H: Net<Listener = TcpListener, Stream = TcpStream> + AllocGlob
     let first = peer(rt, &listener, first.as_bytes())?;
     let second = peer(rt, &listener, second.as_bytes())?;
     let mut vault = shop(rt.alloc());
-    let ended = serve_at(rt.alloc(), &listener, 2, 2000, &mut vault);
+    let ended = serve_at(rt.alloc(), Lent::new(&listener), 2, 2000, &mut vault);
     let first = read_to_string(rt.alloc(), first)?;
     let second = read_to_string(rt.alloc(), second)?;
     Ok(ended == Ok(()) && are_two_tokens(first.as_str(), second.as_str()))
