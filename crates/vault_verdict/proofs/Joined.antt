@@ -21,6 +21,7 @@ use Rattle.vault_verdict.specs.Raw.{record_values}
 use Rattle.vault_verdict.specs.Reading.{AreEntriesIn, AreTable, AreTaken, IsAny}
 use Rattle.vault_verdict.specs.Taken.{EntriesTaken, RecordsTaken}
 use Rattle.vault_verdict.specs.declared.fault.ReadFault.{ReadFault}
+use Rattle.vault_verdict.specs.declared.fault.ReadFault.TheVariants.{Memory, Store}
 use Rattle.vault_verdict.specs.declared.replaced.OldEntry.{OldEntry}
 use Rattle.vault_verdict.proofs.InVersion.{behind, indexes_behind, schema_is}
 
@@ -33,10 +34,11 @@ pub none_if : {R E : Type 0} (r : Result R E) (P : R → Type 0) → IsErr r →
 none_if (Err e) P failed = tt
 none_if (Ok x) P failed = absurd (true≢false (sym failed))
 
--- where a failure says nothing
-pub none_said : {R E : Type 0} (P : E → Type 0) (r : Result R E) → IfErr r (λ e. P e → Unit {0})
-none_said P (Err e) = λ p. tt
-none_said P (Ok x) = tt
+-- where only memory fails, the database doesn't
+pub never_store : {R : Type 0} (P : Type 0) (r : Result R ReadFault) → IfErr r (λ e. e ≡ Memory)
+    → IfErr r (λ e. e ≡ Store → P)
+never_store P (Err e) memory = λ store. absurd (let clash = sym memory ∙ store in cc)
+never_store P (Ok x) memory = tt
 
 -- a reading that failed is answered by another failure
 pub failed_as : {R E R' E' : Type 0} {s : Schema} {first : Result R E} {second : Result R' E'} {a b : State}

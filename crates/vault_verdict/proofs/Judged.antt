@@ -1,12 +1,14 @@
 -- What the verdict over rows comes to.
 use Rattle.std.proofs.Common.{arith, drop, length, ◌<◌, ◌≡◌, ℕ, ℤ, pos, List, [], ◌∷◌, ◌&&◌, not, true}
 use Rattle.std.proofs.Common.{false, cond, Some, None, option_map, Ok, Err, Result, IfErr, inl}
-use Rattle.std.proofs.Common.{inr, refl, sym, ap, subst, ◌∙◌, true≢false}
-use Rattle.std.specs.Ordering.{int_eq}
+use Rattle.std.proofs.Common.{inr, map, refl, sym, ap, subst, ◌∙◌, true≢false}
+use Rattle.std.specs.List.Sorted.{IsSortedByKey}
+use Rattle.std.specs.Ordering.{int_cmp, int_eq}
+use Rattle.std.specs.Prelude.{◌<ℤ◌}
 use Rattle.sqlite.specs.Effect.{Database, IsDatabase}
 use Rattle.sqlite.specs.Order.{Row}
 use Rattle.sqlite.specs.State.{State, IsUnchanged}
-use Rattle.sqlite.specs.Tree.{Trees}
+use Rattle.sqlite.specs.Tree.{IsAscending, Trees}
 use Rattle.sql_maps.specs.Rows.{IsApart}
 use Rattle.vault_verdict.proofs.InVersion.{has_version_in}
 use Rattle.vault_verdict.proofs.KeysIn.{apart_keys}
@@ -14,10 +16,14 @@ use Rattle.vault_verdict.proofs.StandsShow.{keys_of, stands_shows, version_row}
 use Rattle.vault_verdict.proofs.TheyStand.{they_stand}
 use Rattle.vault_verdict.proofs.Opening.{apart}
 use Rattle.vault_verdict.proofs.Permuted.{apart_permuted}
-use Rattle.vault_verdict.specs.Apart.{AreApart, AreByRowid}
+use Rattle.vault_verdict.proofs.Climbing.{kept_shown_climb, own_rowid, shown_climb}
+use Rattle.vault_verdict.proofs.Rising.{climbs_apart, climbs_sorted, rows_climb}
+use Rattle.vault_verdict.specs.Apart.{AreApart, AreByRowid, AreEntriesApart, AreTablesApart}
+use Rattle.vault_verdict.specs.Made.{as_card, as_entry}
 use Rattle.vault_verdict.specs.Opened.{AreRaws, AreVersions, IsBrokenIn, IsFit, IsLeastBroken, IsNoRefusal}
 use Rattle.vault_verdict.specs.Opened.{AreOldersIn, IsOtherVersion, IsSoundIn, IsVersionIn, StandsSoundIn}
-use Rattle.vault_verdict.specs.Raw.{count_values, merchant_values, record_values, right_values}
+use Rattle.vault_verdict.specs.Raw.{card_row, card_values, count_values, entry_values, merchant_values}
+use Rattle.vault_verdict.specs.Raw.{old_entry_values, record_values, right_values}
 use Rattle.vault_verdict.specs.ReadAs.{AreEntries, AreFull, AreLonger, IsFullIn, merchants_in, replaced_in}
 use Rattle.vault_verdict.specs.ReadAs.{rights_in}
 use Rattle.vault_verdict.specs.Judging.{AreOnward}
@@ -49,6 +55,8 @@ use Rattle.vault_rules.proofs.RowsShow.{rows_show}
 use Rattle.vault_rules.proofs.VaultSound.{vault_is_sound}
 use Rattle.vault_rules.specs.Rules.{keeps}
 use Rattle.vault_rules.specs.VaultOf.{vault_of}
+use Rattle.vault_rules.specs.declared.rows.RawCard.{RawCard}
+use Rattle.vault_rules.specs.declared.rows.RawEntry.{RawEntry}
 use Rattle.vault_rules.specs.declared.rows.RawVersion.{RawVersion}
 use Rattle.vault_rules.specs.AllRows.{Rows}
 
@@ -169,30 +177,95 @@ olders_in Two db olders rows read = tt
 olders_in Three db olders rows read = tt
 olders_in Four db olders rows read = tt
 
--- so in the newest version they are in the order of the rowids
-pub by_rowid : (db : Database) (olders : List OldEntry) (rows : Rows) → AreRead newest db olders rows
-    → AreByRowid rows
-by_rowid db olders rows read = record {
-  merchants = read.all.merchants.ordered;
-  counts = read.all.counts.ordered;
-  cards = read.all.cards.ordered;
-  entries = read.all.entries.ordered;
-  records = read.all.records.ordered;
-  rights = read.all.rights.ordered;
+-- ---- rows of tables in which no rowid comes twice
+
+-- the entries of schema 1 climb by their rowids, and so does what is made of them
+module _ (db : Database) (olders : List OldEntry) (rows : Rows) (read : AreRead One db olders rows)
+    (apart : IsApart (db.trees 5)) where
+  olders_climb : IsAscending (λ a b. a.rowid <ℤ b.rowid) olders
+  olders_climb =
+      rows_climb (λ (o : OldEntry). o.rowid) old_entry_values (λ o. refl) olders read.all.cards.read.ordered
+      (apart_permuted _ _ read.raws.entries.stand apart)
+
+  entries_climb : IsAscending (λ a b. a.rowid <ℤ b.rowid) rows.entries
+  entries_climb = shown_climb as_entry entry_values olders rows.entries read.raws.entries.entries olders_climb
+
+  cards_climb : IsAscending (λ a b. a.id <ℤ b.id) rows.cards
+  cards_climb =
+      kept_shown_climb as_card (λ (o : OldEntry). o.rowid) own_rowid card_values olders rows.cards
+      read.raws.entries.cards olders_climb
+
+-- what was read of cards and entries is in the order of the rowids
+record AreInOrder (rows : Rows) : Type 0 where
+  cards : IsSortedByKey (λ c. c.id) int_cmp rows.cards
+  entries : IsSortedByKey (λ e. e.rowid) int_cmp rows.entries
+
+in_order : (v : Version) (db : Database) (olders : List OldEntry) (rows : Rows) → AreRead v db olders rows
+    → AreEntriesApart v db.trees → AreInOrder rows
+in_order One db olders rows read apart = record {
+  cards = climbs_sorted (λ (c : RawCard). c.id) rows.cards (cards_climb db olders rows read apart);
+  entries = climbs_sorted (λ (e : RawEntry). e.rowid) rows.entries (entries_climb db olders rows read apart);
+}
+in_order Two db olders rows read apart =
+    record { cards = read.all.cards.ordered; entries = read.all.entries.ordered }
+in_order Three db olders rows read apart =
+    record { cards = read.all.cards.ordered; entries = read.all.entries.ordered }
+in_order Four db olders rows read apart =
+    record { cards = read.all.cards.ordered; entries = read.all.entries.ordered }
+
+-- and no rowid comes twice in it
+record AreKept (rows : Rows) : Type 0 where
+  cards : IsApart (map card_row rows.cards)
+  entries : IsApart (map entry_values rows.entries)
+
+kept : (v : Version) (db : Database) (olders : List OldEntry) (rows : Rows) → AreRead v db olders rows
+    → AreEntriesApart v db.trees → AreKept rows
+kept One db olders rows read apart = record {
+  cards = climbs_apart (λ (c : RawCard). c.id) card_row (λ c. refl) rows.cards
+      (cards_climb db olders rows read apart);
+  entries = climbs_apart (λ (e : RawEntry). e.rowid) entry_values (λ e. refl) rows.entries
+      (entries_climb db olders rows read apart);
+}
+kept Two db olders rows read apart = record {
+  cards = apart_permuted _ _ read.raws.entries.cards apart.0;
+  entries = apart_permuted _ _ read.raws.entries.entries apart.1;
+}
+kept Three db olders rows read apart = record {
+  cards = apart_permuted _ _ read.raws.entries.cards apart.0;
+  entries = apart_permuted _ _ read.raws.entries.entries apart.1;
+}
+kept Four db olders rows read apart = record {
+  cards = apart_permuted _ _ read.raws.entries.cards apart.0;
+  entries = apart_permuted _ _ read.raws.entries.entries apart.1;
 }
 
--- where no rowid comes twice in the tables, none does in the rows
-pub apart_of : (db : Trees) (olders : List OldEntry) (rows : Rows) → AreRaws newest db olders rows
-    → IsApart (db 17) × IsApart (db 3) × IsApart (db 12) × IsApart (db 14) × IsApart (db 8) × IsApart (db 19)
-    → AreApart rows
-apart_of db olders rows raws apart = record {
-  merchants = apart_permuted _ _ raws.merchants apart.0;
-  counts = apart_permuted _ _ raws.counts apart.1;
-  cards = apart_permuted _ _ raws.entries.cards apart.2;
-  entries = apart_permuted _ _ raws.entries.entries apart.3;
-  records = apart_permuted _ _ raws.records apart.4;
-  rights = apart_permuted _ _ raws.rights apart.5;
-}
+module _ (v : Version) (db : Database) (olders : List OldEntry) (rows : Rows) (read : AreRead v db olders rows)
+    (apart : AreTablesApart v db.trees) where
+  -- all rows are in the order of the rowids
+  pub by_rowid : AreByRowid rows
+  by_rowid =
+      let it = in_order v db olders rows read apart.entries in
+      record {
+        merchants = read.all.merchants.ordered;
+        counts = read.all.counts.ordered;
+        cards = it.cards;
+        entries = it.entries;
+        records = read.all.records.ordered;
+        rights = read.all.rights.ordered;
+      }
+
+  -- and no rowid comes twice in them
+  pub apart_of : AreApart rows
+  apart_of =
+      let it = kept v db olders rows read apart.entries in
+      record {
+        merchants = apart_permuted _ _ read.raws.merchants apart.merchants;
+        counts = apart_permuted _ _ read.raws.counts apart.counts;
+        cards = it.cards;
+        entries = it.entries;
+        records = apart_permuted _ _ read.raws.records apart.records;
+        rights = apart_permuted _ _ read.raws.rights apart.rights;
+      }
 
 -- ---- a database that stands for a sound vault
 

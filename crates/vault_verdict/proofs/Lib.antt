@@ -1,6 +1,7 @@
 pub mod AllApart
 pub mod Backs
 pub mod CardRows
+pub mod Climbing
 pub mod FromStands
 pub mod Holders
 pub mod InTree

@@ -4,6 +4,7 @@ use Rattle.std.proofs.Common.{zero, suc, ◌∙◌}
 use Rattle.std.proofs.Common.{◌&&◌, arith, Bool, true, false, Less, Equal, Greater, refl}
 use Rattle.std.specs.FinMap.{int_cmp-IsAntisymmetric}
 use Rattle.std.specs.List.{IsAllAdjacentAnswer}
+use Rattle.std.specs.List.Sorted.{IsSortedByKey}
 use Rattle.std.specs.Ordering.{int_cmp, is_lt}
 use Rattle.std.specs.Prelude.{◌<ℤ◌, ◌≢◌, int_lt}
 use Rattle.std.proofs.lemmas.Cmp.{int_cmp_total, int_ranked, tied_itself}
@@ -68,7 +69,7 @@ module _ {R : Type 0} (id : R → ℤ) where
       )
 
   module _ (values : R → Row) (is : (m : R) → rowid (values m) ≡ Int (id m)) where
-    climbs_apart : (raws : List R) → IsAscending (λ a b. id a <ℤ id b) raws → IsApart (map values raws)
+    pub climbs_apart : (raws : List R) → IsAscending (λ a b. id a <ℤ id b) raws → IsApart (map values raws)
     climbs_apart [] up = tt
     climbs_apart (m ∷ raws) up = (
       all_from _ (map values raws) (λ r h e. let it = has_mapped values raws r h in
@@ -132,3 +133,24 @@ pub rising_apart : {R : Type 0} (id : R → ℤ) (values : R → Row) → ((m : 
 rising_apart id values is raws b same =
     subst (TellsApart values id raws) (sym same)
     (tells_apart id values is raws (are_rising (map id raws)) (rising_answer id raws))
+
+not_less : (a b : ℤ) → a <ℤ b → is_lt (int_cmp b a) ≡ false
+not_less a b low = elim (int_cmp b a) as (λ o. o ≡ int_cmp b a → is_lt o ≡ false) [
+  | Less ↦ λ e. let high : b <ℤ a = int_ranked b a Less e in absurd (omega (arith, ints, low, high))
+  | Equal ↦ λ e. refl
+  | Greater ↦ λ e. refl
+] refl
+
+-- rows that climb are in order
+pub climbs_sorted : {R : Type 0} (id : R → ℤ) (raws : List R) → IsAscending (λ a b. id a <ℤ id b) raws
+    → IsSortedByKey id int_cmp raws
+climbs_sorted id raws up k d least low =
+    not_less _ _ (ascends_at (λ a b. id a <ℤ id b) raws up k d low)
+
+-- and rows in order that are apart climb
+pub rows_climb : {R : Type 0} (id : R → ℤ) (values : R → Row) → ((m : R) → rowid (values m) ≡ Int (id m))
+    → (raws : List R) → IsSortedByKey id int_cmp raws → IsApart (map values raws)
+    → IsAscending (λ a b. id a <ℤ id b) raws
+rows_climb id values is raws sorted apart =
+    let told : are_rising (map id raws) ≡ true = (rising_apart id values is raws _ refl).only sorted apart in
+    climbs id raws (subst (IsRisingAnswer id raws) told (rising_answer id raws))

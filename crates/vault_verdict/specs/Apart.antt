@@ -6,8 +6,11 @@ use Rattle.sqlite.specs.Order.{Row}
 use Rattle.sqlite.specs.Tree.{Trees}
 use Rattle.vault_verdict.specs.Raw.{merchant_values, count_values, card_row, entry_values, record_values}
 use Rattle.vault_verdict.specs.Raw.{right_values}
+use Rattle.vault_verdict.specs.ReadAs.{merchants_in, rights_in}
 use Rattle.vault_rules.specs.AllRows.{Rows}
 use Rattle.sql_maps.specs.Rows.{IsApart}
+use Rattle.vault_schema.specs.declared.version.Version.{Version}
+use Rattle.vault_schema.specs.declared.version.Version.TheVariants.{One, Two, Three, Four}
 
 -- That no rowid comes twice is told: with true it is so, and of rows in the order of their rowids only with
 -- true.
@@ -25,11 +28,24 @@ pub record AreApart (rows : Rows) : Type 0 where
   pub records : IsApart (map record_values rows.records)
   pub rights : IsApart (map right_values rows.rights)
 
--- in some table of the newest schema a rowid comes twice
-abbrev pub SharesRowid : Trees → Type 0
-SharesRowid db =
-    ¬ (IsApart (db 17) × IsApart (db 3) × IsApart (db 12) × IsApart (db 14) × IsApart (db 8)
-    × IsApart (db 19))
+-- in no table of cards and entries of a version a rowid comes twice
+abbrev pub AreEntriesApart : Version → Trees → Type 0
+AreEntriesApart One db = IsApart (db 5)
+AreEntriesApart Two db = IsApart (db 12) × IsApart (db 14)
+AreEntriesApart Three db = IsApart (db 12) × IsApart (db 14)
+AreEntriesApart Four db = IsApart (db 12) × IsApart (db 14)
+
+-- in no table of a version beside `vault` a rowid comes twice
+pub record AreTablesApart (v : Version) (db : Trees) : Type 0 where
+  pub merchants : IsApart (merchants_in v db)
+  pub counts : IsApart (db 3)
+  pub entries : AreEntriesApart v db
+  pub records : IsApart (db 8)
+  pub rights : IsApart (rights_in v db)
+
+-- in some table of a version a rowid comes twice
+abbrev pub SharesRowid : Version → Trees → Type 0
+SharesRowid v db = ¬ AreTablesApart v db
 
 -- the rows of each table ascend by their rowids
 pub record AreByRowid (rows : Rows) : Type 0 where

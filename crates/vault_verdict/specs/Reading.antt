@@ -235,7 +235,7 @@ module _ {S : Type 0} (g : Ghosts S) where
 
   -- why the entries of a version, or their cards, aren't
   abbrev pub IsUnreadEntries : Version → Database → Held S → Type 0
-  IsUnreadEntries One db new = Unit {0}
+  IsUnreadEntries One db new = IsUnread g v1.READ_ENTRIES.now old_entry_values db new
   IsUnreadEntries Two db new = IsUnreadCards db new
   IsUnreadEntries Three db new = IsUnreadCards db new
   IsUnreadEntries Four db new = IsUnreadCards db new
@@ -277,11 +277,15 @@ module _ {S : Type 0} (g : Ghosts S) where
       ⊎ (IsUnread g (rights_text v) right_values db new
       ⊎ IsUnreadReplaced db new))))
 
--- why 33 is told of a database in the newest schema: a table isn't read, or in one a rowid comes twice
-abbrev pub IsUnreadFile : {S : Type 0} → Ghosts S → Database → Held S → Type 0
-IsUnreadFile g db new =
+-- why 33 is told of a database in a version: a table isn't read, or in one a rowid comes twice
+abbrev pub IsUnreadIn : {S : Type 0} → Ghosts S → Version → Database → Held S → Type 0
+IsUnreadIn g v db new =
     IsUnread g v1.READ_VERSIONS.now version_values db new
-    ⊎ (IsUnreadOne g newest db new ⊎ SharesRowid db.trees)
+    ⊎ (IsUnreadOne g v db new ⊎ SharesRowid v db.trees)
+
+-- so in the newest version
+abbrev pub IsUnreadFile : {S : Type 0} → Ghosts S → Database → Held S → Type 0
+IsUnreadFile g db new = IsUnreadIn g newest db new
 
 -- Whether or not it failed, a call made no doubt of the disk go away, no transaction and no limit; and where
 -- this is so, a crash leaves nothing that it did not leave before.

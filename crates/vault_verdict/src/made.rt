@@ -1,5 +1,5 @@
 //! Old entries as rows of schema 2, in which each number is a card of its own.
-ghost use Rattle.std.specs.Prelude.{◌≡◌, IfOk, List, map, option_map};
+ghost use Rattle.std.specs.Prelude.{◌≡◌, IfErr, IfOk, List, map, option_map};
 ghost use Rattle.std.specs.List.{filter_map};
 ghost use Rattle.vault_verdict.specs.Made.{as_card, as_entry, own_card};
 ghost use Rattle.vault_verdict.specs.Raw.{card_values, entry_values};
@@ -46,8 +46,9 @@ pub(crate) fn entries<'a>(
     olders: &[OldEntry],
     start: Entries<'a>,
 ) -> Result<Entries<'a>, ReadFault>
-    ensures { IfOk result (λ it. (raws : List EntryRow) × EntriesTaken start.entry it raws
+    ensures made { IfOk result (λ it. (raws : List EntryRow) × EntriesTaken start.entry it raws
         × (map as_entry olders.now ≡ map entry_values raws)) }
+    ensures memory { IfErr result (λ e. e ≡ ReadFault.Memory) }
 {
     let mut entries = start;
     for older in olders {
@@ -78,8 +79,9 @@ pub(crate) fn cards<'a>(
     olders: &[OldEntry],
     start: Index<'a>,
 ) -> Result<Index<'a>, ReadFault>
-    ensures { IfOk result (λ it. (raws : List CardRow) × CardsTaken start.entry it raws
+    ensures made { IfOk result (λ it. (raws : List CardRow) × CardsTaken start.entry it raws
         × (filter_map as_card olders.now ≡ map card_values raws)) }
+    ensures memory { IfErr result (λ e. e ≡ ReadFault.Memory) }
 {
     let mut index = start;
     for older in olders {

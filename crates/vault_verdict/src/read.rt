@@ -215,6 +215,9 @@ fn first_cards<'a, S: Alter>(
     ensures told { HasCleanDisk (state S.Store conn.new) → (state S.Store conn.old).now.schema ≡ v1
         → IfOk result (λ it. (raws : List CardRow) × CardsTaken start.entry it.index raws
         × AreOldCards (state S.Store conn.old).now it.olders.items raws) }
+    ensures refused { HasCleanDisk (state S.Store conn.new) → (state S.Store conn.old).now.schema ≡ v1
+        → IfErr result (λ e. e ≡ ReadFault.Store → IsUnread S.Store READ_OLD_ENTRIES.now old_entry_values
+        (state S.Store conn.old).now conn.new) }
 {
     let olders = old_entries(alloc, conn)?;
     let index = made::cards(alloc, &olders, start)?;

@@ -7,11 +7,11 @@ ghost use Rattle.vault_verdict.specs.Opened.{AreOldersIn, IsBrokenIn, IsLeastBro
 ghost use Rattle.vault_verdict.specs.Opened.{IsSoundIn, IsSoundOf, IsVersionIn};
 ghost use Rattle.vault_verdict.specs.ReadAs.{IsFullIn};
 ghost use Rattle.vault_verdict.specs.Reading.{IsOurs, IsQuiet, IsQuietWhere, IsUnreadFile};
+ghost use Rattle.vault_verdict.specs.Reading.{IsUnreadIn};
 ghost use Rattle.vault_verdict.specs.Judging.{Judges, JudgesAll};
 ghost use Rattle.vault_rules.specs.Held.{HoldCards};
 ghost use Rattle.vault_rules.specs.declared.rows.RawCard.{RawCard as CardRow};
 ghost use Rattle.vault_schema.specs.Schema.{newest_schema};
-ghost use Rattle.vault_schema.specs.Stands.{newest};
 ghost use Rattle.vault_schema.specs.Versions.{schema_of};
 
 use crate::behind::read_behind;
@@ -121,10 +121,9 @@ pub fn verdict<S: Alter>(
         → e ≡ OpenFault.WrongSchema n
         → (state S.Store conn.old).now.schema ≡ schema_of version
         → IsVersionIn version (state S.Store conn.old).now n) }
-    ensures unread { version ≡ newest → HasCleanDisk (state S.Store conn.new)
-        → IfErr result (λ e. e ≡ OpenFault.Store
-        → IsOurs (state S.Store conn.old).now
-        → IsUnreadFile S.Store (state S.Store conn.old).now conn.new) }
+    ensures unread { HasCleanDisk (state S.Store conn.new) → IfErr result (λ e. e ≡ OpenFault.Store
+        → IsFullIn version (state S.Store conn.old).now
+        → IsUnreadIn S.Store version (state S.Store conn.old).now conn.new) }
     ensures sees { HasCleanDisk (state S.Store conn.new) → IfErr result (λ e. IsJudged e
         → (state S.Store conn.old).now.schema ≡ schema_of version
         → IsUnchanged (state S.Store conn.old) (state S.Store conn.new)) }

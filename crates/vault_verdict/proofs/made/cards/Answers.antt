@@ -43,8 +43,8 @@ loop-older-preserved c =
       )
     ]
 
-pub returns : goal.returns
-returns c =
+pub returns-clause-made : goal.returns-clause-made
+returns-clause-made c =
     let all = c.args.olders.now in
     let inv = c.loop-older.invariant in
     let whole : take c.loop-older.older-index all ≡ all =

@@ -5,8 +5,8 @@ use Rattle.std.proofs.Math.Seq.{take-length}
 use Rattle.vault_verdict.specs.Made.{as_entry}
 use Rattle.vault_verdict.proofs.made.entries.Goals as goal
 
-pub returns : goal.returns
-returns c =
+pub returns-clause-made : goal.returns-clause-made
+returns-clause-made c =
     let all = c.args.olders.now in
     let inv = c.loop-older.invariant in
     let whole : take c.loop-older.older-index all ≡ all =

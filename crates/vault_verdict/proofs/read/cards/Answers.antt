@@ -1,14 +1,13 @@
 use Rattle.std.proofs.Common.{[]}
 use Rattle.vault_schema.proofs.Newest.{behind_second, indexes_behind_second}
 use Rattle.vault_schema.specs.Version3.Tables.{tables3, indexes3}
-use Rattle.vault_verdict.proofs.Joined.{none_said}
 use Rattle.vault_verdict.proofs.read.cards.Goals as goal
 
 pub returns-in-One : goal.returns-in-One
 returns-in-One g c = rw (c.in-One.is) (record {
   reads = c.first_cards.ensures.reads;
   told = c.first_cards.ensures.told;
-  refused = λ clean has. none_said _ c.first_cards.result;
+  refused = c.first_cards.ensures.refused;
 })
 
 pub returns-in-Two : goal.returns-in-Two

@@ -1,14 +1,14 @@
 use Rattle.std.proofs.Common.{[], inl, inr, refl}
 use Rattle.vault_schema.proofs.Newest.{behind_second, indexes_behind_second}
 use Rattle.vault_schema.specs.Version3.Tables.{tables3, indexes3}
-use Rattle.vault_verdict.proofs.Joined.{none_said, unread_entries}
+use Rattle.vault_verdict.proofs.Joined.{never_store, unread_entries}
 use Rattle.vault_verdict.proofs.read.entries.Goals as goal
 
 pub returns-in-One : goal.returns-in-One
 returns-in-One g c = rw (c.in-One.is) (record {
   reads = inr refl;
-  told = λ clean has. c.entries.ensures;
-  refused = λ clean has. none_said _ c.entries.result;
+  told = λ clean has. c.entries.ensures.made;
+  refused = λ clean has. never_store _ c.entries.result c.entries.ensures.memory;
 })
 
 pub returns-in-Two : goal.returns-in-Two

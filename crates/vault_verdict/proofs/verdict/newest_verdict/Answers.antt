@@ -1,4 +1,3 @@
-use Rattle.std.proofs.Common.{refl}
 use Rattle.vault_schema.specs.declared.version.Version.TheVariants.{Four}
 use Rattle.vault_verdict.proofs.InVersion.{has_version_in}
 use Rattle.vault_verdict.proofs.verdict.newest_verdict.Goals as goal
@@ -9,4 +8,4 @@ returns-in-Err-clause-versioned g c clean n same ours =
     record { first = has_version_in Four _ ours; versions = it.versions; are = it.are; says = it.says }
 
 pub returns-in-Err-clause-unread : goal.returns-in-Err-clause-unread
-returns-in-Err-clause-unread g c clean = rw c.in-Err.is at (c.verdict.ensures.unread refl clean)
+returns-in-Err-clause-unread g c clean = rw c.in-Err.is at (c.verdict.ensures.unread clean)

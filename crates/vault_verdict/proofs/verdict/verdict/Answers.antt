@@ -3,7 +3,6 @@ use Rattle.sqlite.proofs.Callers.{unchanged_then}
 use Rattle.sqlite.specs.Effect.{Database}
 use Rattle.sqlite.specs.Held.{state}
 use Rattle.sqlite.specs.State.{HasCleanDisk}
-use Rattle.vault_schema.specs.Stands.{newest}
 use Rattle.vault_schema.specs.Versions.{number_of, schema_of}
 use Rattle.vault_schema.specs.declared.version.Version.{Version}
 use Rattle.vault_verdict.specs.Faults.{IsJudged}
@@ -15,8 +14,8 @@ use Rattle.vault_verdict.proofs.verdict.verdict.Given.{Over}
 use Rattle.vault_verdict.proofs.verdict.verdict.Goals as goal
 use Rattle.vault_verdict.specs.Judging.{AreOnward, JudgesAll}
 use Rattle.vault_verdict.specs.Opened.{AreOldersIn, IsSoundIn}
-use Rattle.vault_verdict.specs.ReadAs.{AreFull, IsFullIn}
-use Rattle.vault_verdict.specs.Reading.{AreCardsIn, IsUnreadFile, IsUnreadOne}
+use Rattle.vault_verdict.specs.ReadAs.{IsFullIn}
+use Rattle.vault_verdict.specs.Reading.{AreCardsIn, IsUnreadIn, IsUnreadOne}
 use Rattle.vault_verdict.specs.Versions.{other_than}
 use Rattle.vault_verdict.specs.declared.fault.OpenFault.{OpenFault}
 use Rattle.vault_verdict.specs.declared.replaced.OldEntry.{OldEntry}
@@ -129,40 +128,33 @@ returns-clause-sees g c clean = err_where c.judge_first.result (λ fault is judg
     unchanged_then _ _ _ (unchanged_then _ _ _ one two) it.0)
 
 pub returns-in_err-versions-clause-unread : goal.returns-in_err-versions-clause-unread
-returns-in_err-versions-clause-unread g c is clean =
+returns-in_err-versions-clause-unread g c clean =
     passed_on c.from_residual.result _ c.from_residual.ensures.1 (λ store ours.
-    inl (c.in_err-versions.ensures.refused clean (has_version_in newest _ ours.schema) store))
+    inl (c.in_err-versions.ensures.refused clean (has_version_in c.args.version _ ours.schema) store))
 
 pub returns-in_err-first-clause-unread : goal.returns-in_err-first-clause-unread
-returns-in_err-first-clause-unread g c is clean =
+returns-in_err-first-clause-unread g c clean =
+    let v = c.args.version in
     let early : HasCleanDisk (state g.S.Store c.version_rows.new.conn) =
     omega (arith, c.read_first.ensures.reads.clean, clean) in
     passed_on c.from_residual-in_err-first.result _ c.from_residual-in_err-first.ensures.1 (λ store ours.
-    let same = (c.in_ok-versions.ensures.kept early (has_version_in newest _ ours.schema)).0.now_is in
-    let there = ap (λ (d : Database). d.schema) same ∙ ours.schema ∙ ap schema_of (sym is) in
-    inr (inl (subst (λ db. IsUnreadOne g.S.Store newest db c.read_first.new.conn) same
-    (subst (λ (v : Version). IsUnreadOne g.S.Store v (state g.S.Store c.version_rows.new.conn).now
-    c.read_first.new.conn) is (c.in_err-first.ensures.refused clean there store)))))
+    let same = (c.in_ok-versions.ensures.kept early (has_version_in v _ ours.schema)).0.now_is in
+    let there = ap (λ (d : Database). d.schema) same ∙ ours.schema in
+    inr (inl (subst (λ db. IsUnreadOne g.S.Store v db c.read_first.new.conn) same
+    (c.in_err-first.ensures.refused clean there store))))
 
 pub returns-clause-unread : goal.returns-clause-unread
-returns-clause-unread g c is clean = err_where c.judge_first.result (λ fault failed store newer.
+returns-clause-unread g c clean = err_where c.judge_first.result (λ fault failed store ours.
     let v = c.args.version in
     let new = c.judge_first.new.conn in
     let old = (state g.S.Store c.args.conn.now).now in
-    let ours : IsFullIn v old = record {
-      schema = newer.schema ∙ ap schema_of (sym is);
-      full = subst (λ (v : Version). AreFull v old.trees) (sym is) newer.full;
-    } in
     let same = (c.in_ok-versions.ensures.kept (early g c clean) (has_version_in v _ ours.schema)).0.now_is in
     let all = subst (Comes g c clean) failed (came g c clean ours.schema) in
-    elim all as (λ _. IsUnreadFile g.S.Store old new) [
-      | inl none ↦ inr (inl (subst (λ db. IsUnreadOne g.S.Store newest db new)
-          (next g c clean ours.schema ∙ same)
-          (subst (λ (v : Version). IsUnreadOne g.S.Store v (state g.S.Store c.read_first.new.conn).now new) is
-          (none.1 store))))
+    elim all as (λ _. IsUnreadIn g.S.Store v old new) [
+      | inl none ↦ inr (inl (subst (λ db. IsUnreadOne g.S.Store v db new)
+          (next g c clean ours.schema ∙ same) (none.1 store)))
       | inr it ↦ inr (inr (λ apart.
           let rows = it.2 in
           let read = read_of g c clean ours it.1 rows it.3 it.4 in
-          let now = subst (λ (v : Version). AreRead v old it.1 rows) is read in
-          it.5.shared store (by_rowid old it.1 rows now) (apart_of old.trees it.1 rows now.raws apart)))
+          it.5.shared store (by_rowid v old it.1 rows read apart) (apart_of v old it.1 rows read apart)))
     ])
