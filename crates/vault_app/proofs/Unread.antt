@@ -1,6 +1,6 @@
 -- What a run that ends with words that are bad, a file that isn't opened or a refusal read and wrote.
 use Rattle.std.proofs.Common.{◌≡◌, ◌⊎◌, inl, inr, ℕ, ℤ, List, Bool, Option, Some, None, Result, Ok, Err, refl}
-use Rattle.std.proofs.Common.{arith, subst, ◌∙◌, sym}
+use Rattle.std.proofs.Common.{arith, subst}
 use Rattle.clap.specs.Words.{Text}
 use Rattle.sqlite_disk.specs.declared.Disk.{Ghosts}
 use Rattle.sqlite_store.specs.declared.store.FileStore.{FileStore}
@@ -20,7 +20,7 @@ use Rattle.vault_jobs.specs.declared.task.Task.TheVariants as task
 use Rattle.vault_app.specs.Asked.{AsksFor, IsBatch, Unasked}
 use Rattle.vault_app.specs.Ending.{Says, status_of}
 use Rattle.vault_app.specs.Files.{EndsOnFile}
-use Rattle.vault_app.specs.Jobs.{Does, DoesJob, DoesPlan}
+use Rattle.vault_app.specs.Jobs.{Does, DoesPlan}
 use Rattle.vault_app.specs.Plans.{IsPlanOf, IsTaskOf, TellsMoved, TellsSizes}
 use Rattle.vault_app.specs.World.{World}
 use Rattle.vault_app.specs.declared.ending.Ending.{Ending}

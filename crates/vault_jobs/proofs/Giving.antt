@@ -1,7 +1,7 @@
 -- Rights that are given one after the other.
 use Rattle.std.proofs.Common.{◌≡◌, ℕ, ◌+◌, ◌<◌, List, [], ◌∷◌, ◌++◌, length, map, take, get_or}
-use Rattle.std.proofs.Common.{Option, Some, None, Bool, true, false, Result, Ok, Err, sym, ◌∙◌, ap, subst}
-use Rattle.std.proofs.Common.{arith, refl, replicate}
+use Rattle.std.proofs.Common.{Option, Some, None, Bool, true, false, Ok, Err, sym, ◌∙◌, ap, subst}
+use Rattle.std.proofs.Common.{refl, replicate}
 use Rattle.std.specs.Option.{option_map_or}
 use Rattle.std.proofs.lemmas.List.{length-map, map-append, replicate-append-replicate, take-map, take_more}
 use Rattle.vault_core.specs.Runs.{replies, run}

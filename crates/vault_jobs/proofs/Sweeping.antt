@@ -1,6 +1,6 @@
 -- The numbers of dead tokens are purged, one after the other.
 use Rattle.std.proofs.Common.{◌≡◌, ℕ, ◌+◌, ◌<◌, ◌≤◌, List, [], ◌∷◌, ◌++◌, length, map, take, drop, get_or}
-use Rattle.std.proofs.Common.{Bool, true, false, Result, Ok, Err, sym, ◌∙◌, ap, subst, arith, refl, replicate}
+use Rattle.std.proofs.Common.{Bool, true, false, Ok, Err, sym, ◌∙◌, ap, subst, arith, refl, replicate}
 use Rattle.std.proofs.Common.{append-nil, cond}
 use Rattle.std.specs.FinMap as finmap
 use Rattle.std.specs.List.{filter}
@@ -29,7 +29,6 @@ use Rattle.vault_store.specs.declared.vault.Fault.TheVariants.{Memory, Store, Re
 use Rattle.vault_jobs.specs.Grants.{AreDone, CarriesAll}
 use Rattle.vault_jobs.specs.Sweeps.{AreSwept, Begin, Sweeps, left_dead, purge_at, purges_at, swept_vault}
 use Rattle.vault_jobs.specs.declared.change.Verdict.TheVariants as verdict
-use Rattle.vault_jobs.specs.declared.sweep.Swept.{Swept}
 use Rattle.vault_jobs.specs.declared.sweep.Swept.TheVariants.{Purged, Refused}
 use Rattle.vault_jobs.proofs.Giving.{replies_more, run_more}
 use Rattle.vault_jobs.proofs.Purging.{purged_first, refused_leaves}

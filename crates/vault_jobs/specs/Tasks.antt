@@ -1,5 +1,5 @@
 -- What is done with a vault.
-use Rattle.std.specs.Prelude.{◌≡◌, ◌⊎◌, ℕ, List, [], Bool, true, false, Result, Ok, Err, ◌++◌, codes, decimal}
+use Rattle.std.specs.Prelude.{◌≡◌, ◌⊎◌, ℕ, List, [], Bool, true, Result, Ok, Err, ◌++◌, codes, decimal}
 use Rattle.vault_core.specs.Proper.{HasLivesInRange}
 use Rattle.vault_http.specs.declared.fault.ServeFault.TheVariants as service
 use Rattle.vault_batch.specs.declared.fault.BatchFault.TheVariants as row

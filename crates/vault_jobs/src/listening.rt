@@ -1,5 +1,5 @@
 //! A vault served on a port.
-ghost use Rattle.std.specs.Prelude.{◌≡◌, ◌≢◌, ◌++◌, Err, IfErr, List, Option, true, false};
+ghost use Rattle.std.specs.Prelude.{◌≡◌, ◌++◌, Err, List, Option, false};
 ghost use Rattle.vault_store.specs.Applied.{is_broken, tables_of};
 ghost use Rattle.vault_wire.specs.Watching.{inner_of, is_stopped};
 ghost use Rattle.vault_http.specs.Passing.{Passage};

@@ -8,8 +8,8 @@ use Rattle.vault_wire.specs.declared.fault.WireFault.{WireFault}
 use Rattle.vault_http.specs.Exchanges.{fault_text, last_text, shown, text_at, texts, up_to_close}
 use Rattle.vault_http.specs.Exchanges.{vault_after}
 use Rattle.vault_http.specs.Passing.{AllAnswered, IsBefore, Keeps, Passage, Sends, Stops, StopsAfter}
-use Rattle.vault_http.specs.Passing.{StopsAtSource, StopsAtStore, StopsAtWrite, StopsBefore}
-use Rattle.vault_http.specs.Served.{IsServed, IsStopped, StopsAmong, StopsAtFault, StopsForMemory}
+use Rattle.vault_http.specs.Passing.{StopsAtSource, StopsAtWrite, StopsBefore}
+use Rattle.vault_http.specs.Served.{IsServed, IsStopped, StopsAmong, StopsAtFault}
 use Rattle.vault_http.specs.declared.fault.ServeFault.{ServeFault}
 use Rattle.vault_http.specs.declared.fault.ServeFault.TheVariants as fault
 use Rattle.vault_http.specs.declared.served.Served.{Served}

@@ -1,5 +1,5 @@
 -- Connections after connections, said of the vaults that they lead to.
-use Rattle.std.proofs.Common.{◌≡◌, ◌≢◌, ◌<◌, ◌≤◌, ℕ, List, [], ◌∷◌, ◌++◌, Option, Some, None, refl, subst}
+use Rattle.std.proofs.Common.{◌≡◌, ◌<◌, ◌≤◌, ℕ, List, [], ◌∷◌, ◌++◌, Option, Some, None, refl, subst}
 use Rattle.std.proofs.Common.{Result, Ok, Err, ◌∙◌, length, sym}
 use Rattle.std.specs.Prelude.{All, IsErrAnd}
 use Rattle.std.proofs.lemmas.List.Elements.{All-head, All-tail}
@@ -9,7 +9,7 @@ use Rattle.vault_store.specs.declared.vault.Vault.{Vault}
 use Rattle.vault_http.specs.declared.fault.ServeFault.TheVariants as fault
 use Rattle.vault_live.specs.Live.{Turns}
 use Rattle.vault_listen.specs.Peers.{AreLinks, IsLink, Link, link_passing, vault_passing}
-use Rattle.vault_listen.specs.Service.{AllKept, AllLead, GoesOn, Leads, Leaves, OneUndecided}
+use Rattle.vault_listen.specs.Service.{AllKept, AllLead, GoesOn, Leaves, OneUndecided}
 use Rattle.vault_listen.specs.declared.fault.ListenFault.{ListenFault}
 use Rattle.vault_listen.specs.declared.fault.ListenFault.TheVariants.{Accept, Store}
 use Rattle.vault_listen.proofs.Answered.{settled, torn}

@@ -1,6 +1,6 @@
 -- Connections that are served one after the other.
 use Rattle.std.proofs.Common.{◌≡◌, ◌+◌, ◌≤◌, List, [], ◌∷◌, ◌++◌, Option, Some, None, refl, sym, subst}
-use Rattle.std.proofs.Common.{Result, Ok, Err, length, ap, append-nil, append_assoc, arith, ◌∙◌}
+use Rattle.std.proofs.Common.{Result, length, ap, append-nil, append_assoc, arith}
 use Rattle.std.specs.Prelude.{Bool, false, MatchResult}
 use Rattle.vault_core.specs.Vault.{Vault as Content}
 use Rattle.vault_store.specs.Applied.{is_broken, tables_of}

@@ -1,6 +1,6 @@
 -- What is told of the peers of a service.
-use Rattle.std.specs.Prelude.{◌≡◌, ◌≢◌, ◌≤◌, ℕ, ◌+◌, List, [], ◌∷◌, ◌++◌, All, Bool, false, Option}
-use Rattle.std.specs.Prelude.{Some, None, Result, Ok, Err, length, MatchResult}
+use Rattle.std.specs.Prelude.{◌≡◌, ◌≤◌, ℕ, ◌+◌, List, [], ◌∷◌, ◌++◌, Bool, false, Option}
+use Rattle.std.specs.Prelude.{Some, None, Result, length, MatchResult}
 use Rattle.vault_core.specs.Vault.{Vault as Content}
 use Rattle.vault_store.specs.Applied.{Contains, is_broken, tables_of}
 use Rattle.vault_store.specs.declared.vault.Vault.{Vault}

@@ -1,6 +1,6 @@
 //! A source of moments that are told and of digits that are drawn.
-ghost use Rattle.std.specs.Prelude.{◌≡◌, ◌+◌, ◌∷◌, ◌++◌, [], Some, None, true, false, IfOk, OnOk, OnErr};
-ghost use Rattle.std.specs.Prelude.{IfSome, IsErr, length};
+ghost use Rattle.std.specs.Prelude.{◌≡◌, Some, None, true, false};
+ghost use Rattle.std.specs.Prelude.{IfSome, length};
 
 use crate::draw::drawn;
 use crate::time::Timekeeper;

@@ -239,7 +239,8 @@ kept Four db olders rows read apart = record {
   entries = apart_permuted _ _ read.raws.entries.entries apart.1;
 }
 
-module _ (v : Version) (db : Database) (olders : List OldEntry) (rows : Rows) (read : AreRead v db olders rows)
+module _ (v : Version) (db : Database) (olders : List OldEntry) (rows : Rows)
+    (read : AreRead v db olders rows)
     (apart : AreTablesApart v db.trees) where
   -- all rows are in the order of the rowids
   pub by_rowid : AreByRowid rows

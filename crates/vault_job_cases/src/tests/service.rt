@@ -82,12 +82,12 @@ fn is_told(alloc: Global, peer: TcpStream, wanted: &str) -> bool {
     }
 }
 
-/// Serves so many connections at a moment, where a message or an answer may take 200 milliseconds.
-fn serve_at<L: OpenListener<Stream = TcpStream> + AsRawFd + Drop, T: Tables>(
+/// Serves so many connections by a clock, where a message or an answer may take 200 milliseconds.
+fn serve_by<L: OpenListener<Stream = TcpStream> + AsRawFd + Drop, T: Tables>(
     alloc: Global,
     listener: L,
     connections: u64,
-    moment: u64,
+    clock: &StandingClock,
     vault: &mut Vault<T>,
 ) -> Result<(), ListenFault> {
     let mut generator = StdRng::seed_from_u64(7);
@@ -95,22 +95,21 @@ fn serve_at<L: OpenListener<Stream = TcpStream> + AsRawFd + Drop, T: Tables>(
         turn: Duration::from_millis(200),
         connection: Duration::from_secs(60),
     };
-    let clock = StandingClock::at(moment);
-    let mut peers = TcpPeers::new(alloc, listener, &clock, limits);
-    serve_on(
-        alloc,
-        &ClockTime::new(&clock),
-        &mut generator,
-        &mut peers,
-        connections,
-        vault,
-    )
+    let time = ClockTime::new(clock);
+    let mut peers = TcpPeers::new(alloc, listener, clock, limits);
+    serve_on(alloc, &time, &mut generator, &mut peers, connections, vault)
 }
 
 /// Whether so many connections of the shop are served to their end at the moment 1000.
 fn is_served(alloc: Global, listener: &TcpListener, connections: u64) -> bool {
     let mut vault = shop(alloc);
-    serve_at(alloc, Lent::new(listener), connections, 1000, &mut vault) == Ok(())
+    serve_by(
+        alloc,
+        Lent::new(listener),
+        connections,
+        &StandingClock::at(1000),
+        &mut vault,
+    ) == Ok(())
 }
 
 /// Whether the service, with its own patience, answers the worked message byte for byte.
@@ -177,7 +176,13 @@ fn draw_their_own<H: Net<Listener = TcpListener, Stream = TcpStream> + AllocGlob
     let first = peer(rt, &listener, first.as_bytes())?;
     let second = peer(rt, &listener, second.as_bytes())?;
     let mut vault = shop(rt.alloc());
-    let ended = serve_at(rt.alloc(), Lent::new(&listener), 2, 2000, &mut vault);
+    let ended = serve_by(
+        rt.alloc(),
+        Lent::new(&listener),
+        2,
+        &StandingClock::at(2000),
+        &mut vault,
+    );
     let first = read_to_string(rt.alloc(), first)?;
     let second = read_to_string(rt.alloc(), second)?;
     Ok(ended == Ok(()) && are_two_tokens(first.as_str(), second.as_str()))

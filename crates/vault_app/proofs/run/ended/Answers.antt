@@ -1,5 +1,5 @@
 use Rattle.std.proofs.Common.{◌≡◌, [], inl, inr, refl, subst}
-use Rattle.vault_jobs.specs.Streams.{Streams, streams, with_links}
+use Rattle.vault_jobs.specs.Streams.{streams, with_links}
 use Rattle.vault_listen.proofs.Linking.{none_then}
 use Rattle.vault_app.specs.Jobs.{DoesPlan}
 use Rattle.vault_app.specs.World.{World, world_of}

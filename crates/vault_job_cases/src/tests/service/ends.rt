@@ -1,6 +1,6 @@
 //! What ends the service, and what ends one connection alone.
 use super::fakes::{Failing, Lent, Stuck};
-use super::{ANSWERED, ASKED, is_told, listen, peer, serve_at, shop};
+use super::{ANSWERED, ASKED, is_told, listen, peer, serve_by, shop};
 use crate::tests::clocks::StandingClock;
 use rand::SeedableRng;
 use rand::rngs::StdRng;
@@ -32,9 +32,21 @@ fn count_as_ones<H: Net<Listener = TcpListener, Stream = TcpStream> + AllocGloba
     let asked = peer(rt, &listener, ASKED.as_bytes())?;
     let failing = Failing::new(&listener, &LOST);
     let mut vault = shop(rt.alloc());
-    let all_lost = serve_at(rt.alloc(), Lent::new(&failing), 5, 1000, &mut vault) == Ok(());
+    let all_lost = serve_by(
+        rt.alloc(),
+        Lent::new(&failing),
+        5,
+        &StandingClock::at(1000),
+        &mut vault,
+    ) == Ok(());
     let accepts = failing.accepts();
-    let served = serve_at(rt.alloc(), Lent::new(&failing), 1, 1000, &mut vault) == Ok(());
+    let served = serve_by(
+        rt.alloc(),
+        Lent::new(&failing),
+        1,
+        &StandingClock::at(1000),
+        &mut vault,
+    ) == Ok(());
     Ok(all_lost && accepts == 5 && served && is_told(rt.alloc(), asked, ANSWERED))
 }
 
@@ -48,7 +60,13 @@ fn ends_with_80(alloc: Global, listener: &TcpListener, kind: ErrorKind) -> bool 
     let kinds = [ErrorKind::ConnectionAborted, kind];
     let failing = Failing::new(listener, &kinds);
     let mut vault = shop(alloc);
-    let ended = serve_at(alloc, Lent::new(&failing), 9, 1000, &mut vault);
+    let ended = serve_by(
+        alloc,
+        Lent::new(&failing),
+        9,
+        &StandingClock::at(1000),
+        &mut vault,
+    );
     ended == Err(ListenFault::Accept) && failing.accepts() == 2
 }
 
@@ -80,7 +98,13 @@ fn ends_with_63<H: Net<Listener = TcpListener, Stream = TcpStream> + AllocGlobal
     let after = peer(rt, &listener, ASKED.as_bytes())?;
     let failing = Failing::new(&listener, &[]);
     let mut vault = Vault::new(Stuck::new(shop(alloc).into_tables()));
-    let ended = serve_at(alloc, Lent::new(&failing), 9, 1000, &mut vault);
+    let ended = serve_by(
+        alloc,
+        Lent::new(&failing),
+        9,
+        &StandingClock::at(1000),
+        &mut vault,
+    );
     let is_stopped = ended == Err(ListenFault::Store) && vault.broken() && failing.accepts() == 2;
     drop(after);
     Ok(is_stopped && is_told(alloc, repeat, ANSWERED) && is_told(alloc, stuck, ANSWERED))
@@ -128,7 +152,14 @@ fn a_clock_that_cant_be_read_ends_the_connection_alone(rt: HostRuntime) {
 fn accepts_none(alloc: Global, listener: &TcpListener) -> bool {
     let failing = Failing::new(listener, &[]);
     let mut vault = shop(alloc);
-    serve_at(alloc, Lent::new(&failing), 0, 1000, &mut vault) == Ok(()) && failing.accepts() == 0
+    serve_by(
+        alloc,
+        Lent::new(&failing),
+        0,
+        &StandingClock::at(1000),
+        &mut vault,
+    ) == Ok(())
+        && failing.accepts() == 0
 }
 
 #[test]

@@ -4,7 +4,6 @@ use Rattle.sqlite.specs.Effect.{Database}
 use Rattle.sqlite.specs.Held.{state}
 use Rattle.sqlite.specs.State.{HasCleanDisk}
 use Rattle.vault_schema.specs.Versions.{number_of, schema_of}
-use Rattle.vault_schema.specs.declared.version.Version.{Version}
 use Rattle.vault_verdict.specs.Faults.{IsJudged}
 use Rattle.vault_verdict.proofs.InVersion.{has_version_in}
 use Rattle.vault_verdict.proofs.Judged.{AreRead, apart_of, by_rowid, olders_in, sound_of}
