@@ -10,7 +10,7 @@ from front import certificates, forged, guards, subjects
 from front.clients import NUMBER, Client
 from front.raw import answer, message
 from front.services import Vault
-from haproxy import waits
+from haproxy import kept, waits
 from haproxy.services import Front
 from shared.tally import Tally, unlike
 
@@ -164,6 +164,7 @@ def main(program, repository):
             waits.under_load(tally, front.port, first)
             waits.restarted(tally, front.port, first)
             figures(tally, front)
+        kept.judge(tally, first)
         guards.logged(tally, "haproxy.err")
     finally:
         for vault in vaults:

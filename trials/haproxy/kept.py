@@ -1,0 +1,66 @@
+"""A front of few words before a vault, which keeps its connections to it as HAProxy does by itself."""
+
+import socket
+import subprocess
+import time
+
+from front.services import free_port
+from peers import kept
+from shared.tally import unlike
+
+CLIENTS, MESSAGES = 8, 15
+WORDS = """
+defaults
+    mode http
+    timeout connect 30s
+    timeout client 60s
+    timeout server 60s
+frontend clients
+    bind 127.0.0.1:{port}
+    default_backend vault
+backend vault
+    server vault 127.0.0.1:{vault}
+"""
+
+
+class Plain:
+    """The front, which is over at the end of a `with`."""
+
+    def __init__(self, vault):
+        self.port = free_port()
+        with open("plain.cfg", "w") as file:
+            file.write(WORDS.format(port=self.port, vault=vault.port))
+
+    def __enter__(self):
+        self.process = subprocess.Popen(["haproxy", "-db", "-f", "plain.cfg"], stderr=subprocess.DEVNULL)
+        for _ in range(100):
+            try:
+                self.connect().close()
+                return self
+            except OSError:
+                time.sleep(0.05)
+        self.process.kill()
+        raise SystemExit("a plain front didn't start\n0 passed, 1 failed")
+
+    def __exit__(self, *_):
+        self.process.kill()
+        self.process.wait()
+
+    def connect(self):
+        """A connection of a client."""
+        return socket.create_connection(("127.0.0.1", self.port), timeout=30)
+
+
+def judge(tally, vault):
+    """Eight clients with a message a second each: all are answered soon, over connections that stay open."""
+    with Plain(vault) as front:
+        clients = [kept.Client(front, 3000000 + 1000 * turn, MESSAGES, 1) for turn in range(CLIENTS)]
+        for client in clients:
+            client.start()
+        for client in clients:
+            client.join()
+    answered = sum(len(client.waited) for client in clients)
+    longest = max(max(client.waited, default=0) for client in clients)
+    tally.judge("through connections that stay open: all answered", unlike(answered, CLIENTS * MESSAGES))
+    tally.judge("within 2 s each", "" if longest <= 2 else f"{longest:.1f} s")
+    print(f"through connections that stay open: {longest:.2f} s at most", flush=True)
