@@ -4,6 +4,7 @@ import http.client
 import os
 import ssl
 import threading
+import time
 
 from front.clients import NUMBER, Client
 from shared import lines
@@ -109,6 +110,8 @@ def by_browsers(tally, port):
 
 def numbers(tally, port, token):
     """One caller's requests for numbers go five a second, and those beyond the ones that wait are refused."""
+    # requests for numbers that went before are forgotten five a second
+    time.sleep(3)
     statuses = []
 
     def one():

@@ -24,6 +24,7 @@ class Vault:
 
     def __init__(self, program, merchant, till):
         self.program, self.merchant, self.file, self.port = program, merchant, f"{merchant}.db", free_port()
+        self.listed = []
         must(program, "merchant", self.file, merchant, 86400, 0)
         must(program, "grant", self.file, till, merchant, "tokenize")
         for right in ("detokenize", "audit"):
@@ -32,11 +33,18 @@ class Vault:
 
     def start(self):
         """Starts it as the unit does: without a number of connections."""
-        words = [self.program, "serve", "--port", str(self.port), self.file]
+        words = [self.program, "serve", "--port", str(self.port), *self.listed, self.file]
         self.process = subprocess.Popen(words, stdout=subprocess.PIPE)
         line = self.process.stdout.readline()
         if not LISTENING.fullmatch(line):
             raise SystemExit(f"the vault said {line!r}\n0 passed, 1 failed")
+
+    def list(self, rights):
+        """From its next start on its rights are those of a rights file with this text, and no others."""
+        path = f"{self.merchant}.toml"
+        with open(path, "w") as file:
+            file.write(rights)
+        self.listed = ["--rights", path]
 
     def stop(self):
         """Ends it as its unit does."""
