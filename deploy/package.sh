@@ -76,7 +76,7 @@ Priority: optional
 Architecture: amd64
 Maintainer: $maintainer
 Installed-Size: $(du -sk "$root" | cut -f1)
-Depends: adduser, libc6 (>= 2.34)
+Depends: adduser, libc6 (>= 2.34), libjemalloc2
 Suggests: nginx | haproxy, openssl, sqlite3, python3, python3-prometheus-client
 Description: keeps card numbers, and gives tokens for them
  A service keeps card numbers in one file. Tills and back offices get tokens

@@ -59,14 +59,19 @@ step "1: a bad name of a sweep" 'refused 4 (1)' "$(told "$program" sweep none.db
 step "1: a merchant that isn't known" 'refused 7 (1)' "$(told "$program" grant shop.db till-1 shop2 view)"
 
 # 2
-step "2: no word" 'vault: bad words (2)' "$(told "$program")"
-step "2: a word that is none" 'vault: bad words (2)' "$(told "$program" trail)"
-step "2: no connections" 'vault: bad words (2)' "$(told "$program" serve --connections 0 shop.db)"
-step "2: no file to move" 'vault: bad words (2)' "$(told "$program" migrate)"
-step "2: a lead that is none" 'vault: bad words (2)' "$(told "$program" merchant --lead 7 shop.db shop1 60 0)"
+step "2: no word, and help" 'vault: bad words|*|Usage: * <COMMAND>|*|*Print version (2)' "$(told "$program")"
+step "2: a word that is none" "vault: bad words|unrecognized subcommand 'trail' (2)" "$(told "$program" trail)"
+step "2: no connections" "vault: bad words|CONNECTIONS: 0 isn't a number of one to a million (2)" \
+    "$(told "$program" serve --connections 0 shop.db)"
+step "2: no file to move" 'vault: bad words|the following required arguments were not provided:|  <FILE> (2)' \
+    "$(told "$program" migrate)"
+step "2: a lead that is none" "vault: bad words|LEAD: 7 isn't a number of digits that a mask may show (2)" \
+    "$(told "$program" merchant --lead 7 shop.db shop1 60 0)"
+step "2: a card number, which isn't shown" 'vault: bad words (2)' \
+    "$(told "$program" pipe shop.db 4111111111111111)"
 step "2: an end that is none" 'vault: bad words (2)' \
     "$(told "$program" grant --until 253402300800 shop.db till-1 shop1 view)"
-step "2: a port that is none" 'vault: bad words (2)' \
+step "2: a port that is none" "vault: bad words|PORT: 65536 isn't a port (2)" \
     "$(told "$program" serve --connections 1 --port 65536 shop.db)"
 
 # 3

@@ -77,7 +77,7 @@ completed=$(sed -n 's/^    local commands="\(.*\)"$/\1/p' "$deploy/vault.bash-co
 step "the commands are completed" "$([ "$words" = "$completed " ] && echo yes || echo no)" "$words"
 for command in $completed; do
     [ "$command" != help ] || continue
-    "$program" help "$command" | sed -n 's/^ *\(-h, \)\{0,1\}\(--[a-z]*\).*/\2/p' | sort > options
+    "$program" help "$command" | sed -n 's/^ *\(-h, \)\{0,1\}\(--[a-z-]*\).*/\2/p' | sort > options
     bash -c '. "$1"; COMP_WORDS=(vault "$2" -) COMP_CWORD=2; _vault; printf "%s\n" "${COMPREPLY[@]}"' \
         bash "$deploy/vault.bash-completion" "$command" | sort > offered
     step "the options of $command are completed" "$(holds diff options offered)" "$(cat said)"

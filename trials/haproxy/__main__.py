@@ -164,6 +164,7 @@ def main(program, repository):
             waits.under_load(tally, front.port, first)
             waits.restarted(tally, front.port, first)
             figures(tally, front)
+            waits.relisted(tally, front.port, first)
         kept.judge(tally, first)
         guards.logged(tally, "haproxy.err")
     finally:

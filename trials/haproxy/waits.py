@@ -62,6 +62,23 @@ def restarted(tally, port, vault):
     tally.judge("no 503 at a restart", unlike(told, {200: MESSAGES}))
 
 
+def relisted(tally, port, vault):
+    """A change of rights is an edited file and a restart: a wait for whoever asks meanwhile, and no error."""
+    vault.list("[till-1]\nshop1 = ['tokenize']\n[back]\nshop1 = ['detokenize']\n[guest]\nshop1 = ['audit']\n")
+    load = Load(port)
+    load.run(vault, 1, first=2 * MESSAGES + 1, by=vault.stop)
+    told = {status: load.statuses.count(status) for status in set(load.statuses)}
+    tally.judge("no error at a change of rights", unlike(told, {200: MESSAGES}))
+    for caller, status in (("guest", 200), ("back", 403)):
+        answer = Client(port, caller).ask("GET", "/v1/merchants/shop1/audit")
+        tally.judge(f"what is listed counts from then on for {caller}", unlike(answer.status, status))
+    vault.list("[till-1]\nshop1 = ['tokenize']\n[back]\nshop1 = ['detokenize', 'audit']\n")
+    vault.stop()
+    vault.start()
+    answer = Client(port, "back").ask("GET", "/v1/merchants/shop1/audit")
+    tally.judge("and what is listed again comes back", unlike(answer.status, 200))
+
+
 def crowded(tally, port, vault):
     """One caller's requests wait in a crowd that has an end, and others wait beside it."""
     vault.kill()

@@ -11,7 +11,7 @@ EMPTY = "systemd-sysv,dbus,adduser,ca-certificates"
 # What the page installs, which comes without a network once it was fetched.
 FETCHED = (
     *("nginx-light", "openssl", "curl", "sqlite3", "chrony", "nftables", "logrotate", "python3"),
-    *("haproxy", "rsyslog", "procps", "python3-prometheus-client"),
+    *("haproxy", "rsyslog", "procps", "python3-prometheus-client", "libjemalloc2"),
 )
 
 

@@ -1,5 +1,6 @@
 """A service of the program over a file, and connections to it."""
 
+import os
 import re
 import socket
 import subprocess
@@ -13,9 +14,10 @@ LISTENING = re.compile(rb"listening ([0-9]+)\n")
 class Service:
     """The program as it serves so many connections on a free port; it is over at the end of a `with`."""
 
-    def __init__(self, program, file, connections):
+    def __init__(self, program, file, connections, **environment):
         words = [program, "serve", "--connections", str(connections), "--port", "0", str(file)]
-        self.process = subprocess.Popen(words, stdout=subprocess.PIPE, stderr=subprocess.PIPE)
+        pipe = subprocess.PIPE
+        self.process = subprocess.Popen(words, stdout=pipe, stderr=pipe, env=os.environ | environment)
         line = self.process.stdout.readline()
         found = LISTENING.fullmatch(line)
         self.port = int(found[1]) if found else None

@@ -2,8 +2,11 @@
 
 import os
 import sys
+import time
+from pathlib import Path
 
 from shared.runs import must
+from shared.service import Service
 from shared.tally import Tally
 from sizes.shop import NOW, made, number_at
 
@@ -12,6 +15,9 @@ MANY, DEAD, ROWS = 120_000, 10_000, 4000
 
 # How many bytes a token a check and a move may take, where each token has a card of its own.
 CHECKED, MOVED = 300, 500
+# How many bytes a token a service may keep once it listens, beside those that it has over a file with none.
+KEPT = 50
+UNIT = Path(__file__).parents[2] / "deploy/vault.service"
 # How long a log may be, with the heads of its pages: it is copied back at 24,576,000 bytes of pages. In a
 # sweep that is the length of the file, which is greater here.
 LOG = 26_000_000
@@ -46,11 +52,35 @@ def logs(program, tally):
     tally.judge("the log of a sweep", "" if LOG < file <= length else f"{length} bytes, {file} of the file")
 
 
-def main(program):
+def allocator():
+    """The allocator that the unit loads, and what it tells it."""
+    told = [line.removeprefix("Environment=").split("=", 1) for line in UNIT.read_text().splitlines()]
+    return {name: value for name, *values in told for value in values if name in ("LD_PRELOAD", "MALLOC_CONF")}
+
+
+def kept(program, file):
+    """How many bytes a service over a file keeps once it listens."""
+    with Service(program, file, 1, **allocator()) as service:
+        time.sleep(4)
+        lines = Path(f"/proc/{service.process.pid}/status").read_text().splitlines()
+    return next(int(line.split()[1]) * 1024 for line in lines if line.startswith("VmRSS:"))
+
+
+def judge_kept(program, tally):
+    """The memory that an opening takes goes back before a service listens."""
+    must(program, "merchant", "none.db", "shop1", "60", "60")
+    taken = (kept(program, FILE) - kept(program, "none.db")) // MANY
+    print(f"serve: {taken} bytes a token", flush=True)
+    tally.judge("memory of serve", "" if taken <= KEPT else f"{taken} bytes a token, not {KEPT}")
+
+
+def main(program, has_allocator=""):
     tally = Tally()
     made(FILE, MANY, DEAD)
     judge_peak(program, tally, ("migrate", FILE), "schema 4", MOVED)
     judge_peak(program, tally, ("check", FILE), f"sound 1 {MANY} {MANY}", CHECKED)
+    if has_allocator:
+        judge_kept(program, tally)
     logs(program, tally)
     tally.end()
 

@@ -1,6 +1,6 @@
 -- A task on the vault in files, said of the files.
 use Rattle.std.proofs.Common.{◌≡◌, ◌≢◌, ◌↔◌, ℕ, List, Bool, Option, Some, None, Result, Ok, Err, false}
-use Rattle.std.proofs.Common.{ap, refl}
+use Rattle.std.proofs.Common.{ap, inl, refl}
 use Rattle.std.specs.Prelude.{ℤ, IfErr, IfOk, IfSome}
 use Rattle.sqlite.specs.Files.{file_state}
 use Rattle.sqlite.specs.Held.{Held}
@@ -93,7 +93,7 @@ module _ {D : Type 0} {g : Ghosts D} (world : World) (path : List ℕ) (unread u
         → IfSome left (λ it. Each (world.holds path) (λ image. ¬ MayFindNone image → StaysWhole image it))
         → unread → unsent → EndsOnFile world path left task (NotOpened why) unread unsent s
     refused_file None task why is there never tells stays same calm silent =
-        (ap (λ f. NotOpened f) (is.1 refl), there (is.1 refl), calm, silent)
+        (ap (λ f. NotOpened f) (is.1 refl), inl (there (is.1 refl)), calm, silent)
     refused_file (Some left) task why is there never tells stays same calm silent =
         (record { never = never; tells = tells; stays = stays; same = same }, calm, silent)
 

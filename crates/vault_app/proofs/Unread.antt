@@ -1,6 +1,9 @@
 -- What a run that ends with words that are bad, a file that isn't opened or a refusal read and wrote.
 use Rattle.std.proofs.Common.{◌≡◌, ◌⊎◌, inl, inr, ℕ, ℤ, List, Bool, Option, Some, None, Result, Ok, Err, refl}
-use Rattle.std.proofs.Common.{arith, subst}
+use Rattle.std.proofs.Common.{arith, subst, true, false, Bor}
+use Rattle.std.specs.Prelude.{unwrap_or, if◌then◌else◌}
+use Rattle.std.specs.Global.{Vec}
+use Rattle.vault_rights.specs.Named.{Row}
 use Rattle.clap.specs.Words.{Text}
 use Rattle.sqlite_disk.specs.declared.Disk.{Ghosts}
 use Rattle.sqlite_store.specs.declared.store.FileStore.{FileStore}
@@ -10,18 +13,21 @@ use Rattle.vault_live.specs.Live.{Turns}
 use Rattle.vault_verdict.specs.declared.sizes.Sizes.{Sizes}
 use Rattle.vault_words.specs.declared.jobs.Job.{Job}
 use Rattle.vault_words.specs.declared.jobs.Job.TheVariants.{Trial, Merchant, Grant, Withdraw, Rights, Pipe}
-use Rattle.vault_words.specs.declared.jobs.Job.TheVariants.{Batch, Serve, Sweep, Check, Migrate}
+use Rattle.vault_words.specs.declared.jobs.Job.TheVariants.{Batch, Serve, Sweep, List as Listing, Check}
+use Rattle.vault_words.specs.declared.jobs.Job.TheVariants.{Migrate}
 use Rattle.vault_jobs.specs.Doing.{Works}
 use Rattle.vault_jobs.specs.Doing.{Does as Performs}
 use Rattle.vault_jobs.specs.Streams.{Streams}
 use Rattle.vault_jobs.specs.declared.task.Outcome.TheVariants as outcome
+use Rattle.vault_jobs.specs.declared.show.Shown.TheVariants as show
 use Rattle.vault_jobs.specs.declared.task.Task.{Task}
+use Rattle.vault_jobs.specs.declared.clock.Giver.TheVariants.{Words, Clock}
 use Rattle.vault_jobs.specs.declared.task.Task.TheVariants as task
 use Rattle.vault_app.specs.Asked.{AsksFor, IsBatch, Unasked}
 use Rattle.vault_app.specs.Ending.{Says, status_of}
 use Rattle.vault_app.specs.Files.{EndsOnFile}
 use Rattle.vault_app.specs.Jobs.{Does, DoesPlan}
-use Rattle.vault_app.specs.Plans.{IsPlanOf, IsTaskOf, TellsMoved, TellsSizes}
+use Rattle.vault_app.specs.Plans.{IsPlanOf, IsServeOf, IsTaskOf, TellsMoved, TellsSizes, without_end}
 use Rattle.vault_app.specs.World.{World}
 use Rattle.vault_app.specs.declared.ending.Ending.{Ending}
 use Rattle.vault_app.specs.declared.ending.Ending.TheVariants.{Done, Version, Refused, SomeRefused}
@@ -37,27 +43,30 @@ unasked words ending unread unsent calm (inr (inl (none, is, _, silent))) = inr 
 unasked words ending unread unsent calm (inr (inr (is, _, silent))) = inr (inr (is, calm, silent))
 
 -- at these statuses nothing more goes out
-pub said_at : (ending : Ending) (same_output same_errors : Type 0) (output errors : List ℕ → Type 0)
+pub said_at : (why : List ℕ) (ending : Ending) (same_output same_errors : Type 0)
+    (output errors : List ℕ → Type 0)
     → (status_of ending ≡ 2) ⊎ (status_of ending ≡ 3)
-    → Says ending same_output same_errors output errors → same_output
-said_at BadWords A B o e at said = said.0
-said_at (NotOpened f) A B o e at said = said.0
-said_at Done A B o e at said = said.0
-said_at SomeRefused A B o e at said = said.0
-said_at (Stopped why) A B o e at said = said.0
-said_at Version A B o e (inl at) said = absurd (omega (arith, at))
-said_at Version A B o e (inr at) said = absurd (omega (arith, at))
-said_at (Refused n) A B o e (inl at) said = absurd (omega (arith, at))
-said_at (Refused n) A B o e (inr at) said = absurd (omega (arith, at))
+    → Says why ending same_output same_errors output errors → same_output
+said_at why BadWords A B o e at said = said.0
+said_at why (NotOpened f) A B o e at said = said.0
+said_at why Done A B o e at said = said.0
+said_at why SomeRefused A B o e at said = said.0
+said_at why (Stopped stop) A B o e at said = said.0
+said_at why Version A B o e (inl at) said = absurd (omega (arith, at))
+said_at why Version A B o e (inr at) said = absurd (omega (arith, at))
+said_at why (Refused n) A B o e (inl at) said = absurd (omega (arith, at))
+said_at why (Refused n) A B o e (inr at) said = absurd (omega (arith, at))
 
 -- the task answers rows
 abbrev IsOfRows : Task → Type 0
 IsOfRows (task.Change c) = ⊥
 IsOfRows (task.Give rows now) = ⊥
-IsOfRows (task.Sweep who now) = ⊥
+IsOfRows (task.Settle rows now) = ⊥
+IsOfRows (task.Sweep who now giver) = ⊥
 IsOfRows (task.Batch who now digits) = Unit {0}
 IsOfRows (task.Pipe now digits) = ⊥
-IsOfRows (task.Serve port connections) = ⊥
+IsOfRows (task.Serve port connections listed) = ⊥
+IsOfRows (task.Show it) = ⊥
 
 -- the words ask for such a task only by a batch
 batch_of : (world : World) (job : Job) (t : Task) → IsTaskOf world job t → IsOfRows t → IsBatch job
@@ -66,15 +75,25 @@ batch_of world (Merchant j) t (name, (now, moment, same)) rows = absurd (subst I
 batch_of world (Grant j) t (names, (right, now, word, moment, same)) rows = absurd (subst IsOfRows same rows)
 batch_of world (Withdraw j) t (names, (right, now, word, moment, same)) rows =
     absurd (subst IsOfRows same rows)
-batch_of world (Rights j) (task.Give given now) is rows = absurd rows
-batch_of world (Rights j) (task.Change c) is rows = absurd is
-batch_of world (Rights j) (task.Sweep who now) is rows = absurd is
-batch_of world (Rights j) (task.Batch who now digits) is rows = absurd is
-batch_of world (Rights j) (task.Pipe now digits) is rows = absurd is
-batch_of world (Rights j) (task.Serve port connections) is rows = absurd is
+batch_of world (Rights j) t (given, now, listed, moment, same) rows =
+    absurd (no_rows j.dry_run j.exact given now (subst IsOfRows same rows))
+  where
+    no_rows : (dry_run exact : Bool) (given : Vec Row) (now : ℕ) → ¬ (IsOfRows
+        (if dry_run then task.Show (show.Changes exact given now)
+        else if exact then task.Settle given now
+        else task.Give given now))
+    no_rows true exact given now h = h
+    no_rows false true given now h = h
+    no_rows false false given now h = h
 batch_of world (Pipe j) t same rows = absurd (subst IsOfRows same rows)
 batch_of world (Batch j) t is rows = (j, refl)
-batch_of world (Serve j) t same rows = absurd (subst IsOfRows same rows)
+batch_of world (Serve j) t is rows =
+    absurd (no_rows j.port (unwrap_or j.connections without_end) j.rights is)
+  where
+    no_rows : (port connections : ℕ) (o : Option (Bor (List ℕ))) → ¬ (IsServeOf world port connections o t)
+    no_rows port connections None same = subst IsOfRows same rows
+    no_rows port connections (Some path) (given, now, listed, moment, same) = subst IsOfRows same rows
+batch_of world (Listing j) t same rows = absurd (subst IsOfRows same rows)
 batch_of world (Sweep j) t (names, (who, now, caller, merchant, moment, same)) rows =
     absurd (subst IsOfRows same rows)
 batch_of world (Check j) t is rows = absurd is
@@ -85,19 +104,29 @@ module _ (tells : Turns) (unread unsent : Type 0) (s : Streams) where
       → Works tells t w broken (Ok outcome.SomeRefused) unread unsent s → IsOfRows t
   rows_of (task.Change c) w broken h = h
   rows_of (task.Give rows now) w broken h = h
-  rows_of (task.Sweep who now) w broken h = h
+  rows_of (task.Settle rows now) w broken (inl (changes, of, h)) = h
+  rows_of (task.Settle rows now) w broken (inr (f, is, silent, h)) = absurd (cc is)
+  rows_of (task.Sweep who now Words) w broken h = h
+  rows_of (task.Sweep who now Clock) w broken (inl (near, h)) = h
+  rows_of (task.Sweep who now Clock) w broken (inr (inl (is, silent, same, far))) = absurd (cc is)
+  rows_of (task.Sweep who now Clock) w broken (inr (inr (f, is, silent, h))) = absurd (cc is)
   rows_of (task.Batch who now digits) w broken h = tt
   rows_of (task.Pipe now digits) w broken h = h
-  rows_of (task.Serve port connections) w broken h = h
+  rows_of (task.Serve port connections None) w broken h = h
+  rows_of (task.Serve port connections (Some it)) w broken (inl (none, h)) = h
+  rows_of (task.Serve port connections (Some it)) w broken (inr (changes, of, h)) = h
+  rows_of (task.Show it) w broken h = h
 
   unread_by : (t : Task) (w : Passage) (broken : Bool) (n : ℕ)
       → Performs tells t w broken (Ok (outcome.Refused n)) unread unsent s → unread
   unread_by (task.Change c) w broken n d = d.begun
   unread_by (task.Give rows now) w broken n d = d.begun
-  unread_by (task.Sweep who now) w broken n d = d.begun
+  unread_by (task.Settle rows now) w broken n d = d.begun
+  unread_by (task.Sweep who now giver) w broken n d = d.begun
   unread_by (task.Batch who now digits) w broken n d = absurd d.works
   unread_by (task.Pipe now digits) w broken n d = absurd d.works
-  unread_by (task.Serve port connections) w broken n d = d.begun
+  unread_by (task.Serve port connections listed) w broken n d = d.begun
+  unread_by (task.Show it) w broken n d = d.begun
 
 module _ {D : Type 0} {g : Ghosts D} (world : World) (left : Option (FileStore D g))
     (unread unsent : Type 0) (s : Streams) where
@@ -196,6 +225,7 @@ module _ {D : Type 0} {g : Ghosts D} (world : World) (left : Option (FileStore D
   batch_in (Batch j) p is h = (j, refl)
   batch_in (Serve j) p (t, is, same) h = batch_of world (Serve j) t is (subst IsPart same h)
   batch_in (Sweep j) p (t, is, same) h = batch_of world (Sweep j) t is (subst IsPart same h)
+  batch_in (Listing j) p (t, is, same) h = batch_of world (Listing j) t is (subst IsPart same h)
   batch_in (Check j) p same h = absurd (subst IsPart same h)
   batch_in (Migrate j) p same h = absurd (subst IsPart same h)
 

@@ -1,6 +1,7 @@
 -- Tasks whose parts are values of their types.
-use Rattle.std.proofs.Common.{◌≡◌, ℕ, List, [], ◌∷◌, Some, sym, subst}
-use Rattle.std.specs.Prelude.{IfSome}
+use Rattle.std.proofs.Common.{◌≡◌, ℕ, List, [], ◌∷◌, Some, Bool, true, false, sym, subst}
+use Rattle.std.specs.Prelude.{IfSome, if◌then◌else◌}
+use Rattle.std.specs.Global.{Vec}
 use Rattle.std.specs.List.{AllByRecursion}
 use Rattle.toml.specs.Data.{Members, get_item, get_member}
 use Rattle.vault_core.specs.Name.{IsName}
@@ -16,8 +17,12 @@ use Rattle.vault_rights.specs.Named.{Names, Row}
 use Rattle.vault_rights.specs.Proper.{IsProper as IsProperDocument}
 use Rattle.vault_jobs.specs.Grants.{grants_at}
 use Rattle.vault_jobs.specs.Tasks.{IsProper as HasLives}
+use Rattle.vault_jobs.specs.declared.show.Shown.TheVariants.{Changes}
 use Rattle.vault_jobs.specs.declared.task.Task.{Task}
-use Rattle.vault_jobs.specs.declared.task.Task.TheVariants.{Change, Give, Sweep, Batch, Pipe, Serve}
+use Rattle.vault_jobs.specs.declared.task.Task.TheVariants.{Change, Give, Settle, Sweep, Batch, Pipe, Serve}
+use Rattle.vault_jobs.specs.declared.task.Task.TheVariants.{Show}
+use Rattle.vault_words.specs.declared.commands.rights_file.RightsFileJob.{RightsFileJob}
+use Rattle.vault_app.specs.Plans.{rights_task}
 use Rattle.vault_app.specs.Rights.{IsListed}
 use Rattle.vault_app.specs.Values.{AreValues}
 
@@ -37,10 +42,12 @@ lives_of (Audit caller m now) is = tt
 pub has_lives : (t : Task) → AreValues t → HasLives t
 has_lives (Change c) is = lives_of c is.1
 has_lives (Give rights now) is = tt
-has_lives (Sweep who now) is = tt
+has_lives (Settle rights now) is = tt
+has_lives (Sweep who now giver) is = tt
 has_lives (Batch who now digits) is = tt
 has_lives (Pipe now digits) is = tt
-has_lives (Serve port connections) is = tt
+has_lives (Serve port connections listed) is = tt
+has_lives (Show it) is = tt
 
 -- the names of a row are names, and its end is a moment
 abbrev IsProperRow : Row → Type 0
@@ -75,3 +82,17 @@ pub listed_proper : (says : List ℕ → Type 0) (now : ℕ) → IsMoment now �
 listed_proper says now moment rows (text, document, said, is, proper, list) =
     rows_proper now moment rows (all-contained IsProperRow rows
     (λ row inside. row_proper document proper row ((list.1 row).0 inside)))
+
+-- so the task of a list has values, whatever the words ask of it
+rights_proper : (dry_run exact : Bool) (rows : Vec Row) (now : ℕ) → IsMoment now
+    → AllProper (grants_at now rows.items)
+    → AreValues (if dry_run then Show (Changes exact rows now)
+    else if exact then Settle rows now
+    else Give rows now)
+rights_proper true exact rows now moment proper = tt
+rights_proper false true rows now moment proper = (moment, proper)
+rights_proper false false rows now moment proper = proper
+
+pub task_proper : (j : RightsFileJob) (rows : Vec Row) (now : ℕ) → IsMoment now
+    → AllProper (grants_at now rows.items) → AreValues (rights_task j rows now)
+task_proper j = rights_proper j.dry_run j.exact

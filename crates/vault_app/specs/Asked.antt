@@ -14,7 +14,8 @@ use Rattle.vault_words.specs.declared.commands.batch.BatchJob.{BatchJob}
 use Rattle.vault_words.specs.declared.commands.rights.RightJob.{RightJob}
 use Rattle.vault_words.specs.declared.jobs.Job.{Job}
 use Rattle.vault_words.specs.declared.jobs.Job.TheVariants.{Trial, Merchant, Grant, Withdraw, Rights, Pipe}
-use Rattle.vault_words.specs.declared.jobs.Job.TheVariants.{Batch, Serve, Sweep, Check, Migrate}
+use Rattle.vault_words.specs.declared.jobs.Job.TheVariants.{Batch, Serve, Sweep, List as Listing, Check}
+use Rattle.vault_words.specs.declared.jobs.Job.TheVariants.{Migrate}
 use Rattle.vault_jobs.specs.declared.stop.Stop.TheVariants.{Vault}
 use Rattle.vault_app.specs.declared.ending.Ending.{Ending}
 use Rattle.vault_app.specs.declared.ending.Ending.TheVariants.{Done, Version}
@@ -31,6 +32,7 @@ HasLives (Pipe j) = Unit {0}
 HasLives (Batch j) = Unit {0}
 HasLives (Serve j) = Unit {0}
 HasLives (Sweep j) = Unit {0}
+HasLives (Listing j) = Unit {0}
 HasLives (Check j) = Unit {0}
 HasLives (Migrate j) = Unit {0}
 

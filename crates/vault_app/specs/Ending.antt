@@ -46,12 +46,13 @@ abbrev pub stop_line : ℕ → List ℕ
 stop_line n = codes "vault: stopped " ++ decimal n ++ codes "\n"
 
 -- A version and a refusal are said on the output, and what else stands in the way of a job on the errors; the
--- other stream stays as it was, and at the end of a job, and of a batch with refused rows, both do.
-abbrev pub Says : Ending → Type 0 → Type 0 → (List ℕ → Type 0) → (List ℕ → Type 0) → Type 0
-Says Done same_output same_errors output errors = same_output × same_errors
-Says Version same_output same_errors output errors = output version_line × same_errors
-Says (Refused n) same_output same_errors output errors = output (refusal_line n) × same_errors
-Says SomeRefused same_output same_errors output errors = same_output × same_errors
-Says BadWords same_output same_errors output errors = same_output × errors bad_words_line
-Says (NotOpened f) same_output same_errors output errors = same_output × errors (not_opened_line f)
-Says (Stopped s) same_output same_errors output errors = same_output × errors (stop_line (number_of s))
+-- other stream stays as it was, and at the end of a job, and of a batch with refused rows, both do. Behind the
+-- line of bad words it is said why they are.
+abbrev pub Says : List ℕ → Ending → Type 0 → Type 0 → (List ℕ → Type 0) → (List ℕ → Type 0) → Type 0
+Says why Done same_output same_errors output errors = same_output × same_errors
+Says why Version same_output same_errors output errors = output version_line × same_errors
+Says why (Refused n) same_output same_errors output errors = output (refusal_line n) × same_errors
+Says why SomeRefused same_output same_errors output errors = same_output × same_errors
+Says why BadWords same_output same_errors output errors = same_output × errors (bad_words_line ++ why)
+Says why (NotOpened f) same_output same_errors output errors = same_output × errors (not_opened_line f)
+Says why (Stopped s) same_output same_errors output errors = same_output × errors (stop_line (number_of s))

@@ -1,5 +1,5 @@
 -- What is done with the vault in a file.
-use Rattle.std.specs.Prelude.{◌≡◌, ℕ, List, [], Option, Some, None, Result, Ok, Err, Bool}
+use Rattle.std.specs.Prelude.{◌≡◌, ◌⊎◌, ℕ, List, [], Option, Some, None, Result, Ok, Err, Bool}
 use Rattle.sqlite.specs.Files.{file_state}
 use Rattle.sqlite.specs.Held.{Held}
 use Rattle.sqlite.specs.State.{HasCleanDisk}
@@ -23,7 +23,9 @@ use Rattle.vault_jobs.specs.Streams.{Streams}
 use Rattle.vault_jobs.specs.declared.stop.Stop.{Stop}
 use Rattle.vault_jobs.specs.declared.task.Outcome.{Outcome}
 use Rattle.vault_jobs.specs.declared.task.Outcome.TheVariants as outcome
+use Rattle.vault_jobs.specs.declared.show.Shown.{Shown}
 use Rattle.vault_jobs.specs.declared.task.Task.{Task}
+use Rattle.vault_jobs.specs.declared.task.Task.TheVariants.{Show}
 use Rattle.vault_app.specs.World.{World}
 use Rattle.vault_app.specs.declared.ending.Ending.{Ending}
 use Rattle.vault_app.specs.declared.ending.Ending.TheVariants.{Done, Version, Refused, SomeRefused}
@@ -35,6 +37,10 @@ ending_for (Ok outcome.Done) = Done
 ending_for (Ok (outcome.Refused n)) = Refused n
 ending_for (Ok outcome.SomeRefused) = SomeRefused
 ending_for (Err stop) = Stopped stop
+
+-- the task only says what a vault holds
+abbrev pub IsShow : Task → Type 0
+IsShow t = (it : Shown) × (t ≡ Show it)
 
 module _ {D : Type 0} {g : Ghosts D} where
   -- The passage of the vault in files that were opened by this connection, and are left, closed. All of it
@@ -88,10 +94,10 @@ module _ {D : Type 0} {g : Ghosts D} where
       WorksOn Holding left (λ p broken. Does tells task p broken (Err stop) unread unsent s)
 
   -- The same at a path, where files are left only if they were opened, or refused with a connection: none are
-  -- where an open of the path may fail.
+  -- where an open of the path may fail; nor where nothing is there, and the task only says what is.
   abbrev pub EndsOnFile : World → List ℕ → Option (FileStore D g) → Task → Ending → Type 0 → Type 0 → Streams
       → Type 0
   EndsOnFile world path (Some left) task ending unread unsent s =
       DoesOnFile world.tells (world.holds path) left task ending unread unsent s
-  EndsOnFile world path None task ending unread unsent s =
-      (ending ≡ NotOpened file.Refused) × world.refuses path × unread × unsent
+  EndsOnFile world path None task ending unread unsent s = (ending ≡ NotOpened file.Refused)
+      × (world.refuses path ⊎ IsShow task × world.lacks path) × unread × unsent

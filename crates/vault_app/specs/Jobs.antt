@@ -15,6 +15,7 @@ use Rattle.vault_file.specs.declared.fault.NotOpened.{NotOpened as FileFault}
 use Rattle.vault_file.specs.declared.fault.NotOpened.TheVariants as file
 use Rattle.vault_verdict.specs.Sizes.{sizes_of}
 use Rattle.vault_verdict.specs.declared.sizes.Sizes.{Sizes}
+use Rattle.vault_words.specs.Why.{HasFewDigits}
 use Rattle.vault_words.specs.declared.jobs.Job.{Job}
 use Rattle.vault_listen.specs.Peers.{Link}
 use Rattle.vault_wire.specs.Watching.{inner_of, is_stopped}
@@ -76,13 +77,16 @@ module _ {D : Type 0} {g : Ghosts D} where
       AsksFor words (λ job. DoesJob world left job ending unread unsent s)
       ⊎ (left ≡ None) × Unasked words ending unread unsent
 
-  -- What a run does with them: what the words do. Then it says how it ended, by its status and a line.
+  -- What a run does with them: what the words do. Then it says how it ended, by its status and a line; and
+  -- why, where the words are bad, in lines that show too few digits for a card number.
   pub record DoesRun (world : World) (left : Option (FileStore D g)) (words : List Text) (status : ℕ)
       (unread unsent : Type 0) (s : Streams) (same_output same_errors : Type 0)
       (output errors : List ℕ → Type 0) : Type 0 where
     pub ending : Ending
     pub exits : status ≡ status_of ending
-    pub says : Says ending same_output same_errors output errors
+    pub why : List ℕ
+    pub few : HasFewDigits why
+    pub says : Says why ending same_output same_errors output errors
     pub does : Does world left words ending unread unsent s
 
 -- What a run of the program does over its three streams, in this world, which leaves these

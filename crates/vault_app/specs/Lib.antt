@@ -2,6 +2,7 @@ pub mod Asked
 pub mod Ending
 pub mod Files
 pub mod Jobs
+pub mod Listed
 pub mod Plans
 pub mod Rights
 pub mod Values

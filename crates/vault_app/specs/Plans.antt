@@ -1,5 +1,8 @@
 -- What a job comes to: a plan, or an ending before there is one.
-use Rattle.std.specs.Prelude.{◌≡◌, ◌≢◌, ◌⊎◌, ℕ, ℤ, List, None, Bool, true, false, unwrap_or}
+use Rattle.std.specs.Prelude.{◌≡◌, ◌≢◌, ◌⊎◌, ℕ, ℤ, List, Option, None, Some, IsSome, Bool, true, false}
+use Rattle.std.specs.Prelude.{unwrap_or, if◌then◌else◌}
+use Rattle.std.specs.Borrow.{Bor}
+use Rattle.std.specs.Global.{Vec}
 use Rattle.std.specs.Prelude.{Result, Ok, Err}
 use Rattle.std.specs.Io.KnownBytes.{Appends}
 use Rattle.clap.specs.Words.{Text}
@@ -13,17 +16,23 @@ use Rattle.vault_file.specs.declared.fault.NotOpened.{NotOpened as FileFault}
 use Rattle.vault_http.specs.declared.fault.ServeFault.{ServeFault}
 use Rattle.vault_http.specs.declared.fault.ServeFault.TheVariants as service
 use Rattle.vault_live.specs.Live.{Turns}
+use Rattle.vault_rights.specs.Named.{Row}
 use Rattle.vault_verdict.specs.declared.sizes.Sizes.{Sizes}
+use Rattle.vault_words.specs.declared.commands.rights_file.RightsFileJob.{RightsFileJob}
 use Rattle.vault_words.specs.declared.commands.trial.TrialJob.{TrialJob}
 use Rattle.vault_words.specs.declared.jobs.Job.{Job}
 use Rattle.vault_words.specs.declared.jobs.Job.TheVariants.{Trial, Merchant, Grant, Withdraw, Rights, Pipe}
-use Rattle.vault_words.specs.declared.jobs.Job.TheVariants.{Batch, Serve, Sweep, Check, Migrate}
+use Rattle.vault_words.specs.declared.jobs.Job.TheVariants.{Batch, Serve, Sweep, List as Listing, Check}
+use Rattle.vault_words.specs.declared.jobs.Job.TheVariants.{Migrate}
 use Rattle.vault_jobs.specs.Causes.{IsCauseOf}
-use Rattle.vault_jobs.specs.Moments.{IsMomentOf}
+use Rattle.vault_jobs.specs.Moments.{IsMomentOf, giver_of}
 use Rattle.vault_jobs.specs.Streams.{Known, Streams}
 use Rattle.vault_jobs.specs.Trial as memory
 use Rattle.vault_jobs.specs.declared.stop.Stop.TheVariants as stop
 use Rattle.vault_jobs.specs.declared.stop.Unread.{Unread}
+use Rattle.vault_jobs.specs.declared.show.Form.{Form}
+use Rattle.vault_jobs.specs.declared.show.Form.TheVariants.{Lines, Objects}
+use Rattle.vault_jobs.specs.declared.show.Shown.TheVariants as show
 use Rattle.vault_jobs.specs.declared.task.Task.{Task}
 use Rattle.vault_jobs.specs.declared.task.Task.TheVariants as task
 use Rattle.vault_jobs.specs.declared.trial.Trial.{Trial as Asked}
@@ -41,6 +50,26 @@ use Rattle.vault_app.specs.declared.plan.Plan.TheVariants as plan
 abbrev pub without_end : ℕ
 without_end = 18446744073709551615
 
+-- the task of a list of rights: they are given, the rights become exactly these, or what would change is said
+abbrev pub rights_task : RightsFileJob → Vec Row → ℕ → Task
+rights_task j rows now =
+    if j.dry_run then task.Show (show.Changes j.exact rows now)
+    else if j.exact then task.Settle rows now
+    else task.Give rows now
+
+-- A service on a port of so many connections. Where the words name a list of rights, it begins with those
+-- that this lists, at a moment that was told.
+abbrev pub IsServeOf : World → ℕ → ℕ → Option (Bor (List ℕ)) → Task → Type 0
+IsServeOf world port connections None t = t ≡ task.Serve port connections None
+IsServeOf world port connections (Some path) t = (rows : Vec Row) × (now : ℕ)
+    × IsListed (world.says path.now) rows.items × IsMomentOf world.tells None now
+    × (t ≡ task.Serve port connections (Some (record { rights = rows; now = now })))
+
+-- how a vault is listed: in words, or as JSON objects
+abbrev pub form_of : Bool → Form
+form_of true = Objects
+form_of false = Lines
+
 -- the task that the words of a job ask for, whose names are names, at the moment that they fix, or else at
 -- one that was told
 abbrev pub IsTaskOf : World → Job → Task → Type 0
@@ -54,21 +83,17 @@ IsTaskOf world (Grant j) t = AreNames j.given
 IsTaskOf world (Withdraw j) t = AreNames j
     × ((right : Right) × (now : ℕ) × (j.right.now ≡ right_word right) × IsMomentOf world.tells j.now now
     × (t ≡ task.Change (command.Withdraw j.caller.now j.merchant.now right now)))
-IsTaskOf world (Rights j) (task.Give rows now) = IsListed (world.says j.rights.now) rows.items
-    × IsMomentOf world.tells j.now now
-IsTaskOf world (Rights j) (task.Change c) = ⊥
-IsTaskOf world (Rights j) (task.Sweep who now) = ⊥
-IsTaskOf world (Rights j) (task.Batch who now digits) = ⊥
-IsTaskOf world (Rights j) (task.Pipe now digits) = ⊥
-IsTaskOf world (Rights j) (task.Serve port connections) = ⊥
+IsTaskOf world (Rights j) t = (rows : Vec Row) × (now : ℕ) × IsListed (world.says j.rights.now) rows.items
+    × IsMomentOf world.tells j.now now × (t ≡ rights_task j rows now)
 IsTaskOf world (Pipe j) t = t ≡ task.Pipe j.now j.digits
 IsTaskOf world (Batch j) t = (IsName j.caller.now × IsName j.merchant.now)
     × ((who : Asker) × (who.caller ≡ j.caller.now) × (who.merchant ≡ j.merchant.now)
     × (t ≡ task.Batch who j.now j.digits))
-IsTaskOf world (Serve j) t = t ≡ task.Serve j.port (unwrap_or j.connections without_end)
+IsTaskOf world (Serve j) t = IsServeOf world j.port (unwrap_or j.connections without_end) j.rights t
 IsTaskOf world (Sweep j) t = (IsName j.caller.now × IsName j.merchant.now)
     × ((who : Asker) × (now : ℕ) × (who.caller ≡ j.caller.now) × (who.merchant ≡ j.merchant.now)
-    × IsMomentOf world.tells j.now now × (t ≡ task.Sweep who now))
+    × IsMomentOf world.tells j.now now × (t ≡ task.Sweep who now (giver_of j.now)))
+IsTaskOf world (Listing j) t = t ≡ task.Show (show.Listing (form_of j.json))
 IsTaskOf world (Check j) t = ⊥
 IsTaskOf world (Migrate j) t = ⊥
 
@@ -92,6 +117,7 @@ IsPlanOf world (Pipe j) p = (t : Task) × IsTaskOf world (Pipe j) t × (p ≡ pl
 IsPlanOf world (Batch j) p = (t : Task) × IsTaskOf world (Batch j) t × (p ≡ plan.Do j.file t)
 IsPlanOf world (Serve j) p = (t : Task) × IsTaskOf world (Serve j) t × (p ≡ plan.Do j.file t)
 IsPlanOf world (Sweep j) p = (t : Task) × IsTaskOf world (Sweep j) t × (p ≡ plan.Do j.file t)
+IsPlanOf world (Listing j) p = (t : Task) × IsTaskOf world (Listing j) t × (p ≡ plan.Do j.file t)
 IsPlanOf world (Check j) p = p ≡ plan.Check j.file
 IsPlanOf world (Migrate j) p = p ≡ plan.Migrate j.file
 
@@ -111,8 +137,9 @@ IsRefusedBefore (Withdraw j) n = IsMisnamed j n
 IsRefusedBefore (Rights j) n = IsRefusedText n
 IsRefusedBefore (Pipe j) n = ⊥
 IsRefusedBefore (Batch j) n = (n ≡ 4) × ¬ (IsName j.caller.now × IsName j.merchant.now)
-IsRefusedBefore (Serve j) n = ⊥
+IsRefusedBefore (Serve j) n = IsSome j.rights × IsRefusedText n
 IsRefusedBefore (Sweep j) n = (n ≡ 4) × ¬ (IsName j.caller.now × IsName j.merchant.now)
+IsRefusedBefore (Listing j) n = ⊥
 IsRefusedBefore (Check j) n = ⊥
 IsRefusedBefore (Migrate j) n = ⊥
 
@@ -125,8 +152,9 @@ NeedsMoment (Withdraw j) = j.now ≡ None
 NeedsMoment (Rights j) = j.now ≡ None
 NeedsMoment (Pipe j) = ⊥
 NeedsMoment (Batch j) = ⊥
-NeedsMoment (Serve j) = ⊥
+NeedsMoment (Serve j) = IsSome j.rights
 NeedsMoment (Sweep j) = j.now ≡ None
+NeedsMoment (Listing j) = ⊥
 NeedsMoment (Check j) = ⊥
 NeedsMoment (Migrate j) = ⊥
 
@@ -139,8 +167,9 @@ HasList (Withdraw j) = ⊥
 HasList (Rights j) = Unit {0}
 HasList (Pipe j) = ⊥
 HasList (Batch j) = ⊥
-HasList (Serve j) = ⊥
+HasList (Serve j) = IsSome j.rights
 HasList (Sweep j) = ⊥
+HasList (Listing j) = ⊥
 HasList (Check j) = ⊥
 HasList (Migrate j) = ⊥
 

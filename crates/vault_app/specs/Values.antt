@@ -1,5 +1,5 @@
 -- Tasks whose parts are values of their types.
-use Rattle.std.specs.Prelude.{IfSome}
+use Rattle.std.specs.Prelude.{IfSome, None, Some}
 use Rattle.vault_pan.specs.Draw.{IsDrawing}
 use Rattle.vault_core.specs.Name.{IsName}
 use Rattle.vault_core.specs.Proper.{AllProper, IsProper}
@@ -8,7 +8,8 @@ use Rattle.vault_core.specs.declared.command.Command.{Command}
 use Rattle.vault_core.specs.declared.command.Command.TheVariants.{SetMerchant, Grant, Withdraw}
 use Rattle.vault_jobs.specs.Grants.{grants_at}
 use Rattle.vault_jobs.specs.declared.task.Task.{Task}
-use Rattle.vault_jobs.specs.declared.task.Task.TheVariants.{Change, Give, Sweep, Batch, Pipe, Serve}
+use Rattle.vault_jobs.specs.declared.task.Task.TheVariants.{Change, Give, Settle, Sweep, Batch, Pipe, Serve}
+use Rattle.vault_jobs.specs.declared.task.Task.TheVariants.{Show}
 
 -- a command that only the words of the program ask for
 abbrev pub IsOwn : Command → Type 0
@@ -22,8 +23,11 @@ IsOwn c = ⊥
 abbrev pub AreValues : Task → Type 0
 AreValues (Change c) = IsOwn c × IsProper c
 AreValues (Give rights now) = AllProper (grants_at now rights.items)
-AreValues (Sweep who now) = IsName who.caller × IsName who.merchant × IsMoment now
+AreValues (Settle rights now) = IsMoment now × AllProper (grants_at now rights.items)
+AreValues (Sweep who now giver) = IsName who.caller × IsName who.merchant × IsMoment now
 AreValues (Batch who now digits) =
     IsName who.caller × IsName who.merchant × IfSome now IsMoment × IfSome digits IsDrawing
 AreValues (Pipe now digits) = IfSome now IsMoment × IfSome digits IsDrawing
-AreValues (Serve port connections) = Unit {0}
+AreValues (Serve port connections None) = Unit {0}
+AreValues (Serve port connections (Some it)) = IsMoment it.now × AllProper (grants_at it.now it.rights.items)
+AreValues (Show it) = Unit {0}

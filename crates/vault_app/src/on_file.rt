@@ -1,14 +1,15 @@
 //! What is done with the vault in a file.
-ghost use Rattle.std.specs.Prelude.{◌≡◌, ◌++◌, List, Option, Result};
+ghost use Rattle.std.specs.Prelude.{◌≡◌, ◌++◌, IsTrue, List, Option, Result};
 ghost use Rattle.vault_listen.specs.Peers.{Event, Link, events_of};
 ghost use Rattle.vault_jobs.specs.Streams.{Streams, streams, with_links};
 ghost use Rattle.vault_jobs.specs.Tasks.{IsProper};
-ghost use Rattle.vault_app.specs.Files.{EndsOnFile, ending_for};
+ghost use Rattle.vault_app.specs.Files.{EndsOnFile, IsShow, ending_for};
 ghost use Rattle.vault_app.specs.World.{World, world_of};
 
 use crate::ending::Ending;
 use sqlite::FileStore;
 use std::io::{Read, Write};
+use vault_file::fault::NotOpened;
 use vault_file::open::{close_files, open_vault};
 use vault_file::paths::Paths;
 use vault_jobs::stop::Stop;
@@ -34,12 +35,23 @@ fn ending_of(outcome: Result<Outcome, Stop>) -> Ending
 /// an order.
 fn cache_for(task: &Task) -> Cache {
     match task {
-        Task::Sweep(_, _) => Cache::Whole,
+        Task::Sweep(_, _, _) => Cache::Whole,
         _ => Cache::Large,
     }
 }
 
-/// Opens the vault in the file at a path, does a task with it, and closes the files.
+/// Whether a task only says what a vault holds.
+fn only_shows(task: &Task) -> bool
+    ensures { IsTrue result → IsShow task.now }
+{
+    match task {
+        Task::Show(_) => true,
+        _ => false,
+    }
+}
+
+/// Opens the vault in the file at a path, does a task with it, and closes the files. Where the task only says
+/// what the file holds, one that isn't there isn't made: it is refused by 34.
 pub(crate) fn do_on_file<P: Paths, K: Timekeeper, N: Network, R: Read, W: Write>(
     rt: &HostRuntime,
     path: &str,
@@ -59,6 +71,9 @@ pub(crate) fn do_on_file<P: Paths, K: Timekeeper, N: Network, R: Read, W: Write>
         × EndsOnFile world path.now result.1 task.now result.0 (input.new ≡ input.old)
         (output.new ≡ output.old) (with_links s links) }
 {
+    if only_shows(task) && paths.is_missing(rt, path) {
+        return (Ending::NotOpened(NotOpened::Refused), None);
+    }
     let mut vault = match open_vault(rt, path, paths, cache_for(task)) {
         Ok(vault) => vault,
         Err((fault, left)) => return (Ending::NotOpened(fault), left),

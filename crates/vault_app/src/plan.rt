@@ -4,7 +4,7 @@ ghost use Rattle.vault_app.specs.Plans.{EndsBefore, IsPlanOf, IsProperPlan};
 ghost use Rattle.vault_app.specs.Asked.{HasLives};
 ghost use Rattle.vault_app.specs.World.{World, world_of};
 
-use crate::commands::{batch, merchant, pipe, rights, rights_file, serve, sweep, trial};
+use crate::commands::{batch, list, merchant, pipe, rights, rights_file, serve, sweep, trial};
 use crate::ending::Ending;
 use vault_file::paths::Paths;
 use vault_jobs::task::Task;
@@ -47,8 +47,9 @@ pub(crate) fn plan_of<'a, P: Paths, K: Timekeeper>(
         Job::Rights(job) => Ok(Plan::Do(job.file, rights_file::task(rt, paths, time, job)?)),
         Job::Pipe(job) => Ok(Plan::Do(job.file, pipe::task(job))),
         Job::Batch(job) => Ok(Plan::Do(job.file, batch::task(job)?)),
-        Job::Serve(job) => Ok(Plan::Do(job.file, serve::task(job))),
+        Job::Serve(job) => Ok(Plan::Do(job.file, serve::task(rt, paths, time, job)?)),
         Job::Sweep(job) => Ok(Plan::Do(job.file, sweep::task(time, job)?)),
+        Job::List(job) => Ok(Plan::Do(job.file, list::task(job))),
         Job::Check(job) => Ok(Plan::Check(job.file)),
         Job::Migrate(job) => Ok(Plan::Migrate(job.file)),
     }

@@ -57,14 +57,16 @@ fn tell_version<W: Write>(output: &mut Watched<W>)
     tell(output, &["vault ", VERSION, ", schema ", schema, "\n"]);
 }
 
-/// Says how a job ended, and answers the exit status. A line that can't be written changes no status.
+/// Says how a job ended, and answers the exit status. A line that can't be written changes no status. Behind
+/// the line of bad words stands why they are.
 pub(crate) fn report<W: Write, E: Write>(
     ending: &Ending,
+    why: &str,
     output: &mut Watched<W>,
     errors: &mut Watched<E>,
 ) -> u8
     ensures status { result ≡ status_of ending.now }
-    ensures said { Says ending.now (output.new ≡ output.old) (errors.new ≡ errors.old)
+    ensures said { Says why.now ending.now (output.new ≡ output.old) (errors.new ≡ errors.old)
         (Tells (W.contents (inner_of output.old)) (W.contents (inner_of output.new))
         (is_stopped output.new))
         (Tells (E.contents (inner_of errors.old)) (E.contents (inner_of errors.new))
@@ -82,7 +84,7 @@ pub(crate) fn report<W: Write, E: Write>(
         }
         Ending::SomeRefused => 1,
         Ending::BadWords => {
-            tell(errors, &["vault: bad words\n"]);
+            tell(errors, &["vault: bad words\n", why]);
             2
         }
         Ending::NotOpened(fault) => {

@@ -1,11 +1,13 @@
 //! The program, but for what the process gives it.
 ghost use Rattle.std.specs.Prelude.{◌≡◌, ◌≢◌, ◌↔◌, ◌⊎◌, ◌++◌, IfErr, IfOk, List, Option, map};
+ghost use Rattle.std.specs.Prelude.{string_bytes};
 ghost use Rattle.std.specs.IoError.{error_kind};
 ghost use Rattle.vault_wire.specs.Watching.{inner_of, is_stopped};
 ghost use Rattle.vault_wire.specs.declared.watched.Watched.{Watched};
 ghost use Rattle.vault_listen.specs.Peers.{Event, Link, events_of};
 ghost use Rattle.vault_jobs.specs.Streams.{Streams, streams, with_links};
 ghost use Rattle.vault_jobs.specs.Told.{Tells};
+ghost use Rattle.vault_words.specs.Why.{HasFewDigits};
 ghost use Rattle.vault_app.specs.Ending.{bad_words_line, stop_line};
 ghost use Rattle.vault_app.specs.Jobs.{Does, DoesPlan, RunsAs};
 ghost use Rattle.vault_app.specs.Plans.{EndsPlanless, IsPlanOf, IsProperPlan};
@@ -20,6 +22,7 @@ use crate::on_file::do_on_file;
 use crate::plan::{Plan, plan_of};
 use crate::report::report;
 use sqlite::FileStore;
+use std::alloc::Global;
 use std::convert::AsStr;
 use std::io::{Error, ErrorKind, Read, Write};
 use vault_file::check::check_file;
@@ -58,7 +61,7 @@ fn planned<'a, P: Paths, K: Timekeeper, A: AsStr, W: Write>(
             Err(Ending::Done)
         }
         Err(JobFault::Version) => Err(Ending::Version),
-        Err(JobFault::BadWords) => Err(Ending::BadWords),
+        Err(JobFault::BadWords(_)) => Err(Ending::BadWords),
         Err(JobFault::Memory) => Err(Ending::Stopped(Stop::Vault(Fault::Memory))),
     }
 }
@@ -120,12 +123,26 @@ fn ended<P: Paths, K: Timekeeper, N: Network, A: AsStr, R: Read, W: Write>(
     }
 }
 
+/// Why words are bad, where a run ends so; nothing, where it ends otherwise.
+fn why_bad<A: AsStr>(alloc: Global, words: &[A], ending: &Ending) -> String
+    ensures few { HasFewDigits (string_bytes result) }
+{
+    match ending {
+        Ending::BadWords => match job(alloc, words) {
+            Err(JobFault::BadWords(why)) => why,
+            _ => String::new(alloc),
+        },
+        _ => String::new(alloc),
+    }
+}
+
 /// Reads the words, does their job over the three streams, says how it ended, and answers the exit status and
 /// the files that it leaves. `paths` tells what stands at paths, `time` the moments that the words don't
 /// fix, and on `network` a service listens.
 ///
 /// The first word is the program's name. A line on the output or on the errors goes with each status but 0:
-/// `refused n`, `vault: bad words`, `vault: file not opened n` or `n m`, `vault: stopped n`.
+/// `refused n`, `vault: bad words` with lines that say why, `vault: file not opened n` or `n m`,
+/// `vault: stopped n`.
 pub fn run<P: Paths, K: Timekeeper, N: Network, A: AsStr, R: Read, W: Write, E: Write>(
     rt: &HostRuntime,
     paths: P,
@@ -151,7 +168,8 @@ pub fn run<P: Paths, K: Timekeeper, N: Network, A: AsStr, R: Read, W: Write, E: 
     ensures unsent { (result.0 ≡ 2) ⊎ (result.0 ≡ 3) → output.new ≡ output.old }
 {
     let (ending, left) = ended(rt, paths, time, network, words, input, output);
-    (report(&ending, output, errors), left)
+    let why = why_bad(rt.alloc(), words, &ending);
+    (report(&ending, why.as_str(), output, errors), left)
 }
 
 /// Says why there are no words: memory was refused, or one of them isn't UTF-8.
@@ -174,5 +192,5 @@ pub fn no_words<W: Write, E: Write>(
         ErrorKind::OutOfMemory => Ending::Stopped(Stop::Vault(Fault::Memory)),
         _ => Ending::BadWords,
     };
-    report(&ending, output, errors)
+    report(&ending, "", output, errors)
 }

@@ -7,4 +7,5 @@ mod running;
 mod sequence;
 mod streams;
 mod sweep;
+mod witness;
 mod words;

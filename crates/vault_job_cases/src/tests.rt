@@ -1,4 +1,5 @@
 //! Words, rights files, jobs over a vault in memory, and services over loopback.
+mod ahead;
 mod clocks;
 mod drawing;
 mod help;
@@ -8,4 +9,5 @@ mod rights;
 mod service;
 mod sweep;
 mod trial;
+mod why;
 mod words;

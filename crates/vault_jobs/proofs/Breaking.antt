@@ -84,6 +84,9 @@ listen_other f r new same whole store is =
 
 pub listen_store : (f : ListenFault) (r : Result (Unit {0}) ListenFault) (old new : Bool) → r ≡ Err f
     → old ≡ false → new ≡ true → (r ≢ Err listen.Store → new ≡ old) → f ≡ listen.Store
+listen_store listen.Source r old new same z b others =
+    let kept : new ≡ old = others (λ is. absurd (cc (same, is))) in
+    absurd (cc (z, b, kept))
 listen_store listen.Store r old new same z b others = refl
 listen_store listen.Memory r old new same z b others =
     let kept : new ≡ old = others (λ is. absurd (cc (same, is))) in

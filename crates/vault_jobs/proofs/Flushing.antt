@@ -11,7 +11,7 @@ use Rattle.vault_batch.specs.declared.asker.Asker.{Asker}
 use Rattle.vault_batch.specs.declared.counts.Counts.{Counts}
 
 -- bytes that went out before a flush
-kept_after : (old mid new : Option (List ℕ)) (bs : List ℕ) → Appends old mid bs → Keeps mid new
+pub kept_after : (old mid new : Option (List ℕ)) (bs : List ℕ) → Appends old mid bs → Keeps mid new
     → Appends old new bs
 kept_after None mid new bs h k = tt
 kept_after (Some xs) None new bs h k = absurd h

@@ -1,10 +1,16 @@
 pub mod Along
+pub mod Among
 pub mod Breaking
+pub mod Changing
 pub mod Flushing
 pub mod Giving
+pub mod Lines
+pub mod Listed
+pub mod Lists
 pub mod Parts
 pub mod Purging
 pub mod Refining
 pub mod Stops
 pub mod Sweeping
 pub mod Telling
+pub mod Timed

@@ -1,21 +1,29 @@
 -- What a task does, by what its parts do.
-use Rattle.std.proofs.Common.{◌≡◌, ℕ, List, [], Bool, true, Option, Result, Ok, Err, inl, inr, length}
+use Rattle.std.proofs.Common.{◌≡◌, ℕ, List, [], Bool, true, Option, Some, None, Result, Ok, Err}
+use Rattle.std.proofs.Common.{inl, inr, length}
 use Rattle.std.proofs.Common.{subst, sym}
 use Rattle.std.specs.Prelude.{IfErr}
 use Rattle.vault_http.specs.Passing.{Passage}
-use Rattle.vault_http.specs.declared.fault.ServeFault.TheVariants as service
 use Rattle.vault_batch.specs.declared.asker.Asker.{Asker}
 use Rattle.vault_live.specs.Live.{Turns}
 use Rattle.vault_listen.specs.Peers.{Link}
 use Rattle.vault_store.specs.declared.vault.Fault.{Fault}
 use Rattle.vault_jobs.specs.Causes.{IsCause, IsCauseOf}
 use Rattle.vault_jobs.specs.Carried.{Carries}
-use Rattle.vault_jobs.specs.Doing.{CommandsEnd, Does, ServeEnds, SweepEnds, Works}
+use Rattle.vault_jobs.specs.Doing.{CommandsEnd, Does, ListEnds, ListedServeEnds, ServeEnds, SettleEnds}
+use Rattle.vault_jobs.specs.Doing.{ShowEnds, SweepEnds, TimedSweepEnds, Works, behind}
+use Rattle.vault_store.specs.declared.vault.Fault.TheVariants as vault
 use Rattle.vault_jobs.specs.Grants.{CarriesAll, grants_at}
 use Rattle.std.specs.Global.{Vec}
 use Rattle.vault_rights.specs.Named.{Row}
 use Rattle.vault_jobs.specs.Tasks.{BreaksBy, FailsStore, granted_line}
-use Rattle.vault_jobs.specs.declared.task.Task.TheVariants.{Change, Give, Sweep, Serve}
+use Rattle.vault_core.specs.Vault.{Vault as Content}
+use Rattle.vault_jobs.specs.Listing.{shown_text}
+use Rattle.vault_jobs.specs.declared.task.Task.TheVariants.{Change, Give, Settle, Sweep, Serve, Show}
+use Rattle.vault_jobs.specs.declared.task.Listed.{Listed}
+use Rattle.vault_jobs.specs.declared.clock.Giver.{Giver}
+use Rattle.vault_jobs.specs.declared.clock.Giver.TheVariants.{Words, Clock}
+use Rattle.vault_jobs.specs.declared.show.Shown.{Shown}
 use Rattle.vault_core.specs.declared.command.Command.{Command}
 use Rattle.vault_jobs.specs.Streams.{Known, Streams}
 use Rattle.vault_jobs.specs.declared.change.Verdict.{Verdict}
@@ -23,7 +31,6 @@ use Rattle.vault_jobs.specs.declared.stop.Stop.{Stop}
 use Rattle.vault_jobs.specs.declared.stop.Stop.TheVariants.{Vault, Service, Listener, Rights}
 use Rattle.vault_jobs.specs.declared.stop.Stop.TheVariants as stop
 use Rattle.vault_jobs.specs.declared.task.Outcome.{Outcome}
-use Rattle.vault_jobs.specs.declared.task.Outcome.TheVariants as outcome
 
 module _ (unsent : Type 0) (old new : Known) (s : Streams) where
   commands_caused : (P : Result Verdict Fault → Type 0) (line : List ℕ) (r : Result Outcome Stop)
@@ -45,6 +52,16 @@ module _ (unsent : Type 0) (old new : Known) (s : Streams) where
   sweep_caused who now w broken (Err (Rights f)) h = absurd h
   sweep_caused who now w broken (Err (stop.Batch f)) h = absurd h
 
+  timed_sweep_caused : (giver : Giver) (who : Asker) (now : ℕ) (w : Passage) (broken : Bool)
+      (r : Result Outcome Stop) → TimedSweepEnds giver who now w broken r unsent old new s.writer
+      → IfErr r (λ stop. IsCauseOf stop s)
+  timed_sweep_caused Words who now w broken r h = sweep_caused who now w broken r h
+  timed_sweep_caused Clock who now w broken r (inl h) = sweep_caused who now w broken r h.1
+  timed_sweep_caused Clock who now w broken r (inr (inl h)) =
+      subst (λ e. IfErr e (λ stop. IsCauseOf stop s)) (sym h.0) tt
+  timed_sweep_caused Clock who now w broken r (inr (inr (f, is, silent, h))) =
+      subst (λ e. IfErr e (λ stop. IsCauseOf stop s)) (sym is) tt
+
   serve_caused : (tells : Turns) (port most : ℕ) (w : Passage) (r : Result Outcome Stop)
       (xs : List (Option Link)) → ServeEnds tells port most w r unsent old new s.writer xs
       → IfErr r (λ stop. IsCauseOf stop s)
@@ -57,6 +74,41 @@ module _ (unsent : Type 0) (old new : Known) (s : Streams) where
   serve_caused tells port most w (Err (Listener f)) xs h = tt
   serve_caused tells port most w (Err (Rights f)) xs h = absurd h
   serve_caused tells port most w (Err (stop.Batch f)) xs h = absurd h
+
+  settle_caused : (now : ℕ) (rows : List Row) (w : Passage) (broken : Bool) (r : Result Outcome Stop)
+      → SettleEnds now rows w broken r unsent old new s.writer → IfErr r (λ stop. IsCauseOf stop s)
+  settle_caused now rows w broken r (inl (changes, of, h)) =
+      commands_caused (CarriesAll changes.commands.items w broken) _ r h
+  settle_caused now rows w broken r (inr (f, is, silent, h)) =
+      subst (λ e. IfErr e (λ stop. IsCauseOf stop s)) (sym is) tt
+
+  show_caused : (text : Content → List ℕ) (w : Passage) (broken : Bool) (r : Result Outcome Stop)
+      → ShowEnds text w broken r unsent old new s.writer → IfErr r (λ stop. IsCauseOf stop s)
+  show_caused text w broken (Ok end) h = tt
+  show_caused text w broken (Err (Vault f)) h = tt
+  show_caused text w broken (Err (Service f)) h = subst (λ e. IsCause e s.reader s.writer) (sym h.0) h.1
+  show_caused text w broken (Err (Listener f)) h = absurd h
+  show_caused text w broken (Err (Rights f)) h = absurd h
+  show_caused text w broken (Err (stop.Batch f)) h = absurd h
+
+  list_caused : (now : ℕ) (rows : List Row) (w : Passage) (broken : Bool) (r : Result Outcome Stop)
+      → ListEnds now rows w broken r unsent → IfErr r (λ stop. IsCauseOf stop s)
+  list_caused now rows w broken (Ok end) h = tt
+  list_caused now rows w broken (Err (Vault f)) h = tt
+  list_caused now rows w broken (Err (Service f)) h = absurd h
+  list_caused now rows w broken (Err (Listener f)) h = absurd h
+  list_caused now rows w broken (Err (Rights f)) h = absurd h
+  list_caused now rows w broken (Err (stop.Batch f)) h = absurd h
+
+  listed_caused : (tells : Turns) (port most : ℕ) (listed : Option Listed) (w : Passage) (broken : Bool)
+      (r : Result Outcome Stop) (xs : List (Option Link))
+      → ListedServeEnds tells port most listed w broken r unsent old new s.writer xs
+      → IfErr r (λ stop. IsCauseOf stop s)
+  listed_caused tells port most None w broken r xs h = serve_caused tells port most w r xs h
+  listed_caused tells port most (Some it) w broken r xs (inl h) =
+      list_caused it.now it.rights.items w broken r h.1
+  listed_caused tells port most (Some it) w broken r xs (inr (changes, of, h)) =
+      serve_caused tells port most (behind changes.commands.items w) r xs h
 
 module _ (tells : Turns) (w : Passage) (broken : Bool) (r : Result Outcome Stop) (unread unsent : Type 0)
     (s : Streams) where
@@ -90,24 +142,63 @@ module _ (tells : Turns) (w : Passage) (broken : Bool) (r : Result Outcome Stop)
         breaks = (breaks, λ _. inr tt);
       }
 
-  pub sweep_done : (who : Asker) (now : ℕ) → unread → s.links ≡ [] → (broken ≡ true → FailsStore r)
-      → Works tells (Sweep who now) w broken r unread unsent s
-      → Does tells (Sweep who now) w broken r unread unsent s
-  sweep_done who now calm none breaks h = record {
+  pub sweep_done : (who : Asker) (now : ℕ) (giver : Giver) → unread → s.links ≡ []
+      → (broken ≡ true → FailsStore r) → Works tells (Sweep who now giver) w broken r unread unsent s
+      → Does tells (Sweep who now giver) w broken r unread unsent s
+  sweep_done who now giver calm none breaks h = record {
     works = h;
     begun = calm;
     alone = none;
-    caused = sweep_caused unsent s.sent_old s.sent_new s who now w broken r h;
+    caused = timed_sweep_caused unsent s.sent_old s.sent_new s giver who now w broken r h;
     breaks = (breaks, λ _. inr tt);
   }
 
-  pub serve_done : (port most : ℕ) → unread → BreaksBy (Serve port most) r broken
-      → Works tells (Serve port most) w broken r unread unsent s
-      → Does tells (Serve port most) w broken r unread unsent s
-  serve_done port most calm breaks h = record {
+  pub serve_done : (port most : ℕ) (listed : Option Listed) → unread
+      → BreaksBy (Serve port most listed) r broken
+      → Works tells (Serve port most listed) w broken r unread unsent s
+      → Does tells (Serve port most listed) w broken r unread unsent s
+  serve_done port most listed calm breaks h = record {
     works = h;
     begun = calm;
     alone = tt;
-    caused = serve_caused unsent s.sent_old s.sent_new s tells port most w r s.links h;
+    caused = listed_caused unsent s.sent_old s.sent_new s tells port most listed w broken r s.links h;
     breaks = breaks;
+  }
+
+  pub settle_done : (rows : Vec Row) (now : ℕ) (listed : List Row) → listed ≡ rows.items → unread
+      → s.links ≡ [] → (broken ≡ true → FailsStore r)
+      → SettleEnds now listed w broken r unsent s.sent_old s.sent_new s.writer
+      → Does tells (Settle rows now) w broken r unread unsent s
+  settle_done rows now listed same calm none breaks h =
+      let works : Works tells (Settle rows now) w broken r unread unsent s =
+      subst (λ xs. SettleEnds now xs w broken r unsent s.sent_old s.sent_new s.writer) same h in
+      record {
+        works = works;
+        begun = calm;
+        alone = none;
+        caused = settle_caused unsent s.sent_old s.sent_new s now rows.items w broken r works;
+        breaks = (breaks, λ _. inr tt);
+      }
+
+  -- a store that fails a read breaks the vault
+  show_breaks : (text : Content → List ℕ) (r : Result Outcome Stop)
+      → ShowEnds text w broken r unsent s.sent_old s.sent_new s.writer → FailsStore r → broken ≡ true
+  show_breaks text (Ok end) h store = absurd store
+  show_breaks text (Err (Vault vault.Memory)) h store = absurd (cc store)
+  show_breaks text (Err (Vault vault.Store)) h store = h.1.0
+  show_breaks text (Err (Vault vault.Reopen)) h store = absurd h.1
+  show_breaks text (Err (Service f)) h store = let is = h.0 in absurd (cc (is, store))
+  show_breaks text (Err (Listener f)) h store = absurd h
+  show_breaks text (Err (Rights f)) h store = absurd h
+  show_breaks text (Err (stop.Batch f)) h store = absurd h
+
+  pub show_done : (it : Shown) → unread → s.links ≡ [] → (broken ≡ true → FailsStore r)
+      → Works tells (Show it) w broken r unread unsent s
+      → Does tells (Show it) w broken r unread unsent s
+  show_done it calm none breaks h = record {
+    works = h;
+    begun = calm;
+    alone = none;
+    caused = show_caused unsent s.sent_old s.sent_new s (shown_text it) w broken r h;
+    breaks = (breaks, λ store. inl (show_breaks (shown_text it) r h store));
   }

@@ -1,6 +1,6 @@
 -- What a task does in one passage it does in any that refines it: where what was before and what is kept is
 -- said of other things, as of files in place of tables.
-use Rattle.std.proofs.Common.{ℕ, List, [], Bool, Option, Result, Ok, Err, inl, inr}
+use Rattle.std.proofs.Common.{◌≡◌, ℕ, List, [], Bool, Option, Some, None, Result, Ok, Err, inl, inr}
 use Rattle.vault_core.specs.Vault.{Vault as Content}
 use Rattle.vault_core.specs.declared.command.Command.{Command}
 use Rattle.vault_wire.specs.Parts.{Parts}
@@ -21,16 +21,22 @@ use Rattle.vault_listen.specs.Peers.{Link}
 use Rattle.vault_listen.specs.Service.{AllKept, Leaves}
 use Rattle.vault_listen.specs.declared.fault.ListenFault.{ListenFault}
 use Rattle.vault_listen.specs.declared.fault.ListenFault.TheVariants as listen
+use Rattle.vault_core.specs.Runs.{run}
+use Rattle.vault_rights.specs.Named.{Row}
 use Rattle.vault_store.specs.declared.vault.Fault.{Fault}
 use Rattle.vault_store.specs.declared.vault.Fault.TheVariants.{Memory, Store, Reopen}
 use Rattle.vault_jobs.specs.Batched.{StopsBatch}
 use Rattle.vault_jobs.specs.Carried.{Carries}
-use Rattle.vault_jobs.specs.Doing.{BatchEnds, CommandsEnd, Does, IsUntouched, PipeEnds, ServeEnds}
-use Rattle.vault_jobs.specs.Doing.{SweepEnds, Works}
+use Rattle.vault_jobs.specs.Doing.{BatchEnds, CommandsEnd, Does, FailsToRead, IsUntouched, ListEnds}
+use Rattle.vault_jobs.specs.Doing.{ListedServeEnds, PipeEnds, ServeEnds, SettleEnds, Settles, ShowEnds}
+use Rattle.vault_jobs.specs.Doing.{SweepEnds, TimedSweepEnds, Works, behind}
+use Rattle.vault_jobs.specs.Listing.{shown_text}
 use Rattle.vault_jobs.specs.Grants.{CarriesAll, grants_at}
 use Rattle.vault_jobs.specs.Piped.{IsPiped, StopsPiping}
 use Rattle.vault_jobs.specs.Streams.{Known, Streams}
 use Rattle.vault_jobs.specs.Sweeps.{Sweeps}
+use Rattle.vault_jobs.specs.declared.clock.Giver.{Giver}
+use Rattle.vault_jobs.specs.declared.clock.Giver.TheVariants.{Words, Clock}
 use Rattle.vault_jobs.specs.declared.change.Verdict.{Verdict}
 use Rattle.vault_jobs.specs.declared.change.Verdict.TheVariants.{Done, Refused}
 use Rattle.vault_jobs.specs.declared.stop.Stop.{Stop}
@@ -41,7 +47,9 @@ use Rattle.vault_jobs.specs.declared.sweep.Swept.TheVariants as swept
 use Rattle.vault_jobs.specs.declared.task.Outcome.{Outcome}
 use Rattle.vault_jobs.specs.declared.task.Outcome.TheVariants as outcome
 use Rattle.vault_jobs.specs.declared.task.Task.{Task}
-use Rattle.vault_jobs.specs.declared.task.Task.TheVariants.{Change, Give, Sweep, Batch, Pipe, Serve}
+use Rattle.vault_jobs.specs.declared.task.Task.TheVariants.{Change, Give, Settle, Sweep, Batch, Pipe, Serve}
+use Rattle.vault_jobs.specs.declared.task.Task.TheVariants.{Show}
+use Rattle.vault_jobs.specs.declared.task.Listed.{Listed}
 
 -- the passage over other things
 abbrev pub over : Type 0 → (Content → Type 0) → (Content → Type 0) → (Content → Content → Type 0)
@@ -65,7 +73,7 @@ module _ (H : Type 0) (O N : Content → Type 0) (L : Content → Content → Ty
   )
   carries c broken (Err Reopen) h = absurd h
 
-  carries_all : (cs : List Command) (broken : Bool) (r : Result Verdict Fault) → CarriesAll cs w broken r
+  pub carries_all : (cs : List Command) (broken : Bool) (r : Result Verdict Fault) → CarriesAll cs w broken r
       → CarriesAll cs (over H O N L w) broken r
   carries_all cs broken (Ok Done) h = λ V b. let it = h V (was V b.0 b.1) in (it.0, kept b.0 _ it.1)
   carries_all cs broken (Ok (Refused n)) (k, below, h) =
@@ -99,6 +107,7 @@ module _ (H : Type 0) (O N : Content → Type 0) (L : Content → Content → Ty
 
   leaves : (tells : Turns) (n : ℕ) (xs : List (Option Link)) (f : ListenFault) → Leaves tells n xs w (Err f)
       → Leaves tells n xs (over H O N L w) (Err f)
+  leaves tells n xs listen.Source (some, few, on, h) = (some, few, on, all_kept tells xs h)
   leaves tells n xs listen.Store (few, (first, last, are, on, failed, h)) = (
     few,
     (
@@ -353,7 +362,7 @@ module _ (H : Type 0) (O N : Content → Type 0) (L : Content → Content → Ty
   stops_batch left who e (inl s) = inl (batch_stops left who e s)
   stops_batch left who e (inr (is, (counts, s))) = inr (is, (counts, batched left who counts s))
 
-  serve_ends : (tells : Turns) (port n : ℕ) (r : Result Outcome Stop) (unsent : Type 0) (old new : Known)
+  pub serve_ends : (tells : Turns) (port n : ℕ) (r : Result Outcome Stop) (unsent : Type 0) (old new : Known)
       (writer : Bool) (xs : List (Option Link)) → ServeEnds tells port n w r unsent old new writer xs
       → ServeEnds tells port n (over H O N L w) r unsent old new writer xs
   serve_ends tells port n (Ok outcome.Done) unsent old new writer xs (calm, told, (all, on, h)) =
@@ -383,7 +392,58 @@ module _ (H : Type 0) (O N : Content → Type 0) (L : Content → Content → Ty
   commands_end P Q step line (Err (Rights f)) unsent old new writer h = h
   commands_end P Q step line (Err (stop.Batch f)) unsent old new writer h = h
 
-  sweep_ends : (who : Asker) (now : ℕ) (broken : Bool) (r : Result Outcome Stop) (unsent : Type 0)
+  fails_to_read : (broken : Bool) (f : Fault) → FailsToRead w broken f
+      → FailsToRead (over H O N L w) broken f
+  fails_to_read broken Memory same = untouched same
+  fails_to_read broken Store (is, h) = (is, λ V b. torn b.0 V V (h V (was V b.0 b.1)))
+  fails_to_read broken Reopen h = h
+
+  settles : (now : ℕ) (rows : List Row) (broken : Bool) (r : Result Verdict Fault)
+      → Settles now rows w broken r → Settles now rows (over H O N L w) broken r
+  settles now rows broken r (changes, of, h) =
+      (changes, λ V b. of V (was V b.0 b.1), carries_all changes.commands.items broken r h)
+
+  settle_ends : (now : ℕ) (rows : List Row) (broken : Bool) (r : Result Outcome Stop) (unsent : Type 0)
+      (old new : Known) (writer : Bool) → SettleEnds now rows w broken r unsent old new writer
+      → SettleEnds now rows (over H O N L w) broken r unsent old new writer
+  settle_ends now rows broken r unsent old new writer (inl (changes, of, h)) = inl (
+    changes,
+    λ V b. of V (was V b.0 b.1),
+    commands_end _ _ (carries_all changes.commands.items broken) _ r unsent old new writer h,
+  )
+  settle_ends now rows broken r unsent old new writer (inr (f, is, silent, h)) =
+      inr (f, is, silent, fails_to_read broken f h)
+
+  show_ends : (text : Content → List ℕ) (broken : Bool) (r : Result Outcome Stop) (unsent : Type 0)
+      (old new : Known) (writer : Bool) → ShowEnds text w broken r unsent old new writer
+      → ShowEnds text (over H O N L w) broken r unsent old new writer
+  show_ends text broken (Ok outcome.Done) unsent old new writer (calm, same, h) =
+      (calm, untouched same, λ V b. h V (was V b.0 b.1))
+  show_ends text broken (Ok (outcome.Refused n)) unsent old new writer h = h
+  show_ends text broken (Ok outcome.SomeRefused) unsent old new writer h = h
+  show_ends text broken (Err (Vault f)) unsent old new writer (silent, h) =
+      (silent, fails_to_read broken f h)
+  show_ends text broken (Err (Service f)) unsent old new writer (is, failed, same, h) =
+      (is, failed, untouched same, λ V b. h V (was V b.0 b.1))
+  show_ends text broken (Err (Listener f)) unsent old new writer h = h
+  show_ends text broken (Err (Rights f)) unsent old new writer h = h
+  show_ends text broken (Err (stop.Batch f)) unsent old new writer h = h
+
+  list_ends : (now : ℕ) (rows : List Row) (broken : Bool) (r : Result Outcome Stop) (unsent : Type 0)
+      → ListEnds now rows w broken r unsent → ListEnds now rows (over H O N L w) broken r unsent
+  list_ends now rows broken (Ok outcome.Done) unsent h = h
+  list_ends now rows broken (Ok (outcome.Refused n)) unsent (silent, h) =
+      (silent, settles now rows broken (Ok (Refused n)) h)
+  list_ends now rows broken (Ok outcome.SomeRefused) unsent h = h
+  list_ends now rows broken (Err (Vault f)) unsent (silent, inl h) =
+      (silent, inl (settles now rows broken (Err f) h))
+  list_ends now rows broken (Err (Vault f)) unsent (silent, inr h) = (silent, inr (fails_to_read broken f h))
+  list_ends now rows broken (Err (Service f)) unsent h = h
+  list_ends now rows broken (Err (Listener f)) unsent h = h
+  list_ends now rows broken (Err (Rights f)) unsent h = h
+  list_ends now rows broken (Err (stop.Batch f)) unsent h = h
+
+  pub sweep_ends : (who : Asker) (now : ℕ) (broken : Bool) (r : Result Outcome Stop) (unsent : Type 0)
       (old new : Known) (writer : Bool) → SweepEnds who now w broken r unsent old new writer
       → SweepEnds who now (over H O N L w) broken r unsent old new writer
   sweep_ends who now broken (Ok outcome.Done) unsent old new writer (calm, (count, h, wrote)) =
@@ -399,10 +459,42 @@ module _ (H : Type 0) (O N : Content → Type 0) (L : Content → Content → Ty
   sweep_ends who now broken (Err (Rights f)) unsent old new writer h = h
   sweep_ends who now broken (Err (stop.Batch f)) unsent old new writer h = h
 
+  timed_sweep_ends : (giver : Giver) (who : Asker) (now : ℕ) (broken : Bool) (r : Result Outcome Stop)
+      (unsent : Type 0) (old new : Known) (writer : Bool)
+      → TimedSweepEnds giver who now w broken r unsent old new writer
+      → TimedSweepEnds giver who now (over H O N L w) broken r unsent old new writer
+  timed_sweep_ends Words who now broken r unsent old new writer h =
+      sweep_ends who now broken r unsent old new writer h
+  timed_sweep_ends Clock who now broken r unsent old new writer (inl (near, h)) =
+      inl (λ V b. near V (was V b.0 b.1), sweep_ends who now broken r unsent old new writer h)
+  timed_sweep_ends Clock who now broken r unsent old new writer (inr (inl (is, silent, same, far))) =
+      inr (inl (is, silent, untouched same, λ V b. far V (was V b.0 b.1)))
+  timed_sweep_ends Clock who now broken r unsent old new writer (inr (inr (f, is, silent, h))) =
+      inr (inr (f, is, silent, fails_to_read broken f h))
+
 module _ (H : Type 0) (O N : Content → Type 0) (L : Content → Content → Type 0) (w : Passage)
     (was : (V : Content) → H → O V → IsBefore w V)
     (kept : H → (V : Content) → Keeps w V → N V × L V V)
     (torn : H → (V W : Content) → w.left_new V W → L V W) (s : Streams) where
+  -- a service that may begin with a list
+  listed_serve_ends : (tells : Turns) (port n : ℕ) (listed : Option Listed) (broken : Bool)
+      (r : Result Outcome Stop) (unsent : Type 0) (old new : Known) (writer : Bool) (xs : List (Option Link))
+      → ListedServeEnds tells port n listed w broken r unsent old new writer xs
+      → ListedServeEnds tells port n listed (over H O N L w) broken r unsent old new writer xs
+  listed_serve_ends tells port n None broken r unsent old new writer xs h =
+      serve_ends H O N L w was kept torn tells port n r unsent old new writer xs h
+  listed_serve_ends tells port n (Some it) broken r unsent old new writer xs (inl (none, h)) =
+      inl (none, list_ends H O N L w was kept torn it.now it.rights.items broken r unsent h)
+  listed_serve_ends tells port n (Some it) broken r unsent old new writer xs (inr (changes, of, h)) =
+      let cs = changes.commands.items in
+      inr (
+        changes,
+        λ V b. of V (was V b.0 b.1),
+        serve_ends H (λ U. (V : Content) × O V × (U ≡ run cs V)) N L (behind cs w)
+            (λ U honest (V, held, is). let b = was V honest held in (b.0, (V, b.1, is)))
+            kept torn tells port n r unsent old new writer xs h,
+      )
+
   batch_ends : (tells : Turns) (who : Asker) (now : Option ℕ) (digits : Option (List ℕ))
       (r : Result Outcome Stop)
       (unread unsent : Type 0) → BatchEnds tells who now digits w r unread unsent s
@@ -447,13 +539,17 @@ module _ (H : Type 0) (O N : Content → Type 0) (L : Content → Content → Ty
   works tells (Give rows now) broken r unread unsent h =
       commands_end H O N L w was kept torn _ _
       (carries_all H O N L w was kept torn (grants_at now rows.items) broken) _ r unsent _ _ _ h
-  works tells (Sweep who now) broken r unread unsent h =
-      sweep_ends H O N L w was kept torn who now broken r unsent _ _ _ h
+  works tells (Settle rows now) broken r unread unsent h =
+      settle_ends H O N L w was kept torn now rows.items broken r unsent _ _ _ h
+  works tells (Sweep who now giver) broken r unread unsent h =
+      timed_sweep_ends H O N L w was kept torn giver who now broken r unsent _ _ _ h
   works tells (Batch who now digits) broken r unread unsent h =
       batch_ends tells who now digits r unread unsent h
   works tells (Pipe now digits) broken r unread unsent h = pipe_ends tells now digits r unread unsent h
-  works tells (Serve port connections) broken r unread unsent h =
-      serve_ends H O N L w was kept torn tells port connections r unsent _ _ _ _ h
+  works tells (Serve port connections listed) broken r unread unsent h =
+      listed_serve_ends tells port connections listed broken r unsent _ _ _ _ h
+  works tells (Show it) broken r unread unsent h =
+      show_ends H O N L w was kept torn (shown_text it) broken r unsent _ _ _ h
 
   pub refined : (tells : Turns) (task : Task) (broken : Bool) (r : Result Outcome Stop)
       (unread unsent : Type 0) → Does tells task w broken r unread unsent s

@@ -1,8 +1,8 @@
 -- A line that is written part by part.
 use Rattle.std.proofs.Common.{◌≡◌, ℕ, ◌+◌, ◌<◌, ◌≤◌, List, [], ◌∷◌, ◌++◌, length, take, drop, get_or}
 use Rattle.std.proofs.Common.{Option, arith}
-use Rattle.std.proofs.Common.{Result, Ok, Err, true, sym, ◌∙◌, ap, subst, append_assoc, append-nil}
-use Rattle.std.specs.Prelude.{OnErr, is_err}
+use Rattle.std.proofs.Common.{Result, Ok, Err, true, false, sym, ◌∙◌, ap, subst, append_assoc, append-nil}
+use Rattle.std.specs.Prelude.{OnErr, OnOk, is_err}
 use Rattle.std.specs.List.{flat_map}
 use Rattle.std.specs.Io.KnownBytes.{Appends}
 use Rattle.std.proofs.Math.Seq.{take-append-add}
@@ -16,6 +16,11 @@ use Rattle.vault_http.proofs.Bytes.{appends_both}
 pub of_error : {X E : Type 0} (r : Result X E) (P : Type 0) → is_err r ≡ true → OnErr r P → P
 of_error (Ok x) P is h = absurd (cc (is))
 of_error (Err e) P is h = h
+
+-- and of what isn't one
+pub of_ok : {X E : Type 0} (r : Result X E) (P : Type 0) → is_err r ≡ false → OnOk r P → P
+of_ok (Ok x) P is h = h
+of_ok (Err e) P is h = absurd (cc (is))
 
 -- the parts before one, that one, and those after it
 parted : {X : Type 0} (f : X → List ℕ) (xs : List X) (i : ℕ) (x : X) → i < length xs

@@ -1,5 +1,6 @@
 -- What a job leaves of the vault that it works on.
 use Rattle.std.specs.Prelude.{◌≡◌, ◌≢◌, Bool, true, false, Result, Ok, Err}
+use Rattle.vault_core.specs.Proper.{HasLivesInRange}
 use Rattle.vault_core.specs.Table.{after, reply}
 use Rattle.vault_core.specs.Vault.{Vault as Content}
 use Rattle.vault_core.specs.declared.command.Command.{Command}
@@ -15,6 +16,11 @@ use Rattle.vault_jobs.specs.declared.change.Verdict.TheVariants.{Done, Refused}
 abbrev pub reply_of : Verdict → Reply
 reply_of Done = answer.Done
 reply_of (Refused n) = answer.Refused n
+
+-- every vault replies done or a refusal to the command, and its lives are lives
+pub record IsCarriedOut (c : Command) : Type 0 where
+  pub lives : HasLivesInRange c
+  pub verdict : (V : Content) → (v : Verdict) × (reply V c ≡ reply_of v)
 
 -- One command is carried out. Done or refused: so the vault replies, and the vault after it is kept. 20: the
 -- vault before it is. 21: the store failed, the vault is broken, and a crash leaves the vault before the

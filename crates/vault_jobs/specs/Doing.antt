@@ -1,8 +1,10 @@
 -- What a task does with a vault, by how it ends.
 use Rattle.std.specs.Prelude.{◌≡◌, ◌≢◌, ◌⊎◌, ℕ, ◌≤◌, List, [], IfErr, Option, Bool, true, false, Result, Ok}
-use Rattle.std.specs.Prelude.{Err, codes, length}
+use Rattle.std.specs.Prelude.{Err, None, Some, codes, length, take}
 use Rattle.std.specs.Io.KnownBytes.{Appends, IsAtEnd}
+use Rattle.vault_core.specs.Runs.{run}
 use Rattle.vault_core.specs.Vault.{Vault as Content}
+use Rattle.vault_core.specs.declared.command.Command.{Command}
 use Rattle.vault_live.specs.Live.{AreGiven, Turns}
 use Rattle.vault_http.specs.Exchanges.{Pair}
 use Rattle.vault_http.specs.Passing.{IsBefore, Keeps, Passage}
@@ -14,16 +16,21 @@ use Rattle.vault_batch.specs.declared.fault.BatchFault.TheVariants as row
 use Rattle.vault_listen.specs.Peers.{Link}
 use Rattle.vault_listen.specs.Service.{Leaves}
 use Rattle.vault_listen.specs.declared.fault.ListenFault.TheVariants as listener
+use Rattle.vault_rights.specs.Named.{Row}
 use Rattle.vault_store.specs.declared.vault.Fault.{Fault}
+use Rattle.vault_store.specs.declared.vault.Fault.TheVariants as vault
+use Rattle.vault_jobs.specs.Ahead.{is_merchant_ahead, moment_ahead}
 use Rattle.vault_jobs.specs.Batched.{StopsBatch}
 use Rattle.vault_jobs.specs.Carried.{Carries}
 use Rattle.vault_jobs.specs.Causes.{IsCauseOf}
-use Rattle.vault_jobs.specs.Grants.{CarriesAll, grants_at}
+use Rattle.vault_jobs.specs.Grants.{AreDone, CarriesAll, grants_at}
 use Rattle.vault_jobs.specs.Piped.{IsPiped, StopsPiping}
 use Rattle.vault_jobs.specs.Streams.{Known, Streams}
 use Rattle.vault_jobs.specs.Sweeps.{Sweeps}
 use Rattle.vault_jobs.specs.Tasks.{BreaksBy, HasNoLinks, IsTaskBegun, granted_line}
 use Rattle.vault_jobs.specs.Tasks.{listening_line, purged_line}
+use Rattle.vault_jobs.specs.declared.clock.Giver.{Giver}
+use Rattle.vault_jobs.specs.declared.clock.Giver.TheVariants.{Words, Clock}
 use Rattle.vault_jobs.specs.declared.change.Verdict.{Verdict}
 use Rattle.vault_jobs.specs.declared.change.Verdict.TheVariants as verdict
 use Rattle.vault_jobs.specs.declared.stop.Stop.{Stop}
@@ -33,7 +40,12 @@ use Rattle.vault_jobs.specs.declared.sweep.Swept.TheVariants.{Purged, Refused}
 use Rattle.vault_jobs.specs.declared.task.Outcome.{Outcome}
 use Rattle.vault_jobs.specs.declared.task.Outcome.TheVariants as outcome
 use Rattle.vault_jobs.specs.declared.task.Task.{Task}
-use Rattle.vault_jobs.specs.declared.task.Task.TheVariants.{Change, Give, Sweep, Batch, Pipe, Serve}
+use Rattle.vault_jobs.specs.declared.task.Task.TheVariants.{Change, Give, Settle, Sweep, Batch, Pipe, Serve}
+use Rattle.vault_jobs.specs.declared.task.Task.TheVariants.{Show}
+use Rattle.vault_jobs.specs.declared.task.Listed.{Listed}
+use Rattle.vault_jobs.specs.declared.changes.Changes.{Changes}
+use Rattle.vault_jobs.specs.Changes.{AreChangesOf, settled_line}
+use Rattle.vault_jobs.specs.Listing.{shown_text}
 
 -- the same passage of a vault, in which a writer took bytes too and a source gave these pairs
 abbrev pub along : Passage → Streams → List Pair → Passage
@@ -53,6 +65,13 @@ Along tells most now digits w s P = (pairs : List Pair) × (length pairs ≤ mos
 -- the vault that was held is held, and a crash leaves it alone
 abbrev pub IsUntouched : Passage → Type 0
 IsUntouched w = (V : Content) → IsBefore w V → Keeps w V
+
+-- A call that only reads failed: the vault that was held is held where memory was refused; where the store
+-- failed the vault is broken, and a crash leaves the one that was held.
+abbrev pub FailsToRead : Passage → Bool → Fault → Type 0
+FailsToRead w broken vault.Memory = IsUntouched w
+FailsToRead w broken vault.Store = (broken ≡ true) × ((V : Content) → IsBefore w V → w.left_new V V)
+FailsToRead w broken vault.Reopen = ⊥
 
 -- How commands end that come to a verdict. Done: they came to done, and the line went out. Refused: they came
 -- to this refusal, and nothing went out. Stopped: by the vault, and nothing went out; or by the writer, and
@@ -87,6 +106,20 @@ SweepEnds who now w broken (Err (Service f)) unsent old new writer =
 SweepEnds who now w broken (Err (Listener f)) unsent old new writer = ⊥
 SweepEnds who now w broken (Err (Rights f)) unsent old new writer = ⊥
 SweepEnds who now w broken (Err (stop.Batch f)) unsent old new writer = ⊥
+
+-- How a sweep ends whose moment the words or the clock gave. At one of the words it ends as above. At one of
+-- the clock it does too, and then the merchant's moment isn't far ahead; or that is, and it is refused by 81:
+-- nothing changed, and nothing went out; or the vault wasn't read.
+abbrev pub TimedSweepEnds : Giver → Asker → ℕ → Passage → Bool → Result Outcome Stop → Type 0
+    → Known → Known → Bool → Type 0
+TimedSweepEnds Words who now w broken result unsent old new writer =
+    SweepEnds who now w broken result unsent old new writer
+TimedSweepEnds Clock who now w broken result unsent old new writer =
+    ((V : Content) → IsBefore w V → is_merchant_ahead V who.merchant now ≡ false)
+    × SweepEnds who now w broken result unsent old new writer
+    ⊎ (result ≡ Ok (outcome.Refused moment_ahead)) × unsent × IsUntouched w
+    × ((V : Content) → IsBefore w V → is_merchant_ahead V who.merchant now ≡ true)
+    ⊎ ((f : Fault) × (result ≡ Err (Vault f)) × unsent × FailsToRead w broken f)
 
 -- how a batch ends: its rows are answered, by nobody else and with such pairs; or it wasn't begun
 abbrev pub BatchEnds : Turns → Asker → Option ℕ → Option (List ℕ) → Passage → Result Outcome Stop
@@ -142,6 +175,69 @@ ServeEnds tells port most w (Err (Listener f)) unsent old new writer links =
 ServeEnds tells port most w (Err (Rights f)) unsent old new writer links = ⊥
 ServeEnds tells port most w (Err (stop.Batch f)) unsent old new writer links = ⊥
 
+-- The rights become exactly those of a list, or the first commands are done that make them so: the changes
+-- are those of the vault before.
+abbrev pub Settles : ℕ → List Row → Passage → Bool → Result Verdict Fault → Type 0
+Settles now rows w broken result = (changes : Changes)
+    × ((V : Content) → IsBefore w V → AreChangesOf true now rows V changes)
+    × CarriesAll changes.commands.items w broken result
+
+-- How a task ends that makes the rights exactly those of a list: its changes end as commands do, with a line
+-- that counts them; or the rights that are held weren't read, or there was no memory for the changes.
+abbrev pub SettleEnds : ℕ → List Row → Passage → Bool → Result Outcome Stop → Type 0 → Known → Known → Bool
+    → Type 0
+SettleEnds now rows w broken result unsent old new writer =
+    ((changes : Changes) × ((V : Content) → IsBefore w V → AreChangesOf true now rows V changes)
+    × CommandsEnd (CarriesAll changes.commands.items w broken) (settled_line changes) result unsent old new
+    writer)
+    ⊎ ((f : Fault) × (result ≡ Err (Vault f)) × unsent × FailsToRead w broken f)
+
+-- How a task ends that says what the vault holds: with Done the text went out, which is one function of the
+-- vault; where the writer failed, a beginning of it did. Nothing is changed.
+abbrev pub ShowEnds : (Content → List ℕ) → Passage → Bool → Result Outcome Stop → Type 0 → Known → Known
+    → Bool → Type 0
+ShowEnds text w broken (Ok outcome.Done) unsent old new writer =
+    (writer ≡ false) × IsUntouched w × ((V : Content) → IsBefore w V → Appends old new (text V))
+ShowEnds text w broken (Ok (outcome.Refused n)) unsent old new writer = ⊥
+ShowEnds text w broken (Ok outcome.SomeRefused) unsent old new writer = ⊥
+ShowEnds text w broken (Err (Vault f)) unsent old new writer = unsent × FailsToRead w broken f
+ShowEnds text w broken (Err (Service f)) unsent old new writer = (f ≡ service.Write) × (writer ≡ true)
+    × IsUntouched w × ((V : Content) → IsBefore w V → (n : ℕ) × Appends old new (take n (text V)))
+ShowEnds text w broken (Err (Listener f)) unsent old new writer = ⊥
+ShowEnds text w broken (Err (Rights f)) unsent old new writer = ⊥
+ShowEnds text w broken (Err (stop.Batch f)) unsent old new writer = ⊥
+
+-- the passage from the vault that commands leave
+abbrev pub behind : List Command → Passage → Passage
+behind cs w = record w { held_old = λ U. (V : Content) × w.held_old V × (U ≡ run cs V) }
+
+-- How the rights of a list end that stand before a service: they aren't all given, so no connection comes;
+-- they are refused, or stopped by the vault.
+abbrev pub ListEnds : ℕ → List Row → Passage → Bool → Result Outcome Stop → Type 0 → Type 0
+ListEnds now rows w broken (Ok outcome.Done) unsent = ⊥
+ListEnds now rows w broken (Ok (outcome.Refused n)) unsent =
+    unsent × Settles now rows w broken (Ok (verdict.Refused n))
+ListEnds now rows w broken (Ok outcome.SomeRefused) unsent = ⊥
+ListEnds now rows w broken (Err (Vault f)) unsent =
+    unsent × (Settles now rows w broken (Err f) ⊎ FailsToRead w broken f)
+ListEnds now rows w broken (Err (Service f)) unsent = ⊥
+ListEnds now rows w broken (Err (Listener f)) unsent = ⊥
+ListEnds now rows w broken (Err (Rights f)) unsent = ⊥
+ListEnds now rows w broken (Err (stop.Batch f)) unsent = ⊥
+
+-- How a service ends that may begin with a list of rights: they are all done, and it ends as a service does,
+-- from the vault that they leave; or it doesn't listen.
+abbrev pub ListedServeEnds : Turns → ℕ → ℕ → Option Listed → Passage → Bool → Result Outcome Stop → Type 0
+    → Known → Known → Bool → List (Option Link) → Type 0
+ListedServeEnds tells port most None w broken result unsent old new writer links =
+    ServeEnds tells port most w result unsent old new writer links
+ListedServeEnds tells port most (Some it) w broken result unsent old new writer links =
+    (links ≡ []) × ListEnds it.now it.rights.items w broken result unsent
+    ⊎ ((changes : Changes)
+    × ((V : Content) → IsBefore w V → AreChangesOf true it.now it.rights.items V changes
+    × AreDone (length changes.commands.items) changes.commands.items V)
+    × ServeEnds tells port most (behind changes.commands.items w) result unsent old new writer links)
+
 -- what a task does with a vault, and what goes out, by how it ends
 abbrev pub Works : Turns → Task → Passage → Bool → Result Outcome Stop → Type 0 → Type 0 → Streams → Type 0
 Works tells (Change c) w broken result unread unsent s =
@@ -150,14 +246,19 @@ Works tells (Change c) w broken result unread unsent s =
 Works tells (Give rows now) w broken result unread unsent s =
     CommandsEnd (CarriesAll (grants_at now rows.items) w broken) (granted_line (length rows.items)) result
     unsent s.sent_old s.sent_new s.writer
-Works tells (Sweep who now) w broken result unread unsent s =
-    SweepEnds who now w broken result unsent s.sent_old s.sent_new s.writer
+Works tells (Settle rows now) w broken result unread unsent s =
+    SettleEnds now rows.items w broken result unsent s.sent_old s.sent_new s.writer
+Works tells (Sweep who now giver) w broken result unread unsent s =
+    TimedSweepEnds giver who now w broken result unsent s.sent_old s.sent_new s.writer
 Works tells (Batch who now digits) w broken result unread unsent s =
     BatchEnds tells who now digits w result unread unsent s
 Works tells (Pipe now digits) w broken result unread unsent s =
     PipeEnds tells now digits w result unread unsent s
-Works tells (Serve port connections) w broken result unread unsent s =
-    ServeEnds tells port connections w result unsent s.sent_old s.sent_new s.writer s.links
+Works tells (Serve port connections listed) w broken result unread unsent s =
+    ListedServeEnds tells port connections listed w broken result unsent s.sent_old s.sent_new s.writer
+    s.links
+Works tells (Show it) w broken result unread unsent s =
+    ShowEnds (shown_text it) w broken result unsent s.sent_old s.sent_new s.writer
 
 -- What a task does: it works so; the input is unread, but by a batch and messages; no connection comes, but
 -- to a service; a reader or a writer stops it only where that failed; and the vault is broken by a store that

@@ -1,8 +1,11 @@
+pub mod Ahead
 pub mod Batched
 pub mod Carried
 pub mod Causes
+pub mod Changes
 pub mod Doing
 pub mod Grants
+pub mod Listing
 pub mod Moments
 pub mod Piped
 pub mod Streams

@@ -1,5 +1,5 @@
 //! The line that answers a job.
-ghost use Rattle.std.specs.Prelude.{◌≡◌, OnOk, IfErr, false, true};
+ghost use Rattle.std.specs.Prelude.{◌≡◌, ℕ, OnErr, OnOk, IfErr, false, take, true};
 ghost use Rattle.std.specs.Io.KnownBytes.{Appends};
 ghost use Rattle.std.specs.List.{flat_map};
 ghost use Rattle.vault_wire.specs.Watching.{inner_of, is_stopped};
@@ -7,6 +7,7 @@ ghost use Rattle.vault_wire.specs.Watching.{inner_of, is_stopped};
 use crate::told::tell;
 use std::io::Write;
 use vault_http::fault::ServeFault;
+use vault_wire::send::send;
 use vault_wire::watched::Watched;
 
 /// Writes the line that answers a job, part by part, and hands it on. 62 Write: the writer failed.
@@ -18,6 +19,24 @@ pub fn answer<W: Write>(output: &mut Watched<W>, parts: &[&str]) -> Result<(), S
     ensures failed { IfErr result (λ e. (e ≡ ServeFault.Write) × (is_stopped output.new ≡ true)) }
 {
     tell(output, parts);
+    if output.flush().is_err() {
+        return Err(ServeFault::Write);
+    }
+    Ok(())
+}
+
+/// Writes the text that answers a job, and hands it on. 62 Write: the writer failed.
+pub fn answer_text<W: Write>(output: &mut Watched<W>, text: &[u8]) -> Result<(), ServeFault>
+    ensures answered { OnOk result (Appends
+        (W.contents (inner_of output.old)) (W.contents (inner_of output.new)) text.now) }
+    ensures cut { OnErr result ((n : ℕ) × Appends
+        (W.contents (inner_of output.old)) (W.contents (inner_of output.new)) (take n text.now)) }
+    ensures handed_on { OnOk result (is_stopped output.new ≡ false) }
+    ensures failed { IfErr result (λ e. (e ≡ ServeFault.Write) × (is_stopped output.new ≡ true)) }
+{
+    if send(output, text).is_err() {
+        return Err(ServeFault::Write);
+    }
     if output.flush().is_err() {
         return Err(ServeFault::Write);
     }

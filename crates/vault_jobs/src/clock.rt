@@ -1,11 +1,32 @@
 //! The moment of a job.
 ghost use Rattle.std.specs.Prelude.{◌≡◌, IfOk, IfErr, None, OnErr};
-ghost use Rattle.vault_jobs.specs.Moments.{IsMomentOf};
+ghost use Rattle.vault_jobs.specs.Moments.{IsMomentOf, giver_of};
 
 use crate::stop::Stop;
 use vault_core::moment::Moment;
 use vault_http::fault::ServeFault;
 use vault_live::time::Timekeeper;
+
+/// Who gives the moment of a job.
+#[derive(Clone, Copy, Debug, PartialEq, Eq, Drop)]
+pub enum Giver {
+    /// The words fix it.
+    Words,
+    /// The clock tells it.
+    Clock,
+}
+
+impl Giver {
+    /// Who gives a moment that the words may fix.
+    pub fn of(fixed: Option<Moment>) -> Giver
+        ensures { result ≡ giver_of fixed }
+    {
+        match fixed {
+            Some(_) => Giver::Words,
+            None => Giver::Clock,
+        }
+    }
+}
 
 /// The moment that the words fix, or else the one that is told. 60 Source: none is told.
 pub fn moment<K: Timekeeper>(time: &K, fixed: Option<Moment>) -> Result<Moment, Stop>

@@ -6,10 +6,9 @@ ghost use Rattle.vault_listen.specs.Peers.{vault_passing};
 ghost use Rattle.vault_jobs.specs.Grants.{CarriesAll, grants_at};
 
 use crate::change::{Verdict, change};
+use crate::changes::ListedRight;
 use vault_core::command::Command;
 use vault_core::moment::Moment;
-use vault_core::name::{Caller, MerchantId};
-use vault_core::right::Right;
 use vault_store::tables::Tables;
 use vault_store::vault::{Fault, Vault};
 
@@ -19,7 +18,7 @@ use vault_store::vault::{Fault, Vault};
 /// 20 Memory: memory was refused. 21 Store: the store failed.
 pub fn give_all<T: Tables>(
     vault: &mut Vault<T>,
-    rights: &[(Caller, MerchantId, Right, Option<Moment>)],
+    rights: &[ListedRight],
     now: Moment,
 ) -> Result<Verdict, Fault>
     requires { is_broken vault.old ≡ false }

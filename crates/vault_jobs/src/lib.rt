@@ -1,13 +1,18 @@
 //! What the program does with a vault and its streams, over any tables: it knows no words and no file.
 #![tactic(auto)]
 
+pub mod ahead;
 pub mod answer;
 pub mod batch;
+mod carry;
 pub mod change;
+pub mod changes;
 pub mod clock;
 pub mod grants;
 pub mod listening;
 pub mod pipe;
+mod settle;
+pub mod show;
 pub mod source;
 pub mod stop;
 pub mod sweep;

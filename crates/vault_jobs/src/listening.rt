@@ -1,5 +1,5 @@
 //! A vault served on a port.
-ghost use Rattle.std.specs.Prelude.{◌≡◌, ◌++◌, Err, List, Option, false};
+ghost use Rattle.std.specs.Prelude.{◌≡◌, ◌++◌, Err, List, None, Option, false};
 ghost use Rattle.vault_store.specs.Applied.{is_broken, tables_of};
 ghost use Rattle.vault_wire.specs.Watching.{inner_of, is_stopped};
 ghost use Rattle.vault_http.specs.Passing.{Passage};
@@ -25,8 +25,8 @@ use vault_wire::watched::Watched;
 
 /// Listens, says on which port, and serves so many connections by a vault.
 ///
-/// 60 Source: there is nothing to draw digits from. 62 Write: the port can't be said. 63 Store: the store
-/// failed. 64 Memory: memory was refused. 80 Accept: listening or accepting was refused.
+/// 60 Source: there is nothing to draw digits from, or the time jumped. 62 Write: the port can't be said. 63
+/// Store: the store failed. 64 Memory: memory was refused. 80 Accept: listening or accepting was refused.
 pub fn serve_at<K: Timekeeper, N: Network, W: Write, T: Tables>(
     rt: &HostRuntime,
     time: &K,
@@ -42,7 +42,7 @@ pub fn serve_at<K: Timekeeper, N: Network, W: Write, T: Tables>(
         × ((log : List Event) → N.tells network.old log → N.tells network.new (log ++ events_of links))
         × ServeEnds (K.tells time.now) port connections w result (output.new ≡ output.old)
         (W.contents (inner_of output.old)) (W.contents (inner_of output.new)) (is_stopped output.new) links }
-    ensures breaks { BreaksBy (Task.Serve port connections) result (is_broken vault.new) }
+    ensures breaks { BreaksBy (Task.Serve port connections None) result (is_broken vault.new) }
     ensures honest { T.is_honest (tables_of vault.new) → T.is_honest (tables_of vault.old) }
 {
     let Ok(mut generator) = make_rng::<StdRng, _>(rt) else {

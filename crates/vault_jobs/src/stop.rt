@@ -21,10 +21,10 @@ pub enum Unread {
 pub enum Stop {
     /// 20 to 22: a command of the words wasn't answered, or there was no memory for the words.
     Vault(Fault),
-    /// 60 to 64: messages weren't all answered; 60 too where the clock can't be read, 62 where a line can't
-    /// be written.
+    /// 60 to 64: messages weren't all answered; 60 too where the clock can't be read or has
+    /// jumped, 62 where a line can't be written.
     Service(ServeFault),
-    /// 63, 64 or 80: connections weren't all served.
+    /// 60, 63, 64 or 80: connections weren't all served.
     Listener(ListenFault),
     /// 74 or 80: the rights file wasn't read.
     Rights(Unread),

@@ -8,27 +8,34 @@ ghost use Rattle.vault_jobs.specs.Carried.{Carries};
 ghost use Rattle.vault_wire.specs.Watching.{inner_of, is_stopped};
 ghost use Rattle.vault_jobs.specs.Causes.{IsCauseOf};
 ghost use Rattle.vault_jobs.specs.Streams.{Streams, streams, with_links};
-ghost use Rattle.vault_jobs.specs.Doing.{BatchEnds, CommandsEnd, Does, PipeEnds, SweepEnds};
+ghost use Rattle.vault_jobs.specs.Doing.{BatchEnds, CommandsEnd, Does, ListedServeEnds, PipeEnds};
+ghost use Rattle.vault_jobs.specs.Doing.{SettleEnds, ShowEnds, SweepEnds, TimedSweepEnds};
+ghost use Rattle.vault_jobs.specs.Listing.{shown_text};
+ghost use Rattle.vault_jobs.specs.declared.task.Listed.{Listed as Rows};
 ghost use Rattle.vault_jobs.specs.Grants.{CarriesAll, grants_at};
 ghost use Rattle.vault_jobs.specs.Tasks.{BreaksBy, FailsStore, IsProper, granted_line};
 ghost use Rattle.vault_jobs.specs.declared.task.Task.{Task};
 
-use crate::answer::answer;
+use crate::ahead::{MOMENT_AHEAD, is_ahead};
+use crate::answer::{answer, answer_text};
 use crate::batch::batch_input;
 use crate::change::{Verdict, change};
+use crate::changes::ListedRight;
+use crate::clock::Giver;
 use crate::grants::give_all;
 use crate::listening::serve_at;
 use crate::pipe::pipe;
+use crate::settle::{settle, text_of};
+use crate::show::Shown;
 use crate::source::{row_source, source};
 use crate::stop::Stop;
 use crate::sweep::{Swept, sweep};
 use itoa::Buffer;
+use std::alloc::Global;
 use std::io::{Read, Write};
 use vault_batch::asker::Asker;
 use vault_core::command::Command;
 use vault_core::moment::Moment;
-use vault_core::name::{Caller, MerchantId};
-use vault_core::right::Right;
 use vault_listen::network::Network;
 use vault_live::time::Timekeeper;
 use vault_pan::draw::Digits;
@@ -42,15 +49,28 @@ pub enum Task {
     /// Carries out one command.
     Change(Command),
     /// Gives rights at a moment, to the first that is refused.
-    Give(Vec<(Caller, MerchantId, Right, Option<Moment>)>, Moment),
-    /// Purges the numbers of a merchant's dead tokens at a moment, until none is left or one is refused.
-    Sweep(Asker, Moment),
+    Give(Vec<ListedRight>, Moment),
+    /// Makes the rights exactly these at a moment, to the first change that is refused.
+    Settle(Vec<ListedRight>, Moment),
+    /// Purges the numbers of a merchant's dead tokens at a moment, until none is left or one is refused. At
+    /// one that the clock told nothing is purged where the merchant's is far ahead of it.
+    Sweep(Asker, Moment, Giver),
     /// Answers the rows of the input, with this moment and these digits, where they are fixed.
     Batch(Asker, Option<Moment>, Option<Digits>),
     /// Answers the messages of the input, with this moment and these digits, where they are fixed.
     Pipe(Option<Moment>, Option<Digits>),
-    /// Serves so many connections on a port.
-    Serve(u16, u64),
+    /// Serves so many connections on a port; and makes the rights exactly those of a list before that, where
+    /// there is one.
+    Serve(u16, u64, Option<Listed>),
+    /// Says what the vault holds.
+    Show(Shown),
+}
+
+/// The rights of a list, and the moment at which they are given.
+#[derive(Drop)]
+pub struct Listed {
+    pub rights: Vec<ListedRight>,
+    pub now: Moment,
 }
 
 /// How a task ends that isn't stopped.
@@ -92,7 +112,7 @@ fn do_change<W: Write, T: Tables>(
 /// Gives rights, and says how many.
 fn do_give<W: Write, T: Tables>(
     vault: &mut Vault<T>,
-    rights: &[(Caller, MerchantId, Right, Option<Moment>)],
+    rights: &[ListedRight],
     now: Moment,
     output: &mut Watched<W>,
 ) -> Result<Outcome, Stop>
@@ -117,8 +137,97 @@ fn do_give<W: Write, T: Tables>(
     }
 }
 
+/// Makes the rights exactly those of a list, and says how many were given and withdrawn.
+fn do_settle<W: Write, T: Tables>(
+    alloc: Global,
+    vault: &mut Vault<T>,
+    rows: &[ListedRight],
+    now: Moment,
+    output: &mut Watched<W>,
+) -> Result<Outcome, Stop>
+    requires { is_broken vault.old ≡ false }
+    ensures does { let w : Passage = vault_passing T.is_honest T.holds T.leaves vault.old vault.new in
+        SettleEnds now rows.now w (is_broken vault.new) result (output.new ≡ output.old)
+        (W.contents (inner_of output.old)) (W.contents (inner_of output.new)) (is_stopped output.new) }
+    ensures breaks { is_broken vault.new ≡ true → FailsStore result }
+    ensures honest { T.is_honest (tables_of vault.new) → T.is_honest (tables_of vault.old) }
+{
+    match settle(alloc, vault, rows, now) {
+        Ok((Verdict::Done, changes)) => {
+            let [mut granted, mut withdrawn] = [Buffer::new(), Buffer::new()];
+            let parts = [
+                "granted ",
+                granted.format(changes.granted),
+                " withdrawn ",
+                withdrawn.format(changes.withdrawn()),
+                "\n",
+            ];
+            match answer(output, &parts) {
+                Ok(()) => Ok(Outcome::Done),
+                Err(fault) => Err(Stop::Service(fault)),
+            }
+        }
+        Ok((Verdict::Refused(number), _)) => Ok(Outcome::Refused(number)),
+        Err(fault) => Err(Stop::Vault(fault)),
+    }
+}
+
+/// Says what the vault holds.
+fn do_show<W: Write, T: Tables>(
+    alloc: Global,
+    vault: &mut Vault<T>,
+    shown: &Shown,
+    output: &mut Watched<W>,
+) -> Result<Outcome, Stop>
+    requires { is_broken vault.old ≡ false }
+    ensures does { let w : Passage = vault_passing T.is_honest T.holds T.leaves vault.old vault.new in
+        ShowEnds (shown_text shown.now) w (is_broken vault.new) result (output.new ≡ output.old)
+        (W.contents (inner_of output.old)) (W.contents (inner_of output.new)) (is_stopped output.new) }
+    ensures breaks { is_broken vault.new ≡ true → FailsStore result }
+    ensures honest { T.is_honest (tables_of vault.new) → T.is_honest (tables_of vault.old) }
+{
+    match text_of(alloc, vault, shown) {
+        Ok(text) => match answer_text(output, text.as_slice()) {
+            Ok(()) => Ok(Outcome::Done),
+            Err(fault) => Err(Stop::Service(fault)),
+        },
+        Err(fault) => Err(Stop::Vault(fault)),
+    }
+}
+
+/// Serves connections; and makes the rights exactly those of a list before it listens, where there is one.
+fn do_serve<K: Timekeeper, N: Network, W: Write, T: Tables>(
+    rt: &HostRuntime,
+    time: &K,
+    network: &mut N,
+    port: u16,
+    connections: u64,
+    listed: &Option<Listed>,
+    vault: &mut Vault<T>,
+    output: &mut Watched<W>,
+) -> Result<Outcome, Stop>
+    requires { is_broken vault.old ≡ false }
+    ensures does { let w : Passage = vault_passing T.is_honest T.holds T.leaves vault.old vault.new in
+        (links : List (Option Link))
+        × ((log : List Event) → N.tells network.old log → N.tells network.new (log ++ events_of links))
+        × ListedServeEnds (K.tells time.now) port connections listed.now w (is_broken vault.new) result
+        (output.new ≡ output.old) (W.contents (inner_of output.old)) (W.contents (inner_of output.new))
+        (is_stopped output.new) links }
+    ensures breaks { BreaksBy (Task.Serve port connections listed.now) result (is_broken vault.new) }
+    ensures honest { T.is_honest (tables_of vault.new) → T.is_honest (tables_of vault.old) }
+{
+    let Some(listed) = listed else {
+        return serve_at(rt, time, network, port, connections, vault, output);
+    };
+    match settle(rt.alloc(), vault, listed.rights.as_slice(), listed.now) {
+        Ok((Verdict::Done, _)) => serve_at(rt, time, network, port, connections, vault, output),
+        Ok((Verdict::Refused(number), _)) => Ok(Outcome::Refused(number)),
+        Err(fault) => Err(Stop::Vault(fault)),
+    }
+}
+
 /// Purges the numbers of dead tokens, and says how many.
-fn do_sweep<W: Write, T: Tables>(
+fn do_purges<W: Write, T: Tables>(
     vault: &mut Vault<T>,
     asker: Asker,
     now: Moment,
@@ -141,6 +250,31 @@ fn do_sweep<W: Write, T: Tables>(
         }
         Ok(Swept::Refused(number)) => Ok(Outcome::Refused(number)),
         Err(fault) => Err(Stop::Vault(fault)),
+    }
+}
+
+/// Sweeps at a moment; but at one that the clock told not where the merchant's is far ahead of it.
+fn do_sweep<W: Write, T: Tables>(
+    vault: &mut Vault<T>,
+    asker: Asker,
+    now: Moment,
+    giver: Giver,
+    output: &mut Watched<W>,
+) -> Result<Outcome, Stop>
+    requires { is_broken vault.old ≡ false }
+    ensures swept { let w : Passage = vault_passing T.is_honest T.holds T.leaves vault.old vault.new in
+        TimedSweepEnds giver asker now w (is_broken vault.new) result (output.new ≡ output.old)
+        (W.contents (inner_of output.old)) (W.contents (inner_of output.new)) (is_stopped output.new) }
+    ensures breaks { is_broken vault.new ≡ true → FailsStore result }
+    ensures honest { T.is_honest (tables_of vault.new) → T.is_honest (tables_of vault.old) }
+{
+    match giver {
+        Giver::Words => do_purges(vault, asker, now, output),
+        Giver::Clock => match is_ahead(vault, asker.merchant, now) {
+            Ok(true) => Ok(Outcome::Refused(MOMENT_AHEAD)),
+            Ok(false) => do_purges(vault, asker, now, output),
+            Err(fault) => Err(Stop::Vault(fault)),
+        },
     }
 }
 
@@ -231,13 +365,15 @@ pub fn do_task<K: Timekeeper, N: Network, R: Read, W: Write, T: Tables>(
     match *task {
         Task::Change(ref command) => do_change(vault, command, output),
         Task::Give(ref rights, now) => do_give(vault, rights, now, output),
-        Task::Sweep(asker, now) => do_sweep(vault, asker, now, output),
+        Task::Settle(ref rights, now) => do_settle(rt.alloc(), vault, rights, now, output),
+        Task::Sweep(asker, now, giver) => do_sweep(vault, asker, now, giver, output),
         Task::Batch(asker, moment, digits) => {
             do_batch(rt, time, asker, moment, digits, vault, input, output)
         }
         Task::Pipe(moment, digits) => do_pipe(rt, time, moment, digits, vault, input, output),
-        Task::Serve(port, connections) => {
-            serve_at(rt, time, network, port, connections, vault, output)
+        Task::Serve(port, connections, ref listed) => {
+            do_serve(rt, time, network, port, connections, listed, vault, output)
         },
+        Task::Show(ref shown) => do_show(rt.alloc(), vault, shown, output),
     }
 }

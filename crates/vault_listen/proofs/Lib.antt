@@ -1,3 +1,4 @@
 pub mod Answered
 pub mod Following
+pub mod Jumping
 pub mod Linking

@@ -9,7 +9,7 @@ use Rattle.vault_http.specs.declared.fault.ServeFault.TheVariants as fault
 use Rattle.vault_live.specs.Live.{AreGiven, Turns}
 use Rattle.vault_listen.specs.Peers.{Link}
 use Rattle.vault_listen.specs.declared.fault.ListenFault.{ListenFault}
-use Rattle.vault_listen.specs.declared.fault.ListenFault.TheVariants.{Store, Memory, Accept}
+use Rattle.vault_listen.specs.declared.fault.ListenFault.TheVariants.{Source, Store, Memory, Accept}
 
 -- the passage of a connection in which a source gave these pairs, from the vault V to the vault W; a stop
 -- within its last message leaves W or U
@@ -57,11 +57,13 @@ abbrev pub GoesOn : Option Link → Type 0
 GoesOn None = Unit {0}
 GoesOn (Some x) = x.ended ≢ Err fault.Store
 
--- What a service of so many connections leaves, where these came. It is done with the last one; the store
--- fails in the last that came, and in none before; memory is refused before the first; and where the listener
--- fails, fewer came.
+-- What a service of so many connections leaves, where these came. It is done with the last one; the time is
+-- found to have jumped after one that came; the store fails in the last that came, and in none before; memory
+-- is refused before the first; and where the listener fails, fewer came.
 abbrev pub Leaves : Turns → ℕ → List (Option Link) → Passage → Result Unit ListenFault → Type 0
 Leaves tells most xs w (Ok done) = (length xs ≡ most) × All GoesOn xs × AllKept tells xs w
+Leaves tells most xs w (Err Source) = (0 < length xs) × (length xs ≤ most) × All GoesOn xs
+    × AllKept tells xs w
 Leaves tells most xs w (Err Store) = (length xs ≤ most) × ((first : List (Option Link)) × (last : Link)
     × (xs ≡ first ++ Some last ∷ []) × All GoesOn first × (last.ended ≡ Err fault.Store)
     × OneUndecided tells first last w)

@@ -78,8 +78,9 @@ fn serve_link<P: Peers, K: Timekeeper, G: Rng, T: Tables>(
 /// answered; after 1000 messages, at a message after its end, or where no moment is told (60); where
 /// its peer fails (61, 62); or for want of memory (64). None of these ends the service.
 ///
-/// 63 Store: the store failed, or the vault was broken before; nothing more is accepted. 64 Memory: memory
-/// was refused before the first connection. 80 Accept: no connection can be accepted.
+/// 60 Source: after a connection the time has jumped, or couldn't be read at the start; nothing more is
+/// accepted. 63 Store: the store failed, or the vault was broken before; nothing more is accepted. 64 Memory:
+/// memory was refused before the first connection. 80 Accept: no connection can be accepted.
 pub fn serve_on<P: Peers, K: Timekeeper, G: Rng, T: Tables>(
     alloc: Global,
     time: &K,
@@ -104,6 +105,9 @@ pub fn serve_on<P: Peers, K: Timekeeper, G: Rng, T: Tables>(
     for _ in 0..connections {
         if let Some(link) = peers.accept()? {
             serve_link(alloc, time, generator, &routes, peers, link, vault)?;
+        }
+        if time.has_jumped() {
+            return Err(ListenFault::Source);
         }
     }
     Ok(())

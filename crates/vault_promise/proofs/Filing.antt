@@ -1,10 +1,10 @@
 -- Whatever a run does with files, it is one up to the bytes with which the next begins.
 use Rattle.std.proofs.Common.{◌≡◌, ◌⊎◌, ℕ, List, [], Option, Some, None, Result, Ok, Err, Bool}
-use Rattle.std.proofs.Common.{inl, inr, refl, sym}
+use Rattle.std.proofs.Common.{inl, inr, refl, sym, Bor}
 use Rattle.std.proofs.Common.{arith, subst}
 use Rattle.std.proofs.Math.Logic.{∥∥₁_map}
 use Rattle.std.specs.Io.KnownBytes.{Appends, Consumes}
-use Rattle.std.specs.Prelude.{ℤ}
+use Rattle.std.specs.Prelude.{ℤ, unwrap_or}
 use Rattle.sqlite.specs.Files.{file_state}
 use Rattle.sqlite_disk.specs.declared.Disk.{Ghosts}
 use Rattle.sqlite_store.specs.declared.store.FileStore.{FileStore}
@@ -40,7 +40,7 @@ use Rattle.vault_words.specs.Jobs.{IsAsked}
 use Rattle.vault_words.specs.declared.jobs.Job.{Job}
 use Rattle.vault_words.specs.declared.jobs.Job.TheVariants as job
 use Rattle.vault_app.specs.Jobs.{Does as DoesWords, DoesPlan, IsChecked, IsMoved}
-use Rattle.vault_app.specs.Plans.{IsPlanOf, IsProperPlan, IsTaskOf}
+use Rattle.vault_app.specs.Plans.{IsPlanOf, IsProperPlan, IsServeOf, IsTaskOf, without_end}
 use Rattle.vault_app.specs.Asked.{AsksFor, Unasked}
 use Rattle.vault_app.specs.Values.{AreValues}
 use Rattle.vault_app.specs.World.{World, anything, world_of}
@@ -55,8 +55,8 @@ use Rattle.vault_app.specs.declared.plan.Plan.TheVariants as plan
 use Rattle.vault_promise.proofs.Batching.{batch_works}
 use Rattle.vault_promise.proofs.Coming.{perhaps_sound}
 use Rattle.vault_promise.proofs.Piping.{pipe_works}
-use Rattle.vault_promise.proofs.Serving.{serve_works}
-use Rattle.vault_promise.proofs.Sweeping.{sweep_works}
+use Rattle.vault_promise.proofs.Settling.{listed_serve_works, settle_works, show_works}
+use Rattle.vault_promise.proofs.Sweeping.{timed_sweep_works}
 use Rattle.vault_promise.proofs.Working.{Works, change_works, give_works}
 use Rattle.vault_promise.specs.Runs.{AreOf, Bear, Comes, EveryRunIsOne, IsAside, IsFound, IsRun, Leaves}
 use Rattle.vault_promise.specs.Runs.{file_of, Rests, Run, Work, kept_by, perhaps, undecided_by}
@@ -75,14 +75,20 @@ works tells (task.Change c) w V b sound s broken r unread unsent still quiet val
     change_works w V b s unsent quiet F c values.0 values.1 broken r fin h.works
 works tells (task.Give rights now) w V b sound s broken r unread unsent still quiet values F fin h =
     give_works w V b s unsent quiet F rights now values broken r fin h.works
-works tells (task.Sweep who now) w V b sound s broken r unread unsent still quiet values F fin h =
-    sweep_works who now values.0 values.1 values.2 w V b sound s unsent quiet F broken r fin h.works
+works tells (task.Settle rights now) w V b sound s broken r unread unsent still quiet values F fin h =
+    settle_works w V b sound s unsent quiet F rights now values.0 values.1 broken r fin h.works
+works tells (task.Sweep who now giver) w V b sound s broken r unread unsent still quiet values F fin h =
+    timed_sweep_works who now values.0 values.1 values.2 w V b sound s unsent quiet F giver broken r fin
+    h.works
 works tells (task.Batch who now digits) w V b sound s broken r unread unsent still quiet values F fin h =
     batch_works who now digits values.0 values.1 w V b s F tells r unread unsent quiet h.works
 works tells (task.Pipe now digits) w V b sound s broken r unread unsent still quiet values F fin h =
     pipe_works now digits w V b s F tells r unread unsent still quiet h.works
-works tells (task.Serve port connections) w V b sound s broken r unread unsent still quiet values F fin h =
-    serve_works tells w V b s port connections F r unsent h.works
+works tells (task.Serve port connections listed) w V b sound s broken r unread unsent still quiet values F fin
+    h =
+    listed_serve_works w V b sound s unsent quiet F tells port connections listed values broken r fin h.works
+works tells (task.Show it) w V b sound s broken r unread unsent still quiet values F fin h =
+    show_works w V b sound s unsent quiet F it broken r fin h.works
 
 -- what a job with this plan asks for
 abbrev Fits : Job → Plan → Type 0
@@ -104,18 +110,21 @@ any_task world (job.Grant j) t (names, (right, now, word, moment, same)) =
     (names, (right, now, word, any_moment world.tells j.given.now now moment, same))
 any_task world (job.Withdraw j) t (names, (right, now, word, moment, same)) =
     (names, (right, now, word, any_moment world.tells j.now now moment, same))
-any_task world (job.Rights j) (task.Give rows now) ((text, document, said, is, proper, listed), moment) =
-    ((text, document, tt, is, proper, listed), any_moment world.tells j.now now moment)
-any_task world (job.Rights j) (task.Change c) is = is
-any_task world (job.Rights j) (task.Sweep who now) is = is
-any_task world (job.Rights j) (task.Batch who now digits) is = is
-any_task world (job.Rights j) (task.Pipe now digits) is = is
-any_task world (job.Rights j) (task.Serve port connections) is = is
+any_task world (job.Rights j) t (rows, now, (text, document, said, is, proper, listed), moment, same) =
+    (rows, now, (text, document, tt, is, proper, listed), any_moment world.tells j.now now moment, same)
 any_task world (job.Pipe j) t is = is
 any_task world (job.Batch j) t is = is
-any_task world (job.Serve j) t is = is
+any_task world (job.Serve j) t is = any_serve j.port (unwrap_or j.connections without_end) j.rights is
+  where
+    any_serve : (port connections : ℕ) (o : Option (Bor (List ℕ))) → IsServeOf world port connections o t
+        → IsServeOf anything port connections o t
+    any_serve port connections None same = same
+    any_serve port connections (Some path)
+        (rows, now, (text, document, said, is, proper, listed), moment, same) =
+        (rows, now, (text, document, tt, is, proper, listed), any_moment world.tells None now moment, same)
 any_task world (job.Sweep j) t (names, (who, now, caller, merchant, moment, same)) =
     (names, (who, now, caller, merchant, any_moment world.tells j.now now moment, same))
+any_task world (job.List j) t is = is
 any_task world (job.Check j) t is = is
 any_task world (job.Migrate j) t is = is
 
@@ -131,9 +140,11 @@ fits world (job.Rights j) p (t, is, same) =
     subst (Fits (job.Rights j)) (sym same) (any_task world (job.Rights j) t is)
 fits world (job.Pipe j) p (t, is, same) = subst (Fits (job.Pipe j)) (sym same) is
 fits world (job.Batch j) p (t, is, same) = subst (Fits (job.Batch j)) (sym same) is
-fits world (job.Serve j) p (t, is, same) = subst (Fits (job.Serve j)) (sym same) is
+fits world (job.Serve j) p (t, is, same) =
+    subst (Fits (job.Serve j)) (sym same) (any_task world (job.Serve j) t is)
 fits world (job.Sweep j) p (t, is, same) =
     subst (Fits (job.Sweep j)) (sym same) (any_task world (job.Sweep j) t is)
+fits world (job.List j) p (t, is, same) = subst (Fits (job.List j)) (sym same) is
 fits world (job.Check j) p same = subst (Fits (job.Check j)) (sym same) tt
 fits world (job.Migrate j) p same = subst (Fits (job.Migrate j)) (sym same) tt
 
@@ -163,6 +174,8 @@ found_at world image (job.Batch j) p (t, is, same) at =
 found_at world image (job.Serve j) p (t, is, same) at =
     subst (IsAt world image) (sym same) (at j.file.now refl)
 found_at world image (job.Sweep j) p (t, is, same) at =
+    subst (IsAt world image) (sym same) (at j.file.now refl)
+found_at world image (job.List j) p (t, is, same) at =
     subst (IsAt world image) (sym same) (at j.file.now refl)
 found_at world image (job.Check j) p same at = subst (IsAt world image) (sym same) (at j.file.now refl)
 found_at world image (job.Migrate j) p same at = subst (IsAt world image) (sym same) (at j.file.now refl)

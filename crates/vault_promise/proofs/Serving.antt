@@ -144,7 +144,7 @@ answer_then (Some y ∷ xs) x V cs ds (first, more, is, here, rest) one = (
 module _ (tells : Turns) (w : Passage) (V : Content) (b : IsBefore w V) (s : Streams)
     (port connections : ℕ) (F : Type 0) where
   abbrev Goal : Type 0
-  Goal = Works w V (task.Serve port connections) F s
+  Goal = Works w V (task.Serve port connections None) F s
 
   -- connections that are all answered
   all_kept : AllKept tells s.links w → Goal
@@ -203,6 +203,7 @@ module _ (tells : Turns) (w : Passage) (V : Content) (b : IsBefore w V) (s : Str
   serve_works (Err (stop.Vault f)) unsent h = absurd h
   serve_works (Err (stop.Service f)) unsent h = none_kept h.0 h.1
   serve_works (Err (stop.Listener f)) unsent (inl h) = none_kept h.2 h.3
+  serve_works (Err (stop.Listener listener.Source)) unsent (inr (says, (some, few, on, it))) = all_kept it
   serve_works (Err (stop.Listener listener.Store)) unsent
       (inr (says, (few, (first, x, are, on, failed, it)))) =
       one_undecided first x are it

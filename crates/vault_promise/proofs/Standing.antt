@@ -1,6 +1,6 @@
 -- Answers stand in later runs.
 use Rattle.std.proofs.Common.{◌≡◌, ℕ, List, [], ◌∷◌, ◌++◌, Option, Some, None, inl, inr}
-use Rattle.std.proofs.Common.{refl, sym, ap, subst, ◌∙◌, append-nil, append_assoc}
+use Rattle.std.proofs.Common.{refl, sym, ap, subst, ◌∙◌, append-nil, append_assoc, true}
 use Rattle.std.proofs.Math.Logic.{∥∥₁_map}
 use Rattle.sqlite_wal.specs.Recovery.{Image}
 use Rattle.vault_core.specs.Keys.{Bytes}
@@ -19,6 +19,7 @@ use Rattle.vault_batch.specs.Lines as rows
 use Rattle.vault_http.specs.Exchanges.{commands_in, commands_of}
 use Rattle.vault_recover.specs.Histories.{Answered, IsHistory, Step, last}
 use Rattle.vault_listen.specs.Peers.{Link}
+use Rattle.vault_jobs.specs.Changes.{changes_at, rights_of}
 use Rattle.vault_jobs.specs.Streams.{Streams}
 use Rattle.vault_jobs.specs.declared.task.Task.{Task}
 use Rattle.vault_jobs.specs.declared.task.Task.TheVariants as task
@@ -167,7 +168,8 @@ texts_stand : (t : Task) (W : Content) (cs : List Command) (s : Streams) (Later 
     → TokensStand (AnswersIn W cs) Later → Tells t W cs s → TellsStanding t W s Later
 texts_stand (task.Change c) W cs s Later stand told = tt
 texts_stand (task.Give rights now) W cs s Later stand told = tt
-texts_stand (task.Sweep who now) W cs s Later stand told = tt
+texts_stand (task.Settle rights now) W cs s Later stand told = tt
+texts_stand (task.Sweep who now giver) W cs s Later stand told = tt
 texts_stand (task.Batch who now digits) W cs s Later stand (xs, asked, are, read, (sent, went)) = record {
   rows = xs;
   read = read;
@@ -183,7 +185,22 @@ texts_stand (task.Batch who now digits) W cs s Later stand (xs, asked, are, read
       ) same later;
 }
 texts_stand (task.Pipe now digits) W cs s Later stand told = messages_stand now digits W cs s Later stand told
-texts_stand (task.Serve port connections) W cs s Later stand told = links_stand s.links W cs Later stand told
+texts_stand (task.Serve port connections None) W cs s Later stand told =
+    links_stand s.links W cs Later stand told
+texts_stand (task.Serve port connections (Some it)) W cs s Later stand (inl (k, is, none)) =
+    subst (λ xs. LinksStand (run (changes_at true it.now it.rights.items (rights_of W)) W) xs Later)
+    (sym none) tt
+texts_stand (task.Serve port connections (Some it)) W cs s Later stand (inr (more, is, done, told)) =
+    let changes : List Command = changes_at true it.now it.rights.items (rights_of W) in
+    links_stand s.links (run changes W) more Later
+    (λ a again token expires y (front, behind, same, replied).
+    stand a again token expires y (
+      changes ++ front,
+      behind,
+      is ∙ ap (λ ds. changes ++ ds) same ∙ sym (append_assoc changes front (command_of a ∷ behind)),
+      subst (λ U. reply U (command_of a) ≡ Token token expires) (sym (run_append changes front W)) replied,
+    )) told
+texts_stand (task.Show it) W cs s Later stand told = tt
 
 stand_in : HistoriesLast → (V : Content) (c : Option Command) (rs : List Run) (end : Image)
     (come : Come V c rs end) → Sound V → IsHistory V (history V c rs end come) → Stand V c rs end come

@@ -30,17 +30,21 @@ use Rattle.vault_http.specs.Passing.{IsBefore, Passage}
 use Rattle.vault_store.specs.declared.vault.Fault.TheVariants.{Memory, Store, Reopen}
 use Rattle.vault_jobs.proofs.Giving.{run_more}
 use Rattle.vault_jobs.proofs.Purging.{purged_first}
-use Rattle.vault_jobs.specs.Doing.{SweepEnds}
+use Rattle.vault_jobs.specs.Ahead.{MaySweep}
+use Rattle.vault_jobs.specs.Doing.{SweepEnds, TimedSweepEnds}
 use Rattle.vault_jobs.specs.Grants.{AreDone}
 use Rattle.vault_jobs.specs.Streams.{Streams}
 use Rattle.vault_jobs.specs.Sweeps.{AreSwept, Begin, left_dead, purge_at, purges_at, swept_vault}
+use Rattle.vault_jobs.specs.declared.clock.Giver.{Giver}
+use Rattle.vault_jobs.specs.declared.clock.Giver.TheVariants.{Words, Clock}
 use Rattle.vault_jobs.specs.declared.stop.Stop.{Stop}
 use Rattle.vault_jobs.specs.declared.stop.Stop.TheVariants as stop
 use Rattle.vault_jobs.specs.declared.task.Outcome.{Outcome as Ended}
 use Rattle.vault_jobs.specs.declared.task.Outcome.TheVariants as outcome
 use Rattle.vault_jobs.specs.declared.task.Task.TheVariants as task
+use Rattle.vault_promise.proofs.Settling.{unread_works}
 use Rattle.vault_promise.proofs.Working.{Works}
-use Rattle.vault_promise.specs.Told.{IsQuiet}
+use Rattle.vault_promise.specs.Told.{IsQuiet, Tells}
 
 -- what stands first among those that pass is what a search finds
 first_found : {X : Type 0} (p : X → Bool) (xs : List X) (x : X) (rest : List X) → filter p xs ≡ x ∷ rest
@@ -123,67 +127,86 @@ module _ (who : Asker) (now : ℕ) (named : IsName who.caller) (at : IsName who.
 
   module _ (w : Passage) (V : Content) (b : IsBefore w V) (sound : Sound V) (s : Streams) (unsent : Type 0)
       (quiet : unsent → IsQuiet s) (F : Type 0) where
-    -- purges that are done, and nothing else
-    purged : (tokens : List Bytes) → AreSwept who now tokens V
-        → w.left_new (swept_vault who now tokens V) (swept_vault who now tokens V)
-        → IsQuiet s ⊎ (left_dead who now tokens V ≡ []) → (F → left_dead who now tokens V ≡ [])
-        → Works w V (task.Sweep who now) F s
-    purged tokens swept left told none = record {
-      answered = purges_at who now tokens;
-      undecided = None;
-      proper = swept_proper tokens (left_dead who now tokens V) V sound swept.0 swept.1;
-      last_proper = tt;
-      tells = (tokens, refl, swept, told);
-      done = λ f. (tokens, refl, none f);
-      left = left;
-    }
+    -- a sweep that may begin
+    module _ (giver : Giver) (may : MaySweep giver V who.merchant now) where
+      -- purges that are done, and nothing else
+      purged : (tokens : List Bytes) → AreSwept who now tokens V
+          → w.left_new (swept_vault who now tokens V) (swept_vault who now tokens V)
+          → IsQuiet s ⊎ (left_dead who now tokens V ≡ []) → (F → left_dead who now tokens V ≡ [])
+          → Works w V (task.Sweep who now giver) F s
+      purged tokens swept left told none = record {
+        answered = purges_at who now tokens;
+        undecided = None;
+        proper = swept_proper tokens (left_dead who now tokens V) V sound swept.0 swept.1;
+        last_proper = tt;
+        tells = (tokens, refl, swept, told, inr may);
+        done = λ f. (may, (tokens, refl, none f));
+        left = left;
+      }
 
-    -- one more at most, which is undecided
-    torn : (tokens next : List Bytes) → length next ≤ 1 → AreSwept who now tokens V
-        → Begin next (left_dead who now tokens V)
-        → w.left_new (swept_vault who now tokens V) (swept_vault who now (tokens ++ next) V) → IsQuiet s
-        → ¬ F → Works w V (task.Sweep who now) F s
-    torn tokens [] few swept begins left calm undone =
-        purged tokens swept
-        (subst (λ ts. w.left_new (swept_vault who now tokens V) (swept_vault who now ts V))
-        (append-nil tokens) left) (inl calm) (λ f. absurd (undone f))
-    torn tokens (token ∷ []) few swept begins left calm undone =
-        let proper = swept_proper tokens (left_dead who now tokens V) V sound swept.0 swept.1 in
-        let U : Content = swept_vault who now tokens V in
-        record {
-          answered = purges_at who now tokens;
-          undecided = Some (purge_at who now token);
-          proper = proper;
-          last_proper = first_proper U token begins.0
-              (stays_sound V (purges_at who now tokens) sound proper) begins.1;
-          tells = (tokens, refl, swept, inl calm);
-          done = λ f. absurd (undone f);
-          left = subst (λ W. w.left_new U W)
-              (ap (λ ds. run ds V) (map-append (λ t. purge_at who now t) tokens (token ∷ []))
-              ∙ run_more (purges_at who now tokens) (purge_at who now token) V) left;
-        }
-    torn tokens (token ∷ other ∷ more) few swept begins left calm undone = absurd (omega (arith, few))
+      -- one more at most, which is undecided
+      torn : (tokens next : List Bytes) → length next ≤ 1 → AreSwept who now tokens V
+          → Begin next (left_dead who now tokens V)
+          → w.left_new (swept_vault who now tokens V) (swept_vault who now (tokens ++ next) V) → IsQuiet s
+          → ¬ F → Works w V (task.Sweep who now giver) F s
+      torn tokens [] few swept begins left calm undone =
+          purged tokens swept
+          (subst (λ ts. w.left_new (swept_vault who now tokens V) (swept_vault who now ts V))
+          (append-nil tokens) left) (inl calm) (λ f. absurd (undone f))
+      torn tokens (token ∷ []) few swept begins left calm undone =
+          let proper = swept_proper tokens (left_dead who now tokens V) V sound swept.0 swept.1 in
+          let U : Content = swept_vault who now tokens V in
+          record {
+            answered = purges_at who now tokens;
+            undecided = Some (purge_at who now token);
+            proper = proper;
+            last_proper = first_proper U token begins.0
+                (stays_sound V (purges_at who now tokens) sound proper) begins.1;
+            tells = (tokens, refl, swept, inl calm, inr may);
+            done = λ f. absurd (undone f);
+            left = subst (λ W. w.left_new U W)
+                (ap (λ ds. run ds V) (map-append (λ t. purge_at who now t) tokens (token ∷ []))
+                ∙ run_more (purges_at who now tokens) (purge_at who now token) V) left;
+          }
+      torn tokens (token ∷ other ∷ more) few swept begins left calm undone = absurd (omega (arith, few))
 
-    pub sweep_works : (broken : Bool) (r : Result Ended Stop) → (F → r ≡ Ok outcome.Done)
-        → SweepEnds who now w broken r unsent s.sent_old s.sent_new s.writer
-        → Works w V (task.Sweep who now) F s
-    sweep_works broken (Ok outcome.Done) fin h =
-        let it = h.1.1.1 V b in
-        purged h.1.1.0 it.0 it.3.1 (inr it.1) (λ _. it.1)
-    sweep_works broken (Ok (outcome.Refused n)) fin h =
-        let it = h.1.2 V b in
-        purged h.1.0 it.0 it.3.1 (inl (quiet h.0)) (λ f. absurd (cc (fin f)))
-    sweep_works broken (Ok outcome.SomeRefused) fin h = absurd h
-    sweep_works broken (Err (stop.Vault Memory)) fin h =
-        let it = h.1.1 V b in
-        purged h.1.0 it.0 it.1.1 (inl (quiet h.0)) (λ f. absurd (cc (fin f)))
-    sweep_works broken (Err (stop.Vault Store)) fin h =
-        let it = h.1.3 V b in
-        torn h.1.0 h.1.1 h.1.2 it.1 it.2 it.3 (quiet h.0) (λ f. cc (fin f))
-    sweep_works broken (Err (stop.Vault Reopen)) fin h = absurd h.1
-    sweep_works broken (Err (stop.Service f)) fin h =
-        let it = h.2.1.1 V b in
-        purged h.2.1.0 it.0 it.3.1 (inr it.1) (λ _. it.1)
-    sweep_works broken (Err (stop.Listener f)) fin h = absurd h
-    sweep_works broken (Err (stop.Rights f)) fin h = absurd h
-    sweep_works broken (Err (stop.Batch f)) fin h = absurd h
+      sweep_works : (broken : Bool) (r : Result Ended Stop) → (F → r ≡ Ok outcome.Done)
+          → SweepEnds who now w broken r unsent s.sent_old s.sent_new s.writer
+          → Works w V (task.Sweep who now giver) F s
+      sweep_works broken (Ok outcome.Done) fin h =
+          let it = h.1.1.1 V b in
+          purged h.1.1.0 it.0 it.3.1 (inr it.1) (λ _. it.1)
+      sweep_works broken (Ok (outcome.Refused n)) fin h =
+          let it = h.1.2 V b in
+          purged h.1.0 it.0 it.3.1 (inl (quiet h.0)) (λ f. absurd (cc (fin f)))
+      sweep_works broken (Ok outcome.SomeRefused) fin h = absurd h
+      sweep_works broken (Err (stop.Vault Memory)) fin h =
+          let it = h.1.1 V b in
+          purged h.1.0 it.0 it.1.1 (inl (quiet h.0)) (λ f. absurd (cc (fin f)))
+      sweep_works broken (Err (stop.Vault Store)) fin h =
+          let it = h.1.3 V b in
+          torn h.1.0 h.1.1 h.1.2 it.1 it.2 it.3 (quiet h.0) (λ f. cc (fin f))
+      sweep_works broken (Err (stop.Vault Reopen)) fin h = absurd h.1
+      sweep_works broken (Err (stop.Service f)) fin h =
+          let it = h.2.1.1 V b in
+          purged h.2.1.0 it.0 it.3.1 (inr it.1) (λ _. it.1)
+      sweep_works broken (Err (stop.Listener f)) fin h = absurd h
+      sweep_works broken (Err (stop.Rights f)) fin h = absurd h
+      sweep_works broken (Err (stop.Batch f)) fin h = absurd h
+
+    -- one that may not, or whose merchant wasn't read
+    none_swept : (giver : Giver) → unsent → Tells (task.Sweep who now giver) V [] s
+    none_swept giver silent = ([], refl, (refl, refl), inl (quiet silent), inl (refl, quiet silent))
+
+    pub timed_sweep_works : (giver : Giver) (broken : Bool) (r : Result Ended Stop)
+        → (F → r ≡ Ok outcome.Done)
+        → TimedSweepEnds giver who now w broken r unsent s.sent_old s.sent_new s.writer
+        → Works w V (task.Sweep who now giver) F s
+    timed_sweep_works Words broken r fin h = sweep_works Words tt broken r fin h
+    timed_sweep_works Clock broken r fin (inl (near, h)) = sweep_works Clock (near V b) broken r fin h
+    timed_sweep_works Clock broken r fin (inr (inl (is, silent, same, far))) =
+        unread_works w V b sound s unsent quiet F (task.Sweep who now Clock) (none_swept Clock silent)
+        (λ f. cc (is, fin f)) broken Memory same
+    timed_sweep_works Clock broken r fin (inr (inr (f, is, silent, h))) =
+        unread_works w V b sound s unsent quiet F (task.Sweep who now Clock) (none_swept Clock silent)
+        (λ d. cc (is, fin d)) broken f h

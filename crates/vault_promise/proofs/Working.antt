@@ -19,11 +19,12 @@ use Rattle.vault_core.specs.declared.command.Command.TheVariants.{SetMerchant, G
 use Rattle.vault_core.specs.declared.command.Command.TheVariants.{Detokenize, View, Revoke, Purge, Audit}
 use Rattle.vault_core.specs.declared.limit.TheConstants.{MOST_MERCHANTS}
 use Rattle.vault_http.specs.Passing.{IsBefore, Passage}
+use Rattle.vault_store.specs.declared.vault.Fault.{Fault}
 use Rattle.vault_store.specs.declared.vault.Fault.TheVariants.{Memory, Store, Reopen}
 use Rattle.vault_jobs.proofs.Giving.{run_more}
 use Rattle.vault_jobs.specs.Carried.{Carries, reply_of}
 use Rattle.vault_jobs.specs.Doing.{CommandsEnd}
-use Rattle.vault_jobs.specs.Grants.{CarriesAll, grants_at}
+use Rattle.vault_jobs.specs.Grants.{AreDone, CarriesAll, grants_at}
 use Rattle.vault_jobs.specs.Streams.{Streams}
 use Rattle.vault_jobs.specs.Tasks.{granted_line}
 use Rattle.vault_jobs.specs.declared.change.Verdict.{Verdict}
@@ -157,64 +158,82 @@ one_more (suc k) (c ∷ cs) below =
 
 module _ (w : Passage) (V : Content) (b : IsBefore w V) (s : Streams) (unsent : Type 0)
     (quiet : unsent → IsQuiet s) (F : Type 0) where
-  module _ (rights : Vec Row) (now : ℕ) (proper : AllProper (grants_at now rights.items)) where
-    abbrev cs : List Command
-    cs = grants_at now rights.items
-
-    give_done : (broken : Bool) → CarriesAll cs w broken (Ok verdict.Done)
-        → Works w V (task.Give rights now) F s
-    give_done broken carried = record {
+  -- commands of which the task tells alone that all are done
+  module _ (t : Task) (cs : List Command) (line : List ℕ) (proper : AllProper cs)
+      (told : AreDone (length cs) cs V → Tells t V cs s)
+      (silent : (ds : List Command) → IsQuiet s → Tells t V ds s)
+      (ended : AreDone (length cs) cs V → AllDone t V cs) where
+    all_works : (broken : Bool) → CarriesAll cs w broken (Ok verdict.Done) → Works w V t F s
+    all_works broken carried = record {
       answered = cs;
       undecided = None;
       proper = proper;
       last_proper = tt;
-      tells = inr (refl, (carried V b).0);
-      done = λ _. (refl, (carried V b).0);
+      tells = told (carried V b).0;
+      done = λ _. ended (carried V b).0;
       left = (carried V b).1.1;
     }
 
-    pub give_works : (broken : Bool) (r : Result Ended Stop) → (F → r ≡ Ok outcome.Done)
-        → CommandsEnd (CarriesAll cs w broken) (granted_line (length rights.items)) r unsent s.sent_old
-        s.sent_new s.writer → Works w V (task.Give rights now) F s
-    give_works broken (Ok outcome.Done) fin h = give_done broken h.2
-    give_works broken (Ok (outcome.Refused n)) fin h =
-        let k = h.1.0 in
+    -- the first are done and one is refused, or not answered
+    pub refused_works : (broken : Bool) (n : ℕ) → ¬ F → IsQuiet s
+        → CarriesAll cs w broken (Ok (verdict.Refused n)) → Works w V t F s
+    refused_works broken n never calm h =
+        let k = h.0 in
         record {
           answered = take (k + 1) cs;
           undecided = None;
           proper = first_proper (k + 1) cs proper;
           last_proper = tt;
-          tells = inl (quiet h.0);
-          done = λ f. absurd (cc (fin f));
-          left = (h.1.2 V b).1.1;
+          tells = silent (take (k + 1) cs) calm;
+          done = λ f. absurd (never f);
+          left = (h.2 V b).1.1;
         }
-    give_works broken (Ok outcome.SomeRefused) fin h = absurd h
-    give_works broken (Err (stop.Vault Memory)) fin h =
-        let k = h.1.0 in
+
+    pub stopped_works : (broken : Bool) (f : Fault) → ¬ F → IsQuiet s → CarriesAll cs w broken (Err f)
+        → Works w V t F s
+    stopped_works broken Memory never calm h =
+        let k = h.0 in
         record {
           answered = take k cs;
           undecided = None;
           proper = first_proper k cs proper;
           last_proper = tt;
-          tells = inl (quiet h.0);
-          done = λ f. absurd (cc (fin f));
-          left = (h.1.2 V b).1.1;
+          tells = silent (take k cs) calm;
+          done = λ f. absurd (never f);
+          left = (h.2 V b).1.1;
         }
-    give_works broken (Err (stop.Vault Store)) fin h =
-        let k = h.1.0 in
-        let more = one_more k cs h.1.1 in
+    stopped_works broken Store never calm h =
+        let k = h.0 in
+        let more = one_more k cs h.1 in
         record {
           answered = take k cs;
           undecided = Some more.one;
           proper = first_proper k cs proper;
           last_proper = more.proper proper;
-          tells = inl (quiet h.0);
-          done = λ f. absurd (cc (fin f));
+          tells = silent (take k cs) calm;
+          done = λ f. absurd (never f);
           left = subst (λ W. w.left_new (run (take k cs) V) W)
-              (ap (λ ds. run ds V) more.is ∙ run_more (take k cs) more.one V) (h.1.2 V b).2;
+              (ap (λ ds. run ds V) more.is ∙ run_more (take k cs) more.one V) (h.2 V b).2;
         }
-    give_works broken (Err (stop.Vault Reopen)) fin h = absurd h.1
-    give_works broken (Err (stop.Service f)) fin h = give_done broken h.2
-    give_works broken (Err (stop.Listener f)) fin h = absurd h
-    give_works broken (Err (stop.Rights f)) fin h = absurd h
-    give_works broken (Err (stop.Batch f)) fin h = absurd h
+    stopped_works broken Reopen never calm h = absurd h
+
+    pub commands_works : (broken : Bool) (r : Result Ended Stop) → (F → r ≡ Ok outcome.Done)
+        → CommandsEnd (CarriesAll cs w broken) line r unsent s.sent_old s.sent_new s.writer → Works w V t F s
+    commands_works broken (Ok outcome.Done) fin h = all_works broken h.2
+    commands_works broken (Ok (outcome.Refused n)) fin h =
+        refused_works broken n (λ f. cc (fin f)) (quiet h.0) h.1
+    commands_works broken (Ok outcome.SomeRefused) fin h = absurd h
+    commands_works broken (Err (stop.Vault f)) fin h =
+        stopped_works broken f (λ d. cc (fin d)) (quiet h.0) h.1
+    commands_works broken (Err (stop.Service f)) fin h = all_works broken h.2
+    commands_works broken (Err (stop.Listener f)) fin h = absurd h
+    commands_works broken (Err (stop.Rights f)) fin h = absurd h
+    commands_works broken (Err (stop.Batch f)) fin h = absurd h
+
+  pub give_works : (rights : Vec Row) (now : ℕ) → AllProper (grants_at now rights.items) → (broken : Bool)
+      (r : Result Ended Stop) → (F → r ≡ Ok outcome.Done)
+      → CommandsEnd (CarriesAll (grants_at now rights.items) w broken) (granted_line (length rights.items)) r
+      unsent s.sent_old s.sent_new s.writer → Works w V (task.Give rights now) F s
+  give_works rights now proper broken r fin h =
+      commands_works (task.Give rights now) (grants_at now rights.items) (granted_line (length rights.items))
+      proper (λ done. inr (refl, done)) (λ ds calm. inl calm) (λ done. (refl, done)) broken r fin h

@@ -30,7 +30,8 @@ use Rattle.vault_words.specs.Commands.{program_app}
 use Rattle.vault_words.specs.Jobs.{IsAsked}
 use Rattle.vault_words.specs.declared.jobs.Job.{Job}
 use Rattle.vault_words.specs.declared.jobs.Job.TheVariants.{Trial, Merchant, Grant, Withdraw, Rights, Pipe}
-use Rattle.vault_words.specs.declared.jobs.Job.TheVariants.{Batch, Serve, Sweep, Check, Migrate}
+use Rattle.vault_words.specs.declared.jobs.Job.TheVariants.{Batch, Serve, Sweep, List as Listing, Check}
+use Rattle.vault_words.specs.declared.jobs.Job.TheVariants.{Migrate}
 use Rattle.vault_app.specs.Jobs.{RunsAs}
 use Rattle.vault_app.specs.Plans.{EndsPlanless, IsTaskOf}
 use Rattle.vault_app.specs.Asked.{AsksFor}
@@ -94,6 +95,7 @@ IsAside (Pipe j) = ⊥
 IsAside (Batch j) = ⊥
 IsAside (Serve j) = ⊥
 IsAside (Sweep j) = ⊥
+IsAside (Listing j) = ⊥
 IsAside (Check j) = Unit {0}
 IsAside (Migrate j) = Unit {0}
 
@@ -150,6 +152,7 @@ file_of (Pipe j) = Some j.file.now
 file_of (Batch j) = Some j.file.now
 file_of (Serve j) = Some j.file.now
 file_of (Sweep j) = Some j.file.now
+file_of (Listing j) = Some j.file.now
 file_of (Check j) = Some j.file.now
 file_of (Migrate j) = Some j.file.now
 

@@ -1,5 +1,6 @@
 -- What goes out of a task tells of commands that were answered.
 use Rattle.std.specs.Prelude.{◌≡◌, ◌⊎◌, ◌≤◌, ℕ, List, [], ◌∷◌, ◌++◌, All, Option, Some, None, length, take}
+use Rattle.std.specs.Prelude.{true}
 use Rattle.std.specs.Io.KnownBytes.{Appends, Consumes}
 use Rattle.vault_core.specs.Keys.{Bytes}
 use Rattle.vault_core.specs.Runs.{run}
@@ -19,11 +20,15 @@ use Rattle.vault_batch.specs.Lines.{first_line, lines}
 use Rattle.vault_batch.specs.Lines as rows
 use Rattle.vault_batch.specs.Rows.{AreRecordsOf, BeginRecordsOf, Fields, records_with}
 use Rattle.vault_listen.specs.Peers.{Link}
+use Rattle.vault_jobs.specs.Ahead.{MaySweep}
+use Rattle.vault_jobs.specs.Changes.{changes_at, rights_of}
 use Rattle.vault_jobs.specs.Grants.{AreDone, grants_at}
+use Rattle.vault_jobs.specs.Listing.{shown_text}
 use Rattle.vault_jobs.specs.Streams.{Streams}
 use Rattle.vault_jobs.specs.Sweeps.{AreSwept, left_dead, purges_at}
 use Rattle.vault_jobs.specs.declared.task.Task.{Task}
-use Rattle.vault_jobs.specs.declared.task.Task.TheVariants.{Change, Give, Sweep, Batch, Pipe, Serve}
+use Rattle.vault_jobs.specs.declared.task.Task.TheVariants.{Change, Give, Settle, Sweep, Batch, Pipe, Serve}
+use Rattle.vault_jobs.specs.declared.task.Task.TheVariants.{Show}
 
 -- nothing went out
 abbrev pub IsQuiet : Streams → Type 0
@@ -55,15 +60,19 @@ pub record AreRead (now : Option ℕ) (digits : Option (List ℕ)) (s : Streams)
   pub records : (rows ≡ []) ⊎ ((more : List Fields) × CameIn s (records_with (rows_of rows) ++ more))
   pub fixed : All (IsPairOf now digits) (pairs_of rows)
 
--- what a task tells by being done: its command is done, or all its rights are given, or no dead token is left
+-- what a task tells by being done: its command is done, or all its rights are given, or all changes are done
+-- that make the rights those of its list, or no dead token is left and the sweep of them might begin
 abbrev pub AllDone : Task → Content → List Command → Type 0
 AllDone (Change c) V cs = (cs ≡ c ∷ []) × (reply V c ≡ Done)
 AllDone (Give rights now) V cs = (cs ≡ grants_at now rights.items) × AreDone (length cs) cs V
-AllDone (Sweep who now) V cs =
-    (tokens : List Bytes) × (cs ≡ purges_at who now tokens) × (left_dead who now tokens V ≡ [])
+AllDone (Settle rights now) V cs =
+    (cs ≡ changes_at true now rights.items (rights_of V)) × AreDone (length cs) cs V
+AllDone (Sweep who now giver) V cs = MaySweep giver V who.merchant now
+    × ((tokens : List Bytes) × (cs ≡ purges_at who now tokens) × (left_dead who now tokens V ≡ []))
 AllDone (Batch who now digits) V cs = Unit {0}
 AllDone (Pipe now digits) V cs = Unit {0}
-AllDone (Serve port connections) V cs = Unit {0}
+AllDone (Serve port connections listed) V cs = Unit {0}
+AllDone (Show it) V cs = cs ≡ []
 
 -- Messages answered commands from the vault V: they were read, and what went out are the texts that answer
 -- them, or the first bytes of these and of the text that answers a fault.
@@ -93,17 +102,30 @@ AllAnswer V (Some x ∷ xs) cs = (first more : List Command) × (cs ≡ first ++
     × AreAnswered None None V first (streams_of x) × AllAnswer (run first V) xs more
 
 -- Commands were answered from the vault V, one after the other, and what went out tells of these alone. A
--- line of `done`, of rights or of numbers that are purged, or a part of it, says that all are done; lines of
--- rows and texts of messages, which were read, are those that answer them, or the first bytes of these; and
--- so are the texts of each connection of a service.
+-- line of `done`, of rights or of numbers that are purged, or a part of it, says that all are done; where a
+-- sweep may not begin, no number is purged, and none of that line went out. Lines of rows and texts of
+-- messages, which were read, are those that answer them, or the first bytes of these; and so are the texts of
+-- each connection of a service. Where that begins with a list of rights, the first commands are those that
+-- make the rights the list's, and no connection is answered before they are done. What a vault is said to
+-- hold is the text of it, or the first bytes of that.
 abbrev pub Tells : Task → Content → List Command → Streams → Type 0
 Tells (Change c) V cs s = IsQuiet s ⊎ (cs ≡ c ∷ []) × (reply V c ≡ Done)
 Tells (Give rights now) V cs s =
     IsQuiet s ⊎ (cs ≡ grants_at now rights.items) × AreDone (length cs) cs V
-Tells (Sweep who now) V cs s = (tokens : List Bytes) × (cs ≡ purges_at who now tokens)
+Tells (Settle rights now) V cs s =
+    IsQuiet s ⊎ (cs ≡ changes_at true now rights.items (rights_of V)) × AreDone (length cs) cs V
+Tells (Sweep who now giver) V cs s = (tokens : List Bytes) × (cs ≡ purges_at who now tokens)
     × AreSwept who now tokens V × (IsQuiet s ⊎ (left_dead who now tokens V ≡ []))
+    × ((tokens ≡ []) × IsQuiet s ⊎ MaySweep giver V who.merchant now)
 Tells (Batch who now digits) V cs s = (asked : List Asked) × All (Asks who) asked
     × (cs ≡ rows.commands_of asked) × AreRead now digits s asked
     × ((sent : ℕ) × Appends s.sent_old s.sent_new (take sent (first_line ++ lines V asked)))
 Tells (Pipe now digits) V cs s = AreAnswered now digits V cs s
-Tells (Serve port connections) V cs s = AllAnswer V s.links cs
+Tells (Serve port connections None) V cs s = AllAnswer V s.links cs
+Tells (Serve port connections (Some it)) V cs s =
+    (let changes = changes_at true it.now it.rights.items (rights_of V) in
+    ((k : ℕ) × (cs ≡ take k changes) × (s.links ≡ []))
+    ⊎ ((more : List Command) × (cs ≡ changes ++ more) × AreDone (length changes) changes V
+    × AllAnswer (run changes V) s.links more))
+Tells (Show it) V cs s =
+    (cs ≡ []) × ((sent : ℕ) × Appends s.sent_old s.sent_new (take sent (shown_text it V)))

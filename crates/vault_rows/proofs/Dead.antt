@@ -143,7 +143,8 @@ found_has R exact q y (e ∷ es) found =
     ] refl found
 
 -- what stands there is found
-has_found : {K X : Type 0} {R : K → K → Ordering} → IsTotalOrder R → (es : List (K × X)) → T (is_sorted R es)
+pub has_found : {K X : Type 0} {R : K → K → Ordering} → IsTotalOrder R → (es : List (K × X))
+    → T (is_sorted R es)
     → (e : K × X) → Has es e → lookup R e.0 es ≡ Some e.1
 has_found total [] sorted e h = absurd h
 has_found {R = R} total (f ∷ es) sorted e (inl same) =

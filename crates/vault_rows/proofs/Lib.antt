@@ -4,6 +4,7 @@ pub mod Dead
 pub mod InEach
 pub mod JoinedEntries
 pub mod Kept
+pub mod Listed
 pub mod Lookups
 pub mod Pointed
 pub mod Raised

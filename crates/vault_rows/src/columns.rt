@@ -2,21 +2,33 @@
 ghost use Rattle.std.specs.Prelude.{◌≡◌, pos, IfOk};
 ghost use Rattle.sqlite.specs.Order.{column};
 ghost use Rattle.sqlite.specs.declared.types.Value.TheVariants.{Int, Text};
-ghost use Rattle.vault_core.specs.Numbers.{use_number};
+ghost use Rattle.vault_core.specs.Numbers.{right_number, use_number};
 ghost use Rattle.vault_pan.specs.Mask.{lead_digits};
 ghost use Rattle.vault_schema.specs.Version1.Rows.{text_or_null, number_or_null};
 
 use sqlite::Row;
 use vault_cards::fault::StoreFault;
 use vault_core::moment::Moment;
-use vault_core::name::MerchantId;
+use vault_core::name::{Caller, MerchantId};
+use vault_core::right::Right;
 use vault_core::usage::Use;
 use vault_pan::lead::Lead;
 use vault_pan::pan::Pan;
 use vault_pan::token::Token;
 
+/// The name of a caller.
+pub(crate) fn caller_in(row: &Row, at: usize) -> Result<Caller, StoreFault>
+    ensures { IfOk result (λ caller. column row.now at ≡ Text caller) }
+{
+    let text: String = row.get(at)?;
+    match Caller::read(text.as_bytes()) {
+        Ok(caller) => Ok(caller),
+        Err(_) => Err(StoreFault),
+    }
+}
+
 /// The name of a merchant.
-pub(crate) fn merchant_in(row: &Row, at: usize) -> Result<MerchantId, StoreFault>
+pub fn merchant_in(row: &Row, at: usize) -> Result<MerchantId, StoreFault>
     ensures { IfOk result (λ m. column row.now at ≡ Text m) }
 {
     let text: String = row.get(at)?;
@@ -59,6 +71,22 @@ pub(crate) fn usage_in(row: &Row, at: usize) -> Result<Use, StoreFault>
     match number {
         1 => Ok(Use::Single),
         2 => Ok(Use::Multi),
+        _ => Err(StoreFault),
+    }
+}
+
+/// A right, by its number.
+pub(crate) fn right_in(row: &Row, at: usize) -> Result<Right, StoreFault>
+    ensures { IfOk result (λ right. column row.now at ≡ Int (pos (right_number right))) }
+{
+    let number: u64 = row.get(at)?;
+    match number {
+        1 => Ok(Right::Tokenize),
+        2 => Ok(Right::Detokenize),
+        3 => Ok(Right::View),
+        4 => Ok(Right::Revoke),
+        5 => Ok(Right::Purge),
+        6 => Ok(Right::Audit),
         _ => Err(StoreFault),
     }
 }

@@ -9,7 +9,8 @@ ghost use Rattle.vault_core.specs.Window.{moment_at, row_at};
 ghost use Rattle.vault_core.specs.Keys.{bytes_cmp};
 ghost use Rattle.vault_rows.specs.Calls.{Makes, Tells, TellsInside, Turns};
 ghost use Rattle.vault_schema.specs.Version1.Rows.{number_column};
-ghost use Rattle.vault_schema.specs.Version3.Rows.{lives_columns};
+ghost use Rattle.vault_rows.specs.Listed.{ShowsAll};
+ghost use Rattle.vault_schema.specs.Version3.Rows.{lives_columns, merchant_row};
 ghost use Rattle.vault_rows.specs.Shown.{IsTotalOf, ShowsCounts, ShowsLives};
 ghost use Rattle.vault_schema.specs.Stands.{lives_in};
 ghost use Rattle.sql_maps.specs.Rows.{one_of, put};
@@ -25,7 +26,7 @@ use vault_core::moment::Moment;
 use vault_core::name::MerchantId;
 use vault_core::row::MerchantRow;
 use vault_schema::v1::{ADD_COUNT, FIND_COUNTS, RAISE_COUNT};
-use vault_schema::v3::{COUNT_MERCHANTS, FIND_LIVES, Lives, PUT_MERCHANT};
+use vault_schema::v3::{COUNT_MERCHANTS, FIND_LIVES, Lives, PUT_MERCHANT, READ_MERCHANTS};
 
 /// The row of a merchant's lives.
 fn lives_rows<S: Alter>(conn: &mut Connection<S>, m: &str) -> Result<Vec<Row>, Error>
@@ -144,6 +145,14 @@ pub fn how_many<S: Alter>(conn: &mut Connection<S>) -> Result<u64, StoreFault>
         Some(row) => Ok(row.get(0)?),
         None => Err(StoreFault),
     }
+}
+
+/// The rows of all merchants, without their counts.
+pub fn all_merchants<S: Alter>(conn: &mut Connection<S>) -> Result<Vec<Row>, Error>
+    ensures { Tells result (state S.Store conn.old) (state S.Store conn.new)
+        (λ V rows. ShowsAll merchant_row rows.items (λ m. option_map lives_in (merchant_at V m))) }
+{
+    rows_of(conn, READ_MERCHANTS, &[])
 }
 
 /// The row of a merchant's lives, inside a transaction.

@@ -1,15 +1,17 @@
 //! The rows of rights.
 ghost use Rattle.std.specs.Prelude.{◌≡◌, None, Some, IfOk};
+ghost use Rattle.std.specs.FinMap as map;
 ghost use Rattle.sqlite.specs.Held.{state};
 ghost use Rattle.sqlite.specs.Order.{column};
 ghost use Rattle.vault_core.specs.Keys.{right_cmp};
 ghost use Rattle.vault_core.specs.Vault.{right_at};
 ghost use Rattle.vault_rows.specs.Calls.{Makes, Tells};
 ghost use Rattle.vault_schema.specs.Version1.Rows.{number_or_null};
-ghost use Rattle.vault_schema.specs.Version4.Rows.{ends_column};
+ghost use Rattle.vault_rows.specs.Listed.{ShowsAll, ShowsRight};
+ghost use Rattle.vault_schema.specs.Version4.Rows.{ends_column, right_row};
 ghost use Rattle.sql_maps.specs.Rows.{one_of, put};
 
-use crate::columns::moment_or_null_in;
+use crate::columns::{caller_in, merchant_in, moment_or_null_in, right_in};
 use sql_maps::run::{rows_of, step};
 use sqlite::types::ToSql;
 use sqlite::{Alter, Connection, Error, Row, Transaction, params};
@@ -19,7 +21,7 @@ use vault_cards::text::{caller_text, merchant_text};
 use vault_core::name::{Caller, MerchantId};
 use vault_core::right::Right;
 use vault_core::row::GrantRow;
-use vault_schema::v4::{FIND_RIGHT, GIVE_RIGHT, TAKE_RIGHT};
+use vault_schema::v4::{FIND_RIGHT, GIVE_RIGHT, READ_RIGHTS, TAKE_RIGHT};
 
 /// The row of a right's end, where the caller has the right.
 fn right_rows<S: Alter>(
@@ -58,6 +60,25 @@ pub fn right<S: Alter>(
         Some(row) => Ok(Some(right_of(row)?)),
         None => Ok(None),
     }
+}
+
+/// The rows of all rights.
+pub fn all_rights<S: Alter>(conn: &mut Connection<S>) -> Result<Vec<Row>, Error>
+    ensures { Tells result (state S.Store conn.old) (state S.Store conn.new)
+        (λ V rows. ShowsAll right_row rows.items (map.get V.rights)) }
+{
+    rows_of(conn, READ_RIGHTS, &[])
+}
+
+/// The right, with its end, that a row of all rights shows.
+pub fn right_row_of(row: &Row) -> Result<((Caller, (MerchantId, Right)), GrantRow), StoreFault>
+    ensures { IfOk result (λ found. ShowsRight row.now found.0 found.1) }
+{
+    let caller = caller_in(row, 1)?;
+    let merchant = merchant_in(row, 2)?;
+    let right = right_in(row, 3)?;
+    let ends = moment_or_null_in(row, 4)?;
+    Ok(((caller, (merchant, right)), GrantRow { ends }))
 }
 
 /// Gives a caller a right up to its end, whether or not it was there.

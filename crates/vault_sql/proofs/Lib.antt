@@ -1,3 +1,5 @@
+pub mod Gathered
+pub mod ListedShown
 pub mod Making
 pub mod Places
 pub mod WrittenPlus

@@ -1,3 +1,4 @@
+pub mod Gathered
 pub mod Held
 pub mod Places
 pub mod Storable

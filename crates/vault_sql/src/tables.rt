@@ -1,7 +1,9 @@
 //! Tables in a database.
 ghost use Rattle.std.specs.Prelude.{◌≡◌, true, false, Err};
 
+use crate::names::names_in;
 use crate::place::{Place, place_after, place_of};
+use crate::rights::rights_of;
 use crate::tokens::{dead_from, tokens_of};
 use crate::transaction::{are_storable, write};
 use sqlite::{Alter, Connection};
@@ -15,10 +17,10 @@ use vault_core::row::{Entry, GrantRow, MerchantRow, Record};
 use vault_pan::pan::Pan;
 use vault_pan::token::Token;
 use vault_rows::entries::{current, entry};
-use vault_rows::merchants::{how_many, merchant};
+use vault_rows::merchants::{all_merchants, how_many, merchant};
 use vault_rows::records::recorded;
-use vault_rows::rights::right;
-use vault_store::tables::{Tables, TablesFault};
+use vault_rows::rights::{all_rights, right};
+use vault_store::tables::{RightRow, Tables, TablesFault};
 
 /// Tables in a database, which fail from the first call on that the database refused. They remember where
 /// the last list of dead tokens began, since the next one needs to look at none before.
@@ -191,6 +193,36 @@ impl<S: Alter> Tables for SqlTables<S> {
                     self.place = place_of(m, found.0, &tokens);
                     Ok(tokens)
                 }
+                Err(TablesFault::Memory) => Err(TablesFault::Memory),
+                Err(TablesFault::Store) => self.fail(),
+            },
+            Err(_) => self.fail(),
+        }
+    }
+
+    #[tactic(auto, using(crate::proofs::Places::left_by, crate::proofs::Places::still_held))]
+    fn names(&mut self) -> Result<Vec<MerchantId>, TablesFault> {
+        if self.failed {
+            return Err(TablesFault::Store);
+        }
+        match all_merchants(&mut self.conn) {
+            Ok(rows) => match names_in(self.alloc, &rows) {
+                Ok(names) => Ok(names),
+                Err(TablesFault::Memory) => Err(TablesFault::Memory),
+                Err(TablesFault::Store) => self.fail(),
+            },
+            Err(_) => self.fail(),
+        }
+    }
+
+    #[tactic(auto, using(crate::proofs::Places::left_by, crate::proofs::Places::still_held))]
+    fn rights(&mut self) -> Result<Vec<RightRow>, TablesFault> {
+        if self.failed {
+            return Err(TablesFault::Store);
+        }
+        match all_rights(&mut self.conn) {
+            Ok(rows) => match rights_of(self.alloc, &rows) {
+                Ok(found) => Ok(found),
                 Err(TablesFault::Memory) => Err(TablesFault::Memory),
                 Err(TablesFault::Store) => self.fail(),
             },

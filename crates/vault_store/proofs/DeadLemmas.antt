@@ -1,19 +1,14 @@
 -- The dead tokens of a merchant are those that a walk over the entries in order lists.
-use Rattle.std.proofs.Common.{T, ◌≡◌, ℕ, Bool, true, false, cond, ◌&&◌, List, [], ◌∷◌, map, refl, sym, ap}
-use Rattle.std.proofs.Common.{◌∙◌, subst, Some, None}
+use Rattle.std.proofs.Common.{◌≡◌, ℕ, Bool, true, false, cond, ◌&&◌, List, [], ◌∷◌, map, refl, sym, ap}
+use Rattle.std.proofs.Common.{◌∙◌, None}
 use Rattle.std.specs.BTreeMap as rows
-use Rattle.std.specs.BTreeMap.{is_at}
 use Rattle.std.specs.Cmp.{eq_by_cmp_equiv}
 use Rattle.std.specs.Cmp.Lexicographic.{texts_ties}
 use Rattle.std.specs.FinMap.{entries, entries_sorted, get-entries}
-use Rattle.std.specs.FinMap.Entries.{find, below_all, is_sorted, same_entries, find-where_key}
+use Rattle.std.specs.FinMap.Entries.{same_entries, find-where_key}
 use Rattle.std.specs.FinMap.Entries.{is_sorted-where_key}
-use Rattle.std.specs.List.{filter, AllByRecursion}
-use Rattle.std.specs.List.Sorted.{IsStrictlySortedBy}
-use Rattle.std.specs.Map.{lookup, keys_of}
-use Rattle.std.specs.Ordering.{eq_by_cmp, is_lt}
-use Rattle.std.specs.declared.cmp.Ordering.{Ordering}
-use Rattle.std.specs.declared.cmp.Ordering.TheVariants.{Less}
+use Rattle.std.specs.List.{filter}
+use Rattle.std.specs.Ordering.{eq_by_cmp}
 use Rattle.std.proofs.lemmas.List.Elements.{filter_agree}
 use Rattle.vault_pan.specs.CardText.{same}
 use Rattle.vault_core.specs.Dead.{dead_tokens, is_dead}
@@ -24,6 +19,7 @@ use Rattle.vault_core.specs.declared.row.Entry.{Entry}
 use Rattle.vault_core.proofs.CurrentLemmas.{get-entries_of}
 use Rattle.vault_core.proofs.Maps.{bytes_total, entry_total, entry_exact}
 use Rattle.vault_store.specs.Shown.{Shows}
+use Rattle.vault_store.proofs.EntriesLemmas.{ordered, looked_up}
 
 -- an entry at its key is a dead one of the merchant
 abbrev pub is_dead_at : Bytes → ℕ → (Bytes × Bytes) × Entry → Bool
@@ -32,10 +28,6 @@ is_dead_at m at e = same e.0.0 m && is_dead e.1 at
 -- the tokens of those entries
 abbrev pub dead_in : Bytes → ℕ → List ((Bytes × Bytes) × Entry) → List Bytes
 dead_in m at es = map (λ e. e.0.1) (filter (is_dead_at m at) es)
-
-both : (a b : Bool) → T a → T b → T (a && b)
-both true b p q = q
-both false b p q = absurd p
 
 -- a filter of what a filter keeps
 twice : {X : Type 0} (p q : X → Bool) (xs : List X) → filter q (filter p xs) ≡ filter (λ x. p x && q x) xs
@@ -46,20 +38,6 @@ twice p q (x ∷ xs) =
       | true ↦ ap (λ ys. cond (q x) (x ∷ ys) ys) (twice p q xs)
       | false ↦ twice p q xs
     ]
-
-module _ {K X : Type 0} (R : K → K → Ordering) where
-  below : (k : K) (es : List (K × X)) → AllByRecursion (λ y. R k y ≡ Less) (keys_of es) → T (below_all R k es)
-  below k [] h = tt
-  below k (e ∷ es) h = both _ _ (subst (λ r. T (is_lt r)) (sym h.0) tt) (below k es h.1)
-
-  ordered : (es : List (K × X)) → IsStrictlySortedBy R (keys_of es) → T (is_sorted R es)
-  unfolding IsStrictlySortedBy
-  ordered [] h = tt
-  ordered (e ∷ es) h = both _ _ (below e.0 es h.0) (ordered es h.1)
-
-  looked_up : (q : K) (es : List (K × X)) → lookup (is_at (R q)) es ≡ find R q es
-  looked_up q [] = refl
-  looked_up q (e ∷ es) = ap (cond (is_at (R q) e.0) (Some e.1)) (looked_up q es)
 
 own_is : (m k : Bytes) → eq_by_cmp bytes_cmp m k ≡ same k m
 own_is m k = (eq_by_cmp_equiv bytes_total).symm m k ∙ sym (texts_ties k m)

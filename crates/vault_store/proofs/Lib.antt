@@ -2,10 +2,13 @@ pub mod AddsLemmas
 pub mod DeadLemmas
 pub mod Drawn
 pub mod EmptyLemmas
+pub mod EntriesLemmas
 pub mod Held
 pub mod IndexLemmas
 pub mod LatestLemmas
 pub mod ListedLemmas
+pub mod ListedMerchants
+pub mod ListedRows
 pub mod LiveLemmas
 pub mod MadeLemmas
 pub mod MerchantLemmas

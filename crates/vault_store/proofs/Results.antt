@@ -4,7 +4,7 @@ use Rattle.std.proofs.Common.{is_some}
 use Rattle.std.specs.Prelude.{OnErr, OnOk}
 use Rattle.std.specs.Result.{is_err}
 use Rattle.vault_core.specs.Vault.{Vault}
-use Rattle.vault_store.specs.Reads.{KeepsOnMemory, StillHolds}
+use Rattle.vault_store.specs.Reads.{Keeps, KeepsOnMemory, StillHolds}
 use Rattle.vault_store.specs.declared.tables.TablesFault.{TablesFault}
 use Rattle.vault_store.specs.declared.tables.TablesFault.TheVariants.{Memory, Store}
 
@@ -28,3 +28,9 @@ pub keeps : {X : Type 0} (r : Result X TablesFault) (before now : Vault → Type
 keeps (Ok x) before now h = tt
 keeps (Err Memory) before now h = h
 keeps (Err Store) before now h = tt
+
+-- what a call keeps that fails, after calls that kept what they found
+pub kept_by : (X Y : Type 0) (e : TablesFault) (before between now : Vault → Type 0)
+    → StillHolds before between → Keeps {X = X} (Err e) between now → Keeps {X = Y} (Err e) before now
+kept_by X Y Memory before between now first last = λ V h. last V (first V h)
+kept_by X Y Store before between now first last = tt

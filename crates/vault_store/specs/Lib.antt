@@ -4,6 +4,7 @@ pub mod Held
 pub mod HeldEntries
 pub mod Index
 pub mod Left
+pub mod Listed
 pub mod Live
 pub mod Reads
 pub mod Rows

@@ -12,7 +12,9 @@ mod rights;
 mod rows;
 mod write;
 
-use crate::tables::{Tables, TablesFault};
+use crate::names::names_of;
+use crate::right_rows::rows_of;
+use crate::tables::{RightRow, Tables, TablesFault};
 use crate::window::moment_of;
 use dead::dead_among;
 use entries::Entries;
@@ -28,7 +30,7 @@ use vault_pan::pan::Pan;
 use vault_pan::token::Token;
 use write::write_record;
 
-/// Tables in memory. Their reads but `dead`, and their writes that add nothing, are never refused.
+/// Tables in memory. Their reads that list nothing, and their writes that add nothing, are never refused.
 #[derive(Drop)]
 pub struct MemTables {
     alloc: Global,
@@ -117,6 +119,14 @@ impl Tables for MemTables {
     ) -> Result<Vec<Token>, TablesFault> {
         let at = moment_of(&self.merchants.get(&m).copied(), now);
         Ok(dead_among(self.alloc, &self.entries.rows, m, at, limit)?)
+    }
+
+    fn names(&mut self) -> Result<Vec<MerchantId>, TablesFault> {
+        Ok(names_of(self.alloc, &self.merchants)?)
+    }
+
+    fn rights(&mut self) -> Result<Vec<RightRow>, TablesFault> {
+        Ok(rows_of(self.alloc, &self.rights)?)
     }
 
     fn write(&mut self, ch: &Changes) -> Result<(), TablesFault> {

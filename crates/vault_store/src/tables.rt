@@ -9,6 +9,7 @@ ghost use Rattle.vault_core.specs.Sound.{Sound};
 ghost use Rattle.vault_core.specs.Vault.{Vault, entry_at, record_at, right_at};
 ghost use Rattle.vault_core.specs.Window.{moment_at, row_at};
 ghost use Rattle.vault_store.specs.Added.{AddsNothing};
+ghost use Rattle.vault_store.specs.Listed.{merchant_names};
 ghost use Rattle.vault_store.specs.Reads.{FailsWith, IsAllowed, Keeps, KeepsOnMemory};
 
 use std::alloc::AllocError;
@@ -40,12 +41,15 @@ impl From<AllocError> for TablesFault {
     }
 }
 
+/// A right of a caller at a merchant, with its end.
+pub type RightRow = ((Caller, (MerchantId, Right)), GrantRow);
+
 /// Tables that hold a vault.
 ///
 /// Contracts see which vaults the tables hold, and what a crash may leave of them now. Both are true
 /// where the disk is honest: it returned what was written, and nobody else wrote it. Tables also say
-/// whether their reads but `dead`, and their writes that add nothing, may be refused memory, and
-/// whether they may fail.
+/// whether their reads that list nothing, and their writes that add nothing, may be refused memory, and
+/// whether they may fail. A list, as of `names`, `rights` and `dead`, may be refused memory by any tables.
 pub trait Tables {
     ghost use Rattle.std.specs.Prelude.{Bool};
     ghost use Rattle.vault_core.specs.Vault.{Vault};
@@ -136,6 +140,28 @@ pub trait Tables {
         ensures told { is_honest self.new
             → IfOk result (λ tokens. (V : Vault) → holds self.old V → Sound V
             → tokens.items ≡ take limit (dead_tokens V m now)) }
+        ensures kept { Keeps result (holds self.old) (holds self.new) }
+        ensures crash { is_honest self.new → (V : Vault) → holds self.old V → leaves self.new V V }
+        ensures failing { FailsWith result (has_failed self.old) (has_failed self.new) }
+        ensures sturdy { may_fail ≡ false → ¬ (result ≡ Err TablesFault.Store) };
+
+    /// The names of all merchants, in order.
+    fn names(&mut self) -> Result<Vec<MerchantId>, TablesFault>
+        ensures honest { is_honest self.new → is_honest self.old }
+        ensures told { is_honest self.new
+            → IfOk result (λ found. (V : Vault) → holds self.old V → Sound V
+            → found.items ≡ merchant_names V) }
+        ensures kept { Keeps result (holds self.old) (holds self.new) }
+        ensures crash { is_honest self.new → (V : Vault) → holds self.old V → leaves self.new V V }
+        ensures failing { FailsWith result (has_failed self.old) (has_failed self.new) }
+        ensures sturdy { may_fail ≡ false → ¬ (result ≡ Err TablesFault.Store) };
+
+    /// All rights with their ends, by caller, merchant and the right's number.
+    fn rights(&mut self) -> Result<Vec<RightRow>, TablesFault>
+        ensures honest { is_honest self.new → is_honest self.old }
+        ensures told { is_honest self.new
+            → IfOk result (λ found. (V : Vault) → holds self.old V → Sound V
+            → found.items ≡ map.entries V.rights) }
         ensures kept { Keeps result (holds self.old) (holds self.new) }
         ensures crash { is_honest self.new → (V : Vault) → holds self.old V → leaves self.new V V }
         ensures failing { FailsWith result (has_failed self.old) (has_failed self.new) }

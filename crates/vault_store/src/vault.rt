@@ -1,5 +1,6 @@
 //! The vault: commands that are decided, and written before they are answered.
 ghost use Rattle.std.specs.Prelude.{◌≡◌, ◌↔◌, ◌||◌, false, true, Err, IfOk, take};
+ghost use Rattle.std.specs.FinMap as map;
 ghost use Rattle.vault_core.specs.Dead.{dead_tokens};
 ghost use Rattle.vault_core.specs.Proper.{HasLivesInRange};
 ghost use Rattle.vault_core.specs.Sound.{Sound};
@@ -7,9 +8,11 @@ ghost use Rattle.vault_core.specs.Table.{after as after_lem, reply as reply_lem}
 ghost use Rattle.vault_core.specs.Vault.{Vault as Content};
 ghost use Rattle.vault_store.specs.Added.{AddsNothing};
 ghost use Rattle.vault_store.specs.Left.{LeavesBy};
+ghost use Rattle.vault_store.specs.Listed.{merchant_rows};
 ghost use Rattle.vault_store.specs.Reads.{FailsWith, IsAllowed, KeepsOnMemory};
 
-use crate::tables::{Tables, TablesFault};
+use crate::listing::{NamedRow, named_rows};
+use crate::tables::{RightRow, Tables, TablesFault};
 use crate::window::window;
 use vault_core::command::Command;
 use vault_core::decide::decide;
@@ -123,6 +126,60 @@ impl<T: Tables> Vault<T> {
         } else {
             match self.tables.dead(m, now, limit) {
                 Ok(tokens) => Ok(tokens),
+                Err(fault) => Err(self.fault_of(fault)),
+            }
+        }
+    }
+
+    /// All rights with their ends, by caller, merchant and the right's number. Nothing changes.
+    pub fn rights(&mut self) -> Result<Vec<RightRow>, Fault>
+        ensures honest { T.is_honest (tables_of self.new) → T.is_honest (tables_of self.old) }
+        ensures told { T.is_honest (tables_of self.new)
+            → IfOk result (λ found. (V : Content) → Contains T.holds self.old V
+            → (found.items ≡ map.entries V.rights) × Contains T.holds self.new V) }
+        ensures memory { result ≡ Err Fault.Memory → (V : Content) → Contains T.holds self.old V
+            → Contains T.holds self.new V }
+        ensures reopen { (result ≡ Err Fault.Reopen) ↔ (is_broken self.old ≡ true) }
+        ensures unchanged { result ≡ Err Fault.Reopen → tables_of self.new ≡ tables_of self.old }
+        ensures broken { is_broken self.new ≡ breaks result }
+        ensures crash { T.is_honest (tables_of self.new) → (V : Content) → Contains T.holds self.old V
+            → LeavesBy result (T.leaves (tables_of self.new)) V V }
+        ensures failing { FailsBy result (T.has_failed (tables_of self.old))
+            (T.has_failed (tables_of self.new)) }
+        ensures sturdy { T.may_fail ≡ false → ¬ (result ≡ Err Fault.Store) }
+    {
+        if self.broken {
+            Err(Fault::Reopen)
+        } else {
+            match self.tables.rights() {
+                Ok(found) => Ok(found),
+                Err(fault) => Err(self.fault_of(fault)),
+            }
+        }
+    }
+
+    /// Each merchant with its row, in order of the names. Nothing changes.
+    pub fn merchants(&mut self) -> Result<Vec<NamedRow>, Fault>
+        ensures honest { T.is_honest (tables_of self.new) → T.is_honest (tables_of self.old) }
+        ensures told { T.is_honest (tables_of self.new)
+            → IfOk result (λ found. (V : Content) → Contains T.holds self.old V
+            → (found.items ≡ merchant_rows V) × Contains T.holds self.new V) }
+        ensures memory { result ≡ Err Fault.Memory → (V : Content) → Contains T.holds self.old V
+            → Contains T.holds self.new V }
+        ensures reopen { (result ≡ Err Fault.Reopen) ↔ (is_broken self.old ≡ true) }
+        ensures unchanged { result ≡ Err Fault.Reopen → tables_of self.new ≡ tables_of self.old }
+        ensures broken { is_broken self.new ≡ breaks result }
+        ensures crash { T.is_honest (tables_of self.new) → (V : Content) → Contains T.holds self.old V
+            → LeavesBy result (T.leaves (tables_of self.new)) V V }
+        ensures failing { FailsBy result (T.has_failed (tables_of self.old))
+            (T.has_failed (tables_of self.new)) }
+        ensures sturdy { T.may_fail ≡ false → ¬ (result ≡ Err Fault.Store) }
+    {
+        if self.broken {
+            Err(Fault::Reopen)
+        } else {
+            match named_rows(&mut self.tables) {
+                Ok(found) => Ok(found),
                 Err(fault) => Err(self.fault_of(fault)),
             }
         }

@@ -46,3 +46,13 @@ with_required old new a sets is = record {
       ∙ ap (λ (b : App). record b { top = record b.top { subcommand_required = true } }) is.shape;
   locals = ap (λ f. f.has_globals) sets ∙ is.locals;
 }
+
+-- with help where no word stands
+pub with_help : (old new : Command) (a : App)
+    → out-Command new ≡ record (out-Command old) { arg_required_else_help = true } → IsApp old a
+    → IsApp new (record a { top = record a.top { arg_required_else_help = true } })
+with_help old new a sets is = record {
+  shape = ap app_of_fields sets
+      ∙ ap (λ (b : App). record b { top = record b.top { arg_required_else_help = true } }) is.shape;
+  locals = ap (λ f. f.has_globals) sets ∙ is.locals;
+}

@@ -1,7 +1,9 @@
 -- What a parse of the words gives.
 use Rattle.std.proofs.Common.{◌≡◌, codes, List, [], Option, Some, None, Result, Ok, Err, true, false}
 use Rattle.std.proofs.Common.{sym, ◌∙◌, ap, refl, subst, inl, inr}
+use Rattle.std.specs.Prelude.{String, string_bytes}
 use Rattle.std.specs.Option.{option_map}
+use Rattle.std.specs.declared.alloc.Global.{Global}
 use Rattle.std.specs.Box.{box_value}
 use Rattle.std.specs.Str.{bytes_eq}
 use Rattle.clap.specs.Words.{App, HasKind, HasMatchesOf, IsAmong, Row, Text, fault_of, found_of, is_simple}
@@ -17,9 +19,12 @@ use Rattle.vault_words.specs.Values.{Finds}
 use Rattle.vault_words.specs.declared.commands.batch.BatchJob.{BatchJob}
 use Rattle.vault_words.specs.declared.commands.pipe.PipeJob.{PipeJob}
 use Rattle.vault_words.specs.declared.commands.trial.TrialJob.{TrialJob}
+use Rattle.vault_words.specs.Why.{HasFewDigits}
 use Rattle.vault_words.specs.declared.jobs.Job.{Job}
 use Rattle.vault_words.specs.declared.jobs.Job.TheVariants.{Trial, Merchant, Grant, Withdraw}
-use Rattle.vault_words.specs.declared.jobs.Job.TheVariants.{Rights, Pipe, Batch, Serve, Sweep, Check, Migrate}
+use Rattle.vault_words.specs.declared.jobs.Job.TheVariants.{Rights, Pipe, Batch, Serve, Sweep, Check}
+use Rattle.vault_words.specs.declared.jobs.Job.TheVariants.{List as ListOf}
+use Rattle.vault_words.specs.declared.jobs.Job.TheVariants.{Migrate}
 use Rattle.vault_words.specs.declared.jobs.JobFault.{JobFault}
 use Rattle.vault_words.specs.declared.jobs.JobFault.TheVariants.{Help, Version, BadWords, Memory}
 
@@ -72,6 +77,7 @@ no_trial name rows is never (Pipe job) h = differ name (codes "trial") (codes "p
 no_trial name rows is never (Batch job) h = differ name (codes "trial") (codes "batch") refl refl is h.0
 no_trial name rows is never (Serve job) h = differ name (codes "trial") (codes "serve") refl refl is h.0
 no_trial name rows is never (Sweep job) h = differ name (codes "trial") (codes "sweep") refl refl is h.0
+no_trial name rows is never (ListOf job) h = differ name (codes "trial") (codes "list") refl refl is h.0
 no_trial name rows is never (Check job) h = differ name (codes "trial") (codes "check") refl refl is h.0
 no_trial name rows is never (Migrate job) h = differ name (codes "trial") (codes "migrate") refl refl is h.0
 
@@ -88,6 +94,7 @@ no_pipe name rows is never (Pipe job) h = never job h.1
 no_pipe name rows is never (Batch job) h = differ name (codes "pipe") (codes "batch") refl refl is h.0
 no_pipe name rows is never (Serve job) h = differ name (codes "pipe") (codes "serve") refl refl is h.0
 no_pipe name rows is never (Sweep job) h = differ name (codes "pipe") (codes "sweep") refl refl is h.0
+no_pipe name rows is never (ListOf job) h = differ name (codes "pipe") (codes "list") refl refl is h.0
 no_pipe name rows is never (Check job) h = differ name (codes "pipe") (codes "check") refl refl is h.0
 no_pipe name rows is never (Migrate job) h = differ name (codes "pipe") (codes "migrate") refl refl is h.0
 
@@ -106,6 +113,7 @@ no_batch name rows is never (Pipe job) h = differ name (codes "batch") (codes "p
 no_batch name rows is never (Batch job) h = never job h.1
 no_batch name rows is never (Serve job) h = differ name (codes "batch") (codes "serve") refl refl is h.0
 no_batch name rows is never (Sweep job) h = differ name (codes "batch") (codes "sweep") refl refl is h.0
+no_batch name rows is never (ListOf job) h = differ name (codes "batch") (codes "list") refl refl is h.0
 no_batch name rows is never (Check job) h = differ name (codes "batch") (codes "check") refl refl is h.0
 no_batch name rows is never (Migrate job) h = differ name (codes "batch") (codes "migrate") refl refl is h.0
 
@@ -135,11 +143,14 @@ refused words e (Help text) (inr h) stands =
 refused words e Version (inl h) stands = absurd (cc)
 refused words e Version (inr h) stands =
     subst (λ (k : ErrorKind). IsAmong k (fault_of program_app words)) stands h
-refused words e BadWords (inl h) stands = absurd (stands.2 h)
-refused words e BadWords (inr h) stands = (
-  λ is. elim (subst (IsAmong (kind_of e)) is h) [ inl k ↦ stands.0 k | inr never ↦ never ],
-  λ is. elim (subst (IsAmong (kind_of e)) is h) [ inl k ↦ stands.1 k | inr never ↦ never ],
-  λ job asked. subst (IsAmong (kind_of e)) asked.taken h,
+refused words e (BadWords why) (inl h) stands = absurd (stands.0.2 h)
+refused words e (BadWords why) (inr h) stands = (
+  (
+    λ is. elim (subst (IsAmong (kind_of e)) is h) [ inl k ↦ stands.0.0 k | inr never ↦ never ],
+    λ is. elim (subst (IsAmong (kind_of e)) is h) [ inl k ↦ stands.0.1 k | inr never ↦ never ],
+    λ job asked. subst (IsAmong (kind_of e)) asked.taken h,
+  ),
+  stands.1,
 )
 refused words e Memory h stands = tt
 
@@ -154,9 +165,12 @@ explained a words e fault same kinds stands =
 -- a parse that succeeds, of words that ask for no job
 pub unasked : (words : List Text) (met : Option Met) → fault_of program_app words ≡ []
     → met ≡ subcommand_of program_app words → ((job : Job) → ¬ (AsksBy met job))
-    → Explains program_app words BadWords
-unasked words met none is nothing = (
-  λ help. absurd (cc (none, help)),
-  λ version. absurd (cc (none, version)),
-  λ job asked. nothing job (subst (λ (m : Option Met). AsksBy m job) (sym is) asked.asks),
+    → (why : String Global) → HasFewDigits (string_bytes why) → Explains program_app words (BadWords why)
+unasked words met none is nothing why few = (
+  (
+    λ help. absurd (cc (none, help)),
+    λ version. absurd (cc (none, version)),
+    λ job asked. nothing job (subst (λ (m : Option Met). AsksBy m job) (sym is) asked.asks),
+  ),
+  few,
 )

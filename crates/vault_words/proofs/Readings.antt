@@ -1,10 +1,12 @@
 -- The values that a subcommand was given, as they are read.
 use Rattle.std.proofs.Common.{◌≡◌, ◌≤◌, ◌↔◌, ℕ, codes, List, Option, Some, None, Result, Ok, Err, Bor}
 use Rattle.std.proofs.Common.{Bool, true, false, sym, ◌∙◌, refl, subst, inl, inr}
-use Rattle.std.specs.Bool.{IsTrue}
+use Rattle.std.specs.Bool.{Decides, IsTrue}
 use Rattle.std.specs.Option.{is_some, ok_or, option_map}
 use Rattle.std.specs.Prelude.{not}
 use Rattle.std.specs.Result.{IsErr}
+use Rattle.std.specs.Str.{bytes_eq}
+use Rattle.std.proofs.lemmas.Slice.Eq.{bytes_eq-Decides}
 use Rattle.std.specs.Str.Parse.{ExplainsUnsignedError, HasUnsignedDigitsIfOk, ParsesUnsigned}
 use Rattle.std.specs.declared.num.ParseIntError.{ParseIntError}
 use Rattle.clap.specs.Words.{ReadsOne, Row, Text, first_of, first_value, one_of, one_text, rows_of}
@@ -13,8 +15,8 @@ use Rattle.clap.proofs.WalkLemmas.{first_value-rows, one_text-rows}
 use Rattle.vault_words.specs.Digits.{IsDigitText}
 use Rattle.vault_pan.specs.Mask.{lead_digits}
 use Rattle.vault_pan.specs.declared.lead.Lead.{Lead}
-use Rattle.vault_words.specs.Values.{Finds, HasConnections, HasDigits, HasLead, HasMoment, HasNumber, HasPort}
-use Rattle.vault_words.specs.Values.{HasText, IsLeftOut, Writes}
+use Rattle.vault_words.specs.Values.{Finds, HasConnections, HasDigits, HasFlag, HasLead, HasMaybeText}
+use Rattle.vault_words.specs.Values.{HasMoment, HasNumber, HasPort, HasText, IsLeftOut, Writes}
 
 -- what holds where there is no value
 pub none_found : {T E : Type 0} (r : Result T E) (P : T → Type 0) → IsErr r → ((x : T) → ¬ (P x))
@@ -37,6 +39,33 @@ pub read_text : {E : Type 0} (f : Found) (id : Text) (r : Option (Bor Text)) (e 
     → Finds {T = Bor Text} {E = E} (ok_or r e) (λ s. HasText (rows_of f) id s.now)
 read_text {E} f id r e is =
     text_in {E = E} (first_of id (rows_of f)) r e (is ∙ first_value-rows f id)
+
+-- the text of a name, if it is there
+maybe_in : (rows : List Row) (id : Text) (o : Option Text) → o ≡ first_of id rows → HasMaybeText rows id o
+maybe_in rows id None is = sym is
+maybe_in rows id (Some text) is = sym is
+
+pub maybe_read : (f : Found) (id : Text) (r : Option (Bor Text)) → text_of r ≡ first_value f id
+    → HasMaybeText (rows_of f) id (text_of r)
+maybe_read f id r is = maybe_in (rows_of f) id (text_of r) (is ∙ first_value-rows f id)
+
+-- a flag whose value is this text
+pub flag_some : (f : Found) (id text : Text) (b : Bool) → Some text ≡ first_value f id
+    → b ≡ bytes_eq text (codes "true") → HasFlag (rows_of f) id b
+flag_some f id text b is test =
+    by_test b (subst (λ t. Decides t (text ≡ codes "true")) (sym test) (bytes_eq-Decides text (codes "true")))
+  where
+    has : HasText (rows_of f) id text
+    has = sym (is ∙ first_value-rows f id)
+
+    by_test : (b : Bool) → Decides b (text ≡ codes "true") → HasFlag (rows_of f) id b
+    by_test true same = subst (HasText (rows_of f) id) (same.0 refl) has
+    by_test false other = λ given. absurd (cc (other.1 (cc (has, given))))
+
+-- one that has none
+pub flag_none : (f : Found) (id : Text) → None ≡ first_value f id
+    → HasText (rows_of f) id (codes "true") → ⊥
+flag_none f id is given = absurd (cc (is ∙ first_value-rows f id, given))
 
 -- whether a name has no text
 left_out_in : (o : Option Text) (r : Option (Bor Text)) (b : Bool) → text_of r ≡ o

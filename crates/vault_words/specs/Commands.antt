@@ -1,12 +1,13 @@
 -- The subcommands: the rules of their words in clap's terms, and what their values ask for.
-use Rattle.std.specs.Prelude.{List, [], ◌∷◌, true, codes}
+use Rattle.std.specs.Prelude.{List, [], ◌∷◌, option_map, true, codes}
 use Rattle.clap.specs.Words.{App, Row, Rule, new_app, with_subcommand}
-use Rattle.vault_words.specs.Rules.{digits_rule, lead_rule, now_rule, number_option, number_rule, text_rule}
-use Rattle.vault_words.specs.Rules.{until_rule, with_rules}
-use Rattle.vault_words.specs.Values.{HasConnections, HasDigits, HasLead, HasLife, HasNow, HasPort, HasText}
-use Rattle.vault_words.specs.Values.{HasUntil}
+use Rattle.vault_words.specs.Rules.{digits_rule, flag_rule, lead_rule, now_rule, number_option, number_rule}
+use Rattle.vault_words.specs.Rules.{text_option, text_rule, until_rule, with_rules}
+use Rattle.vault_words.specs.Values.{HasConnections, HasDigits, HasFlag, HasLead, HasLife, HasMaybeText}
+use Rattle.vault_words.specs.Values.{HasNow, HasPort, HasText, HasUntil}
 use Rattle.vault_words.specs.declared.commands.batch.BatchJob.{BatchJob}
 use Rattle.vault_words.specs.declared.commands.check.CheckJob.{CheckJob}
+use Rattle.vault_words.specs.declared.commands.list.ListJob.{ListJob}
 use Rattle.vault_words.specs.declared.commands.merchant.MerchantJob.{MerchantJob}
 use Rattle.vault_words.specs.declared.commands.migrate.MigrateJob.{MigrateJob}
 use Rattle.vault_words.specs.declared.commands.pipe.PipeJob.{PipeJob}
@@ -67,15 +68,17 @@ AsksRight rows job =
 abbrev pub AsksGrant : List Row → GrantJob → Type 0
 AsksGrant rows job = AsksRight rows job.given × HasUntil rows job.until
 
--- rights [--now T] FILE RIGHTS
+-- rights [--now T] [--exact] [--dry-run] FILE RIGHTS
 abbrev pub rights_app : App
 rights_app = with_rules (new_app (codes "rights"))
-    (now_rule ∷ text_rule (codes "FILE") ∷ text_rule (codes "RIGHTS") ∷ [])
+    (now_rule ∷ flag_rule (codes "exact") ∷ flag_rule (codes "dry-run") ∷ text_rule (codes "FILE")
+    ∷ text_rule (codes "RIGHTS") ∷ [])
 
 -- the values of rights ask for this job
 abbrev pub AsksRights : List Row → RightsFileJob → Type 0
 AsksRights rows job =
-    HasNow rows job.now × HasText rows (codes "FILE") job.file.now
+    HasNow rows job.now × HasFlag rows (codes "exact") job.exact
+    × HasFlag rows (codes "dry-run") job.dry_run × HasText rows (codes "FILE") job.file.now
     × HasText rows (codes "RIGHTS") job.rights.now
 
 -- pipe [--now T] [--digits D] FILE
@@ -101,15 +104,17 @@ AsksBatch rows job =
     × HasText rows (codes "CALLER") job.caller.now
     × HasText rows (codes "MERCHANT") job.merchant.now
 
--- serve [--connections N] [--port P] FILE
+-- serve [--connections N] [--port P] [--rights RIGHTS] FILE
 abbrev pub serve_app : App
 serve_app = with_rules (new_app (codes "serve"))
-    (number_option (codes "connections") ∷ number_option (codes "port") ∷ text_rule (codes "FILE") ∷ [])
+    (number_option (codes "connections") ∷ number_option (codes "port") ∷ text_option (codes "rights")
+    ∷ text_rule (codes "FILE") ∷ [])
 
 -- the values of serve ask for this job
 abbrev pub AsksServe : List Row → ServeJob → Type 0
 AsksServe rows job =
     HasConnections rows job.connections × HasPort rows job.port
+    × HasMaybeText rows (codes "rights") (option_map (λ text. text.now) job.rights)
     × HasText rows (codes "FILE") job.file.now
 
 -- sweep [--now T] FILE CALLER MERCHANT
@@ -124,6 +129,14 @@ AsksSweep rows job =
     HasNow rows job.now × HasText rows (codes "FILE") job.file.now
     × HasText rows (codes "CALLER") job.caller.now
     × HasText rows (codes "MERCHANT") job.merchant.now
+
+-- list [--json] FILE
+abbrev pub list_app : App
+list_app = with_rules (new_app (codes "list")) (flag_rule (codes "json") ∷ text_rule (codes "FILE") ∷ [])
+
+-- the values of list ask for this job
+abbrev pub AsksList : List Row → ListJob → Type 0
+AsksList rows job = HasFlag rows (codes "json") job.json × HasText rows (codes "FILE") job.file.now
 
 -- check FILE
 abbrev pub check_app : App
@@ -150,10 +163,16 @@ with_subcommands a (s ∷ ss) = with_subcommands (with_subcommand a s.top) ss
 abbrev pub root_app : App
 root_app =
     let named : App = new_app (codes "vault") in
-    record named { top = record named.top { has_version = true; subcommand_required = true } }
+    record named {
+      top = record named.top {
+        has_version = true;
+        subcommand_required = true;
+        arg_required_else_help = true;
+      };
+    }
 
 -- the program
 abbrev pub program_app : App
 program_app = with_subcommands root_app
     (trial_app ∷ merchant_app ∷ grant_app ∷ withdraw_app ∷ rights_app ∷ pipe_app ∷ batch_app
-    ∷ serve_app ∷ sweep_app ∷ check_app ∷ migrate_app ∷ [])
+    ∷ serve_app ∷ sweep_app ∷ list_app ∷ check_app ∷ migrate_app ∷ [])

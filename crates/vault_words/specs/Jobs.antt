@@ -1,13 +1,16 @@
 -- The job that words ask for.
-use Rattle.std.specs.Prelude.{◌≡◌, ◌≢◌, ◌⊎◌, List, [], ◌∷◌, Option, Some, codes}
+use Rattle.std.specs.Prelude.{◌≡◌, ◌≢◌, ◌⊎◌, List, [], ◌∷◌, Option, Some, codes, string_bytes}
 use Rattle.clap.specs.Words.{App, Row, Text, IsAmong, fault_of, subcommand_of}
 use Rattle.clap.specs.declared.error.kind.ErrorKind.{ErrorKind}
 use Rattle.clap.specs.declared.error.kind.ErrorKind.TheVariants.{DisplayHelp, DisplayVersion, OutOfMemory}
 use Rattle.vault_words.specs.Commands.{AsksBatch, AsksCheck, AsksGrant, AsksMerchant, AsksMigrate, AsksPipe}
-use Rattle.vault_words.specs.Commands.{AsksRight, AsksRights, AsksServe, AsksSweep, AsksTrial}
+use Rattle.vault_words.specs.Commands.{AsksList, AsksRight, AsksRights, AsksServe, AsksSweep, AsksTrial}
+use Rattle.vault_words.specs.Why.{HasFewDigits}
 use Rattle.vault_words.specs.declared.jobs.Job.{Job}
 use Rattle.vault_words.specs.declared.jobs.Job.TheVariants.{Trial, Merchant, Grant, Withdraw}
-use Rattle.vault_words.specs.declared.jobs.Job.TheVariants.{Rights, Pipe, Batch, Serve, Sweep, Check, Migrate}
+use Rattle.vault_words.specs.declared.jobs.Job.TheVariants.{Rights, Pipe, Batch, Serve, Sweep, Check}
+use Rattle.vault_words.specs.declared.jobs.Job.TheVariants.{List as ListOf}
+use Rattle.vault_words.specs.declared.jobs.Job.TheVariants.{Migrate}
 use Rattle.vault_words.specs.declared.jobs.JobFault.{JobFault}
 use Rattle.vault_words.specs.declared.jobs.JobFault.TheVariants.{Help, Version, BadWords, Memory}
 
@@ -22,6 +25,7 @@ Asks name rows (Pipe job) = (name ≡ codes "pipe") × AsksPipe rows job
 Asks name rows (Batch job) = (name ≡ codes "batch") × AsksBatch rows job
 Asks name rows (Serve job) = (name ≡ codes "serve") × AsksServe rows job
 Asks name rows (Sweep job) = (name ≡ codes "sweep") × AsksSweep rows job
+Asks name rows (ListOf job) = (name ≡ codes "list") × AsksList rows job
 Asks name rows (Check job) = (name ≡ codes "check") × AsksCheck rows job
 Asks name rows (Migrate job) = (name ≡ codes "migrate") × AsksMigrate rows job
 
@@ -36,18 +40,21 @@ pub record IsAsked (app : App) (words : List Text) (job : Job) : Type 0 where
   pub asks : AsksBy (subcommand_of app words) job
 
 -- Why words give no job. Help is only given where it is a fault of the words that they ask for it, and is
--- given where that is their only fault; so with the version. Bad words ask for no job. A want of memory says
--- nothing of the words.
+-- given where that is their only fault; so with the version. Bad words ask for no job, and what is said of them
+-- shows few digits. A want of memory says nothing of the words.
 abbrev pub Explains : App → List Text → JobFault → Type 0
 Explains app words (Help text) = IsAmong DisplayHelp (fault_of app words)
 Explains app words Version = IsAmong DisplayVersion (fault_of app words)
-Explains app words BadWords = (fault_of app words ≢ DisplayHelp ∷ [])
-    × (fault_of app words ≢ DisplayVersion ∷ []) × ((job : Job) → ¬ (IsAsked app words job))
+Explains app words (BadWords why) = ((fault_of app words ≢ DisplayHelp ∷ [])
+    × (fault_of app words ≢ DisplayVersion ∷ []) × ((job : Job) → ¬ (IsAsked app words job)))
+    × HasFewDigits (string_bytes why)
 Explains app words Memory = Unit {0}
 
 -- What a refusal of this kind comes to. The text of help may find no memory.
 abbrev pub StandsFor : ErrorKind → JobFault → Type 0
 StandsFor kind (Help text) = kind ≡ DisplayHelp
 StandsFor kind Version = kind ≡ DisplayVersion
-StandsFor kind BadWords = (kind ≢ DisplayHelp) × (kind ≢ DisplayVersion) × (kind ≢ OutOfMemory)
+StandsFor kind (BadWords why) =
+    ((kind ≢ DisplayHelp) × (kind ≢ DisplayVersion) × (kind ≢ OutOfMemory))
+    × HasFewDigits (string_bytes why)
 StandsFor kind Memory = (kind ≡ DisplayHelp) ⊎ (kind ≡ OutOfMemory)

@@ -3,3 +3,4 @@ pub mod Digits
 pub mod Jobs
 pub mod Rules
 pub mod Values
+pub mod Why

@@ -3,7 +3,7 @@ use Rattle.std.specs.Prelude.{◌≡◌, List, [], ◌∷◌, Some, true, false,
 use Rattle.clap.specs.Words.{App, Rule, Text, app_of, new_rule, with_rule}
 use Rattle.clap.specs.declared.builder.command.Command.{Command}
 use Rattle.clap.specs.declared.builder.command.Command.TheViews.{out-Command}
-use Rattle.clap.specs.declared.builder.action.ArgAction.TheVariants.{Set}
+use Rattle.clap.specs.declared.builder.action.ArgAction.TheVariants.{Set, SetTrue}
 use Rattle.clap.specs.declared.builder.value_parser.ValueParser.TheVariants as vp
 
 -- one value that must be there, a text
@@ -21,6 +21,10 @@ text_option id = record (new_rule id) { long = Some id; action = Some Set; value
 -- the same, a whole number of 64 bits
 abbrev pub number_option : Text → Rule
 number_option id = record (text_option id) { parser = Some (vp.Unsigned 0 18446744073709551615) }
+
+-- the word -- and its name, which may be left out
+abbrev pub flag_rule : Text → Rule
+flag_rule id = record (new_rule id) { long = Some id; action = Some SetTrue }
 
 -- --now T
 abbrev pub now_rule : Rule

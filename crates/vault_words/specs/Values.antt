@@ -1,6 +1,6 @@
 -- The values that a subcommand was given.
 use Rattle.std.specs.Prelude.{◌≡◌, ◌⊎◌, ℕ, ◌<◌, ◌≤◌, ◌^◌, List, Option, Some, None, codes}
-use Rattle.std.specs.Prelude.{Result, MatchResult}
+use Rattle.std.specs.Prelude.{Result, MatchResult, Bool, true, false}
 use Rattle.std.specs.Str.Parse.{IsNumeral, digits_value, without_leading_plus}
 use Rattle.clap.specs.Words.{Row, Text, first_of, one_of}
 use Rattle.vault_pan.specs.Mask.{lead_digits}
@@ -26,6 +26,16 @@ HasText rows id text = first_of id rows ≡ Some text
 -- it has no value
 abbrev pub IsLeftOut : List Row → Text → Type 0
 IsLeftOut rows id = first_of id rows ≡ None
+
+-- it is this text, or it has no value
+abbrev pub HasMaybeText : List Row → Text → Option Text → Type 0
+HasMaybeText rows id None = IsLeftOut rows id
+HasMaybeText rows id (Some text) = HasText rows id text
+
+-- the flag of this id is there, or it isn't
+abbrev pub HasFlag : List Row → Text → Bool → Type 0
+HasFlag rows id true = HasText rows id (codes "true")
+HasFlag rows id false = ¬ (HasText rows id (codes "true"))
 
 -- it writes this number
 abbrev pub HasNumber : List Row → Text → ℕ → Type 0

@@ -2,7 +2,7 @@
 ghost use Rattle.std.specs.Prelude.{◌≡◌, IfOk, codes, false};
 ghost use Rattle.clap.specs.Words.{App, Rule, new_app, rule_of, with_rule};
 ghost use Rattle.vault_words.specs.Rules.{IsApp, number_option, number_rule, text_option, text_rule};
-ghost use Rattle.vault_words.specs.Rules.{digits_rule, lead_rule, now_rule, until_rule};
+ghost use Rattle.vault_words.specs.Rules.{digits_rule, flag_rule, lead_rule, now_rule, until_rule};
 
 use clap::{Arg, ArgAction, Command, value_parser};
 use std::alloc::{AllocError, Global};
@@ -27,7 +27,7 @@ pub(crate) fn number<'a>(alloc: Global, id: &'a str, help: &'a str) -> Arg<'a>
 }
 
 /// A text behind `--` and its name, which may be left out.
-fn text_after<'a>(alloc: Global, id: &'a str, value: &'a str, help: &'a str) -> Arg<'a>
+pub(crate) fn text_after<'a>(alloc: Global, id: &'a str, value: &'a str, help: &'a str) -> Arg<'a>
     ensures rule { rule_of result ≡ text_option id.entry.now }
     ensures local { result.global ≡ false }
 {
@@ -43,6 +43,17 @@ pub(crate) fn number_after<'a>(alloc: Global, id: &'a str, value: &'a str, help:
     ensures local { result.global ≡ false }
 {
     text_after(alloc, id, value, help).value_parser(value_parser!(u64))
+}
+
+/// A word `--` and its name, which may be left out.
+pub(crate) fn flag<'a>(alloc: Global, id: &'a str, help: &'a str) -> Arg<'a>
+    ensures rule { rule_of result ≡ flag_rule id.entry.now }
+    ensures local { result.global ≡ false }
+{
+    Arg::new(alloc, id)
+        .long(id)
+        .action(ArgAction::SetTrue)
+        .help(help)
 }
 
 /// The moment.

@@ -2,6 +2,7 @@
 
 pub mod batch;
 pub mod check;
+pub mod list;
 pub mod merchant;
 pub mod migrate;
 pub mod pipe;

@@ -7,6 +7,7 @@ ghost use Rattle.vault_words.specs.Values.{Finds};
 
 use crate::commands::batch::BatchJob;
 use crate::commands::check::CheckJob;
+use crate::commands::list::ListJob;
 use crate::commands::merchant::MerchantJob;
 use crate::commands::migrate::MigrateJob;
 use crate::commands::pipe::PipeJob;
@@ -18,6 +19,7 @@ use crate::commands::trial::TrialJob;
 use crate::jobs::{Job, JobFault};
 use crate::tree::tree;
 use crate::values::BadValue;
+use crate::why;
 use clap::error::ErrorKind;
 use clap::{ArgMatches, Error};
 use std::alloc::Global;
@@ -35,8 +37,8 @@ macro_rules! read {
 }
 
 /// The job of the subcommand of this name.
-fn job_of<'a>(name: &str, matches: &ArgMatches<'a>) -> Result<Job<'a>, BadValue>
-    ensures { Finds result (Asks name.now (rows_of (found_of matches.now))) }
+fn job_of<'a>(name: &'a str, matches: &ArgMatches<'a>) -> Result<Job<'a>, BadValue<'a>>
+    ensures { Finds result (Asks name.entry.now (rows_of (found_of matches.now))) }
 {
     match name {
         "trial" => read!(matches, TrialJob, Job::Trial),
@@ -48,19 +50,28 @@ fn job_of<'a>(name: &str, matches: &ArgMatches<'a>) -> Result<Job<'a>, BadValue>
         "batch" => read!(matches, BatchJob, Job::Batch),
         "serve" => read!(matches, ServeJob, Job::Serve),
         "sweep" => read!(matches, SweepJob, Job::Sweep),
+        "list" => read!(matches, ListJob, Job::List),
         "check" => read!(matches, CheckJob, Job::Check),
         "migrate" => read!(matches, MigrateJob, Job::Migrate),
-        _ => Err(BadValue),
+        given => Err(BadValue {
+            id: "command",
+            given,
+            wanted: "a command",
+        }),
     }
 }
 
 /// The job of the subcommand that was met.
-fn asked_by<'a>(matches: &ArgMatches<'a>) -> Result<Job<'a>, BadValue>
+fn asked_by<'a>(matches: &ArgMatches<'a>) -> Result<Job<'a>, BadValue<'a>>
     ensures { Finds result (AsksBy (subcommand_rows_of matches.now)) }
 {
     match matches.subcommand() {
         Some((name, given)) => job_of(name, given),
-        None => Err(BadValue),
+        None => Err(BadValue {
+            id: "command",
+            given: "",
+            wanted: "a command",
+        }),
     }
 }
 
@@ -75,7 +86,7 @@ fn fault_of(alloc: Global, error: &Error) -> JobFault
             Err(_) => JobFault::Memory,
         },
         ErrorKind::DisplayVersion => JobFault::Version,
-        _ => JobFault::BadWords,
+        _ => JobFault::BadWords(why::of_error(alloc, error)),
     }
 }
 
@@ -91,7 +102,7 @@ pub fn job<'a, S: AsStr>(alloc: Global, words: &'a [S]) -> Result<Job<'a>, JobFa
     match tree.try_get_matches_from(words) {
         Ok(matches) => match asked_by(&matches) {
             Ok(job) => Ok(job),
-            Err(BadValue) => Err(JobFault::BadWords),
+            Err(value) => Err(JobFault::BadWords(why::of_value(alloc, &value))),
         },
         Err(error) => Err(fault_of(alloc, &error)),
     }

@@ -2,6 +2,7 @@
 
 use crate::commands::batch::BatchJob;
 use crate::commands::check::CheckJob;
+use crate::commands::list::ListJob;
 use crate::commands::merchant::MerchantJob;
 use crate::commands::migrate::MigrateJob;
 use crate::commands::pipe::PipeJob;
@@ -21,8 +22,8 @@ pub enum JobFault {
     Help(String),
     /// The version was asked for.
     Version,
-    /// The words ask for no job.
-    BadWords,
+    /// The words ask for no job. This says why, in lines; or nothing, where that would show ten digits.
+    BadWords(String),
     /// Memory was refused.
     Memory,
 }
@@ -38,7 +39,7 @@ pub enum Job<'a> {
     Grant(GrantJob<'a>),
     /// A right is taken from a caller.
     Withdraw(RightJob<'a>),
-    /// The rights that a rights file lists are granted.
+    /// The rights that a rights file lists are granted, and perhaps no others stay.
     Rights(RightsFileJob<'a>),
     /// Messages from standard input are answered by the vault in a file.
     Pipe(PipeJob<'a>),
@@ -48,6 +49,8 @@ pub enum Job<'a> {
     Serve(ServeJob<'a>),
     /// The card numbers of a merchant's dead tokens are purged.
     Sweep(SweepJob<'a>),
+    /// The merchants and the rights of a file are listed.
+    List(ListJob<'a>),
     /// A file is checked whole.
     Check(CheckJob<'a>),
     /// A file moves to the newest schema.

@@ -8,3 +8,4 @@ pub mod job;
 pub mod jobs;
 mod tree;
 mod values;
+mod why;

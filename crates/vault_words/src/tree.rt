@@ -7,6 +7,7 @@ ghost use Rattle.vault_words.specs.Rules.{IsApp};
 use crate::args::command;
 use crate::commands::batch::batch;
 use crate::commands::check::check;
+use crate::commands::list::list;
 use crate::commands::merchant::merchant;
 use crate::commands::migrate::migrate;
 use crate::commands::pipe::pipe;
@@ -19,13 +20,14 @@ use crate::jobs::VERSION;
 use clap::Command;
 use std::alloc::{AllocError, Global};
 
-/// The program's command without its subcommands, one of which must be named; it has a version.
+/// The program's command without its subcommands, one of which must be named; it has a version. With no word
+/// at all its help is shown.
 fn root<'a>(alloc: Global) -> Command<'a>
     ensures { IsApp result root_app }
 {
     let about = "Keeps card numbers, and gives tokens for them";
     let named = command(alloc, "vault", about).version(VERSION);
-    named.subcommand_required(true)
+    named.subcommand_required(true).arg_required_else_help(true)
 }
 
 /// The command with one more subcommand, where there was memory for both.
@@ -53,6 +55,7 @@ pub(crate) fn tree<'a>(alloc: Global) -> Result<Command<'a>, AllocError>
     let tree = with(tree, batch(alloc));
     let tree = with(tree, serve(alloc));
     let tree = with(tree, sweep(alloc));
+    let tree = with(tree, list(alloc));
     let tree = with(tree, check(alloc));
     with(tree, migrate(alloc))
 }

@@ -2,17 +2,17 @@
 ghost use Rattle.std.specs.Prelude.{◌≡◌, ◌≢◌, IfErr, IfOk, MatchResult};
 ghost use Rattle.vault_words.specs.declared.jobs.Job.{Job};
 ghost use Rattle.vault_app.specs.World.{said};
-ghost use Rattle.vault_app.specs.Plans.{EndsBefore, IsTaskOf};
+ghost use Rattle.vault_app.specs.Plans.{EndsBefore, IsTaskOf, rights_task};
 ghost use Rattle.vault_app.specs.Rights.{IsListed, IsUnlisted};
 ghost use Rattle.vault_app.specs.Values.{AreValues};
 
 use crate::ending::Ending;
 use std::io::ErrorKind;
 use vault_core::moment::Moment;
-use vault_core::name::{Caller, MerchantId};
-use vault_core::right::Right;
 use vault_file::paths::Paths;
+use vault_jobs::changes::ListedRight;
 use vault_jobs::clock::moment;
+use vault_jobs::show::Shown;
 use vault_jobs::stop::{Stop, Unread};
 use vault_jobs::task::Task;
 use vault_live::time::Timekeeper;
@@ -33,11 +33,11 @@ fn why_unread(kind: ErrorKind) -> Unread
 
 /// The rights that a file lists, or how the job ends without them: refused by 70 to 73 or 75, or stopped by
 /// 74 or, where the file can't be read, by 80.
-fn read<P: Paths>(
+pub(crate) fn read<P: Paths>(
     rt: &HostRuntime,
     paths: &P,
     path: &str,
-) -> Result<Vec<(Caller, MerchantId, Right, Option<Moment>)>, Ending>
+) -> Result<Vec<ListedRight>, Ending>
     ensures listed { IfOk result (λ rows. IsListed (P.says paths.now path.now) rows.items) }
     ensures unlisted { IfErr result IsUnlisted }
 {
@@ -52,8 +52,22 @@ fn read<P: Paths>(
     }
 }
 
+/// What is to be done with a list of rights, by what the words ask of it.
+fn task_of(job: &RightsFileJob<'_>, rows: Vec<ListedRight>, now: Moment) -> Task
+    ensures { result ≡ rights_task job.entry.now rows now }
+{
+    if job.dry_run {
+        Task::Show(Shown::Changes(job.exact, rows, now))
+    } else if job.exact {
+        Task::Settle(rows, now)
+    } else {
+        Task::Give(rows, now)
+    }
+}
+
 /// The rights that a file lists are given, each with its end, up to the first that is refused: by 7 where its
-/// merchant isn't known. The vault's file isn't touched where the list isn't read.
+/// merchant isn't known. Where they are to be exact, the others are withdrawn then. Or it is only said what
+/// would change. The vault's file isn't touched where the list isn't read.
 pub(crate) fn task<P: Paths, K: Timekeeper>(
     rt: &HostRuntime,
     paths: &P,
@@ -67,7 +81,7 @@ pub(crate) fn task<P: Paths, K: Timekeeper>(
 {
     let rows = read(rt, paths, job.rights)?;
     match moment(time, job.now) {
-        Ok(now) => Ok(Task::Give(rows, now)),
+        Ok(now) => Ok(task_of(job, rows, now)),
         Err(stop) => Err(Ending::Stopped(stop)),
     }
 }

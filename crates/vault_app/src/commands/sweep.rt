@@ -7,13 +7,14 @@ ghost use Rattle.vault_app.specs.Values.{AreValues};
 
 use crate::asker::asker_of;
 use crate::ending::Ending;
-use vault_jobs::clock::moment;
+use vault_jobs::clock::{Giver, moment};
 use vault_jobs::task::Task;
 use vault_live::time::Timekeeper;
 use vault_words::commands::sweep::SweepJob;
 
 /// The card numbers of a merchant's dead tokens are purged. Refused by 4 where a name is none, and when it is
-/// done by 8 where a token is dead and the caller may not purge.
+/// done by 8 where a token is dead and the caller may not purge; and by 81 where the words fix no moment and
+/// the merchant's is far ahead of the clock's.
 pub(crate) fn task<K: Timekeeper>(time: &K, job: &SweepJob<'_>) -> Result<Task, Ending>
     ensures task { MatchResult result
         (IsTaskOf (told (K.tells time.now)) (Job.Sweep job.entry.now))
@@ -25,7 +26,7 @@ pub(crate) fn task<K: Timekeeper>(time: &K, job: &SweepJob<'_>) -> Result<Task, 
         Err(number) => return Err(Ending::Refused(number)),
     };
     match moment(time, job.now) {
-        Ok(now) => Ok(Task::Sweep(asker, now)),
+        Ok(now) => Ok(Task::Sweep(asker, now, Giver::of(job.now))),
         Err(stop) => Err(Ending::Stopped(stop)),
     }
 }

@@ -360,7 +360,7 @@ const STATUSES: [Step; 4] = [
         "",
         2,
         "",
-        "vault: bad words\n",
+        "vault: bad words\nCONNECTIONS: 0 isn't a number of one to a million\n",
     ),
     (
         "vault check app_statuses",

@@ -6,21 +6,33 @@ use vault_wire::watched::Watched;
 
 /// Words that ask for no job.
 const BAD: [Step; 4] = [
-    ("vault", "", 2, "", "vault: bad words\n"),
-    ("vault trial till-1 shop1", "", 2, "", "vault: bad words\n"),
     (
-        "vault merchant --lead 7 v.db shop1 60 0",
+        "vault trail",
+        "",
+        2,
+        "",
+        "vault: bad words\nunrecognized subcommand 'trail'\n",
+    ),
+    (
+        "vault trial till-1 shop1 4111111111111111",
         "",
         2,
         "",
         "vault: bad words\n",
     ),
     (
+        "vault merchant --lead 7 v.db shop1 60 0",
+        "",
+        2,
+        "",
+        "vault: bad words\nLEAD: 7 isn't a number of digits that a mask may show\n",
+    ),
+    (
         "vault withdraw --until 1 v.db till-1 shop1 view",
         "",
         2,
         "",
-        "vault: bad words\n",
+        "vault: bad words\nunexpected argument '--until' found\n",
     ),
 ];
 

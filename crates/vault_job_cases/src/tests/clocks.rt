@@ -72,3 +72,42 @@ impl Clock for StepClock {
         Ok(Duration::from_secs(1000))
     }
 }
+
+/// A clock that somebody sets: it tells these seconds one after the other, and the last from then on, each
+/// beside how many have passed by a clock that nobody sets. Where there is none it can't be read.
+#[derive(Drop)]
+pub struct SetClock<'a> {
+    told: &'a [(Option<u64>, u64)],
+    next: Cell<usize>,
+    passed: Cell<u64>,
+}
+
+impl<'a> SetClock<'a> {
+    /// A clock that tells these.
+    pub fn telling(told: &'a [(Option<u64>, u64)]) -> SetClock<'a> {
+        SetClock {
+            told,
+            next: Cell::new(0),
+            passed: Cell::new(0),
+        }
+    }
+}
+
+impl<'a> Clock for SetClock<'a> {
+    fn monotonic(&self) -> io::Result<Duration> {
+        Ok(Duration::from_secs(self.passed.get()))
+    }
+
+    fn since_1970(&self) -> io::Result<Duration> {
+        let next = self.next.get();
+        let Some((second, passed)) = self.told.get(next).or(self.told.last()) else {
+            return Err(Error::from(ErrorKind::Other));
+        };
+        self.next.set(next.saturating_add(1));
+        self.passed.set(*passed);
+        match second {
+            Some(second) => Ok(Duration::from_secs(*second)),
+            None => Err(Error::from(ErrorKind::Other)),
+        }
+    }
+}

@@ -20,6 +20,7 @@ Commands:
   batch     Answers a CSV batch on standard input with tokens
   serve     Answers messages of connections by the vault in FILE
   sweep     Purges the card numbers of a merchant's dead tokens
+  list      Lists the merchants and the rights that FILE holds
   check     Checks that FILE holds a sound vault
   migrate   Moves FILE to the newest schema
   help      Print this message or the help of the given subcommand(s)
@@ -84,6 +85,8 @@ Arguments:
 
 Options:
       --now <T>  The moment, in seconds since 1970, in place of the clock's
+      --exact    Withdraws the rights that it doesn't list
+      --dry-run  Says what would change, and changes nothing
   -h, --help     Print help
 
 A rights file has a table for each caller, and in it for each merchant the
@@ -132,6 +135,7 @@ Arguments:
 Options:
       --connections <N>  Ends after N connections, 1 to 1000000; else never
       --port <P>         The port, 0 to 65535; 0, any free one, if left out
+      --rights <RIGHTS>  Makes the rights exactly those of this file first
   -h, --help             Print help
 
 It listens on 127.0.0.1 alone. The line `listening P` on standard output says
@@ -160,11 +164,31 @@ Options:
 A token is dead once it is revoked or has expired. Its card number is purged
 for good, and the token stays taken. All are purged at one moment, to the
 first that is refused. The line `purged N` on standard output says how many
-were purged.
+were purged. Without --now nothing is purged where the merchant's moment is
+over a day ahead of the clock.
+";
+
+/// `vault help list`
+const LIST: &str = "\
+Lists the merchants and the rights that FILE holds
+
+Usage: vault list [OPTIONS] <FILE>
+
+Arguments:
+  <FILE>  The vault's file, which has to be there
+
+Options:
+      --json  A JSON object a line
+  -h, --help  Print help
+
+A line for each merchant, in the order of their names: its lives in seconds,
+how many digits its masks show at the left, the moment of its last change, and
+how many tokens were made and numbers given and denied. Then a line for each
+right, by caller, merchant and right. No card number and no token is shown.
 ";
 
 /// Words that ask for help, and the text that they get.
-const TEXTS: [(&str, &str); 16] = [
+const TEXTS: [(&str, &str); 18] = [
     ("vault --help", PROGRAM),
     ("vault -h", PROGRAM),
     ("vault help", PROGRAM),
@@ -181,10 +205,12 @@ const TEXTS: [(&str, &str); 16] = [
     ("vault help serve", SERVE),
     ("vault sweep --help", SWEEP),
     ("vault help sweep", SWEEP),
+    ("vault list -h", LIST),
+    ("vault help list", LIST),
 ];
 
 /// All commands' helps.
-const HELPS: [&str; 12] = [
+const HELPS: [&str; 13] = [
     "vault help",
     "vault help trial",
     "vault help merchant",
@@ -195,6 +221,7 @@ const HELPS: [&str; 12] = [
     "vault help batch",
     "vault help serve",
     "vault help sweep",
+    "vault help list",
     "vault help check",
     "vault help migrate",
 ];

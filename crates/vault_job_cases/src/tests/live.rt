@@ -1,12 +1,12 @@
 //! A source over clocks and generators of the tests' own.
-use super::clocks::StandingClock;
+use super::clocks::{SetClock, StandingClock};
 use rand::SeedableRng;
 use rand::rngs::StdRng;
 use std::alloc::Global;
 use vault_core::moment::Moment;
 use vault_core::source::Source;
 use vault_live::live::LiveSource;
-use vault_live::time::ClockTime;
+use vault_live::time::{ClockTime, Timekeeper};
 use vault_pan::draw::{Digits, candidate};
 use vault_pan::pan::Pan;
 use vault_pan::token::Token;
@@ -78,4 +78,59 @@ fn is_fixed(alloc: Global) -> bool {
 #[test]
 fn what_is_fixed_stands_in_each_pair(rt: HostRuntime) {
     assert!(rt; is_fixed(rt.alloc()));
+}
+
+/// A clock that is ahead by 300 seconds of the 40 that passed, or behind by 300 of 900: it hasn't jumped.
+const WITHIN: [&[(Option<u64>, u64)]; 2] = [
+    &[(Some(1000), 0), (Some(1340), 40)],
+    &[(Some(1000), 0), (Some(1600), 900)],
+];
+
+/// A clock that is ahead by 301 seconds, or behind by 301.
+const BEYOND: [&[(Option<u64>, u64)]; 2] = [
+    &[(Some(1000), 0), (Some(1341), 40)],
+    &[(Some(1000), 0), (Some(1599), 900)],
+];
+
+/// What is told by a clock that tells these: a moment, whether it has jumped, and a moment again.
+fn asked(told: &[(Option<u64>, u64)]) -> (Option<u64>, bool, Option<u64>) {
+    let clock = SetClock::telling(told);
+    let time = ClockTime::new(&clock);
+    let first = time.moment(0).map(|moment| moment.seconds());
+    let jumped = time.has_jumped();
+    (first, jumped, time.moment(1).map(|moment| moment.seconds()))
+}
+
+#[test]
+fn a_clock_may_differ_by_300_seconds_and_no_more(rt: HostRuntime) {
+    for told in WITHIN {
+        let second = told.last().and_then(|reading| reading.0);
+        assert!(rt; asked(told) == (second, false, second));
+    }
+    for told in BEYOND {
+        assert!(rt; asked(told) == (None, true, None));
+    }
+}
+
+#[test]
+fn a_clock_that_is_set_right_again_tells_the_moment(rt: HostRuntime) {
+    let told = [
+        (Some(1000), 0),
+        (Some(2000), 1),
+        (Some(1002), 2),
+        (Some(1003), 3),
+    ];
+    assert!(rt; asked(&told) == (None, false, Some(1003)));
+}
+
+#[test]
+fn a_clock_that_cant_be_read_for_once_has_not_jumped(rt: HostRuntime) {
+    let told = [(Some(1000), 0), (None, 0), (None, 0), (Some(1000), 0)];
+    assert!(rt; asked(&told) == (None, false, Some(1000)));
+}
+
+#[test]
+fn a_clock_that_cant_be_read_at_the_start_tells_no_moment(rt: HostRuntime) {
+    let told = [(None, 0), (Some(1000), 0)];
+    assert!(rt; asked(&told) == (None, true, None));
 }

@@ -9,7 +9,7 @@ fn is_taken(alloc: Global, line: &str, value: &str) -> Option<bool> {
     let words = words_of(alloc, line, value);
     match job(alloc, &words) {
         Ok(_) => Some(true),
-        Err(JobFault::BadWords) => Some(false),
+        Err(JobFault::BadWords(_)) => Some(false),
         Err(JobFault::Help(_) | JobFault::Version | JobFault::Memory) => None,
     }
 }
@@ -128,7 +128,7 @@ fn digits_are_1_to_300(rt: HostRuntime) {
     assert!(rt; most.len() == 300 && are_told(&rt, &DIGITS, &values));
 }
 
-const MISSING: [&str; 25] = [
+const MISSING: [&str; 27] = [
     "",
     "vault",
     "vault trial",
@@ -149,6 +149,8 @@ const MISSING: [&str; 25] = [
     "vault batch v.db till-1 shop1 --digits",
     "vault serve",
     "vault serve --connections 1",
+    "vault serve v.db --rights",
+    "vault list --json",
     "vault sweep",
     "vault sweep back shop1",
     "vault sweep v.db back shop1 --now",
@@ -161,7 +163,7 @@ fn missing_words_are_bad(rt: HostRuntime) {
     assert!(rt; are_told(&rt, &MISSING, &[("", false)]));
 }
 
-const TOO_MANY: [&str; 22] = [
+const TOO_MANY: [&str; 24] = [
     "vault trail",
     "vault check --version v.db",
     "vault help trail",
@@ -182,6 +184,8 @@ const TOO_MANY: [&str; 22] = [
     "vault serve --connections 1 --now 1 v.db",
     "vault sweep v.db back shop1 0000000000001111",
     "vault sweep --digits 0 v.db back shop1",
+    "vault list v.db w.db",
+    "vault list --now 1 v.db",
     "vault check --now 1 v.db",
     "vault migrate v.db 2",
 ];

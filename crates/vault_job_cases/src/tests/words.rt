@@ -14,7 +14,7 @@ use vault_words::jobs::Job;
 const TWO_GROUPS: &str = "411111111111000000000000000000";
 
 /// Words with options, and the jobs that they ask for.
-const WITH_OPTIONS: [(&str, &str); 17] = [
+const WITH_OPTIONS: [(&str, &str); 19] = [
     (
         "vault trial --now 1000 till-1 shop1 60",
         "Trial(TrialJob { now: Some(Moment { seconds: 1000 }), digits: None, \
@@ -59,13 +59,18 @@ const WITH_OPTIONS: [(&str, &str); 17] = [
     ),
     (
         "vault rights --now 10 v.db rights.toml",
-        "Rights(RightsFileJob { now: Some(Moment { seconds: 10 }), file: \"v.db\", \
-         rights: \"rights.toml\" })",
+        "Rights(RightsFileJob { now: Some(Moment { seconds: 10 }), exact: false, dry_run: false, \
+         file: \"v.db\", rights: \"rights.toml\" })",
     ),
     (
-        "vault rights rights.toml --now=10 v.db",
-        "Rights(RightsFileJob { now: Some(Moment { seconds: 10 }), file: \"rights.toml\", \
-         rights: \"v.db\" })",
+        "vault rights --dry-run rights.toml --now=10 v.db",
+        "Rights(RightsFileJob { now: Some(Moment { seconds: 10 }), exact: false, dry_run: true, \
+         file: \"rights.toml\", rights: \"v.db\" })",
+    ),
+    (
+        "vault rights v.db --exact rights.toml",
+        "Rights(RightsFileJob { now: None, exact: true, dry_run: false, file: \"v.db\", \
+         rights: \"rights.toml\" })",
     ),
     (
         "vault pipe v.db --now 0",
@@ -83,11 +88,16 @@ const WITH_OPTIONS: [(&str, &str); 17] = [
     ),
     (
         "vault serve --port 8080 --connections 3 v.db",
-        "Serve(ServeJob { connections: Some(3), port: 8080, file: \"v.db\" })",
+        "Serve(ServeJob { connections: Some(3), port: 8080, rights: None, file: \"v.db\" })",
     ),
     (
-        "vault serve v.db --connections=3 --port=8080",
-        "Serve(ServeJob { connections: Some(3), port: 8080, file: \"v.db\" })",
+        "vault serve v.db --rights=rights.toml --connections=3 --port=8080",
+        "Serve(ServeJob { connections: Some(3), port: 8080, rights: Some(\"rights.toml\"), \
+         file: \"v.db\" })",
+    ),
+    (
+        "vault list --json v.db",
+        "List(ListJob { json: true, file: \"v.db\" })",
     ),
     (
         "vault sweep --now 12 v.db back shop1",
@@ -102,7 +112,7 @@ const WITH_OPTIONS: [(&str, &str); 17] = [
 ];
 
 /// Words without options that may be left out, and the jobs that they ask for.
-const WITHOUT_OPTIONS: [(&str, &str); 13] = [
+const WITHOUT_OPTIONS: [(&str, &str); 14] = [
     (
         "vault trial till-1 shop1 60",
         "Trial(TrialJob { now: None, digits: None, caller: \"till-1\", \
@@ -125,7 +135,8 @@ const WITHOUT_OPTIONS: [(&str, &str); 13] = [
     ),
     (
         "vault rights v.db rights.toml",
-        "Rights(RightsFileJob { now: None, file: \"v.db\", rights: \"rights.toml\" })",
+        "Rights(RightsFileJob { now: None, exact: false, dry_run: false, file: \"v.db\", \
+         rights: \"rights.toml\" })",
     ),
     (
         "vault pipe v.db",
@@ -138,15 +149,19 @@ const WITHOUT_OPTIONS: [(&str, &str); 13] = [
     ),
     (
         "vault serve v.db",
-        "Serve(ServeJob { connections: None, port: 0, file: \"v.db\" })",
+        "Serve(ServeJob { connections: None, port: 0, rights: None, file: \"v.db\" })",
     ),
     (
         "vault serve --connections 1 v.db",
-        "Serve(ServeJob { connections: Some(1), port: 0, file: \"v.db\" })",
+        "Serve(ServeJob { connections: Some(1), port: 0, rights: None, file: \"v.db\" })",
     ),
     (
         "vault sweep v.db back shop1",
         "Sweep(SweepJob { now: None, file: \"v.db\", caller: \"back\", merchant: \"shop1\" })",
+    ),
+    (
+        "vault list v.db",
+        "List(ListJob { json: false, file: \"v.db\" })",
     ),
     (
         "vault check a_folder/v.db",

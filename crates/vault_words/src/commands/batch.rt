@@ -29,7 +29,7 @@ pub struct BatchJob<'a> {
 
 impl<'a> BatchJob<'a> {
     /// The job that the values of `batch` ask for.
-    pub(crate) fn read(matches: &ArgMatches<'a>) -> Result<BatchJob<'a>, BadValue>
+    pub(crate) fn read(matches: &ArgMatches<'a>) -> Result<BatchJob<'a>, BadValue<'a>>
         ensures { Finds result (AsksBatch (rows_of (found_of matches.now))) }
     {
         Ok(BatchJob {

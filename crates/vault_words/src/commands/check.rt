@@ -19,7 +19,7 @@ pub struct CheckJob<'a> {
 
 impl<'a> CheckJob<'a> {
     /// The job that the values of `check` ask for.
-    pub(crate) fn read(matches: &ArgMatches<'a>) -> Result<CheckJob<'a>, BadValue>
+    pub(crate) fn read(matches: &ArgMatches<'a>) -> Result<CheckJob<'a>, BadValue<'a>>
         ensures { Finds result (AsksCheck (rows_of (found_of matches.now))) }
     {
         Ok(CheckJob {

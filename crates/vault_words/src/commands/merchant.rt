@@ -31,7 +31,7 @@ pub struct MerchantJob<'a> {
 
 impl<'a> MerchantJob<'a> {
     /// The job that the values of `merchant` ask for.
-    pub(crate) fn read(matches: &ArgMatches<'a>) -> Result<MerchantJob<'a>, BadValue>
+    pub(crate) fn read(matches: &ArgMatches<'a>) -> Result<MerchantJob<'a>, BadValue<'a>>
         ensures { Finds result (AsksMerchant (rows_of (found_of matches.now))) }
     {
         Ok(MerchantJob {

@@ -19,7 +19,7 @@ pub struct MigrateJob<'a> {
 
 impl<'a> MigrateJob<'a> {
     /// The job that the values of `migrate` ask for.
-    pub(crate) fn read(matches: &ArgMatches<'a>) -> Result<MigrateJob<'a>, BadValue>
+    pub(crate) fn read(matches: &ArgMatches<'a>) -> Result<MigrateJob<'a>, BadValue<'a>>
         ensures { Finds result (AsksMigrate (rows_of (found_of matches.now))) }
     {
         Ok(MigrateJob {

@@ -25,7 +25,7 @@ pub struct PipeJob<'a> {
 
 impl<'a> PipeJob<'a> {
     /// The job that the values of `pipe` ask for.
-    pub(crate) fn read(matches: &ArgMatches<'a>) -> Result<PipeJob<'a>, BadValue>
+    pub(crate) fn read(matches: &ArgMatches<'a>) -> Result<PipeJob<'a>, BadValue<'a>>
         ensures { Finds result (AsksPipe (rows_of (found_of matches.now))) }
     {
         Ok(PipeJob {

@@ -28,7 +28,7 @@ pub struct RightJob<'a> {
 
 impl<'a> RightJob<'a> {
     /// The job that the values of `withdraw` ask for, and those of `grant` but for `--until`.
-    pub(crate) fn read(matches: &ArgMatches<'a>) -> Result<RightJob<'a>, BadValue>
+    pub(crate) fn read(matches: &ArgMatches<'a>) -> Result<RightJob<'a>, BadValue<'a>>
         ensures { Finds result (AsksRight (rows_of (found_of matches.now))) }
     {
         Ok(RightJob {
@@ -52,7 +52,7 @@ pub struct GrantJob<'a> {
 
 impl<'a> GrantJob<'a> {
     /// The job that the values of `grant` ask for.
-    pub(crate) fn read(matches: &ArgMatches<'a>) -> Result<GrantJob<'a>, BadValue>
+    pub(crate) fn read(matches: &ArgMatches<'a>) -> Result<GrantJob<'a>, BadValue<'a>>
         ensures { Finds result (AsksGrant (rows_of (found_of matches.now))) }
     {
         let until = values::until(matches)?;

@@ -1,4 +1,4 @@
-//! `serve [--connections N] [--port P] FILE`
+//! `serve [--connections N] [--port P] [--rights RIGHTS] FILE`
 ghost use Rattle.std.specs.Prelude.{IfOk};
 ghost use Rattle.clap.specs.Words.{found_of, rows_of};
 ghost use Rattle.vault_words.specs.Commands.{AsksServe, serve_app};
@@ -17,18 +17,21 @@ pub struct ServeJob<'a> {
     pub connections: Option<u64>,
     /// The port at which they are taken; 0 is any free one.
     pub port: u16,
+    /// The rights file whose rights are the vault's, exactly, before it listens; they stay, if there is none.
+    pub rights: Option<&'a str>,
     /// The file of the vault.
     pub file: &'a str,
 }
 
 impl<'a> ServeJob<'a> {
     /// The job that the values of `serve` ask for.
-    pub(crate) fn read(matches: &ArgMatches<'a>) -> Result<ServeJob<'a>, BadValue>
+    pub(crate) fn read(matches: &ArgMatches<'a>) -> Result<ServeJob<'a>, BadValue<'a>>
         ensures { Finds result (AsksServe (rows_of (found_of matches.now))) }
     {
         Ok(ServeJob {
             connections: values::connections(matches)?,
             port: values::port(matches)?,
+            rights: values::maybe_text(matches, "rights"),
             file: values::text(matches, "FILE")?,
         })
     }
@@ -52,8 +55,11 @@ pub(crate) fn serve<'a>(alloc: Global) -> Result<Command<'a>, AllocError>
     let connections = args::number_after(alloc, "connections", "N", count);
     let which = "The port, 0 to 65535; 0, any free one, if left out";
     let port = args::number_after(alloc, "port", "P", which);
+    let listed = "Makes the rights exactly those of this file first";
+    let rights = args::text_after(alloc, "rights", "RIGHTS", listed);
     let command = Ok(args::with_notes(args::command(alloc, "serve", about), NOTES));
     let command = add(command, connections);
     let command = add(command, port);
+    let command = add(command, rights);
     add(command, args::file(alloc))
 }

@@ -26,7 +26,7 @@ pub struct SweepJob<'a> {
 
 impl<'a> SweepJob<'a> {
     /// The job that the values of `sweep` ask for.
-    pub(crate) fn read(matches: &ArgMatches<'a>) -> Result<SweepJob<'a>, BadValue>
+    pub(crate) fn read(matches: &ArgMatches<'a>) -> Result<SweepJob<'a>, BadValue<'a>>
         ensures { Finds result (AsksSweep (rows_of (found_of matches.now))) }
     {
         Ok(SweepJob {
@@ -43,7 +43,8 @@ const NOTES: &str = "\
 A token is dead once it is revoked or has expired. Its card number is purged
 for good, and the token stays taken. All are purged at one moment, to the
 first that is refused. The line `purged N` on standard output says how many
-were purged.";
+were purged. Without --now nothing is purged where the merchant's moment is
+over a day ahead of the clock.";
 
 /// The command `sweep`.
 pub(crate) fn sweep<'a>(alloc: Global) -> Result<Command<'a>, AllocError>

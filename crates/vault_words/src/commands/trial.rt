@@ -29,7 +29,7 @@ pub struct TrialJob<'a> {
 
 impl<'a> TrialJob<'a> {
     /// The job that the values of `trial` ask for.
-    pub(crate) fn read(matches: &ArgMatches<'a>) -> Result<TrialJob<'a>, BadValue>
+    pub(crate) fn read(matches: &ArgMatches<'a>) -> Result<TrialJob<'a>, BadValue<'a>>
         ensures { Finds result (AsksTrial (rows_of (found_of matches.now))) }
     {
         Ok(TrialJob {

@@ -1,4 +1,4 @@
-use Rattle.std.proofs.Common.{◌≡◌, [], Some, arith, refl, subst, sym}
+use Rattle.std.proofs.Common.{◌≡◌, [], Some, arith, inr, refl, subst, sym}
 use Rattle.vault_jobs.specs.Streams.{Streams, streams, with_links}
 use Rattle.vault_listen.proofs.Linking.{none_then}
 use Rattle.vault_sql.specs.Places.{IsPast}
@@ -23,6 +23,21 @@ returns-in-Err g c =
         refused_file world c.args.path.now (c.args.input.now ≡ c.args.input.now)
             (c.args.output.now ≡ c.args.output.now) s c.in-Err.left c.args.task.now c.in-Err.fault
             told.refused told.refused_there told.never told.tells told.left told.same refl refl,
+      );
+    }
+
+pub returns-then-is_missing : goal.returns-then-is_missing
+returns-then-is_missing g c =
+    record {
+      does = (
+        [],
+        none_then (g.N.Network.tells c.args.network.now),
+        (
+          refl,
+          inr (c.only_shows.ensures c.if-only_shows.true, c.is_missing.ensures c.if-is_missing.true),
+          refl,
+          refl,
+        ),
       );
     }
 

@@ -1,4 +1,5 @@
-use Rattle.std.proofs.Common.{ℕ, refl, subst}
+use Rattle.std.proofs.Common.{ℕ, List, ◌++◌, append-nil, codes, refl, subst}
+use Rattle.vault_wire.specs.Watching.{inner_of, is_stopped}
 use Rattle.vault_app.specs.Ending.{stop_line}
 use Rattle.vault_jobs.specs.Told.{Tells}
 use Rattle.vault_app.proofs.report.report.Goals as goal
@@ -11,4 +12,14 @@ returns-in-Stopped-clause-said g c =
       refl,
       subst (λ (n : ℕ). Tells old new c.tell_numbered-in-Stopped.new.writer.stopped (stop_line n))
           c.number.ensures c.tell_numbered-in-Stopped.ensures,
+    )
+
+pub returns-in-BadWords-clause-said : goal.returns-in-BadWords-clause-said
+returns-in-BadWords-clause-said g c =
+    let old = g.E.Write.contents (inner_of c.args.errors.now) in
+    let new = g.E.Write.contents (inner_of c.tell.new.writer) in
+    rw c.in-BadWords.is (
+      refl,
+      subst (λ (t : List ℕ). Tells old new (is_stopped c.tell.new.writer) (codes "vault: bad words\n" ++ t))
+          (append-nil c.args.why.now) c.tell.ensures,
     )

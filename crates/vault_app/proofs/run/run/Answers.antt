@@ -1,4 +1,5 @@
-use Rattle.std.proofs.Common.{◌≡◌, ◌⊎◌, ℕ, inl, inr, sym, ◌∙◌}
+use Rattle.std.proofs.Common.{◌≡◌, ◌⊎◌, ℕ, inl, inr, subst, sym, ◌∙◌}
+use Rattle.vault_words.specs.Why.{HasFewDigits}
 use Rattle.vault_app.specs.Ending.{status_of}
 use Rattle.vault_app.specs.declared.ending.Ending.{Ending}
 use Rattle.vault_app.proofs.Unread.{calm_at, refused_at, said_at}
@@ -12,6 +13,8 @@ returns-clause-does g c = (
   record {
     ending = c.ended-ending.result.0;
     exits = c.report.ensures.status;
+    why = c.as_str.result.now;
+    few = subst HasFewDigits (sym c.as_str.ensures.value) c.why_bad-why.ensures.few;
     says = c.report.ensures.said;
     does = c.ended-ending.ensures.does.2;
   },
@@ -31,7 +34,7 @@ returns-clause-unread g c = λ at.
 pub returns-clause-unsent : goal.returns-clause-unsent
 returns-clause-unsent g c = λ at.
     let end = status_at c.ended-ending.result.0 _ c.report.ensures.status at in
-    said_at c.ended-ending.result.0 _ _ _ _ end c.report.ensures.said
+    said_at _ c.ended-ending.result.0 _ _ _ _ end c.report.ensures.said
     ∙ (calm_at _ _ _ _ _ _ c.ended-ending.result.0 end c.ended-ending.ensures.does.2).1
 
 pub returns-clause-unread_refused : goal.returns-clause-unread_refused

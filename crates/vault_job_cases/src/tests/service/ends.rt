@@ -1,7 +1,7 @@
 //! What ends the service, and what ends one connection alone.
 use super::fakes::{Failing, Lent, Stuck};
 use super::{ANSWERED, ASKED, is_told, listen, peer, serve_by, shop};
-use crate::tests::clocks::StandingClock;
+use crate::tests::clocks::{SetClock, StandingClock};
 use rand::SeedableRng;
 use rand::rngs::StdRng;
 use std::alloc::Global;
@@ -115,22 +115,24 @@ fn a_store_that_fails_ends_the_service_with_63(rt: HostRuntime) {
     assert!(rt; ends_with_63(&rt).unwrap_or(false));
 }
 
-/// Whether a connection ends alone and without an answer where the clock can't be read.
-fn ends_alone<H: Net<Listener = TcpListener, Stream = TcpStream> + AllocGlobal>(
+/// How a service ends whose clock tells these, and how many of two connections it accepts; none where the
+/// first isn't answered so, or the second, where it is accepted. The clock is asked at the start, for each
+/// message, and after each connection.
+fn ended_at<H: Net<Listener = TcpListener, Stream = TcpStream> + AllocGlobal>(
     rt: &H,
-) -> io::Result<bool> {
+    told: &[(Option<u64>, u64)],
+    first: &str,
+    second: Option<&str>,
+) -> io::Result<Option<(Result<(), ListenFault>, usize)>> {
     let listener = listen(rt)?;
-    let first = peer(rt, &listener, ASKED.as_bytes())?;
-    let second = peer(rt, &listener, ASKED.as_bytes())?;
+    let before = peer(rt, &listener, ASKED.as_bytes())?;
+    let after = peer(rt, &listener, ASKED.as_bytes())?;
+    let failing = Failing::new(&listener, &[]);
     let mut vault = shop(rt.alloc());
     let mut generator = StdRng::seed_from_u64(7);
-    let clock = StandingClock::unread(1000, 1);
-    let mut peers = TcpPeers::new(
-        rt.alloc(),
-        Lent::new(&listener),
-        &clock,
-        Limits::of_service(),
-    );
+    let clock = SetClock::telling(told);
+    let lent = Lent::new(&failing);
+    let mut peers = TcpPeers::new(rt.alloc(), lent, &clock, Limits::of_service());
     let ended = serve_on(
         rt.alloc(),
         &ClockTime::new(&clock),
@@ -139,13 +141,74 @@ fn ends_alone<H: Net<Listener = TcpListener, Stream = TcpStream> + AllocGlobal>(
         2,
         &mut vault,
     );
-    let are_told = is_told(rt.alloc(), first, "") && is_told(rt.alloc(), second, ANSWERED);
-    Ok(ended == Ok(()) && are_told)
+    let is_second_told = match second {
+        Some(text) => is_told(rt.alloc(), after, text),
+        None => true,
+    };
+    let are_told = is_told(rt.alloc(), before, first) && is_second_told;
+    Ok(are_told.then_some((ended, failing.accepts())))
+}
+
+/// Whether both connections are accepted and answered so, and the service is done.
+fn goes_on<H: Net<Listener = TcpListener, Stream = TcpStream> + AllocGlobal>(
+    rt: &H,
+    told: &[(Option<u64>, u64)],
+    first: &str,
+    second: &str,
+) -> bool {
+    match ended_at(rt, told, first, Some(second)) {
+        Ok(ended) => ended == Some((Ok(()), 2)),
+        Err(_) => false,
+    }
+}
+
+/// Whether the first is answered so, and the service ends by 60 before it accepts the second.
+fn ends_with_60<H: Net<Listener = TcpListener, Stream = TcpStream> + AllocGlobal>(
+    rt: &H,
+    told: &[(Option<u64>, u64)],
+    first: &str,
+) -> bool {
+    match ended_at(rt, told, first, None) {
+        Ok(ended) => ended == Some((Err(ListenFault::Source), 1)),
+        Err(_) => false,
+    }
 }
 
 #[test]
 fn a_clock_that_cant_be_read_ends_the_connection_alone(rt: HostRuntime) {
-    assert!(rt; ends_alone(&rt).unwrap_or(false));
+    let told = [(Some(1000), 0), (None, 0), (None, 0), (Some(1000), 0)];
+    assert!(rt; goes_on(&rt, &told, "", ANSWERED));
+}
+
+#[test]
+fn a_clock_that_jumps_ends_the_service_with_60(rt: HostRuntime) {
+    for second in [699, 1301] {
+        let told = [(Some(1000), 0), (Some(second), 0)];
+        assert!(rt; ends_with_60(&rt, &told, ""), "{second}");
+    }
+    let told = [(Some(1000), 0), (Some(1000), 0), (Some(1301), 0)];
+    assert!(rt; ends_with_60(&rt, &told, ANSWERED));
+    assert!(rt; ListenFault::Source.number() == 60);
+}
+
+#[test]
+fn a_clock_that_differs_by_300_seconds_goes_on(rt: HostRuntime) {
+    for second in [700, 1300] {
+        let told = [(Some(1000), 0), (Some(second), 0)];
+        assert!(rt; goes_on(&rt, &told, ANSWERED, ANSWERED), "{second}");
+    }
+}
+
+#[test]
+fn a_clock_that_is_set_right_in_time_goes_on(rt: HostRuntime) {
+    let told = [(Some(1000), 0), (Some(1301), 0), (Some(1000), 0)];
+    assert!(rt; goes_on(&rt, &told, "", ANSWERED));
+}
+
+#[test]
+fn a_clock_that_cant_be_read_at_the_start_ends_the_service_with_60(rt: HostRuntime) {
+    let told = [(None, 0), (Some(1000), 0)];
+    assert!(rt; ends_with_60(&rt, &told, ""));
 }
 
 /// Whether a service of no connections accepts none.

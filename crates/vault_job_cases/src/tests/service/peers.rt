@@ -164,7 +164,7 @@ fn is_told_so(alloc: Global, peer: TcpStream, wanted: &str) -> bool {
 }
 
 /// Whether the service answers so many of a peer's messages, where so many seconds pass each time that its
-/// clock is asked: once for a connection and for each read, and three times for each message.
+/// clock is asked: once for a connection and for each read, and four times for each message.
 fn are_answered<H: Net<Listener = TcpListener, Stream = TcpStream> + AllocGlobal>(
     rt: &H,
     step: u64,
@@ -196,7 +196,7 @@ fn are_answered<H: Net<Listener = TcpListener, Stream = TcpStream> + AllocGlobal
 
 #[test]
 fn a_message_has_5_seconds_and_a_connection_60(rt: HostRuntime) {
-    for (step, answers) in [(1, 9), (4, 5), (5, 0), (6, 0)] {
+    for (step, answers) in [(1, 9), (4, 4), (5, 0), (6, 0)] {
         assert!(rt;
             are_answered(&rt, step, answers).unwrap_or(false),
             "{step} seconds"

@@ -3,7 +3,7 @@ use Rattle.vault_store.specs.Applied.{is_broken}
 use Rattle.vault_http.specs.Passing.{Passage}
 use Rattle.vault_listen.specs.Peers.{vault_passing}
 use Rattle.vault_listen.proofs.Linking.{none_then}
-use Rattle.vault_jobs.proofs.Parts.{change_done, give_done, serve_done, sweep_done}
+use Rattle.vault_jobs.proofs.Parts.{change_done, give_done, serve_done, settle_done, show_done, sweep_done}
 use Rattle.vault_jobs.specs.Streams.{Streams, streams, with_links}
 use Rattle.vault_jobs.proofs.task.do_task.Goals as goal
 
@@ -52,7 +52,7 @@ returns-in-Sweep-clause-does g c =
       none_then (g.N.Network.tells c.args.network.now),
       sweep_done tells w (is_broken c.do_sweep.new.vault) c.do_sweep.result
           (c.args.input.now ≡ c.args.input.now) (c.do_sweep.new.output ≡ c.args.output.now) s
-          c.in-Sweep.asker c.in-Sweep.now refl refl
+          c.in-Sweep.asker c.in-Sweep.now c.in-Sweep.giver refl refl
           c.do_sweep.ensures.breaks c.do_sweep.ensures.swept,
     )
 
@@ -86,14 +86,47 @@ pub returns-in-Serve-clause-does : goal.returns-in-Serve-clause-does
 returns-in-Serve-clause-does g c =
     let tells = g.K.Timekeeper.tells c.args.time.now in
     let w : Passage = vault_passing g.T.Tables.is_honest g.T.Tables.holds g.T.Tables.leaves c.args.vault.now
-    c.serve_at.new.vault in
+    c.do_serve.new.vault in
     let s : Streams = streams g.R.Read.remaining c.args.input.now c.args.input.now g.W.Write.contents
-    c.args.output.now c.serve_at.new.output in
+    c.args.output.now c.do_serve.new.output in
     rw c.in-Serve.is (
-      c.serve_at.ensures.does.0,
-      c.serve_at.ensures.does.1,
-      serve_done tells w (is_broken c.serve_at.new.vault) c.serve_at.result
-          (c.args.input.now ≡ c.args.input.now) (c.serve_at.new.output ≡ c.args.output.now)
-          (with_links s c.serve_at.ensures.does.0)
-          c.in-Serve.port c.in-Serve.connections refl c.serve_at.ensures.breaks c.serve_at.ensures.does.2,
+      c.do_serve.ensures.does.0,
+      c.do_serve.ensures.does.1,
+      serve_done tells w (is_broken c.do_serve.new.vault) c.do_serve.result
+          (c.args.input.now ≡ c.args.input.now) (c.do_serve.new.output ≡ c.args.output.now)
+          (with_links s c.do_serve.ensures.does.0)
+          c.in-Serve.port c.in-Serve.connections c.in-Serve.listed refl c.do_serve.ensures.breaks
+          c.do_serve.ensures.does.2,
+    )
+
+pub returns-in-Settle-clause-does : goal.returns-in-Settle-clause-does
+returns-in-Settle-clause-does g c =
+    let tells = g.K.Timekeeper.tells c.args.time.now in
+    let w : Passage = vault_passing g.T.Tables.is_honest g.T.Tables.holds g.T.Tables.leaves c.args.vault.now
+    c.do_settle.new.vault in
+    let s : Streams = streams g.R.Read.remaining c.args.input.now c.args.input.now g.W.Write.contents
+    c.args.output.now c.do_settle.new.output in
+    rw c.in-Settle.is (
+      [],
+      none_then (g.N.Network.tells c.args.network.now),
+      settle_done tells w (is_broken c.do_settle.new.vault) c.do_settle.result
+          (c.args.input.now ≡ c.args.input.now) (c.do_settle.new.output ≡ c.args.output.now) s
+          c.in-Settle.rights c.in-Settle.now c.deref-in-Settle.result.now c.deref-in-Settle.ensures.value
+          refl refl
+          c.do_settle.ensures.breaks (rw c.in-Settle.is at c.do_settle.ensures.does),
+    )
+
+pub returns-in-Show-clause-does : goal.returns-in-Show-clause-does
+returns-in-Show-clause-does g c =
+    let tells = g.K.Timekeeper.tells c.args.time.now in
+    let w : Passage = vault_passing g.T.Tables.is_honest g.T.Tables.holds g.T.Tables.leaves c.args.vault.now
+    c.do_show.new.vault in
+    let s : Streams = streams g.R.Read.remaining c.args.input.now c.args.input.now g.W.Write.contents
+    c.args.output.now c.do_show.new.output in
+    rw c.in-Show.is (
+      [],
+      none_then (g.N.Network.tells c.args.network.now),
+      show_done tells w (is_broken c.do_show.new.vault) c.do_show.result
+          (c.args.input.now ≡ c.args.input.now) (c.do_show.new.output ≡ c.args.output.now) s
+          c.in-Show.shown refl refl c.do_show.ensures.breaks c.do_show.ensures.does,
     )

@@ -1,4 +1,4 @@
-use Rattle.std.proofs.Common.{◌≡◌, ◌+◌, ◌++◌, ◌∷◌, [], ◌∙◌, List, None, Option, Some, ap, arith, length}
+use Rattle.std.proofs.Common.{◌≡◌, ◌+◌, ◌<◌, ◌++◌, ◌∷◌, [], ◌∙◌, List, None, Option, Some, ap, arith, length}
 use Rattle.std.proofs.Common.{length-append}
 use Rattle.std.proofs.Common.{refl, subst, sym}
 use Rattle.std.proofs.lemmas.List.Elements.{All-append, All-cons, All-nil}
@@ -6,6 +6,7 @@ use Rattle.vault_store.specs.Applied.{is_broken, tables_of}
 use Rattle.vault_listen.specs.Peers.{AreLinks, Link, events_of, vault_passing}
 use Rattle.vault_listen.specs.Service.{GoesOn}
 use Rattle.vault_listen.proofs.Following.{failed_in, kept_after, unaccepted_in, undecided_after}
+use Rattle.vault_listen.proofs.Jumping.{jumped_after}
 use Rattle.vault_listen.proofs.Linking.{closed_then, links_then, lost_then, none_then, told_then}
 use Rattle.vault_listen.proofs.service.serve_on.Goals as goal
 use Rattle.vault_listen.proofs.service.serve_on.Goals.{in-Some+in_ok-serve_link, in_default-2}
@@ -153,3 +154,44 @@ returns-in_err-link-clause-served g c =
       inv.served,
       λ log h. c.in_err-link.ensures.fails.1 _ (inv.told log h),
     )
+
+pub returns-then-has_jumped-clause-served : goal.returns-then-has_jumped-clause-served
+returns-then-has_jumped-clause-served g c =
+    let inv = c.loop.invariant in
+    let at = g.K.Timekeeper.tells c.args.time.now in
+    let honest = g.T.Tables.is_honest in
+    let holds = g.T.Tables.holds in
+    let leaves = g.T.Tables.leaves in
+    let tells = g.P.Peers.tells in
+    let remaining = g.P.Reader.Read.remaining in
+    let contents = g.P.Writer.Write.contents in
+    let v0 = c.args.vault.now in
+    let v1 = c.loop.vault in
+    let v2 = c.match-branch-2.vault in
+    let p1 = c.loop.peers in
+    let p2 = c.match-branch-2.peers in
+    let few : length inv.links < c.args.connections = omega (arith, inv.count, c.loop-test.true) in
+    elim c.match-branch-2.branch [
+      | in-Some+in_ok-serve_link w ↦
+          let it = w.in_ok-serve_link.ensures.served in
+          let x : Link = it.0 in
+          jumped_after at honest holds leaves g.met.T.Tables.settled tells c.args.connections inv.links
+          (Some x) v0 v1 v2 c.args.peers.now p1 p2 few inv.on it.3 inv.served
+          (subst (λ v. AreLinks at honest holds leaves (Some x ∷ []) v1 v) (sym w.vault-is)
+          (w.serve_link.new.vault, it.1, refl))
+          inv.told
+          (subst (λ p. (log : _) → tells p1 log → tells p (log ++ events_of (Some x ∷ [])))
+          (sym w.peers-is)
+          (closed_then remaining contents (tells p1) (tells c.accept.new.self)
+          (tells w.serve_link.new.peers) c.in_ok-link.field-0 w.in-Some.link x w.in-Some.is
+          c.in_ok-link.ensures.comes it.2))
+      | in_default-2 w ↦
+          jumped_after at honest holds leaves g.met.T.Tables.settled tells c.args.connections inv.links
+          None v0 v1 v2 c.args.peers.now p1 p2 few inv.on tt inv.served
+          (subst (λ v. AreLinks at honest holds leaves (None ∷ []) v1 v) (sym w.vault-is) refl)
+          inv.told
+          (subst (λ p. (log : _) → tells p1 log → tells p (log ++ events_of (None ∷ [])))
+          (sym w.peers-is)
+          (lost_then remaining contents (tells p1) (tells c.accept.new.self)
+          c.in_ok-link.field-0 w.in_default-2.is c.in_ok-link.ensures.comes))
+    ]

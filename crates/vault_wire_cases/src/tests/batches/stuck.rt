@@ -12,7 +12,7 @@ use vault_core::row::{Entry, GrantRow, MerchantRow, Record};
 use vault_pan::pan::Pan;
 use vault_pan::token::Token;
 use vault_store::memory::MemTables;
-use vault_store::tables::{Tables, TablesFault};
+use vault_store::tables::{RightRow, Tables, TablesFault};
 
 /// Tables in memory, of which every write is answered a Store fault and changes nothing.
 #[derive(Drop)]
@@ -90,6 +90,14 @@ impl Tables for Stuck {
         limit: usize,
     ) -> Result<Vec<Token>, TablesFault> {
         self.tables.dead(m, now, limit)
+    }
+
+    fn names(&mut self) -> Result<Vec<MerchantId>, TablesFault> {
+        self.tables.names()
+    }
+
+    fn rights(&mut self) -> Result<Vec<RightRow>, TablesFault> {
+        self.tables.rights()
     }
 
     fn write(&mut self, _ch: &Changes) -> Result<(), TablesFault> {

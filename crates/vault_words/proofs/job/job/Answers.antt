@@ -20,7 +20,8 @@ returns-in-Ok-try_get_matches_from g c =
     let app = app_of c.in-Ok.tree in
     let got = c.in-Ok-try_get_matches_from in
     let is = parsed app words got.matches c.in-Ok.ensures.shape got.ensures.kinds got.ensures.matches in
-    unasked words (subcommand_rows_of got.matches) is.0 is.1 c.in-Err-asked_by.ensures
+    unasked words (subcommand_rows_of got.matches) is.0 is.1 c.in-Err-asked_by.ensures c.of_value.result
+    c.of_value.ensures
 
 pub returns : goal.returns
 returns g c =

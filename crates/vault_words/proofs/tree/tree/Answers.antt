@@ -11,5 +11,6 @@ returns c =
     let h₇ = c.with-tree-7.ensures _ _ h₆ c.batch.ensures in
     let h₈ = c.with-tree-8.ensures _ _ h₇ c.serve.ensures in
     let h₉ = c.with-tree-9.ensures _ _ h₈ c.sweep.ensures in
-    let h₁₀ = c.with-tree-10.ensures _ _ h₉ c.check.ensures in
-    c.with.ensures _ _ h₁₀ c.migrate.ensures
+    let h₁₀ = c.with-tree-10.ensures _ _ h₉ c.list.ensures in
+    let h₁₁ = c.with-tree-11.ensures _ _ h₁₀ c.check.ensures in
+    c.with.ensures _ _ h₁₁ c.migrate.ensures

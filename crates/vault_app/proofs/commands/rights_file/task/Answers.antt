@@ -1,6 +1,7 @@
-use Rattle.std.proofs.Common.{inl, rules}
+use Rattle.std.proofs.Common.{inl, rules, subst, sym}
 use Rattle.vault_core.specs.Scalar.{IsMoment}
-use Rattle.vault_app.proofs.Values.{listed_proper}
+use Rattle.vault_app.proofs.Values.{listed_proper, task_proper}
+use Rattle.vault_app.specs.Values.{AreValues}
 use Rattle.vault_app.proofs.commands.rights_file.task.Goals as goal
 
 pub returns-in-Err-clause-task : goal.returns-in-Err-clause-task
@@ -9,5 +10,7 @@ returns-in-Err-clause-task g c = inl (c.in-Err.ensures.fault, c.in-Err.ensures.n
 pub returns-in-Ok-clause-proper : goal.returns-in-Ok-clause-proper
 returns-in-Ok-clause-proper g c =
     let moment : IsMoment c.in-Ok.now = search (rules, c.moment.type_inv, c.in-Ok.is) in
-    listed_proper (g.P.Paths.says c.args.paths.now c.args.job.now.rights.now) c.in-Ok.now moment
-    c.in_ok-rows.rows.items c.in_ok-rows.ensures.listed
+    subst AreValues (sym c.task_of.ensures)
+    (task_proper c.args.job.now c.in_ok-rows.rows c.in-Ok.now moment
+    (listed_proper (g.P.Paths.says c.args.paths.now c.args.job.now.rights.now) c.in-Ok.now moment
+    c.in_ok-rows.rows.items c.in_ok-rows.ensures.listed))

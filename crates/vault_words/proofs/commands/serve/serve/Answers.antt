@@ -7,5 +7,7 @@ returns c =
     let h₁ = c.add-command.ensures _ _ h₀ connections.rule connections.local in
     let port = c.number_after-port.ensures in
     let h₂ = c.add-command-2.ensures _ _ h₁ port.rule port.local in
+    let rights = c.text_after-rights.ensures in
+    let h₃ = c.add-command-3.ensures _ _ h₂ rights.rule rights.local in
     let last = c.file.ensures in
-    c.add.ensures _ _ h₂ last.rule last.local
+    c.add.ensures _ _ h₃ last.rule last.local

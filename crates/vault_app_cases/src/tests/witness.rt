@@ -1,0 +1,156 @@
+//! Runs of the program one after the other over files in memory, with a stop after each.
+use super::running::{ASKED, FIRST_TOKEN, Ran, Step, words_of};
+use vault_listen::network::Loopback;
+use vault_listen::peer::Limits;
+use vault_live::time::ClockTime;
+use vault_promise::kept::KeptFiles;
+use vault_promise::twice::twice;
+use vault_wire::watched::Watched;
+
+/// Runs the program on the words of a line and on bytes, over these files, and gives what it left of them.
+fn run_kept(
+    rt: &HostRuntime,
+    kept: KeptFiles,
+    line: &str,
+    input: &[u8],
+) -> (Ran, Option<KeptFiles>) {
+    let words = words_of(rt.alloc(), line, "vault.db");
+    let time = ClockTime::new(rt);
+    let mut network = Loopback::new(rt, Limits::of_service());
+    let mut output = Vec::new(rt.alloc());
+    let mut errors = Vec::new(rt.alloc());
+    let mut reader = Watched::new(input);
+    let mut writer = Watched::new(&mut output);
+    let mut teller = Watched::new(&mut errors);
+    let (status, left) = kept.again(
+        rt,
+        &time,
+        &mut network,
+        &words,
+        &mut reader,
+        &mut writer,
+        &mut teller,
+    );
+    let ran = Ran {
+        status,
+        output,
+        errors,
+    };
+    (ran, left)
+}
+
+/// The files after these runs, each over what a stop leaves of those that the one before it left; none, where
+/// one ends otherwise.
+fn kept_after(rt: &HostRuntime, steps: &[Step]) -> Option<KeptFiles> {
+    let mut kept = KeptFiles::begun(rt.alloc())?;
+    for (line, input, status, output, errors) in steps {
+        let (ran, left) = run_kept(rt, kept, line, input.as_bytes());
+        let left = left?;
+        if !ran.is(*status, output, errors) {
+            return None;
+        }
+        kept = left.stopped();
+    }
+    Some(kept)
+}
+
+/// A run answers a token, and later ones answer it again, with other digits and at other moments.
+const AGAIN: [Step; 6] = [
+    (
+        "vault merchant --now 1000 FILE shop1 60 0",
+        "",
+        0,
+        "done\n",
+        "",
+    ),
+    (
+        "vault grant --now 1000 FILE till-1 shop1 tokenize",
+        "",
+        0,
+        "done\n",
+        "",
+    ),
+    (
+        "vault pipe --now 1000 --digits 0 FILE",
+        ASKED,
+        0,
+        FIRST_TOKEN,
+        "",
+    ),
+    (
+        "vault pipe --now 1050 --digits 7 FILE",
+        ASKED,
+        0,
+        FIRST_TOKEN,
+        "",
+    ),
+    ("vault check FILE", "", 0, "sound 1 1 1\n", ""),
+    (
+        "vault pipe --now 1055 --digits 123 FILE",
+        ASKED,
+        0,
+        FIRST_TOKEN,
+        "",
+    ),
+];
+
+#[test]
+fn a_token_is_answered_again_by_runs_after_stops(rt: HostRuntime) {
+    assert!(rt; kept_after(&rt, &AGAIN).is_some());
+}
+
+/// What two calls of `pipe` sent, the first with the digit 0 and the second with the digit 7 and at a later
+/// moment.
+fn sent_twice(rt: &HostRuntime, kept: KeptFiles) -> Option<Vec<u8>> {
+    let words = words_of(
+        rt.alloc(),
+        "vault pipe --now 1000 --digits 0 FILE",
+        "vault.db",
+    );
+    let later = words_of(
+        rt.alloc(),
+        "vault pipe --now 1050 --digits 7 FILE",
+        "vault.db",
+    );
+    let time = ClockTime::new(rt);
+    let mut network = Loopback::new(rt, Limits::of_service());
+    let mut output = Vec::new(rt.alloc());
+    let mut errors = Vec::new(rt.alloc());
+    let mut first = Watched::new(ASKED.as_bytes());
+    let mut second = Watched::new(ASKED.as_bytes());
+    let mut writer = Watched::new(&mut output);
+    let mut teller = Watched::new(&mut errors);
+    let (status, again, _left) = twice(
+        rt,
+        kept,
+        &time,
+        &mut network,
+        &words,
+        &later,
+        &mut first,
+        &mut second,
+        &mut writer,
+        &mut teller,
+    )?;
+    if status != 0 || again != 0 {
+        return None;
+    }
+    Some(output)
+}
+
+/// Whether two calls after a shop is set up answer the same token twice.
+fn is_answered_twice(rt: &HostRuntime) -> bool {
+    let Some(kept) = kept_after(rt, &AGAIN[..2]) else {
+        return false;
+    };
+    let Some(sent) = sent_twice(rt, kept) else {
+        return false;
+    };
+    let (first, second) = sent.split_at(sent.len() / 2);
+    first == FIRST_TOKEN.as_bytes() && second == FIRST_TOKEN.as_bytes()
+}
+
+#[test]
+fn two_calls_answer_one_token(rt: HostRuntime) {
+    assert!(rt; is_answered_twice(&rt));
+}

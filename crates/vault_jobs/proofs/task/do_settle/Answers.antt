@@ -1,0 +1,47 @@
+use Rattle.std.proofs.Common.{◌∙◌, ap, codes, decimal, inl, inr, refl, subst}
+use Rattle.std.specs.Io.KnownBytes.{Appends}
+use Rattle.vault_wire.specs.Watching.{inner_of}
+use Rattle.vault_jobs.proofs.Lines.{five}
+use Rattle.vault_jobs.proofs.task.do_settle.Goals as goal
+
+pub returns-in-Ok-clause-does : goal.returns-in-Ok-clause-does
+returns-in-Ok-clause-does g c =
+    let it = c.in-Ok-Done-default in
+    inl (
+      it.changes,
+      it.ensures.changes,
+      (
+        c.in-Ok.ensures.handed_on,
+        subst (Appends (g.W.Write.contents (inner_of c.args.output.now))
+            (g.W.Write.contents (inner_of c.answer.new.output)))
+            (five (codes "granted ") c.format.result.now _ (codes " withdrawn ")
+            c.format-in-Ok-Done-default.result.now _ (codes "\n") c.format.ensures.text
+            (c.format-in-Ok-Done-default.ensures.text ∙ ap decimal c.withdrawn.ensures))
+            c.in-Ok.ensures.answered,
+        rw it.field-0-0-is at it.ensures.carried,
+      ),
+    )
+
+pub returns-in-Ok-Done-default-clause-does : goal.returns-in-Ok-Done-default-clause-does
+returns-in-Ok-Done-default-clause-does g c =
+    let it = c.in-Ok-Done-default in
+    inl (
+      it.changes,
+      it.ensures.changes,
+      (
+        c.in-Err-answer.ensures.failed.0,
+        c.in-Err-answer.ensures.failed.1,
+        rw it.field-0-0-is at it.ensures.carried,
+      ),
+    )
+
+pub returns-in-Ok-Refused-default-clause-does : goal.returns-in-Ok-Refused-default-clause-does
+returns-in-Ok-Refused-default-clause-does g c =
+    let it = c.in-Ok-Refused-default in
+    inl (it.field-0-1, it.ensures.changes, (refl, rw it.field-0-0-is at it.ensures.carried))
+
+pub returns-clause-does : goal.returns-clause-does
+returns-clause-does g c = elim c.in-Err.ensures.failed [
+  | inl (changes, of, h) ↦ inl (changes, of, (refl, h))
+  | inr h ↦ inr (c.in-Err.fault, refl, refl, h)
+]

@@ -1,0 +1,67 @@
+//! Whether a merchant's moment is far ahead of the clock's.
+ghost use Rattle.std.specs.Prelude.{◌≡◌, Err, IfErr, IfOk, Option, false, true};
+ghost use Rattle.std.specs.Option.{option_map_or};
+ghost use Rattle.vault_core.specs.Vault.{Vault as Content};
+ghost use Rattle.vault_store.specs.Applied.{is_broken, tables_of};
+ghost use Rattle.vault_http.specs.Passing.{IsBefore, Keeps, Passage};
+ghost use Rattle.vault_listen.specs.Peers.{vault_passing};
+ghost use Rattle.vault_jobs.specs.Ahead.{is_far_ahead, is_merchant_ahead, moment_ahead, moment_among};
+ghost use Rattle.vault_jobs.specs.Doing.{FailsToRead};
+
+use vault_core::moment::Moment;
+use vault_core::name::MerchantId;
+use vault_store::listing::NamedRow;
+use vault_store::tables::Tables;
+use vault_store::vault::{Fault, Vault};
+
+/// A sweep at the clock's moment is refused by this number, where the merchant's is far ahead of it.
+pub const MOMENT_AHEAD: u8 = 81;
+
+/// The most seconds by which a merchant's moment may be ahead of the clock's: those of a day.
+const MOST_AHEAD: u64 = 86_400;
+
+/// The moment of a merchant by the first row that has its name.
+fn moment_by(rows: &[NamedRow], merchant: MerchantId) -> Option<Moment>
+    ensures { result ≡ moment_among merchant rows.now }
+{
+    for (name, row) in rows {
+        if *name == merchant {
+            return Some(row.moment);
+        }
+    }
+    None
+}
+
+/// Whether a merchant's moment by its row is more than a day ahead of this one; not, where it has no row.
+fn is_row_ahead(rows: &[NamedRow], merchant: MerchantId, now: Moment) -> bool
+    ensures { result ≡ option_map_or (is_far_ahead now) (moment_among merchant rows.now) false }
+{
+    match moment_by(rows, merchant) {
+        Some(moment) => moment.seconds() > now.seconds() + MOST_AHEAD,
+        None => false,
+    }
+}
+
+/// Whether a merchant's moment is more than a day ahead of this one; not, where it isn't known. Nothing
+/// changes.
+///
+/// 20 Memory: memory was refused. 21 Store: the store failed.
+pub(crate) fn is_ahead<T: Tables>(
+    vault: &mut Vault<T>,
+    merchant: MerchantId,
+    now: Moment,
+) -> Result<bool, Fault>
+    requires { is_broken vault.old ≡ false }
+    ensures told { let w : Passage = vault_passing T.is_honest T.holds T.leaves vault.old vault.new in
+        IfOk result (λ ahead. (V : Content) → IsBefore w V
+        → (ahead ≡ is_merchant_ahead V merchant now) × Keeps w V) }
+    ensures failed { let w : Passage = vault_passing T.is_honest T.holds T.leaves vault.old vault.new in
+        IfErr result (FailsToRead w (is_broken vault.new)) }
+    ensures broken { is_broken vault.new ≡ true → result ≡ Err Fault.Store }
+    ensures honest { T.is_honest (tables_of vault.new) → T.is_honest (tables_of vault.old) }
+{
+    match vault.merchants() {
+        Ok(rows) => Ok(is_row_ahead(rows.as_slice(), merchant, now)),
+        Err(fault) => Err(fault),
+    }
+}

@@ -1,0 +1,162 @@
+//! The rights of a vault made exactly those of a list, or what would change said.
+ghost use Rattle.std.specs.Prelude.{◌≡◌, ◌⊎◌, All, Err, IfErr, IfOk, Ok, false, true};
+ghost use Rattle.vault_core.specs.Vault.{Vault as Content};
+ghost use Rattle.vault_store.specs.Applied.{is_broken, tables_of};
+ghost use Rattle.vault_http.specs.Passing.{IsBefore, Keeps, Passage};
+ghost use Rattle.vault_listen.specs.Peers.{vault_passing};
+ghost use Rattle.vault_jobs.specs.Carried.{IsCarriedOut};
+ghost use Rattle.vault_jobs.specs.Changes.{AreChangesOf};
+ghost use Rattle.vault_jobs.specs.Doing.{FailsToRead, Settles};
+ghost use Rattle.vault_jobs.specs.Grants.{CarriesAll};
+ghost use Rattle.vault_jobs.specs.Listing.{shown_text};
+
+use crate::carry::carry_all;
+use crate::change::Verdict;
+use crate::changes::{Changes, ListedRight, changes_of};
+use crate::show::{Form, Shown, changes_text, list_text};
+use std::alloc::Global;
+use vault_core::moment::Moment;
+use vault_store::tables::Tables;
+use vault_store::vault::{Fault, Vault};
+
+/// What has to change so that a vault's rights are those of a list; where `exact` is false, no right is
+/// withdrawn. Nothing changes by the call.
+///
+/// 20 Memory: memory was refused. 21 Store: the store failed.
+pub(crate) fn changes_to<T: Tables>(
+    alloc: Global,
+    vault: &mut Vault<T>,
+    exact: bool,
+    rows: &[ListedRight],
+    now: Moment,
+) -> Result<Changes, Fault>
+    requires { is_broken vault.old ≡ false }
+    ensures found { let w : Passage = vault_passing T.is_honest T.holds T.leaves vault.old vault.new in
+        IfOk result (λ it. (V : Content) → IsBefore w V
+        → AreChangesOf exact now rows.now V it × Keeps w V) }
+    ensures carried { IfOk result (λ it. All IsCarriedOut it.commands.items) }
+    ensures failed { let w : Passage = vault_passing T.is_honest T.holds T.leaves vault.old vault.new in
+        IfErr result (FailsToRead w (is_broken vault.new)) }
+    ensures broken { is_broken vault.new ≡ true → result ≡ Err Fault.Store }
+    ensures honest { T.is_honest (tables_of vault.new) → T.is_honest (tables_of vault.old) }
+{
+    let held = match vault.rights() {
+        Ok(held) => held,
+        Err(fault) => return Err(fault),
+    };
+    match changes_of(alloc, exact, rows, held.as_slice(), now) {
+        Ok(changes) => Ok(changes),
+        Err(_) => Err(Fault::Memory),
+    }
+}
+
+/// Makes the rights of a vault exactly those of a list: gives those that are missing, in the list's order,
+/// and then withdraws those that it doesn't have. It ends with the first that is refused: by 7 where the
+/// merchant isn't known, and then nothing is withdrawn. The changes are handed out.
+///
+/// 20 Memory: memory was refused. 21 Store: the store failed.
+pub(crate) fn settle<T: Tables>(
+    alloc: Global,
+    vault: &mut Vault<T>,
+    rows: &[ListedRight],
+    now: Moment,
+) -> Result<(Verdict, Changes), Fault>
+    requires { is_broken vault.old ≡ false }
+    ensures changes { let w : Passage = vault_passing T.is_honest T.holds T.leaves vault.old vault.new in
+        IfOk result (λ it. (V : Content) → IsBefore w V → AreChangesOf true now rows.now V it.1) }
+    ensures carried { let w : Passage = vault_passing T.is_honest T.holds T.leaves vault.old vault.new in
+        IfOk result (λ it. CarriesAll it.1.commands.items w (is_broken vault.new) (Ok it.0)) }
+    ensures failed { let w : Passage = vault_passing T.is_honest T.holds T.leaves vault.old vault.new in
+        IfErr result (λ f. Settles now rows.now w (is_broken vault.new) (Err f)
+        ⊎ FailsToRead w (is_broken vault.new) f) }
+    ensures broken { is_broken vault.new ≡ true → result ≡ Err Fault.Store }
+    ensures honest { T.is_honest (tables_of vault.new) → T.is_honest (tables_of vault.old) }
+{
+    let changes = match changes_to(alloc, vault, true, rows, now) {
+        Ok(changes) => changes,
+        Err(fault) => return Err(fault),
+    };
+    match carry_all(vault, changes.commands.as_slice()) {
+        Ok(verdict) => Ok((verdict, changes)),
+        Err(fault) => Err(fault),
+    }
+}
+
+/// The merchants and the rights of a vault in lines. Nothing changes.
+///
+/// 20 Memory: memory was refused. 21 Store: the store failed.
+fn listing_of<T: Tables>(alloc: Global, vault: &mut Vault<T>, form: Form) -> Result<Vec<u8>, Fault>
+    requires { is_broken vault.old ≡ false }
+    ensures text { let w : Passage = vault_passing T.is_honest T.holds T.leaves vault.old vault.new in
+        IfOk result (λ text. (V : Content) → IsBefore w V
+        → (text.items ≡ shown_text (Shown.Listing form) V) × Keeps w V) }
+    ensures failed { let w : Passage = vault_passing T.is_honest T.holds T.leaves vault.old vault.new in
+        IfErr result (FailsToRead w (is_broken vault.new)) }
+    ensures broken { is_broken vault.new ≡ true → result ≡ Err Fault.Store }
+    ensures honest { T.is_honest (tables_of vault.new) → T.is_honest (tables_of vault.old) }
+{
+    let merchants = match vault.merchants() {
+        Ok(merchants) => merchants,
+        Err(fault) => return Err(fault),
+    };
+    let rights = match vault.rights() {
+        Ok(rights) => rights,
+        Err(fault) => return Err(fault),
+    };
+    match list_text(alloc, form, merchants.as_slice(), rights.as_slice()) {
+        Ok(text) => Ok(text),
+        Err(_) => Err(Fault::Memory),
+    }
+}
+
+/// The lines of what would change by a list of rights. Nothing changes.
+///
+/// 20 Memory: memory was refused. 21 Store: the store failed.
+fn difference_of<T: Tables>(
+    alloc: Global,
+    vault: &mut Vault<T>,
+    exact: bool,
+    rows: &Vec<ListedRight>,
+    now: Moment,
+) -> Result<Vec<u8>, Fault>
+    requires { is_broken vault.old ≡ false }
+    ensures text { let w : Passage = vault_passing T.is_honest T.holds T.leaves vault.old vault.new in
+        IfOk result (λ text. (V : Content) → IsBefore w V
+        → (text.items ≡ shown_text (Shown.Changes exact rows.now now) V) × Keeps w V) }
+    ensures failed { let w : Passage = vault_passing T.is_honest T.holds T.leaves vault.old vault.new in
+        IfErr result (FailsToRead w (is_broken vault.new)) }
+    ensures broken { is_broken vault.new ≡ true → result ≡ Err Fault.Store }
+    ensures honest { T.is_honest (tables_of vault.new) → T.is_honest (tables_of vault.old) }
+{
+    let changes = match changes_to(alloc, vault, exact, rows.as_slice(), now) {
+        Ok(changes) => changes,
+        Err(fault) => return Err(fault),
+    };
+    match changes_text(alloc, changes.commands.as_slice()) {
+        Ok(text) => Ok(text),
+        Err(_) => Err(Fault::Memory),
+    }
+}
+
+/// What is said of a vault. Nothing changes.
+///
+/// 20 Memory: memory was refused. 21 Store: the store failed.
+pub(crate) fn text_of<T: Tables>(
+    alloc: Global,
+    vault: &mut Vault<T>,
+    shown: &Shown,
+) -> Result<Vec<u8>, Fault>
+    requires { is_broken vault.old ≡ false }
+    ensures text { let w : Passage = vault_passing T.is_honest T.holds T.leaves vault.old vault.new in
+        IfOk result (λ text. (V : Content) → IsBefore w V
+        → (text.items ≡ shown_text shown.now V) × Keeps w V) }
+    ensures failed { let w : Passage = vault_passing T.is_honest T.holds T.leaves vault.old vault.new in
+        IfErr result (FailsToRead w (is_broken vault.new)) }
+    ensures broken { is_broken vault.new ≡ true → result ≡ Err Fault.Store }
+    ensures honest { T.is_honest (tables_of vault.new) → T.is_honest (tables_of vault.old) }
+{
+    match shown {
+        Shown::Listing(form) => listing_of(alloc, vault, *form),
+        Shown::Changes(exact, rows, now) => difference_of(alloc, vault, *exact, rows, *now),
+    }
+}

@@ -1,0 +1,28 @@
+-- What makes rights exactly those of a list leaves these and no others.
+use Rattle.std.specs.Prelude.{◌≡◌, ℕ, true, List, Option, find, length, option_map}
+use Rattle.std.specs.List.Sorted.{IsStrictlySortedBy}
+use Rattle.std.specs.Ordering.{eq_by_cmp}
+use Rattle.vault_core.specs.Keys.{Bytes, right_cmp}
+use Rattle.vault_core.specs.Runs.{run}
+use Rattle.vault_core.specs.Vault.{Vault as Content, right_at}
+use Rattle.vault_core.specs.declared.right.Right.{Right}
+use Rattle.vault_rights.specs.Named.{Row, row_cmp}
+use Rattle.vault_jobs.specs.Changes.{Key, changes_at, right_of, rights_of}
+use Rattle.vault_jobs.specs.Grants.{AreDone}
+
+-- the end of a right in a list, where it is listed
+abbrev pub listed_end : List Row → Key → Option (Option ℕ)
+listed_end rows right =
+    option_map (λ row. row.3) (find (λ row. eq_by_cmp right_cmp (right_of row) right) rows)
+
+-- each right of the vault is listed, with its end, and each that is listed is there
+abbrev pub AreRights : List Row → Content → Type 0
+AreRights rows V = (caller m : Bytes) (right : Right)
+    → option_map (λ g. g.ends) (right_at V caller m right) ≡ listed_end rows (caller, (m, right))
+
+-- So it is of every vault once the changes are done that a list asks for, whose rows are in order and each
+-- once, as a rights file gives them.
+abbrev pub RightsBecomeExact : Type 0
+RightsBecomeExact = (now : ℕ) (rows : List Row) (V : Content) → IsStrictlySortedBy row_cmp rows
+    → AreDone (length (changes_at true now rows (rights_of V))) (changes_at true now rows (rights_of V)) V
+    → AreRights rows (run (changes_at true now rows (rights_of V)) V)

@@ -1,0 +1,33 @@
+-- A run that a call of the program was.
+use Rattle.std.specs.Prelude.{◌≡◌, ℕ, ◌++◌, List, Option}
+use Rattle.clap.specs.Words.{Text}
+use Rattle.sqlite_disk.specs.declared.Disk.{Ghosts}
+use Rattle.sqlite_store.specs.declared.store.FileStore.{FileStore}
+use Rattle.sqlite_wal.specs.Recovery.{Image}
+use Rattle.vault_listen.specs.Peers.{Event, Link, events_of}
+use Rattle.vault_wire.specs.declared.watched.Watched.{Watched}
+use Rattle.vault_jobs.specs.Streams.{Known, streams, with_links}
+use Rattle.vault_app.specs.Jobs.{RunsAs}
+use Rattle.vault_app.specs.World.{World}
+use Rattle.vault_promise.specs.Runs.{IsFound, Leaves, Run}
+
+-- The run is what a call with these words, over these streams, in this world, did by the clause of `run`. Its
+-- file held the bytes with which the run begins, and what may be left now may be left of the files that it
+-- left. It ended with this status, and the network told its connections.
+module _ {D R W E : Type 0} (g : Ghosts D) (remaining : R → Known) (contents : W → Known) (said : E → Known)
+    (told_old told_new : List Event → Type 0) (world : World) (words : List Text) (status : ℕ)
+    (i i' : Watched R) (o o' : Watched W) (e e' : Watched E) where
+  pub record IsCallOf (MayBeLeft : Image → Type 0) (r : Run) : Type 0 where
+    pub left : Option (FileStore D g)
+    pub told : Watched W
+    pub links : List (Option Link)
+    pub came : (log : List Event) → told_old log → told_new (log ++ events_of links)
+    pub does : RunsAs remaining contents said world left words status links i i' o told o' e e'
+    pub is : r ≡ record {
+      begins = r.begins;
+      words = words;
+      ending = does.ending;
+      streams = with_links (streams remaining i i' contents o told) links;
+    }
+    pub found : IsFound words (λ path. world.holds path r.begins)
+    pub leaves : (next : Image) → MayBeLeft next → Leaves r.begins left next

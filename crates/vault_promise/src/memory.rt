@@ -1,0 +1,63 @@
+//! Files in memory, as the files at every path.
+ghost use Rattle.std.specs.Prelude.{◌↔◌, IsTrue};
+ghost use Rattle.vault_file.specs.Found.{IsNoPath};
+
+use sqlite::{Connection, FileStore, Files};
+use sqlite_disk::Memory;
+use std::io;
+use std::io::ErrorKind;
+use vault_file::paths::Paths;
+use vault_recover::options::Cache;
+use vault_recover::reopen::open_files;
+
+/// Whether the words name no file.
+fn names_no_file(path: &str) -> bool
+    ensures { IsTrue result ↔ IsNoPath path.now }
+{
+    path.is_empty() || path == ":memory:" || path.starts_with("file:")
+}
+
+/// Files in memory that lie at every path.
+#[derive(Drop)]
+pub struct MemoryPaths {
+    pub(crate) files: Files<Memory>,
+}
+
+/// The bytes are those of the files, whichever path is named; and nothing else is told.
+impl Paths for MemoryPaths {
+    ghost use Rattle.std.specs.Prelude.{◌≡◌};
+    ghost use Rattle.vault_promise.specs.Memory.{bytes_in};
+
+    type Disk = Memory;
+
+    ghost holds = { λ paths _ image. image ≡ bytes_in paths.files };
+
+    ghost lacks = { λ _ _. Unit {0} };
+
+    ghost refuses = { λ _ _. Unit {0} };
+
+    ghost says = { λ _ _ _. Unit {0} };
+
+    fn is_missing(&self, _rt: &HostRuntime, _path: &str) -> bool {
+        false
+    }
+
+    fn read(&self, _rt: &HostRuntime, _path: &str) -> io::Result<Vec<u8>> {
+        Err(io::Error::from(ErrorKind::NotFound))
+    }
+
+    fn open(
+        self,
+        rt: &HostRuntime,
+        path: &str,
+        _cache: Cache,
+    ) -> Option<Connection<FileStore<Memory>>> {
+        if names_no_file(path) {
+            return None;
+        }
+        match open_files(rt.alloc(), self.files) {
+            Some(conn) => Some(conn),
+            None => None,
+        }
+    }
+}

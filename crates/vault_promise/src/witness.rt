@@ -1,0 +1,91 @@
+//! A call of the program, after the runs before it.
+ghost use Rattle.std.specs.Prelude.{◌≡◌, IfSome, map};
+ghost use Rattle.sqlite_wal.specs.Recovery.{Image};
+ghost use Rattle.vault_app.specs.World.{World, world_of};
+ghost use Rattle.vault_core.specs.Vault.{Vault};
+ghost use Rattle.vault_promise.specs.Between.{files_kept};
+ghost use Rattle.vault_promise.specs.Kept.{AgreesWith, GoesOn, StandsAfter};
+ghost use Rattle.vault_promise.specs.Memory.{MayBeLeftIn, bytes_in, memory_world};
+ghost use Rattle.vault_promise.specs.Runs.{IsFound, IsRun, Leaves, Run};
+ghost use Rattle.vault_promise.specs.Witness.{IsCallOf};
+
+use crate::kept::{KeptFiles, files_of};
+use crate::memory::MemoryPaths;
+use crate::{answers_again, answers_stand, promise_is_kept};
+use sqlite::FileStore;
+use sqlite_disk::{Disk, Memory};
+use std::convert::AsStr;
+use std::io::{Read, Write};
+use vault_app::run::run;
+use vault_file::paths::Paths;
+use vault_listen::network::Network;
+use vault_live::time::Timekeeper;
+use vault_wire::watched::Watched;
+
+/// Runs the program, and answers its exit status and the files that it leaves.
+///
+/// By the promise this call is a run: from whatever bytes its file holds, up to whatever bytes may be left of
+/// the files.
+pub fn run_again<P: Paths, K: Timekeeper, N: Network, A: AsStr, R: Read, W: Write, E: Write>(
+    rt: &HostRuntime,
+    paths: P,
+    time: &K,
+    network: &mut N,
+    words: &[A],
+    input: &mut Watched<R>,
+    output: &mut Watched<W>,
+    errors: &mut Watched<E>,
+) -> (u8, Option<FileStore<P::Disk>>)
+    ensures { let world : World =
+        world_of (K.tells time.now) (P.holds paths) (P.lacks paths) (P.refuses paths) (P.says paths) in
+        (image : Image) → IsFound (map A.text words.now) (λ path. P.holds paths path image)
+        → (r : Run) × (r.begins ≡ image)
+        × IsCallOf P.Disk.Disk R.remaining W.contents E.contents (N.tells network.old) (N.tells network.new)
+        world (map A.text words.now) result.0 input.old input.new output.old output.new errors.old
+        errors.new (Leaves image result.1) r
+        × ((next : Image) → Leaves image result.1 next → IsRun r next) }
+{
+    promise_is_kept::<P, K, R, W, E>();
+    run(rt, paths, time, network, words, input, output, errors)
+}
+
+impl KeptFiles {
+    /// Runs the program once more on the files, and answers its exit status and the files again; none, where
+    /// they weren't opened.
+    ///
+    /// This very call is a run after those before it, and what each of them answered stands in those after it. A
+    /// request that one of them answered a token, if this one is asked it again, is answered that token.
+    pub fn again<K: Timekeeper, N: Network, A: AsStr, R: Read, W: Write, E: Write>(
+        self,
+        rt: &HostRuntime,
+        time: &K,
+        network: &mut N,
+        words: &[A],
+        input: &mut Watched<R>,
+        output: &mut Watched<W>,
+        errors: &mut Watched<E>,
+    ) -> (u8, Option<KeptFiles>)
+        ensures follows { IfSome result.1 (λ kept. (r : Run) × (r.begins ≡ bytes_in (files_kept self))
+            × IsCallOf ⟦<Memory as Disk>⟧ R.remaining W.contents E.contents (N.tells network.old)
+            (N.tells network.new) (memory_world (K.tells time.now) (bytes_in (files_kept self)))
+            (map A.text words.now) result.0 input.old input.new output.old output.new errors.old errors.new
+            (MayBeLeftIn (files_kept kept)) r
+            × GoesOn (MayBeLeftIn (files_kept self)) r (MayBeLeftIn (files_kept kept))
+            × AgreesWith (MayBeLeftIn (files_kept self)) r) }
+        ensures stands { IfSome result.1 (λ kept. StandsAfter (MayBeLeftIn (files_kept kept))) }
+    {
+        answers_stand::<MemoryPaths, K, R, W, E>();
+        answers_again::<MemoryPaths, K, R, W, E>();
+        let paths = MemoryPaths { files: self.files };
+        let (status, left) = run_again(rt, paths, time, network, words, input, output, errors);
+        match left {
+            Some(store) => (
+                status,
+                Some(KeptFiles {
+                    files: files_of(store),
+                }),
+            ),
+            None => (status, None),
+        }
+    }
+}

@@ -1,0 +1,17 @@
+use Rattle.std.proofs.Common.{option_map, refl}
+use Rattle.vault_core.specs.Vault.{merchant_at}
+use Rattle.vault_schema.specs.Stands.{lives_in}
+use Rattle.vault_schema.specs.Version4.Tables.{tables4, indexes4}
+use Rattle.vault_schema.proofs.Newest.{merchant_table}
+use Rattle.vault_schema.proofs.Version3.Texts.{read_merchants_is}
+use Rattle.vault_rows.proofs.Calls.{tells}
+use Rattle.vault_rows.proofs.Listed.{shows_all}
+use Rattle.vault_rows.proofs.merchants.all_merchants.Goals as goal
+
+pub returns : goal.returns
+returns g c =
+    tells (read_merchants_is tables4 indexes4) c.rows_of.ensures.reads (λ rows. rows.items) _
+    c.rows_of.ensures.told
+    (λ V cards pointing rows joined it shown.
+    shows_all _ _ it _ rows.items shown merchant_table (λ m. option_map lives_in (merchant_at V m))
+    (λ are. are) _ (read_merchants_is tables4 indexes4) refl (λ k x. refl))
