@@ -5,3 +5,4 @@ pub mod Entered
 pub mod Inside
 pub mod Leading
 pub mod OneStand
+pub mod Replacing
