@@ -5,11 +5,14 @@ ghost use Rattle.std.specs.List.{All};
 ghost use Rattle.vault_core.specs.Name.{IsName};
 ghost use Rattle.vault_core.specs.Numbers.{use_number};
 ghost use Rattle.vault_migrate.specs.Typed.{old_columns, typed_columns};
-ghost use Rattle.vault_verdict.specs.Raw.{int_value, maybe_text_value, old_entry_values};
+ghost use Rattle.sql_stored.specs.Values.{int_value, maybe_text_value};
+ghost use Rattle.vault_verdict.specs.Raw.{old_entry_values};
 ghost use Rattle.vault_pan.specs.CardText.{IsToken};
 ghost use Rattle.vault_schema.specs.Version1.Rows.{entry_columns, number_or_null, text_or_null};
 ghost use Rattle.vault_steps.specs.Entries.{AreStorable, joined};
 
+use sql_stored::fault::ReadFault;
+use sql_stored::text::RowText;
 use std::alloc::{AllocError, Global};
 use vault_core::moment::Moment;
 use vault_core::name::MerchantId;
@@ -18,9 +21,7 @@ use vault_core::usage::Use;
 use vault_pan::pan::Pan;
 use vault_pan::token::Token;
 use vault_steps::entries::{PIECE, Piece};
-use vault_verdict::fault::ReadFault;
 use vault_verdict::replaced::OldEntry;
-use vault_verdict::text::RowText;
 
 /// The name of a merchant.
 fn merchant_of(text: &str) -> Result<MerchantId, ReadFault>

@@ -5,7 +5,7 @@ use Rattle.std.proofs.lemmas.Bool.Decides.{nat_tests}
 use Rattle.std.proofs.lemmas.Grind.{common_steps}
 use Rattle.vault_schema.specs.Stands.{unless_zero}
 use Rattle.vault_schema.specs.Version1.Rows.{number_or_null}
-use Rattle.vault_verdict.specs.Raw.{int_value}
+use Rattle.sql_stored.specs.Values.{int_value}
 
 -- a count that has no row is 0
 pub none_unless : (n : ℕ) → unless_zero n ≡ None → n ≡ 0

@@ -12,9 +12,9 @@ use Rattle.sqlite_rules.proofs.ProbeLemmas.{has_mapped, mapped_has}
 use Rattle.sqlite_rules.specs.Lists.{Has}
 use Rattle.vault_verdict.proofs.KeptApart.{has_kept}
 use Rattle.vault_verdict.specs.Made.{as_card}
-use Rattle.vault_verdict.specs.Raw.{row_text_value}
+use Rattle.sql_stored.specs.Values.{row_text_value}
 use Rattle.vault_verdict.specs.declared.replaced.OldEntry.{OldEntry}
-use Rattle.vault_verdict.specs.declared.text.RowText.{RowText}
+use Rattle.sql_stored.specs.declared.text.RowText.{RowText}
 
 -- the number that a row begins with
 abbrev pub number_at : Row → ℤ

@@ -29,6 +29,7 @@ use Rattle.vault_verdict.proofs.VersionRows.{one_shown}
 use Rattle.vault_verdict.specs.Opened.{AreVersions}
 use Rattle.vault_verdict.specs.ReadAs.{merchants_in, rights_in}
 use Rattle.vault_verdict.specs.Raw.{version_values}
+use Rattle.sql_stored.specs.Values.{int_value}
 use Rattle.vault_verdict.specs.Raw as raw
 use Rattle.vault_verdict.specs.Reading.{shown_by, version_columns}
 use Rattle.vault_rules.proofs.Counts.{count_total, count_cases}
@@ -232,6 +233,6 @@ module _ (v : Version) (db : Trees) (V : Vault) (rows : Rows) (claimed : AreShar
             (natural r.request, it.0, grind (arith, it.1), it.2, shown);
         rights = λ r h.
             let it = pair_of tables.rights _ claimed.rights_are claimed.rights r h in
-            let ends : raw.int_value r.ends ≡ number_or_null it.0.ends = grind (arith, it.1) in
+            let ends : int_value r.ends ≡ number_or_null it.0.ends = grind (arith, it.1) in
             (right_of r.what, it.0, grind (arith, it.1), it.2, moment_told r.ends it.0.ends ends);
       }

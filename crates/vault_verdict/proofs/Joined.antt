@@ -18,10 +18,11 @@ use Rattle.vault_rules.specs.declared.records.Records.{Records}
 use Rattle.vault_rules.specs.declared.rows.RawEntry.{RawEntry}
 use Rattle.vault_rules.specs.declared.rows.RawRecord.{RawRecord}
 use Rattle.vault_verdict.specs.Raw.{record_values}
-use Rattle.vault_verdict.specs.Reading.{AreEntriesIn, AreTable, AreTaken, IsAny}
+use Rattle.sql_stored.specs.Reading.{AreTable, IsAny}
+use Rattle.vault_verdict.specs.Reading.{AreEntriesIn, AreTaken}
 use Rattle.vault_verdict.specs.Taken.{EntriesTaken, RecordsTaken}
-use Rattle.vault_verdict.specs.declared.fault.ReadFault.{ReadFault}
-use Rattle.vault_verdict.specs.declared.fault.ReadFault.TheVariants.{Memory, Store}
+use Rattle.sql_stored.specs.declared.fault.ReadFault.{ReadFault}
+use Rattle.sql_stored.specs.declared.fault.ReadFault.TheVariants.{Memory, Store}
 use Rattle.vault_verdict.specs.declared.replaced.OldEntry.{OldEntry}
 use Rattle.vault_verdict.proofs.InVersion.{behind, indexes_behind, schema_is}
 

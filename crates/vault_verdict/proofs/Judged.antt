@@ -24,11 +24,14 @@ use Rattle.vault_verdict.specs.Opened.{AreRaws, AreVersions, IsBrokenIn, IsFit, 
 use Rattle.vault_verdict.specs.Opened.{AreOldersIn, IsOtherVersion, IsSoundIn, IsVersionIn, StandsSoundIn}
 use Rattle.vault_verdict.specs.Raw.{card_row, card_values, count_values, entry_values, merchant_values}
 use Rattle.vault_verdict.specs.Raw.{old_entry_values, record_values, right_values}
-use Rattle.vault_verdict.specs.ReadAs.{AreEntries, AreFull, AreLonger, IsFullIn, merchants_in, replaced_in}
+use Rattle.sql_stored.specs.Reading.{AreLonger}
+use Rattle.vault_verdict.specs.ReadAs.{AreEntries, AreFull, IsFullIn, merchants_in, replaced_in}
 use Rattle.vault_verdict.specs.ReadAs.{rights_in}
 use Rattle.vault_verdict.specs.Judging.{AreOnward}
-use Rattle.vault_verdict.specs.Reading.{AreCardsIn, AreEntriesIn, AreFirst, AreRightsFull, AreTable}
-use Rattle.vault_verdict.specs.Reading.{IsAny, IsOurs}
+use Rattle.sql_stored.specs.Reading.{AreTable}
+use Rattle.vault_verdict.specs.Reading.{AreCardsIn, AreEntriesIn, AreFirst, AreRightsFull}
+use Rattle.sql_stored.specs.Reading.{IsAny}
+use Rattle.vault_verdict.specs.Reading.{IsOurs}
 use Rattle.vault_verdict.specs.declared.first.First.{First}
 use Rattle.vault_verdict.specs.declared.replaced.OldEntry.{OldEntry}
 use Rattle.vault_core.specs.Keys.{Bytes}

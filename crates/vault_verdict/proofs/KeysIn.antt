@@ -25,6 +25,7 @@ use Rattle.vault_verdict.proofs.Table.{keys_apart}
 use Rattle.vault_verdict.proofs.Tables as tables
 use Rattle.vault_verdict.specs.Apart.{AreApart}
 use Rattle.vault_verdict.specs.Opened.{AreRaws}
+use Rattle.sql_stored.specs.Values.{int_value}
 use Rattle.vault_verdict.specs.Raw as raw
 use Rattle.vault_verdict.specs.ReadAs.{AreCards, AreOlders, endless, merchants_in, rights_in, with_six}
 use Rattle.vault_verdict.specs.declared.replaced.OldEntry.{OldEntry}
@@ -48,11 +49,11 @@ module _ (rows : List Row) (items : List RawMerchant)
 module _ (rows : List Row) (items : List RawRight)
     (are : IsPermutation (map endless rows) (map raw.right_values items)) where
   pub old_rights_are : IsPermutation rows (map tables.old_right_values items)
-  old_rights_are = stand_narrow raw.right_values tables.old_right_values (λ r. raw.int_value r.ends)
+  old_rights_are = stand_narrow raw.right_values tables.old_right_values (λ r. int_value r.ends)
       (λ r. refl) Null rows items are
 
-  pub each_endless : (r : RawRight) → Has items r → raw.int_value r.ends ≡ Null
-  each_endless = each_has raw.right_values tables.old_right_values (λ r. raw.int_value r.ends)
+  pub each_endless : (r : RawRight) → Has items r → int_value r.ends ≡ Null
+  each_endless = each_has raw.right_values tables.old_right_values (λ r. int_value r.ends)
       (λ r. refl) Null
       rows items are
 

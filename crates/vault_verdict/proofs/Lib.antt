@@ -1,5 +1,6 @@
 pub mod AllApart
 pub mod Backs
+pub mod Beside
 pub mod CardRows
 pub mod Climbing
 pub mod FromStands
@@ -18,13 +19,11 @@ pub mod Onward
 pub mod Opening
 pub mod Permuted
 pub mod Pointers
-pub mod Readings
 pub mod Results
 pub mod Rising
 pub mod ShownCards
 pub mod StandsShow
 pub mod Stood
-pub mod Streamed
 pub mod Table
 pub mod Tables
 pub mod TheyStand

@@ -20,11 +20,12 @@ use Rattle.vault_verdict.proofs.Permuted.{apart_as}
 use Rattle.vault_verdict.proofs.Table.{keys_apart, stand_for}
 use Rattle.vault_verdict.proofs.Tables.{old_entries}
 use Rattle.vault_verdict.specs.Made.{as_entry}
-use Rattle.vault_verdict.specs.Raw.{entry_values, int_value, maybe_text_value, old_entry_values}
+use Rattle.sql_stored.specs.Values.{int_value, maybe_text_value}
+use Rattle.vault_verdict.specs.Raw.{entry_values, old_entry_values}
 use Rattle.vault_verdict.specs.ReadAs.{AreOlders}
-use Rattle.vault_verdict.specs.Texts.{text_bytes}
+use Rattle.sql_stored.specs.Texts.{text_bytes}
 use Rattle.vault_verdict.specs.declared.replaced.OldEntry.{OldEntry}
-use Rattle.vault_verdict.specs.declared.text.RowText.{RowText}
+use Rattle.sql_stored.specs.declared.text.RowText.{RowText}
 use Rattle.vault_rules.specs.Showing.{Shows, ShowsEntry}
 use Rattle.vault_rules.specs.VaultOf.{AreKeysApart, vault_of}
 use Rattle.vault_rules.specs.AllRows.{Rows}

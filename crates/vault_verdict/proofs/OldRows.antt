@@ -16,10 +16,11 @@ use Rattle.vault_core.specs.Keys.{Bytes}
 use Rattle.vault_verdict.proofs.InTree.{keys_by_rowid}
 use Rattle.vault_verdict.proofs.Joining.{card_there}
 use Rattle.vault_verdict.proofs.Pointers.{one_number, pointing_are}
-use Rattle.vault_verdict.specs.Raw.{card_values, entry_values, int_value, old_entry_values}
-use Rattle.vault_verdict.specs.Texts.{text_bytes}
+use Rattle.sql_stored.specs.Values.{int_value}
+use Rattle.vault_verdict.specs.Raw.{card_values, entry_values, old_entry_values}
+use Rattle.sql_stored.specs.Texts.{text_bytes}
 use Rattle.vault_verdict.specs.declared.replaced.OldEntry.{OldEntry}
-use Rattle.vault_verdict.specs.declared.text.RowText.{RowText}
+use Rattle.sql_stored.specs.declared.text.RowText.{RowText}
 use Rattle.vault_rules.proofs.Keyed.{find-some, keys_once}
 use Rattle.vault_rules.proofs.Numbers.{int_same}
 use Rattle.vault_rules.specs.Lookups.{card_of, number_of, used_by}

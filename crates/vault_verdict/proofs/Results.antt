@@ -8,8 +8,8 @@ use Rattle.vault_verdict.specs.Faults.{IsJudged, failure}
 use Rattle.vault_verdict.specs.Reading.{IsQuietWhere}
 use Rattle.vault_verdict.specs.declared.fault.OpenFault.{OpenFault}
 use Rattle.vault_verdict.specs.declared.fault.OpenFault.TheVariants.{WrongSchema, Damaged, Memory, Store}
-use Rattle.vault_verdict.specs.declared.fault.ReadFault.{ReadFault}
-use Rattle.vault_verdict.specs.declared.fault.ReadFault.TheVariants as read
+use Rattle.sql_stored.specs.declared.fault.ReadFault.{ReadFault}
+use Rattle.sql_stored.specs.declared.fault.ReadFault.TheVariants as read
 
 pub if_ok : {A E : Type 0} {P Q : A → Type 0} (r : Result A E) → ((a : A) → P a → Q a) → IfOk r P → IfOk r Q
 if_ok (Ok a) f h = f a h

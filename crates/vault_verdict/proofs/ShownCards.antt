@@ -13,7 +13,8 @@ use Rattle.vault_verdict.proofs.Pointers.{one_number, pointing_are}
 use Rattle.vault_verdict.proofs.Table.{pair_of, row_at}
 use Rattle.vault_verdict.proofs.Tables as tables
 use Rattle.vault_verdict.specs.ReadAs.{AreCards}
-use Rattle.vault_verdict.specs.Raw.{card_row, int_value}
+use Rattle.sql_stored.specs.Values.{int_value}
+use Rattle.vault_verdict.specs.Raw.{card_row}
 use Rattle.vault_verdict.specs.Raw as raw
 use Rattle.vault_rules.proofs.Held.{card_held}
 use Rattle.vault_rules.proofs.Options.{mapped_is}

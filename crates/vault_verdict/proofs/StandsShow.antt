@@ -34,7 +34,8 @@ use Rattle.vault_verdict.proofs.Permuted.{apart_permuted}
 use Rattle.vault_verdict.proofs.ShownCards as cards
 use Rattle.vault_verdict.proofs.Widened.{widened}
 use Rattle.vault_verdict.specs.Opened.{AreRaws, AreVersions}
-use Rattle.vault_verdict.specs.ReadAs.{AreCards, any_left, endless, merchants_in, replaced_in, rights_in}
+use Rattle.sql_stored.specs.Reading.{any_left}
+use Rattle.vault_verdict.specs.ReadAs.{AreCards, endless, merchants_in, replaced_in, rights_in}
 use Rattle.vault_verdict.specs.ReadAs.{with_six}
 use Rattle.vault_verdict.specs.declared.replaced.OldEntry.{OldEntry}
 use Rattle.vault_rules.specs.Showing.{Shows, ShowsCard}

@@ -25,6 +25,7 @@ use Rattle.vault_verdict.proofs.InVersion.{rights_free, schema_is}
 use Rattle.vault_verdict.proofs.Joining.{cards_in, entry_first, pointing_in, pointing_value, rows_joined}
 use Rattle.vault_verdict.proofs.Table.{stand_for}
 use Rattle.vault_verdict.proofs.Tables as tables
+use Rattle.sql_stored.specs.Values.{int_value}
 use Rattle.vault_verdict.specs.Raw as raw
 use Rattle.vault_verdict.specs.ReadAs.{AreCards}
 use Rattle.vault_rules.proofs.Counts.{counts_are, count_cases}
@@ -62,7 +63,7 @@ six_told : (lead : Lead) → lead_digits lead ≡ 6 → lead ≡ Six
 six_told Six is = refl
 six_told Eight is = absurd cc
 
-no_end : (ends : Option ℤ) → raw.int_value ends ≡ Null → ends ≡ None
+no_end : (ends : Option ℤ) → int_value ends ≡ Null → ends ≡ None
 no_end None is = refl
 no_end (Some n) is = absurd cc
 
@@ -104,7 +105,7 @@ module _ (rows : Rows) (apart : HasKeysApart rows) (keep : (r : ℕ) → keeps r
       let lead = six_told it.0.lead (digits_of it.0.lead row.0.lead it.2.lead (six row.0 row.1)) in
       sym (ap (λ (y : _). y.lead) merchant.2) ∙ sym (ap (λ (y : Merchant). y.lead) same) ∙ lead
 
-  pub are_endless : ((r : RawRight) → Has rows.rights r → raw.int_value r.ends ≡ Null) → AreEndless h
+  pub are_endless : ((r : RawRight) → Has rows.rights r → int_value r.ends ≡ Null) → AreEndless h
   are_endless endless key g is =
       let row = right_row rows key.0 key.1.0 key.1.1 g is in
       let it = shows.rights row.0 row.1 in
@@ -209,7 +210,7 @@ module _ (rows : Rows) (apart : HasKeysApart rows) (keep : (r : ℕ) → keeps r
         (λ r there.
         let it = shows.rights r there in
         let what = it.2 in
-        let ends : raw.int_value r.ends ≡ number_or_null it.1.ends = ap raw.int_value it.4
+        let ends : int_value r.ends ≡ number_or_null it.1.ends = ap int_value it.4
         ∙ moment_as it.1.ends in (
           (string_bytes r.caller, (string_bytes r.merchant, it.0)),
           it.1,

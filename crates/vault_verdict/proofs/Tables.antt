@@ -17,7 +17,7 @@ use Rattle.vault_verdict.proofs.Table.{Table}
 use Rattle.vault_verdict.specs.Raw as raw
 use Rattle.vault_rules.specs.VaultOf.{count_key, entry_key, request_key, number_key, natural, right_of}
 use Rattle.vault_rules.specs.declared.rows.RawMerchant.{RawMerchant}
-use Rattle.vault_verdict.specs.Texts.{text_bytes}
+use Rattle.sql_stored.specs.Texts.{text_bytes}
 use Rattle.vault_verdict.specs.declared.replaced.OldEntry.{OldEntry}
 use Rattle.vault_rules.specs.declared.rows.RawCount.{RawCount}
 use Rattle.vault_rules.specs.declared.rows.RawEntry.{RawEntry}

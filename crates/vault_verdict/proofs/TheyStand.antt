@@ -22,7 +22,7 @@ use Rattle.vault_verdict.proofs.Stood.{records_stand, rights_stand}
 use Rattle.vault_verdict.proofs.VersionRows.{version_stands}
 use Rattle.vault_verdict.specs.Apart.{AreApart}
 use Rattle.vault_verdict.specs.Opened.{AreRaws}
-use Rattle.vault_verdict.specs.ReadAs.{any_left}
+use Rattle.sql_stored.specs.Reading.{any_left}
 use Rattle.vault_verdict.specs.declared.replaced.OldEntry.{OldEntry}
 use Rattle.vault_rules.proofs.RowsShow.{rows_show}
 use Rattle.vault_rules.specs.Rules.{keeps}

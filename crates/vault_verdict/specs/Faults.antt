@@ -2,8 +2,8 @@
 use Rattle.std.specs.Prelude.{ℕ}
 use Rattle.vault_verdict.specs.declared.fault.OpenFault.{OpenFault}
 use Rattle.vault_verdict.specs.declared.fault.OpenFault.TheVariants.{WrongSchema, Damaged, Memory, Store}
-use Rattle.vault_verdict.specs.declared.fault.ReadFault.{ReadFault}
-use Rattle.vault_verdict.specs.declared.fault.ReadFault.TheVariants as read
+use Rattle.sql_stored.specs.declared.fault.ReadFault.{ReadFault}
+use Rattle.sql_stored.specs.declared.fault.ReadFault.TheVariants as read
 
 -- their numbers
 abbrev pub number_of : OpenFault → ℕ

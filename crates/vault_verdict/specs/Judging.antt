@@ -8,7 +8,8 @@ use Rattle.vault_verdict.specs.Apart.{AreApart, AreByRowid}
 use Rattle.vault_verdict.specs.Faults.{IsJudged}
 use Rattle.vault_verdict.specs.Raw.{record_values, right_values}
 use Rattle.vault_verdict.specs.ReadAs.{replaced_in, rights_in}
-use Rattle.vault_verdict.specs.Reading.{AreCardsIn, AreEntriesIn, AreRightsFull, AreTable, IsAny, IsUnreadOne}
+use Rattle.sql_stored.specs.Reading.{AreTable, IsAny}
+use Rattle.vault_verdict.specs.Reading.{AreCardsIn, AreEntriesIn, AreRightsFull, IsUnreadOne}
 use Rattle.vault_verdict.specs.Sizes.{counts_of}
 use Rattle.vault_verdict.specs.declared.fault.OpenFault.{OpenFault}
 use Rattle.vault_verdict.specs.declared.fault.OpenFault.TheVariants.{Damaged, Store}

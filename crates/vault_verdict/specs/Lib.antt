@@ -4,11 +4,9 @@ pub mod Judging
 pub mod Made
 pub mod Names
 pub mod Opened
-pub mod Places
 pub mod Raw
 pub mod ReadAs
 pub mod Reading
 pub mod Sizes
 pub mod Taken
-pub mod Texts
 pub mod Versions

@@ -2,7 +2,7 @@
 use Rattle.std.specs.Prelude.{ℤ, pos, [], ◌∷◌, Option, option_map}
 use Rattle.sqlite.specs.Order.{Row}
 use Rattle.sqlite.specs.declared.types.Value.TheVariants.{Int}
-use Rattle.vault_verdict.specs.Raw.{int_value, row_text_value}
+use Rattle.sql_stored.specs.Values.{int_value, row_text_value}
 use Rattle.vault_verdict.specs.declared.replaced.OldEntry.{OldEntry}
 
 -- the card of an entry that has a number: its own, by the entry's rowid

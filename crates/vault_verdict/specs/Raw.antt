@@ -1,13 +1,8 @@
 -- The rows of the tables as lists of values.
-use Rattle.std.specs.Prelude.{◌≢◌, ℤ, [], ◌∷◌, Option, Some, None, option_map, string_bytes}
-use Rattle.std.specs.declared.alloc.Global.{Global}
-use Rattle.std.specs.declared.string.String.{String}
-use Rattle.sqlite.specs.declared.types.Value.{Value}
+use Rattle.std.specs.Prelude.{[], ◌∷◌, string_bytes}
 use Rattle.sqlite.specs.declared.types.Value.TheVariants.{Null, Int, Text}
 use Rattle.sqlite.specs.Order.{Row}
-use Rattle.vault_schema.specs.Version1.Rows.{text_or_null}
-use Rattle.vault_verdict.specs.Texts.{text_bytes}
-use Rattle.vault_verdict.specs.declared.text.RowText.{RowText}
+use Rattle.sql_stored.specs.Values.{int_value, maybe_text_value, row_text_value}
 use Rattle.vault_rules.specs.declared.rows.RawVersion.{RawVersion}
 use Rattle.vault_rules.specs.declared.rows.RawMerchant.{RawMerchant}
 use Rattle.vault_verdict.specs.declared.replaced.RowId.{RowId}
@@ -17,27 +12,6 @@ use Rattle.vault_rules.specs.declared.rows.RawCard.{RawCard}
 use Rattle.vault_rules.specs.declared.rows.RawEntry.{RawEntry}
 use Rattle.vault_rules.specs.declared.rows.RawRecord.{RawRecord}
 use Rattle.vault_rules.specs.declared.rows.RawRight.{RawRight}
-
--- a whole number, or NULL
-abbrev pub int_value : Option ℤ → Value
-int_value None = Null
-int_value (Some n) = Int n
-
--- a text
-abbrev pub text_value : String Global → Value
-text_value text = Text (string_bytes text)
-
--- one of a row that is kept
-abbrev pub row_text_value : RowText → Value
-row_text_value text = Text (text_bytes text)
-
--- and such a one, or NULL
-abbrev pub maybe_text_value : Option RowText → Value
-maybe_text_value text = text_or_null (option_map text_bytes text)
-
--- what no raw row shows, or no list of them
-abbrev pub IsStrange : {R T : Type 0} → (R → T) → T → Type 0
-IsStrange {R} values shown = (raw : R) → shown ≢ values raw
 
 -- its id, which the database keeps as the rowid, and the version
 abbrev pub version_values : RawVersion → Row

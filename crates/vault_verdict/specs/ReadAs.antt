@@ -1,12 +1,12 @@
 -- The rows of each version's tables, read as those of the newest one.
-use Rattle.std.specs.Prelude.{◌≡◌, ◌+◌, ◌++◌, ◌<◌, ℕ, pos, List, [], ◌∷◌, length, map}
+use Rattle.std.specs.Prelude.{◌≡◌, ◌+◌, ◌++◌, ℕ, pos, List, [], ◌∷◌, map}
 use Rattle.std.specs.List.{filter_map}
 use Rattle.std.specs.List.Sorted.{IsPermutation}
 use Rattle.sqlite.specs.Effect.{Database}
 use Rattle.sqlite.specs.Order.{Row}
 use Rattle.sqlite.specs.Tree.{Trees}
 use Rattle.sqlite.specs.declared.types.Value.TheVariants.{Null, Int}
-use Rattle.sqlite_rules.specs.Lists.{Has}
+use Rattle.sql_stored.specs.Reading.{AreLonger, any_left}
 use Rattle.vault_rules.specs.AllRows.{Rows}
 use Rattle.vault_schema.specs.Versions.{schema_of}
 use Rattle.vault_schema.specs.declared.version.Version.{Version}
@@ -34,11 +34,6 @@ rights_in One db = map endless (db 10)
 rights_in Two db = map endless (db 10)
 rights_in Three db = map endless (db 10)
 rights_in Four db = db 19
-
--- 1 where there are any
-abbrev pub any_left : {X : Type 0} → List X → ℕ
-any_left [] = 0
-any_left (x ∷ xs) = 1
 
 -- of entries, merchants and rights, how many were replaced by a version and are left
 abbrev pub left_in : Version → ℕ → ℕ → ℕ → ℕ
@@ -68,10 +63,6 @@ AreEntries One db olders rows = AreOlders db olders rows
 AreEntries Two db olders rows = AreCards db rows
 AreEntries Three db olders rows = AreCards db rows
 AreEntries Four db olders rows = AreCards db rows
-
--- each row of a table has more columns than this
-abbrev pub AreLonger : ℕ → List Row → Type 0
-AreLonger n rows = (row : Row) → Has rows row → n < length row
 
 -- The premise on a file: each row of a table whose last column may be NULL has all its columns. Nothing else
 -- says that no row was made before that column was added; no statement of this program adds one.

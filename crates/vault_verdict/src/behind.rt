@@ -8,9 +8,9 @@ ghost use Rattle.vault_schema.specs.Versions.{schema_of};
 ghost use Rattle.vault_rules.specs.declared.rows.RawEntry.{RawEntry as EntryRow};
 ghost use Rattle.vault_rules.specs.declared.rows.RawRecord.{RawRecord as RecordRow};
 
-use crate::fault::ReadFault;
 use crate::read;
 use crate::replaced::OldEntry;
+use sql_stored::fault::ReadFault;
 use sqlite::{Alter, Connection};
 use std::alloc::Global;
 use vault_rules::entries::Entries;

@@ -2,8 +2,8 @@
 ghost use Rattle.std.specs.Prelude.{◌≡◌};
 ghost use Rattle.vault_verdict.specs.Faults.{number_of};
 
-use sqlite::{Error, ErrorCode};
-use std::alloc::{AllocError, AllocFailed};
+use sql_stored::fault::ReadFault;
+use std::alloc::AllocError;
 
 /// Why no vault is opened.
 #[derive(Clone, Copy, Debug, PartialEq, Eq)]
@@ -41,53 +41,6 @@ impl From<AllocError> for OpenFault {
 
     fn from(_refused: AllocError) -> OpenFault {
         OpenFault::Memory
-    }
-}
-
-/// Why rows weren't read.
-#[derive(Clone, Copy, Debug, PartialEq, Eq)]
-pub enum ReadFault {
-    /// Memory ran out.
-    Memory,
-    /// The database failed, or a row has a value that isn't its column's.
-    Store,
-}
-
-impl From<Error> for ReadFault {
-    ghost use Rattle.std.specs.Prelude.{◌≡◌, ◌↔◌};
-    ghost use Rattle.sqlite.specs.declared.error.Error.TheVariants.{SqliteFailure};
-    ghost use Rattle.sqlite.specs.declared.error.ErrorCode.TheVariants.{OutOfMemory};
-    ghost use Rattle.vault_verdict.specs.declared.fault.ReadFault.TheVariants.{Memory};
-
-    ghost from_gives = { λ error fault. (fault ≡ Memory) ↔ (error ≡ SqliteFailure OutOfMemory) };
-
-    fn from(error: Error) -> ReadFault {
-        match error {
-            Error::SqliteFailure(ErrorCode::OutOfMemory) => ReadFault::Memory,
-            _ => ReadFault::Store,
-        }
-    }
-}
-
-impl From<AllocError> for ReadFault {
-    ghost use Rattle.std.specs.Prelude.{◌≡◌};
-    ghost use Rattle.vault_verdict.specs.declared.fault.ReadFault.TheVariants.{Memory};
-
-    ghost from_gives = { λ refused fault. fault ≡ Memory };
-
-    fn from(_refused: AllocError) -> ReadFault {
-        ReadFault::Memory
-    }
-}
-
-impl<T: Drop> From<AllocFailed<T>> for ReadFault {
-    ghost use Rattle.std.specs.Prelude.{◌≡◌};
-    ghost use Rattle.vault_verdict.specs.declared.fault.ReadFault.TheVariants.{Memory};
-
-    ghost from_gives = { λ refused fault. fault ≡ Memory };
-
-    fn from(_refused: AllocFailed<T>) -> ReadFault {
-        ReadFault::Memory
     }
 }
 

@@ -6,8 +6,8 @@ ghost use Rattle.sql_maps.specs.States.{Reads};
 ghost use Rattle.vault_verdict.specs.Reading.{AreFirst, IsUnreadOne};
 ghost use Rattle.vault_schema.specs.Versions.{schema_of};
 
-use crate::fault::ReadFault;
 use crate::read;
+use sql_stored::fault::ReadFault;
 use sqlite::{Alter, Connection};
 use std::alloc::Global;
 use vault_rules::rows::{RawCount, RawMerchant};

@@ -4,7 +4,6 @@
 mod apart;
 mod behind;
 pub mod check;
-mod columns;
 pub mod fault;
 mod first;
 pub mod judge;
@@ -15,6 +14,5 @@ pub mod read;
 pub mod replaced;
 pub mod sizes;
 mod taken;
-pub mod text;
 pub mod verdict;
 pub mod version;

@@ -7,8 +7,8 @@ ghost use Rattle.vault_verdict.specs.Taken.{CardsTaken, EntriesTaken};
 ghost use Rattle.vault_rules.specs.declared.rows.RawCard.{RawCard as CardRow};
 ghost use Rattle.vault_rules.specs.declared.rows.RawEntry.{RawEntry as EntryRow};
 
-use crate::fault::ReadFault;
 use crate::replaced::OldEntry;
+use sql_stored::fault::ReadFault;
 use std::alloc::{AllocError, Global};
 use vault_rules::entries::Entries;
 use vault_rules::index::Index;

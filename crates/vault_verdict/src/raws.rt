@@ -1,32 +1,21 @@
-//! The rows that a query shows as values of Rust.
-ghost use Rattle.std.specs.Prelude.{◌≡◌, IfErr, IfOk};
-ghost use Rattle.sqlite.proofs.Callers.{IsPlain};
-ghost use Rattle.sqlite.specs.Listing.{understood};
-ghost use Rattle.sqlite.specs.Order.{Row as SqlRow};
-ghost use Rattle.sqlite.specs.Schema.{Schema};
-ghost use Rattle.vault_verdict.specs.Reading.{ReadsRows};
-ghost use Rattle.vault_verdict.specs.Raw.{IsStrange, version_values, merchant_values, count_values};
+//! The rows of each table as values of Rust, read as those of the newest version.
+ghost use Rattle.vault_verdict.specs.Raw.{version_values, merchant_values, count_values};
 ghost use Rattle.vault_verdict.specs.Raw.{card_values, entry_values, record_values, right_values};
 
-use crate::columns::Columns;
-use crate::fault::ReadFault;
-use crate::taken::taken;
-use sqlite::{Alter, Connection, Row};
-use std::alloc::Global;
+use sql_stored::columns::Columns;
+use sql_stored::fault::ReadFault;
+use sql_stored::raws::Raw;
+use sqlite::Row;
 use vault_rules::rows::{
     RawCard, RawCount, RawEntry, RawMerchant, RawRecord, RawRight, RawVersion,
 };
 
-/// A raw row of one of the tables.
-pub(crate) trait Raw: Sized + Drop {
-    ghost values: { Self → SqlRow };
+/// The rows of `vault`.
+pub(crate) struct VersionRows;
 
-    fn read(row: &Row) -> Result<Self, ReadFault>
-        ensures values { IfOk result (λ raw. row.now ≡ values raw) }
-        ensures refused { IfErr result (λ e. e ≡ ReadFault.Store → IsStrange values row.now) };
-}
+impl Raw for VersionRows {
+    type Of = RawVersion;
 
-impl Raw for RawVersion {
     ghost values = { version_values };
 
     fn read(row: &Row) -> Result<RawVersion, ReadFault> {
@@ -40,7 +29,12 @@ impl Raw for RawVersion {
     }
 }
 
-impl Raw for RawMerchant {
+/// The rows of `merchants3`.
+pub(crate) struct MerchantRows;
+
+impl Raw for MerchantRows {
+    type Of = RawMerchant;
+
     ghost values = { merchant_values };
 
     fn read(row: &Row) -> Result<RawMerchant, ReadFault> {
@@ -58,7 +52,12 @@ impl Raw for RawMerchant {
     }
 }
 
-impl Raw for RawCount {
+/// The rows of `counts`.
+pub(crate) struct CountRows;
+
+impl Raw for CountRows {
+    type Of = RawCount;
+
     ghost values = { count_values };
 
     fn read(row: &Row) -> Result<RawCount, ReadFault> {
@@ -74,7 +73,12 @@ impl Raw for RawCount {
     }
 }
 
-impl Raw for RawCard {
+/// The rows of `cards2`.
+pub(crate) struct CardRows;
+
+impl Raw for CardRows {
+    type Of = RawCard;
+
     ghost values = { card_values };
 
     fn read(row: &Row) -> Result<RawCard, ReadFault> {
@@ -90,7 +94,12 @@ impl Raw for RawCard {
     }
 }
 
-impl Raw for RawEntry {
+/// The rows of `entries2`.
+pub(crate) struct EntryRows;
+
+impl Raw for EntryRows {
+    type Of = RawEntry;
+
     ghost values = { entry_values };
 
     fn read(row: &Row) -> Result<RawEntry, ReadFault> {
@@ -110,7 +119,12 @@ impl Raw for RawEntry {
     }
 }
 
-impl Raw for RawRecord {
+/// The rows of `records`.
+pub(crate) struct RecordRows;
+
+impl Raw for RecordRows {
+    type Of = RawRecord;
+
     ghost values = { record_values };
 
     fn read(row: &Row) -> Result<RawRecord, ReadFault> {
@@ -128,7 +142,12 @@ impl Raw for RawRecord {
     }
 }
 
-impl Raw for RawRight {
+/// The rows of `rights4`.
+pub(crate) struct RightRows;
+
+impl Raw for RightRows {
+    type Of = RawRight;
+
     ghost values = { right_values };
 
     fn read(row: &Row) -> Result<RawRight, ReadFault> {
@@ -143,16 +162,4 @@ impl Raw for RawRight {
         columns.end()?;
         Ok(raw)
     }
-}
-
-/// The rows that a query shows: each is read as it comes.
-pub(crate) fn shown<S: Alter, R: Raw>(
-    alloc: Global,
-    conn: &mut Connection<S>,
-    sql: &str,
-) -> Result<Vec<R>, ReadFault>
-    ensures { (s : Schema) → IsPlain (understood s sql.now)
-        → ReadsRows S.Store sql.now R.values s result conn.old conn.new }
-{
-    taken(conn, sql, Vec::new(alloc))
 }

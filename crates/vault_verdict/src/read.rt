@@ -12,12 +12,16 @@ ghost use Rattle.vault_verdict.specs.Opened.{AreVersions};
 ghost use Rattle.vault_verdict.specs.Raw.{merchant_values, count_values, card_values, card_row};
 ghost use Rattle.vault_verdict.specs.Raw.{entry_values, id_values, old_entry_values};
 ghost use Rattle.vault_verdict.specs.Raw.{record_values, right_values, version_values};
-ghost use Rattle.vault_verdict.specs.ReadAs.{any_left as any_left_spec, endless, merchants_in};
+ghost use Rattle.sql_stored.specs.Reading.{any_left as any_left_spec};
+ghost use Rattle.vault_verdict.specs.ReadAs.{endless, merchants_in};
 ghost use Rattle.vault_verdict.specs.ReadAs.{left_in as left_spec, replaced_in, rights_in, with_six};
 ghost use Rattle.vault_verdict.specs.Reading.{AreOldFull, ArePointingFull, AreRightsFull, IsUnreadReplaced};
-ghost use Rattle.vault_verdict.specs.Reading.{AreOldCards, AreTable, IsAny, IsQuietWhere, IsUnread};
-ghost use Rattle.vault_verdict.specs.Reading.{IsUnreadCards, ReadsCards, ReadsTable, TakesEntries};
-ghost use Rattle.vault_verdict.specs.Reading.{TakesTable, TellsAny, merchants_text, rights_text};
+ghost use Rattle.sql_stored.specs.Reading.{AreTable, IsAny, IsUnread};
+ghost use Rattle.vault_verdict.specs.Reading.{AreOldCards, IsQuietWhere};
+ghost use Rattle.sql_stored.specs.Reading.{ReadsTable};
+ghost use Rattle.vault_verdict.specs.Reading.{IsUnreadCards, ReadsCards, TakesEntries};
+ghost use Rattle.sql_stored.specs.Reading.{TakesTable, TellsAny};
+ghost use Rattle.vault_verdict.specs.Reading.{merchants_text, rights_text};
 ghost use Rattle.vault_verdict.specs.Taken.{CardsTaken, EntriesTaken, RecordsTaken};
 ghost use Rattle.vault_rules.specs.declared.rows.RawCard.{RawCard as CardRow};
 ghost use Rattle.vault_schema.specs.declared.v1.TheConstants.{READ_COUNTS, READ_ENTRY_IDS, READ_RECORDS};
@@ -34,10 +38,14 @@ ghost use Rattle.vault_schema.specs.Version4.Tables.{v4};
 ghost use Rattle.vault_schema.specs.Versioned.{HasVersion};
 ghost use Rattle.vault_schema.specs.Versions.{schema_of};
 
-use crate::fault::ReadFault;
+use crate::made;
+use crate::raws::{
+    CardRows, CountRows, EntryRows, MerchantRows, RecordRows, RightRows, VersionRows,
+};
 use crate::replaced::{OldEntry, RowId};
-use crate::taken::taken;
-use crate::{made, raws};
+use sql_stored::fault::ReadFault;
+use sql_stored::raws::shown;
+use sql_stored::taken::taken;
 use sqlite::{Alter, Connection};
 use std::alloc::Global;
 use vault_rules::entries::Entries;
@@ -71,7 +79,7 @@ pub fn version_rows<S: Alter>(
     ensures quiet { IsQuietWhere (HasVersion (state S.Store conn.old).now.schema) (state S.Store conn.old)
         (state S.Store conn.new) }
 {
-    raws::shown(alloc, conn, READ_VERSIONS)
+    shown::<S, VersionRows>(alloc, conn, READ_VERSIONS)
 }
 
 /// The rows of `merchants`, in each schema that begins with schema 1: each has the lead of six digits.
@@ -83,7 +91,7 @@ fn old_merchants<S: Alter>(
         merchant_values (grown v1 others indexes) IsAny (λ t. map with_six (t 1)) merchant_values
         (λ raw. raw.rowid) result conn.old conn.new }
 {
-    raws::shown(alloc, conn, READ_OLD_MERCHANTS)
+    shown::<S, MerchantRows>(alloc, conn, READ_OLD_MERCHANTS)
 }
 
 /// The rows of `merchants3`, in each schema that begins with schema 3.
@@ -95,7 +103,7 @@ fn led_merchants<S: Alter>(
         merchant_values (grown v3 others indexes) IsAny (λ t. t 17) merchant_values (λ raw. raw.rowid) result
         conn.old conn.new }
 {
-    raws::shown(alloc, conn, READ_MERCHANTS)
+    shown::<S, MerchantRows>(alloc, conn, READ_MERCHANTS)
 }
 
 /// The merchants of a version.
@@ -123,7 +131,7 @@ pub(crate) fn counts<S: Alter>(
     ensures { (v : Version) → ReadsTable S.Store READ_COUNTS.now count_values (schema_of v) IsAny (λ t. t 3)
         count_values (λ raw. raw.rowid) result conn.old conn.new }
 {
-    raws::shown(alloc, conn, READ_COUNTS)
+    shown::<S, CountRows>(alloc, conn, READ_COUNTS)
 }
 
 /// What takes the rows of `records`, in each version.
@@ -135,7 +143,7 @@ pub(crate) fn records<'a, S: Alter>(
         (RecordsTaken start.entry) IsAny (λ t. t 8) record_values (λ raw. raw.rowid) result conn.old
         conn.new }
 {
-    taken::<S, RawRecord, _>(conn, READ_RECORDS, start)
+    taken::<S, RecordRows, _>(conn, READ_RECORDS, start)
 }
 
 /// The rows of `rights`, in each schema that begins with schema 1: none of them ends.
@@ -144,7 +152,7 @@ fn old_rights<S: Alter>(alloc: Global, conn: &mut Connection<S>) -> Result<Vec<R
         right_values (grown v1 others indexes) IsAny (λ t. map endless (t 10)) right_values
         (λ raw. raw.rowid) result conn.old conn.new }
 {
-    raws::shown(alloc, conn, READ_OLD_RIGHTS)
+    shown::<S, RightRows>(alloc, conn, READ_OLD_RIGHTS)
 }
 
 /// The rows of `rights4`.
@@ -155,7 +163,7 @@ fn ending_rights<S: Alter>(
     ensures { ReadsTable S.Store READ_RIGHTS.now right_values v4 (AreRightsFull Version.Four) (λ t. t 19)
         right_values (λ raw. raw.rowid) result conn.old conn.new }
 {
-    raws::shown(alloc, conn, READ_RIGHTS)
+    shown::<S, RightRows>(alloc, conn, READ_RIGHTS)
 }
 
 /// The rights of a version.
@@ -183,7 +191,7 @@ fn old_entries<S: Alter>(
     ensures { ReadsTable S.Store READ_OLD_ENTRIES.now old_entry_values v1 AreOldFull (λ t. t 5)
         old_entry_values (λ raw. raw.rowid) result conn.old conn.new }
 {
-    raws::shown(alloc, conn, READ_OLD_ENTRIES)
+    shown::<S, OldEntry>(alloc, conn, READ_OLD_ENTRIES)
 }
 
 /// What takes the rows of `cards2`, in each schema that begins with schema 2.
@@ -195,7 +203,7 @@ fn standing_cards<'a, S: Alter>(
         (grown v2 others indexes) (CardsTaken start.entry) IsAny (λ t. t 12) card_row (λ raw. raw.id) result
         conn.old conn.new }
 {
-    taken::<S, RawCard, _>(conn, READ_CARDS, start)
+    taken::<S, CardRows, _>(conn, READ_CARDS, start)
 }
 
 /// What took cards; with it the entries of schema 1, as they stand there.
@@ -275,7 +283,7 @@ fn pointing_entries<'a, S: Alter>(
         (EntriesTaken start.entry) ArePointingFull (λ t. t 14) entry_values
         (λ raw. raw.rowid) result conn.old conn.new }
 {
-    taken::<S, RawEntry, _>(conn, READ_ENTRIES, start)
+    taken::<S, EntryRows, _>(conn, READ_ENTRIES, start)
 }
 
 /// What takes the entries of a version, of which those of schema 1 are given.
@@ -312,7 +320,7 @@ fn entries_left<S: Alter>(alloc: Global, conn: &mut Connection<S>) -> Result<u64
     ensures told { (others : List Table) (indexes : List SqlIndex) → TellsAny S.Store READ_ENTRY_IDS.now
         id_values (grown v1 others indexes) (λ t. t 5) result conn.old conn.new }
 {
-    let ids: Vec<RowId> = raws::shown(alloc, conn, READ_ENTRY_IDS)?;
+    let ids = shown::<S, RowId>(alloc, conn, READ_ENTRY_IDS)?;
     Ok(any_left(&ids))
 }
 
@@ -322,7 +330,7 @@ fn merchants_left<S: Alter>(alloc: Global, conn: &mut Connection<S>) -> Result<u
     ensures told { (others : List Table) (indexes : List SqlIndex) → TellsAny S.Store READ_MERCHANT_IDS.now
         id_values (grown v1 others indexes) (λ t. t 1) result conn.old conn.new }
 {
-    let ids: Vec<RowId> = raws::shown(alloc, conn, READ_MERCHANT_IDS)?;
+    let ids = shown::<S, RowId>(alloc, conn, READ_MERCHANT_IDS)?;
     Ok(any_left(&ids))
 }
 
@@ -332,7 +340,7 @@ fn rights_left<S: Alter>(alloc: Global, conn: &mut Connection<S>) -> Result<u64,
     ensures told { (others : List Table) (indexes : List SqlIndex) → TellsAny S.Store READ_RIGHT_IDS.now
         id_values (grown v1 others indexes) (λ t. t 10) result conn.old conn.new }
 {
-    let ids: Vec<RowId> = raws::shown(alloc, conn, READ_RIGHT_IDS)?;
+    let ids = shown::<S, RowId>(alloc, conn, READ_RIGHT_IDS)?;
     Ok(any_left(&ids))
 }
 

@@ -1,10 +1,10 @@
 //! Rows of the tables that a later schema replaced.
 ghost use Rattle.vault_verdict.specs.Raw.{id_values, old_entry_values};
 
-use crate::columns::Columns;
-use crate::fault::ReadFault;
-use crate::raws::Raw;
-use crate::text::RowText;
+use sql_stored::columns::Columns;
+use sql_stored::fault::ReadFault;
+use sql_stored::raws::Raw;
+use sql_stored::text::RowText;
 use sqlite::Row;
 
 /// A row of `entries`, the table of schema 1.
@@ -23,6 +23,8 @@ pub struct OldEntry {
 }
 
 impl Raw for OldEntry {
+    type Of = OldEntry;
+
     ghost values = { old_entry_values };
 
     fn read(row: &Row) -> Result<OldEntry, ReadFault> {
@@ -49,6 +51,8 @@ pub struct RowId {
 }
 
 impl Raw for RowId {
+    type Of = RowId;
+
     ghost values = { id_values };
 
     fn read(row: &Row) -> Result<RowId, ReadFault> {

@@ -1,9 +1,10 @@
 use Rattle.std.proofs.Common.{arith, inl, inr, rules}
 use Rattle.vault_verdict.proofs.Results.{passed}
-use Rattle.vault_verdict.proofs.Streamed.{after}
+use Rattle.sql_stored.proofs.Streamed.{after}
 use Rattle.vault_verdict.proofs.behind.read_behind.Goals as goal
 use Rattle.vault_verdict.specs.Raw.{right_values}
-use Rattle.vault_verdict.specs.Reading.{IsUnread, IsUnreadReplaced, rights_text}
+use Rattle.sql_stored.specs.Reading.{IsUnread}
+use Rattle.vault_verdict.specs.Reading.{IsUnreadReplaced, rights_text}
 
 pub returns-in_err-rights-clause-refused : goal.returns-in_err-rights-clause-refused
 returns-in_err-rights-clause-refused g c clean has =

@@ -6,7 +6,7 @@ use Rattle.vault_verdict.proofs.Joined.{failed_both, none_if, same_both, taken_b
 use Rattle.vault_verdict.proofs.Results.{if_err, passed}
 use Rattle.vault_verdict.proofs.behind.taken.Goals as goal
 use Rattle.vault_verdict.specs.Raw.{record_values}
-use Rattle.vault_verdict.specs.Reading.{IsUnread}
+use Rattle.sql_stored.specs.Reading.{IsUnread}
 use Rattle.vault_schema.specs.declared.v1.TheConstants.{READ_RECORDS}
 
 pub returns-in_err-entries-clause-reads : goal.returns-in_err-entries-clause-reads

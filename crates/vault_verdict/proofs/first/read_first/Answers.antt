@@ -1,9 +1,9 @@
 use Rattle.std.proofs.Common.{arith, inl, inr, rules}
 use Rattle.vault_verdict.proofs.Results.{passed}
-use Rattle.vault_verdict.proofs.Streamed.{after}
+use Rattle.sql_stored.proofs.Streamed.{after}
 use Rattle.vault_verdict.proofs.first.read_first.Goals as goal
 use Rattle.vault_verdict.specs.Raw.{count_values}
-use Rattle.vault_verdict.specs.Reading.{IsUnread}
+use Rattle.sql_stored.specs.Reading.{IsUnread}
 use Rattle.vault_schema.specs.declared.v1.TheConstants.{READ_COUNTS}
 
 pub returns-in_err-counts-clause-refused : goal.returns-in_err-counts-clause-refused

@@ -6,10 +6,10 @@ use Rattle.vault_schema.specs.Version1.Tables.{v1, counts}
 use Rattle.vault_schema.specs.declared.v1.TheConstants.{READ_COUNTS}
 use Rattle.vault_schema.proofs.Version1.Texts.{read_counts_is}
 use Rattle.vault_verdict.proofs.InVersion.{behind, indexes_behind, schema_is}
-use Rattle.vault_verdict.proofs.Readings.{reads_table}
+use Rattle.sql_stored.proofs.Readings.{reads_table}
 use Rattle.vault_verdict.proofs.read.counts.Goals as goal
 use Rattle.vault_verdict.specs.Raw.{count_values}
-use Rattle.vault_verdict.specs.Reading.{IsAny, ReadsTable}
+use Rattle.sql_stored.specs.Reading.{IsAny, ReadsTable}
 
 pub returns : goal.returns
 returns g c v =

@@ -3,7 +3,7 @@ use Rattle.sqlite.specs.Held.{state}
 use Rattle.sql_maps.proofs.Reading.{reads_long}
 use Rattle.vault_schema.specs.Version4.Tables.{v4, rights}
 use Rattle.vault_schema.proofs.Version4.Texts.{read_rights_is}
-use Rattle.vault_verdict.proofs.Readings.{reads_table}
+use Rattle.sql_stored.proofs.Readings.{reads_table}
 use Rattle.vault_verdict.proofs.read.ending_rights.Goals as goal
 
 pub returns : goal.returns

@@ -1,6 +1,6 @@
 use Rattle.std.proofs.Common.{[], rules}
 use Rattle.vault_schema.proofs.Version1.Texts.{read_entry_ids_is}
-use Rattle.vault_verdict.proofs.Readings.{tells_any, tells_none}
+use Rattle.sql_stored.proofs.Readings.{tells_any, tells_none}
 use Rattle.vault_verdict.proofs.read.entries_left.Goals as goal
 
 pub returns-in_err-ids-clause-told : goal.returns-in_err-ids-clause-told

@@ -4,7 +4,7 @@ use Rattle.sql_maps.proofs.Reading.{reads_whole}
 use Rattle.sql_maps.specs.Schema.{grown}
 use Rattle.vault_schema.specs.Version3.Tables.{v3, merchants}
 use Rattle.vault_schema.proofs.Version3.Texts.{read_merchants_is}
-use Rattle.vault_verdict.proofs.Readings.{reads_table}
+use Rattle.sql_stored.proofs.Readings.{reads_table}
 use Rattle.vault_verdict.proofs.read.led_merchants.Goals as goal
 
 pub returns : goal.returns

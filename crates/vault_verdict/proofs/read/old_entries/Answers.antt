@@ -3,7 +3,7 @@ use Rattle.sqlite.specs.Held.{state}
 use Rattle.sql_maps.proofs.Reading.{reads_long}
 use Rattle.vault_schema.specs.Version1.Tables.{v1, entries}
 use Rattle.vault_schema.proofs.Version1.Texts.{read_entries_is}
-use Rattle.vault_verdict.proofs.Readings.{reads_table}
+use Rattle.sql_stored.proofs.Readings.{reads_table}
 use Rattle.vault_verdict.proofs.read.old_entries.Goals as goal
 
 pub returns : goal.returns

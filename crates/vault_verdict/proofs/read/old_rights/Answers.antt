@@ -4,7 +4,8 @@ use Rattle.sqlite.specs.Held.{state}
 use Rattle.sql_maps.specs.Schema.{grown}
 use Rattle.vault_schema.specs.Version1.Tables.{v1, rights}
 use Rattle.vault_schema.proofs.Version4.Texts.{read_old_rights_is}
-use Rattle.vault_verdict.proofs.Readings.{reads_beside, reads_table}
+use Rattle.vault_verdict.proofs.Beside.{reads_beside}
+use Rattle.sql_stored.proofs.Readings.{reads_table}
 use Rattle.vault_verdict.proofs.read.old_rights.Goals as goal
 
 pub returns : goal.returns

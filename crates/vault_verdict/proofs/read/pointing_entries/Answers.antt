@@ -4,7 +4,7 @@ use Rattle.sql_maps.proofs.Reading.{reads_long}
 use Rattle.sql_maps.specs.Schema.{grown}
 use Rattle.vault_schema.specs.Version2.Tables.{v2, entries}
 use Rattle.vault_schema.proofs.Version2.Texts.{read_entries_is}
-use Rattle.vault_verdict.proofs.Readings.{takes_table}
+use Rattle.sql_stored.proofs.Readings.{takes_table}
 use Rattle.vault_verdict.proofs.read.pointing_entries.Goals as goal
 
 pub returns : goal.returns

@@ -7,8 +7,9 @@ use Rattle.sql_maps.proofs.Calls.{reads_then}
 use Rattle.vault_verdict.proofs.Results.{passed}
 use Rattle.vault_verdict.proofs.read.replaced.Goals as goal
 use Rattle.vault_verdict.specs.Raw.{id_values}
-use Rattle.vault_verdict.specs.ReadAs.{any_left, left_in}
-use Rattle.vault_verdict.specs.Reading.{IsUnread}
+use Rattle.sql_stored.specs.Reading.{any_left}
+use Rattle.vault_verdict.specs.ReadAs.{left_in}
+use Rattle.sql_stored.specs.Reading.{IsUnread}
 use Rattle.vault_schema.specs.declared.v3.TheConstants.{READ_MERCHANT_IDS}
 use Rattle.vault_schema.specs.declared.v4.TheConstants.{READ_RIGHT_IDS}
 

@@ -6,7 +6,7 @@ use Rattle.sql_maps.specs.Schema.{grown}
 use Rattle.vault_schema.specs.Version2.Tables.{v2}
 use Rattle.vault_schema.specs.Version2.Tables as tables
 use Rattle.vault_schema.proofs.Version2.Texts.{read_cards_is}
-use Rattle.vault_verdict.proofs.Readings.{takes_table}
+use Rattle.sql_stored.proofs.Readings.{takes_table}
 use Rattle.vault_verdict.proofs.read.standing_cards.Goals as goal
 use Rattle.vault_verdict.specs.Raw.{card_values}
 use Rattle.sql_maps.proofs.ById.{ById}

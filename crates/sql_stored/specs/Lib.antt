@@ -1,0 +1,4 @@
+pub mod Places
+pub mod Reading
+pub mod Texts
+pub mod Values
