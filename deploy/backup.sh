@@ -22,6 +22,12 @@ fail() {
     echo "backup.sh: $1" >&2
     exit 1
 }
+# What a check says of a file. That it has a log needn't be said here.
+checked() {
+    said=$("$program" check "$1" 2>&1) || { echo "$said" >&2; return 1; }
+    echo "$said" | sed -n '/^sound /p'
+}
+
 while :; do
     case ${1:-} in
     --snapshot) snapshot=yes ;;
@@ -44,7 +50,7 @@ part=$copy.part
 for name in "$copy" "$copy-wal" "$part" "$part-wal"; do
     [ ! -e "$name" ] || fail "$name is there already"
 done
-[ "$snapshot" = yes ] || of_file=$("$program" check "$file") || fail "stop the service first"
+[ "$snapshot" = yes ] || of_file=$(checked "$file") || fail "stop the service first"
 
 trap 'rm -f "$part" "$part-wal"' EXIT
 cp -- "$file" "$part"
@@ -53,7 +59,7 @@ if [ "$snapshot" = yes ]; then
     cmp -- "$file" "$part" || fail "the copy differs from $file"
     [ ! -e "$file-wal" ] || cmp -- "$file-wal" "$part-wal" || fail "the copy's log differs from $file-wal"
 fi
-of_copy=$("$program" check "$part") || fail "the copy isn't sound"
+of_copy=$(checked "$part") || fail "the copy isn't sound"
 if [ "$snapshot" = no ] && [ "$of_copy" != "$of_file" ]; then
     fail "$file is $of_file, and the copy $of_copy"
 fi

@@ -30,11 +30,17 @@ for name in "$file" "$file-wal"; do
     [ ! -e "$name" ] || fail "$name is there already"
 done
 
+# What a check says of a file. That it has a log needn't be said here.
+checked() {
+    said=$("$program" check "$1" 2>&1) || { echo "$said" >&2; return 1; }
+    echo "$said" | sed -n '/^sound /p'
+}
+
 part=$file.part
 trap 'rm -f "$part" "$part-wal"' EXIT
 cp -- "$copy" "$part"
 [ ! -e "$copy-wal" ] || cp -- "$copy-wal" "$part-wal"
-told=$("$program" check "$part") || fail "the copy isn't sound"
+told=$(checked "$part") || fail "the copy isn't sound"
 if [ -f "$copy.sound" ] && [ "$told" != "$(cat "$copy.sound")" ]; then
     fail "the copy was $(cat "$copy.sound"), and is $told now: is its log $copy-wal missing?"
 fi

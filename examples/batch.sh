@@ -86,7 +86,7 @@ awk '{ printf "%s\r\n", $0 }' ten > ten.crlf
 step "and with CR LF" '(1), these lines' "$(compare ten.crlf first vault.db till-1 shop1)"
 { printf '\357\273\277' && cat ten; } > ten.mark
 step "and behind a byte order mark" '(1), these lines' "$(compare ten.mark first vault.db till-1 shop1)"
-step "seven tokens stand, and eight requests" 'sound 1 7 8 (0)' "$(told "$program" check vault.db)"
+step "seven tokens stand, and eight requests" 'sound 1 7 8 (0)' "$(checked vault.db)"
 
 # Who may not, and where nobody may.
 rows one 11,4111111111111111,single
@@ -120,7 +120,7 @@ lines wanted 0,refused,5 3,refused,1 3,refused,2 3,refused,19 3,refused,9 1,refu
     2,1111111111111111,1065
 step "each row is refused by its number" '(1), these lines' \
     "$(compare many wanted --now 1010 --digits 0 fixed.db till-1 shop1)"
-step "the file is sound" 'sound 1 2 2 (0)' "$(told "$program" check fixed.db)"
+step "the file is sound" 'sound 1 2 2 (0)' "$(checked fixed.db)"
 
 # What is no batch.
 : > empty
@@ -131,7 +131,7 @@ step "40: another header" 'vault: stopped 40 (4), no line' \
     "$(compare other /dev/null fixed.db till-1 shop1)"
 echo '3,4111111111111111,single' > none
 step "40: no header" 'vault: stopped 40 (4), no line' "$(compare none /dev/null fixed.db till-1 shop1)"
-step "40: and the file is as it was" 'sound 1 2 2 (0)' "$(told "$program" check fixed.db)"
+step "40: and the file is as it was" 'sound 1 2 2 (0)' "$(checked fixed.db)"
 
 # Records that are no rows: those before them are answered, and stand.
 rows short 21,4111111111111111,single 22,4222222222222,multi 23,4111111111111111 24,4222222222222,single
@@ -140,7 +140,7 @@ rows long 31,79927398713,single 32,4111111111111111,multi,x 33,4222222222222,sin
 step "44: a row of four fields" 'vault: stopped 44 (4)' "$(send long before.2 vault.db till-1 shop1)"
 step "44: the rows before have their lines" 'request,answer,detail 21 22 request,answer,detail 31' \
     "$(sed 's/^\([0-9]*\),[0-9]*,[0-9]*$/\1/' before.1 before.2 | tr '\n' ' ' | sed 's/ $//')"
-step "44: and no row after" 'sound 1 9 11 (0)' "$(told "$program" check vault.db)"
+step "44: and no row after" 'sound 1 9 11 (0)' "$(checked vault.db)"
 rows three 21,4111111111111111,single 22,4222222222222,multi 31,79927398713,single
 { cat before.1 && sed 1d before.2; } > wanted
 step "44: sent again, they have the same tokens" '(0), these lines' \
@@ -155,7 +155,7 @@ step "42: a full disk behind the output" 'vault: stopped 42 (4)' \
 awk 'BEGIN { print "request,number,use"; while (n++ < 100001) print "x,,single" }' > more
 step "46: the 100001st row" 'vault: stopped 46 (4)' "$(send more most vault.db till-1 shop1)"
 step "46: a hundred thousand have their lines" '100000' "$(grep -c '^0,refused,5$' most)"
-step "42, 46: and the file is as it was" 'sound 1 9 11 (0)' "$(told "$program" check vault.db)"
+step "42, 46: and the file is as it was" 'sound 1 9 11 (0)' "$(checked vault.db)"
 
 # Nothing that is said beside the lines has a card number, or as many digits as one.
 said=$(wc -l < errors | tr -d ' ')

@@ -58,11 +58,11 @@ ends() {
 
 cp shops.db vault.db
 chmod 640 vault.db
-step "a file of schema 1 isn't sound as it is" 'vault: file not opened 30 1 (3)' "$(told "$program" check vault.db)"
+step "a file of schema 1 isn't sound as it is" 'vault: file not opened 30 1 (3)' "$(checked vault.db)"
 step "nor does a service open it" 'vault: file not opened 30 1 (3)' "$(told "$program" pipe vault.db)"
 step "it moves" 'schema 4 (0)' "$(told "$program" migrate vault.db)"
 step "with its mode" '640' "$(stat -c %a vault.db)"
-step "it is sound" 'sound 2 4 4 (0)' "$(told "$program" check vault.db)"
+step "it is sound" 'sound 2 4 4 (0)' "$(checked vault.db)"
 step "each number stands once a merchant" 'shop1 4111111111111111 2;shop2 4111111111111111 1;' \
     "$(sqlite3 -separator ' ' -newline ';' vault.db 'SELECT merchant, number, uses FROM cards2 ORDER BY merchant')"
 step "the purged entry has no card" '2222222222221111' \
@@ -85,7 +85,7 @@ step "a dead token is purged" '{"done":true}' "$(tail -n 1 answer)"
 step "and its card has one use less" '1' "$(sqlite3 vault.db "SELECT uses FROM cards2 WHERE merchant = 'shop1'")"
 step "the other one is swept" 'purged 1 (0)' "$(told "$program" sweep --now 1060 vault.db back shop1)"
 step "and its card is gone" '0' "$(sqlite3 vault.db "SELECT count(*) FROM cards2 WHERE merchant = 'shop1'")"
-step "the file is sound" 'sound 2 4 4 (0)' "$(told "$program" check vault.db)"
+step "the file is sound" 'sound 2 4 4 (0)' "$(checked vault.db)"
 
 # What doesn't move stays as it is.
 step "a birth behind the merchant's moment" 'vault: file not opened 31 7 (3)' \
@@ -106,7 +106,7 @@ step "another program's file" 'vault: file not opened 33 (3)' \
 step "a folder" 'vault: file not opened 34 (3)' "$(told "$program" migrate .)"
 step "a file that isn't there is made in the newest schema" 'schema 4 (0)' "$(told "$program" migrate new.db)"
 step "for its owner alone" '600' "$(stat -c %a new.db)"
-step "as the empty vault" 'sound 0 0 0 (0)' "$(told "$program" check new.db)"
+step "as the empty vault" 'sound 0 0 0 (0)' "$(checked new.db)"
 
 # The same shops as programs of schemas 2 and 3 left them.
 cp shops.db shops2.db
@@ -137,9 +137,9 @@ for version in 2 3; do
     rm -f vault.db vault.db-*
     cp "shops$version.db" vault.db
     step "a file of schema $version isn't opened" "vault: file not opened 30 $version (3)" \
-        "$(told "$program" check vault.db)"
+        "$(checked vault.db)"
     step "it moves" 'schema 4 (0)' "$(told "$program" migrate vault.db)"
-    step "it is sound" 'sound 2 4 4 (0)' "$(told "$program" check vault.db)"
+    step "it is sound" 'sound 2 4 4 (0)' "$(checked vault.db)"
     step "each number still stands once a merchant" 'shop1 2;shop2 1;' "$(uses vault.db)"
     lead=$([ "$version" = 2 ] && echo 6 || echo 8)
     step "its merchants have their leads" "shop1 $lead;shop2 6;" "$(leads vault.db)"
@@ -170,12 +170,12 @@ for wait in 0.05 0.1 0.2 0.4 0.8; do
     sleep "$wait"
     kill -9 $! 2> /dev/null || true
     wait $! 2> /dev/null || true
-    case $(told "$program" check killed.db) in
+    case $(checked killed.db) in
     'vault: file not opened 30 '[123]' (3)' | 'sound 1 2000 0 (0)') found=whole ;;
     *) found=broken ;;
     esac
     step "killed after $wait seconds" 'whole' "$found"
     step "it goes on" 'schema 4 (0)' "$(told "$program" migrate killed.db)"
-    step "and is sound" 'sound 1 2000 0 (0)' "$(told "$program" check killed.db)"
+    step "and is sound" 'sound 1 2000 0 (0)' "$(checked killed.db)"
 done
 end

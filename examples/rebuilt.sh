@@ -10,26 +10,26 @@ changed() {
     rm -f changed.db changed.db-*
     cp backup.db changed.db
     sqlite3 changed.db "$1"
-    told "$program" check changed.db
+    checked changed.db
 }
 
 "$program" merchant shop.db shop1 86400 0 > /dev/null
 "$program" grant shop.db till-1 shop1 tokenize > /dev/null
 printf 'request,number,use\n1,4111111111111111,single\n2,4222222222222,single\n3,4111111111111111,single\n' > rows.csv
 "$program" batch shop.db till-1 shop1 < rows.csv > lines.csv
-step "a shop's file" 'sound 1 3 3 (0)' "$(told "$program" check shop.db)"
+step "a shop's file" 'sound 1 3 3 (0)' "$(checked shop.db)"
 
 # Copies need nothing.
 cp shop.db copied.db
 cp shop.db-wal copied.db-wal
-step "a copy" 'sound 1 3 3 (0)' "$(told "$program" check copied.db)"
+step "a copy" 'sound 1 3 3 (0)' "$(checked copied.db)"
 sqlite3 shop.db ".backup backup.db"
-step "a backup by sqlite3" 'sound 1 3 3 (0)' "$(told "$program" check backup.db)"
+step "a backup by sqlite3" 'sound 1 3 3 (0)' "$(checked backup.db)"
 
 # Tables in another order
 sqlite3 shop.db .dump > dump.sql
 sqlite3 restored.db < dump.sql
-step "a file restored from a dump" 'vault: file not opened 33 (3)' "$(told "$program" check restored.db)"
+step "a file restored from a dump" 'vault: file not opened 33 (3)' "$(checked restored.db)"
 step "it is brought back" 'sound 1 3 3 (0)' "$(told sh "$here/rebuild.sh" restored.db first.db "$program")"
 step "a file that was vacuumed" 'vault: file not opened 33 (3)' "$(changed 'VACUUM')"
 step "it is brought back" 'sound 1 3 3 (0)' "$(told sh "$here/rebuild.sh" changed.db second.db "$program")"
@@ -48,7 +48,7 @@ step "a view more" 'vault: file not opened 30 0 (3)' "$(changed 'CREATE VIEW tok
 step "a table is missing" 'vault: file not opened 30 0 (3)' "$(changed 'DROP TABLE rights4')"
 step "an index is missing" 'vault: file not opened 30 0 (3)' "$(changed 'DROP INDEX entries2_card')"
 step "another program's file" 'vault: file not opened 33 (3)' \
-    "$(sqlite3 other.db 'CREATE TABLE notes (line TEXT)' && told "$program" check other.db)"
+    "$(sqlite3 other.db 'CREATE TABLE notes (line TEXT)' && checked other.db)"
 
 # Versions
 for version in 1 2 3 9 -1; do

@@ -48,7 +48,7 @@ birth=$(echo "$shown" | sed -n 's/.*"birth":\([0-9]*\).*/\1/p')
 expires=$(echo "$shown" | sed -n 's/.*"expires":\([0-9]*\).*/\1/p')
 step "the token was to live for a day" '86400' "$((${expires:-0} - ${birth:-0}))"
 step "no other token is dead" 'purged 0 (0)' "$(told "$program" sweep vault.db back shop1)"
-step "the file is sound" 'sound 1 1 1 (0)' "$(told "$program" check vault.db)"
+step "the file is sound" 'sound 1 1 1 (0)' "$(checked vault.db)"
 
 # The same by a pipe, at moments and with digits that are fixed, byte for byte.
 step "a merchant of the pipe" 'done (0)' "$(told "$program" merchant --now 1000 pipe.db shop1 60 0)"
@@ -65,5 +65,5 @@ pipe() {
 }
 pipe "a message is answered byte for byte" 1000 0
 pipe "a repeat has the first answer's bytes" 1050 7
-step "the pipe's file is sound" 'sound 1 1 1 (0)' "$(told "$program" check pipe.db)"
+step "the pipe's file is sound" 'sound 1 1 1 (0)' "$(checked pipe.db)"
 end

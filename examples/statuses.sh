@@ -18,7 +18,7 @@ mode() {
 }
 
 # 0
-step "0: a file that isn't there" 'sound 0 0 0 (0)' "$(told "$program" check new.db)"
+step "0: a file that isn't there" 'sound 0 0 0 (0)' "$(checked new.db)"
 step "0: and still isn't" 'no' "$([ -e new.db ] && echo yes || echo no)"
 step "0: it is made" 'schema 4 (0)' "$(told "$program" migrate new.db)"
 step "0: help" 'Keeps card numbers*' "$(told "$program" help)"
@@ -77,13 +77,13 @@ step "2: a port that is none" "vault: bad words|PORT: 65536 isn't a port (2)" \
 # 3
 echo 'A line of text, and no database.' > text
 mkdir folder
-step "3: a text" 'vault: file not opened 34 (3)' "$(told "$program" check text)"
+step "3: a text" 'vault: file not opened 34 (3)' "$(checked text)"
 step "3: it stays as it was" 'A line of text, and no database.' "$(cat text)"
-step "3: a folder" 'vault: file not opened 34 (3)' "$(told "$program" check folder)"
-step "3: a path into nowhere" 'vault: file not opened 34 (3)' "$(told "$program" check nowhere/vault.db)"
+step "3: a folder" 'vault: file not opened 34 (3)' "$(checked folder)"
+step "3: a path into nowhere" 'vault: file not opened 34 (3)' "$(checked nowhere/vault.db)"
 step "3: no name of a file" 'vault: file not opened 34 (3)' "$(told "$program" pipe :memory:)"
 start_service 100 shop.db
-step "3: a file that is in use" 'vault: file not opened 34 (3)' "$(told "$program" check shop.db)"
+step "3: a file that is in use" 'vault: file not opened 34 (3)' "$(checked shop.db)"
 step "3: nor does it move" 'vault: file not opened 34 (3)' "$(told "$program" migrate shop.db)"
 
 # 4
@@ -98,7 +98,7 @@ step "4: a closed output" 'vault: stopped 62 (4)' "$(
     "$program" check new.db >&- 2> told.err || code=$?
     echo "$(cat told.err) ($code)"
 )"
-step "4: and the file is as it was" 'sound 0 0 0 (0)' "$(told "$program" check new.db)"
+step "4: and the file is as it was" 'sound 0 0 0 (0)' "$(checked new.db)"
 step "4: an input that can't be read" 'vault: stopped 61 (4)' "$(told "$program" pipe new.db < folder)"
 step "4: the 1001st message" 'vault: stopped 60 (4)' "$(
     i=0
@@ -120,7 +120,18 @@ for mask in 000 0777; do
 done
 : > open.db
 chmod 644 open.db
-step "an existing file keeps its mode" 'sound 0 0 0 -rw-r--r--' "$("$program" check open.db) $(mode open.db)"
+step "an existing file keeps its mode" 'sound 0 0 0 -rw-r--r--' \
+    "$("$program" check open.db) $(mode open.db)"
+
+# The log of a file
+step "a file alone says nothing of a log" 'sound 0 0 0 (0)' \
+    "$(: > alone.db && told "$program" check alone.db)"
+has_log='vault: the file has a log, FILE-wal, and a copy needs both'
+step "one with a log says so" "sound 0 0 0|$has_log (0)" "$(told "$program" check mode000.db)"
+step "and so does one behind a link" "sound 0 0 0|$has_log (0)" \
+    "$(ln -s mode000.db link.db && told "$program" check link.db)"
+step "and the log of a file that is gone" "sound 0 0 0|$has_log (0)" \
+    "$(echo lost > gone.db-wal && told "$program" check gone.db)"
 
 # A service is killed among requests. What it answered is answered again by the next one.
 : > before
@@ -148,5 +159,5 @@ code=0
 wait "$service" || code=$?
 service=
 step "and ends" '0' "$code"
-step "no answer was lost" "sound 1 * (0)" "$(told "$program" check shop.db)"
+step "no answer was lost" "sound 1 * (0)" "$(checked shop.db)"
 end

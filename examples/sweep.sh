@@ -80,7 +80,7 @@ step "a file that isn't opened" 'vault: file not opened 34 (3)' "$(sweep_at 1070
 # A clock that falls: the merchant's moment is 1075, where the second token has expired.
 step "the merchant's moment moves" '{"done":true} 200' "$(back_at 1075 DELETE "$tokens/$third")"
 step "a clock that falls brings no token back" 'purged 1 (0)' "$(sweep_at 1000 vault.db back shop1)"
-step "the file is sound" 'sound 1 3 3 (0)' "$(told "$program" check vault.db)"
+step "the file is sound" 'sound 1 3 3 (0)' "$(checked vault.db)"
 
 # More tokens than one list has.
 awk 'BEGIN { print "request,number,use"; while (n++ < 2001) print 100 + n ",4111111111111111,single" }' > rows
@@ -89,7 +89,7 @@ step "a batch of 2001 rows has their tokens" '2001' "$(grep -c ',2060$' lines)"
 step "all live, none is purged" 'purged 0 (0)' "$(sweep_at 2059 vault.db back shop1)"
 step "all dead, each is purged" 'purged 2001 (0)' "$(sweep_at 2060 vault.db back shop1)"
 step "and none again" 'purged 0 (0)' "$(sweep_at 2060 vault.db back shop1)"
-step "the file is sound" 'sound 1 2004 2004 (0)' "$(told "$program" check vault.db)"
+step "the file is sound" 'sound 1 2004 2004 (0)' "$(checked vault.db)"
 
 # A shop whose moment is far ahead of the clock's, as after one that jumped.
 step "a merchant is set in a far year" 'done (0)' \

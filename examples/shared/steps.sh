@@ -49,6 +49,14 @@ told() {
     echo "${said%|} ($code)"
 }
 
+# What a check says of a file, but that it has a log; and then its exit status.
+checked() {
+    code=0
+    "$program" check "$1" > told.out 2> told.err || code=$?
+    said=$(cat told.out told.err | sed '/^vault: the file has a log, /d' | tr '\n' '|')
+    echo "${said%|} ($code)"
+}
+
 # Waits for a tenth of a second.
 pause() {
     sleep 0.1 2> /dev/null || sleep 1

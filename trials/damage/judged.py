@@ -55,7 +55,7 @@ class Whole:
         """It is opened: the sizes that it says are those of its rows."""
         told = SOUND.fullmatch(ran.out)
         read = rows.read(file)
-        if not told or ran.err or read is None:
+        if not told or ran.told or read is None:
             return f"{ran}, but {'another line' if read else 'sqlite3 cannot read it'}", ""
         sizes = tuple(len(read[table]) for table in ("merchants3", "entries2", "records"))
         if sizes != tuple(map(int, told.groups())):

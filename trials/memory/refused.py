@@ -62,7 +62,7 @@ class Trial:
         """A run to which a request was refused."""
         if ran.broke:
             return "broke", ran.broke
-        if ran == self.plain:
+        if ran.is_like(self.plain):
             said = "as with all memory"
         elif ran.told in self.job.may_say() and ran.err == f"vault: {ran.told}\n".encode():
             said = jobs.code(ran.told)
@@ -81,7 +81,7 @@ class Trial:
             return f"{ran.told}: {other}"
         if came != self.wanted[: len(came)]:
             return f"{ran.told}: no beginning of the plain output: {ran.out[-80:]!r}"
-        if ran != self.plain and ran.status != (3 if "not opened" in ran.told else 4):
+        if not ran.is_like(self.plain) and ran.status != (3 if "not opened" in ran.told else 4):
             return f"{ran.told} with the status {ran.status}"
         if "not opened" in ran.told and came:
             return f"{ran.told}, but {len(came)} parts went out"
@@ -99,7 +99,7 @@ class Trial:
         if not self.job.base:
             return ""
         ran = run(self.program, *self.job.line(file), given=self.job.given)
-        if ran != self.plain:
+        if not ran.is_like(self.plain):
             return f"again with all memory: {ran}, and not {self.plain}"
         return self.unsound(file) if self.job.name == "migrate" else ""
 

@@ -7,6 +7,8 @@ from typing import NamedTuple
 
 # No run of a trial takes a tenth of this, also where the machine has much other work.
 SECONDS = float(os.environ.get("SECONDS_EACH", "30"))
+# What a check says beside its line.
+HAS_LOG = b"vault: the file has a log, FILE-wal, and a copy needs both\n"
 WORKERS = int(os.environ.get("WORKERS", os.cpu_count() or 1))
 
 
@@ -19,8 +21,12 @@ class Ran(NamedTuple):
 
     @property
     def told(self):
-        """The line of its ending, without `vault: ` before it."""
-        return self.err.decode("ascii", "replace").strip().removeprefix("vault: ")
+        """The line of its ending, without `vault: ` before it. That a file has a log is no ending."""
+        return self.err.removesuffix(HAS_LOG).decode("ascii", "replace").strip().removeprefix("vault: ")
+
+    def is_like(self, other):
+        """Whether both ended alike, and wrote the same."""
+        return (self.status, self.out, self.told) == (other.status, other.out, other.told)
 
     @property
     def broke(self):

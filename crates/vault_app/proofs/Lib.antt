@@ -1,3 +1,4 @@
+mod Checked
 mod Files
 mod Lines
 mod Unread

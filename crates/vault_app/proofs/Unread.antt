@@ -1,6 +1,6 @@
 -- What a run that ends with words that are bad, a file that isn't opened or a refusal read and wrote.
-use Rattle.std.proofs.Common.{◌≡◌, ◌⊎◌, inl, inr, ℕ, ℤ, List, Bool, Option, Some, None, Result, Ok, Err, refl}
-use Rattle.std.proofs.Common.{arith, subst, true, false, Bor}
+use Rattle.std.proofs.Common.{◌≡◌, ◌⊎◌, inl, inr, ℕ, ℤ, List, Bool, Option, Some, None, Result, Ok, Err}
+use Rattle.std.proofs.Common.{arith, refl, sym, subst, true, false, Bor}
 use Rattle.std.specs.Prelude.{unwrap_or, if◌then◌else◌}
 use Rattle.std.specs.Global.{Vec}
 use Rattle.vault_rights.specs.Named.{Row}
@@ -17,7 +17,7 @@ use Rattle.vault_words.specs.declared.jobs.Job.TheVariants.{Batch, Serve, Sweep,
 use Rattle.vault_words.specs.declared.jobs.Job.TheVariants.{Migrate}
 use Rattle.vault_jobs.specs.Doing.{Works}
 use Rattle.vault_jobs.specs.Doing.{Does as Performs}
-use Rattle.vault_jobs.specs.Streams.{Streams}
+use Rattle.vault_jobs.specs.Streams.{Known, Streams}
 use Rattle.vault_jobs.specs.declared.task.Outcome.TheVariants as outcome
 use Rattle.vault_jobs.specs.declared.show.Shown.TheVariants as show
 use Rattle.vault_jobs.specs.declared.task.Task.{Task}
@@ -27,11 +27,12 @@ use Rattle.vault_app.specs.Asked.{AsksFor, IsBatch, Unasked}
 use Rattle.vault_app.specs.Ending.{Says, status_of}
 use Rattle.vault_app.specs.Files.{EndsOnFile}
 use Rattle.vault_app.specs.Jobs.{Does, DoesPlan}
-use Rattle.vault_app.specs.Plans.{IsPlanOf, IsServeOf, IsTaskOf, TellsMoved, TellsSizes, without_end}
+use Rattle.vault_app.specs.Plans.{IsPlanOf, IsServeOf, IsTaskOf, LineEnds, TellsMoved, TellsSizes, beside}
+use Rattle.vault_app.specs.Plans.{without_end}
 use Rattle.vault_app.specs.World.{World}
 use Rattle.vault_app.specs.declared.ending.Ending.{Ending}
-use Rattle.vault_app.specs.declared.ending.Ending.TheVariants.{Done, Version, Refused, SomeRefused}
-use Rattle.vault_app.specs.declared.ending.Ending.TheVariants.{BadWords, NotOpened, Stopped}
+use Rattle.vault_app.specs.declared.ending.Ending.TheVariants.{Done, DoneWithLog, Version, Refused}
+use Rattle.vault_app.specs.declared.ending.Ending.TheVariants.{SomeRefused, BadWords, NotOpened, Stopped}
 use Rattle.vault_app.specs.declared.plan.Plan.{Plan}
 use Rattle.vault_app.specs.declared.plan.Plan.TheVariants as plan
 
@@ -50,12 +51,38 @@ pub said_at : (why : List ℕ) (ending : Ending) (same_output same_errors : Type
 said_at why BadWords A B o e at said = said.0
 said_at why (NotOpened f) A B o e at said = said.0
 said_at why Done A B o e at said = said.0
+said_at why DoneWithLog A B o e at said = said.0
 said_at why SomeRefused A B o e at said = said.0
 said_at why (Stopped stop) A B o e at said = said.0
 said_at why Version A B o e (inl at) said = absurd (omega (arith, at))
 said_at why Version A B o e (inr at) said = absurd (omega (arith, at))
 said_at why (Refused n) A B o e (inl at) said = absurd (omega (arith, at))
 said_at why (Refused n) A B o e (inr at) said = absurd (omega (arith, at))
+
+-- the end of a line that a job wrote, and of a check with it
+abbrev IsOfLine : Ending → Type 0
+IsOfLine Done = Unit {0}
+IsOfLine DoneWithLog = Unit {0}
+IsOfLine Version = ⊥
+IsOfLine (Refused n) = ⊥
+IsOfLine SomeRefused = ⊥
+IsOfLine BadWords = ⊥
+IsOfLine (NotOpened f) = ⊥
+IsOfLine (Stopped why) = Unit {0}
+
+-- a check ends so
+of_line : (log : Bool) (text : List ℕ) (old new : Known) (writer : Bool) (line ending : Ending)
+    → LineEnds text line old new writer → ending ≡ beside log line → IsOfLine ending
+of_line true text old new writer Done ending ends is = subst IsOfLine (sym is) tt
+of_line false text old new writer Done ending ends is = subst IsOfLine (sym is) tt
+of_line true text old new writer (Stopped why) ending ends is = subst IsOfLine (sym is) tt
+of_line false text old new writer (Stopped why) ending ends is = subst IsOfLine (sym is) tt
+of_line log text old new writer DoneWithLog ending ends is = absurd ends
+of_line log text old new writer Version ending ends is = absurd ends
+of_line log text old new writer (Refused n) ending ends is = absurd ends
+of_line log text old new writer SomeRefused ending ends is = absurd ends
+of_line log text old new writer BadWords ending ends is = absurd ends
+of_line log text old new writer (NotOpened f) ending ends is = absurd ends
 
 -- the task answers rows
 abbrev IsOfRows : Task → Type 0
@@ -131,10 +158,10 @@ module _ (tells : Turns) (unread unsent : Type 0) (s : Streams) where
 module _ {D : Type 0} {g : Ghosts D} (world : World) (left : Option (FileStore D g))
     (unread unsent : Type 0) (s : Streams) where
   -- a plan doesn't end with bad words
-  sizes_bad : (told : Result Sizes FileFault) → ¬ (TellsSizes told BadWords unsent s.sent_old s.sent_new
-      s.writer)
-  sizes_bad (Ok sizes) h = h
-  sizes_bad (Err why) h = let is = h.0 in absurd (cc (is))
+  sizes_bad : (log : Bool) (told : Result Sizes FileFault)
+      → ¬ (TellsSizes log told BadWords unsent s.sent_old s.sent_new s.writer)
+  sizes_bad log (Ok sizes) (line, ends, is) = of_line log _ _ _ _ line BadWords ends is
+  sizes_bad log (Err why) h = let is = h.0 in absurd (cc (is))
 
   moved_bad : (told : Result ℤ FileFault) → ¬ (TellsMoved told BadWords unsent s.sent_old s.sent_new s.writer)
   moved_bad (Ok version) h = h
@@ -147,15 +174,15 @@ module _ {D : Type 0} {g : Ghosts D} (world : World) (left : Option (FileStore D
 
   plan_bad : (p : Plan) → ¬ (DoesPlan world left p BadWords unread unsent s)
   plan_bad (plan.Trial t) h = h.1
-  plan_bad (plan.Check path) h = sizes_bad h.1.0 h.1.2
+  plan_bad (plan.Check path) h = sizes_bad h.1.2.0 h.1.0 h.1.2.2
   plan_bad (plan.Migrate path) h = moved_bad h.1.0 h.1.2
   plan_bad (plan.Do path t) h = file_bad path.now left t h
 
   -- where its file isn't opened it reads and writes nothing
-  sizes_closed : (told : Result Sizes FileFault) (f : FileFault)
-      → TellsSizes told (NotOpened f) unsent s.sent_old s.sent_new s.writer → unsent
-  sizes_closed (Ok sizes) f h = absurd h
-  sizes_closed (Err why) f h = h.1
+  sizes_closed : (log : Bool) (told : Result Sizes FileFault) (f : FileFault)
+      → TellsSizes log told (NotOpened f) unsent s.sent_old s.sent_new s.writer → unsent
+  sizes_closed log (Ok sizes) f (line, ends, is) = absurd (of_line log _ _ _ _ line (NotOpened f) ends is)
+  sizes_closed log (Err why) f h = h.1
 
   moved_closed : (told : Result ℤ FileFault) (f : FileFault)
       → TellsMoved told (NotOpened f) unsent s.sent_old s.sent_new s.writer → unsent
@@ -170,7 +197,7 @@ module _ {D : Type 0} {g : Ghosts D} (world : World) (left : Option (FileStore D
   plan_closed : (p : Plan) (f : FileFault) → DoesPlan world left p (NotOpened f) unread unsent s
       → unread × unsent
   plan_closed (plan.Trial t) f h = absurd h.1
-  plan_closed (plan.Check path) f h = (h.0, sizes_closed h.1.0 f h.1.2)
+  plan_closed (plan.Check path) f h = (h.0, sizes_closed h.1.2.0 h.1.0 f h.1.2.2)
   plan_closed (plan.Migrate path) f h = (h.0, moved_closed h.1.0 f h.1.2)
   plan_closed (plan.Do path t) f h = file_closed path.now left t f h
 
@@ -187,10 +214,10 @@ module _ {D : Type 0} {g : Ghosts D} (world : World) (left : Option (FileStore D
   plan_refused (plan.Do path t) n h = file_refused path.now left t n h
 
   -- only a batch is refused in part
-  sizes_part : (told : Result Sizes FileFault) → ¬ (TellsSizes told SomeRefused unsent s.sent_old s.sent_new
-      s.writer)
-  sizes_part (Ok sizes) h = h
-  sizes_part (Err why) h = let is = h.0 in absurd (cc (is))
+  sizes_part : (log : Bool) (told : Result Sizes FileFault)
+      → ¬ (TellsSizes log told SomeRefused unsent s.sent_old s.sent_new s.writer)
+  sizes_part log (Ok sizes) (line, ends, is) = of_line log _ _ _ _ line SomeRefused ends is
+  sizes_part log (Err why) h = let is = h.0 in absurd (cc (is))
 
   moved_part : (told : Result ℤ FileFault) → ¬ (TellsMoved told SomeRefused unsent s.sent_old s.sent_new
       s.writer)
@@ -211,7 +238,7 @@ module _ {D : Type 0} {g : Ghosts D} (world : World) (left : Option (FileStore D
 
   plan_part : (p : Plan) → DoesPlan world left p SomeRefused unread unsent s → IsPart p
   plan_part (plan.Trial t) h = absurd h.1
-  plan_part (plan.Check path) h = absurd (sizes_part h.1.0 h.1.2)
+  plan_part (plan.Check path) h = absurd (sizes_part h.1.2.0 h.1.0 h.1.2.2)
   plan_part (plan.Migrate path) h = absurd (moved_part h.1.0 h.1.2)
   plan_part (plan.Do path t) h = file_part path.now left t h
 
@@ -246,6 +273,8 @@ module _ {D : Type 0} {g : Ghosts D} (world : World) (left : Option (FileStore D
   calm_at words (NotOpened f) at (inr (none, inr (inr (is, calm, silent)))) = absurd (cc (is))
   calm_at words Done (inl at) h = absurd (omega (arith, at))
   calm_at words Done (inr at) h = absurd (omega (arith, at))
+  calm_at words DoneWithLog (inl at) h = absurd (omega (arith, at))
+  calm_at words DoneWithLog (inr at) h = absurd (omega (arith, at))
   calm_at words Version (inl at) h = absurd (omega (arith, at))
   calm_at words Version (inr at) h = absurd (omega (arith, at))
   calm_at words (Refused n) (inl at) h = absurd (omega (arith, at))
@@ -272,6 +301,7 @@ module _ {D : Type 0} {g : Ghosts D} (world : World) (left : Option (FileStore D
   refused_at words SomeRefused at (inr (none, inr (inl (unknown, is, calm, silent)))) = inl calm
   refused_at words SomeRefused at (inr (none, inr (inr (is, calm, silent)))) = inl calm
   refused_at words Done at h = absurd (omega (arith, at))
+  refused_at words DoneWithLog at h = absurd (omega (arith, at))
   refused_at words Version at h = absurd (omega (arith, at))
   refused_at words BadWords at h = absurd (omega (arith, at))
   refused_at words (NotOpened f) at h = absurd (omega (arith, at))

@@ -11,6 +11,7 @@ use Rattle.vault_verdict.specs.declared.sizes.Sizes.{Sizes}
 use Rattle.vault_words.specs.Commands.{program_app}
 use Rattle.vault_words.specs.Jobs.{IsAsked}
 use Rattle.vault_words.specs.declared.commands.batch.BatchJob.{BatchJob}
+use Rattle.vault_words.specs.declared.commands.check.CheckJob.{CheckJob}
 use Rattle.vault_words.specs.declared.commands.rights.RightJob.{RightJob}
 use Rattle.vault_words.specs.declared.jobs.Job.{Job}
 use Rattle.vault_words.specs.declared.jobs.Job.TheVariants.{Trial, Merchant, Grant, Withdraw, Rights, Pipe}
@@ -60,6 +61,10 @@ IsMisnamed j n = (n ≡ 4) × ¬ (AreNames j) ⊎ (n ≡ 71) × (AreNames j × �
 -- it is a batch
 abbrev pub IsBatch : Job → Type 0
 IsBatch job = (j : BatchJob) × (job ≡ Batch j)
+
+-- it is a check
+abbrev pub IsCheck : Job → Type 0
+IsCheck job = (j : CheckJob) × (job ≡ Check j)
 
 -- the words ask for a job of which P holds
 abbrev pub AsksFor : List Text → (Job → Type 0) → Type 0

@@ -5,12 +5,13 @@ use Rattle.vault_file.specs.Faults as file
 use Rattle.vault_file.specs.declared.fault.NotOpened.{NotOpened as FileFault}
 use Rattle.vault_jobs.specs.Causes.{number_of}
 use Rattle.vault_app.specs.declared.ending.Ending.{Ending}
-use Rattle.vault_app.specs.declared.ending.Ending.TheVariants.{Done, Version, Refused, SomeRefused}
-use Rattle.vault_app.specs.declared.ending.Ending.TheVariants.{BadWords, NotOpened, Stopped}
+use Rattle.vault_app.specs.declared.ending.Ending.TheVariants.{Done, DoneWithLog, Version, Refused}
+use Rattle.vault_app.specs.declared.ending.Ending.TheVariants.{SomeRefused, BadWords, NotOpened, Stopped}
 
 -- the exit status
 abbrev pub status_of : Ending → ℕ
 status_of Done = 0
+status_of DoneWithLog = 0
 status_of Version = 0
 status_of (Refused n) = 1
 status_of SomeRefused = 1
@@ -25,6 +26,10 @@ version_line = codes "vault 0.4.0, schema 4\n"
 -- the line of a refusal, on the output
 abbrev pub refusal_line : ℕ → List ℕ
 refusal_line n = codes "refused " ++ decimal n ++ codes "\n"
+
+-- the line on the errors of a check whose file has a log
+abbrev pub log_line : List ℕ
+log_line = codes "vault: the file has a log, FILE-wal, and a copy needs both\n"
 
 -- the lines on the errors: the words ask for no job
 abbrev pub bad_words_line : List ℕ
@@ -46,10 +51,11 @@ abbrev pub stop_line : ℕ → List ℕ
 stop_line n = codes "vault: stopped " ++ decimal n ++ codes "\n"
 
 -- A version and a refusal are said on the output, and what else stands in the way of a job on the errors; the
--- other stream stays as it was, and at the end of a job, and of a batch with refused rows, both do. Behind the
--- line of bad words it is said why they are.
+-- other stream stays as it was, and at the end of a job, and of a batch with refused rows, both do. Beside a
+-- check's line it is said that the file has a log. Behind the line of bad words it is said why they are.
 abbrev pub Says : List ℕ → Ending → Type 0 → Type 0 → (List ℕ → Type 0) → (List ℕ → Type 0) → Type 0
 Says why Done same_output same_errors output errors = same_output × same_errors
+Says why DoneWithLog same_output same_errors output errors = same_output × errors log_line
 Says why Version same_output same_errors output errors = output version_line × same_errors
 Says why (Refused n) same_output same_errors output errors = output (refusal_line n) × same_errors
 Says why SomeRefused same_output same_errors output errors = same_output × same_errors

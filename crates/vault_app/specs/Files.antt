@@ -28,8 +28,8 @@ use Rattle.vault_jobs.specs.declared.task.Task.{Task}
 use Rattle.vault_jobs.specs.declared.task.Task.TheVariants.{Show}
 use Rattle.vault_app.specs.World.{World}
 use Rattle.vault_app.specs.declared.ending.Ending.{Ending}
-use Rattle.vault_app.specs.declared.ending.Ending.TheVariants.{Done, Version, Refused, SomeRefused}
-use Rattle.vault_app.specs.declared.ending.Ending.TheVariants.{BadWords, NotOpened, Stopped}
+use Rattle.vault_app.specs.declared.ending.Ending.TheVariants.{Done, DoneWithLog, Version, Refused}
+use Rattle.vault_app.specs.declared.ending.Ending.TheVariants.{SomeRefused, BadWords, NotOpened, Stopped}
 
 -- how a job ends whose task came to this
 abbrev pub ending_for : Result Outcome Stop → Ending
@@ -82,6 +82,7 @@ module _ {D : Type 0} {g : Ghosts D} where
       → Streams → Type 0
   DoesOnFile tells Holding left task Done unread unsent s =
       WorksOn Holding left (λ p broken. Does tells task p broken (Ok outcome.Done) unread unsent s)
+  DoesOnFile tells Holding left task DoneWithLog unread unsent s = ⊥
   DoesOnFile tells Holding left task Version unread unsent s = ⊥
   DoesOnFile tells Holding left task (Refused n) unread unsent s =
       WorksOn Holding left (λ p broken. Does tells task p broken (Ok (outcome.Refused n)) unread unsent s)

@@ -1,5 +1,5 @@
 -- What a run does with its file.
-use Rattle.std.specs.Prelude.{◌≡◌, ◌≢◌, ◌⊎◌, ℕ, ℤ, List, Option, Some, None, Result, Ok, Err}
+use Rattle.std.specs.Prelude.{◌≡◌, ◌≢◌, ◌⊎◌, ℕ, ℤ, List, Option, Some, None, Result, Ok, Err, Bool}
 use Rattle.clap.specs.Words.{Text}
 use Rattle.sqlite.specs.View.{IsClean}
 use Rattle.sqlite_disk.specs.declared.Disk.{Ghosts}
@@ -59,7 +59,8 @@ module _ {D : Type 0} {g : Ghosts D} where
   abbrev pub DoesPlan : World → Option (FileStore D g) → Plan → Ending → Type 0 → Type 0 → Streams → Type 0
   DoesPlan world left (plan.Trial t) ending unread unsent s = (left ≡ None) × TrialEnds world.tells t ending s
   DoesPlan world left (plan.Check path) ending unread unsent s = unread × ((told : Result Sizes FileFault)
-      × IsChecked world path.now left told × TellsSizes told ending unsent s.sent_old s.sent_new s.writer)
+      × IsChecked world path.now left told × ((log : Bool) × world.logs path.now log
+      × TellsSizes log told ending unsent s.sent_old s.sent_new s.writer))
   DoesPlan world left (plan.Migrate path) ending unread unsent s = unread × ((told : Result ℤ FileFault)
       × IsMoved world path.now left told × TellsMoved told ending unsent s.sent_old s.sent_new s.writer)
   DoesPlan world left (plan.Do path task) ending unread unsent s =

@@ -41,8 +41,8 @@ use Rattle.vault_app.specs.Rights.{IsListed, IsRefusedText}
 use Rattle.vault_app.specs.Values.{AreValues}
 use Rattle.vault_app.specs.World.{World}
 use Rattle.vault_app.specs.declared.ending.Ending.{Ending}
-use Rattle.vault_app.specs.declared.ending.Ending.TheVariants.{Done, Version, Refused, SomeRefused}
-use Rattle.vault_app.specs.declared.ending.Ending.TheVariants.{BadWords, NotOpened, Stopped}
+use Rattle.vault_app.specs.declared.ending.Ending.TheVariants.{Done, DoneWithLog, Version, Refused}
+use Rattle.vault_app.specs.declared.ending.Ending.TheVariants.{SomeRefused, BadWords, NotOpened, Stopped}
 use Rattle.vault_app.specs.declared.plan.Plan.{Plan}
 use Rattle.vault_app.specs.declared.plan.Plan.TheVariants as plan
 
@@ -177,6 +177,7 @@ HasList (Migrate j) = ⊥
 -- isn't read.
 abbrev pub EndsBefore : Job → Ending → Type 0
 EndsBefore job Done = ⊥
+EndsBefore job DoneWithLog = ⊥
 EndsBefore job Version = ⊥
 EndsBefore job (Refused n) = IsRefusedBefore job n
 EndsBefore job SomeRefused = ⊥
@@ -195,6 +196,7 @@ abbrev pub TrialEnds : Turns → Asked → Ending → Streams → Type 0
 TrialEnds tells t Done s = (s.writer ≡ false)
     × memory.IsTrial tells s.left_old s.left_new s.sent_old s.sent_new
     (memory.trial_vault t.caller t.merchant t.life t.made) t.moment t.digits
+TrialEnds tells t DoneWithLog s = ⊥
 TrialEnds tells t Version s = ⊥
 TrialEnds tells t (Refused n) s = ⊥
 TrialEnds tells t SomeRefused s = ⊥
@@ -208,6 +210,7 @@ TrialEnds tells t (Stopped why) s = IsCauseOf why s
 -- a job that is done wrote this line, or the writer failed
 abbrev pub LineEnds : List ℕ → Ending → Known → Known → Bool → Type 0
 LineEnds line Done old new writer = (writer ≡ false) × Appends old new line
+LineEnds line DoneWithLog old new writer = ⊥
 LineEnds line Version old new writer = ⊥
 LineEnds line (Refused n) old new writer = ⊥
 LineEnds line SomeRefused old new writer = ⊥
@@ -215,10 +218,17 @@ LineEnds line BadWords old new writer = ⊥
 LineEnds line (NotOpened f) old new writer = ⊥
 LineEnds line (Stopped why) old new writer = (why ≡ stop.Service service.Write) × (writer ≡ true)
 
--- a check's line has the sizes of the vault; a file that isn't opened is told so, and nothing went out
-abbrev pub TellsSizes : Result Sizes FileFault → Ending → Type 0 → Known → Known → Bool → Type 0
-TellsSizes (Ok sizes) ending unsent old new writer = LineEnds (sound_line sizes) ending old new writer
-TellsSizes (Err why) ending unsent old new writer = (ending ≡ NotOpened why) × unsent
+-- the end of a check whose line ended so: where it is done, it tells of a log
+abbrev pub beside : Bool → Ending → Ending
+beside true Done = DoneWithLog
+beside log ending = ending
+
+-- A check's line has the sizes of the vault, and what is said beside it tells whether the file has a log; a
+-- file that isn't opened is told so, and nothing went out.
+abbrev pub TellsSizes : Bool → Result Sizes FileFault → Ending → Type 0 → Known → Known → Bool → Type 0
+TellsSizes log (Ok sizes) ending unsent old new writer =
+    (line : Ending) × LineEnds (sound_line sizes) line old new writer × (ending ≡ beside log line)
+TellsSizes log (Err why) ending unsent old new writer = (ending ≡ NotOpened why) × unsent
 
 -- a migration's line says the newest schema
 abbrev pub TellsMoved : Result ℤ FileFault → Ending → Type 0 → Known → Known → Bool → Type 0

@@ -8,8 +8,8 @@ use Rattle.vault_rights.specs.declared.fault.RightsFault.{RightsFault}
 use Rattle.vault_jobs.specs.declared.stop.Stop.TheVariants as stop
 use Rattle.vault_jobs.specs.declared.stop.Unread.{Unread}
 use Rattle.vault_app.specs.declared.ending.Ending.{Ending}
-use Rattle.vault_app.specs.declared.ending.Ending.TheVariants.{Done, Version, Refused, SomeRefused}
-use Rattle.vault_app.specs.declared.ending.Ending.TheVariants.{BadWords, NotOpened, Stopped}
+use Rattle.vault_app.specs.declared.ending.Ending.TheVariants.{Done, DoneWithLog, Version, Refused}
+use Rattle.vault_app.specs.declared.ending.Ending.TheVariants.{SomeRefused, BadWords, NotOpened, Stopped}
 
 -- the rows are the rights that the document of a text that is said names, in order and each once, with the
 -- latest of its ends
@@ -25,6 +25,7 @@ IsRefusedText n = (text : List ℕ) × (fault : RightsFault)
 -- a job ends without a list: its text is refused, or it isn't read
 abbrev pub IsUnlisted : Ending → Type 0
 IsUnlisted Done = ⊥
+IsUnlisted DoneWithLog = ⊥
 IsUnlisted Version = ⊥
 IsUnlisted (Refused n) = IsRefusedText n
 IsUnlisted SomeRefused = ⊥

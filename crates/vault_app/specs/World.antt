@@ -1,25 +1,27 @@
 -- What is told of the world around a run.
-use Rattle.std.specs.Prelude.{ℕ, List}
+use Rattle.std.specs.Prelude.{ℕ, Bool, List}
 use Rattle.sqlite_wal.specs.Recovery.{Image}
 use Rattle.vault_live.specs.Live.{Turns}
 
 -- Which moments are told at which turn; and of each path which bytes its files may hold, that nothing is
--- there, that an open of it may fail, and which text it may have.
+-- there, that an open of it may fail, which text it may have, and whether its file has a log.
 pub record World : Type 1 where
   pub tells : Turns
   pub holds : List ℕ → Image → Type 0
   pub lacks : List ℕ → Type 0
   pub refuses : List ℕ → Type 0
   pub says : List ℕ → List ℕ → Type 0
+  pub logs : List ℕ → Bool → Type 0
 
 abbrev pub world_of : Turns → (List ℕ → Image → Type 0) → (List ℕ → Type 0) → (List ℕ → Type 0)
-    → (List ℕ → List ℕ → Type 0) → World
-world_of tells holds lacks refuses says = record {
+    → (List ℕ → List ℕ → Type 0) → (List ℕ → Bool → Type 0) → World
+world_of tells holds lacks refuses says logs = record {
   tells = tells;
   holds = holds;
   lacks = lacks;
   refuses = refuses;
   says = says;
+  logs = logs;
 }
 
 -- nothing is told
@@ -30,6 +32,7 @@ untold = record {
   lacks = λ path. ⊥;
   refuses = λ path. ⊥;
   says = λ path text. ⊥;
+  logs = λ path log. ⊥;
 }
 
 -- only moments are told
@@ -48,4 +51,5 @@ anything = record {
   lacks = λ path. Unit {0};
   refuses = λ path. Unit {0};
   says = λ path text. Unit {0};
+  logs = λ path log. Unit {0};
 }

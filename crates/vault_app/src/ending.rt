@@ -7,6 +7,8 @@ use vault_jobs::stop::Stop;
 pub enum Ending {
     /// Done, or help was asked.
     Done,
+    /// Done, and the file that was checked has a log.
+    DoneWithLog,
     /// The version was asked.
     Version,
     /// The words' names or the vault refused, by this number.

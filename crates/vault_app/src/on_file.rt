@@ -64,7 +64,8 @@ pub(crate) fn do_on_file<P: Paths, K: Timekeeper, N: Network, R: Read, W: Write>
 ) -> (Ending, Option<FileStore<P::Disk>>)
     requires proper { IsProper task.now }
     ensures does { let world : World =
-        world_of (K.tells time.now) (P.holds paths) (P.lacks paths) (P.refuses paths) (P.says paths) in
+        world_of (K.tells time.now) (P.holds paths) (P.lacks paths) (P.refuses paths) (P.says paths)
+        (P.logs paths) in
         let s : Streams = streams R.remaining input.old input.new W.contents output.old output.new in
         (links : List (Option Link))
         × ((log : List Event) → N.tells network.old log → N.tells network.new (log ++ events_of links))

@@ -35,7 +35,7 @@ pub(crate) fn plan_of<'a, P: Paths, K: Timekeeper>(
 ) -> Result<Plan<'a>, Ending>
     requires { HasLives asked.now }
     ensures planned { let world : World = world_of (K.tells time.now) (P.holds paths.now) (P.lacks paths.now)
-        (P.refuses paths.now) (P.says paths.now) in
+        (P.refuses paths.now) (P.says paths.now) (P.logs paths.now) in
         MatchResult result (IsPlanOf world asked.now) (EndsBefore asked.now) }
     ensures proper { IfOk result IsProperPlan }
 {

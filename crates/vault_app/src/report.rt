@@ -74,6 +74,13 @@ pub(crate) fn report<W: Write, E: Write>(
 {
     match ending {
         Ending::Done => 0,
+        Ending::DoneWithLog => {
+            tell(
+                errors,
+                &["vault: the file has a log, FILE-wal, and a copy needs both\n"],
+            );
+            0
+        }
         Ending::Version => {
             tell_version(output);
             0

@@ -8,10 +8,10 @@ ghost use Rattle.vault_listen.specs.Peers.{Event, Link, events_of};
 ghost use Rattle.vault_jobs.specs.Streams.{Streams, streams, with_links};
 ghost use Rattle.vault_jobs.specs.Told.{Tells};
 ghost use Rattle.vault_words.specs.Why.{HasFewDigits};
-ghost use Rattle.vault_app.specs.Ending.{bad_words_line, stop_line};
+ghost use Rattle.vault_app.specs.Ending.{bad_words_line, log_line, stop_line};
 ghost use Rattle.vault_app.specs.Jobs.{Does, DoesPlan, RunsAs};
 ghost use Rattle.vault_app.specs.Plans.{EndsPlanless, IsPlanOf, IsProperPlan};
-ghost use Rattle.vault_app.specs.Asked.{AsksFor, IsBatch};
+ghost use Rattle.vault_app.specs.Asked.{AsksFor, IsBatch, IsCheck};
 ghost use Rattle.vault_app.specs.World.{World, world_of};
 
 use crate::commands::check::tell_sizes;
@@ -47,7 +47,7 @@ fn planned<'a, P: Paths, K: Timekeeper, A: AsStr, W: Write>(
 ) -> Result<Plan<'a>, Ending>
     ensures planned { let world : World =
         world_of (K.tells time.now) (P.holds paths.now) (P.lacks paths.now) (P.refuses paths.now)
-        (P.says paths.now) in
+        (P.says paths.now) (P.logs paths.now) in
         IfOk result (λ plan. (output.new ≡ output.old)
         × AsksFor (map A.text words.now) (λ job. IsPlanOf world job plan)) }
     ensures proper { IfOk result IsProperPlan }
@@ -78,7 +78,8 @@ fn carry_out<P: Paths, K: Timekeeper, N: Network, R: Read, W: Write>(
 ) -> (Ending, Option<FileStore<P::Disk>>)
     requires { IsProperPlan plan }
     ensures does { let world : World =
-        world_of (K.tells time.now) (P.holds paths) (P.lacks paths) (P.refuses paths) (P.says paths) in
+        world_of (K.tells time.now) (P.holds paths) (P.lacks paths) (P.refuses paths) (P.says paths)
+        (P.logs paths) in
         let s : Streams = streams R.remaining input.old input.new W.contents output.old output.new in
         (links : List (Option Link))
         × ((log : List Event) → N.tells network.old log → N.tells network.new (log ++ events_of links))
@@ -88,8 +89,9 @@ fn carry_out<P: Paths, K: Timekeeper, N: Network, R: Read, W: Write>(
     match plan {
         Plan::Trial(trial) => (trial::serve(rt, time, &trial, input, output), None),
         Plan::Check(path) => {
+            let has_log = paths.has_log(rt, path);
             let (checked, left) = check_file(rt, path, paths);
-            (tell_sizes(checked, output), left)
+            (tell_sizes(checked, has_log, output), left)
         }
         Plan::Migrate(path) => {
             let (moved, left) = migrate_file(rt, path, paths);
@@ -110,7 +112,8 @@ fn ended<P: Paths, K: Timekeeper, N: Network, A: AsStr, R: Read, W: Write>(
     output: &mut Watched<W>,
 ) -> (Ending, Option<FileStore<P::Disk>>)
     ensures does { let world : World =
-        world_of (K.tells time.now) (P.holds paths) (P.lacks paths) (P.refuses paths) (P.says paths) in
+        world_of (K.tells time.now) (P.holds paths) (P.lacks paths) (P.refuses paths) (P.says paths)
+        (P.logs paths) in
         let s : Streams = streams R.remaining input.old input.new W.contents output.old output.new in
         (links : List (Option Link))
         × ((log : List Event) → N.tells network.old log → N.tells network.new (log ++ events_of links))
@@ -140,7 +143,8 @@ fn why_bad<A: AsStr>(alloc: Global, words: &[A], ending: &Ending) -> String
 /// the files that it leaves. `paths` tells what stands at paths, `time` the moments that the words don't
 /// fix, and on `network` a service listens.
 ///
-/// The first word is the program's name. A line on the output or on the errors goes with each status but 0:
+/// The first word is the program's name. A line on the output or on the errors goes with each status but 0,
+/// and with that of a check whose file has a log:
 /// `refused n`, `vault: bad words` with lines that say why, `vault: file not opened n` or `n m`,
 /// `vault: stopped n`.
 pub fn run<P: Paths, K: Timekeeper, N: Network, A: AsStr, R: Read, W: Write, E: Write>(
@@ -154,14 +158,19 @@ pub fn run<P: Paths, K: Timekeeper, N: Network, A: AsStr, R: Read, W: Write, E: 
     errors: &mut Watched<E>,
 ) -> (u8, Option<FileStore<P::Disk>>)
     ensures does { let world : World =
-        world_of (K.tells time.now) (P.holds paths) (P.lacks paths) (P.refuses paths) (P.says paths) in
+        world_of (K.tells time.now) (P.holds paths) (P.lacks paths) (P.refuses paths) (P.says paths)
+        (P.logs paths) in
         (told : Watched W) × (links : List (Option Link))
         × ((log : List Event) → N.tells network.old log → N.tells network.new (log ++ events_of links))
         × RunsAs R.remaining W.contents E.contents world result.1
         (map A.text words.now) result.0 links input.old input.new output.old told output.new errors.old
         errors.new }
     ensures status { (result.0 ≡ 0) ⊎ (result.0 ≡ 1) ⊎ (result.0 ≡ 2) ⊎ (result.0 ≡ 3) ⊎ (result.0 ≡ 4) }
-    ensures silent { (result.0 ≡ 0) ⊎ (result.0 ≡ 1) → errors.new ≡ errors.old }
+    ensures silent { result.0 ≡ 1 → errors.new ≡ errors.old }
+    // where nothing was refused, only a check says something on the errors
+    ensures silent_done { result.0 ≡ 0 → (errors.new ≡ errors.old) ⊎ AsksFor (map A.text words.now) IsCheck
+        × Tells (E.contents (inner_of errors.old)) (E.contents (inner_of errors.new))
+        (is_stopped errors.new) log_line }
     ensures unread { (result.0 ≡ 2) ⊎ (result.0 ≡ 3) → input.new ≡ input.old }
     ensures unread_refused { result.0 ≡ 1
         → (input.new ≡ input.old) ⊎ AsksFor (map A.text words.now) IsBatch }

@@ -1,4 +1,4 @@
-//! The names of a file while it is made.
+//! The names beside a file's own.
 ghost use Rattle.std.specs.Prelude.{◌≡◌, ◌≢◌, [], List, ℕ, ◌++◌, codes, Some, None, IfOk};
 ghost use Rattle.std.specs.Path.{path_parent};
 ghost use Rattle.std.specs.String.{string_bytes};
@@ -12,6 +12,15 @@ pub(crate) fn second_name<A: Allocator>(alloc: A, path: &str) -> Result<String<A
 {
     let mut name = String::from_str(alloc, path)?;
     name.push_str("-new")?;
+    Ok(name)
+}
+
+/// The name of a file's log.
+pub(crate) fn log_name<A: Allocator>(alloc: A, path: &str) -> Result<String<A>, AllocError>
+    ensures { IfOk result (λ name. string_bytes name ≡ path.now ++ codes "-wal") }
+{
+    let mut name = String::from_str(alloc, path)?;
+    name.push_str("-wal")?;
     Ok(name)
 }
 

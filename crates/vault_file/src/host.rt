@@ -2,6 +2,7 @@
 use crate::paths::{Paths, is_no_path};
 use sqlite::{Connection, FileFrom, FileStore, Start};
 use std::{fs, io};
+use vault_blank::log::has_log;
 use vault_blank::make::{is_missing, make_blank};
 use vault_recover::options::Cache;
 use vault_recover::reopen::open_path;
@@ -36,8 +37,14 @@ impl<S: Start> Paths for HostPaths<S> {
 
     ghost says = { λ _ _ _. Unit {0} };
 
+    ghost logs = { λ _ _ _. Unit {0} };
+
     fn is_missing(&self, rt: &HostRuntime, path: &str) -> bool {
         is_missing(rt, path)
+    }
+
+    fn has_log(&self, rt: &HostRuntime, path: &str) -> bool {
+        has_log(rt, path)
     }
 
     fn read(&self, rt: &HostRuntime, path: &str) -> io::Result<Vec<u8>> {

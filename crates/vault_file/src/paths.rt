@@ -25,10 +25,10 @@ pub(crate) fn is_no_path(path: &str) -> bool
 /// The paths of a host, and what stands at them.
 ///
 /// Contracts see what is told of a path: which bytes its database file and its log hold, that nothing has its
-/// name, that its files may not be opened, and which text its file is. Code over any `Paths` is told each of
-/// these by a call for this very path alone.
+/// name, that its files may not be opened, which text its file is, and whether it has a log. Code over any
+/// `Paths` is told each of these by a call for this very path alone.
 pub trait Paths: Drop {
-    ghost use Rattle.std.specs.Prelude.{ℕ, List};
+    ghost use Rattle.std.specs.Prelude.{ℕ, Bool, List};
     ghost use Rattle.sqlite_wal.specs.Recovery.{Image};
 
     type Disk: Disk + Drop;
@@ -45,9 +45,17 @@ pub trait Paths: Drop {
     // the bytes of the file at a path are such a text
     ghost says: { Self → List ℕ → List ℕ → Type 0 };
 
+    // it is said whether something stands in the log beside the file at a path
+    ghost logs: { Self → List ℕ → Bool → Type 0 };
+
     /// Whether nothing has the name, in a folder that is there.
     fn is_missing(&self, rt: &HostRuntime, path: &str) -> bool
         ensures { IsTrue result → lacks self.now path.now };
+
+    /// Whether something stands in the log beside the file at a path. Where that can't be told, it is taken
+    /// to.
+    fn has_log(&self, rt: &HostRuntime, path: &str) -> bool
+        ensures { logs self.now path.now result };
 
     /// The bytes of the file at a path.
     fn read(&self, rt: &HostRuntime, path: &str) -> io::Result<Vec<u8>>

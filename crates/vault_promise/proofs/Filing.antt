@@ -362,6 +362,7 @@ module _ {D : Type 0} {g : Ghosts D} (world : World) (image next : Image) where
             → DoesOnFile world.tells (world.holds path) left t e unread unsent s → IsFrom image r next
         by_ending ending.Done is h = worked (Ok outcome.Done) unread unsent still quiet (λ _. refl) h
         by_ending ending.Version is h = absurd h
+        by_ending ending.DoneWithLog is h = absurd h
         by_ending (ending.Refused n) is h =
             worked (Ok (outcome.Refused n)) unread unsent still quiet (λ d. absurd (cc (d, ends, is))) h
         by_ending ending.SomeRefused is h =
@@ -428,11 +429,12 @@ module _ {D : Type 0} {g : Ghosts D} (world : World) (image next : Image) where
 pub each_is_run : {D R W E K P : Type 0} (g : Ghosts D) (remaining : R → Known) (contents : W → Known)
     (said : E → Known) (tells : K → Turns) (holds : P → List ℕ → Image → Type 0)
     (lacks refuses : P → List ℕ → Type 0) (says : P → List ℕ → List ℕ → Type 0)
-    → EveryRunIsOne g remaining contents said tells holds lacks refuses says
-each_is_run g remaining contents said tells holds lacks refuses says image next left words status time paths
-    links i i' o told o' e e' h at leaves =
+    (logs : P → List ℕ → Bool → Type 0)
+    → EveryRunIsOne g remaining contents said tells holds lacks refuses says logs
+each_is_run g remaining contents said tells holds lacks refuses says logs image next left words status time
+    paths links i i' o told o' e e' h at leaves =
     let world : World =
-    world_of (tells time) (holds paths) (lacks paths) (refuses paths) (says paths) in
+    world_of (tells time) (holds paths) (lacks paths) (refuses paths) (says paths) (logs paths) in
     all world image next left words h.ending
     (with_links (streams remaining i i' contents o told) links) (i' ≡ i) (told ≡ o)
     (λ same. subst (λ u. Consumes (remaining i.inner) (remaining u.inner) []) (sym same)

@@ -24,3 +24,4 @@ MayBeLeftIn files image = MayBeLeftOf files.log image.log × MayBeLeftOf files.d
 abbrev pub memory_world : Turns → Image → World
 memory_world tells image =
     world_of tells (λ path found. found ≡ image) (λ path. Unit {0}) (λ path. Unit {0}) (λ path text. Unit {0})
+    (λ path log. Unit {0})

@@ -1,7 +1,7 @@
 -- Runs of the program over one file, one after the other, each with the bytes that the one before it left or
 -- that a stop may leave of these.
 use Rattle.std.proofs.Common.{inl, inr}
-use Rattle.std.specs.Prelude.{◌≡◌, ◌⊎◌, ℕ, List, [], ◌∷◌, ◌++◌, IfSome, Option, Some, None}
+use Rattle.std.specs.Prelude.{◌≡◌, ◌⊎◌, ℕ, Bool, List, [], ◌∷◌, ◌++◌, IfSome, Option, Some, None}
 use Rattle.clap.specs.Words.{Text}
 use Rattle.sqlite.specs.View.{IsClean}
 use Rattle.sqlite_disk.specs.declared.Disk.{Ghosts}
@@ -165,14 +165,15 @@ IsFound words Holding = (job : Job) (path : List ℕ) → IsAsked program_app wo
 -- of its words hold these bytes; and with whatever bytes the next one begins: it is a run up to these.
 module _ {D R W E K P : Type 0} (g : Ghosts D) (remaining : R → Known) (contents : W → Known)
     (said : E → Known) (tells : K → Turns) (holds : P → List ℕ → Image → Type 0)
-    (lacks refuses : P → List ℕ → Type 0) (says : P → List ℕ → List ℕ → Type 0) where
+    (lacks refuses : P → List ℕ → Type 0) (says : P → List ℕ → List ℕ → Type 0)
+    (logs : P → List ℕ → Bool → Type 0) where
   abbrev pub EveryRunIsOne : Type 0
   EveryRunIsOne =
       (image next : Image) (left : Option (FileStore D g)) (words : List Text) (status : ℕ) (time : K)
       (paths : P) (links : List (Option Link)) (i i' : Watched R) (o told o' : Watched W) (e e' : Watched E)
       → (it : RunsAs remaining contents said
-      (world_of (tells time) (holds paths) (lacks paths) (refuses paths) (says paths)) left words status
-      links i i' o told o' e e')
+      (world_of (tells time) (holds paths) (lacks paths) (refuses paths) (says paths) (logs paths)) left words
+      status links i i' o told o' e e')
       → IsFound words (λ path. holds paths path image) → Leaves image left next
       → (let s : Streams = with_links (streams remaining i i' contents o told) links in
       IsRun (record { begins = image; words = words; ending = it.ending; streams = s }) next)

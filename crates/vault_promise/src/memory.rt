@@ -38,8 +38,14 @@ impl Paths for MemoryPaths {
 
     ghost says = { λ _ _ _. Unit {0} };
 
+    ghost logs = { λ _ _ _. Unit {0} };
+
     fn is_missing(&self, _rt: &HostRuntime, _path: &str) -> bool {
         false
+    }
+
+    fn has_log(&self, _rt: &HostRuntime, _path: &str) -> bool {
+        true
     }
 
     fn read(&self, _rt: &HostRuntime, _path: &str) -> io::Result<Vec<u8>> {

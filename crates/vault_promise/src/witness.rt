@@ -37,7 +37,8 @@ pub fn run_again<P: Paths, K: Timekeeper, N: Network, A: AsStr, R: Read, W: Writ
     errors: &mut Watched<E>,
 ) -> (u8, Option<FileStore<P::Disk>>)
     ensures { let world : World =
-        world_of (K.tells time.now) (P.holds paths) (P.lacks paths) (P.refuses paths) (P.says paths) in
+        world_of (K.tells time.now) (P.holds paths) (P.lacks paths) (P.refuses paths) (P.says paths)
+        (P.logs paths) in
         (image : Image) → IsFound (map A.text words.now) (λ path. P.holds paths path image)
         → (r : Run) × (r.begins ≡ image)
         × IsCallOf P.Disk.Disk R.remaining W.contents E.contents (N.tells network.old) (N.tells network.new)
@@ -53,8 +54,8 @@ impl KeptFiles {
     /// Runs the program once more on the files, and answers its exit status and the files again; none, where
     /// they weren't opened.
     ///
-    /// This very call is a run after those before it, and what each of them answered stands in those after it. A
-    /// request that one of them answered a token, if this one is asked it again, is answered that token.
+    /// This very call is a run after those before it, and what each of them answered stands in later ones.
+    /// A request that one of them answered a token, if this one is asked it again, is answered that token.
     pub fn again<K: Timekeeper, N: Network, A: AsStr, R: Read, W: Write, E: Write>(
         self,
         rt: &HostRuntime,

@@ -1,7 +1,7 @@
 -- A step that replaces a table: the newer one is made, filled from the older one, which is emptied, and the
 -- version is said. Once for every such step.
-use Rattle.std.proofs.Common.{◌≡◌, ◌++◌, ℕ, ℤ, pos, true, List, [], ◌∷◌, Option, Some, None, Ordering, refl, ap}
-use Rattle.std.proofs.Common.{option_map, slice_get}
+use Rattle.std.proofs.Common.{◌≡◌, ◌++◌, ℕ, ℤ, pos, true, List, [], ◌∷◌, Option, Some, None, refl, ap}
+use Rattle.std.proofs.Common.{Ordering, option_map, slice_get}
 use Rattle.sqlite.specs.Change.{created}
 use Rattle.sqlite.specs.Effect.{Database}
 use Rattle.sqlite.specs.Order.{Row}
@@ -53,7 +53,8 @@ module _ {next : Schema} {K X Y : Type 0} {cmp : K → K → Ordering} {key : K 
   abbrev pub emptied : List Claim → List Claim
   emptied before = at_place (copied before) old.place IsEmpty
 
-  module _ {s : Schema} {claims : List Claim} {base : Database} {a b c d e : State} {create copy empty version : List ℕ} {t : Table}
+  module _ {s : Schema} {claims : List Claim} {base : Database} {a b c d e : State}
+      {create copy empty version : List ℕ} {t : Table}
       {project : List Term} (m n : ℕ) (fine : is_plain next ≡ true) (w : Within s claims base a)
       (makes : MakesTable s create t) (is : created s t ≡ next)
       (copies : IsWrite next copy (insert_from new.place old.table.tree project))

@@ -1,7 +1,7 @@
 //! `check`: the whole check of a file.
 ghost use Rattle.std.specs.Prelude.{◌≡◌};
 ghost use Rattle.vault_wire.specs.Watching.{inner_of, is_stopped};
-ghost use Rattle.vault_app.specs.Plans.{TellsSizes};
+ghost use Rattle.vault_app.specs.Plans.{TellsSizes, beside};
 
 use crate::ending::Ending;
 use crate::line::end_with;
@@ -11,12 +11,24 @@ use vault_file::fault::NotOpened;
 use vault_verdict::sizes::Sizes;
 use vault_wire::watched::Watched;
 
-/// Says how many merchants, entries and records a file's vault has; or ends as the file isn't opened.
+/// The end of a check, by that of its line.
+fn end_beside(has_log: bool, line: Ending) -> Ending
+    ensures { result ≡ beside has_log line }
+{
+    match line {
+        Ending::Done if has_log => Ending::DoneWithLog,
+        ended => ended,
+    }
+}
+
+/// Says how many merchants, entries and records a file's vault has, and ends as the file has a log or none.
+/// Or it ends as the file isn't opened.
 pub(crate) fn tell_sizes<W: Write>(
     checked: Result<Sizes, NotOpened>,
+    has_log: bool,
     output: &mut Watched<W>,
 ) -> Ending
-    ensures { TellsSizes checked result (output.new ≡ output.old) (W.contents (inner_of output.old))
+    ensures { TellsSizes has_log checked result (output.new ≡ output.old) (W.contents (inner_of output.old))
         (W.contents (inner_of output.new)) (is_stopped output.new) }
 {
     let sizes = match checked {
@@ -26,7 +38,7 @@ pub(crate) fn tell_sizes<W: Write>(
     let mut merchants = Buffer::new();
     let mut entries = Buffer::new();
     let mut records = Buffer::new();
-    end_with(
+    let line = end_with(
         output,
         &[
             "sound ",
@@ -37,5 +49,6 @@ pub(crate) fn tell_sizes<W: Write>(
             records.format(sizes.records),
             "\n",
         ],
-    )
+    );
+    end_beside(has_log, line)
 }

@@ -1,5 +1,5 @@
 //! Batches on files, and the same ones over ordered maps.
-use super::running::{Step, end_so, is_folder_made, is_missing};
+use super::running::{HAS_LOG, Step, end_so, is_folder_made, is_missing};
 use std::alloc::Global;
 use std::io::{Read, Write};
 use vault_batch::asker::Asker;
@@ -82,7 +82,7 @@ const AGAIN: [Step; 4] = [
         TWO_TOKENS,
         "",
     ),
-    ("vault check FILE", "", 0, "sound 1 2 2\n", ""),
+    ("vault check FILE", "", 0, "sound 1 2 2\n", HAS_LOG),
 ];
 
 #[test]
@@ -129,7 +129,7 @@ const UNBATCHED: [Step; 6] = [
         "request,answer,detail\n1,0000000000001111,1060\n",
         "vault: stopped 44\n",
     ),
-    ("vault check FILE", "", 0, "sound 1 1 1\n", ""),
+    ("vault check FILE", "", 0, "sound 1 1 1\n", HAS_LOG),
 ];
 
 #[test]

@@ -1,6 +1,6 @@
 //! The program on files of the tests' own folders.
 use super::running::{
-    ASKED, FIRST_TOKEN, Step, answer, end_so, is_folder_made, is_missing, run_on, trial,
+    ASKED, FIRST_TOKEN, HAS_LOG, Step, answer, end_so, is_folder_made, is_missing, run_on, trial,
 };
 use std::net::TcpListener;
 use std::{fs, io};
@@ -35,7 +35,7 @@ const SHOP: [Step; 5] = [
         FIRST_TOKEN,
         "",
     ),
-    ("vault check FILE", "", 0, "sound 1 1 1\n", ""),
+    ("vault check FILE", "", 0, "sound 1 1 1\n", HAS_LOG),
 ];
 
 #[test]
@@ -198,7 +198,7 @@ const LEADS: [Step; 8] = [
         "",
     ),
     ("vault pipe --now 1000 --digits 0 FILE", VIEW, 0, SIX, ""),
-    ("vault check FILE", "", 0, "sound 1 1 1\n", ""),
+    ("vault check FILE", "", 0, "sound 1 1 1\n", HAS_LOG),
 ];
 
 #[test]
@@ -211,7 +211,7 @@ fn a_token_is_shown_with_its_merchants_lead(rt: HostRuntime) {
 const MIGRATED: [Step; 3] = [
     ("vault migrate FILE", "", 0, "schema 4\n", ""),
     ("vault migrate FILE", "", 0, "schema 4\n", ""),
-    ("vault check FILE", "", 0, "sound 0 0 0\n", ""),
+    ("vault check FILE", "", 0, "sound 0 0 0\n", HAS_LOG),
 ];
 
 #[test]
@@ -372,7 +372,7 @@ const STATUSES: [Step; 4] = [
 ];
 
 /// The file afterwards.
-const STATUSES_SOUND: [Step; 1] = [("vault check FILE", "", 0, "sound 1 0 0\n", "")];
+const STATUSES_SOUND: [Step; 1] = [("vault check FILE", "", 0, "sound 1 0 0\n", HAS_LOG)];
 
 #[test]
 fn each_status_goes_with_its_line(rt: HostRuntime) {

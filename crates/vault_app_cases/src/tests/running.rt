@@ -20,6 +20,9 @@ pub const ASKED: &str = "POST /v1/merchants/shop1/tokens HTTP/1.1\r\nHost: vault
      X-Vault-Caller: till-1\r\nX-Vault-Request: 7\r\nContent-Length: 44\r\n\r\n\
      {\"number\":\"4111111111111111\",\"use\":\"single\"}";
 
+/// What a check says on the errors of a file with a log.
+pub const HAS_LOG: &str = "vault: the file has a log, FILE-wal, and a copy needs both\n";
+
 /// What a run of the program gave.
 #[derive(Drop)]
 pub struct Ran {

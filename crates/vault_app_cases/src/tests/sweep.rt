@@ -1,5 +1,5 @@
 //! Sweeps on files.
-use super::running::{Step, end_so, is_folder_made, is_missing};
+use super::running::{HAS_LOG, Step, end_so, is_folder_made, is_missing};
 
 /// The revocation of the third token, by `back`.
 const REVOKE: &str = "POST /v1/merchants/shop1/tokens/2222222222221111/revoke HTTP/1.1\r\n\
@@ -113,7 +113,7 @@ const SWEPT: [Step; 5] = [
     ),
     ("vault pipe --now 1065 FILE", NUMBER, 0, GIVEN, ""),
     ("vault pipe --now 1065 FILE", AUDIT, 0, COUNTS, ""),
-    ("vault check FILE", "", 0, "sound 1 3 3\n", ""),
+    ("vault check FILE", "", 0, "sound 1 3 3\n", HAS_LOG),
 ];
 
 #[test]

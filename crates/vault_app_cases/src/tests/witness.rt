@@ -1,5 +1,5 @@
 //! Runs of the program one after the other over files in memory, with a stop after each.
-use super::running::{ASKED, FIRST_TOKEN, Ran, Step, words_of};
+use super::running::{ASKED, FIRST_TOKEN, HAS_LOG, Ran, Step, words_of};
 use vault_listen::network::Loopback;
 use vault_listen::peer::Limits;
 use vault_live::time::ClockTime;
@@ -84,7 +84,7 @@ const AGAIN: [Step; 6] = [
         FIRST_TOKEN,
         "",
     ),
-    ("vault check FILE", "", 0, "sound 1 1 1\n", ""),
+    ("vault check FILE", "", 0, "sound 1 1 1\n", HAS_LOG),
     (
         "vault pipe --now 1055 --digits 123 FILE",
         ASKED,

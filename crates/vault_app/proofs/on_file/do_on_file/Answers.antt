@@ -12,7 +12,8 @@ pub returns-in-Err : goal.returns-in-Err
 returns-in-Err g c =
     let paths = c.args.paths in
     let world : World = world_of (g.K.Timekeeper.tells c.args.time.now) (g.P.Paths.holds paths)
-    (g.P.Paths.lacks paths) (g.P.Paths.refuses paths) (g.P.Paths.says paths) in
+    (g.P.Paths.lacks paths) (g.P.Paths.refuses paths) (g.P.Paths.says paths)
+    (g.P.Paths.logs paths) in
     let s : Streams = with_links (streams g.R.Read.remaining c.args.input.now c.args.input.now
     g.W.Write.contents c.args.output.now c.args.output.now) [] in
     let told = c.in-Err.ensures in
@@ -46,7 +47,8 @@ returns g c =
     let it = c.do_task-outcome.ensures.does in
     let paths = c.args.paths in
     let world : World = world_of (g.K.Timekeeper.tells c.args.time.now) (g.P.Paths.holds paths)
-    (g.P.Paths.lacks paths) (g.P.Paths.refuses paths) (g.P.Paths.says paths) in
+    (g.P.Paths.lacks paths) (g.P.Paths.refuses paths) (g.P.Paths.says paths)
+    (g.P.Paths.logs paths) in
     let s : Streams = with_links (streams g.R.Read.remaining c.args.input.now c.do_task-outcome.new.input
     g.W.Write.contents c.args.output.now c.do_task-outcome.new.output) it.0 in
     let unread : Type 0 = c.do_task-outcome.new.input ≡ c.args.input.now in

@@ -17,9 +17,10 @@ returns-in-Stopped-clause-said g c =
 pub returns-in-BadWords-clause-said : goal.returns-in-BadWords-clause-said
 returns-in-BadWords-clause-said g c =
     let old = g.E.Write.contents (inner_of c.args.errors.now) in
-    let new = g.E.Write.contents (inner_of c.tell.new.writer) in
+    let told = c.tell-in-BadWords.new.writer in
+    let new = g.E.Write.contents (inner_of told) in
     rw c.in-BadWords.is (
       refl,
-      subst (λ (t : List ℕ). Tells old new (is_stopped c.tell.new.writer) (codes "vault: bad words\n" ++ t))
-          (append-nil c.args.why.now) c.tell.ensures,
+      subst (λ (t : List ℕ). Tells old new (is_stopped told) (codes "vault: bad words\n" ++ t))
+          (append-nil c.args.why.now) c.tell-in-BadWords.ensures,
     )

@@ -9,7 +9,8 @@ pub returns-in-Check : goal.returns-in-Check
 returns-in-Check g c =
     let paths = c.args.paths in
     let world : World = world_of (g.K.Timekeeper.tells c.args.time.now) (g.P.Paths.holds paths)
-    (g.P.Paths.lacks paths) (g.P.Paths.refuses paths) (g.P.Paths.says paths) in
+    (g.P.Paths.lacks paths) (g.P.Paths.refuses paths) (g.P.Paths.says paths)
+    (g.P.Paths.logs paths) in
     let s : Streams = with_links (streams g.R.Read.remaining c.args.input.now c.args.input.now
     g.W.Write.contents c.args.output.now c.tell_sizes.new.output) [] in
     let told = c.check_file-checked.ensures in
@@ -25,7 +26,7 @@ returns-in-Check g c =
                 (c.tell_sizes.new.output ≡ c.args.output.now) s c.check_file-checked.result.1
                 c.check_file-checked.result.0 told.empty told.refused told.refused_there told.sound told.never
                 told.tells told.same told.left,
-            c.tell_sizes.ensures,
+            (c.has_log-has_log.result, c.has_log-has_log.ensures, c.tell_sizes.ensures),
           ),
         ),
       );
@@ -35,7 +36,8 @@ pub returns-in-Migrate : goal.returns-in-Migrate
 returns-in-Migrate g c =
     let paths = c.args.paths in
     let world : World = world_of (g.K.Timekeeper.tells c.args.time.now) (g.P.Paths.holds paths)
-    (g.P.Paths.lacks paths) (g.P.Paths.refuses paths) (g.P.Paths.says paths) in
+    (g.P.Paths.lacks paths) (g.P.Paths.refuses paths) (g.P.Paths.says paths)
+    (g.P.Paths.logs paths) in
     let s : Streams = with_links (streams g.R.Read.remaining c.args.input.now c.args.input.now
     g.W.Write.contents c.args.output.now c.tell_moved.new.output) [] in
     let told = c.migrate_file-moved.ensures in

@@ -12,7 +12,8 @@ returns-in-Ok g c =
     let it = c.carry_out.ensures.does in
     let paths = c.args.paths in
     let world : World = world_of (g.K.Timekeeper.tells c.args.time.now) (g.P.Paths.holds paths)
-    (g.P.Paths.lacks paths) (g.P.Paths.refuses paths) (g.P.Paths.says paths) in record {
+    (g.P.Paths.lacks paths) (g.P.Paths.refuses paths) (g.P.Paths.says paths)
+    (g.P.Paths.logs paths) in record {
       does = (
         it.0,
         it.1,
