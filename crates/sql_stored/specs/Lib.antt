@@ -1,3 +1,4 @@
+pub mod Keyed
 pub mod Places
 pub mod Reading
 pub mod Texts

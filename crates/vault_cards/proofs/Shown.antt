@@ -25,12 +25,11 @@ use Rattle.vault_schema.specs.Versions.{Tables, claims_of, schema_of}
 use Rattle.vault_schema.specs.declared.v2.Card.{Card}
 use Rattle.vault_schema.specs.declared.v2.TheConstants.{FIND_CARD, FIND_ENTRY, FIND_USES}
 use Rattle.vault_schema.specs.declared.version.Version.{Version}
-use Rattle.vault_schema.specs.declared.version.Version.TheVariants.{One, Two, Three, Four}
-use Rattle.vault_schema.proofs.Version2.Codes as two
-use Rattle.vault_schema.proofs.Version2.Texts.{card_tests}
+use Rattle.vault_schema.proofs.Behind.{behind_two, cards_guarded, indexes_behind_two}
+use Rattle.vault_schema.proofs.ByTable.{second_claims}
+use Rattle.vault_schema.proofs.Version2.Texts.{card_is, card_tests, entry_is, uses_is}
 use Rattle.vault_cards.specs.Cards.{ShowsCard, card_shown, uses_column}
-use Rattle.vault_cards.proofs.Places.{card_is_at, card_table_of, entry_is_at, pointing_in3, pointing_in4}
-use Rattle.vault_cards.proofs.Places.{uses_is_at}
+use Rattle.vault_cards.proofs.Places.{HasCards, card_table, cards_where, pointing_table, said_second, second}
 
 abbrev is_wanted : Bytes → Bytes → ℤ → Card → Bool
 is_wanted m number id c = is_eq (bytes_cmp c.merchant m) && is_eq (bytes_cmp c.number number)
@@ -79,47 +78,29 @@ one_card old new it rows cards table said are guarded means m number shown =
     itself : (c : Card) → c.merchant ≡ m → c.number ≡ number → is_wanted m number (pos 0) c ≡ true
     itself c own same = rw (own, same, tied_itself bytes_total m, tied_itself bytes_total number) refl
 
-pub shows_card : (v : Version) (t : Tables) (old new : State)
-    (it : Stands (schema_of v) (claims_of v t) old.now) (rows : List Row) (m number : Bytes)
-    → Shown FIND_CARD.now (Text m ∷ Text number ∷ []) old new rows
-    → ShowsCard rows t.cards m number
-shows_card One t old new it rows m number shown = absurd it.rows
-shows_card Two t old new it rows m number shown =
-    one_card old new it rows t.cards (card_table_of Two tt) (λ are. are) it.rows.1.1.1.1.1.1.0
-    (record { index = _; only = refl; order = refl; columns = refl }) (card_is_at Two tt) m number shown
-shows_card Three t old new it rows m number shown =
-    one_card old new it rows t.cards (card_table_of Three tt) (λ are. are) it.rows.1.1.1.1.1.1.0
-    (record { index = _; only = refl; order = refl; columns = refl }) (card_is_at Three tt) m number shown
-shows_card Four t old new it rows m number shown =
-    one_card old new it rows t.cards (card_table_of Four tt) (λ are. are) it.rows.1.1.1.1.1.1.0
-    (record { index = _; only = refl; order = refl; columns = refl }) (card_is_at Four tt) m number shown
+module _ (v : Version) (t : Tables) (old new : State) (it : Stands (schema_of v) (claims_of v t) old.now)
+    (rows : List Row) where
+  has : HasCards v
+  has = cards_where v t old.now.trees it.rows
 
-pub shows_uses : (v : Version) (t : Tables) (old new : State)
-    (it : Stands (schema_of v) (claims_of v t) old.now) (rows : List Row) (id : ℤ)
-    → Shown FIND_USES.now (Int id ∷ []) old new rows
-    → rows ≡ one_of uses_column (t.cards id)
-shows_uses One t old new it rows id shown = absurd it.rows
-shows_uses Two t old new it rows id shown =
-    look_up_id old new it _ _ rows shown (card_table_of Two tt) t.cards (λ are. are) 0 _
-    (uses_is_at Two tt) id refl uses_column (λ c. refl)
-shows_uses Three t old new it rows id shown =
-    look_up_id old new it _ _ rows shown (card_table_of Three tt) t.cards (λ are. are) 0 _
-    (uses_is_at Three tt) id refl uses_column (λ c. refl)
-shows_uses Four t old new it rows id shown =
-    look_up_id old new it _ _ rows shown (card_table_of Four tt) t.cards (λ are. are) 0 _
-    (uses_is_at Four tt) id refl uses_column (λ c. refl)
+  stands : Stands (second v) (second_claims v t) old.now
+  stands = said_second v has (λ s claims. Stands s claims old.now) t it
 
-pub shows_pointing : (v : Version) (t : Tables) (old new : State)
-    (it : Stands (schema_of v) (claims_of v t) old.now) (rows : List Row) (key : Bytes × Bytes)
-    → Shown FIND_ENTRY.now (Text key.0 ∷ Text key.1 ∷ []) old new rows
-    → rows ≡ one_of pointing_columns (t.pointing key)
-shows_pointing One t old new it rows key shown = absurd it.rows
-shows_pointing Two t old new it rows key shown =
-    look_up old new it _ _ rows shown two.pointing_table t.pointing (λ are. are) _ (entry_is_at Two tt) key
-    refl pointing_columns (λ n x. refl)
-shows_pointing Three t old new it rows key shown =
-    look_up old new it _ _ rows shown pointing_in3 t.pointing (λ are. are) _ (entry_is_at Three tt) key refl
-    pointing_columns (λ n x. refl)
-shows_pointing Four t old new it rows key shown =
-    look_up old new it _ _ rows shown pointing_in4 t.pointing (λ are. are) _ (entry_is_at Four tt) key refl
-    pointing_columns (λ n x. refl)
+  pub shows_card : (m number : Bytes) → Shown FIND_CARD.now (Text m ∷ Text number ∷ []) old new rows
+      → ShowsCard rows t.cards m number
+  shows_card m number shown =
+      one_card old new stands rows t.cards (card_table v) (λ are. are) stands.rows.1.1.1.1.1.1.0
+      (cards_guarded v) (card_is (behind_two v) (indexes_behind_two v)) m number shown
+
+  pub shows_uses : (id : ℤ) → Shown FIND_USES.now (Int id ∷ []) old new rows
+      → rows ≡ one_of uses_column (t.cards id)
+  shows_uses id shown =
+      look_up_id old new stands _ _ rows shown (card_table v) t.cards (λ are. are) 0 _
+      (uses_is (behind_two v) (indexes_behind_two v)) id refl uses_column (λ c. refl)
+
+  pub shows_pointing : (key : Bytes × Bytes)
+      → Shown FIND_ENTRY.now (Text key.0 ∷ Text key.1 ∷ []) old new rows
+      → rows ≡ one_of pointing_columns (t.pointing key)
+  shows_pointing key shown =
+      look_up old new stands _ _ rows shown (pointing_table v) t.pointing (λ are. are) _
+      (entry_is (behind_two v) (indexes_behind_two v)) key refl pointing_columns (λ n x. refl)

@@ -1,24 +1,12 @@
 //! Values as parameters of a statement.
 ghost use Rattle.std.specs.Prelude.{◌≡◌};
 ghost use Rattle.sqlite_value.specs.Value.{owned};
-ghost use Rattle.vault_schema.specs.Version1.Rows.{number_or_null};
 ghost use Rattle.vault_schema.specs.Version2.Rows.{id_or_null};
 
 use sqlite::types::ValueRef;
-use vault_core::moment::Moment;
 
 /// The greatest number that a column holds.
 pub const GREATEST: u64 = 9223372036854775807;
-
-/// A moment, or NULL where there is none.
-pub fn moment_value<'a>(moment: Option<Moment>) -> ValueRef<'a>
-    ensures { owned result ≡ number_or_null moment }
-{
-    match moment {
-        Some(at) => ValueRef::Int(at.seconds() as i64),
-        None => ValueRef::Null,
-    }
-}
 
 /// The id of a card, or NULL where there is none.
 pub(crate) fn id_value<'a>(card: Option<i64>) -> ValueRef<'a>

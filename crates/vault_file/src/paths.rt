@@ -16,7 +16,7 @@ use std::io;
 use vault_recover::options::Cache;
 
 /// Whether the words name no file: the database keeps `:memory:` and what begins with `file:` for itself.
-pub(crate) fn is_no_path(path: &str) -> bool
+pub fn is_no_path(path: &str) -> bool
     ensures { IsTrue result ↔ IsNoPath path.now }
 {
     path.is_empty() || path == ":memory:" || path.starts_with("file:")

@@ -1,11 +1,12 @@
 -- The entries of a vault in schema 1 are those that its rows show.
-use Rattle.std.proofs.Common.{arith, ◌≡◌, List, drop, map, Some, sym, ap, subst, ◌∙◌}
+use Rattle.std.proofs.Common.{arith, true, false, refl, ◌≡◌, List, drop, map, Some, sym, ap, subst, ◌∙◌}
 use Rattle.std.specs.FinMap as finite
 use Rattle.sqlite.specs.Order.{Row}
 use Rattle.sqlite.specs.Tree.{Trees}
 use Rattle.sqlite_rules.proofs.ProbeLemmas.{has_mapped, mapped_has}
 use Rattle.sqlite_rules.specs.Lists.{Has}
 use Rattle.sql_maps.specs.Rows.{AreRowsOf}
+use Rattle.sql_maps.specs.States.{StandsIn}
 use Rattle.std.specs.List.Sorted.{IsPermutation}
 use Rattle.vault_core.specs.Keys.{Bytes}
 use Rattle.vault_core.specs.Vault.{Vault, entry_at}
@@ -17,9 +18,10 @@ use Rattle.vault_verdict.specs.declared.replaced.OldEntry.{OldEntry}
 use Rattle.vault_schema.proofs.Version1.Codes.{entry_codes}
 use Rattle.vault_schema.specs.Stands.{lookups_of}
 use Rattle.vault_schema.specs.Version1.Rows.{entry_row}
-use Rattle.vault_schema.specs.Versions.{Stand}
+use Rattle.vault_schema.proofs.ByTable.{first_entries}
+use Rattle.vault_schema.specs.Layers.{Either}
+use Rattle.vault_schema.specs.Versions.{Stand, StandJoined, has_cards, schema_of, uncarded_claims}
 use Rattle.vault_schema.specs.declared.version.Version.{Version}
-use Rattle.vault_schema.specs.declared.version.Version.TheVariants.{One, Two, Three, Four}
 use Rattle.vault_migrate.specs.Typed.{old_columns, typed_columns}
 use Rattle.vault_steps.specs.Entries.{AreEntriesOf, AreFor}
 
@@ -68,7 +70,12 @@ module _ (rows : List Row) (V : Vault) (stands : AreRowsOf entry_row rows (finit
 pub are_for : (v : Version) (db : Trees) (V : Vault) → Stand v db (lookups_of V) → (olders : List OldEntry)
     → (xs : List (Bytes × Bytes × Entry)) → AreOldersIn v db olders
     → map old_columns olders ≡ map typed_columns xs → AreFor v xs (lookups_of V)
-are_for One db V s olders xs are same = are_entries (db 5) V s.rows.1.1.1.0 olders xs are same
-are_for Two db V s olders xs are same = tt
-are_for Three db V s olders xs are same = tt
-are_for Four db V s olders xs are same = tt
+are_for v db V s olders xs are same =
+    elim (has_cards v) as (λ b. has_cards v ≡ b → Either b (StandJoined v db (lookups_of V))
+    (StandsIn (schema_of v).tables (uncarded_claims v (lookups_of V)) db)
+    → Either b (Unit {0}) (IsPermutation (db 5) (map old_entry_values olders))
+    → Either b (Unit {0}) (AreEntriesOf xs (lookups_of V))) [
+      | true ↦ λ has j none. tt
+      | false ↦ λ none stands stood.
+          are_entries (db 5) V (first_entries v db (lookups_of V) none stands) olders xs stood same
+    ] refl s.rows are

@@ -56,10 +56,7 @@ one_version Four Three same = let e = many _ _ same in absurd (omega (arith, e))
 one_version Four Four same = refl
 
 pub never_blank : (v : Version) → schema_of v ≡ no_schema → ⊥
-never_blank One same = let e = many _ _ same in absurd (omega (arith, e))
-never_blank Two same = let e = many _ _ same in absurd (omega (arith, e))
-never_blank Three same = let e = many _ _ same in absurd (omega (arith, e))
-never_blank Four same = let e = many _ _ same in absurd (omega (arith, e))
+never_blank v same = let e = many _ _ same in absurd (omega (arith, e))
 
 -- a version is older or the newest
 older_or : (v : Version) → IsOlder v ⊎ (v ≡ newest)
@@ -70,23 +67,23 @@ older_or Four = inr refl
 
 -- an older version isn't the newest
 pub newest_older : (v : Version) → IsOlder v → v ≡ newest → ⊥
-newest_older One older same = absurd (let e = ap number_of same in cc)
-newest_older Two older same = absurd (let e = ap number_of same in cc)
-newest_older Three older same = absurd (let e = ap number_of same in cc)
-newest_older Four older same = older
+newest_older v older same = subst IsOlder same older
 
 pub older_schema : (v : Version) → IsOlder v → schema_of v ≡ newest_schema → ⊥
 older_schema v older same = newest_older v older (one_version v newest same)
 
 -- what a check finds in the newest version is so in the version of the schema
 pub sound_where_full : (db : Database) → IsNoOlder db → (IsFull db → IsFit db) → IsSoundWhereFull db
-sound_where_full db none checked One full = absurd (none One tt full.schema)
-sound_where_full db none checked Two full = absurd (none Two tt full.schema)
-sound_where_full db none checked Three full = absurd (none Three tt full.schema)
-sound_where_full db none checked Four full = elim (checked full.full) [
-  | inl it ↦ it
-  | inr blank ↦ absurd (never_blank Four (sym full.schema ∙ blank))
+sound_where_full db none checked v full = elim (older_or v) [
+  | inl older ↦ absurd (none v older full.schema)
+  | inr same ↦ subst (λ (w : Version). IsFullIn w db → StandsSoundIn w db) (sym same) at_newest full
 ]
+  where
+    at_newest : IsFullIn newest db → StandsSoundIn newest db
+    at_newest full = elim (checked full.full) [
+      | inl it ↦ it
+      | inr blank ↦ absurd (never_blank newest (sym full.schema ∙ blank))
+    ]
 
 -- of each failure
 pub each_err : {A : Type 0} {Q : OpenFault → Type 0} (r : Result A OpenFault) → ((e : OpenFault) → Q e)

@@ -7,10 +7,10 @@ use Rattle.sql_maps.specs.Schema.{no_schema}
 use Rattle.vault_core.specs.Sound.{Sound}
 use Rattle.vault_core.specs.Vault.{Vault}
 use Rattle.vault_schema.specs.Holds.{AreIn, HoldsIn}
-use Rattle.vault_schema.specs.Stands.{lookups_of}
+use Rattle.vault_schema.specs.Layers.{Either, is_from}
+use Rattle.vault_schema.specs.Stands.{lookups_of, newest}
 use Rattle.vault_schema.specs.Versions.{next_of, schema_of}
 use Rattle.vault_schema.specs.declared.version.Version.{Version}
-use Rattle.vault_schema.specs.declared.version.Version.TheVariants.{One, Two, Three, Four}
 use Rattle.vault_steps.specs.Entries.{AreSome}
 use Rattle.vault_verdict.specs.Opened.{IsBrokenIn, IsLeastBroken, IsVersionIn, IsWrong, LeavesFound}
 use Rattle.vault_verdict.specs.Opened.{StandsSoundIn}
@@ -19,10 +19,7 @@ use Rattle.vault_verdict.specs.Reading.{IsFull}
 
 -- a version that a step leads on from
 abbrev pub IsOlder : Version → Type 0
-IsOlder One = Unit {0}
-IsOlder Two = Unit {0}
-IsOlder Three = Unit {0}
-IsOlder Four = ⊥
+IsOlder v = Either (is_from newest v) ⊥ (Unit {0})
 
 -- the schema is that of no older version
 abbrev pub IsNoOlder : Database → Type 0

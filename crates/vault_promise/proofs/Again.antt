@@ -28,7 +28,8 @@ record ArePiped (r : Run) (W : Content) (cs : List Command) : Type 0 where
 
 -- a task answered messages, or it is another
 by_task : (r : Run) (W : Content) (cs : List Command) (t : Task)
-    → AsksFor r.words (λ job. IsTaskOf anything job t) → Tells t W cs r.streams → DidNoPipe r ⊎ ArePiped r W cs
+    → AsksFor r.words (λ job. IsTaskOf anything job t) → Tells t W cs r.streams
+    → DidNoPipe r ⊎ ArePiped r W cs
 by_task r W cs (task.Change c) asked told = inl (inr (task.Change c, asked, tt))
 by_task r W cs (task.Give rights now) asked told = inl (inr (task.Give rights now, asked, tt))
 by_task r W cs (task.Settle rights now) asked told = inl (inr (task.Settle rights now, asked, tt))

@@ -30,7 +30,8 @@ goes_on MayBeLeft MayBeLeftNow r at is V rs have = record {
 }
 
 -- where fewer bytes may be left, the same runs came
-pub fewer_left : (MayBeLeft MayBeLeftNow : Image → Type 0) → ((next : Image) → MayBeLeftNow next → MayBeLeft next)
+pub fewer_left : (MayBeLeft MayBeLeftNow : Image → Type 0)
+    → ((next : Image) → MayBeLeftNow next → MayBeLeft next)
     → (V : Content) (rs : List Run) → HaveRun V rs MayBeLeft → HaveRun V rs MayBeLeftNow
 fewer_left MayBeLeft MayBeLeftNow less V rs have = record {
   sound = have.sound;

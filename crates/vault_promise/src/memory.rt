@@ -1,21 +1,12 @@
 //! Files in memory, as the files at every path.
-ghost use Rattle.std.specs.Prelude.{◌↔◌, IsTrue};
-ghost use Rattle.vault_file.specs.Found.{IsNoPath};
 
 use sqlite::{Connection, FileStore, Files};
 use sqlite_disk::Memory;
 use std::io;
 use std::io::ErrorKind;
-use vault_file::paths::Paths;
+use vault_file::paths::{Paths, is_no_path};
 use vault_recover::options::Cache;
 use vault_recover::reopen::open_files;
-
-/// Whether the words name no file.
-fn names_no_file(path: &str) -> bool
-    ensures { IsTrue result ↔ IsNoPath path.now }
-{
-    path.is_empty() || path == ":memory:" || path.starts_with("file:")
-}
 
 /// Files in memory that lie at every path.
 #[derive(Drop)]
@@ -58,7 +49,7 @@ impl Paths for MemoryPaths {
         path: &str,
         _cache: Cache,
     ) -> Option<Connection<FileStore<Memory>>> {
-        if names_no_file(path) {
+        if is_no_path(path) {
             return None;
         }
         match open_files(rt.alloc(), self.files) {

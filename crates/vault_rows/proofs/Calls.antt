@@ -1,6 +1,6 @@
 -- The one clause of a call, from what the functions that run a text say.
 use Rattle.std.proofs.Common.{◌≡◌, ◌∙◌, ℕ, List, Ok, Err, Result, IfOk, OnOk, sym, IsTrue, true}
-use Rattle.std.proofs.Common.{false, true≢false, ◌<◌, ◌^◌}
+use Rattle.std.proofs.Common.{false, true≢false}
 use Rattle.std.proofs.Common.{◌∷◌, ◌++◌, [], suc, ℤ, arith, Option, IsErr, Ordering, subst, refl}
 use Rattle.sqlite.specs.Effect.{Database}
 use Rattle.sqlite.specs.Order.{Row}
@@ -24,12 +24,7 @@ use Rattle.sql_maps.specs.States as maps
 use Rattle.sql_maps.proofs.Calls as calls
 use Rattle.sql_maps.proofs.Statements.{Ran}
 use Rattle.vault_core.specs.Keys.{Bytes}
-use Rattle.vault_pan.specs.Mask.{lead_digits}
-use Rattle.vault_pan.specs.declared.lead.Lead.{Lead}
-use Rattle.vault_pan.specs.declared.lead.Lead.TheVariants.{Six, Eight}
-use Rattle.vault_core.specs.Numbers.{right_number}
 use Rattle.vault_core.specs.Vault.{Vault}
-use Rattle.vault_core.specs.declared.right.Right.{Right}
 use Rattle.std.specs.FinMap as map
 use Rattle.vault_schema.specs.Versions.{Lookups}
 use Rattle.vault_schema.specs.Versions.{Tables}
@@ -46,13 +41,6 @@ use Rattle.vault_schema.specs.Versions.{tables_of}
 use Rattle.sqlite_catalog.specs.Listing.{IsSound}
 
 -- ---- parameters
-
-pub small_right : (right : Right) → right_number right < 2 ^ 63
-small_right right = grind arith
-
-pub small_lead : (lead : Lead) → lead_digits lead < 2 ^ 63
-small_lead Six = omega arith
-small_lead Eight = omega arith
 
 -- ---- a vault that is held, as claims on the tables
 
@@ -292,17 +280,6 @@ makes_then {second = second} {b = b} {f = f} one two can next = record {
       did base (f h) (one.done before base h w (can h ok)) (next h ok));
 }
 
--- ---- one after another on the tables
-
--- what a query inside a transaction told is answered in other words
-pub told_so : {R R' E E' : Type 0} {x : R} {y : R'} {a b : State} {Is : Tables → R → Type 0}
-    {So : Tables → R' → Type 0} → TellsInside (let it : Result R E = Ok x in it) a b Is
-    → ((t : Tables) → Is t x → So t y) → TellsInside (let it : Result R' E' = Ok y in it) a b So
-told_so one so = record {
-  steps = one.steps;
-  told = λ clean base t w. let it = one.told clean base t w in (so t it.0, it.1);
-}
-
 -- ---- several queries
 
 on_err : {R E : Type 0} (r : Result R E) (A : Type 0) → IsErr r → OnOk r A
@@ -371,3 +348,48 @@ pub tables_so : {R E R' E' : Type 0} {x : R} {y : R'} {old new : State} {Is : Ta
     → ((t : Tables) → Is t x → So t y) → TellsTables (let it : Result R' E' = Ok y in it) old new So
 tables_so tells so =
     record { reads = reads_as tells.reads; told = λ clean t st. so t (tells.told clean t st) }
+
+-- ---- what a table's own functions say
+
+-- what is told of the tables is told of a vault
+pub told_of : {R E R' E' : Type 0} {x : R} {y : R'} {old new : State} {Of : Vault → R' → Type 0}
+    (Is : Tables → R → Type 0) → Reads newest_schema (let it : Result R E = Ok x in it) old new
+    → (HasCleanDisk new → (t : Tables) → maps.Stands newest_schema (newest_claims t) old.now → Is t x)
+    → ((V : Vault) (cards : ℤ → Option Card) (pointing : Bytes × Bytes → Option Pointing)
+    → Is (tables_of (lookups_of V) cards pointing) x → Of V y)
+    → Tells (let it : Result R' E' = Ok y in it) old new Of
+told_of {old = old} Is reads told of = record {
+  reads = reads_as reads;
+  told = λ clean V h.
+      of V h.stands.cards h.stands.pointing (told clean (held_tables old V h) (as_held old V h).stands);
+}
+
+-- what is made of the tables is made of the lookups
+pub made_of : {R E : Type 0} {result : Result R E} {old new : State} {after : Lookups → Lookups}
+    (on : Tables → Tables) → Steps old new
+    → (HasCleanDisk new → OnOk result ((base : Database) (t : Tables) → HasTables old base t
+    → HasTables new base (on t)))
+    → ((h : Lookups) (cards : ℤ → Option Card) (pointing : Bytes × Bytes → Option Pointing)
+    → on (tables_of h cards pointing) ≡ tables_of (after h) cards pointing)
+    → ((h : Lookups) → (after h).entries ≡ h.entries) → Makes result old new (λ h. Unit {0}) after
+made_of {result = result} {new = new} on steps done same keeps = record {
+  steps = steps;
+  done = λ clean. calls.on_ok result (done clean) (λ did base h w can. record {
+    cards = w.cards;
+    pointing = w.pointing;
+    has = subst (HasTables new base) (same h w.cards w.pointing)
+        (did base (tables_of h w.cards w.pointing) w.has);
+    joined = subst (AreJoined nothing_owed w.cards w.pointing) (sym (keeps h)) w.joined;
+  });
+}
+
+-- what is told of the tables inside a transaction
+pub told_inside : {R R' E' : Type 0} {x : R} {y : R'} {old new : State} {So : Tables → R' → Type 0}
+    (Is : Tables → R → Type 0) → Steps old new
+    → (HasCleanDisk new → (base : Database) (t : Tables) → HasTables old base t
+    → Is t x × HasTables new base t)
+    → ((t : Tables) → Is t x → So t y) → TellsInside (let it : Result R' E' = Ok y in it) old new So
+told_inside Is steps told so = record {
+  steps = steps;
+  told = λ clean base t w. let it = told clean base t w in (so t it.0, it.1);
+}

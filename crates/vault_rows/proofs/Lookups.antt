@@ -2,7 +2,7 @@
 use Rattle.std.proofs.Common.{◌≡◌, ◌↔◌, ℕ, ℤ, List, [], ◌∷◌, is_eq, Bool, IsTrue, false}
 use Rattle.std.proofs.Common.{true≢false}
 use Rattle.std.proofs.Common.{Option, Some, None, option_map, refl, sym, ap, ◌∙◌, arith, inl}
-use Rattle.std.proofs.Common.{inr, max, slice_get}
+use Rattle.std.proofs.Common.{inr, max}
 use Rattle.std.proofs.lemmas.Bool.Decides.{nat_tests}
 use Rattle.std.specs.FinMap as map
 use Rattle.std.specs.List.{list_all}
@@ -14,16 +14,11 @@ use Rattle.vault_schema.proofs.Newest.{behind_first, indexes_behind_first, count
 use Rattle.vault_schema.specs.Version4.Tables.{tables4, indexes4}
 use Rattle.vault_core.proofs.Maps.{bytes_exact, bytes_total}
 use Rattle.vault_core.specs.Keys.{Bytes, bytes_cmp}
-use Rattle.vault_core.specs.declared.row.GrantRow.{GrantRow}
-use Rattle.vault_schema.proofs.Version4.Codes.{right_codes}
-use Rattle.vault_schema.specs.Version1.Rows.{number_or_null}
-use Rattle.vault_schema.specs.Version4.Rows.{ends_column}
 use Rattle.vault_core.specs.Sound.{Sound}
 use Rattle.vault_core.specs.Vault.{Vault, Merchant, merchant_at, made_count, time_at}
 use Rattle.vault_core.specs.Window.{moment_at, row_at, row_of}
 use Rattle.sqlite.specs.Order.{Row, column}
 use Rattle.sqlite.specs.State.{State, Shown}
-use Rattle.sql_maps.specs.Rows.{one_of}
 use Rattle.sql_maps.specs.States.{Stands}
 use Rattle.sql_maps.specs.Texts.{by_key}
 use Rattle.sql_maps.proofs.KeyTests.{text_eq, and_true, equal_is}
@@ -33,14 +28,13 @@ use Rattle.vault_schema.specs.declared.v2.Card.{Card}
 use Rattle.vault_schema.specs.declared.v2.Pointing.{Pointing}
 use Rattle.vault_schema.specs.Version1.Rows.{number_column}
 use Rattle.vault_schema.specs.Version1.Rows.{count_row}
-use Rattle.vault_schema.specs.Version3.Rows.{lives_columns}
 use Rattle.vault_schema.specs.declared.v1.TheConstants.{FIND_COUNTS}
 use Rattle.vault_schema.specs.declared.v3.TheConstants.{COUNT_MERCHANTS}
 use Rattle.vault_schema.proofs.Version3.Codes.{merchant_coding}
 use Rattle.vault_schema.proofs.Version1.Texts.{counts_is}
 use Rattle.vault_schema.proofs.Version3.Texts.{how_many_is}
 use Rattle.vault_schema.specs.Schema.{newest_schema}
-use Rattle.vault_rows.specs.Shown.{count_columns, ShowsCounts, IsTotalOf, ShowsLives}
+use Rattle.vault_rows.specs.Shown.{count_columns, ShowsCounts, IsTotalOf}
 use Rattle.vault_schema.specs.Stands.{lives_in, count_at, unless_zero, lookups_of}
 use Rattle.vault_schema.specs.Versions.{tables_of}
 use Rattle.vault_core.proofs.Finds.{some_same}
@@ -127,44 +121,18 @@ row_is V m x is one two three e f g = go (merchant_at V m) refl
         ∙ ap (λ (o : Option Merchant). option_map_or (λ (y : Merchant). y.denied) o 0) known in
         (λ i. Some (row_with (same i) (e i) (given i) (denied i))) ∙ sym (ap (option_map (row_of V m)) known)
 
--- the lives that the one row of a query shows are those that are there
-pub lives_shown : (o : Option Lives) (rows : List Row) (row : Row) (x : Lives) → rows ≡ one_of lives_columns o
-    → Some row ≡ slice_get rows 0 → ShowsLives row x → Some x ≡ o
-lives_shown o rows row x is first shows = grind arith
-
 -- lives that are compared with those that are there
 pub same_lives : (o : Option Lives) (x y : Lives) (same : Bool) → (IsTrue same ↔ (x ≡ y)) → Some x ≡ o
     → IsTrue same ↔ (o ≡ Some y)
 same_lives o x y same tests is =
     (λ says. sym is ∙ ap Some (tests.0 says), λ there. tests.1 (some_same (is ∙ there)))
 
--- where no row is shown, there are no lives
-pub no_lives : (o : Option Lives) (y : Lives) (rows : List Row) → rows ≡ one_of lives_columns o
-    → None ≡ slice_get rows 0 → IsTrue false ↔ (o ≡ Some y)
-no_lives None y rows is first = (
+-- where nothing is found, there are no lives
+pub no_lives : (o : Option Lives) (y : Lives) → None ≡ o → IsTrue false ↔ (o ≡ Some y)
+no_lives o y none = (
   λ says. absurd (true≢false (sym says)),
-  λ there.
-      absurd (let clash : None ≡ Some y = there in cc),
+  λ there. absurd (let clash : None ≡ Some y = none ∙ there in cc),
 )
-no_lives (Some x) y rows is first =
-    let some : None ≡ Some (lives_columns x) = first ∙ ap (λ l. slice_get l 0) is in absurd cc
-
--- the right whose end the one row of a query shows is the one that is there
-pub right_shown : (o : Option GrantRow) (rows : List Row) (row : Row) (g : GrantRow)
-    → rows ≡ one_of ends_column o → Some row ≡ slice_get rows 0 → column row 0 ≡ number_or_null g.ends
-    → Some g ≡ o
-right_shown None rows row g is first at =
-    let none : Some row ≡ None = first ∙ ap (λ l. slice_get l 0) is in absurd cc
-right_shown (Some h) rows row g is first at =
-    let same : row ≡ ends_column h =
-    (let both : Some row ≡ Some (ends_column h) = first ∙ ap (λ l. slice_get l 0) is in cc) in
-    ap (λ x. Some x) (right_codes.value_back g h (λ i. (sym at ∙ ap (λ r. column r 0) same) i ∷ []))
-
-pub no_right : (o : Option GrantRow) (rows : List Row) → rows ≡ one_of ends_column o
-    → None ≡ slice_get rows 0 → None ≡ o
-no_right None rows is first = refl
-no_right (Some g) rows is first =
-    let some : None ≡ Some (ends_column g) = first ∙ ap (λ l. slice_get l 0) is in absurd cc
 
 -- where no lives are there, there is no row
 pub no_row : (V : Vault) (m : Bytes) (found : Option Lives) → found ≡ option_map lives_in (merchant_at V m)

@@ -8,39 +8,22 @@ use Rattle.sqlite.specs.declared.types.Value.TheVariants.{Int, Text}
 use Rattle.sqlite_sql.specs.declared.ops.ArithOp.TheVariants.{Add}
 use Rattle.sqlite_sql.specs.declared.ops.BinaryOp.TheVariants.{Arith}
 use Rattle.sql_maps.specs.Rows.{put}
-use Rattle.sql_maps.proofs.Statements.{Ran, change_in, insert_in, plus_one, take_in, upsert_in}
-use Rattle.vault_schema.proofs.Newest.{behind_first, indexes_behind_first, merchant_table, count_table}
+use Rattle.sql_maps.proofs.Statements.{Ran, change_in, insert_in, plus_one}
+use Rattle.vault_schema.proofs.Newest.{behind_first, indexes_behind_first, count_table}
 use Rattle.vault_schema.proofs.Newest.{record_table}
-use Rattle.vault_schema.specs.Version4.Tables.{tables4, indexes4}
-use Rattle.vault_core.specs.Keys.{Bytes, bytes_cmp, record_cmp, right_cmp}
-use Rattle.vault_core.specs.declared.right.Right.{Right}
-use Rattle.vault_core.specs.declared.row.GrantRow.{GrantRow}
+use Rattle.vault_core.specs.Keys.{Bytes, record_cmp}
 use Rattle.vault_core.specs.declared.row.Record.{Record}
 use Rattle.vault_schema.specs.Versions.{Tables}
 use Rattle.vault_schema.specs.Stands.{newest_claims}
 use Rattle.vault_schema.specs.Version1.Rows.{numbered_key, count_row}
-use Rattle.vault_schema.specs.Version3.Rows.{lives_columns}
-use Rattle.vault_schema.specs.Version4.Rows.{ends_column}
-use Rattle.vault_schema.specs.Version1.Rows.{record_columns, right_key}
-use Rattle.vault_schema.specs.declared.v3.Lives.{Lives}
+use Rattle.vault_schema.specs.Version1.Rows.{record_columns}
 use Rattle.vault_schema.specs.declared.v1.TheConstants.{RAISE_COUNT, ADD_COUNT, ADD_RECORD}
-use Rattle.vault_schema.specs.declared.v3.TheConstants.{PUT_MERCHANT}
-use Rattle.vault_schema.specs.declared.v4.TheConstants.{GIVE_RIGHT, TAKE_RIGHT}
 use Rattle.vault_schema.proofs.Version1.Texts.{raise_is, add_count_is, add_record_is}
-use Rattle.vault_schema.proofs.Version3.Texts.{put_merchant_is}
-use Rattle.vault_schema.proofs.Version4.Texts.{give_is, take_is}
-use Rattle.vault_schema.proofs.Version4.Codes.{right_table}
 use Rattle.vault_rows.specs.Calls.{HasTables}
 use Rattle.vault_schema.specs.Schema.{newest_schema}
 use Rattle.vault_rows.specs.Written.{raise_at, HasRoomAt}
 
 module _ {t : Tables} {base : Database} {old new : State} where
-  pub merchant_put : (m : Bytes) (x : Lives)
-      → Ran newest_schema (newest_claims t) base old new PUT_MERCHANT.now (Text m ∷ lives_columns x)
-      → HasTables new base (record t { merchants = put bytes_cmp t.merchants m (Some x) })
-  merchant_put m x run = upsert_in refl run merchant_table t.merchants (λ are. are) m x 6 _ 5 _
-      (put_merchant_is tables4 indexes4) refl (λ n. refl) (λ n y is. refl)
-
   pub count_raised : (at : Bytes × ℕ) → HasRoomAt t.counts at
       → (run : Ran newest_schema (newest_claims t) base old new RAISE_COUNT.now
       (Text at.0 ∷ Int (pos at.1) ∷ []))
@@ -76,16 +59,3 @@ module _ {t : Tables} {base : Database} {old new : State} where
       (insert_in refl run record_table t.records (λ are. are) at x 6 _
       (add_record_is behind_first indexes_behind_first)
       refl).1
-
-  pub right_given : (at : Bytes × (Bytes × Right)) (g : GrantRow)
-      → Ran newest_schema (newest_claims t) base old new GIVE_RIGHT.now (right_key at ++ ends_column g)
-      → HasTables new base (record t { rights = put right_cmp t.rights at (Some g) })
-  right_given at g run =
-      upsert_in refl run right_table t.rights (λ are. are) at g 5 _ 4 _ (give_is [] []) refl (λ n. refl)
-      (λ n y is. refl)
-
-  pub right_taken : (at : Bytes × (Bytes × Right))
-      → Ran newest_schema (newest_claims t) base old new TAKE_RIGHT.now (right_key at)
-      → HasTables new base (record t { rights = put right_cmp t.rights at None })
-  right_taken at run =
-      take_in refl run right_table t.rights (λ are. are) (take_is [] []) at refl

@@ -5,9 +5,7 @@ use Rattle.sqlite.specs.declared.types.Value.TheVariants.{Int, Text}
 use Rattle.sqlite_rules.specs.Lists.{Has}
 use Rattle.vault_core.specs.Keys.{Bytes}
 use Rattle.vault_core.specs.Vault.{Vault}
-use Rattle.vault_pan.specs.Mask.{lead_digits}
 use Rattle.vault_core.specs.declared.row.Record.{Record}
-use Rattle.vault_schema.specs.declared.v3.Lives.{Lives}
 use Rattle.vault_core.specs.Numbers.{use_number}
 use Rattle.vault_schema.specs.Version1.Rows.{number_or_null}
 use Rattle.vault_schema.specs.Version2.Rows.{id_or_null}
@@ -31,13 +29,6 @@ pub record ShowsRecord (row : Row) (r : Record) : Type 0 where
   pub merchant : column row 0 ≡ Text r.merchant
   pub token : column row 1 ≡ Text r.token
   pub usage : column row 2 ≡ Int (pos (use_number r.usage))
-
--- a row has the columns of a merchant's lives
-pub record ShowsLives (row : Row) (x : Lives) : Type 0 where
-  pub single_life : column row 0 ≡ Int (pos x.single_life)
-  pub multi_life : column row 1 ≡ Int (pos x.multi_life)
-  pub moment : column row 2 ≡ Int (pos x.moment)
-  pub lead : column row 3 ≡ Int (pos (lead_digits x.lead))
 
 -- a count, behind its merchant
 abbrev pub count_columns : ℕ → ℕ → Row

@@ -3,16 +3,13 @@ ghost use Rattle.std.specs.Prelude.{◌≡◌, pos, IfOk};
 ghost use Rattle.sqlite.specs.Order.{column};
 ghost use Rattle.sqlite.specs.declared.types.Value.TheVariants.{Int, Text};
 ghost use Rattle.vault_core.specs.Numbers.{right_number, use_number};
-ghost use Rattle.vault_pan.specs.Mask.{lead_digits};
-ghost use Rattle.vault_schema.specs.Version1.Rows.{text_or_null, number_or_null};
+ghost use Rattle.vault_schema.specs.Version1.Rows.{text_or_null};
 
 use sqlite::Row;
 use vault_cards::fault::StoreFault;
-use vault_core::moment::Moment;
 use vault_core::name::{Caller, MerchantId};
 use vault_core::right::Right;
 use vault_core::usage::Use;
-use vault_pan::lead::Lead;
 use vault_pan::pan::Pan;
 use vault_pan::token::Token;
 
@@ -88,41 +85,5 @@ pub(crate) fn right_in(row: &Row, at: usize) -> Result<Right, StoreFault>
         5 => Ok(Right::Purge),
         6 => Ok(Right::Audit),
         _ => Err(StoreFault),
-    }
-}
-
-/// A moment.
-pub(crate) fn moment_in(row: &Row, at: usize) -> Result<Moment, StoreFault>
-    ensures { IfOk result (λ moment. column row.now at ≡ Int (pos moment)) }
-{
-    let seconds: u64 = row.get(at)?;
-    match Moment::new(seconds) {
-        Ok(moment) => Ok(moment),
-        Err(_) => Err(StoreFault),
-    }
-}
-
-/// The lead of a merchant's masks, by its digits.
-pub(crate) fn lead_in(row: &Row, at: usize) -> Result<Lead, StoreFault>
-    ensures { IfOk result (λ lead. column row.now at ≡ Int (pos (lead_digits lead))) }
-{
-    let digits: u64 = row.get(at)?;
-    match Lead::of(digits) {
-        Some(lead) => Ok(lead),
-        None => Err(StoreFault),
-    }
-}
-
-/// A moment, or NULL.
-pub(crate) fn moment_or_null_in(row: &Row, at: usize) -> Result<Option<Moment>, StoreFault>
-    ensures { IfOk result (λ moment. column row.now at ≡ number_or_null moment) }
-{
-    let seconds: Option<u64> = row.get(at)?;
-    let Some(seconds) = seconds else {
-        return Ok(None);
-    };
-    match Moment::new(seconds) {
-        Ok(moment) => Ok(Some(moment)),
-        Err(_) => Err(StoreFault),
     }
 }

@@ -20,7 +20,7 @@ ghost use Rattle.vault_rows.specs.Cards.{HasCard};
 ghost use Rattle.vault_rows.specs.Shown.{ShowsPointing, text_column};
 
 use crate::cards::{card_rows, number_at};
-use crate::columns::{moment_in, moment_or_null_in, token_in, usage_in};
+use crate::columns::{token_in, usage_in};
 use sql_maps::run::rows_of;
 use sqlite::{Alter, Connection, Error, Row, params};
 use vault_cards::columns::card_in;
@@ -33,6 +33,7 @@ use vault_core::row::Entry;
 use vault_pan::pan::Pan;
 use vault_pan::token::Token;
 use vault_schema::v2::{FIND_CURRENT, FIND_DEAD, FIND_ENTRY, Pointing};
+use vault_tables::columns::{moment_in, moment_or_null_in};
 
 /// The row of an entry, which points at a card.
 fn pointing_rows<S: Alter>(

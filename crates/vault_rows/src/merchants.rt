@@ -10,14 +10,13 @@ ghost use Rattle.vault_core.specs.Keys.{bytes_cmp};
 ghost use Rattle.vault_rows.specs.Calls.{Makes, Tells, TellsInside, Turns};
 ghost use Rattle.vault_schema.specs.Version1.Rows.{number_column};
 ghost use Rattle.vault_rows.specs.Listed.{ShowsAll};
-ghost use Rattle.vault_schema.specs.Version3.Rows.{lives_columns, merchant_row};
-ghost use Rattle.vault_rows.specs.Shown.{IsTotalOf, ShowsCounts, ShowsLives};
+ghost use Rattle.vault_schema.specs.Version3.Rows.{merchant_row};
+ghost use Rattle.vault_rows.specs.Shown.{IsTotalOf, ShowsCounts};
 ghost use Rattle.vault_schema.specs.Stands.{lives_in};
-ghost use Rattle.sql_maps.specs.Rows.{one_of, put};
+ghost use Rattle.sql_maps.specs.Rows.{put};
 ghost use Rattle.vault_rows.specs.Written.{HasRoomAt, IsRaised, raise_at};
 
-use crate::columns::{lead_in, moment_in};
-use sql_maps::run::{change, rows_in, rows_of, step};
+use sql_maps::run::{change, rows_of, step};
 use sqlite::{Alter, Connection, Error, Row, Transaction, params};
 use vault_cards::fault::StoreFault;
 use vault_cards::text::merchant_text;
@@ -26,42 +25,15 @@ use vault_core::moment::Moment;
 use vault_core::name::MerchantId;
 use vault_core::row::MerchantRow;
 use vault_schema::v1::{ADD_COUNT, FIND_COUNTS, RAISE_COUNT};
-use vault_schema::v3::{COUNT_MERCHANTS, FIND_LIVES, Lives, PUT_MERCHANT, READ_MERCHANTS};
-
-/// The row of a merchant's lives.
-fn lives_rows<S: Alter>(conn: &mut Connection<S>, m: &str) -> Result<Vec<Row>, Error>
-    ensures { Tells result (state S.Store conn.old) (state S.Store conn.new)
-        (λ V rows. rows.items ≡ one_of lives_columns (option_map lives_in (merchant_at V m.now))) }
-{
-    rows_of(conn, FIND_LIVES, params![m])
-}
-
-/// The lives that a row shows.
-fn lives_of(row: &Row) -> Result<Lives, StoreFault>
-    ensures { IfOk result (ShowsLives row.now) }
-{
-    let single_life: u64 = row.get(0)?;
-    let multi_life: u64 = row.get(1)?;
-    let moment = moment_in(row, 2)?;
-    let lead = lead_in(row, 3)?;
-    Ok(Lives {
-        single_life,
-        multi_life,
-        moment,
-        lead,
-    })
-}
+use vault_schema::v3::{COUNT_MERCHANTS, Lives, READ_MERCHANTS};
+use vault_tables::merchants as table;
 
 /// The lives of a merchant.
 fn lives_at<S: Alter>(conn: &mut Connection<S>, m: &MerchantId) -> Result<Option<Lives>, StoreFault>
     ensures { Tells result (state S.Store conn.old) (state S.Store conn.new)
         (λ V found. found ≡ option_map lives_in (merchant_at V m.now)) }
 {
-    let rows = lives_rows(conn, merchant_text(m))?;
-    match rows.first() {
-        Some(row) => Ok(Some(lives_of(row)?)),
-        None => Ok(None),
-    }
+    Ok(table::find(conn, merchant_text(m))?)
 }
 
 /// The later one of a merchant's moment and `now`, which is `now` where there is no merchant.
@@ -155,15 +127,6 @@ pub fn all_merchants<S: Alter>(conn: &mut Connection<S>) -> Result<Vec<Row>, Err
     rows_of(conn, READ_MERCHANTS, &[])
 }
 
-/// The row of a merchant's lives, inside a transaction.
-fn lives_rows_in<S: Alter>(tx: &mut Transaction<'_, S>, m: &str) -> Result<Vec<Row>, Error>
-    ensures same_reference { tx.new.conn.ghost_name ≡ tx.old.conn.ghost_name }
-    ensures told { TellsInside result (state S.Store tx.old.conn.now) (state S.Store tx.new.conn.now)
-        (λ t rows. rows.items ≡ one_of lives_columns (t.merchants m.now)) }
-{
-    rows_in(tx, FIND_LIVES, params![m])
-}
-
 /// Whether these are the same lives, with the same moment and lead.
 fn are_same(x: &Lives, y: &Lives) -> bool
     ensures { IsTrue result ↔ (x.now ≡ y.now) }
@@ -177,9 +140,8 @@ fn has_lives<S: Alter>(tx: &mut Transaction<'_, S>, m: &str, x: &Lives) -> Resul
     ensures told { TellsInside result (state S.Store tx.old.conn.now) (state S.Store tx.new.conn.now)
         (λ t has. IsTrue has ↔ (t.merchants m.now ≡ Some x.now)) }
 {
-    let rows = lives_rows_in(tx, m)?;
-    match rows.first() {
-        Some(row) => Ok(are_same(&lives_of(row)?, x)),
+    match table::find_in(tx, m)? {
+        Some(found) => Ok(are_same(&found, x)),
         None => Ok(false),
     }
 }
@@ -211,19 +173,7 @@ fn put_merchant<S: Alter>(tx: &mut Transaction<'_, S>, m: &str, x: &Lives) -> Re
     ensures done { Makes result (state S.Store tx.old.conn.now) (state S.Store tx.new.conn.now)
         (λ _. Unit {0}) (λ h. record h { merchants = put bytes_cmp h.merchants m.now (Some x.now) }) }
 {
-    let moment = x.moment.seconds();
-    let lead = x.lead.digits();
-    step(
-        tx,
-        PUT_MERCHANT,
-        params![
-            m,
-            x.single_life as i64,
-            x.multi_life as i64,
-            moment as i64,
-            lead as i64
-        ],
-    )
+    table::put(tx, m, x)
 }
 
 /// Raises a count of a merchant by one where it has a row, and tells whether it has.

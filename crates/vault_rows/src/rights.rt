@@ -2,48 +2,24 @@
 ghost use Rattle.std.specs.Prelude.{◌≡◌, None, Some, IfOk};
 ghost use Rattle.std.specs.FinMap as map;
 ghost use Rattle.sqlite.specs.Held.{state};
-ghost use Rattle.sqlite.specs.Order.{column};
 ghost use Rattle.vault_core.specs.Keys.{right_cmp};
 ghost use Rattle.vault_core.specs.Vault.{right_at};
 ghost use Rattle.vault_rows.specs.Calls.{Makes, Tells};
-ghost use Rattle.vault_schema.specs.Version1.Rows.{number_or_null};
 ghost use Rattle.vault_rows.specs.Listed.{ShowsAll, ShowsRight};
-ghost use Rattle.vault_schema.specs.Version4.Rows.{ends_column, right_row};
-ghost use Rattle.sql_maps.specs.Rows.{one_of, put};
+ghost use Rattle.vault_schema.specs.Version4.Rows.{right_row};
+ghost use Rattle.sql_maps.specs.Rows.{put};
 
-use crate::columns::{caller_in, merchant_in, moment_or_null_in, right_in};
-use sql_maps::run::{rows_of, step};
-use sqlite::types::ToSql;
-use sqlite::{Alter, Connection, Error, Row, Transaction, params};
+use crate::columns::{caller_in, merchant_in, right_in};
+use sql_maps::run::rows_of;
+use sqlite::{Alter, Connection, Error, Row, Transaction};
 use vault_cards::fault::StoreFault;
-use vault_cards::parameters::moment_value;
 use vault_cards::text::{caller_text, merchant_text};
 use vault_core::name::{Caller, MerchantId};
 use vault_core::right::Right;
 use vault_core::row::GrantRow;
-use vault_schema::v4::{FIND_RIGHT, GIVE_RIGHT, READ_RIGHTS, TAKE_RIGHT};
-
-/// The row of a right's end, where the caller has the right.
-fn right_rows<S: Alter>(
-    conn: &mut Connection<S>,
-    caller: &str,
-    m: &str,
-    right: Right,
-) -> Result<Vec<Row>, Error>
-    ensures { Tells result (state S.Store conn.old) (state S.Store conn.new)
-        (λ V rows. rows.items ≡ one_of ends_column (right_at V caller.now m.now right)) }
-{
-    let what = right.number();
-    rows_of(conn, FIND_RIGHT, params![caller, m, what as i64])
-}
-
-/// The right whose end a row shows.
-fn right_of(row: &Row) -> Result<GrantRow, StoreFault>
-    ensures { IfOk result (λ g. column row.now 0 ≡ number_or_null g.ends) }
-{
-    let ends = moment_or_null_in(row, 0)?;
-    Ok(GrantRow { ends })
-}
+use vault_schema::v4::READ_RIGHTS;
+use vault_tables::columns::moment_or_null_in;
+use vault_tables::rights;
 
 /// The right of a caller at a merchant.
 pub fn right<S: Alter>(
@@ -55,11 +31,7 @@ pub fn right<S: Alter>(
     ensures { Tells result (state S.Store conn.old) (state S.Store conn.new)
         (λ V found. found ≡ right_at V caller.now m.now right) }
 {
-    let rows = right_rows(conn, caller_text(caller), merchant_text(m), right)?;
-    match rows.first() {
-        Some(row) => Ok(Some(right_of(row)?)),
-        None => Ok(None),
-    }
+    Ok(rights::find(conn, caller_text(caller), merchant_text(m), right)?)
 }
 
 /// The rows of all rights.
@@ -94,17 +66,7 @@ pub fn give<S: Alter>(
         (λ _. Unit {0})
         (λ h. record h { rights = put right_cmp h.rights (caller.now, (m.now, right)) (Some row) }) }
 {
-    let what = right.number();
-    step(
-        tx,
-        GIVE_RIGHT,
-        &[
-            caller.to_sql(),
-            m.to_sql(),
-            (what as i64).to_sql(),
-            moment_value(row.ends),
-        ],
-    )
+    rights::give(tx, caller, m, right, row)
 }
 
 /// Takes a right from a caller, whether or not it was there.
@@ -119,6 +81,5 @@ pub fn take<S: Alter>(
         (λ _. Unit {0})
         (λ h. record h { rights = put right_cmp h.rights (caller.now, (m.now, right)) None }) }
 {
-    let what = right.number();
-    step(tx, TAKE_RIGHT, params![caller, m, what as i64])
+    rights::take(tx, caller, m, right)
 }

@@ -1,4 +1,7 @@
+pub mod Behind
+pub mod ByTable
 pub mod Grown
+pub mod Layers
 pub mod Newest
 pub mod Version1
 pub mod Version2

@@ -1,4 +1,5 @@
 pub mod Holds
+pub mod Layers
 pub mod Left
 pub mod Making
 pub mod Schema

@@ -1,41 +1,46 @@
 -- What the rows of each version stand for, by one form: that of the newest one. A version that can't hold
 -- something stands only where that has its default.
-use Rattle.std.specs.Prelude.{◌≡◌, ℕ, ℤ, pos, List, [], ◌∷◌, false, Option, Some, None, option_map, IsTrue}
+use Rattle.std.specs.Prelude.{◌≡◌, ℕ, suc, ℤ, pos, Bool, List, [], ◌∷◌, false, Option, Some, None}
+use Rattle.std.specs.Prelude.{option_map, IsTrue}
 use Rattle.sqlite.specs.Effect.{Database, IsDatabase}
 use Rattle.sqlite.specs.Schema.{Schema}
 use Rattle.sqlite.specs.State.{State}
 use Rattle.sqlite.specs.Tree.{Trees}
 use Rattle.sqlite_catalog.specs.Listing.{IsSound}
 use Rattle.sql_maps.specs.Rows.{AreRowsById, AreRowsOf}
-use Rattle.sql_maps.specs.States.{Claim, IsEmpty, IsFree, StandsIn}
+use Rattle.sql_maps.specs.Schema.{table_of}
+use Rattle.sql_maps.specs.States.{Claim, IsFree, StandsIn}
 use Rattle.vault_core.specs.Keys.{Bytes}
 use Rattle.vault_pan.specs.declared.lead.Lead.TheVariants.{Six}
 use Rattle.vault_core.specs.declared.right.Right.{Right}
 use Rattle.vault_core.specs.declared.row.Entry.{Entry}
 use Rattle.vault_core.specs.declared.row.GrantRow.{GrantRow}
 use Rattle.vault_core.specs.declared.row.Record.{Record}
+use Rattle.vault_schema.specs.Layers.{Either, Layer, claims_at, claims_if, is_from, rank, schema_at}
 use Rattle.vault_schema.specs.Version1.Claims.{IsVersion}
 use Rattle.vault_schema.specs.Version1.Rows.{count_row, entry_row, record_row}
 use Rattle.vault_schema.specs.Version1.Rows as one
+use Rattle.vault_schema.specs.Version1.Tables as tables1
 use Rattle.vault_schema.specs.Version1.Tables.{v1}
 use Rattle.vault_schema.specs.Version2.Joined.{AreJoined, nothing_owed}
 use Rattle.vault_schema.specs.Version2.Rows.{card_columns, pointing_row}
-use Rattle.vault_schema.specs.Version2.Tables.{v2}
+use Rattle.vault_schema.specs.Version2.Tables as tables2
 use Rattle.vault_schema.specs.Version3.Rows as three
-use Rattle.vault_schema.specs.Version3.Tables.{v3}
+use Rattle.vault_schema.specs.Version3.Tables as tables3
 use Rattle.vault_schema.specs.Version4.Rows as four
-use Rattle.vault_schema.specs.Version4.Tables.{v4}
+use Rattle.vault_schema.specs.Version4.Tables as tables4
 use Rattle.vault_schema.specs.declared.v2.Card.{Card}
 use Rattle.vault_schema.specs.declared.v2.Pointing.{Pointing}
 use Rattle.vault_schema.specs.declared.v3.Lives.{Lives}
 use Rattle.vault_schema.specs.declared.version.Version.{Version}
 use Rattle.vault_schema.specs.declared.version.Version.TheVariants.{One, Two, Three, Four}
 
+-- its number, as the one row of `vault` says it
+abbrev pub natural_of : Version → ℕ
+natural_of v = suc (rank v)
+
 abbrev pub number_of : Version → ℤ
-number_of One = pos 1
-number_of Two = pos 2
-number_of Three = pos 3
-number_of Four = pos 4
+number_of v = pos (natural_of v)
 
 -- the version that a step leads to; the newest one is its own next
 abbrev pub next_of : Version → Version
@@ -43,12 +48,6 @@ next_of One = Two
 next_of Two = Three
 next_of Three = Four
 next_of Four = Four
-
-abbrev pub schema_of : Version → Schema
-schema_of One = v1
-schema_of Two = v2
-schema_of Three = v3
-schema_of Four = v4
 
 -- what is looked up in a vault, whatever the version
 pub record Lookups : Type 0 where
@@ -90,26 +89,115 @@ Merchants held rows = AreRowsOf three.merchant_row rows held
 abbrev pub Rights : (Bytes × (Bytes × Right) → Option GrantRow) → Claim
 Rights held rows = AreRowsOf four.right_row rows held
 
--- what is said of the rows of schema 1, in its order
+-- ---- the tables of a vault, in the order in which they came
+
+-- what they may have: the entries of schema 1, and what stands from schema 2 on
+abbrev pub Contents : Type 0
+Contents = (Bytes × Bytes → Option Entry) × Tables
+
+-- those that came with schema 4
+abbrev pub fourth_layers : List (Layer Contents)
+fourth_layers = record {
+  since = Four;
+  till = None;
+  table = table_of tables4.rights;
+  indexes = tables4.indexes4;
+  claim = λ v held. Rights held.1.rights;
+} ∷ []
+
+-- with schema 3, or since
+abbrev pub third_layers : List (Layer Contents)
+third_layers = record {
+  since = Three;
+  till = None;
+  table = table_of tables3.merchants;
+  indexes = tables3.indexes3;
+  claim = λ v held. Merchants held.1.merchants;
+} ∷ fourth_layers
+
+-- with schema 2, or since
+abbrev pub second_layers : List (Layer Contents)
+second_layers =
+    record {
+      since = Two;
+      till = None;
+      table = table_of tables2.cards;
+      indexes = tables2.card_indexes;
+      claim = λ v held rows. AreRowsById card_columns rows held.1.cards;
+    }
+    ∷ record {
+      since = Two;
+      till = None;
+      table = table_of tables2.entries;
+      indexes = tables2.entry_indexes;
+      claim = λ v held rows. AreRowsOf pointing_row rows held.1.pointing;
+    }
+    ∷ third_layers
+
+-- all of them
+abbrev pub layers : List (Layer Contents)
+layers =
+    record {
+      since = One;
+      till = None;
+      table = table_of tables1.vault;
+      indexes = [];
+      claim = λ v held. IsVersion (natural_of v);
+    }
+    ∷ record {
+      since = One;
+      till = Some Three;
+      table = table_of tables1.merchants;
+      indexes = tables1.merchant_indexes;
+      claim = λ v held. OldMerchants held.1.merchants;
+    }
+    ∷ record {
+      since = One;
+      till = None;
+      table = table_of tables1.counts;
+      indexes = tables1.count_indexes;
+      claim = λ v held rows. AreRowsOf count_row rows held.1.counts;
+    }
+    ∷ record {
+      since = One;
+      till = Some Two;
+      table = table_of tables1.entries;
+      indexes = tables1.entry_indexes;
+      claim = λ v held rows. AreRowsOf entry_row rows held.0;
+    }
+    ∷ record {
+      since = One;
+      till = None;
+      table = table_of tables1.records;
+      indexes = tables1.record_indexes;
+      claim = λ v held rows. AreRowsOf record_row rows held.1.records;
+    }
+    ∷ record {
+      since = One;
+      till = Some Four;
+      table = table_of tables1.rights;
+      indexes = tables1.right_indexes;
+      claim = λ v held. OldRights held.1.rights;
+    }
+    ∷ second_layers
+
+abbrev pub schema_of : Version → Schema
+schema_of v = schema_at v layers
+
+-- it has cards, and entries that point at them
+abbrev pub has_cards : Version → Bool
+has_cards v = is_from Two v
+
+-- what is said of the rows of a version without cards, in its order
+abbrev pub uncarded_claims : Version → Lookups → List Claim
+uncarded_claims v h = claims_at v layers (h.entries, tables_of h (λ id. None) (λ key. None))
+
 abbrev pub first_claims : Lookups → List Claim
-first_claims h =
-    IsVersion 1 ∷ OldMerchants h.merchants ∷ (λ rows. AreRowsOf count_row rows h.counts)
-    ∷ (λ rows. AreRowsOf entry_row rows h.entries) ∷ (λ rows. AreRowsOf record_row rows h.records)
-    ∷ OldRights h.rights ∷ []
+first_claims h = uncarded_claims One h
 
--- and of the rows of each later one: the entries of schema 1 are gone
-abbrev pub shared_claims : ℕ → Claim → Claim → Tables → List Claim → List Claim
-shared_claims version merchants rights t others =
-    IsVersion version ∷ merchants ∷ (λ rows. AreRowsOf count_row rows t.counts) ∷ IsEmpty
-    ∷ (λ rows. AreRowsOf record_row rows t.records) ∷ rights
-    ∷ (λ rows. AreRowsById card_columns rows t.cards) ∷ (λ rows. AreRowsOf pointing_row rows t.pointing)
-    ∷ others
-
+-- and of one with cards
 abbrev pub claims_of : Version → Tables → List Claim
-claims_of One t = []
-claims_of Two t = shared_claims 2 (OldMerchants t.merchants) (OldRights t.rights) t []
-claims_of Three t = shared_claims 3 IsEmpty (OldRights t.rights) t (Merchants t.merchants ∷ [])
-claims_of Four t = shared_claims 4 IsEmpty IsEmpty t (Merchants t.merchants ∷ Rights t.rights ∷ [])
+claims_of v t = claims_if (has_cards v) (claims_at v layers (λ key. None, t))
 
 -- the rows stand for what is looked up, with cards and entries that point at them
 pub record StandJoined (v : Version) (db : Trees) (h : Lookups) : Type 0 where
@@ -119,10 +207,8 @@ pub record StandJoined (v : Version) (db : Trees) (h : Lookups) : Type 0 where
   pub joined : AreJoined nothing_owed cards pointing h.entries
 
 abbrev pub StandRows : Version → Trees → Lookups → Type 0
-StandRows One db h = StandsIn v1.tables (first_claims h) db
-StandRows Two db h = StandJoined Two db h
-StandRows Three db h = StandJoined Three db h
-StandRows Four db h = StandJoined Four db h
+StandRows v db h =
+    Either (has_cards v) (StandJoined v db h) (StandsIn (schema_of v).tables (uncarded_claims v h) db)
 
 -- each merchant has the lead of six digits
 abbrev pub AreSix : Lookups → Type 0
@@ -132,12 +218,12 @@ AreSix h = (m : Bytes) (x : Lives) → h.merchants m ≡ Some x → x.lead ≡ S
 abbrev pub AreEndless : Lookups → Type 0
 AreEndless h = (key : Bytes × (Bytes × Right)) (g : GrantRow) → h.rights key ≡ Some g → g.ends ≡ None
 
--- what a version can't hold has its default
+-- what a version can't hold has its default: rights up to schema 4, and merchants up to schema 3
+abbrev pub HasRightsDefault : Version → Lookups → Type 0
+HasRightsDefault v h = Either (is_from Four v) (Unit {0}) (AreEndless h)
+
 abbrev pub HasDefaults : Version → Lookups → Type 0
-HasDefaults One h = AreSix h × AreEndless h
-HasDefaults Two h = AreSix h × AreEndless h
-HasDefaults Three h = AreEndless h
-HasDefaults Four h = Unit {0}
+HasDefaults v h = Either (is_from Three v) (HasRightsDefault v h) (AreSix h × HasRightsDefault v h)
 
 -- THE ROWS OF A VERSION STAND FOR WHAT IS LOOKED UP
 pub record Stand (v : Version) (db : Trees) (h : Lookups) : Type 0 where

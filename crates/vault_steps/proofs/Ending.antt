@@ -9,7 +9,8 @@ use Rattle.vault_core.specs.declared.row.GrantRow.{GrantRow}
 use Rattle.vault_schema.specs.Version4.Rows.{endless, older}
 use Rattle.vault_schema.specs.Version4.Tables.{v4}
 use Rattle.vault_schema.specs.Versions.{Lookups, Merchants, Rights, Tables, WithinOf, AreEndless, claims_of}
-use Rattle.vault_schema.specs.Versions.{shared_claims, tables_of}
+use Rattle.vault_schema.proofs.ByTable.{shared_claims}
+use Rattle.vault_schema.specs.Versions.{tables_of}
 use Rattle.vault_schema.specs.declared.v4.TheConstants.{CREATE_RIGHTS, COPY_RIGHTS, EMPTY_RIGHTS, SET_VERSION}
 use Rattle.vault_schema.specs.declared.version.Version.TheVariants.{Three, Four}
 use Rattle.vault_schema.proofs.Version4.Codes.{right_table, old_right_table}

@@ -7,9 +7,9 @@ use Rattle.sql_maps.specs.Rows.{put}
 use Rattle.vault_core.specs.Keys.{Bytes, entry_cmp}
 use Rattle.vault_core.specs.declared.row.Entry.{Entry}
 use Rattle.sqlite.specs.Tree.{Trees}
-use Rattle.vault_schema.specs.Versions.{AreOf, Lookups}
+use Rattle.vault_schema.specs.Layers.{Either}
+use Rattle.vault_schema.specs.Versions.{AreOf, Lookups, has_cards}
 use Rattle.vault_schema.specs.declared.version.Version.{Version}
-use Rattle.vault_schema.specs.declared.version.Version.TheVariants.{One, Two, Three, Four}
 
 -- entries in pieces, each with its merchant and its token, in one list
 abbrev pub joined : List (Vec (Bytes × Bytes × Entry)) → List (Bytes × Bytes × Entry)
@@ -36,10 +36,7 @@ without_entries h = record h { entries = λ key. None }
 
 -- what the step from a version is given: the entries of schema 1, and else nothing
 abbrev pub AreFor : Version → List (Bytes × Bytes × Entry) → Lookups → Type 0
-AreFor One entries h = AreEntriesOf entries h
-AreFor Two entries h = Unit {0}
-AreFor Three entries h = Unit {0}
-AreFor Four entries h = Unit {0}
+AreFor v entries h = Either (has_cards v) (Unit {0}) (AreEntriesOf entries h)
 
 -- a sound database whose rows stand for this in some version
 abbrev pub AreSome : Lookups → Trees → Type 0

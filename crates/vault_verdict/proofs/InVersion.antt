@@ -1,69 +1,32 @@
--- Each version's schema begins with schema 1, and has a version.
-use Rattle.std.proofs.Common.{◌≡◌, ◌++◌, [], List, refl, subst, sym}
+-- No index of a later table guards the key of an earlier one, and each version's schema has a version.
+use Rattle.std.proofs.Common.{◌≡◌, refl, subst, sym}
 use Rattle.sqlite.specs.Schema.{Schema}
-use Rattle.sqlite.specs.Table.{Table}
-use Rattle.sqlite_schema.specs.declared.schema.Index.{Index}
-use Rattle.sql_maps.specs.Schema.{grown}
-use Rattle.vault_schema.proofs.Newest.{behind_first, indexes_behind_first}
-use Rattle.vault_schema.specs.Version1.Tables.{v1}
-use Rattle.vault_schema.specs.Version2.Tables.{tables2, indexes2}
-use Rattle.vault_schema.specs.Version3.Tables.{tables3, indexes3}
-use Rattle.vault_schema.specs.Versioned.{HasVersion}
-use Rattle.vault_schema.specs.Versions.{schema_of}
-use Rattle.vault_schema.specs.declared.version.Version.{Version}
-use Rattle.vault_schema.specs.declared.version.Version.TheVariants.{One, Two, Three, Four}
-use Rattle.vault_verdict.proofs.Tables.{IsFree}
+use Rattle.sql_maps.specs.Schema.{columns_to}
+use Rattle.vault_schema.proofs.Behind.{behind, behind_three, has_version, indexes_behind}
+use Rattle.vault_schema.proofs.Behind.{indexes_behind_three}
+use Rattle.vault_schema.proofs.Layers.{free_at}
 use Rattle.vault_schema.specs.Version1.Tables as one
+use Rattle.vault_schema.specs.Version3.Tables as three
+use Rattle.vault_schema.specs.Versioned.{HasVersion}
+use Rattle.vault_schema.specs.Versions.{fourth_layers, schema_of, second_layers}
+use Rattle.vault_schema.specs.declared.version.Version.{Version}
+use Rattle.vault_verdict.proofs.Tables.{IsFree}
 
--- what stands behind schema 1
-abbrev pub behind : Version → List Table
-behind One = []
-behind Two = tables2
-behind Three = tables2 ++ tables3
-behind Four = behind_first
+module _ (v : Version) where
+  pub counts_free : IsFree (behind v) (indexes_behind v) one.counts 2
+  counts_free = free_at v one.counts (columns_to 2) second_layers (refl, (refl, (refl, (refl, tt))))
 
-abbrev pub indexes_behind : Version → List Index
-indexes_behind One = []
-indexes_behind Two = indexes2
-indexes_behind Three = indexes2 ++ indexes3
-indexes_behind Four = indexes_behind_first
+  pub records_free : IsFree (behind v) (indexes_behind v) one.records 2
+  records_free = free_at v one.records (columns_to 2) second_layers (refl, (refl, (refl, (refl, tt))))
 
-pub schema_is : (v : Version) → schema_of v ≡ grown v1 (behind v) (indexes_behind v)
-schema_is One = refl
-schema_is Two = refl
-schema_is Three = refl
-schema_is Four = refl
+  pub rights_free : IsFree (behind v) (indexes_behind v) one.rights 3
+  rights_free = free_at v one.rights (columns_to 3) second_layers (refl, (refl, (refl, (refl, tt))))
 
--- no index of a later table guards the key of an earlier one
-pub counts_free : (v : Version) → IsFree (behind v) (indexes_behind v) one.counts 2
-counts_free One = refl
-counts_free Two = refl
-counts_free Three = refl
-counts_free Four = refl
+  pub merchants_free : IsFree (behind v) (indexes_behind v) one.merchants 1
+  merchants_free = free_at v one.merchants (columns_to 1) second_layers (refl, (refl, (refl, (refl, tt))))
 
-pub records_free : (v : Version) → IsFree (behind v) (indexes_behind v) one.records 2
-records_free One = refl
-records_free Two = refl
-records_free Three = refl
-records_free Four = refl
-
-pub rights_free : (v : Version) → IsFree (behind v) (indexes_behind v) one.rights 3
-rights_free One = refl
-rights_free Two = refl
-rights_free Three = refl
-rights_free Four = refl
-
-pub merchants_free : (v : Version) → IsFree (behind v) (indexes_behind v) one.merchants 1
-merchants_free One = refl
-merchants_free Two = refl
-merchants_free Three = refl
-merchants_free Four = refl
-
-has : (v : Version) → HasVersion (schema_of v)
-has One = record { tables = refl; views = refl }
-has Two = record { tables = refl; views = refl }
-has Three = record { tables = refl; views = refl }
-has Four = record { tables = refl; views = refl }
+  pub newer_merchants_free : IsFree (behind_three v) (indexes_behind_three v) three.merchants 1
+  newer_merchants_free = free_at v three.merchants (columns_to 1) fourth_layers (refl, tt)
 
 pub has_version_in : (v : Version) (s : Schema) → s ≡ schema_of v → HasVersion s
-has_version_in v s ours = subst HasVersion (sym ours) (has v)
+has_version_in v s ours = subst HasVersion (sym ours) (has_version v)

@@ -2,7 +2,7 @@
 use Rattle.std.proofs.Common.{arith, drop, length, ◌<◌, ◌≡◌, ℕ, ℤ, pos, List, [], ◌∷◌, ◌&&◌, not, true}
 use Rattle.std.proofs.Common.{false, cond, Some, None, option_map, Ok, Err, Result, IfErr, inl}
 use Rattle.std.proofs.Common.{inr, map, refl, sym, ap, subst, ◌∙◌, true≢false}
-use Rattle.std.specs.List.Sorted.{IsSortedByKey}
+use Rattle.std.specs.List.Sorted.{IsPermutation, IsSortedByKey}
 use Rattle.std.specs.Ordering.{int_cmp, int_eq}
 use Rattle.std.specs.Prelude.{◌<ℤ◌}
 use Rattle.sqlite.specs.Effect.{Database, IsDatabase}
@@ -24,14 +24,13 @@ use Rattle.vault_verdict.specs.Opened.{AreRaws, AreVersions, IsBrokenIn, IsFit, 
 use Rattle.vault_verdict.specs.Opened.{AreOldersIn, IsOtherVersion, IsSoundIn, IsVersionIn, StandsSoundIn}
 use Rattle.vault_verdict.specs.Raw.{card_row, card_values, count_values, entry_values, merchant_values}
 use Rattle.vault_verdict.specs.Raw.{old_entry_values, record_values, right_values}
-use Rattle.sql_stored.specs.Reading.{AreLonger}
+use Rattle.vault_verdict.specs.ReadAs.{AreCards, AreEntriesFull, AreOlders}
 use Rattle.vault_verdict.specs.ReadAs.{AreEntries, AreFull, IsFullIn, merchants_in, replaced_in}
 use Rattle.vault_verdict.specs.ReadAs.{rights_in}
 use Rattle.vault_verdict.specs.Judging.{AreOnward}
-use Rattle.sql_stored.specs.Reading.{AreTable}
 use Rattle.vault_verdict.specs.Reading.{AreCardsIn, AreEntriesIn, AreFirst, AreRightsFull}
-use Rattle.sql_stored.specs.Reading.{IsAny}
-use Rattle.vault_verdict.specs.Reading.{IsOurs}
+use Rattle.vault_verdict.specs.Reading.{AreOldCards, ArePointingFull, IsOurs}
+use Rattle.sql_stored.specs.Reading.{AreLonger, AreTable, IsAny}
 use Rattle.vault_verdict.specs.declared.first.First.{First}
 use Rattle.vault_verdict.specs.declared.replaced.OldEntry.{OldEntry}
 use Rattle.vault_core.specs.Keys.{Bytes}
@@ -40,9 +39,13 @@ use Rattle.sql_maps.specs.Rows.{AreRowsOf}
 use Rattle.vault_schema.specs.Version1.Rows.{entry_row}
 use Rattle.vault_schema.specs.Version2.Rows.{pointing_row}
 use Rattle.vault_schema.specs.Version4.Rows.{right_row}
-use Rattle.vault_schema.specs.Versions.{Lookups, Stand, number_of, schema_of}
+use Rattle.vault_schema.specs.Versions.{Lookups, Rights, Stand, StandJoined, has_cards, number_of, schema_of}
+use Rattle.vault_schema.specs.Versions.{uncarded_claims}
+use Rattle.vault_schema.specs.Layers.{Either, is_from}
+use Rattle.vault_schema.proofs.ByTable.{first_entries, held, joined_pointing}
+use Rattle.sql_maps.specs.States.{StandsIn}
 use Rattle.vault_schema.specs.declared.version.Version.{Version}
-use Rattle.vault_schema.specs.declared.version.Version.TheVariants.{One, Two, Three, Four}
+use Rattle.vault_schema.specs.declared.version.Version.TheVariants.{Four}
 use Rattle.vault_verdict.specs.Sizes.{counts_of}
 use Rattle.vault_verdict.specs.Versions.{is_other, other_than}
 use Rattle.vault_verdict.specs.declared.fault.OpenFault.{OpenFault}
@@ -95,23 +98,36 @@ sound_of v db ours sound olders rows raws keep apart says =
 
 -- ---- what was read
 
+entries_full : (v : Version) (db : Trees) → AreFull v db → AreEntriesFull v db
+entries_full v db full =
+    elim (is_from Four v) as (λ b. Either b (AreEntriesFull v db × AreLonger 4 (db 19)) (AreEntriesFull v db)
+    → AreEntriesFull v db) [
+      | true ↦ λ both. both.0
+      | false ↦ λ entries. entries
+    ] full
+
 entries_are : (v : Version) (db : Database) (olders : List OldEntry) (rows : Rows) → AreFull v db.trees
     → AreCardsIn v db olders rows.cards → AreEntriesIn v db olders rows.entries
     → AreEntries v db.trees olders rows
-entries_are One db olders rows full cards entries =
-    record { stand = cards.read.all full; entries = entries; cards = cards.made }
-entries_are Two db olders rows full cards entries =
-    record { cards = cards.all tt; entries = entries.all full }
-entries_are Three db olders rows full cards entries =
-    record { cards = cards.all tt; entries = entries.all full }
-entries_are Four db olders rows full cards entries =
-    record { cards = cards.all tt; entries = entries.all full.0 }
+entries_are v db olders rows full cards entries =
+    elim (has_cards v) as (λ b. Either b (AreLonger 7 (db.trees 14)) (AreLonger 7 (db.trees 5))
+    → Either b (AreTable IsAny (λ t. t 12) card_row (λ c. c.id) db rows.cards)
+    (AreOldCards db olders rows.cards)
+    → Either b (AreTable ArePointingFull (λ t. t 14) entry_values (λ e. e.rowid) db rows.entries)
+    (map as_entry olders ≡ map entry_values rows.entries)
+    → Either b (AreCards db.trees rows) (AreOlders db.trees olders rows)) [
+      | true ↦ λ full cards entries. record { cards = cards.all tt; entries = entries.all full }
+      | false ↦ λ full cards entries.
+          record { stand = cards.read.all full; entries = entries; cards = cards.made }
+    ] (entries_full v db.trees full) cards entries
 
 rights_full : (v : Version) (db : Database) → AreFull v db.trees → AreRightsFull v db
-rights_full One db full = tt
-rights_full Two db full = tt
-rights_full Three db full = tt
-rights_full Four db full = full.1
+rights_full v db full =
+    elim (is_from Four v) as (λ b. Either b (AreEntriesFull v db.trees × AreLonger 4 (db.trees 19))
+    (AreEntriesFull v db.trees) → Either b (AreLonger 4 (db.trees 19)) (Unit {0})) [
+      | true ↦ λ both. both.1
+      | false ↦ λ entries. tt
+    ] full
 
 -- these are the rows of all tables of a version beside `vault`; of the tables that were replaced, how many
 -- still have rows
@@ -175,28 +191,30 @@ all_of v db first olders versions rows are cards onward = record {
 pub olders_in : (v : Version) (db : Database) (olders : List OldEntry) (rows : Rows)
     → AreRead v db olders rows
     → AreOldersIn v db.trees olders
-olders_in One db olders rows read = read.raws.entries.stand
-olders_in Two db olders rows read = tt
-olders_in Three db olders rows read = tt
-olders_in Four db olders rows read = tt
+olders_in v db olders rows read =
+    elim (has_cards v) as (λ b. Either b (AreCards db.trees rows) (AreOlders db.trees olders rows)
+    → Either b (Unit {0}) (IsPermutation (db.trees 5) (map old_entry_values olders))) [
+      | true ↦ λ are. tt
+      | false ↦ λ are. are.stand
+    ] read.raws.entries
 
 -- ---- rows of tables in which no rowid comes twice
 
 -- the entries of schema 1 climb by their rowids, and so does what is made of them
-module _ (db : Database) (olders : List OldEntry) (rows : Rows) (read : AreRead One db olders rows)
-    (apart : IsApart (db.trees 5)) where
+module _ (db : Database) (olders : List OldEntry) (rows : Rows) (read : AreOldCards db olders rows.cards)
+    (are : AreOlders db.trees olders rows) (apart : IsApart (db.trees 5)) where
   olders_climb : IsAscending (λ a b. a.rowid <ℤ b.rowid) olders
   olders_climb =
-      rows_climb (λ (o : OldEntry). o.rowid) old_entry_values (λ o. refl) olders read.all.cards.read.ordered
-      (apart_permuted _ _ read.raws.entries.stand apart)
+      rows_climb (λ (o : OldEntry). o.rowid) old_entry_values (λ o. refl) olders read.read.ordered
+      (apart_permuted _ _ are.stand apart)
 
   entries_climb : IsAscending (λ a b. a.rowid <ℤ b.rowid) rows.entries
-  entries_climb = shown_climb as_entry entry_values olders rows.entries read.raws.entries.entries olders_climb
+  entries_climb = shown_climb as_entry entry_values olders rows.entries are.entries olders_climb
 
   cards_climb : IsAscending (λ a b. a.id <ℤ b.id) rows.cards
   cards_climb =
       kept_shown_climb as_card (λ (o : OldEntry). o.rowid) own_rowid card_values olders rows.cards
-      read.raws.entries.cards olders_climb
+      are.cards olders_climb
 
 -- what was read of cards and entries is in the order of the rowids
 record AreInOrder (rows : Rows) : Type 0 where
@@ -205,16 +223,21 @@ record AreInOrder (rows : Rows) : Type 0 where
 
 in_order : (v : Version) (db : Database) (olders : List OldEntry) (rows : Rows) → AreRead v db olders rows
     → AreEntriesApart v db.trees → AreInOrder rows
-in_order One db olders rows read apart = record {
-  cards = climbs_sorted (λ (c : RawCard). c.id) rows.cards (cards_climb db olders rows read apart);
-  entries = climbs_sorted (λ (e : RawEntry). e.rowid) rows.entries (entries_climb db olders rows read apart);
-}
-in_order Two db olders rows read apart =
-    record { cards = read.all.cards.ordered; entries = read.all.entries.ordered }
-in_order Three db olders rows read apart =
-    record { cards = read.all.cards.ordered; entries = read.all.entries.ordered }
-in_order Four db olders rows read apart =
-    record { cards = read.all.cards.ordered; entries = read.all.entries.ordered }
+in_order v db olders rows read apart =
+    elim (has_cards v) as (λ b. Either b (AreTable IsAny (λ t. t 12) card_row (λ c. c.id) db rows.cards)
+    (AreOldCards db olders rows.cards)
+    → Either b (AreTable ArePointingFull (λ t. t 14) entry_values (λ e. e.rowid) db rows.entries)
+    (map as_entry olders ≡ map entry_values rows.entries)
+    → Either b (AreCards db.trees rows) (AreOlders db.trees olders rows)
+    → Either b (IsApart (db.trees 12) × IsApart (db.trees 14)) (IsApart (db.trees 5)) → AreInOrder rows) [
+      | true ↦ λ cards entries are up. record { cards = cards.ordered; entries = entries.ordered }
+      | false ↦ λ cards entries are up. record {
+        cards = climbs_sorted (λ (c : RawCard). c.id) rows.cards
+            (cards_climb db olders rows cards are up);
+        entries = climbs_sorted (λ (e : RawEntry). e.rowid) rows.entries
+            (entries_climb db olders rows cards are up);
+      }
+    ] read.all.cards read.all.entries read.raws.entries apart
 
 -- and no rowid comes twice in it
 record AreKept (rows : Rows) : Type 0 where
@@ -223,24 +246,22 @@ record AreKept (rows : Rows) : Type 0 where
 
 kept : (v : Version) (db : Database) (olders : List OldEntry) (rows : Rows) → AreRead v db olders rows
     → AreEntriesApart v db.trees → AreKept rows
-kept One db olders rows read apart = record {
-  cards = climbs_apart (λ (c : RawCard). c.id) card_row (λ c. refl) rows.cards
-      (cards_climb db olders rows read apart);
-  entries = climbs_apart (λ (e : RawEntry). e.rowid) entry_values (λ e. refl) rows.entries
-      (entries_climb db olders rows read apart);
-}
-kept Two db olders rows read apart = record {
-  cards = apart_permuted _ _ read.raws.entries.cards apart.0;
-  entries = apart_permuted _ _ read.raws.entries.entries apart.1;
-}
-kept Three db olders rows read apart = record {
-  cards = apart_permuted _ _ read.raws.entries.cards apart.0;
-  entries = apart_permuted _ _ read.raws.entries.entries apart.1;
-}
-kept Four db olders rows read apart = record {
-  cards = apart_permuted _ _ read.raws.entries.cards apart.0;
-  entries = apart_permuted _ _ read.raws.entries.entries apart.1;
-}
+kept v db olders rows read apart =
+    elim (has_cards v) as (λ b. Either b (AreTable IsAny (λ t. t 12) card_row (λ c. c.id) db rows.cards)
+    (AreOldCards db olders rows.cards)
+    → Either b (AreCards db.trees rows) (AreOlders db.trees olders rows)
+    → Either b (IsApart (db.trees 12) × IsApart (db.trees 14)) (IsApart (db.trees 5)) → AreKept rows) [
+      | true ↦ λ cards are up. record {
+        cards = apart_permuted _ _ are.cards up.0;
+        entries = apart_permuted _ _ are.entries up.1;
+      }
+      | false ↦ λ cards are up. record {
+        cards = climbs_apart (λ (c : RawCard). c.id) card_row (λ c. refl) rows.cards
+            (cards_climb db olders rows cards are up);
+        entries = climbs_apart (λ (e : RawEntry). e.rowid) entry_values (λ e. refl) rows.entries
+            (entries_climb db olders rows cards are up);
+      }
+    ] read.all.cards read.raws.entries apart
 
 module _ (v : Version) (db : Database) (olders : List OldEntry) (rows : Rows)
     (read : AreRead v db olders rows)
@@ -275,10 +296,7 @@ module _ (v : Version) (db : Database) (olders : List OldEntry) (rows : Rows)
 
 never_itself : (v : Version)
     → (int_eq (pos 1) (pos 1) && not (int_eq (number_of v) (number_of v))) ≡ false
-never_itself One = refl
-never_itself Two = refl
-never_itself Three = refl
-never_itself Four = refl
+never_itself v = rw (int_same (number_of v) (number_of v) refl) refl
 
 behind : (n : ℕ) (row : Row) → length (drop 1 row) ≡ n → 0 < n → n < length row
 behind n [] e some = absurd (omega (arith, e, some))
@@ -300,13 +318,19 @@ rights_are_full are row there =
     let found = are.sound row there in behind 4 row (ap length found.2) (omega arith)
 
 pub full_of : (v : Version) (db : Trees) (h : Lookups) → Stand v db h → AreFull v db
-full_of One db h s = olders_full s.rows.1.1.1.0
-full_of Two db h s = pointing_full s.rows.rows.1.1.1.1.1.1.1.0
-full_of Three db h s = pointing_full s.rows.rows.1.1.1.1.1.1.1.0
-full_of Four db h s = (
-  pointing_full s.rows.rows.1.1.1.1.1.1.1.0,
-  rights_are_full s.rows.rows.1.1.1.1.1.1.1.1.1.0,
-)
+full_of v db h s =
+    let entries : AreEntriesFull v db =
+    elim (has_cards v) as (λ b. has_cards v ≡ b → Either b (StandJoined v db h)
+    (StandsIn (schema_of v).tables (uncarded_claims v h) db)
+    → Either b (AreLonger 7 (db 14)) (AreLonger 7 (db 5))) [
+      | true ↦ λ has j. pointing_full (joined_pointing v db h has j)
+      | false ↦ λ none stands. olders_full (first_entries v db h none stands)
+    ] refl s.rows in
+    elim (is_from Four v) as (λ b. (b ≡ true → Rights h.rights (db 19))
+    → Either b (AreEntriesFull v db × AreLonger 4 (db 19)) (AreEntriesFull v db)) [
+      | true ↦ λ rights. (entries, rights_are_full (rights refl))
+      | false ↦ λ rights. entries
+    ] (held v db h s.rows).hold.1.1.1.1.1.1.1.1.1.0
 
 module _ (v : Version) (db : Database) (it : StandsSoundIn v db) where
   -- its rows break no rule

@@ -1,5 +1,5 @@
 -- Where no rowid comes twice in the rows of a version, no key does.
-use Rattle.std.proofs.Common.{◌≡◌, List, [], map, refl, ◌∙◌}
+use Rattle.std.proofs.Common.{◌≡◌, true, false, List, map, cond, refl, ◌∙◌}
 use Rattle.std.specs.List.Sorted.{IsPermutation}
 use Rattle.std.specs.Prelude.{string_bytes}
 use Rattle.sqlite.specs.Effect.{Database, IsDatabase}
@@ -9,15 +9,18 @@ use Rattle.std.specs.Prelude.{pos}
 use Rattle.sql_maps.proofs.Beside.{each_has, stand_narrow}
 use Rattle.sql_maps.specs.Rows.{IsApart}
 use Rattle.sqlite_rules.specs.Lists.{Has}
-use Rattle.vault_schema.proofs.Newest.{behind_second, indexes_behind_second}
-use Rattle.vault_schema.specs.Version3.Tables.{tables3, indexes3}
-use Rattle.vault_schema.specs.Version4.Tables.{tables4, indexes4}
-use Rattle.vault_schema.specs.Versions.{schema_of}
+use Rattle.vault_schema.proofs.Behind.{entries_free}
+use Rattle.vault_schema.proofs.Behind.{behind, behind_two, behind_three, indexes_behind}
+use Rattle.vault_schema.proofs.Behind.{indexes_behind_two, indexes_behind_three, schema_fourth, schema_is}
+use Rattle.vault_schema.proofs.Behind.{schema_first, schema_second, schema_third}
+use Rattle.vault_schema.specs.Layers.{Either, is_from}
+use Rattle.vault_schema.specs.Version1.Tables.{v1}
+use Rattle.vault_schema.specs.Versions.{has_cards, schema_of}
 use Rattle.vault_schema.specs.declared.version.Version.{Version}
-use Rattle.vault_schema.specs.declared.version.Version.TheVariants.{One, Two, Three, Four}
+use Rattle.vault_schema.specs.declared.version.Version.TheVariants.{Three, Four}
 use Rattle.vault_verdict.proofs.CardRows.{ids_apart}
-use Rattle.vault_verdict.proofs.InVersion.{behind, counts_free, indexes_behind, merchants_free, records_free}
-use Rattle.vault_verdict.proofs.InVersion.{rights_free, schema_is}
+use Rattle.vault_verdict.proofs.InVersion.{counts_free, merchants_free, newer_merchants_free}
+use Rattle.vault_verdict.proofs.InVersion.{records_free, rights_free}
 use Rattle.vault_verdict.proofs.OldEntries.{old_keys, olders_apart}
 use Rattle.vault_verdict.proofs.OldRows as old
 use Rattle.vault_verdict.proofs.Permuted.{apart_as}
@@ -86,20 +89,27 @@ module _ (v : Version) (db : Database) (ours : db.schema ≡ schema_of v) (sound
 merchants_apart : (v : Version) (db : Database) → db.schema ≡ schema_of v → IsDatabase db
     → (items : List RawMerchant) → IsPermutation (merchants_in v db.trees) (map raw.merchant_values items)
     → IsApart (map raw.merchant_values items) → AreKeysApart (λ (m : RawMerchant). string_bytes m.name) items
-merchants_apart One db ours sound items are up = old_merchants_apart One db ours sound items are up
-merchants_apart Two db ours sound items are up = old_merchants_apart Two db ours sound items are up
-merchants_apart Three db ours sound items are up =
-    keys_apart (tables.merchants_in [] [] refl) db ours sound items are up
-merchants_apart Four db ours sound items are up =
-    keys_apart (tables.merchants_in tables4 indexes4 refl) db ours sound items are up
+merchants_apart v db ours sound items are up =
+    elim (is_from Three v) as (λ b. is_from Three v ≡ b
+    → IsPermutation (cond b (db.trees 17) (map with_six (db.trees 1))) (map raw.merchant_values items)
+    → AreKeysApart (λ (m : RawMerchant). string_bytes m.name) items) [
+      | true ↦ λ has rows_are.
+          keys_apart (tables.merchants_in (behind_three v) (indexes_behind_three v) (newer_merchants_free v))
+          db (ours ∙ schema_third v has) sound items rows_are up
+      | false ↦ λ none rows_are. old_merchants_apart v db ours sound items rows_are up
+    ] refl are
 
 rights_apart : (v : Version) (db : Database) → db.schema ≡ schema_of v → IsDatabase db
     → (items : List RawRight) → IsPermutation (rights_in v db.trees) (map raw.right_values items)
     → IsApart (map raw.right_values items) → AreKeysApart number_key items
-rights_apart One db ours sound items are up = old_rights_apart One db ours sound items are up
-rights_apart Two db ours sound items are up = old_rights_apart Two db ours sound items are up
-rights_apart Three db ours sound items are up = old_rights_apart Three db ours sound items are up
-rights_apart Four db ours sound items are up = keys_apart tables.rights db ours sound items are up
+rights_apart v db ours sound items are up =
+    elim (is_from Four v) as (λ b. is_from Four v ≡ b
+    → IsPermutation (cond b (db.trees 19) (map endless (db.trees 10))) (map raw.right_values items)
+    → AreKeysApart number_key items) [
+      | true ↦ λ has rows_are.
+          keys_apart tables.rights db (ours ∙ schema_fourth v has) sound items rows_are up
+      | false ↦ λ none rows_are. old_rights_apart v db ours sound items rows_are up
+    ] refl are
 
 -- the rows of entries and cards, of which no rowid comes twice
 abbrev pub AreCardsApart : Rows → Type 0
@@ -107,21 +117,20 @@ AreCardsApart rows =
     IsApart (map raw.card_row rows.cards) × IsApart (map raw.entry_values rows.entries)
 
 abbrev pub AreEntriesApart : Version → List OldEntry → Rows → Type 0
-AreEntriesApart One olders rows = IsApart (map raw.old_entry_values olders)
-AreEntriesApart Two olders rows = AreCardsApart rows
-AreEntriesApart Three olders rows = AreCardsApart rows
-AreEntriesApart Four olders rows = AreCardsApart rows
+AreEntriesApart v olders rows =
+    Either (has_cards v) (AreCardsApart rows) (IsApart (map raw.old_entry_values olders))
 
 abbrev AreKeyed : Rows → Type 0
 AreKeyed rows =
     AreKeysApart (λ c. c.id) rows.cards × AreKeysApart entry_key rows.entries
 
 module _ (db : Database) (sound : IsDatabase db) (olders : List OldEntry) (rows : Rows) where
-  first_apart : db.schema ≡ schema_of One → AreOlders db.trees olders rows
+  first_apart : db.schema ≡ v1 → AreOlders db.trees olders rows
       → IsApart (map raw.old_entry_values olders) → AreKeyed rows
   first_apart ours are up = (
     old.ids_apart db.trees olders rows are up,
-    old.entries_apart db.trees olders rows are up (old_keys db.trees olders rows are up db ours sound refl),
+    old.entries_apart db.trees olders rows are up
+        (old_keys db.trees olders rows are up db ours sound refl),
   )
 
   later_apart : AreCards db.trees rows → AreKeysApart entry_key rows.entries
@@ -131,17 +140,15 @@ module _ (db : Database) (sound : IsDatabase db) (olders : List OldEntry) (rows 
 entries_keyed : (v : Version) (db : Database) → db.schema ≡ schema_of v → IsDatabase db
     → (olders : List OldEntry) (rows : Rows) → AreRaws v db.trees olders rows → AreEntriesApart v olders rows
     → AreKeyed rows
-entries_keyed One db ours sound olders rows raws up = first_apart db sound olders rows ours raws.entries up
-entries_keyed Two db ours sound olders rows raws up =
-    later_apart db sound olders rows raws.entries
-    (keys_apart (tables.entries_in [] [] refl) db ours sound _ raws.entries.entries up.1) up.0
-entries_keyed Three db ours sound olders rows raws up =
-    later_apart db sound olders rows raws.entries
-    (keys_apart (tables.entries_in tables3 indexes3 refl) db ours sound _ raws.entries.entries up.1) up.0
-entries_keyed Four db ours sound olders rows raws up =
-    later_apart db sound olders rows raws.entries
-    (keys_apart (tables.entries_in behind_second indexes_behind_second refl) db ours sound _
-    raws.entries.entries up.1) up.0
+entries_keyed v db ours sound olders rows raws up =
+    elim (has_cards v) as (λ b. has_cards v ≡ b → Either b (AreCards db.trees rows) (AreOlders db.trees olders
+    rows) → Either b (AreCardsApart rows) (IsApart (map raw.old_entry_values olders)) → AreKeyed rows) [
+      | true ↦ λ has are apart.
+          later_apart db sound olders rows are
+          (keys_apart (tables.entries_in (behind_two v) (indexes_behind_two v) (entries_free v)) db
+          (ours ∙ schema_second v has) sound _ are.entries apart.1) apart.0
+      | false ↦ λ none are apart. first_apart db sound olders rows (ours ∙ schema_first v none) are apart
+    ] refl raws.entries up
 
 pub keys_in : (v : Version) (db : Database) → db.schema ≡ schema_of v → IsDatabase db
     → (olders : List OldEntry) (rows : Rows) → AreRaws v db.trees olders rows
@@ -165,10 +172,12 @@ keys_in v db ours sound olders rows raws merchants counts entries records rights
 -- so of rows of which no rowid comes twice
 entries_of : (v : Version) (db : Database) (olders : List OldEntry) (rows : Rows)
     → AreRaws v db.trees olders rows → AreApart rows → AreEntriesApart v olders rows
-entries_of One db olders rows raws up = olders_apart db.trees olders rows raws.entries up.entries
-entries_of Two db olders rows raws up = (up.cards, up.entries)
-entries_of Three db olders rows raws up = (up.cards, up.entries)
-entries_of Four db olders rows raws up = (up.cards, up.entries)
+entries_of v db olders rows raws up =
+    elim (has_cards v) as (λ b. Either b (AreCards db.trees rows) (AreOlders db.trees olders rows)
+    → Either b (AreCardsApart rows) (IsApart (map raw.old_entry_values olders))) [
+      | true ↦ λ are. (up.cards, up.entries)
+      | false ↦ λ are. olders_apart db.trees olders rows are up.entries
+    ] raws.entries
 
 pub apart_keys : (v : Version) (db : Database) → db.schema ≡ schema_of v → IsDatabase db
     → (olders : List OldEntry) (rows : Rows) → AreRaws v db.trees olders rows → AreApart rows

@@ -1,17 +1,20 @@
 -- The rows of a database that stands for a vault show that vault, in each version.
-use Rattle.std.proofs.Common.{◌≡◌, ◌+◌, ℕ, pos, List, [], ◌∷◌, map, Some, option_map, refl, ap}
-use Rattle.std.proofs.Common.{◌∙◌}
+use Rattle.std.proofs.Common.{◌≡◌, ◌+◌, pos, Bool, true, false, List, [], ◌∷◌, map, cond, Some, option_map}
+use Rattle.std.proofs.Common.{◌∙◌, ap, refl}
 use Rattle.sqlite.specs.Effect.{Database, IsDatabase}
 use Rattle.sqlite.specs.Order.{Row}
 use Rattle.sqlite.specs.Tree.{Trees}
 use Rattle.sqlite.specs.declared.types.Value.TheVariants.{Null, Int}
 use Rattle.sqlite_rules.specs.Lists.{Has}
-use Rattle.sql_maps.specs.Rows.{AreRowsById, AreRowsOf}
+use Rattle.sql_maps.specs.Rows.{AreRowsById, AreRowsOf, IsApart}
+use Rattle.sql_maps.specs.States.{Claim, StandsIn}
 use Rattle.vault_core.specs.Keys.{Bytes}
 use Rattle.vault_core.specs.Vault.{Vault}
 use Rattle.vault_core.specs.declared.right.Right.{Right}
 use Rattle.vault_core.specs.declared.row.GrantRow.{GrantRow}
 use Rattle.vault_pan.specs.Mask.{lead_digits}
+use Rattle.vault_schema.proofs.Behind.{schema_first}
+use Rattle.vault_schema.proofs.ByTable.{first_entries, held, joined_cards, joined_pointing, rights_default}
 use Rattle.vault_schema.proofs.Version3.Codes.{merchant_coding}
 use Rattle.vault_schema.proofs.Version4.Codes.{right_coding}
 use Rattle.vault_schema.specs.Stands.{lookups_of}
@@ -22,12 +25,15 @@ use Rattle.vault_schema.specs.Version2.Joined.{joined}
 use Rattle.vault_schema.specs.Version2.Rows.{card_columns, pointing_row}
 use Rattle.vault_schema.specs.Version3.Rows as three
 use Rattle.vault_schema.specs.Version4.Rows as four
-use Rattle.vault_schema.specs.Versions.{AreEndless, AreSix, Lookups, Stand, StandJoined, number_of, schema_of}
+use Rattle.vault_schema.specs.Layers.{Either, claim_or_empty, is_from}
+use Rattle.vault_schema.specs.Versions.{AreEndless, AreSix, HasDefaults, HasRightsDefault, Lookups, Merchants}
+use Rattle.vault_schema.specs.Versions.{OldMerchants, OldRights, Rights, Stand, StandJoined, has_cards}
+use Rattle.vault_schema.specs.Versions.{natural_of, number_of, schema_of, uncarded_claims}
 use Rattle.vault_schema.specs.declared.v3.Lives.{Lives}
 use Rattle.vault_schema.specs.declared.version.Version.{Version}
-use Rattle.vault_schema.specs.declared.version.Version.TheVariants.{One, Two, Three, Four}
+use Rattle.vault_schema.specs.declared.version.Version.TheVariants.{Three, Four}
 use Rattle.vault_verdict.proofs.FromStands.{ArePairs, AreShared, AreThere, shows_of, version_of}
-use Rattle.vault_verdict.proofs.KeysIn.{AreEntriesApart, keys_in}
+use Rattle.vault_verdict.proofs.KeysIn.{AreCardsApart, AreEntriesApart, keys_in}
 use Rattle.vault_verdict.proofs.OldEntries.{old_keys, old_pairs, old_there}
 use Rattle.vault_verdict.proofs.OldRows as old
 use Rattle.vault_verdict.proofs.Permuted.{apart_permuted}
@@ -35,7 +41,9 @@ use Rattle.vault_verdict.proofs.ShownCards as cards
 use Rattle.vault_verdict.proofs.Widened.{widened}
 use Rattle.vault_verdict.specs.Opened.{AreRaws, AreVersions}
 use Rattle.sql_stored.specs.Reading.{any_left}
-use Rattle.vault_verdict.specs.ReadAs.{AreCards, endless, merchants_in, replaced_in, rights_in}
+use Rattle.vault_verdict.specs.Raw.{old_entry_values}
+use Rattle.vault_verdict.specs.ReadAs.{AreCards, AreOlders, endless, merchants_in, replaced_in}
+use Rattle.vault_verdict.specs.ReadAs.{rights_in}
 use Rattle.vault_verdict.specs.ReadAs.{with_six}
 use Rattle.vault_verdict.specs.declared.replaced.OldEntry.{OldEntry}
 use Rattle.vault_rules.specs.Showing.{Shows, ShowsCard}
@@ -43,18 +51,6 @@ use Rattle.vault_rules.specs.VaultOf.{HasKeysApart, entry_key}
 use Rattle.vault_rules.specs.declared.rows.RawCard.{RawCard}
 use Rattle.vault_rules.specs.declared.rows.RawVersion.{RawVersion}
 use Rattle.vault_rules.specs.AllRows.{Rows}
-
-abbrev natural_of : Version → ℕ
-natural_of One = 1
-natural_of Two = 2
-natural_of Three = 3
-natural_of Four = 4
-
-natural_is : (v : Version) → pos (natural_of v) ≡ number_of v
-natural_is One = refl
-natural_is Two = refl
-natural_is Three = refl
-natural_is Four = refl
 
 -- ---- the older tables, with what they can't hold beside them
 
@@ -98,44 +94,34 @@ pub record AreClaimed (v : Version) (db : Trees) (h : Lookups) : Type 0 where
   pub rights : AreRowsOf four.right_row (rights_in v db) h.rights
   pub replaced : replaced_in v db ≡ 0
 
+-- a table that was replaced has no rows
+none_there : (b : Bool) (P : Claim) (rows : List Row) → claim_or_empty b P rows → cond b (any_left rows) 0 ≡ 0
+none_there true P rows empty = ap any_left empty
+none_there false P rows is = refl
+
 pub claimed : (v : Version) (db : Trees) (h : Lookups) → Stand v db h → AreClaimed v db h
-claimed One db h s = record {
-  version = s.rows.0;
-  merchants = merchants_wide h s.defaults.0 (db 1) s.rows.1.0;
-  counts = s.rows.1.1.0;
-  records = s.rows.1.1.1.1.0;
-  rights = rights_wide h s.defaults.1 (db 10) s.rows.1.1.1.1.1.0;
-  replaced = refl;
-}
-claimed Two db h s =
-    let r = s.rows.rows in
+claimed v db h s =
+    let t = (held v db h s.rows).hold in
     record {
-      version = r.0;
-      merchants = merchants_wide h s.defaults.0 (db 1) r.1.0;
-      counts = r.1.1.0;
-      records = r.1.1.1.1.0;
-      rights = rights_wide h s.defaults.1 (db 10) r.1.1.1.1.1.0;
-      replaced = ap any_left r.1.1.1.0;
-    }
-claimed Three db h s =
-    let r = s.rows.rows in
-    record {
-      version = r.0;
-      merchants = r.1.1.1.1.1.1.1.1.0;
-      counts = r.1.1.0;
-      records = r.1.1.1.1.0;
-      rights = rights_wide h s.defaults (db 10) r.1.1.1.1.1.0;
-      replaced = λ i. any_left (r.1.1.1.0 i) + any_left (r.1.0 i);
-    }
-claimed Four db h s =
-    let r = s.rows.rows in
-    record {
-      version = r.0;
-      merchants = r.1.1.1.1.1.1.1.1.0;
-      counts = r.1.1.0;
-      records = r.1.1.1.1.0;
-      rights = r.1.1.1.1.1.1.1.1.1.0;
-      replaced = λ i. any_left (r.1.1.1.0 i) + any_left (r.1.0 i) + any_left (r.1.1.1.1.1.0 i);
+      version = t.0 refl;
+      merchants = elim (is_from Three v) as (λ b. claim_or_empty b (OldMerchants h.merchants) (db 1)
+          → (b ≡ true → Merchants h.merchants (db 17))
+          → Either b (HasRightsDefault v h) (AreSix h × HasRightsDefault v h)
+          → AreRowsOf three.merchant_row (cond b (db 17) (map with_six (db 1))) h.merchants) [
+            | true ↦ λ older newer six. newer refl
+            | false ↦ λ older newer six. merchants_wide h six.0 (db 1) older
+          ] (t.1.0 refl) t.1.1.1.1.1.1.1.1.0 s.defaults;
+      counts = t.1.1.0 refl;
+      records = t.1.1.1.1.0 refl;
+      rights = elim (is_from Four v) as (λ b. claim_or_empty b (OldRights h.rights) (db 10)
+          → (b ≡ true → Rights h.rights (db 19)) → Either b (Unit {0}) (AreEndless h)
+          → AreRowsOf four.right_row (cond b (db 19) (map endless (db 10))) h.rights) [
+            | true ↦ λ older newer none. newer refl
+            | false ↦ λ older newer none. rights_wide h none (db 10) older
+          ] (t.1.1.1.1.1.0 refl) t.1.1.1.1.1.1.1.1.1.0 (rights_default v h s.defaults);
+      replaced = λ i. none_there (has_cards v) _ (db 5) (t.1.1.1.0 refl) i
+          + none_there (is_from Three v) _ (db 1) (t.1.0 refl) i
+          + none_there (is_from Four v) _ (db 10) (t.1.1.1.1.1.0 refl) i;
     }
 
 -- the one row of `vault` says the version
@@ -143,8 +129,7 @@ pub version_row : (v : Version) (db : Trees) (h : Lookups) → Stand v db h → 
     → AreVersions db versions
     → (row : RawVersion) × (versions ≡ row ∷ []) × (row.id ≡ pos 1) × (row.version ≡ number_of v)
 version_row v db h s versions are =
-    let it = version_of (natural_of v) db (claimed v db h s).version versions are in
-    (it.0, it.1, it.2, it.3 ∙ natural_is v)
+    version_of (natural_of v) db (claimed v db h s).version versions are
 
 -- ---- its entries
 
@@ -170,40 +155,40 @@ module _ (db : Database) (V : Vault) (olders : List OldEntry) (rows : Rows) wher
 
 entries_up : (v : Version) (db : Database) (V : Vault) (olders : List OldEntry) (rows : Rows)
     → Stand v db.trees (lookups_of V) → AreRaws v db.trees olders rows → AreEntriesApart v olders rows
-entries_up One db V olders rows s raws = apart_permuted _ _ raws.entries.stand s.rows.1.1.1.0.apart
-entries_up Two db V olders rows s raws = (
-  apart_permuted _ _ raws.entries.cards s.rows.rows.1.1.1.1.1.1.0.apart,
-  apart_permuted _ _ raws.entries.entries s.rows.rows.1.1.1.1.1.1.1.0.apart,
-)
-entries_up Three db V olders rows s raws = (
-  apart_permuted _ _ raws.entries.cards s.rows.rows.1.1.1.1.1.1.0.apart,
-  apart_permuted _ _ raws.entries.entries s.rows.rows.1.1.1.1.1.1.1.0.apart,
-)
-entries_up Four db V olders rows s raws = (
-  apart_permuted _ _ raws.entries.cards s.rows.rows.1.1.1.1.1.1.0.apart,
-  apart_permuted _ _ raws.entries.entries s.rows.rows.1.1.1.1.1.1.1.0.apart,
-)
+entries_up v db V olders rows s raws =
+    elim (has_cards v) as (λ b. has_cards v ≡ b → Either b (StandJoined v db.trees (lookups_of V))
+    (StandsIn (schema_of v).tables (uncarded_claims v (lookups_of V)) db.trees)
+    → Either b (AreCards db.trees rows) (AreOlders db.trees olders rows)
+    → Either b (AreCardsApart rows) (IsApart (map old_entry_values olders))) [
+      | true ↦ λ has j are. (
+        apart_permuted _ _ are.cards (joined_cards v db.trees (lookups_of V) has j).apart,
+        apart_permuted _ _ are.entries (joined_pointing v db.trees (lookups_of V) has j).apart,
+      )
+      | false ↦ λ none stands are.
+          apart_permuted _ _ are.stand (first_entries v db.trees (lookups_of V) none stands).apart
+    ] refl s.rows raws.entries
 
 entries_shown : (v : Version) (db : Database) → db.schema ≡ schema_of v → IsDatabase db → (V : Vault)
     → (olders : List OldEntry) (rows : Rows) → Stand v db.trees (lookups_of V)
     → AreRaws v db.trees olders rows → HasKeysApart rows → AreShown db V olders rows
-entries_shown One db ours sound V olders rows s raws apart =
-    let up = entries_up One db V olders rows s raws in
-    record {
-      pairs = old_pairs db.trees olders rows raws.entries up V s.rows.1.1.1.0;
-      there = old_there db.trees olders rows raws.entries up V s.rows.1.1.1.0;
-      cards = old.cards_shown db.trees olders rows raws.entries up
-          (old_keys db.trees olders rows raws.entries up db ours sound refl);
-    }
-entries_shown Two db ours sound V olders rows s raws apart =
-    joined_shown db V olders rows s.rows raws.entries s.rows.rows.1.1.1.1.1.1.0 s.rows.rows.1.1.1.1.1.1.1.0
-    apart
-entries_shown Three db ours sound V olders rows s raws apart =
-    joined_shown db V olders rows s.rows raws.entries s.rows.rows.1.1.1.1.1.1.0 s.rows.rows.1.1.1.1.1.1.1.0
-    apart
-entries_shown Four db ours sound V olders rows s raws apart =
-    joined_shown db V olders rows s.rows raws.entries s.rows.rows.1.1.1.1.1.1.0 s.rows.rows.1.1.1.1.1.1.1.0
-    apart
+entries_shown v db ours sound V olders rows s raws apart =
+    elim (has_cards v) as (λ b. has_cards v ≡ b → Either b (StandJoined v db.trees (lookups_of V))
+    (StandsIn (schema_of v).tables (uncarded_claims v (lookups_of V)) db.trees)
+    → Either b (AreCards db.trees rows) (AreOlders db.trees olders rows)
+    → AreShown db V olders rows) [
+      | true ↦ λ has j are.
+          joined_shown db V olders rows j are (joined_cards v db.trees (lookups_of V) has j)
+          (joined_pointing v db.trees (lookups_of V) has j) apart
+      | false ↦ λ none stands are.
+          let claimed_entries = first_entries v db.trees (lookups_of V) none stands in
+          let up = apart_permuted _ _ are.stand claimed_entries.apart in
+          record {
+            pairs = old_pairs db.trees olders rows are up V claimed_entries;
+            there = old_there db.trees olders rows are up V claimed_entries;
+            cards = old.cards_shown db.trees olders rows are up
+                (old_keys db.trees olders rows are up db (ours ∙ schema_first v none) sound refl);
+          }
+    ] refl s.rows raws.entries
 
 -- ---- the whole
 

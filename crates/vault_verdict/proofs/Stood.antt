@@ -20,8 +20,8 @@ use Rattle.vault_pan.specs.declared.lead.Lead.{Lead}
 use Rattle.vault_pan.specs.declared.lead.Lead.TheVariants.{Six, Eight}
 use Rattle.vault_verdict.proofs.Backs.{moment_as, some_unless, unless_some}
 use Rattle.vault_verdict.proofs.CardRows.{cards_by_id, numbers_apart}
-use Rattle.vault_verdict.proofs.InVersion.{behind, counts_free, indexes_behind, merchants_free, records_free}
-use Rattle.vault_verdict.proofs.InVersion.{rights_free, schema_is}
+use Rattle.vault_schema.proofs.Behind.{behind, indexes_behind, schema_is}
+use Rattle.vault_verdict.proofs.InVersion.{counts_free, merchants_free, records_free, rights_free}
 use Rattle.vault_verdict.proofs.Joining.{cards_in, entry_first, pointing_in, pointing_value, rows_joined}
 use Rattle.vault_verdict.proofs.Table.{stand_for}
 use Rattle.vault_verdict.proofs.Tables as tables

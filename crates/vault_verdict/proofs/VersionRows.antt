@@ -20,7 +20,6 @@ use Rattle.vault_schema.specs.Version1.Claims.{IsVersion}
 use Rattle.vault_schema.specs.Version1.Tables.{vault}
 use Rattle.vault_schema.specs.Versions.{schema_of}
 use Rattle.vault_schema.specs.declared.version.Version.{Version}
-use Rattle.vault_schema.specs.declared.version.Version.TheVariants.{One, Two, Three, Four}
 
 -- the one item of which the list is shown
 pub one_shown : {X Y : Type 0} (f : X → Y) (xs : List X) (y : Y) → map f xs ≡ y ∷ []
@@ -49,11 +48,4 @@ pub version_stands : (v : Version) (db : Database) → db.schema ≡ schema_of v
     → versions ≡ row ∷ [] → row.id ≡ pos 1 → (n : ℕ) → row.version ≡ pos n → IsVersion n (db.trees 0)
 version_stands v db ours sound versions are row one id n =
     version_in n db (subst (λ (s : Schema). Has s.tables (table_of vault)) (sym ours)
-    (listed v)) sound versions
-    are row one id
-  where
-    listed : (v : Version) → Has (schema_of v).tables (table_of vault)
-    listed One = inl refl
-    listed Two = inl refl
-    listed Three = inl refl
-    listed Four = inl refl
+    (inl refl)) sound versions are row one id

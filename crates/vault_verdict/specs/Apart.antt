@@ -9,8 +9,9 @@ use Rattle.vault_verdict.specs.Raw.{right_values}
 use Rattle.vault_verdict.specs.ReadAs.{merchants_in, rights_in}
 use Rattle.vault_rules.specs.AllRows.{Rows}
 use Rattle.sql_maps.specs.Rows.{IsApart}
+use Rattle.vault_schema.specs.Layers.{Either}
+use Rattle.vault_schema.specs.Versions.{has_cards}
 use Rattle.vault_schema.specs.declared.version.Version.{Version}
-use Rattle.vault_schema.specs.declared.version.Version.TheVariants.{One, Two, Three, Four}
 
 -- That no rowid comes twice is told: with true it is so, and of rows in the order of their rowids only with
 -- true.
@@ -30,10 +31,7 @@ pub record AreApart (rows : Rows) : Type 0 where
 
 -- in no table of cards and entries of a version a rowid comes twice
 abbrev pub AreEntriesApart : Version → Trees → Type 0
-AreEntriesApart One db = IsApart (db 5)
-AreEntriesApart Two db = IsApart (db 12) × IsApart (db 14)
-AreEntriesApart Three db = IsApart (db 12) × IsApart (db 14)
-AreEntriesApart Four db = IsApart (db 12) × IsApart (db 14)
+AreEntriesApart v db = Either (has_cards v) (IsApart (db 12) × IsApart (db 14)) (IsApart (db 5))
 
 -- in no table of a version beside `vault` a rowid comes twice
 pub record AreTablesApart (v : Version) (db : Trees) : Type 0 where

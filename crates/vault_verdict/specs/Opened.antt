@@ -26,9 +26,9 @@ use Rattle.vault_schema.specs.Making.{IsReady}
 use Rattle.sql_maps.specs.Schema.{no_schema}
 use Rattle.vault_schema.specs.Schema.{newest_schema}
 use Rattle.vault_schema.specs.Stands.{Stands, lookups_of, newest}
-use Rattle.vault_schema.specs.Versions.{Stand, number_of, schema_of}
+use Rattle.vault_schema.specs.Layers.{Either}
+use Rattle.vault_schema.specs.Versions.{Stand, has_cards, number_of, schema_of}
 use Rattle.vault_schema.specs.declared.version.Version.{Version}
-use Rattle.vault_schema.specs.declared.version.Version.TheVariants.{One, Two, Three, Four}
 
 -- the rows of `vault` as they stand, in some order
 abbrev pub AreVersions : Trees → List RawVersion → Type 0
@@ -47,10 +47,7 @@ pub record AreRaws (v : Version) (db : Trees) (olders : List OldEntry) (rows : R
 
 -- the rows of `entries`, the table of schema 1, as they stand; a later schema has none
 abbrev pub AreOldersIn : Version → Trees → List OldEntry → Type 0
-AreOldersIn One db olders = IsPermutation (db 5) (map old_entry_values olders)
-AreOldersIn Two db olders = Unit {0}
-AreOldersIn Three db olders = Unit {0}
-AreOldersIn Four db olders = Unit {0}
+AreOldersIn v db olders = Either (has_cards v) (Unit {0}) (IsPermutation (db 5) (map old_entry_values olders))
 
 -- the version is this one, and the rows break this rule and none below it
 pub record IsBrokenIn (v : Version) (db : Database) (rule : ℕ) : Type 0 where

@@ -1,5 +1,5 @@
 -- The rows of each version's tables, read as those of the newest one.
-use Rattle.std.specs.Prelude.{◌≡◌, ◌+◌, ◌++◌, ℕ, pos, List, [], ◌∷◌, map}
+use Rattle.std.specs.Prelude.{◌≡◌, ◌+◌, ◌++◌, ℕ, pos, List, [], ◌∷◌, map, cond}
 use Rattle.std.specs.List.{filter_map}
 use Rattle.std.specs.List.Sorted.{IsPermutation}
 use Rattle.sqlite.specs.Effect.{Database}
@@ -8,9 +8,10 @@ use Rattle.sqlite.specs.Tree.{Trees}
 use Rattle.sqlite.specs.declared.types.Value.TheVariants.{Null, Int}
 use Rattle.sql_stored.specs.Reading.{AreLonger, any_left}
 use Rattle.vault_rules.specs.AllRows.{Rows}
-use Rattle.vault_schema.specs.Versions.{schema_of}
+use Rattle.vault_schema.specs.Layers.{Either, is_from}
+use Rattle.vault_schema.specs.Versions.{has_cards, schema_of}
 use Rattle.vault_schema.specs.declared.version.Version.{Version}
-use Rattle.vault_schema.specs.declared.version.Version.TheVariants.{One, Two, Three, Four}
+use Rattle.vault_schema.specs.declared.version.Version.TheVariants.{Three, Four}
 use Rattle.vault_verdict.specs.Made.{as_card, as_entry}
 use Rattle.vault_verdict.specs.Raw.{card_row, card_values, entry_values, old_entry_values}
 use Rattle.vault_verdict.specs.declared.replaced.OldEntry.{OldEntry}
@@ -24,23 +25,15 @@ abbrev pub endless : Row → Row
 endless row = row ++ Null ∷ []
 
 abbrev pub merchants_in : Version → Trees → List Row
-merchants_in One db = map with_six (db 1)
-merchants_in Two db = map with_six (db 1)
-merchants_in Three db = db 17
-merchants_in Four db = db 17
+merchants_in v db = cond (is_from Three v) (db 17) (map with_six (db 1))
 
 abbrev pub rights_in : Version → Trees → List Row
-rights_in One db = map endless (db 10)
-rights_in Two db = map endless (db 10)
-rights_in Three db = map endless (db 10)
-rights_in Four db = db 19
+rights_in v db = cond (is_from Four v) (db 19) (map endless (db 10))
 
 -- of entries, merchants and rights, how many were replaced by a version and are left
 abbrev pub left_in : Version → ℕ → ℕ → ℕ → ℕ
-left_in One entries merchants rights = 0
-left_in Two entries merchants rights = entries
-left_in Three entries merchants rights = entries + merchants
-left_in Four entries merchants rights = entries + merchants + rights
+left_in v entries merchants rights =
+    cond (has_cards v) entries 0 + cond (is_from Three v) merchants 0 + cond (is_from Four v) rights 0
 
 -- how many of the tables that were replaced still have rows
 abbrev pub replaced_in : Version → Trees → ℕ
@@ -59,18 +52,16 @@ pub record AreOlders (db : Trees) (olders : List OldEntry) (rows : Rows) : Type 
 
 -- the entries and their cards: those of schema 1 have a card each of their own
 abbrev pub AreEntries : Version → Trees → List OldEntry → Rows → Type 0
-AreEntries One db olders rows = AreOlders db olders rows
-AreEntries Two db olders rows = AreCards db rows
-AreEntries Three db olders rows = AreCards db rows
-AreEntries Four db olders rows = AreCards db rows
+AreEntries v db olders rows = Either (has_cards v) (AreCards db rows) (AreOlders db olders rows)
+
+-- each row of the entries of a version has all columns
+abbrev pub AreEntriesFull : Version → Trees → Type 0
+AreEntriesFull v db = Either (has_cards v) (AreLonger 7 (db 14)) (AreLonger 7 (db 5))
 
 -- The premise on a file: each row of a table whose last column may be NULL has all its columns. Nothing else
 -- says that no row was made before that column was added; no statement of this program adds one.
 abbrev pub AreFull : Version → Trees → Type 0
-AreFull One db = AreLonger 7 (db 5)
-AreFull Two db = AreLonger 7 (db 14)
-AreFull Three db = AreLonger 7 (db 14)
-AreFull Four db = AreLonger 7 (db 14) × AreLonger 4 (db 19)
+AreFull v db = Either (is_from Four v) (AreEntriesFull v db × AreLonger 4 (db 19)) (AreEntriesFull v db)
 
 -- a database in the schema of a version, with full rows
 pub record IsFullIn (v : Version) (db : Database) : Type 0 where

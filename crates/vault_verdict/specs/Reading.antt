@@ -1,6 +1,6 @@
 -- Reading the whole of a table.
 use Rattle.std.specs.List.{filter_map}
-use Rattle.std.specs.Prelude.{◌≡◌, ◌≤◌, ◌⊎◌, ℕ, false, List, [], ◌∷◌, map}
+use Rattle.std.specs.Prelude.{◌≡◌, ◌≤◌, ◌⊎◌, ℕ, false, List, [], ◌∷◌, map, cond}
 use Rattle.std.specs.Prelude.{Result, IfErr, IfOk}
 use Rattle.sqlite.specs.Effect.{Database}
 use Rattle.sqlite.specs.Held.{Held, state}
@@ -38,9 +38,10 @@ use Rattle.vault_schema.specs.declared.v2.TheConstants as v2
 use Rattle.vault_schema.specs.declared.v3.TheConstants as v3
 use Rattle.vault_schema.specs.declared.v4.TheConstants as v4
 use Rattle.vault_schema.specs.Stands.{newest}
-use Rattle.vault_schema.specs.Versions.{schema_of}
+use Rattle.vault_schema.specs.Layers.{Either, is_from}
+use Rattle.vault_schema.specs.Versions.{has_cards, schema_of}
 use Rattle.vault_schema.specs.declared.version.Version.{Version}
-use Rattle.vault_schema.specs.declared.version.Version.TheVariants.{One, Two, Three, Four}
+use Rattle.vault_schema.specs.declared.version.Version.TheVariants.{Three, Four}
 use Rattle.vault_schema.specs.Schema.{newest_schema}
 
 -- what the terms show of a row
@@ -68,23 +69,14 @@ abbrev pub ArePointingFull : Database → Type 0
 ArePointingFull db = AreLonger 7 (db.trees 14)
 
 abbrev pub AreRightsFull : Version → Database → Type 0
-AreRightsFull One db = Unit {0}
-AreRightsFull Two db = Unit {0}
-AreRightsFull Three db = Unit {0}
-AreRightsFull Four db = AreLonger 4 (db.trees 19)
+AreRightsFull v db = Either (is_from Four v) (AreLonger 4 (db.trees 19)) (Unit {0})
 
 -- the text that reads the merchants of a version, and that of its rights
 abbrev pub merchants_text : Version → List ℕ
-merchants_text One = v3.READ_OLD_MERCHANTS.now
-merchants_text Two = v3.READ_OLD_MERCHANTS.now
-merchants_text Three = v3.READ_MERCHANTS.now
-merchants_text Four = v3.READ_MERCHANTS.now
+merchants_text v = cond (is_from Three v) v3.READ_MERCHANTS.now v3.READ_OLD_MERCHANTS.now
 
 abbrev pub rights_text : Version → List ℕ
-rights_text One = v4.READ_OLD_RIGHTS.now
-rights_text Two = v4.READ_OLD_RIGHTS.now
-rights_text Three = v4.READ_OLD_RIGHTS.now
-rights_text Four = v4.READ_RIGHTS.now
+rights_text v = cond (is_from Four v) v4.READ_RIGHTS.now v4.READ_OLD_RIGHTS.now
 
 -- what was read of the entries of schema 1, and the cards of them
 pub record AreOldCards (db : Database) (olders : List OldEntry) (cards : List RawCard) : Type 0 where
@@ -93,20 +85,15 @@ pub record AreOldCards (db : Database) (olders : List OldEntry) (cards : List Ra
 
 -- the cards of a version, with the entries of schema 1
 abbrev pub AreCardsIn : Version → Database → List OldEntry → List RawCard → Type 0
-AreCardsIn One db olders cards = AreOldCards db olders cards
-AreCardsIn Two db olders cards = AreTable IsAny (λ t. t 12) card_row (λ c. c.id) db cards
-AreCardsIn Three db olders cards = AreTable IsAny (λ t. t 12) card_row (λ c. c.id) db cards
-AreCardsIn Four db olders cards = AreTable IsAny (λ t. t 12) card_row (λ c. c.id) db cards
+AreCardsIn v db olders cards =
+    Either (has_cards v) (AreTable IsAny (λ t. t 12) card_row (λ c. c.id) db cards)
+    (AreOldCards db olders cards)
 
 -- the entries of a version: those of schema 1 are made of the old ones
 abbrev pub AreEntriesIn : Version → Database → List OldEntry → List RawEntry → Type 0
-AreEntriesIn One db olders entries = map as_entry olders ≡ map entry_values entries
-AreEntriesIn Two db olders entries =
-    AreTable ArePointingFull (λ t. t 14) entry_values (λ e. e.rowid) db entries
-AreEntriesIn Three db olders entries =
-    AreTable ArePointingFull (λ t. t 14) entry_values (λ e. e.rowid) db entries
-AreEntriesIn Four db olders entries =
-    AreTable ArePointingFull (λ t. t 14) entry_values (λ e. e.rowid) db entries
+AreEntriesIn v db olders entries =
+    Either (has_cards v) (AreTable ArePointingFull (λ t. t 14) entry_values (λ e. e.rowid) db entries)
+    (map as_entry olders ≡ map entry_values entries)
 
 -- the rows of a version that cards and entries name
 pub record AreFirst (v : Version) (db : Database) (it : First) : Type 0 where
@@ -143,10 +130,8 @@ module _ {S : Type 0} (g : Ghosts S) where
 
   -- why the entries of a version, or their cards, aren't
   abbrev pub IsUnreadEntries : Version → Database → Held S → Type 0
-  IsUnreadEntries One db new = IsUnread g v1.READ_ENTRIES.now old_entry_values db new
-  IsUnreadEntries Two db new = IsUnreadCards db new
-  IsUnreadEntries Three db new = IsUnreadCards db new
-  IsUnreadEntries Four db new = IsUnreadCards db new
+  IsUnreadEntries v db new =
+      Either (has_cards v) (IsUnreadCards db new) (IsUnread g v1.READ_ENTRIES.now old_entry_values db new)
 
   -- the cards of a version are taken, with the entries of schema 1, and nothing else is done
   pub record ReadsCards (v : Version) (start : Index) (result : Result WithCards ReadFault)

@@ -40,8 +40,8 @@ pub record IsAsked (app : App) (words : List Text) (job : Job) : Type 0 where
   pub asks : AsksBy (subcommand_of app words) job
 
 -- Why words give no job. Help is only given where it is a fault of the words that they ask for it, and is
--- given where that is their only fault; so with the version. Bad words ask for no job, and what is said of them
--- shows few digits. A want of memory says nothing of the words.
+-- given where that is their only fault; so with the version. Bad words ask for no job, and what is said of
+-- them shows few digits. A want of memory says nothing of the words.
 abbrev pub Explains : App → List Text → JobFault → Type 0
 Explains app words (Help text) = IsAmong DisplayHelp (fault_of app words)
 Explains app words Version = IsAmong DisplayVersion (fault_of app words)

@@ -58,7 +58,8 @@ fn first_lines(alloc: Global, text: &str) -> Result<String, AllocError> {
     Ok(lines)
 }
 
-/// What the parser of the words says: help, where there was nothing but the program's name; else what it found.
+/// What the parser of the words says: help, where there was nothing but the program's name; else what it
+/// found.
 fn error_lines(alloc: Global, error: &Error) -> Result<String, AllocError> {
     let text = error.to_string(alloc)?;
     match error.kind() {

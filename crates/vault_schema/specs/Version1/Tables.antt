@@ -1,7 +1,8 @@
 -- The tables and indexes of schema 1.
-use Rattle.std.specs.Prelude.{[], ◌∷◌, Some, codes}
+use Rattle.std.specs.Prelude.{◌++◌, List, [], ◌∷◌, Some, codes}
 use Rattle.sqlite.specs.Kind.TheVariants.{Integer, Text}
 use Rattle.sqlite.specs.Schema.{Schema}
+use Rattle.sqlite_schema.specs.declared.schema.Index.{Index}
 use Rattle.sql_maps.specs.Schema.{Descriptor, table_of, keyed_by, key_index, plain_index, present, optional}
 
 -- the version, in the row with the id 1; the id stands in the rowid
@@ -49,16 +50,29 @@ rights =
     keyed_by 3 10 (codes "rights")
     (present (codes "caller") Text ∷ present (codes "merchant") Text ∷ present (codes "what") Integer ∷ [])
 
+-- the indexes of each table
+abbrev pub merchant_indexes : List Index
+merchant_indexes = key_index 2 (codes "sqlite_autoindex_merchants_1") 1 (1 ∷ []) ∷ []
+
+abbrev pub count_indexes : List Index
+count_indexes = key_index 4 (codes "sqlite_autoindex_counts_1") 3 (1 ∷ 2 ∷ []) ∷ []
+
+abbrev pub entry_indexes : List Index
+entry_indexes =
+    key_index 6 (codes "sqlite_autoindex_entries_1") 5 (1 ∷ 2 ∷ [])
+    ∷ plain_index 7 (codes "entries_number") 5 (1 ∷ 3 ∷ []) ∷ []
+
+abbrev pub record_indexes : List Index
+record_indexes = key_index 9 (codes "sqlite_autoindex_records_1") 8 (1 ∷ 2 ∷ []) ∷ []
+
+abbrev pub right_indexes : List Index
+right_indexes = key_index 11 (codes "sqlite_autoindex_rights_1") 10 (1 ∷ 2 ∷ 3 ∷ []) ∷ []
+
 -- all tables and indexes, with their trees
 abbrev pub v1 : Schema
 v1 = record {
   tables = table_of vault ∷ table_of merchants ∷ table_of counts ∷ table_of entries ∷ table_of records
       ∷ table_of rights ∷ [];
-  indexes = key_index 2 (codes "sqlite_autoindex_merchants_1") 1 (1 ∷ [])
-      ∷ key_index 4 (codes "sqlite_autoindex_counts_1") 3 (1 ∷ 2 ∷ [])
-      ∷ key_index 6 (codes "sqlite_autoindex_entries_1") 5 (1 ∷ 2 ∷ [])
-      ∷ plain_index 7 (codes "entries_number") 5 (1 ∷ 3 ∷ [])
-      ∷ key_index 9 (codes "sqlite_autoindex_records_1") 8 (1 ∷ 2 ∷ [])
-      ∷ key_index 11 (codes "sqlite_autoindex_rights_1") 10 (1 ∷ 2 ∷ 3 ∷ []) ∷ [];
+  indexes = merchant_indexes ++ count_indexes ++ entry_indexes ++ record_indexes ++ right_indexes;
   views = [];
 }

@@ -1,5 +1,5 @@
 -- The tables and indexes of schema 2.
-use Rattle.std.specs.Prelude.{List, [], ◌∷◌, Some, codes}
+use Rattle.std.specs.Prelude.{◌++◌, List, [], ◌∷◌, Some, codes}
 use Rattle.sqlite.specs.Kind.TheVariants.{Integer, Text}
 use Rattle.sqlite.specs.Schema.{Schema}
 use Rattle.sqlite.specs.Table.{Table}
@@ -32,12 +32,18 @@ entries =
 abbrev pub tables2 : List Table
 tables2 = table_of cards ∷ table_of entries ∷ []
 
+-- the indexes of each table
+abbrev pub card_indexes : List Index
+card_indexes = key_index 13 (codes "sqlite_autoindex_cards2_1") 12 (2 ∷ 3 ∷ []) ∷ []
+
+abbrev pub entry_indexes : List Index
+entry_indexes =
+    key_index 15 (codes "sqlite_autoindex_entries2_1") 14 (1 ∷ 2 ∷ [])
+    ∷ plain_index 16 (codes "entries2_card") 14 (1 ∷ 3 ∷ []) ∷ []
+
 -- the indexes behind those of schema 1
 abbrev pub indexes2 : List Index
-indexes2 =
-    key_index 13 (codes "sqlite_autoindex_cards2_1") 12 (2 ∷ 3 ∷ [])
-    ∷ key_index 15 (codes "sqlite_autoindex_entries2_1") 14 (1 ∷ 2 ∷ [])
-    ∷ plain_index 16 (codes "entries2_card") 14 (1 ∷ 3 ∷ []) ∷ []
+indexes2 = card_indexes ++ entry_indexes
 
 -- all tables and indexes, with their trees
 abbrev pub v2 : Schema

@@ -1,16 +1,10 @@
-use Rattle.vault_rows.proofs.Calls.{answers}
-use Rattle.vault_rows.proofs.Lookups.{no_right, right_shown}
+use Rattle.std.proofs.Common.{◌≡◌}
+use Rattle.vault_rows.proofs.Calls.{told_of}
 use Rattle.vault_rows.proofs.rights.right.Goals as goal
-
-pub returns-in-Some : goal.returns-in-Some
-returns-in-Some g c =
-    answers c.in_ok-rows.ensures (λ V shown.
-    right_shown _ c.in_ok-rows.rows.items c.in-Some.row.now _
-    (rw (c.caller_text.ensures, c.merchant_text.ensures) at shown)
-    (rw (c.deref.ensures.value) at c.in-Some.ensures.value) c.in_ok-right_of-in-Some.ensures)
 
 pub returns : goal.returns
 returns g c =
-    answers c.in_ok-rows.ensures (λ V shown.
-    no_right _ c.in_ok-rows.rows.items (rw (c.caller_text.ensures, c.merchant_text.ensures) at shown)
-    (rw (c.deref.ensures.value) at c.in-None.ensures.value))
+    told_of
+    (λ t found. found ≡ t.rights (c.caller_text.result.now, (c.merchant_text.result.now, c.args.right)))
+    c.in_ok-find.ensures.reads c.in_ok-find.ensures.told (λ V cards pointing is.
+    rw (c.caller_text.ensures, c.merchant_text.ensures) at is)

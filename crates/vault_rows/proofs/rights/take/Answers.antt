@@ -1,13 +1,11 @@
-use Rattle.std.proofs.Common.{refl}
-use Rattle.sql_maps.proofs.Calls.{small}
-use Rattle.vault_rows.proofs.Calls.{makes, small_right}
-use Rattle.vault_rows.proofs.Statements.{right_taken}
+use Rattle.std.proofs.Common.{None, refl}
+use Rattle.sql_maps.specs.Rows.{put}
+use Rattle.vault_core.specs.Keys.{right_cmp}
+use Rattle.vault_rows.proofs.Calls.{made_of}
 use Rattle.vault_rows.proofs.rights.take.Goals as goal
 
 pub returns-clause-done : goal.returns-clause-done
 returns-clause-done g c =
-    makes c.step.ensures.steps c.step.ensures.ran (λ h. refl) (λ h cards pointing base can run.
-    right_taken (c.args.caller.now, (c.args.m.now, c.args.right))
-    (rw (c.number-what.ensures, small _ (small_right c.args.right)) at
-    (rw (c.params-to_sql.ensures, c.params-to_sql-2.ensures, c.params-to_sql-3.ensures) at
-    run)))
+    made_of (λ t. record t {
+      rights = put right_cmp t.rights (c.args.caller.now, (c.args.m.now, c.args.right)) None;
+    }) c.take.ensures.steps c.take.ensures.done (λ h cards pointing. refl) (λ h. refl)

@@ -1,7 +1,7 @@
 use Rattle.std.proofs.Common.{[]}
 use Rattle.vault_schema.specs.Version4.Tables.{tables4, indexes4}
 use Rattle.vault_schema.specs.declared.version.Version.TheVariants.{Two}
-use Rattle.vault_verdict.proofs.InVersion.{behind, indexes_behind}
+use Rattle.vault_schema.proofs.Behind.{behind, indexes_behind}
 use Rattle.vault_verdict.proofs.read.merchants.Goals as goal
 
 pub returns-in-One : goal.returns-in-One

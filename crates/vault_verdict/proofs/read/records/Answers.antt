@@ -5,7 +5,7 @@ use Rattle.sql_maps.specs.Schema.{grown}
 use Rattle.vault_schema.specs.Version1.Tables.{v1, records}
 use Rattle.vault_schema.specs.declared.v1.TheConstants.{READ_RECORDS}
 use Rattle.vault_schema.proofs.Version1.Texts.{read_records_is}
-use Rattle.vault_verdict.proofs.InVersion.{behind, indexes_behind, schema_is}
+use Rattle.vault_schema.proofs.Behind.{behind, indexes_behind, schema_is}
 use Rattle.sql_stored.proofs.Readings.{takes_table}
 use Rattle.vault_verdict.proofs.read.records.Goals as goal
 use Rattle.vault_verdict.specs.Raw.{record_values}

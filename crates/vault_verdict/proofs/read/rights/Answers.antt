@@ -1,6 +1,6 @@
 use Rattle.std.proofs.Common.{[]}
 use Rattle.vault_schema.specs.declared.version.Version.TheVariants.{Two, Three}
-use Rattle.vault_verdict.proofs.InVersion.{behind, indexes_behind}
+use Rattle.vault_schema.proofs.Behind.{behind, indexes_behind}
 use Rattle.vault_verdict.proofs.read.rights.Goals as goal
 
 pub returns-in-One : goal.returns-in-One

@@ -1,0 +1,2 @@
+pub mod Merchants
+pub mod Rights

@@ -1,0 +1,23 @@
+-- What a row of merchants says of one, and that its columns tell it.
+use Rattle.std.specs.Prelude.{◌≡◌, pos, [], ◌∷◌}
+use Rattle.std.proofs.Common.{sym}
+use Rattle.sqlite.specs.Order.{Row, column}
+use Rattle.sqlite.specs.declared.types.Value.TheVariants.{Int}
+use Rattle.sql_stored.specs.Keyed.{at_least}
+use Rattle.vault_pan.specs.Mask.{lead_digits}
+use Rattle.vault_schema.proofs.Version3.Codes.{merchant_codes}
+use Rattle.vault_schema.specs.Version3.Rows.{lives_columns}
+use Rattle.vault_schema.specs.declared.v3.Lives.{Lives}
+
+-- a row has the columns of a merchant's lives
+pub record ShowsLives (row : Row) (x : Lives) : Type 0 where
+  pub single_life : column row 0 ≡ Int (pos x.single_life)
+  pub multi_life : column row 1 ≡ Int (pos x.multi_life)
+  pub moment : column row 2 ≡ Int (pos x.moment)
+  pub lead : column row 3 ≡ Int (pos (lead_digits x.lead))
+
+-- and these tell them
+pub lives_told : (x y : Lives) → ShowsLives (at_least (lives_columns x)) y → y ≡ x
+lives_told x y e =
+    merchant_codes.value_back y x
+    (λ i. sym e.single_life i ∷ sym e.multi_life i ∷ sym e.moment i ∷ sym e.lead i ∷ [])

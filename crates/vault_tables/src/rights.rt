@@ -1,0 +1,180 @@
+//! The table of rights: what a caller may do at a merchant, and until when.
+ghost use Rattle.std.specs.Prelude.{◌≡◌, None, Some, IfOk, OnOk};
+ghost use Rattle.sqlite.specs.Effect.{Database};
+ghost use Rattle.sqlite.specs.Held.{state};
+ghost use Rattle.sqlite.specs.State.{HasCleanDisk};
+ghost use Rattle.sql_maps.specs.Rows.{put};
+ghost use Rattle.sql_maps.specs.States.{Reads, Stands, Steps, Within};
+ghost use Rattle.vault_core.specs.Keys.{right_cmp};
+ghost use Rattle.vault_schema.specs.Schema.{newest_schema};
+ghost use Rattle.vault_schema.specs.Stands.{newest_claims};
+ghost use Rattle.vault_schema.specs.Versions.{Tables};
+
+use crate::columns::{moment_or_null_in, moment_value};
+use sql_stored::fault::ReadFault;
+use sql_stored::keyed::{self, Finds, Puts, Stored, Takes};
+use sqlite::types::ToSql;
+use sqlite::{Alter, Connection, Error, Row, Transaction, params};
+use vault_core::name::{Caller, MerchantId};
+use vault_core::right::Right;
+use vault_core::row::GrantRow;
+use vault_schema::v4::{FIND_RIGHT, GIVE_RIGHT, TAKE_RIGHT};
+
+/// The table.
+pub struct Rights;
+
+impl Stored for Rights {
+    ghost use Rattle.std.specs.Prelude.{refl};
+    ghost use Rattle.vault_core.specs.Keys.{right_cmp};
+    ghost use Rattle.vault_schema.proofs.Version4.Codes.{right_table};
+    ghost use Rattle.vault_schema.specs.Schema.{newest_schema};
+    ghost use Rattle.vault_schema.specs.Stands.{newest_claims};
+    ghost use Rattle.vault_schema.specs.Version1.Rows.{right_key};
+    ghost use Rattle.vault_schema.specs.Version4.Rows.{ends_column};
+    ghost use Rattle.vault_schema.specs.Versions.{Tables};
+
+    type Key = (Caller, (MerchantId, Right));
+
+    type Value = GrantRow;
+
+    ghost schema = { newest_schema };
+
+    ghost Tables = { Tables };
+
+    ghost claims = { newest_claims };
+
+    ghost cmp = { right_cmp };
+
+    ghost key = { right_key };
+
+    ghost value = { ends_column };
+
+    ghost at = { right_table };
+
+    ghost held = { λ t. t.rights };
+
+    ghost with = { λ t now. record t { rights = now } };
+
+    ghost plain = { refl };
+
+    ghost said = { λ t rows are. are };
+
+    ghost set = { λ t now db all. all };
+}
+
+impl Finds for Rights {
+    ghost use Rattle.std.specs.Prelude.{◌≡◌, []};
+    ghost use Rattle.sqlite.specs.Order.{column};
+    ghost use Rattle.vault_schema.specs.Version1.Rows.{number_or_null};
+    ghost use Rattle.vault_schema.proofs.Version4.Texts.{right_is};
+    ghost use Rattle.vault_schema.specs.declared.v4.TheConstants.{FIND_RIGHT};
+    ghost use Rattle.vault_tables.specs.Rights.{ends_told};
+
+    ghost found_by = { FIND_RIGHT.now };
+
+    ghost shows = { λ row g. column row 0 ≡ number_or_null g.ends };
+
+    fn find_text() -> &'static str {
+        FIND_RIGHT
+    }
+
+    fn value_of(row: &Row) -> Result<GrantRow, ReadFault> {
+        let ends = moment_or_null_in(row, 0)?;
+        Ok(GrantRow { ends })
+    }
+
+    ghost finding_is = { right_is [] [] };
+
+    ghost told = { ends_told };
+}
+
+impl Puts for Rights {
+    ghost use Rattle.std.specs.Prelude.{[]};
+    ghost use Rattle.vault_schema.proofs.Version4.Texts.{give_is};
+    ghost use Rattle.vault_schema.specs.declared.v4.TheConstants.{GIVE_RIGHT};
+
+    ghost put_by = { GIVE_RIGHT.now };
+
+    fn put_text() -> &'static str {
+        GIVE_RIGHT
+    }
+
+    ghost putting_is = { give_is [] [] };
+}
+
+impl Takes for Rights {
+    ghost use Rattle.std.specs.Prelude.{[]};
+    ghost use Rattle.vault_schema.proofs.Version4.Texts.{take_is};
+    ghost use Rattle.vault_schema.specs.declared.v4.TheConstants.{TAKE_RIGHT};
+
+    ghost taken_by = { TAKE_RIGHT.now };
+
+    fn take_text() -> &'static str {
+        TAKE_RIGHT
+    }
+
+    ghost taking_is = { take_is [] [] };
+}
+
+/// The right of a caller at a merchant.
+pub fn find<S: Alter>(
+    conn: &mut Connection<S>,
+    caller: &str,
+    m: &str,
+    right: Right,
+) -> Result<Option<GrantRow>, ReadFault>
+    ensures reads { Reads newest_schema result (state S.Store conn.old) (state S.Store conn.new) }
+    ensures told { HasCleanDisk (state S.Store conn.new) → IfOk result (λ found. (t : Tables)
+        → Stands newest_schema (newest_claims t) (state S.Store conn.old).now
+        → found ≡ t.rights (caller.now, (m.now, right))) }
+{
+    let what = right.number();
+    keyed::find::<S, Rights>(conn, params![caller, m, what as i64])
+}
+
+/// Gives a caller a right up to its end, whether or not it was there.
+pub fn give<S: Alter>(
+    tx: &mut Transaction<'_, S>,
+    caller: &str,
+    m: &str,
+    right: Right,
+    row: GrantRow,
+) -> Result<(), Error>
+    ensures same_reference { tx.new.conn.ghost_name ≡ tx.old.conn.ghost_name }
+    ensures steps { Steps (state S.Store tx.old.conn.now) (state S.Store tx.new.conn.now) }
+    ensures done { HasCleanDisk (state S.Store tx.new.conn.now) → OnOk result ((base : Database) (t : Tables)
+        → Within newest_schema (newest_claims t) base (state S.Store tx.old.conn.now)
+        → Within newest_schema (newest_claims
+        (record t { rights = put right_cmp t.rights (caller.now, (m.now, right)) (Some row) })) base
+        (state S.Store tx.new.conn.now)) }
+{
+    let what = right.number();
+    keyed::put::<S, Rights>(
+        tx,
+        &[
+            caller.to_sql(),
+            m.to_sql(),
+            (what as i64).to_sql(),
+            moment_value(row.ends),
+        ],
+    )
+}
+
+/// Takes a right from a caller, whether or not it was there.
+pub fn take<S: Alter>(
+    tx: &mut Transaction<'_, S>,
+    caller: &str,
+    m: &str,
+    right: Right,
+) -> Result<(), Error>
+    ensures same_reference { tx.new.conn.ghost_name ≡ tx.old.conn.ghost_name }
+    ensures steps { Steps (state S.Store tx.old.conn.now) (state S.Store tx.new.conn.now) }
+    ensures done { HasCleanDisk (state S.Store tx.new.conn.now) → OnOk result ((base : Database) (t : Tables)
+        → Within newest_schema (newest_claims t) base (state S.Store tx.old.conn.now)
+        → Within newest_schema (newest_claims
+        (record t { rights = put right_cmp t.rights (caller.now, (m.now, right)) None })) base
+        (state S.Store tx.new.conn.now)) }
+{
+    let what = right.number();
+    keyed::take::<S, Rights>(tx, params![caller, m, what as i64])
+}
