@@ -1,4 +1,4 @@
--- A query of all columns, with a constant beside them, of tables whose rows have all columns.
+-- A query of all columns, with constants beside them, of tables whose rows have all columns.
 use Rattle.std.proofs.Common.{◌≡◌, ◌++◌, ℕ, List, [], ◌∷◌, map, refl, sym, ap}
 use Rattle.std.proofs.Common.{subst₂, ◌∙◌, IsPermutation}
 use Rattle.std.proofs.lemmas.List.Sorted.{IsPermutation-map, IsPermutation-sym}
@@ -11,28 +11,37 @@ use Rattle.sqlite_rules.specs.Lists.{Has}
 use Rattle.sql_maps.proofs.Answers.{has_permuted, shown_as}
 use Rattle.sql_maps.proofs.Full.{all_columns}
 
--- a value beside a row
-abbrev pub beside : Value → Row → Row
-beside v r = r ++ v ∷ []
+-- values beside a row
+abbrev pub filled : List Value → Row → Row
+filled vs row = row ++ vs
 
-eval_beside : (terms : List Term) (v : Value) (rows : List Row)
-    → eval_all (terms ++ lit v ∷ []) rows ≡ eval_all terms rows ++ v ∷ []
-eval_beside [] v rows = refl
-eval_beside (t ∷ terms) v rows = λ i. eval_all (t ∷ []) rows ++ eval_beside terms v rows i
+-- the terms that show them
+abbrev pub constants : List Value → List Term
+constants = map (λ v. lit v)
 
-map_beside : (params : Row) (terms : List Term) (v : Value) (rows : List Row)
-    → map (shown_as params (terms ++ lit v ∷ [])) rows ≡ map (beside v) (map (shown_as params terms) rows)
-map_beside params terms v [] = refl
-map_beside params terms v (r ∷ rows) =
-    λ i. eval_beside terms v (params ∷ r ∷ []) i ∷ map_beside params terms v rows i
+eval_filled : (terms : List Term) (vs : List Value) (rows : List Row)
+    → eval_all (terms ++ constants vs) rows ≡ eval_all terms rows ++ vs
+eval_filled [] [] rows = refl
+eval_filled [] (v ∷ vs) rows = λ i. v ∷ eval_filled [] vs rows i
+eval_filled (t ∷ terms) vs rows = λ i. eval_all (t ∷ []) rows ++ eval_filled terms vs rows i
 
--- where a query of all columns shows the rows as they stand, one with a constant shows them beside it
-pub shown_beside : (params : Row) (n : ℕ) (v : Value) (rows : List Row)
+map_filled : (params : Row) (terms : List Term) (vs : List Value) (rows : List Row)
+    → map (shown_as params (terms ++ constants vs)) rows ≡ map (filled vs) (map (shown_as params terms) rows)
+map_filled params terms vs [] = refl
+map_filled params terms vs (r ∷ rows) =
+    λ i. eval_filled terms vs (params ∷ r ∷ []) i ∷ map_filled params terms vs rows i
+
+-- where a query of all columns shows the rows as they stand, one with constants shows them beside these
+pub shown_filled : (params : Row) (n : ℕ) (vs : List Value) (rows : List Row)
     → map (shown_as params (all_columns n)) rows ≡ rows
-    → map (shown_as params (all_columns n ++ lit v ∷ [])) rows ≡ map (beside v) rows
-shown_beside params n v rows whole = map_beside params (all_columns n) v rows ∙ ap (map (beside v)) whole
+    → map (shown_as params (all_columns n ++ constants vs)) rows ≡ map (filled vs) rows
+shown_filled params n vs rows whole = map_filled params (all_columns n) vs rows ∙ ap (map (filled vs)) whole
 
 -- ---- and back
+
+-- one value beside a row
+abbrev pub beside : Value → Row → Row
+beside v r = r ++ v ∷ []
 
 first_of : Row → Row
 first_of [] = []

@@ -6,6 +6,7 @@ pub mod Calls
 pub mod Copies
 pub mod Determined
 pub mod Full
+pub mod Grown
 pub mod HowMany
 pub mod KeyTests
 pub mod Keys

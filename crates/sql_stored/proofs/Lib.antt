@@ -1,3 +1,4 @@
 pub mod Readings
+pub mod Scans
 pub mod Stated
 pub mod Streamed

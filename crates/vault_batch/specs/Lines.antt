@@ -8,7 +8,7 @@ use Rattle.vault_core.specs.Table.{after}
 use Rattle.vault_core.specs.Vault.{Vault as Content}
 use Rattle.vault_core.specs.declared.command.Command.{Command}
 use Rattle.vault_core.specs.declared.reply.Reply.{Reply}
-use Rattle.vault_core.specs.declared.reply.Reply.TheVariants as reply
+use Rattle.vault_core.specs.declared.reply.Reply.TheVariants.{Token, Refused}
 use Rattle.vault_routes.specs.Wanted.{Wanted}
 use Rattle.vault_http.specs.Exchanges.{commands_in, reply_to}
 use Rattle.vault_batch.specs.Asking.{Asked}
@@ -25,12 +25,9 @@ pub record Answer : Type 0 where
 -- the last two cells of a line: a token and its end, or the number of a refusal; a request for a token is
 -- replied to in no other way
 abbrev pub cells : Reply → Bytes
-cells reply.Done = []
-cells (reply.Token token expires) = token ++ codes "," ++ decimal expires
-cells (reply.Number number) = []
-cells (reply.Shown masked usage birth expires state) = []
-cells (reply.Counts made given denied) = []
-cells (reply.Refused n) = codes "refused," ++ decimal n
+cells (Token token expires) = token ++ codes "," ++ decimal expires
+cells (Refused n) = codes "refused," ++ decimal n
+cells other = []
 
 -- the line of an answer
 abbrev pub line_of : Answer → Bytes
@@ -38,12 +35,8 @@ line_of a = a.request ++ codes "," ++ cells a.reply ++ codes "\n"
 
 -- whether a reply has a token
 abbrev pub has_token : Reply → Bool
-has_token reply.Done = false
-has_token (reply.Token token expires) = true
-has_token (reply.Number number) = false
-has_token (reply.Shown masked usage birth expires state) = false
-has_token (reply.Counts made given denied) = false
-has_token (reply.Refused n) = false
+has_token (Token token expires) = true
+has_token other = false
 
 -- the commands that rows ask for
 abbrev pub commands_of : List Asked → List Command

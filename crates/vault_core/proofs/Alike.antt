@@ -3,9 +3,9 @@ use Rattle.std.proofs.Common.{◌≡◌, ◌==◌, ℕ, Option, Some, None, not,
 use Rattle.std.specs.Option.{option_map_or}
 use Rattle.std.specs.FinMap as map
 use Rattle.vault_core.specs.Isolation.{AgreeAt}
-use Rattle.vault_pan.specs.declared.lead.Lead.{Lead}
 use Rattle.vault_core.specs.Keys.{Bytes}
-use Rattle.vault_core.specs.Merchants.{set_from, set_to, new_merchant, granting, withdrawal}
+use Rattle.vault_core.specs.Lives.{new_merchant}
+use Rattle.vault_core.specs.Merchants.{set_from, set_to, granting, withdrawal}
 use Rattle.vault_core.specs.Outcome.{Outcome, plain_reply, plain_refusal, of_merchant, of_token, on_token}
 use Rattle.vault_core.specs.Outcome.{moved_vault, entry_change}
 use Rattle.vault_core.specs.Redeem.{merchant_after_gift, merchant_after_denial, gift, denial, redemption}
@@ -23,6 +23,7 @@ use Rattle.vault_core.specs.declared.right.Right.{Right}
 use Rattle.vault_core.specs.declared.right.Right.TheVariants as right
 use Rattle.vault_core.specs.declared.reply.State.TheVariants.{Live, Expired, Revoked}
 use Rattle.vault_core.specs.declared.row.Entry.{Entry}
+use Rattle.vault_core.specs.declared.row.Lives.{Lives}
 use Rattle.vault_core.specs.declared.row.EntryState.{EntryState}
 use Rattle.vault_core.specs.declared.row.EntryState.TheVariants.{Kept, Purged}
 use Rattle.vault_core.proofs.Agree.{same-made}
@@ -90,21 +91,20 @@ module _ (m : Bytes) (writer : Option Bytes) (V W : Vault) (agree : AgreeAt m V 
       ap-at : {A : Type 0} (f : Vault → Bytes → A) → f V m ≡ f W m → f V t.merchant ≡ f W t.merchant
       ap-at {A = A} f same = subst (λ (x : Bytes). f V x ≡ f W x) (sym named) same
 
-  pub alike-set : (single multi : ℕ) (lead : Lead) (now : ℕ) (o o' : Option Merchant) → o ≡ o'
+  pub alike-set : (x : Lives) (o o' : Option Merchant) → o ≡ o'
       → (o ≡ None → nat_lt (map.len V.merchants) MOST_MERCHANTS ≡ nat_lt (map.len W.merchants) MOST_MERCHANTS)
-      → Both (set_from V m single multi lead now o) (set_from W m single multi lead now o')
-  alike-set single multi lead now o o' same room =
-      subst (λ (x : Option Merchant). Both (set_from V m single multi lead now o)
-      (set_from W m single multi lead now x)) same (go o room)
+      → Both (set_from V m x o) (set_from W m x o')
+  alike-set x o o' same room =
+      subst (λ (p : Option Merchant). Both (set_from V m x o) (set_from W m x p)) same (go o room)
     where
-      go : (x : Option Merchant)
-          → (x ≡ None → nat_lt (map.len V.merchants) MOST_MERCHANTS
+      go : (p : Option Merchant)
+          → (p ≡ None → nat_lt (map.len V.merchants) MOST_MERCHANTS
           ≡ nat_lt (map.len W.merchants) MOST_MERCHANTS)
-          → Both (set_from V m single multi lead now x) (set_from W m single multi lead now x)
+          → Both (set_from V m x p) (set_from W m x p)
       go (Some old) room = alike-row _ _
       go None room =
           both_by_test Both V W (λ U. nat_lt (map.len U.merchants) MOST_MERCHANTS) (room refl)
-          (λ U. set_to U m (new_merchant single multi lead now)) (λ U. plain_refusal U too_many_merchants)
+          (λ U. set_to U m (new_merchant x)) (λ U. plain_refusal U too_many_merchants)
           (alike-row _ _) (alike-refused too_many_merchants)
 
   pub alike-grant : (caller : Bytes) (right : Right) (until : Option ℕ) (now : ℕ) (known : Merchant)

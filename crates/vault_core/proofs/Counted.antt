@@ -7,9 +7,9 @@ use Rattle.std.specs.Cmp.{eq_by_cmp_equiv}
 use Rattle.std.specs.Cmp.Lexicographic.{texts_ties}
 use Rattle.vault_pan.specs.CardText.{same}
 use Rattle.vault_core.specs.Draw.{chosen_token}
-use Rattle.vault_pan.specs.declared.lead.Lead.{Lead}
 use Rattle.vault_core.specs.Keys.{Bytes, bytes_cmp}
-use Rattle.vault_core.specs.Merchants.{granting, withdrawal, set_from, set_to, new_merchant}
+use Rattle.vault_core.specs.Lives.{handed_lives, new_merchant, setting, with_lives}
+use Rattle.vault_core.specs.Merchants.{granting, withdrawal, set_from, set_to}
 use Rattle.vault_core.specs.Named.{token_command, merchant_of, denies}
 use Rattle.vault_core.specs.Outcome.{Outcome, plain_reply, plain_refusal, of_merchant}
 use Rattle.vault_core.specs.Redeem.{merchant_after_gift, merchant_after_denial}
@@ -33,6 +33,7 @@ use Rattle.vault_core.specs.declared.command.Command.TheVariants.{Detokenize, Vi
 use Rattle.vault_core.specs.declared.command.TokenCommand.{TokenCommand}
 use Rattle.vault_core.specs.declared.command.TokenRequest.{TokenRequest}
 use Rattle.vault_core.specs.declared.reply.Reply.{Reply}
+use Rattle.vault_core.specs.declared.row.Lives.{Lives}
 use Rattle.vault_core.specs.declared.reply.Reply.TheVariants.{Token, Number, Counts, Refused}
 use Rattle.vault_core.specs.declared.reply.State.TheVariants.{Live, Expired, Revoked}
 use Rattle.vault_core.specs.declared.right.Right.TheVariants as right
@@ -158,26 +159,18 @@ follows-tokenize V m a =
     offered : Merchant → Outcome
     offered known = cond (life_asked a known == 0) (plain_refusal V wrong_use) (given_one known)
 
-follows-set : (V : Vault) (m q : Bytes) (single multi : ℕ) (lead : Lead) (now : ℕ) (o : Option Merchant)
-    → merchant_at V q ≡ o
-    → Follows (SetMerchant q single multi lead now) V m (set_from V q single multi lead now o)
-follows-set V m q single multi lead now None e =
-    by_test (Follows (SetMerchant q single multi lead now) V m) (nat_lt (map.len V.merchants) MOST_MERCHANTS)
-    (set_to V q (new_merchant single multi lead now)) (plain_refusal V too_many_merchants)
-    (λ _. sets (SetMerchant q single multi lead now) V m (set_to V q (new_merchant single multi lead now))
-    (new_merchant single multi lead now) refl
+follows-set : (V : Vault) (m q : Bytes) (x : Lives) (o : Option Merchant) → merchant_at V q ≡ o
+    → Follows (setting q x) V m (set_from V q x o)
+follows-set V m q x None e =
+    by_test (Follows (setting q x) V m) (nat_lt (map.len V.merchants) MOST_MERCHANTS)
+    (set_to V q (new_merchant x)) (plain_refusal V too_many_merchants)
+    (λ _. sets (setting q x) V m (set_to V q (new_merchant x)) (new_merchant x) refl
     (sym (ap (λ (y : Option Merchant). option_map_or (λ (z : Merchant). z.given) y 0 + 0) e))
     (sym (ap (λ (y : Option Merchant). option_map_or (λ (z : Merchant). z.denied) y 0 + 0) e)))
-    (λ _. calm (SetMerchant q single multi lead now) V m (Refused too_many_merchants) refl refl)
-follows-set V m q single multi lead now (Some known) e =
-    keeps (SetMerchant q single multi lead now) V m (set_from V q single multi lead now (Some known)) known
-    (record known {
-      single_life = single;
-      multi_life = multi;
-      lead = lead;
-      moment =
-          time_at known now;
-    }) e refl refl
+    (λ _. calm (setting q x) V m (Refused too_many_merchants) refl refl)
+follows-set V m q x (Some known) e =
+    keeps (setting q x) V m (set_from V q x (Some known)) known
+    (with_lives (record x { moment = time_at known x.moment }) known) e refl refl
     refl refl refl
 
 -- one more than a merchant has
@@ -221,8 +214,8 @@ follows-detokenize V m caller q token now =
 
 -- one command
 pub follows : (V : Vault) (m : Bytes) (c : Command) → Follows c V m (outcome V c)
-follows V m (SetMerchant q single multi lead now) = follows-set V m q single multi lead now
-    (merchant_at V q) refl
+follows V m (SetMerchant q single multi lead now) =
+    follows-set V m q (handed_lives single multi lead now) (merchant_at V q) refl
 follows V m (Grant caller q right until now) =
     by_option (Follows (Grant caller q right until now) V m) (merchant_at V q)
     (granting V caller q right until now)

@@ -2,6 +2,7 @@
 -- else.
 use Rattle.std.proofs.Common.{◌≡◌, Option, Some, None, nat_lt, refl, sym, subst, ◌∙◌}
 use Rattle.std.specs.FinMap as map
+use Rattle.vault_core.specs.Lives.{handed_lives}
 use Rattle.vault_core.specs.Isolation.{AgreeAt, AgreeFor, StepsAreIsolated}
 use Rattle.vault_core.specs.Keys.{Bytes}
 use Rattle.vault_core.specs.Merchants.{granting, withdrawal}
@@ -44,7 +45,8 @@ pub alike : (V W : Vault) (c : Command) → AgreeAt (merchant_of c) V W → Agre
     → HaveSameRoom c V W
     → Alike (merchant_of c) (writer_of c) V W (outcome V c) (outcome W c)
 alike V W (SetMerchant m single multi lead now) agree records room =
-    alike-set m None V W agree single multi lead now (merchant_at V m) (merchant_at W m) agree.merchant room
+    alike-set m None V W agree (handed_lives single multi lead now) (merchant_at V m) (merchant_at W m)
+    agree.merchant room
 alike V W (Grant caller m right until now) agree records room =
     alike-of_merchant m None V W agree (λ U. granting U caller m right until now)
     (alike-grant m None V W agree caller right until now)

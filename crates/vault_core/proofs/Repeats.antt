@@ -10,7 +10,8 @@ use Rattle.vault_pan.specs.CardText.{same, fits}
 use Rattle.vault_core.specs.Draw.{chosen_token}
 use Rattle.vault_core.specs.Keys.{Bytes, bytes_cmp}
 use Rattle.vault_core.specs.Laws.{IsSameRequest, RepeatsAnswerFirst}
-use Rattle.vault_core.specs.Merchants.{granting, withdrawal, set_from, set_to, new_merchant}
+use Rattle.vault_core.specs.Lives.{handed_lives, new_merchant}
+use Rattle.vault_core.specs.Merchants.{granting, withdrawal, set_from, set_to}
 use Rattle.vault_core.specs.Named.{token_command}
 use Rattle.vault_core.specs.Outcome.{Outcome, plain_reply, plain_refusal, of_merchant, entry_change}
 use Rattle.vault_core.specs.Proper.{AllProper}
@@ -316,10 +317,11 @@ KeepsAfter V o = Keeps V o.after
 pub keeps-after : (V : Vault) → Sound V → (c : Command) → Keeps V (after V c)
 keeps-after V s (SetMerchant m single multi lead now) = set-keeps (merchant_at V m)
   where
-    set-keeps : (o : Option Merchant) → Keeps V (set_from V m single multi lead now o).after
+    set-keeps : (o : Option Merchant) → Keeps V (set_from V m (handed_lives single multi lead now) o).after
     set-keeps None =
         by_test (KeepsAfter V) (nat_lt (map.len V.merchants) MOST_MERCHANTS)
-        (set_to V m (new_merchant single multi lead now)) (plain_refusal V too_many_merchants)
+        (set_to V m (new_merchant (handed_lives single multi lead now)))
+        (plain_refusal V too_many_merchants)
         (λ _. keeps-row V _) (λ _. keeps-refl V)
     set-keeps (Some known) = keeps-row V _
 keeps-after V s (Grant caller m right until now) =

@@ -6,7 +6,8 @@ use Rattle.std.proofs.lemmas.Bool.Decides.{nat_tests}
 use Rattle.vault_core.specs.Isolation.{AgreeAt, AgreeFor, EachAtOneMerchant, HasRoomForMerchants}
 use Rattle.vault_core.specs.Isolation.{RunsAreIsolated, names, naming, replies_naming}
 use Rattle.vault_core.specs.Keys.{Bytes}
-use Rattle.vault_core.specs.Merchants.{set_from, set_to, new_merchant}
+use Rattle.vault_core.specs.Lives.{handed_lives, new_merchant}
+use Rattle.vault_core.specs.Merchants.{set_from, set_to}
 use Rattle.vault_core.specs.Named.{merchant_of}
 use Rattle.vault_core.specs.Outcome.{plain_refusal}
 use Rattle.vault_core.specs.Refusals.{too_many_merchants}
@@ -49,8 +50,8 @@ same-room V W (SetMerchant m single multi lead now) le room =
     refusal : merchant_at V m ≡ None → nat_lt (map.len V.merchants) MOST_MERCHANTS ≡ false
         → reply V (SetMerchant m single multi lead now) ≡ Refused too_many_merchants
     refusal none full =
-        ap (λ o. (set_from V m single multi lead now o).reply) none
-        ∙ ap (λ b. (cond b (set_to V m (new_merchant single multi lead now))
+        ap (λ o. (set_from V m (handed_lives single multi lead now) o).reply) none
+        ∙ ap (λ b. (cond b (set_to V m (new_merchant (handed_lives single multi lead now)))
         (plain_refusal V too_many_merchants)).reply) full
 
     go : merchant_at V m ≡ None → (b : Bool) → nat_lt (map.len V.merchants) MOST_MERCHANTS ≡ b

@@ -12,10 +12,10 @@ use Rattle.vault_pan.specs.Luhn.{passes_check}
 use Rattle.vault_pan.specs.Draw.{IsDrawing, candidate_digits}
 use Rattle.vault_pan.proofs.DrawLemmas.{candidate_digits-fits, candidate_digits-IsNumber}
 use Rattle.vault_core.specs.Draw.{chosen_token, candidates, is_good}
-use Rattle.vault_pan.specs.declared.lead.Lead.{Lead}
 use Rattle.vault_core.specs.Keys.{Bytes}
 use Rattle.vault_core.specs.Laws.{StaysSound}
-use Rattle.vault_core.specs.Merchants.{granting, set_from, set_to, new_merchant}
+use Rattle.vault_core.specs.Lives.{handed_lives, new_merchant, with_lives}
+use Rattle.vault_core.specs.Merchants.{granting, set_from, set_to}
 use Rattle.vault_core.specs.Name.{IsName}
 use Rattle.vault_core.specs.Named.{token_command}
 use Rattle.vault_core.specs.Outcome.{Outcome, plain_reply, plain_refusal, moved_vault, of_merchant}
@@ -37,6 +37,7 @@ use Rattle.vault_core.specs.Refusals.{no_merchant, no_right, wrong_use, number_r
 use Rattle.vault_core.specs.Refusals.{too_many_merchants}
 use Rattle.vault_core.specs.declared.reply.Reply.TheVariants.{Token}
 use Rattle.vault_core.specs.declared.right.Right.{Right}
+use Rattle.vault_core.specs.declared.row.Lives.{Lives}
 use Rattle.vault_core.specs.declared.right.Right.TheVariants as right
 use Rattle.vault_core.specs.declared.row.Entry.{Entry}
 use Rattle.vault_core.specs.declared.usage.Use.{Use}
@@ -71,17 +72,18 @@ at_most false n = omega arith
 below-true : (a b : ℕ) → nat_lt a b ≡ true → a < b
 below-true a b h = grind (arith, nat_tests)
 
-sound-set : (V : Vault) → Sound V → (m : Bytes) (single multi : ℕ) (lead : Lead) (now : ℕ)
-    → IsName m → IsLife single → IsLife multi → IsMoment now → (o : Option Merchant) → merchant_at V m ≡ o
-    → SoundAfter (set_from V m single multi lead now o)
-sound-set V s m single multi lead now name life life' moment None e =
+sound-set : (V : Vault) → Sound V → (m : Bytes) (x : Lives) → IsName m
+    → IsLife x.single_life → IsLife x.multi_life → IsMoment x.moment
+    → (o : Option Merchant) → merchant_at V m ≡ o
+    → SoundAfter (set_from V m x o)
+sound-set V s m x name life life' moment None e =
     by_test SoundAfter (nat_lt (map.len V.merchants) MOST_MERCHANTS)
-    (set_to V m (new_merchant single multi lead now)) (plain_refusal V too_many_merchants)
+    (set_to V m (new_merchant x)) (plain_refusal V too_many_merchants)
     (λ few.
     let below = below-true _ _ few in
-    let count = map.len-insert bytes_total V.merchants m (new_merchant single multi lead now) in
+    let count = map.len-insert bytes_total V.merchants m (new_merchant x) in
     let most = at_most (map.contains_key V.merchants m) (map.len V.merchants) in
-    sound-merchant V s m (new_merchant single multi lead now)
+    sound-merchant V s m (new_merchant x)
     (record {
       name = name;
       single = life;
@@ -93,11 +95,11 @@ sound-set V s m single multi lead now name life life' moment None e =
     (λ old at. let clash = sym e ∙ at in cc)
     (omega (arith, count, most, below)))
     (λ many. s)
-sound-set V s m single multi lead now name life life' moment (Some known) e =
+sound-set V s m x name life life' moment (Some known) e =
     let old = s.merchants m known e in
     let before = old.moment in
     known-set V s m known
-    (record known { single_life = single; multi_life = multi; lead = lead; moment = time_at known now }) e
+    (with_lives (record x { moment = time_at known x.moment }) known) e
     (record {
       name = old.name;
       single = life;
@@ -262,7 +264,7 @@ sound-tokenize V s a p =
 
 pub sound-after : (V : Vault) → Sound V → (c : Command) → IsProper c → Sound (after V c)
 sound-after V s (SetMerchant m single multi lead now) p =
-    sound-set V s m single multi lead now p.0 p.1 p.2 p.3 (merchant_at V m) refl
+    sound-set V s m (handed_lives single multi lead now) p.0 p.1 p.2 p.3 (merchant_at V m) refl
 sound-after V s (Grant caller m right until now) p = sound-grant V s caller m right until now p.0 p.2 p.3
 sound-after V s (Withdraw caller m right now) p = sound-withdraw V s caller m right now p.2
 sound-after V s (Tokenize caller m request usage pan digits now) p =

@@ -4,6 +4,7 @@ use Rattle.std.specs.Prelude.{if◌then◌else◌}
 use Rattle.std.specs.FinMap as map
 use Rattle.std.specs.Option.{option_map_or}
 use Rattle.vault_core.specs.Keys.{Bytes, bytes_cmp, entry_cmp, record_cmp, right_cmp}
+use Rattle.vault_core.specs.Lives.{new_merchant, row_lives, with_lives}
 use Rattle.vault_core.specs.Outcome.{Outcome}
 use Rattle.vault_core.specs.Named.{merchant_of, is_denial}
 use Rattle.vault_core.specs.Sound.{Sound}
@@ -13,37 +14,23 @@ use Rattle.vault_core.specs.Window.{IsWindow, row_of}
 use Rattle.vault_core.specs.declared.changes.Changes.{Changes}
 use Rattle.vault_core.specs.declared.changes.Count.{Count}
 use Rattle.vault_core.specs.declared.changes.Count.TheVariants.{Made, Given, Denied}
-use Rattle.vault_core.specs.declared.changes.Lives.{Lives}
 use Rattle.vault_core.specs.declared.command.Command.{Command}
 use Rattle.vault_core.specs.declared.command.Command.TheVariants.{Tokenize, View, Audit}
 use Rattle.vault_core.specs.declared.command.TokenRequest.{TokenRequest}
 use Rattle.vault_core.specs.declared.reply.Reply.{Reply}
-use Rattle.vault_core.specs.declared.reply.Reply.TheVariants.{Done, Token, Number, Shown, Counts, Refused}
+use Rattle.vault_core.specs.declared.reply.Reply.TheVariants.{Refused}
 use Rattle.vault_core.specs.declared.right.Right.{Right}
 use Rattle.vault_core.specs.declared.row.Entry.{Entry}
 use Rattle.vault_core.specs.declared.row.GrantRow.{GrantRow}
+use Rattle.vault_core.specs.declared.row.Lives.{Lives}
 use Rattle.vault_core.specs.declared.row.MerchantRow.{MerchantRow}
 use Rattle.vault_core.specs.declared.row.Record.{Record}
 use Rattle.vault_core.specs.declared.window.Window.{Window}
 
 -- the merchant with its new lives and moment, and its counts as they were
 abbrev pub merchant_with : Lives → Option Merchant → Merchant
-merchant_with x None =
-    record {
-      single_life = x.single_life;
-      multi_life = x.multi_life;
-      lead = x.lead;
-      moment = x.moment;
-      given = 0;
-      denied = 0;
-    }
-merchant_with x (Some old) =
-    record old {
-      single_life = x.single_life;
-      multi_life = x.multi_life;
-      lead = x.lead;
-      moment = x.moment;
-    }
+merchant_with x None = new_merchant x
+merchant_with x (Some old) = with_lives x old
 
 -- one more number given or denied; how many tokens were made follows from the entries
 abbrev pub merchant_with_count : Option Count → Merchant → Merchant
@@ -53,12 +40,11 @@ merchant_with_count (Some Given) merchant = record merchant { given = merchant.g
 merchant_with_count (Some Denied) merchant = record merchant { denied = merchant.denied + 1 }
 
 -- with the lives and the moment of a merchant, and a count raised
-abbrev pub with_merchant : map.FinMap bytes_cmp Merchant → Option Count → Option Lives
+abbrev pub with_merchant : map.FinMap bytes_cmp Merchant → Option Count → Option (Bytes × Lives)
     → map.FinMap bytes_cmp Merchant
 with_merchant merchants count None = merchants
 with_merchant merchants count (Some x) =
-    map.insert merchants x.merchant
-    (merchant_with_count count (merchant_with x (map.get merchants x.merchant)))
+    map.insert merchants x.0 (merchant_with_count count (merchant_with x.1 (map.get merchants x.0)))
 
 -- with an entry put in
 abbrev pub with_entry : map.FinMap entry_cmp Entry → Option (Bytes × Bytes × Entry)
@@ -96,9 +82,9 @@ is_made (Some Given) = false
 is_made (Some Denied) = false
 
 -- the merchant whose made count goes up
-abbrev pub made_raised : Option Count → Option Lives → Option Bytes
+abbrev pub made_raised : Option Count → Option (Bytes × Lives) → Option Bytes
 made_raised count None = None
-made_raised count (Some x) = if is_made count then Some x.merchant else None
+made_raised count (Some x) = if is_made count then Some x.0 else None
 
 -- the merchant that gets an entry for a token that it never had
 abbrev pub newly : Vault → Option (Bytes × Bytes × Entry) → Option Bytes
@@ -135,15 +121,8 @@ abbrev pub no_changes : Changes
 no_changes = record { lives = None; count = None; entry = None; recorded = None; right = None }
 
 -- the merchant's lives as they are, and its moment moved
-abbrev pub moved_lives : Bytes → MerchantRow → ℕ → Lives
-moved_lives m row now =
-    record {
-      merchant = m;
-      single_life = row.single_life;
-      multi_life = row.multi_life;
-      lead = row.lead;
-      moment = max row.moment now;
-    }
+abbrev pub moved_lives : Bytes → MerchantRow → ℕ → Bytes × Lives
+moved_lives m row now = (m, record (row_lives row) { moment = max row.moment now })
 
 -- a request is recorded with the token that it is answered, and the merchant's moment moves
 abbrev pub record_changes : TokenRequest → MerchantRow → Bytes → Changes
@@ -164,18 +143,13 @@ WritesNothing w c = ⊥
 -- one more number was denied at the merchant, whose moment moves, and nothing else changes
 abbrev pub CountsDenial : Bytes → Changes → Type 0
 CountsDenial m ch =
-    (lives : Lives) × (lives.merchant ≡ m)
-    × (ch ≡ record no_changes { lives = Some lives; count = Some Denied })
+    (lives : Lives) × (ch ≡ record no_changes { lives = Some (m, lives); count = Some Denied })
 
 -- a refusal changes nothing, unless its number is one of these, by which a denial is counted
 abbrev pub RefusesBy : (ℕ → Bool) → Bytes → Reply → Changes → Type 0
-RefusesBy counted m Done ch = Unit {0}
-RefusesBy counted m (Token token expires) ch = Unit {0}
-RefusesBy counted m (Number number) ch = Unit {0}
-RefusesBy counted m (Shown masked usage birth expires state) ch = Unit {0}
-RefusesBy counted m (Counts made given denied) ch = Unit {0}
 RefusesBy counted m (Refused number) ch =
     (counted number ≡ true → CountsDenial m ch) × (counted number ≡ false → ch ≡ no_changes)
+RefusesBy counted m reply ch = Unit {0}
 
 -- a refused command changes nothing, but that a denial is counted
 abbrev pub RefusesQuietly : Command → Reply → Changes → Type 0

@@ -4,6 +4,7 @@ pub mod Draw
 pub mod Isolation
 pub mod Keys
 pub mod Laws
+pub mod Lives
 pub mod Merchants
 pub mod Name
 pub mod Named

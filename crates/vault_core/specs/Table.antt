@@ -1,6 +1,7 @@
 -- What each command answers, and the vault that it leaves.
 use Rattle.std.specs.Prelude.{ℕ, Option, Some, None}
 use Rattle.vault_core.specs.Keys.{Bytes}
+use Rattle.vault_core.specs.Lives.{handed_lives}
 use Rattle.vault_core.specs.Merchants.{set_merchant, grant, withdraw}
 use Rattle.vault_core.specs.Named.{token_command}
 use Rattle.vault_core.specs.Outcome.{Outcome}
@@ -42,7 +43,7 @@ request_in c = None
 
 -- the first case that applies
 abbrev pub outcome : Vault → Command → Outcome
-outcome V (SetMerchant m single multi lead now) = set_merchant V m single multi lead now
+outcome V (SetMerchant m single multi lead now) = set_merchant V m (handed_lives single multi lead now)
 outcome V (Grant caller m right until now) = grant V caller m right until now
 outcome V (Withdraw caller m right now) = withdraw V caller m right now
 outcome V (Tokenize caller m request usage pan digits now) =

@@ -4,6 +4,7 @@ use Rattle.std.specs.Option.{option_map_or}
 use Rattle.std.specs.FinMap as map
 use Rattle.vault_core.specs.Draw.{chosen_token}
 use Rattle.vault_core.specs.Keys.{Bytes}
+use Rattle.vault_core.specs.Lives.{counted_row, lives_in}
 use Rattle.vault_core.specs.Named.{token_command_in}
 use Rattle.vault_core.specs.Repeats.{record_with_entry, current, reusable}
 use Rattle.vault_core.specs.Scalar.{IsLife}
@@ -21,15 +22,8 @@ use Rattle.vault_core.specs.declared.window.Window.{Window}
 
 -- a merchant with the number of its tokens
 abbrev pub row_of : Vault → Bytes → Merchant → MerchantRow
-row_of V m merchant = record {
-  single_life = merchant.single_life;
-  multi_life = merchant.multi_life;
-  lead = merchant.lead;
-  moment = merchant.moment;
-  made = made_count V m;
-  given = merchant.given;
-  denied = merchant.denied;
-}
+row_of V m merchant =
+    counted_row (lives_in merchant) (made_count V m) merchant.given merchant.denied
 
 -- the row of a merchant's name
 abbrev pub row_at : Vault → Bytes → Option MerchantRow

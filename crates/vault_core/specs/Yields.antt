@@ -14,7 +14,7 @@ use Rattle.vault_core.specs.declared.limit.TheConstants.{MOST_COUNT}
 use Rattle.vault_core.specs.declared.command.Command.{Command}
 use Rattle.vault_core.specs.declared.command.Command.TheVariants.{Detokenize as Redeem}
 use Rattle.vault_core.specs.declared.reply.Reply.{Reply}
-use Rattle.vault_core.specs.declared.reply.Reply.TheVariants.{Done, Token, Number, Shown, Counts, Refused}
+use Rattle.vault_core.specs.declared.reply.Reply.TheVariants.{Number, Refused}
 use Rattle.vault_core.specs.declared.right.Right.TheVariants.{Detokenize}
 use Rattle.vault_core.specs.declared.row.Entry.{Entry}
 
@@ -42,21 +42,13 @@ LiveTokensYield =
 
 -- whether a reply gives a number
 abbrev pub gives_number : Reply → Bool
-gives_number Done = false
-gives_number (Token token expires) = false
 gives_number (Number number) = true
-gives_number (Shown masked usage birth expires state) = false
-gives_number (Counts made given denied) = false
-gives_number (Refused number) = false
+gives_number reply = false
 
 -- whether the reply to a command is a denial, which is counted
 abbrev pub denies_number : Command → Reply → Bool
-denies_number c Done = false
-denies_number c (Token token expires) = false
-denies_number c (Number number) = false
-denies_number c (Shown masked usage birth expires state) = false
-denies_number c (Counts made given denied) = false
 denies_number c (Refused number) = is_denial c number
+denies_number c reply = false
 
 -- how many of the commands at a merchant were answered so
 abbrev pub answered_so : (Command → Reply → Bool) → Bytes → List Command → Vault → ℕ

@@ -2,23 +2,11 @@
 ghost use Rattle.std.specs.Prelude.{◌≡◌, ◌↔◌, IsTrue};
 ghost use Rattle.vault_core.specs.Numbers.{count_number};
 
-use crate::moment::Moment;
 use crate::name::{Caller, MerchantId};
 use crate::request::RequestNo;
 use crate::right::Right;
-use crate::row::{Entry, GrantRow, Record};
-use vault_pan::lead::Lead;
+use crate::row::{Entry, GrantRow, Lives, Record};
 use vault_pan::token::Token;
-
-/// The lives, the lead and the moment that a merchant has from now on.
-#[derive(Clone, Copy, Debug)]
-pub struct Lives {
-    pub merchant: MerchantId,
-    pub single_life: u64,
-    pub multi_life: u64,
-    pub lead: Lead,
-    pub moment: Moment,
-}
 
 /// Which count of the merchant goes up by one. The numbers stand in the stored rows.
 #[derive(Clone, Copy, Debug, PartialEq, Eq)]
@@ -40,7 +28,8 @@ impl Count {
 /// What a command changes.
 #[derive(Clone, Copy, Debug)]
 pub struct Changes {
-    pub lives: Option<Lives>,
+    /// What a merchant has from now on, but its counts.
+    pub lives: Option<(MerchantId, Lives)>,
     pub count: Option<Count>,
     pub entry: Option<(MerchantId, Token, Entry)>,
     pub recorded: Option<(Caller, RequestNo, Record)>,

@@ -14,6 +14,7 @@ mod token;
 use crate::changes::Changes;
 use crate::command::Command;
 use crate::reply::Reply;
+use crate::row::Lives;
 use crate::window::Window;
 use merchant::{grant, set_merchant, withdraw};
 use redeem::detokenize;
@@ -52,7 +53,15 @@ fn settled(w: &Window, c: &Command) -> (Reply, Changes)
             multi_life,
             lead,
             now,
-        } => set_merchant(w, merchant, single_life, multi_life, lead, now),
+        } => {
+            let handed = Lives {
+                single_life,
+                multi_life,
+                moment: now,
+                lead,
+            };
+            set_merchant(w, merchant, handed)
+        }
         Command::Grant {
             caller,
             merchant,

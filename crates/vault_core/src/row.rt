@@ -1,5 +1,6 @@
 //! The rows of a vault.
 ghost use Rattle.std.specs.Prelude.{◌≡◌};
+ghost use Rattle.vault_core.specs.Lives.{counted_row, row_lives};
 ghost use Rattle.vault_core.specs.Vault.{lasts, state_of};
 
 use crate::moment::Moment;
@@ -24,6 +25,46 @@ pub struct MerchantRow {
     pub made: u64,
     pub given: u64,
     pub denied: u64,
+}
+
+/// A merchant without its counts: how long its tokens live, how many digits its masks show, and its moment.
+#[derive(Clone, Copy, Debug, PartialEq, Eq)]
+pub struct Lives {
+    pub single_life: u64,
+    pub multi_life: u64,
+    pub moment: Moment,
+    pub lead: Lead,
+}
+
+impl Lives {
+    /// The row of a merchant with these and its counts.
+    pub fn row(&self, made: u64, given: u64, denied: u64) -> MerchantRow
+        ensures { result ≡ counted_row self.now made given denied }
+    {
+        MerchantRow {
+            single_life: self.single_life,
+            multi_life: self.multi_life,
+            lead: self.lead,
+            moment: self.moment,
+            made,
+            given,
+            denied,
+        }
+    }
+}
+
+impl MerchantRow {
+    /// All but its counts.
+    pub fn lives(&self) -> Lives
+        ensures { result ≡ row_lives self.now }
+    {
+        Lives {
+            single_life: self.single_life,
+            multi_life: self.multi_life,
+            moment: self.moment,
+            lead: self.lead,
+        }
+    }
 }
 
 /// What a token stands for.

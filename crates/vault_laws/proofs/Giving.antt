@@ -4,10 +4,10 @@ use Rattle.std.proofs.Common.{None, not, is_some, refl, sym}
 use Rattle.std.proofs.Common.{nat_lt, ap, ◌∙◌}
 use Rattle.std.specs.FinMap as map
 use Rattle.std.specs.Option.{option_map_or}
-use Rattle.vault_pan.specs.declared.lead.Lead.{Lead}
 use Rattle.vault_core.specs.Draw.{chosen_token}
 use Rattle.vault_core.specs.Keys.{Bytes}
-use Rattle.vault_core.specs.Merchants.{granting, withdrawal, set_from, set_to, new_merchant}
+use Rattle.vault_core.specs.Lives.{handed_lives, new_merchant}
+use Rattle.vault_core.specs.Merchants.{granting, withdrawal, set_from, set_to}
 use Rattle.vault_core.specs.Named.{token_command}
 use Rattle.vault_core.specs.Outcome.{Outcome, plain_reply, plain_refusal, of_merchant, of_token}
 use Rattle.vault_core.specs.Redeem.{denial, gift, redemption, merchant_after_denial, merchant_after_gift}
@@ -35,6 +35,7 @@ use Rattle.vault_core.specs.declared.reply.State.TheVariants.{Live, Expired, Rev
 use Rattle.vault_core.specs.declared.right.Right.TheVariants as right
 use Rattle.vault_core.specs.declared.row.Entry.{Entry}
 use Rattle.vault_core.specs.declared.row.EntryState.{EntryState}
+use Rattle.vault_core.specs.declared.row.Lives.{Lives}
 use Rattle.vault_core.specs.declared.row.EntryState.TheVariants.{Kept, Purged}
 use Rattle.vault_core.proofs.Branches.{by_test, by_option}
 use Rattle.vault_core.proofs.Redeemed.{kept-has, moment_known}
@@ -45,13 +46,11 @@ use Rattle.vault_laws.specs.Giving.{AsksForDue}
 abbrev Gives : Outcome → Type 0
 Gives o = gives_number o.reply ≡ false
 
-quiet-set : (V : Content) (m : Bytes) (single multi : ℕ) (lead : Lead) (now : ℕ) (o : Option Merchant)
-    → Gives (set_from V m single multi lead now o)
-quiet-set V m single multi lead now (Some old) = refl
-quiet-set V m single multi lead now None =
-    by_test Gives (nat_lt (map.len V.merchants) MOST_MERCHANTS)
-    (set_to V m (new_merchant single multi lead now)) (plain_refusal V too_many_merchants)
-    (λ _. refl) (λ _. refl)
+quiet-set : (V : Content) (m : Bytes) (x : Lives) (o : Option Merchant) → Gives (set_from V m x o)
+quiet-set V m x (Some old) = refl
+quiet-set V m x None =
+    by_test Gives (nat_lt (map.len V.merchants) MOST_MERCHANTS) (set_to V m (new_merchant x))
+    (plain_refusal V too_many_merchants) (λ _. refl) (λ _. refl)
 
 quiet-tokenize : (V : Content) (a : TokenRequest) → Gives (tokenize V a)
 quiet-tokenize V a =
@@ -177,7 +176,7 @@ module _ (V : Content) (caller m token : Bytes) (now : ℕ) (number : Bytes) whe
 pub only_due : (V : Content) (c : Command) (number : Bytes) → reply V c ≡ Number number
     → AsksForDue V c number
 only_due V (SetMerchant m single multi lead now) number is =
-    absurd (not_given _ number (quiet-set V m single multi lead now (merchant_at V m)) is)
+    absurd (not_given _ number (quiet-set V m (handed_lives single multi lead now) (merchant_at V m)) is)
 only_due V (Grant caller m right until now) number is =
     absurd (not_given _ number (by_option Gives (merchant_at V m) (granting V caller m right until now)
     (plain_refusal V no_merchant) (λ _ _. refl) (λ _. refl)) is)

@@ -14,7 +14,8 @@ use Rattle.vault_schema.proofs.Version4.Codes as four
 use Rattle.vault_schema.specs.Versions.{Stand}
 use Rattle.vault_schema.specs.declared.version.Version.{Version}
 use Rattle.vault_steps.proofs.OneStand.{one_stand}
-use Rattle.vault_schema.specs.Stands.{count_at, lives_in, lookups_of}
+use Rattle.vault_core.specs.Lives.{lives_in}
+use Rattle.vault_schema.specs.Stands.{count_at, lookups_of}
 
 -- a merchant is its lives, its moment and its counts
 same_merchant : (a b : Option Merchant) → option_map lives_in a ≡ option_map lives_in b

@@ -7,7 +7,8 @@ use Rattle.std.specs.FinMap as map
 use Rattle.std.specs.Global.{Vec}
 use Rattle.vault_rights.specs.Named.{Row}
 use Rattle.vault_core.proofs.Branches.{by_option, by_test}
-use Rattle.vault_core.specs.Merchants.{granting, new_merchant, set_from, set_to, withdrawal}
+use Rattle.vault_core.specs.Lives.{handed_lives, new_merchant}
+use Rattle.vault_core.specs.Merchants.{granting, set_from, set_to, withdrawal}
 use Rattle.vault_core.specs.Outcome.{Outcome, plain_refusal}
 use Rattle.vault_core.specs.Proper.{AllProper, IsProper}
 use Rattle.vault_core.specs.Refusals.{no_merchant, too_many_merchants}
@@ -58,10 +59,11 @@ HasVerdict o = (v : Verdict) × (o.reply ≡ reply_of v)
 own_verdict : (V : Content) (c : Command) → IsOwn c → (v : Verdict) × (reply V c ≡ reply_of v)
 own_verdict V (SetMerchant m single multi lead now) own = set_verdict (merchant_at V m)
   where
-    set_verdict : (o : Option Merchant) → HasVerdict (set_from V m single multi lead now o)
+    set_verdict : (o : Option Merchant) → HasVerdict (set_from V m (handed_lives single multi lead now) o)
     set_verdict None =
         by_test HasVerdict (nat_lt (map.len V.merchants) MOST_MERCHANTS)
-        (set_to V m (new_merchant single multi lead now)) (plain_refusal V too_many_merchants)
+        (set_to V m (new_merchant (handed_lives single multi lead now)))
+        (plain_refusal V too_many_merchants)
         (λ _. (verdict.Done, refl)) (λ _. (verdict.Refused too_many_merchants, refl))
     set_verdict (Some known) = (verdict.Done, refl)
 own_verdict V (Grant caller m right until now) own =

@@ -5,7 +5,8 @@ use Rattle.std.specs.FinMap as map
 use Rattle.std.specs.Option.{option_map_or}
 use Rattle.vault_pan.specs.CardText.{same}
 use Rattle.vault_core.specs.Keys.{Bytes, bytes_cmp}
-use Rattle.vault_core.specs.Merchants.{granting, withdrawal, set_from, set_to, new_merchant}
+use Rattle.vault_core.specs.Lives.{handed_lives, new_merchant}
+use Rattle.vault_core.specs.Merchants.{granting, withdrawal, set_from, set_to}
 use Rattle.vault_core.specs.Named.{merchant_of, token_command}
 use Rattle.vault_core.specs.Outcome.{Outcome, plain_reply, plain_refusal}
 use Rattle.vault_core.specs.Refusals.{no_merchant, no_right, too_many_merchants}
@@ -40,10 +41,11 @@ IsNone o = gives_number o.reply ≡ false
 only-redeem : (V : Vault) (c : Command) → is_redeem c ≡ false → gives_number (reply V c) ≡ false
 only-redeem V (SetMerchant m single multi lead now) is = set-none (merchant_at V m)
   where
-    set-none : (o : Option Merchant) → IsNone (set_from V m single multi lead now o)
+    set-none : (o : Option Merchant) → IsNone (set_from V m (handed_lives single multi lead now) o)
     set-none None =
         by_test IsNone (nat_lt (map.len V.merchants) MOST_MERCHANTS)
-        (set_to V m (new_merchant single multi lead now)) (plain_refusal V too_many_merchants)
+        (set_to V m (new_merchant (handed_lives single multi lead now)))
+        (plain_refusal V too_many_merchants)
         (λ _. refl) (λ _. refl)
     set-none (Some known) = refl
 only-redeem V (Grant caller m right until now) is =

@@ -2,7 +2,7 @@
 use Rattle.std.specs.Prelude.{ℕ, List, [], ◌∷◌, Bool, ◌==◌, if◌then◌else◌}
 use Rattle.std.specs.List.{list_any}
 use Rattle.vault_core.specs.declared.reply.Reply.{Reply}
-use Rattle.vault_core.specs.declared.reply.Reply.TheVariants as reply
+use Rattle.vault_core.specs.declared.reply.Reply.TheVariants.{Refused}
 
 -- the number is one of these
 abbrev pub is_among : List ℕ → ℕ → Bool
@@ -28,9 +28,5 @@ status_for n =
 
 -- the status code of a reply
 abbrev pub status_of : Reply → ℕ
-status_of reply.Done = 200
-status_of (reply.Token token expires) = 200
-status_of (reply.Number number) = 200
-status_of (reply.Shown masked usage birth expires state) = 200
-status_of (reply.Counts made given denied) = 200
-status_of (reply.Refused n) = status_for n
+status_of (Refused n) = status_for n
+status_of given = 200

@@ -8,7 +8,7 @@ use Rattle.vault_core.specs.Keys.{Bytes, bytes_cmp}
 use Rattle.vault_schema.proofs.Version3.Codes.{merchant_coding}
 use Rattle.vault_schema.specs.Versions.{Lookups}
 use Rattle.vault_schema.specs.Versions.{Tables}
-use Rattle.vault_schema.specs.declared.v3.Lives.{Lives}
+use Rattle.vault_core.specs.declared.row.Lives.{Lives}
 use Rattle.vault_rows.specs.Calls.{HasTables, Makes, TellsInside}
 use Rattle.vault_schema.specs.Versions.{tables_of}
 

@@ -15,7 +15,7 @@ use Rattle.vault_schema.specs.Version4.Tables.{tables4, indexes4}
 use Rattle.vault_core.proofs.Maps.{bytes_exact, bytes_total}
 use Rattle.vault_core.specs.Keys.{Bytes, bytes_cmp}
 use Rattle.vault_core.specs.Sound.{Sound}
-use Rattle.vault_core.specs.Vault.{Vault, Merchant, merchant_at, made_count, time_at}
+use Rattle.vault_core.specs.Vault.{Vault, Merchant, merchant_at, time_at}
 use Rattle.vault_core.specs.Window.{moment_at, row_at, row_of}
 use Rattle.sqlite.specs.Order.{Row, column}
 use Rattle.sqlite.specs.State.{State, Shown}
@@ -35,11 +35,11 @@ use Rattle.vault_schema.proofs.Version1.Texts.{counts_is}
 use Rattle.vault_schema.proofs.Version3.Texts.{how_many_is}
 use Rattle.vault_schema.specs.Schema.{newest_schema}
 use Rattle.vault_rows.specs.Shown.{count_columns, ShowsCounts, IsTotalOf}
-use Rattle.vault_schema.specs.Stands.{lives_in, count_at, unless_zero, lookups_of}
+use Rattle.vault_core.specs.Lives.{counted_row, lives_in}
+use Rattle.vault_schema.specs.Stands.{count_at, unless_zero, lookups_of}
 use Rattle.vault_schema.specs.Versions.{tables_of}
 use Rattle.vault_core.proofs.Finds.{some_same}
-use Rattle.vault_core.specs.declared.row.MerchantRow.{MerchantRow}
-use Rattle.vault_schema.specs.declared.v3.Lives.{Lives}
+use Rattle.vault_core.specs.declared.row.Lives.{Lives}
 
 -- the rows of a query of this vault
 module _ (old new : State) (V : Vault) (cards : ℤ → Option Card) (pointing : Bytes × Bytes → Option Pointing)
@@ -94,24 +94,13 @@ total_is V m rows kind total shows (inl it) =
 total_is V m rows kind total shows (inr none) =
     none.0 ∙ (shown_or_zero (count_at V m kind)).1 (λ n is. none.1 _ (shows.complete kind n is) refl)
 
-abbrev row_with : Lives → ℕ → ℕ → ℕ → MerchantRow
-row_with x made_count given denied = record {
-  single_life = x.single_life;
-  multi_life = x.multi_life;
-  lead = x.lead;
-  moment = x.moment;
-  made = made_count;
-  given = given;
-  denied = denied;
-}
-
 pub row_is : (V : Vault) (m : Bytes) (x : Lives) → Some x ≡ option_map lives_in (merchant_at V m)
     → (one two three : ℕ)
     → one ≡ count_at V m 1 → two ≡ count_at V m 2 → three ≡ count_at V m 3
-    → Some (row_with x one two three) ≡ row_at V m
+    → Some (counted_row x one two three) ≡ row_at V m
 row_is V m x is one two three e f g = go (merchant_at V m) refl
   where
-    go : (o : Option Merchant) → merchant_at V m ≡ o → Some (row_with x one two three) ≡ row_at V m
+    go : (o : Option Merchant) → merchant_at V m ≡ o → Some (counted_row x one two three) ≡ row_at V m
     go None none = let clash = is ∙ ap (option_map lives_in) none in cc
     go (Some merchant) known =
         let same : x ≡ lives_in merchant = some_same (is ∙ ap (option_map lives_in) known) in
@@ -119,7 +108,8 @@ row_is V m x is one two three e f g = go (merchant_at V m) refl
         ∙ ap (λ (o : Option Merchant). option_map_or (λ (y : Merchant). y.given) o 0) known in
         let denied : three ≡ merchant.denied = g
         ∙ ap (λ (o : Option Merchant). option_map_or (λ (y : Merchant). y.denied) o 0) known in
-        (λ i. Some (row_with (same i) (e i) (given i) (denied i))) ∙ sym (ap (option_map (row_of V m)) known)
+        (λ i. Some (counted_row (same i) (e i) (given i) (denied i)))
+        ∙ sym (ap (option_map (row_of V m)) known)
 
 -- lives that are compared with those that are there
 pub same_lives : (o : Option Lives) (x y : Lives) (same : Bool) → (IsTrue same ↔ (x ≡ y)) → Some x ≡ o

@@ -5,39 +5,29 @@ use Rattle.vault_core.specs.Keys.{Bytes, bytes_cmp, entry_cmp, record_cmp, right
 use Rattle.vault_core.specs.Numbers.{count_number}
 use Rattle.vault_core.specs.declared.changes.Changes.{Changes}
 use Rattle.vault_core.specs.declared.changes.Count.{Count}
-use Rattle.vault_core.specs.declared.changes.Lives as core
 use Rattle.vault_core.specs.declared.right.Right.{Right}
 use Rattle.vault_core.specs.declared.row.Entry.{Entry}
 use Rattle.vault_core.specs.declared.row.GrantRow.{GrantRow}
+use Rattle.vault_core.specs.declared.row.Lives.{Lives}
 use Rattle.vault_core.specs.declared.row.Record.{Record}
-use Rattle.vault_schema.specs.declared.v3.Lives.{Lives}
 use Rattle.sql_maps.specs.Rows.{put}
 use Rattle.vault_schema.specs.Versions.{Lookups}
 use Rattle.vault_schema.specs.Versions.{Tables}
 
--- the row of lives that change
-abbrev pub lives_of : core.Lives → Lives
-lives_of x = record {
-  single_life = x.single_life;
-  multi_life = x.multi_life;
-  moment = x.moment;
-  lead = x.lead;
-}
-
 -- the merchants with the lives that change
-abbrev pub put_lives : (Bytes → Option Lives) → Option core.Lives → Bytes → Option Lives
+abbrev pub put_lives : (Bytes → Option Lives) → Option (Bytes × Lives) → Bytes → Option Lives
 put_lives held None = held
-put_lives held (Some x) = put bytes_cmp held x.merchant (Some (lives_of x))
+put_lives held (Some x) = put bytes_cmp held x.0 (Some x.1)
 
 -- a count that has no row is 0
 abbrev pub raise_at : (Bytes × ℕ → Option ℕ) → Bytes × ℕ → Bytes × ℕ → Option ℕ
 raise_at held key = put record_cmp held key (Some (unwrap_or (held key) 0 + 1))
 
 -- the count of the merchant whose lives are written goes up by one
-abbrev pub raise : (Bytes × ℕ → Option ℕ) → Option core.Lives → Option Count → Bytes × ℕ → Option ℕ
+abbrev pub raise : (Bytes × ℕ → Option ℕ) → Option (Bytes × Lives) → Option Count → Bytes × ℕ → Option ℕ
 raise held None count = held
 raise held (Some x) None = held
-raise held (Some x) (Some count) = raise_at held (x.merchant, count_number count)
+raise held (Some x) (Some count) = raise_at held (x.0, count_number count)
 
 -- the entries with the one that changes
 abbrev pub put_entry : (Bytes × Bytes → Option Entry) → Option (Bytes × Bytes × Entry) → Bytes × Bytes
@@ -71,10 +61,10 @@ abbrev pub HasRoomAt : (Bytes × ℕ → Option ℕ) → Bytes × ℕ → Type 0
 HasRoomAt held key = unwrap_or (held key) 0 + 1 < 2 ^ 63
 
 -- the count that goes up has room
-abbrev pub HasRoom : (Bytes × ℕ → Option ℕ) → Option core.Lives → Option Count → Type 0
+abbrev pub HasRoom : (Bytes × ℕ → Option ℕ) → Option (Bytes × Lives) → Option Count → Type 0
 HasRoom held None count = Unit {0}
 HasRoom held (Some x) None = Unit {0}
-HasRoom held (Some x) (Some count) = HasRoomAt held (x.merchant, count_number count)
+HasRoom held (Some x) (Some count) = HasRoomAt held (x.0, count_number count)
 
 -- a count that has a row has gone up by one, and one that has none was left without
 pub record IsRaised (has : Bool) (old new : Tables) (key : Bytes × ℕ) : Type 0 where

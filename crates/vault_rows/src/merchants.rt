@@ -12,7 +12,7 @@ ghost use Rattle.vault_schema.specs.Version1.Rows.{number_column};
 ghost use Rattle.vault_rows.specs.Listed.{ShowsAll};
 ghost use Rattle.vault_schema.specs.Version3.Rows.{merchant_row};
 ghost use Rattle.vault_rows.specs.Shown.{IsTotalOf, ShowsCounts};
-ghost use Rattle.vault_schema.specs.Stands.{lives_in};
+ghost use Rattle.vault_core.specs.Lives.{lives_in};
 ghost use Rattle.sql_maps.specs.Rows.{put};
 ghost use Rattle.vault_rows.specs.Written.{HasRoomAt, IsRaised, raise_at};
 
@@ -23,10 +23,10 @@ use vault_cards::text::merchant_text;
 use vault_core::changes::Count;
 use vault_core::moment::Moment;
 use vault_core::name::MerchantId;
-use vault_core::row::MerchantRow;
+use vault_core::row::{Lives, MerchantRow};
 use vault_schema::v1::{ADD_COUNT, FIND_COUNTS, RAISE_COUNT};
-use vault_schema::v3::{COUNT_MERCHANTS, Lives, READ_MERCHANTS};
-use vault_tables::merchants as table;
+use vault_schema::v3::COUNT_MERCHANTS;
+use vault_tables::merchants::{self as table, READ_MERCHANTS};
 
 /// The lives of a merchant.
 fn lives_at<S: Alter>(conn: &mut Connection<S>, m: &MerchantId) -> Result<Option<Lives>, StoreFault>
@@ -88,15 +88,7 @@ pub fn merchant<S: Alter>(
     let made = total_of(&counts, Count::Made)?;
     let given = total_of(&counts, Count::Given)?;
     let denied = total_of(&counts, Count::Denied)?;
-    Ok(Some(MerchantRow {
-        single_life: lives.single_life,
-        multi_life: lives.multi_life,
-        lead: lives.lead,
-        moment: lives.moment,
-        made,
-        given,
-        denied,
-    }))
+    Ok(Some(lives.row(made, given, denied)))
 }
 
 /// The row of the number of merchants.

@@ -17,9 +17,8 @@ use vault_cards::text::{caller_text, merchant_text};
 use vault_core::name::{Caller, MerchantId};
 use vault_core::right::Right;
 use vault_core::row::GrantRow;
-use vault_schema::v4::READ_RIGHTS;
 use vault_tables::columns::moment_or_null_in;
-use vault_tables::rights;
+use vault_tables::rights::{self, READ_RIGHTS};
 
 /// The right of a caller at a merchant.
 pub fn right<S: Alter>(

@@ -4,7 +4,7 @@ use Rattle.sqlite.specs.Table.{Table}
 use Rattle.sqlite_schema.specs.declared.schema.Index.{Index}
 use Rattle.sql_maps.proofs.Keys.{IsGuarded}
 use Rattle.sql_maps.specs.Schema.{columns_to, grown, guards_of, is_plain, table_of}
-use Rattle.vault_schema.proofs.Grown.{guarded_in_grown}
+use Rattle.sql_maps.proofs.Grown.{guarded_in_grown}
 use Rattle.vault_schema.proofs.Layers.{free_at, plain_at}
 use Rattle.vault_schema.specs.Layers.{indexes_at, is_from, is_many, rank, tables_at}
 use Rattle.vault_schema.specs.Version1.Tables.{v1}

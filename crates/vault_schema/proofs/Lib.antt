@@ -1,6 +1,5 @@
 pub mod Behind
 pub mod ByTable
-pub mod Grown
 pub mod Layers
 pub mod Newest
 pub mod Version1

@@ -9,7 +9,7 @@ use Rattle.sql_maps.proofs.Keys.{Keyed}
 use Rattle.sql_maps.specs.Schema.{table_of}
 use Rattle.vault_core.specs.Keys.{bytes_cmp, entry_cmp, record_cmp}
 use Rattle.vault_core.specs.Vault.{Vault}
-use Rattle.vault_schema.proofs.Grown.{keyed_in_grown}
+use Rattle.sql_maps.proofs.Grown.{keyed_in_grown}
 use Rattle.vault_schema.proofs.Version2.Codes as two
 use Rattle.vault_schema.proofs.Version3.Codes as three
 use Rattle.vault_schema.specs.Holds.{AreIn, AreOurs, Holds, HoldsIn}

@@ -4,21 +4,12 @@ use Rattle.std.specs.Option.{option_map_or}
 use Rattle.std.specs.FinMap as map
 use Rattle.sqlite.specs.Tree.{Trees}
 use Rattle.vault_core.specs.Keys.{Bytes}
+use Rattle.vault_core.specs.Lives.{lives_in}
 use Rattle.vault_core.specs.Vault.{Vault, Merchant, merchant_at, made_count}
 use Rattle.sql_maps.specs.States.{Claim}
 use Rattle.vault_schema.specs.Versions.{Lookups, StandJoined, Tables, claims_of}
-use Rattle.vault_schema.specs.declared.v3.Lives.{Lives}
 use Rattle.vault_schema.specs.declared.version.Version.{Version}
 use Rattle.vault_schema.specs.declared.version.Version.TheVariants.{Four}
-
--- the lives, the moment and the lead of a merchant, without its counts
-abbrev pub lives_in : Merchant → Lives
-lives_in merchant = record {
-  single_life = merchant.single_life;
-  multi_life = merchant.multi_life;
-  moment = merchant.moment;
-  lead = merchant.lead;
-}
 
 -- how many tokens a merchant has (1), and how often a number was given (2) or denied (3)
 abbrev pub count_at : Vault → Bytes → ℕ → ℕ

@@ -31,7 +31,7 @@ use Rattle.vault_schema.specs.Version4.Rows as four
 use Rattle.vault_schema.specs.Version4.Tables as tables4
 use Rattle.vault_schema.specs.declared.v2.Card.{Card}
 use Rattle.vault_schema.specs.declared.v2.Pointing.{Pointing}
-use Rattle.vault_schema.specs.declared.v3.Lives.{Lives}
+use Rattle.vault_core.specs.declared.row.Lives.{Lives}
 use Rattle.vault_schema.specs.declared.version.Version.{Version}
 use Rattle.vault_schema.specs.declared.version.Version.TheVariants.{One, Two, Three, Four}
 

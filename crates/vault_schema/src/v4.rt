@@ -33,27 +33,3 @@ pub const PUT_VERSION: &str = "INSERT INTO vault VALUES (1, 4)";
 
 /// Writes the version over that of schema 3.
 pub const SET_VERSION: &str = "UPDATE vault SET version = 4 WHERE id = 1";
-
-/// The whole of `rights`, by its rowid, with the end that a right has there: none.
-pub const READ_OLD_RIGHTS: &str =
-    "SELECT rowid, caller, merchant, what, NULL FROM rights ORDER BY rowid";
-
-/// The rowids of `rights`, in their order.
-pub const READ_RIGHT_IDS: &str = "SELECT rowid FROM rights ORDER BY rowid";
-
-/// The whole of `rights4`, by its rowid.
-pub const READ_RIGHTS: &str =
-    "SELECT rowid, caller, merchant, what, ends FROM rights4 ORDER BY rowid";
-
-/// The right of a caller at a merchant, with its end.
-pub const FIND_RIGHT: &str =
-    "SELECT ends FROM rights4 WHERE caller = ?1 AND merchant = ?2 AND what = ?3";
-
-/// Gives a caller a right up to an end, or without one, whether or not it was there.
-pub const GIVE_RIGHT: &str = "\
-    INSERT INTO rights4 VALUES (?1, ?2, ?3, ?4) \
-    ON CONFLICT (caller, merchant, what) DO UPDATE SET ends = ?4";
-
-/// Takes a right from a caller, whether or not it was there.
-pub const TAKE_RIGHT: &str =
-    "DELETE FROM rights4 WHERE caller = ?1 AND merchant = ?2 AND what = ?3";

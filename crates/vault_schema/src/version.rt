@@ -1,5 +1,6 @@
 //! The versions of a vault's schema, one after the other.
 ghost use Rattle.std.specs.Prelude.{◌≡◌, IfSome, IfNone};
+ghost use Rattle.vault_schema.specs.Layers.{is_from};
 ghost use Rattle.vault_schema.specs.Versions.{next_of, number_of, schema_of};
 
 use crate::v1::shape::is_v1;
@@ -31,6 +32,13 @@ impl Version {
             Version::Three => 3,
             Version::Four => 4,
         }
+    }
+
+    /// Whether it is this version or a later one.
+    pub fn is_from(self, first: Version) -> bool
+        ensures { result ≡ is_from first self }
+    {
+        self.number() >= first.number()
     }
 
     /// The one that follows; the newest one is its own next.

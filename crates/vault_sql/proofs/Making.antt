@@ -44,7 +44,8 @@ use Rattle.vault_schema.proofs.Version4.Texts.{put_version_is}
 use Rattle.vault_rows.specs.Calls.{IsWithin}
 use Rattle.vault_schema.specs.Making.{IsRowless, IsBegun, IsReady, empties}
 use Rattle.vault_schema.specs.Schema.{newest_schema}
-use Rattle.vault_schema.specs.Stands.{count_at, lives_in, lookups_of, unless_zero}
+use Rattle.vault_core.specs.Lives.{lives_in}
+use Rattle.vault_schema.specs.Stands.{count_at, lookups_of, unless_zero}
 use Rattle.vault_schema.specs.Versions.{tables_of}
 
 -- ---- the tables, one after the other

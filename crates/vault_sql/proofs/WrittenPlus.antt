@@ -15,13 +15,14 @@ use Rattle.vault_core.specs.Vault.{Vault, Merchant, merchant_at, made_count}
 use Rattle.vault_core.specs.declared.changes.Changes.{Changes}
 use Rattle.vault_core.specs.declared.changes.Count.{Count}
 use Rattle.vault_core.specs.declared.changes.Count.TheVariants.{Made, Given, Denied}
-use Rattle.vault_core.specs.declared.changes.Lives as core
 use Rattle.vault_core.specs.declared.right.Right.{Right}
 use Rattle.vault_core.specs.declared.row.Entry.{Entry}
 use Rattle.vault_core.specs.declared.row.GrantRow.{GrantRow}
+use Rattle.vault_core.specs.declared.row.Lives.{Lives}
 use Rattle.vault_core.specs.declared.row.Record.{Record}
 use Rattle.vault_store.proofs.MadeLemmas.{one_at, made-plus}
-use Rattle.vault_schema.specs.Stands.{lives_in, count_at, unless_zero, lookups_of}
+use Rattle.vault_core.specs.Lives.{lives_in}
+use Rattle.vault_schema.specs.Stands.{count_at, unless_zero, lookups_of}
 use Rattle.sql_maps.specs.Rows.{put}
 use Rattle.vault_core.specs.Numbers.{count_number}
 use Rattle.vault_rows.specs.Written.{put_lives, raise, put_entry, put_record, put_right, written}
@@ -31,43 +32,44 @@ use Rattle.sql_maps.proofs.KeyTests.{equal_is, then_eq}
 -- ---- merchants and their counts
 
 -- what a merchant's table has at a key, with the change
-found_plus : (merchants : map.FinMap bytes_cmp Merchant) (count : Option Count) (x : core.Lives) (q : Bytes)
+found_plus : (merchants : map.FinMap bytes_cmp Merchant) (count : Option Count) (x : Bytes × Lives)
+    (q : Bytes)
     → map.get (with_merchant merchants count (Some x)) q
-    ≡ cond (eq_by_cmp bytes_cmp q x.merchant)
-    (Some (merchant_with_count count (merchant_with x (map.get merchants q))))
+    ≡ cond (eq_by_cmp bytes_cmp q x.0)
+    (Some (merchant_with_count count (merchant_with x.1 (map.get merchants q))))
     (map.get merchants q)
 found_plus merchants count x q =
-    let same : is_eq (bytes_cmp q x.merchant) ≡ true → q ≡ x.merchant =
-    λ e. bytes_exact q x.merchant (equal_is _ e) in
-    rw (map.get-insert bytes_total merchants x.merchant
-    (merchant_with_count count (merchant_with x (map.get merchants x.merchant))) q) (grind (arith, same))
+    let same : is_eq (bytes_cmp q x.0) ≡ true → q ≡ x.0 =
+    λ e. bytes_exact q x.0 (equal_is _ e) in
+    rw (map.get-insert bytes_total merchants x.0
+    (merchant_with_count count (merchant_with x.1 (map.get merchants x.0))) q) (grind (arith, same))
 
 merchants_plus : (merchants : map.FinMap bytes_cmp Merchant) (count : Option Count)
-    (lives : Option core.Lives) (q : Bytes)
+    (lives : Option (Bytes × Lives)) (q : Bytes)
     → put_lives (λ m. option_map lives_in (map.get merchants m)) lives q ≡ option_map lives_in
     (map.get (with_merchant merchants count lives) q)
 merchants_plus merchants count None q = refl
 merchants_plus merchants count (Some x) q = rw (found_plus merchants count x q) (grind arith)
 
 -- by how much a count of this kind goes up at a merchant
-abbrev up_at : Option core.Lives → Option Count → Bytes → ℕ → ℕ
+abbrev up_at : Option (Bytes × Lives) → Option Count → Bytes → ℕ → ℕ
 up_at None count q kind = 0
 up_at (Some x) None q kind = 0
 up_at (Some x) (Some count) q kind =
-    cond (eq_by_cmp bytes_cmp q x.merchant && is_eq (nat_cmp kind (count_number count))) 1 0
+    cond (eq_by_cmp bytes_cmp q x.0 && is_eq (nat_cmp kind (count_number count))) 1 0
 
 -- a count in the table goes up where the number does
-raise_is : (n : Bytes × ℕ → ℕ) (lives : Option core.Lives) (count : Option Count) (q : Bytes) (kind : ℕ)
+raise_is : (n : Bytes × ℕ → ℕ) (lives : Option (Bytes × Lives)) (count : Option Count) (q : Bytes) (kind : ℕ)
     → raise (λ key. unless_zero (n key)) lives count (q, kind) ≡ unless_zero
     (n (q, kind) + up_at lives count q kind)
 raise_is n None count q kind = grind arith
 raise_is n (Some x) None q kind = grind arith
 raise_is n (Some x) (Some count) q kind =
-    let same : is_eq (bytes_cmp q x.merchant) ≡ true → q ≡ x.merchant =
-    λ e. bytes_exact q x.merchant (equal_is _ e) in
+    let same : is_eq (bytes_cmp q x.0) ≡ true → q ≡ x.0 =
+    λ e. bytes_exact q x.0 (equal_is _ e) in
     let kinds : is_eq (nat_cmp kind (count_number count)) ≡ true → kind ≡ count_number count =
     λ e. map.nat_cmp-IsAntisymmetric kind (count_number count) (equal_is _ e) in
-    rw (then_eq (bytes_cmp q x.merchant) (nat_cmp kind (count_number count)))
+    rw (then_eq (bytes_cmp q x.0) (nat_cmp kind (count_number count)))
     (grind (arith, nat_tests, same, kinds))
 
 -- the count of a kind, of tokens that were made and of a merchant
@@ -78,8 +80,8 @@ count_in made_count o kind =
     else if kind == 3 then option_map_or (λ (merchant : Merchant). merchant.denied) o 0
     else 0
 
-count_raised : (merchants : map.FinMap bytes_cmp Merchant) (lives : Option core.Lives) (count : Option Count)
-    (q : Bytes) (kind was now : ℕ) → now ≡ was + one_at (made_raised count lives) q
+count_raised : (merchants : map.FinMap bytes_cmp Merchant) (lives : Option (Bytes × Lives))
+    (count : Option Count) (q : Bytes) (kind was now : ℕ) → now ≡ was + one_at (made_raised count lives) q
     → count_in now (map.get (with_merchant merchants count lives) q) kind ≡ count_in was
     (map.get merchants q) kind + up_at lives count q kind
 count_raised merchants None count q kind was now h = grind (arith, nat_tests)
@@ -130,20 +132,20 @@ written_plus V ch fit = λ i. record {
 }
 
 -- the counts of a sound vault can go up
-pub has_room : (V : Vault) → Sound V → (lives : Option core.Lives) (count : Option Count)
+pub has_room : (V : Vault) → Sound V → (lives : Option (Bytes × Lives)) (count : Option Count)
     → HasRoom (lookups_of V).counts lives count
 has_room V sound None count = tt
 has_room V sound (Some x) None = tt
 has_room V sound (Some x) (Some count) = let few = below count in grind (arith, nat_tests)
   where
-    bounded : (o : Option Merchant) → merchant_at V x.merchant ≡ o
+    bounded : (o : Option Merchant) → merchant_at V x.0 ≡ o
         → (option_map_or (λ (merchant : Merchant). merchant.given) o 0 ≤ 4611686018427387903)
         × (option_map_or (λ (merchant : Merchant). merchant.denied) o 0 ≤ 4611686018427387903)
     bounded None is = (omega arith, omega arith)
     bounded (Some merchant) is =
-        let it = sound.merchants x.merchant merchant is in (it.given, it.denied)
+        let it = sound.merchants x.0 merchant is in (it.given, it.denied)
 
-    below : (count : Count) → count_at V x.merchant (count_number count) ≤ 4611686018427387903
-    below Made = let few = sound.made_few x.merchant in omega (arith, few)
-    below Given = (bounded (merchant_at V x.merchant) refl).0
-    below Denied = (bounded (merchant_at V x.merchant) refl).1
+    below : (count : Count) → count_at V x.0 (count_number count) ≤ 4611686018427387903
+    below Made = let few = sound.made_few x.0 in omega (arith, few)
+    below Given = (bounded (merchant_at V x.0) refl).0
+    below Denied = (bounded (merchant_at V x.0) refl).1

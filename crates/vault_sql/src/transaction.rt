@@ -20,23 +20,22 @@ use vault_cards::fault::StoreFault;
 use vault_cards::parameters::GREATEST;
 use vault_cards::pointing::{add_entry, put_entry};
 use vault_cards::text::{caller_text, merchant_text};
-use vault_core::changes::{self, Changes, Count};
+use vault_core::changes::{Changes, Count};
 use vault_core::name::{Caller, MerchantId};
 use vault_core::request::RequestNo;
 use vault_core::right::Right;
-use vault_core::row::{Entry, GrantRow, Record};
+use vault_core::row::{Entry, GrantRow, Lives, Record};
 use vault_pan::token::Token;
 use vault_rows::merchants::{raise, set_lives};
 use vault_rows::records::add_record;
 use vault_rows::rights::{give, take};
-use vault_schema::v3::Lives;
 
 /// Whether columns hold the numbers of a merchant's lives.
-fn are_storable_lives(lives: &Option<changes::Lives>) -> bool
+fn are_storable_lives(lives: &Option<(MerchantId, Lives)>) -> bool
     ensures { IsTrue result ↔ IsStorableLives lives.now }
 {
     match lives {
-        Some(x) => x.single_life <= GREATEST && x.multi_life <= GREATEST,
+        Some((_, x)) => x.single_life <= GREATEST && x.multi_life <= GREATEST,
         None => true,
     }
 }
@@ -61,7 +60,7 @@ pub(crate) fn are_storable(ch: &Changes) -> bool
 /// Writes the lives, the moment and the lead of a merchant.
 fn write_lives<S: Alter>(
     tx: &mut Transaction<'_, S>,
-    lives: &Option<changes::Lives>,
+    lives: &Option<(MerchantId, Lives)>,
 ) -> Result<(), StoreFault>
     requires { IsStorableLives lives.now }
     ensures same_reference { tx.new.conn.ghost_name ≡ tx.old.conn.ghost_name }
@@ -69,15 +68,7 @@ fn write_lives<S: Alter>(
         (λ _. Unit {0}) (λ h. record h { merchants = put_lives h.merchants lives.now }) }
 {
     match lives {
-        Some(x) => {
-            let row = Lives {
-                single_life: x.single_life,
-                multi_life: x.multi_life,
-                moment: x.moment,
-                lead: x.lead,
-            };
-            set_lives(tx, merchant_text(&x.merchant), &row)
-        }
+        Some((m, x)) => set_lives(tx, merchant_text(m), x),
         None => Ok(()),
     }
 }
@@ -85,7 +76,7 @@ fn write_lives<S: Alter>(
 /// Raises a count of the merchant whose lives are written.
 fn write_count<S: Alter>(
     tx: &mut Transaction<'_, S>,
-    lives: &Option<changes::Lives>,
+    lives: &Option<(MerchantId, Lives)>,
     count: Option<Count>,
 ) -> Result<(), Error>
     ensures same_reference { tx.new.conn.ghost_name ≡ tx.old.conn.ghost_name }
@@ -93,11 +84,11 @@ fn write_count<S: Alter>(
         (λ h. HasRoom h.counts lives.now count)
         (λ h. record h { counts = raise_lem h.counts lives.now count }) }
 {
-    let Some(x) = lives else {
+    let Some((m, _)) = lives else {
         return Ok(());
     };
     match count {
-        Some(count) => raise(tx, merchant_text(&x.merchant), count.number()),
+        Some(count) => raise(tx, merchant_text(m), count.number()),
         None => Ok(()),
     }
 }

@@ -9,7 +9,7 @@ use Rattle.vault_schema.specs.Version3.Tables.{v3}
 use Rattle.vault_schema.specs.Versions.{Lookups, Merchants, OldRights, Tables, WithinOf, AreSix, claims_of}
 use Rattle.vault_schema.proofs.ByTable.{shared_claims}
 use Rattle.vault_schema.specs.Versions.{tables_of}
-use Rattle.vault_schema.specs.declared.v3.Lives.{Lives}
+use Rattle.vault_core.specs.declared.row.Lives.{Lives}
 use Rattle.vault_schema.specs.declared.v3.TheConstants.{CREATE_MERCHANTS, COPY_MERCHANTS, EMPTY_MERCHANTS}
 use Rattle.vault_schema.specs.declared.v3.TheConstants.{SET_VERSION}
 use Rattle.vault_schema.specs.declared.version.Version.TheVariants.{Two, Three}

@@ -18,8 +18,8 @@ use Rattle.vault_schema.proofs.ByTable.{AreHeld, first_entries, held, joined_car
 use Rattle.vault_schema.proofs.ByTable.{rights_default}
 use Rattle.vault_schema.specs.Layers.{Either, claim_or_empty, is_from}
 use Rattle.vault_schema.specs.Versions.{AreEndless, AreSix, HasRightsDefault, Lookups, Merchants}
-use Rattle.vault_schema.specs.Versions.{OldMerchants, OldRights, Rights, Stand, StandJoined, has_cards, schema_of}
-use Rattle.vault_schema.specs.Versions.{uncarded_claims}
+use Rattle.vault_schema.specs.Versions.{OldMerchants, OldRights, Rights, Stand, StandJoined, has_cards}
+use Rattle.vault_schema.specs.Versions.{schema_of, uncarded_claims}
 use Rattle.vault_schema.specs.declared.version.Version.{Version}
 use Rattle.vault_schema.specs.declared.version.Version.TheVariants.{Three, Four}
 use Rattle.vault_steps.proofs.Ending.{endless_again}

@@ -6,8 +6,8 @@ use Rattle.vault_core.specs.Changes.{plus, with_merchant, with_entry, with_recor
 use Rattle.vault_core.specs.Keys.{Bytes}
 use Rattle.vault_core.specs.Vault.{Vault, merchant_at, entry_at, record_at, right_at}
 use Rattle.vault_core.specs.declared.changes.Changes.{Changes}
-use Rattle.vault_core.specs.declared.changes.Lives.{Lives}
 use Rattle.vault_core.specs.declared.right.Right.{Right}
+use Rattle.vault_core.specs.declared.row.Lives.{Lives}
 use Rattle.vault_core.specs.declared.row.Entry.{Entry}
 use Rattle.vault_core.specs.declared.row.GrantRow.{GrantRow}
 use Rattle.vault_core.specs.declared.row.Record.{Record}
@@ -19,14 +19,14 @@ missing : {X : Type 0} (o : Option X) → o ≡ None → is_some o ≡ true → 
 missing None none there = cc
 missing (Some x) none there = cc
 
-pub adds_merchant : (V : Vault) (ch : Changes) (x : Lives)
-    → ch.lives ≡ Some x → merchant_at V x.merchant ≡ None
+pub adds_merchant : (V : Vault) (ch : Changes) (m : Bytes) (x : Lives)
+    → ch.lives ≡ Some (m, x) → merchant_at V m ≡ None
     → AddsNothing V (plus V ch) → ⊥
-adds_merchant V ch x is none adds =
-    missing (merchant_at V x.merchant) none
-    (adds.merchants x.merchant
-    (ap is_some (ap (λ lives. map.get (with_merchant V.merchants ch.count lives) x.merchant) is
-    ∙ get-insert_same bytes_total bytes_exact V.merchants x.merchant _)))
+adds_merchant V ch m x is none adds =
+    missing (merchant_at V m) none
+    (adds.merchants m
+    (ap is_some (ap (λ lives. map.get (with_merchant V.merchants ch.count lives) m) is
+    ∙ get-insert_same bytes_total bytes_exact V.merchants m _)))
 
 pub adds_entry : (V : Vault) (ch : Changes) (x : Bytes × Bytes × Entry)
     → ch.entry ≡ Some x → entry_at V x.0 x.1 ≡ None

@@ -9,13 +9,14 @@ use Rattle.std.specs.Ordering.{eq_by_cmp, is_eq}
 use Rattle.vault_core.specs.Changes.{Fit, plus, with_merchant, merchant_with, merchant_with_count, is_made}
 use Rattle.vault_core.specs.Changes.{made_raised}
 use Rattle.vault_core.specs.Keys.{Bytes, bytes_cmp}
+use Rattle.vault_core.specs.Lives.{counted_row, lives_in}
 use Rattle.vault_core.specs.Sound.{Sound}
 use Rattle.vault_core.specs.Vault.{Vault, Merchant, merchant_at, made_count}
 use Rattle.vault_core.specs.Window.{row_at}
 use Rattle.vault_core.specs.declared.changes.Changes.{Changes}
 use Rattle.vault_core.specs.declared.changes.Count.{Count}
 use Rattle.vault_core.specs.declared.changes.Count.TheVariants.{Made, Given, Denied}
-use Rattle.vault_core.specs.declared.changes.Lives.{Lives}
+use Rattle.vault_core.specs.declared.row.Lives.{Lives}
 use Rattle.vault_core.specs.declared.row.MerchantRow.{MerchantRow}
 use Rattle.vault_core.proofs.Maps.{bytes_total, bytes_exact, tied, get-insert_same, get-insert_other}
 use Rattle.vault_store.specs.ShownMerchants.{ShowsMerchants, HasRoom, row_with, row_raised}
@@ -23,15 +24,7 @@ use Rattle.vault_store.proofs.MadeLemmas.{one_at, made-plus, made-unknown, one_a
 
 -- a merchant's row with this many tokens
 abbrev counted : ℕ → Merchant → MerchantRow
-counted n merchant = record {
-  single_life = merchant.single_life;
-  multi_life = merchant.multi_life;
-  lead = merchant.lead;
-  moment = merchant.moment;
-  made = n;
-  given = merchant.given;
-  denied = merchant.denied;
-}
+counted n merchant = counted_row (lives_in merchant) n merchant.given merchant.denied
 
 -- the row of the merchant whose lives change
 counted-raised : (count : Option Count) (x : Lives) (o : Option Merchant) (n k : ℕ) → (o ≡ None → n ≡ 0)
@@ -100,69 +93,69 @@ has_room V sound x m = go (merchant_at V m) refl
         let denied = (sound.merchants m old is).denied in
         record { made = omega (arith, few); given = omega (arith, given); denied = omega (arith, denied) }
 
-module _ (V : Vault) (sound : Sound V) (ch : Changes) (fit : Fit V ch) (x : Lives)
-    (is : ch.lives ≡ Some x) where
+module _ (V : Vault) (sound : Sound V) (ch : Changes) (fit : Fit V ch) (m : Bytes) (x : Lives)
+    (is : ch.lives ≡ Some (m, x)) where
   looked_up : (q : Bytes)
       → merchant_at (plus V ch) q
       ≡ map.get
-      (map.insert V.merchants x.merchant
-      (merchant_with_count ch.count (merchant_with x (merchant_at V x.merchant)))) q
+      (map.insert V.merchants m
+      (merchant_with_count ch.count (merchant_with x (merchant_at V m)))) q
   looked_up q = ap (λ lives. map.get (with_merchant V.merchants ch.count lives) q) is
 
   made_is : (q : Bytes)
-      → made_count (plus V ch) q ≡ made_count V q + one_at (cond (is_made ch.count) (Some x.merchant) None) q
+      → made_count (plus V ch) q ≡ made_count V q + one_at (cond (is_made ch.count) (Some m) None) q
   made_is q = made-plus V ch fit q ∙ ap (λ lives. made_count V q + one_at (made_raised ch.count lives) q) is
 
-  row-own : row_at (plus V ch) x.merchant ≡ Some (row_raised ch.count (row_with x (row_at V x.merchant)))
+  row-own : row_at (plus V ch) m ≡ Some (row_raised ch.count (row_with x (row_at V m)))
   row-own =
-      ap (option_map (counted (made_count (plus V ch) x.merchant)))
-      (looked_up x.merchant ∙ get-insert_same bytes_total bytes_exact V.merchants x.merchant _)
-      ∙ ap Some (counted-raised ch.count x (merchant_at V x.merchant) (made_count V x.merchant)
-      (made_count (plus V ch) x.merchant)
-      (made-unknown V sound x.merchant)
-      (made_is x.merchant ∙ ap (λ n. made_count V x.merchant + n) (one_at-own (is_made ch.count) x.merchant)))
+      ap (option_map (counted (made_count (plus V ch) m)))
+      (looked_up m ∙ get-insert_same bytes_total bytes_exact V.merchants m _)
+      ∙ ap Some (counted-raised ch.count x (merchant_at V m) (made_count V m)
+      (made_count (plus V ch) m)
+      (made-unknown V sound m)
+      (made_is m ∙ ap (λ n. made_count V m + n) (one_at-own (is_made ch.count) m)))
 
-  row-other : (q : Bytes) → eq_by_cmp bytes_cmp q x.merchant ≡ false → row_at (plus V ch) q ≡ row_at V q
+  row-other : (q : Bytes) → eq_by_cmp bytes_cmp q m ≡ false → row_at (plus V ch) q ≡ row_at V q
   row-other q apart =
       row-same V (plus V ch) q
-      (looked_up q ∙ get-insert_other bytes_total bytes_exact V.merchants x.merchant _ q apart)
-      (made_is q ∙ ap (λ n. made_count V q + n) (one_at-other (is_made ch.count) q x.merchant apart)
+      (looked_up q ∙ get-insert_other bytes_total bytes_exact V.merchants m _ q apart)
+      (made_is q ∙ ap (λ n. made_count V q + n) (one_at-other (is_made ch.count) q m apart)
       ∙ add-zero (made_count V q))
 
   -- the row of the merchant was put
   pub shows-put_merchant : (old new : rows.BTreeMap Bytes MerchantRow)
       → ((q : Bytes) → rows.get bytes_cmp new q
-      ≡ cond (eq_by_cmp bytes_cmp x.merchant q)
-      (Some (row_raised ch.count (row_with x (row_at V x.merchant)))) (rows.get bytes_cmp old q))
+      ≡ cond (eq_by_cmp bytes_cmp m q)
+      (Some (row_raised ch.count (row_with x (row_at V m)))) (rows.get bytes_cmp old q))
       → rows.btree_map_len new
-      ≡ rows.btree_map_len old + cond (is_some (rows.get bytes_cmp old x.merchant)) 0 1
+      ≡ rows.btree_map_len old + cond (is_some (rows.get bytes_cmp old m)) 0 1
       → ShowsMerchants old V → ShowsMerchants new (plus V ch)
   shows-put_merchant old new updates len h = record {
-    at = λ q. elim (tied bytes_exact q x.merchant) [
+    at = λ q. elim (tied bytes_exact q m) [
       | inl same ↦ ap (rows.get bytes_cmp new) same ∙ own ∙ sym (ap (row_at (plus V ch)) same)
       | inr apart ↦
           updates q
-          ∙ ap (λ b. cond b (Some (row_raised ch.count (row_with x (row_at V x.merchant))))
+          ∙ ap (λ b. cond b (Some (row_raised ch.count (row_with x (row_at V m))))
           (rows.get bytes_cmp old q))
-          ((eq_by_cmp_equiv bytes_total).symm x.merchant q ∙ apart)
+          ((eq_by_cmp_equiv bytes_total).symm m q ∙ apart)
           ∙ h.at q ∙ sym (row-other q apart)
     ];
     many =
         len
         ∙ ap (λ b. rows.btree_map_len old + cond b 0 1)
-        (ap is_some (h.at x.merchant)
-        ∙ is_some-map (counted (made_count V x.merchant)) (merchant_at V x.merchant))
-        ∙ more (merchant_at V x.merchant)
+        (ap is_some (h.at m)
+        ∙ is_some-map (counted (made_count V m)) (merchant_at V m))
+        ∙ more (merchant_at V m)
         ∙ sym (ap (λ lives. map.len (with_merchant V.merchants ch.count lives)) is
-        ∙ map.len-insert bytes_total V.merchants x.merchant _);
+        ∙ map.len-insert bytes_total V.merchants m _);
   }
     where
-      own : rows.get bytes_cmp new x.merchant ≡ row_at (plus V ch) x.merchant
+      own : rows.get bytes_cmp new m ≡ row_at (plus V ch) m
       own =
-          updates x.merchant
-          ∙ ap (λ r. cond (is_eq r) (Some (row_raised ch.count (row_with x (row_at V x.merchant))))
-          (rows.get bytes_cmp old x.merchant))
-          (tied_itself bytes_total x.merchant)
+          updates m
+          ∙ ap (λ r. cond (is_eq r) (Some (row_raised ch.count (row_with x (row_at V m))))
+          (rows.get bytes_cmp old m))
+          (tied_itself bytes_total m)
           ∙ sym row-own
 
       more : (o : Option Merchant)

@@ -3,11 +3,12 @@ use Rattle.std.specs.Prelude.{◌≡◌, ◌<◌, ◌+◌, ◌^◌, Option, Some
 use Rattle.std.specs.FinMap as map
 use Rattle.std.specs.BTreeMap as rows
 use Rattle.vault_core.specs.Keys.{Bytes, bytes_cmp}
+use Rattle.vault_core.specs.Lives.{counted_row}
 use Rattle.vault_core.specs.Vault.{Vault}
 use Rattle.vault_core.specs.Window.{row_at}
 use Rattle.vault_core.specs.declared.changes.Count.{Count}
 use Rattle.vault_core.specs.declared.changes.Count.TheVariants.{Made, Given, Denied}
-use Rattle.vault_core.specs.declared.changes.Lives.{Lives}
+use Rattle.vault_core.specs.declared.row.Lives.{Lives}
 use Rattle.vault_core.specs.declared.row.MerchantRow.{MerchantRow}
 
 -- each merchant's row, with the count of its tokens, and as many rows as merchants
@@ -17,22 +18,8 @@ pub record ShowsMerchants (shown : rows.BTreeMap Bytes MerchantRow) (V : Vault) 
 
 -- a merchant's row with its new lives, lead and moment, and its counts as they were
 abbrev pub row_with : Lives → Option MerchantRow → MerchantRow
-row_with lives None = record {
-  single_life = lives.single_life;
-  multi_life = lives.multi_life;
-  lead = lives.lead;
-  moment = lives.moment;
-  made = 0;
-  given = 0;
-  denied = 0;
-}
-row_with lives (Some row) =
-    record row {
-      single_life = lives.single_life;
-      multi_life = lives.multi_life;
-      lead = lives.lead;
-      moment = lives.moment;
-    }
+row_with lives None = counted_row lives 0 0 0
+row_with lives (Some row) = counted_row lives row.made row.given row.denied
 
 -- a row with one more in the count that goes up
 abbrev pub row_raised : Option Count → MerchantRow → MerchantRow

@@ -1,2 +1,4 @@
+pub mod MerchantTexts
 pub mod Merchants
+pub mod RightTexts
 pub mod Rights

@@ -1,4 +1,6 @@
 //! The table of merchants: how long their tokens live, how many digits their masks show, and their moment.
+pub mod old;
+
 ghost use Rattle.std.specs.Prelude.{◌≡◌, ◌<◌, ◌^◌, Some, IfOk, OnOk};
 ghost use Rattle.sqlite.specs.Effect.{Database};
 ghost use Rattle.sqlite.specs.Held.{state};
@@ -11,14 +13,69 @@ ghost use Rattle.vault_schema.specs.Stands.{newest_claims};
 ghost use Rattle.vault_schema.specs.Versions.{Tables};
 
 use crate::columns::{lead_in, moment_in};
+use sql_stored::columns::Columns;
 use sql_stored::fault::ReadFault;
 use sql_stored::keyed::{self, Finds, Puts, Stored};
+use sql_stored::raws::Raw;
+use sql_stored::whole::Whole;
 use sqlite::{Alter, Connection, Error, Row, Transaction, params};
 use vault_core::name::MerchantId;
-use vault_schema::v3::{FIND_LIVES, Lives, PUT_MERCHANT};
+use vault_core::row::Lives;
+use vault_rules::rows::RawMerchant;
+
+/// The whole of `merchants3`, by its rowid.
+pub const READ_MERCHANTS: &str = "\
+    SELECT rowid, name, single_life, multi_life, moment, lead_digits FROM merchants3 ORDER BY rowid";
+
+/// The lives of a merchant, with its lead.
+pub const FIND_LIVES: &str =
+    "SELECT single_life, multi_life, moment, lead_digits FROM merchants3 WHERE name = ?1";
+
+/// Writes the lives, the moment and the lead of a merchant, whether or not it was there.
+pub const PUT_MERCHANT: &str = "\
+    INSERT INTO merchants3 VALUES (?1, ?2, ?3, ?4, ?5) \
+    ON CONFLICT (name) \
+    DO UPDATE SET single_life = ?2, multi_life = ?3, moment = ?4, lead_digits = ?5";
 
 /// The table.
 pub struct Merchants;
+
+impl Raw for Merchants {
+    ghost use Rattle.vault_tables.specs.Merchants.{merchant_values};
+
+    type Of = RawMerchant;
+
+    ghost values = { merchant_values };
+
+    fn read(row: &Row) -> Result<RawMerchant, ReadFault> {
+        let mut columns = Columns::of(row);
+        let raw = RawMerchant {
+            rowid: columns.next()?,
+            name: columns.next()?,
+            single_life: columns.next()?,
+            multi_life: columns.next()?,
+            moment: columns.next()?,
+            lead: columns.next()?,
+        };
+        columns.end()?;
+        Ok(raw)
+    }
+}
+
+impl Whole for Merchants {
+    ghost use Rattle.std.specs.Prelude.{refl};
+    ghost use Rattle.vault_tables.specs.MerchantTexts.{merchant_scan};
+
+    type Raw = Merchants;
+
+    ghost scan = { merchant_scan };
+
+    fn text() -> &'static str {
+        READ_MERCHANTS
+    }
+
+    ghost read_so = { refl };
+}
 
 impl Stored for Merchants {
     ghost use Rattle.std.specs.Prelude.{refl};
@@ -60,10 +117,9 @@ impl Stored for Merchants {
 }
 
 impl Finds for Merchants {
-    ghost use Rattle.vault_schema.proofs.Version3.Texts.{lives_is};
-    ghost use Rattle.vault_schema.specs.Version4.Tables.{indexes4, tables4};
-    ghost use Rattle.vault_schema.specs.declared.v3.TheConstants.{FIND_LIVES};
+    ghost use Rattle.vault_tables.specs.MerchantTexts.{lives_is};
     ghost use Rattle.vault_tables.specs.Merchants.{ShowsLives, lives_told};
+    ghost use Rattle.vault_tables.specs.declared.merchants.TheConstants.{FIND_LIVES};
 
     ghost found_by = { FIND_LIVES.now };
 
@@ -86,15 +142,14 @@ impl Finds for Merchants {
         })
     }
 
-    ghost finding_is = { lives_is tables4 indexes4 };
+    ghost finding_is = { lives_is };
 
     ghost told = { lives_told };
 }
 
 impl Puts for Merchants {
-    ghost use Rattle.vault_schema.proofs.Version3.Texts.{put_merchant_is};
-    ghost use Rattle.vault_schema.specs.Version4.Tables.{indexes4, tables4};
-    ghost use Rattle.vault_schema.specs.declared.v3.TheConstants.{PUT_MERCHANT};
+    ghost use Rattle.vault_tables.specs.MerchantTexts.{put_merchant_is};
+    ghost use Rattle.vault_tables.specs.declared.merchants.TheConstants.{PUT_MERCHANT};
 
     ghost put_by = { PUT_MERCHANT.now };
 
@@ -102,7 +157,7 @@ impl Puts for Merchants {
         PUT_MERCHANT
     }
 
-    ghost putting_is = { put_merchant_is tables4 indexes4 };
+    ghost putting_is = { put_merchant_is };
 }
 
 /// The lives of a merchant.

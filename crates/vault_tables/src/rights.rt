@@ -1,4 +1,6 @@
 //! The table of rights: what a caller may do at a merchant, and until when.
+pub mod old;
+
 ghost use Rattle.std.specs.Prelude.{◌≡◌, None, Some, IfOk, OnOk};
 ghost use Rattle.sqlite.specs.Effect.{Database};
 ghost use Rattle.sqlite.specs.Held.{state};
@@ -11,17 +13,73 @@ ghost use Rattle.vault_schema.specs.Stands.{newest_claims};
 ghost use Rattle.vault_schema.specs.Versions.{Tables};
 
 use crate::columns::{moment_or_null_in, moment_value};
+use sql_stored::columns::Columns;
 use sql_stored::fault::ReadFault;
 use sql_stored::keyed::{self, Finds, Puts, Stored, Takes};
+use sql_stored::raws::Raw;
+use sql_stored::whole::Whole;
 use sqlite::types::ToSql;
 use sqlite::{Alter, Connection, Error, Row, Transaction, params};
 use vault_core::name::{Caller, MerchantId};
 use vault_core::right::Right;
 use vault_core::row::GrantRow;
-use vault_schema::v4::{FIND_RIGHT, GIVE_RIGHT, TAKE_RIGHT};
+use vault_rules::rows::RawRight;
+
+/// The whole of `rights4`, by its rowid.
+pub const READ_RIGHTS: &str =
+    "SELECT rowid, caller, merchant, what, ends FROM rights4 ORDER BY rowid";
+
+/// The right of a caller at a merchant, with its end.
+pub const FIND_RIGHT: &str =
+    "SELECT ends FROM rights4 WHERE caller = ?1 AND merchant = ?2 AND what = ?3";
+
+/// Gives a caller a right up to an end, or without one, whether or not it was there.
+pub const GIVE_RIGHT: &str = "\
+    INSERT INTO rights4 VALUES (?1, ?2, ?3, ?4) \
+    ON CONFLICT (caller, merchant, what) DO UPDATE SET ends = ?4";
+
+/// Takes a right from a caller, whether or not it was there.
+pub const TAKE_RIGHT: &str =
+    "DELETE FROM rights4 WHERE caller = ?1 AND merchant = ?2 AND what = ?3";
 
 /// The table.
 pub struct Rights;
+
+impl Raw for Rights {
+    ghost use Rattle.vault_tables.specs.Rights.{right_values};
+
+    type Of = RawRight;
+
+    ghost values = { right_values };
+
+    fn read(row: &Row) -> Result<RawRight, ReadFault> {
+        let mut columns = Columns::of(row);
+        let raw = RawRight {
+            rowid: columns.next()?,
+            caller: columns.next()?,
+            merchant: columns.next()?,
+            what: columns.next()?,
+            ends: columns.next()?,
+        };
+        columns.end()?;
+        Ok(raw)
+    }
+}
+
+impl Whole for Rights {
+    ghost use Rattle.std.specs.Prelude.{refl};
+    ghost use Rattle.vault_tables.specs.RightTexts.{right_scan};
+
+    type Raw = Rights;
+
+    ghost scan = { right_scan };
+
+    fn text() -> &'static str {
+        READ_RIGHTS
+    }
+
+    ghost read_so = { refl };
+}
 
 impl Stored for Rights {
     ghost use Rattle.std.specs.Prelude.{refl};
@@ -63,12 +121,12 @@ impl Stored for Rights {
 }
 
 impl Finds for Rights {
-    ghost use Rattle.std.specs.Prelude.{◌≡◌, []};
+    ghost use Rattle.std.specs.Prelude.{◌≡◌};
     ghost use Rattle.sqlite.specs.Order.{column};
     ghost use Rattle.vault_schema.specs.Version1.Rows.{number_or_null};
-    ghost use Rattle.vault_schema.proofs.Version4.Texts.{right_is};
-    ghost use Rattle.vault_schema.specs.declared.v4.TheConstants.{FIND_RIGHT};
+    ghost use Rattle.vault_tables.specs.RightTexts.{right_is};
     ghost use Rattle.vault_tables.specs.Rights.{ends_told};
+    ghost use Rattle.vault_tables.specs.declared.rights.TheConstants.{FIND_RIGHT};
 
     ghost found_by = { FIND_RIGHT.now };
 
@@ -83,15 +141,14 @@ impl Finds for Rights {
         Ok(GrantRow { ends })
     }
 
-    ghost finding_is = { right_is [] [] };
+    ghost finding_is = { right_is };
 
     ghost told = { ends_told };
 }
 
 impl Puts for Rights {
-    ghost use Rattle.std.specs.Prelude.{[]};
-    ghost use Rattle.vault_schema.proofs.Version4.Texts.{give_is};
-    ghost use Rattle.vault_schema.specs.declared.v4.TheConstants.{GIVE_RIGHT};
+    ghost use Rattle.vault_tables.specs.RightTexts.{give_is};
+    ghost use Rattle.vault_tables.specs.declared.rights.TheConstants.{GIVE_RIGHT};
 
     ghost put_by = { GIVE_RIGHT.now };
 
@@ -99,13 +156,12 @@ impl Puts for Rights {
         GIVE_RIGHT
     }
 
-    ghost putting_is = { give_is [] [] };
+    ghost putting_is = { give_is };
 }
 
 impl Takes for Rights {
-    ghost use Rattle.std.specs.Prelude.{[]};
-    ghost use Rattle.vault_schema.proofs.Version4.Texts.{take_is};
-    ghost use Rattle.vault_schema.specs.declared.v4.TheConstants.{TAKE_RIGHT};
+    ghost use Rattle.vault_tables.specs.RightTexts.{take_is};
+    ghost use Rattle.vault_tables.specs.declared.rights.TheConstants.{TAKE_RIGHT};
 
     ghost taken_by = { TAKE_RIGHT.now };
 
@@ -113,7 +169,7 @@ impl Takes for Rights {
         TAKE_RIGHT
     }
 
-    ghost taking_is = { take_is [] [] };
+    ghost taking_is = { take_is };
 }
 
 /// The right of a caller at a merchant.

@@ -3,8 +3,9 @@ use Rattle.std.proofs.Common.{◌≡◌, ℕ, Bool, List, [], ◌∷◌, IsTrue,
 use Rattle.std.proofs.lemmas.Bool.{and_from, and_parts}
 use Rattle.std.specs.List.{list_all}
 use Rattle.vault_verdict.specs.Apart.{AreApart, AreByRowid, TellsApart}
-use Rattle.vault_verdict.specs.Raw.{card_row, count_values, entry_values, merchant_values, record_values}
-use Rattle.vault_verdict.specs.Raw.{right_values}
+use Rattle.vault_tables.specs.Merchants.{merchant_values}
+use Rattle.vault_tables.specs.Rights.{right_values}
+use Rattle.vault_verdict.specs.Raw.{card_row, count_values, entry_values, record_values}
 use Rattle.vault_rules.specs.AllRows.{Rows}
 use Rattle.vault_rules.specs.Seen.{HasRows}
 use Rattle.vault_rules.specs.declared.records.Records.{Records}

@@ -30,6 +30,8 @@ use Rattle.vault_verdict.specs.Opened.{AreVersions}
 use Rattle.vault_verdict.specs.ReadAs.{merchants_in, rights_in}
 use Rattle.vault_verdict.specs.Raw.{version_values}
 use Rattle.sql_stored.specs.Values.{int_value}
+use Rattle.vault_tables.specs.Merchants.{merchant_values}
+use Rattle.vault_tables.specs.Rights.{right_values}
 use Rattle.vault_verdict.specs.Raw as raw
 use Rattle.vault_verdict.specs.Reading.{shown_by, version_columns}
 use Rattle.vault_rules.proofs.Counts.{count_total, count_cases}
@@ -53,7 +55,8 @@ use Rattle.vault_schema.specs.Version1.Rows.{number_or_null}
 use Rattle.vault_schema.specs.Version3.Rows as three
 use Rattle.vault_schema.specs.Version4.Rows as four
 use Rattle.vault_schema.specs.declared.version.Version.{Version}
-use Rattle.vault_schema.specs.Stands.{count_at, lives_in, lookups_of, unless_zero}
+use Rattle.vault_core.specs.Lives.{lives_in}
+use Rattle.vault_schema.specs.Stands.{count_at, lookups_of, unless_zero}
 
 -- which of a merchant's counts this is
 abbrev IsWhich : Vault → Bytes → ℕ → ℕ → Type 0
@@ -104,10 +107,10 @@ pub record AreShared (v : Version) (db : Trees) (V : Vault) (rows : Rows) : Type
   pub counts : AreRowsOf row.count_row (db 3) (lookups_of V).counts
   pub records : AreRowsOf row.record_row (db 8) (lookups_of V).records
   pub rights : AreRowsOf four.right_row (rights_in v db) (lookups_of V).rights
-  pub merchants_are : IsPermutation (merchants_in v db) (map raw.merchant_values rows.merchants)
+  pub merchants_are : IsPermutation (merchants_in v db) (map merchant_values rows.merchants)
   pub counts_are : IsPermutation (db 3) (map raw.count_values rows.counts)
   pub records_are : IsPermutation (db 8) (map raw.record_values rows.records)
-  pub rights_are : IsPermutation (rights_in v db) (map raw.right_values rows.rights)
+  pub rights_are : IsPermutation (rights_in v db) (map right_values rows.rights)
 
 -- each row of an entry shows the entry that the vault has at its key
 abbrev pub ArePairs : Vault → Rows → Type 0

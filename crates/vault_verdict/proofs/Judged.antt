@@ -22,8 +22,10 @@ use Rattle.vault_verdict.specs.Apart.{AreApart, AreByRowid, AreEntriesApart, Are
 use Rattle.vault_verdict.specs.Made.{as_card, as_entry}
 use Rattle.vault_verdict.specs.Opened.{AreRaws, AreVersions, IsBrokenIn, IsFit, IsLeastBroken, IsNoRefusal}
 use Rattle.vault_verdict.specs.Opened.{AreOldersIn, IsOtherVersion, IsSoundIn, IsVersionIn, StandsSoundIn}
-use Rattle.vault_verdict.specs.Raw.{card_row, card_values, count_values, entry_values, merchant_values}
-use Rattle.vault_verdict.specs.Raw.{old_entry_values, record_values, right_values}
+use Rattle.vault_tables.specs.Merchants.{merchant_values}
+use Rattle.vault_tables.specs.Rights.{right_values}
+use Rattle.vault_verdict.specs.Raw.{card_row, card_values, count_values, entry_values, old_entry_values}
+use Rattle.vault_verdict.specs.Raw.{record_values}
 use Rattle.vault_verdict.specs.ReadAs.{AreCards, AreEntriesFull, AreOlders}
 use Rattle.vault_verdict.specs.ReadAs.{AreEntries, AreFull, IsFullIn, merchants_in, replaced_in}
 use Rattle.vault_verdict.specs.ReadAs.{rights_in}

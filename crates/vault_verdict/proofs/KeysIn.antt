@@ -29,8 +29,10 @@ use Rattle.vault_verdict.proofs.Tables as tables
 use Rattle.vault_verdict.specs.Apart.{AreApart}
 use Rattle.vault_verdict.specs.Opened.{AreRaws}
 use Rattle.sql_stored.specs.Values.{int_value}
+use Rattle.vault_tables.specs.Merchants.{merchant_values, with_six}
+use Rattle.vault_tables.specs.Rights.{endless, right_values}
 use Rattle.vault_verdict.specs.Raw as raw
-use Rattle.vault_verdict.specs.ReadAs.{AreCards, AreOlders, endless, merchants_in, rights_in, with_six}
+use Rattle.vault_verdict.specs.ReadAs.{AreCards, AreOlders, merchants_in, rights_in}
 use Rattle.vault_verdict.specs.declared.replaced.OldEntry.{OldEntry}
 use Rattle.vault_rules.specs.VaultOf.{AreKeysApart, HasKeysApart, entry_key, number_key}
 use Rattle.vault_rules.specs.declared.rows.RawMerchant.{RawMerchant}
@@ -40,46 +42,46 @@ use Rattle.vault_rules.specs.AllRows.{Rows}
 -- ---- merchants and rights of the older tables
 
 module _ (rows : List Row) (items : List RawMerchant)
-    (are : IsPermutation (map with_six rows) (map raw.merchant_values items)) where
+    (are : IsPermutation (map with_six rows) (map merchant_values items)) where
   pub old_merchants_are : IsPermutation rows (map tables.old_merchant_values items)
-  old_merchants_are = stand_narrow raw.merchant_values tables.old_merchant_values (λ m. Int m.lead)
+  old_merchants_are = stand_narrow merchant_values tables.old_merchant_values (λ m. Int m.lead)
       (λ m. refl) (Int (pos 6)) rows items are
 
   pub each_six : (m : RawMerchant) → Has items m → Int m.lead ≡ Int (pos 6)
-  each_six = each_has raw.merchant_values tables.old_merchant_values (λ m. Int m.lead) (λ m. refl)
+  each_six = each_has merchant_values tables.old_merchant_values (λ m. Int m.lead) (λ m. refl)
       (Int (pos 6)) rows items are
 
 module _ (rows : List Row) (items : List RawRight)
-    (are : IsPermutation (map endless rows) (map raw.right_values items)) where
+    (are : IsPermutation (map endless rows) (map right_values items)) where
   pub old_rights_are : IsPermutation rows (map tables.old_right_values items)
-  old_rights_are = stand_narrow raw.right_values tables.old_right_values (λ r. int_value r.ends)
+  old_rights_are = stand_narrow right_values tables.old_right_values (λ r. int_value r.ends)
       (λ r. refl) Null rows items are
 
   pub each_endless : (r : RawRight) → Has items r → int_value r.ends ≡ Null
-  each_endless = each_has raw.right_values tables.old_right_values (λ r. int_value r.ends)
+  each_endless = each_has right_values tables.old_right_values (λ r. int_value r.ends)
       (λ r. refl) Null
       rows items are
 
-pub merchants_up : (items : List RawMerchant) → IsApart (map raw.merchant_values items)
+pub merchants_up : (items : List RawMerchant) → IsApart (map merchant_values items)
     → IsApart (map tables.old_merchant_values items)
-merchants_up = apart_as raw.merchant_values tables.old_merchant_values (λ m. refl)
+merchants_up = apart_as merchant_values tables.old_merchant_values (λ m. refl)
 
-pub rights_up : (items : List RawRight) → IsApart (map raw.right_values items)
+pub rights_up : (items : List RawRight) → IsApart (map right_values items)
     → IsApart (map tables.old_right_values items)
-rights_up = apart_as raw.right_values tables.old_right_values (λ r. refl)
+rights_up = apart_as right_values tables.old_right_values (λ r. refl)
 
 module _ (v : Version) (db : Database) (ours : db.schema ≡ schema_of v) (sound : IsDatabase db) where
   old_merchants_apart : (items : List RawMerchant)
-      → IsPermutation (map with_six (db.trees 1)) (map raw.merchant_values items)
-      → IsApart (map raw.merchant_values items) → AreKeysApart
+      → IsPermutation (map with_six (db.trees 1)) (map merchant_values items)
+      → IsApart (map merchant_values items) → AreKeysApart
       (λ (m : RawMerchant). string_bytes m.name) items
   old_merchants_apart items are up =
       keys_apart (tables.old_merchants_in (behind v) (indexes_behind v) (merchants_free v)) db
       (ours ∙ schema_is v) sound items (old_merchants_are (db.trees 1) items are) (merchants_up items up)
 
   old_rights_apart : (items : List RawRight)
-      → IsPermutation (map endless (db.trees 10)) (map raw.right_values items)
-      → IsApart (map raw.right_values items) → AreKeysApart number_key items
+      → IsPermutation (map endless (db.trees 10)) (map right_values items)
+      → IsApart (map right_values items) → AreKeysApart number_key items
   old_rights_apart items are up =
       keys_apart (tables.old_rights_in (behind v) (indexes_behind v) (rights_free v)) db (ours ∙ schema_is v)
       sound items (old_rights_are (db.trees 10) items are) (rights_up items up)
@@ -87,11 +89,11 @@ module _ (v : Version) (db : Database) (ours : db.schema ≡ schema_of v) (sound
 -- ---- by version
 
 merchants_apart : (v : Version) (db : Database) → db.schema ≡ schema_of v → IsDatabase db
-    → (items : List RawMerchant) → IsPermutation (merchants_in v db.trees) (map raw.merchant_values items)
-    → IsApart (map raw.merchant_values items) → AreKeysApart (λ (m : RawMerchant). string_bytes m.name) items
+    → (items : List RawMerchant) → IsPermutation (merchants_in v db.trees) (map merchant_values items)
+    → IsApart (map merchant_values items) → AreKeysApart (λ (m : RawMerchant). string_bytes m.name) items
 merchants_apart v db ours sound items are up =
     elim (is_from Three v) as (λ b. is_from Three v ≡ b
-    → IsPermutation (cond b (db.trees 17) (map with_six (db.trees 1))) (map raw.merchant_values items)
+    → IsPermutation (cond b (db.trees 17) (map with_six (db.trees 1))) (map merchant_values items)
     → AreKeysApart (λ (m : RawMerchant). string_bytes m.name) items) [
       | true ↦ λ has rows_are.
           keys_apart (tables.merchants_in (behind_three v) (indexes_behind_three v) (newer_merchants_free v))
@@ -100,11 +102,11 @@ merchants_apart v db ours sound items are up =
     ] refl are
 
 rights_apart : (v : Version) (db : Database) → db.schema ≡ schema_of v → IsDatabase db
-    → (items : List RawRight) → IsPermutation (rights_in v db.trees) (map raw.right_values items)
-    → IsApart (map raw.right_values items) → AreKeysApart number_key items
+    → (items : List RawRight) → IsPermutation (rights_in v db.trees) (map right_values items)
+    → IsApart (map right_values items) → AreKeysApart number_key items
 rights_apart v db ours sound items are up =
     elim (is_from Four v) as (λ b. is_from Four v ≡ b
-    → IsPermutation (cond b (db.trees 19) (map endless (db.trees 10))) (map raw.right_values items)
+    → IsPermutation (cond b (db.trees 19) (map endless (db.trees 10))) (map right_values items)
     → AreKeysApart number_key items) [
       | true ↦ λ has rows_are.
           keys_apart tables.rights db (ours ∙ schema_fourth v has) sound items rows_are up
@@ -152,9 +154,9 @@ entries_keyed v db ours sound olders rows raws up =
 
 pub keys_in : (v : Version) (db : Database) → db.schema ≡ schema_of v → IsDatabase db
     → (olders : List OldEntry) (rows : Rows) → AreRaws v db.trees olders rows
-    → IsApart (map raw.merchant_values rows.merchants)
+    → IsApart (map merchant_values rows.merchants)
     → IsApart (map raw.count_values rows.counts) → AreEntriesApart v olders rows
-    → IsApart (map raw.record_values rows.records) → IsApart (map raw.right_values rows.rights)
+    → IsApart (map raw.record_values rows.records) → IsApart (map right_values rows.rights)
     → HasKeysApart rows
 keys_in v db ours sound olders rows raws merchants counts entries records rights =
     let keyed = entries_keyed v db ours sound olders rows raws entries in

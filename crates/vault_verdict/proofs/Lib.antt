@@ -1,6 +1,5 @@
 pub mod AllApart
 pub mod Backs
-pub mod Beside
 pub mod CardRows
 pub mod Climbing
 pub mod FromStands
@@ -12,6 +11,7 @@ pub mod Joining
 pub mod Judged
 pub mod KeptApart
 pub mod KeysIn
+pub mod Left
 pub mod More
 pub mod OldEntries
 pub mod OldRows

@@ -1,6 +1,6 @@
 -- The rows of a database that stands for a vault show that vault, in each version.
 use Rattle.std.proofs.Common.{◌≡◌, ◌+◌, pos, Bool, true, false, List, [], ◌∷◌, map, cond, Some, option_map}
-use Rattle.std.proofs.Common.{◌∙◌, ap, refl}
+use Rattle.std.proofs.Common.{◌∙◌, ap, refl, sym}
 use Rattle.sqlite.specs.Effect.{Database, IsDatabase}
 use Rattle.sqlite.specs.Order.{Row}
 use Rattle.sqlite.specs.Tree.{Trees}
@@ -26,12 +26,13 @@ use Rattle.vault_schema.specs.Version2.Rows.{card_columns, pointing_row}
 use Rattle.vault_schema.specs.Version3.Rows as three
 use Rattle.vault_schema.specs.Version4.Rows as four
 use Rattle.vault_schema.specs.Layers.{Either, claim_or_empty, is_from}
-use Rattle.vault_schema.specs.Versions.{AreEndless, AreSix, HasDefaults, HasRightsDefault, Lookups, Merchants}
+use Rattle.vault_schema.specs.Versions.{AreEndless, AreSix, HasRightsDefault, Lookups, Merchants}
 use Rattle.vault_schema.specs.Versions.{OldMerchants, OldRights, Rights, Stand, StandJoined, has_cards}
 use Rattle.vault_schema.specs.Versions.{natural_of, number_of, schema_of, uncarded_claims}
-use Rattle.vault_schema.specs.declared.v3.Lives.{Lives}
+use Rattle.vault_core.specs.declared.row.Lives.{Lives}
 use Rattle.vault_schema.specs.declared.version.Version.{Version}
 use Rattle.vault_schema.specs.declared.version.Version.TheVariants.{Three, Four}
+use Rattle.vault_verdict.proofs.Left.{left_is}
 use Rattle.vault_verdict.proofs.FromStands.{ArePairs, AreShared, AreThere, shows_of, version_of}
 use Rattle.vault_verdict.proofs.KeysIn.{AreCardsApart, AreEntriesApart, keys_in}
 use Rattle.vault_verdict.proofs.OldEntries.{old_keys, old_pairs, old_there}
@@ -42,9 +43,9 @@ use Rattle.vault_verdict.proofs.Widened.{widened}
 use Rattle.vault_verdict.specs.Opened.{AreRaws, AreVersions}
 use Rattle.sql_stored.specs.Reading.{any_left}
 use Rattle.vault_verdict.specs.Raw.{old_entry_values}
-use Rattle.vault_verdict.specs.ReadAs.{AreCards, AreOlders, endless, merchants_in, replaced_in}
-use Rattle.vault_verdict.specs.ReadAs.{rights_in}
-use Rattle.vault_verdict.specs.ReadAs.{with_six}
+use Rattle.vault_tables.specs.Merchants.{with_six}
+use Rattle.vault_tables.specs.Rights.{endless}
+use Rattle.vault_verdict.specs.ReadAs.{AreCards, AreOlders, merchants_in, replaced_in, rights_in}
 use Rattle.vault_verdict.specs.declared.replaced.OldEntry.{OldEntry}
 use Rattle.vault_rules.specs.Showing.{Shows, ShowsCard}
 use Rattle.vault_rules.specs.VaultOf.{HasKeysApart, entry_key}
@@ -119,9 +120,10 @@ claimed v db h s =
             | true ↦ λ older newer none. newer refl
             | false ↦ λ older newer none. rights_wide h none (db 10) older
           ] (t.1.1.1.1.1.0 refl) t.1.1.1.1.1.1.1.1.1.0 (rights_default v h s.defaults);
-      replaced = λ i. none_there (has_cards v) _ (db 5) (t.1.1.1.0 refl) i
+      replaced =
+          sym (left_is v db) ∙ (λ i. none_there (has_cards v) _ (db 5) (t.1.1.1.0 refl) i
           + none_there (is_from Three v) _ (db 1) (t.1.0 refl) i
-          + none_there (is_from Four v) _ (db 10) (t.1.1.1.1.1.0 refl) i;
+          + none_there (is_from Four v) _ (db 10) (t.1.1.1.1.1.0 refl) i);
     }
 
 -- the one row of `vault` says the version

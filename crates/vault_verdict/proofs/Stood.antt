@@ -26,6 +26,8 @@ use Rattle.vault_verdict.proofs.Joining.{cards_in, entry_first, pointing_in, poi
 use Rattle.vault_verdict.proofs.Table.{stand_for}
 use Rattle.vault_verdict.proofs.Tables as tables
 use Rattle.sql_stored.specs.Values.{int_value}
+use Rattle.vault_tables.specs.Merchants.{merchant_values}
+use Rattle.vault_tables.specs.Rights.{right_values}
 use Rattle.vault_verdict.specs.Raw as raw
 use Rattle.vault_verdict.specs.ReadAs.{AreCards}
 use Rattle.vault_rules.proofs.Counts.{counts_are, count_cases}
@@ -44,7 +46,8 @@ use Rattle.vault_rules.specs.declared.rows.RawEntry.{RawEntry}
 use Rattle.vault_rules.specs.declared.rows.RawMerchant.{RawMerchant}
 use Rattle.vault_rules.specs.declared.rows.RawRight.{RawRight}
 use Rattle.vault_rules.specs.AllRows.{Rows}
-use Rattle.vault_schema.specs.Stands.{count_at, lives_in, lookups_of, unless_zero}
+use Rattle.vault_core.specs.Lives.{lives_in}
+use Rattle.vault_schema.specs.Stands.{count_at, lookups_of, unless_zero}
 use Rattle.vault_schema.specs.Version1.Rows as one
 use Rattle.vault_schema.specs.Version1.Rows.{number_or_null}
 use Rattle.vault_schema.specs.Version2.Joined.{AreJoined, nothing_owed}
@@ -188,23 +191,23 @@ module _ (rows : Rows) (apart : HasKeysApart rows) (keep : (r : ℕ) → keeps r
     pub merchants_stand : (others : List SqlTable) (indexes : List Index)
         → guards_of indexes (table_of v3.merchants) (columns_to 1) ≡ []
         → db.schema ≡ grown third_schema others indexes
-        → IsPermutation (db.trees 17) (map raw.merchant_values rows.merchants)
-        → IsApart (map raw.merchant_values rows.merchants)
+        → IsPermutation (db.trees 17) (map merchant_values rows.merchants)
+        → IsApart (map merchant_values rows.merchants)
         → AreRowsOf three.merchant_row (db.trees 17) h.merchants
     merchants_stand others indexes free ours are up =
         stand_for (tables.merchants_in others indexes free) db ours sound _ are up
         (λ m there.
         let it = shows.merchants m there in
         let name = string_bytes m.name in
-        let listed : drop 1 (raw.merchant_values m) ≡ three.merchant_row name (lives_in it.0) =
+        let listed : drop 1 (merchant_values m) ≡ three.merchant_row name (lives_in it.0) =
         grind (arith, it.2) in
         (name, lives_in it.0, listed, ap (option_map lives_in) it.1))
         (λ name x is.
         let it = mapped_is lives_in (merchant_at (vault_of rows) name) x is in
         shows.merchants_there name it.0 it.1)
 
-    pub rights_stand : db.schema ≡ v4 → IsPermutation (db.trees 19) (map raw.right_values rows.rights)
-        → IsApart (map raw.right_values rows.rights) → AreRowsOf four.right_row (db.trees 19) h.rights
+    pub rights_stand : db.schema ≡ v4 → IsPermutation (db.trees 19) (map right_values rows.rights)
+        → IsApart (map right_values rows.rights) → AreRowsOf four.right_row (db.trees 19) h.rights
     rights_stand ours are up =
         stand_for tables.rights db ours sound _ are up
         (λ r there.

@@ -14,6 +14,8 @@ use Rattle.vault_core.proofs.Maps.{bytes_total}
 use Rattle.vault_core.specs.Keys.{Bytes}
 use Rattle.vault_core.specs.declared.right.Right.{Right}
 use Rattle.vault_verdict.proofs.Table.{Table}
+use Rattle.vault_tables.specs.Merchants.{merchant_values}
+use Rattle.vault_tables.specs.Rights.{right_values}
 use Rattle.vault_verdict.specs.Raw as raw
 use Rattle.vault_rules.specs.VaultOf.{count_key, entry_key, request_key, number_key, natural, right_of}
 use Rattle.vault_rules.specs.declared.rows.RawMerchant.{RawMerchant}
@@ -23,7 +25,7 @@ use Rattle.vault_rules.specs.declared.rows.RawCount.{RawCount}
 use Rattle.vault_rules.specs.declared.rows.RawEntry.{RawEntry}
 use Rattle.vault_rules.specs.declared.rows.RawRecord.{RawRecord}
 use Rattle.vault_rules.specs.declared.rows.RawRight.{RawRight}
-use Rattle.vault_schema.proofs.Grown.{keyed_in_grown}
+use Rattle.sql_maps.proofs.Grown.{keyed_in_grown}
 use Rattle.vault_schema.proofs.Version1.Codes as codes
 use Rattle.vault_schema.proofs.Newest as newest
 use Rattle.vault_schema.proofs.Version2.Codes as second
@@ -163,7 +165,7 @@ module _ (tables : List SqlTable) (indexes : List Index) where
   abbrev pub merchants_in : (free : guards_of indexes (table_of v3.merchants) (columns_to 1) ≡ [])
       → Table (keyed_in_grown third.merchant_table tables indexes free) RawMerchant Bytes
   merchants_in free = record {
-    values = raw.merchant_values;
+    values = merchant_values;
     shown = λ m. string_bytes m.name;
     shows = λ q. Text q ∷ [];
     key_of = λ q. q;
@@ -175,7 +177,7 @@ module _ (tables : List SqlTable) (indexes : List Index) where
 -- rights that may end
 abbrev pub rights : Table fourth.right_table RawRight (Bytes × (Bytes × ℤ))
 rights = record {
-  values = raw.right_values;
+  values = right_values;
   shown = number_key;
   shows = whose;
   key_of = right_in;

@@ -24,6 +24,7 @@ use Rattle.vault_schema.specs.declared.v2.Card.{Card}
 use Rattle.vault_schema.specs.declared.v2.Pointing.{Pointing}
 use Rattle.vault_schema.specs.declared.version.Version.{Version}
 use Rattle.vault_schema.specs.declared.version.Version.TheVariants.{Three, Four}
+use Rattle.vault_verdict.proofs.Left.{left_is}
 use Rattle.vault_verdict.proofs.InVersion.{newer_merchants_free}
 use Rattle.vault_verdict.proofs.Joining.{cards_in, pointing_in}
 use Rattle.vault_verdict.proofs.KeysIn.{apart_keys, each_endless, each_six, merchants_up, old_merchants_are}
@@ -36,8 +37,9 @@ use Rattle.vault_verdict.proofs.VersionRows.{version_stands}
 use Rattle.vault_verdict.specs.Apart.{AreApart}
 use Rattle.vault_verdict.specs.Opened.{AreRaws}
 use Rattle.sql_stored.specs.Reading.{any_left}
-use Rattle.vault_verdict.specs.Raw as raw
-use Rattle.vault_verdict.specs.ReadAs.{AreCards, AreOlders, endless, replaced_in, with_six}
+use Rattle.vault_tables.specs.Merchants.{merchant_values, with_six}
+use Rattle.vault_tables.specs.Rights.{endless, right_values}
+use Rattle.vault_verdict.specs.ReadAs.{AreCards, AreOlders, left_in}
 use Rattle.vault_verdict.specs.declared.replaced.OldEntry.{OldEntry}
 use Rattle.vault_rules.proofs.RowsShow.{rows_show}
 use Rattle.vault_rules.specs.Rules.{keeps}
@@ -60,8 +62,8 @@ module _ (v : Version) (db : Database) (ours : db.schema ≡ schema_of v) (sound
   abbrev h : Lookups
   h = lookups_of (vault_of rows)
 
-  left : replaced_in v db.trees ≡ 0
-  left = sym raws.replaced ∙ (rows_show rows keys keep).replaced
+  left : left_in v (any_left (db.trees 5)) (any_left (db.trees 1)) (any_left (db.trees 10)) ≡ 0
+  left = left_is v db.trees ∙ sym raws.replaced ∙ (rows_show rows keys keep).replaced
 
   -- ---- table by table
 
@@ -70,7 +72,7 @@ module _ (v : Version) (db : Database) (ours : db.schema ≡ schema_of v) (sound
       let none : cond (is_from Three v) (any_left (db.trees 1)) 0 ≡ 0 = omega (arith, left) in
       elim (is_from Three v) as (λ b. cond b (any_left (db.trees 1)) 0 ≡ 0
       → IsPermutation (cond b (db.trees 17) (map with_six (db.trees 1)))
-      (map raw.merchant_values rows.merchants)
+      (map merchant_values rows.merchants)
       → claim_or_empty b (OldMerchants h.merchants) (db.trees 1)) [
         | true ↦ λ gone are. none_left (db.trees 1) gone
         | false ↦ λ gone are. old_merchants_stand rows keys keep db sound v ours (old_merchants_are _ _ are)
@@ -82,13 +84,13 @@ module _ (v : Version) (db : Database) (ours : db.schema ≡ schema_of v) (sound
       merchants_stand rows keys keep db sound (behind_three v) (indexes_behind_three v)
       (newer_merchants_free v) (ours ∙ schema_third v has)
       (subst (λ b. IsPermutation (cond b (db.trees 17) (map with_six (db.trees 1)))
-      (map raw.merchant_values rows.merchants)) has raws.merchants) up.merchants
+      (map merchant_values rows.merchants)) has raws.merchants) up.merchants
 
   rights_hold : claim_or_empty (is_from Four v) (OldRights h.rights) (db.trees 10)
   rights_hold =
       let none : cond (is_from Four v) (any_left (db.trees 10)) 0 ≡ 0 = omega (arith, left) in
       elim (is_from Four v) as (λ b. cond b (any_left (db.trees 10)) 0 ≡ 0
-      → IsPermutation (cond b (db.trees 19) (map endless (db.trees 10))) (map raw.right_values rows.rights)
+      → IsPermutation (cond b (db.trees 19) (map endless (db.trees 10))) (map right_values rows.rights)
       → claim_or_empty b (OldRights h.rights) (db.trees 10)) [
         | true ↦ λ gone are. none_left (db.trees 10) gone
         | false ↦ λ gone are. old_rights_stand rows keys keep db sound v ours (old_rights_are _ _ are)
@@ -99,7 +101,7 @@ module _ (v : Version) (db : Database) (ours : db.schema ≡ schema_of v) (sound
   newer_rights_hold has =
       rights_stand rows keys keep db sound (ours ∙ schema_fourth v has)
       (subst (λ b. IsPermutation (cond b (db.trees 19) (map endless (db.trees 10)))
-      (map raw.right_values rows.rights)) has raws.rights) up.rights
+      (map right_values rows.rights)) has raws.rights) up.rights
 
   -- all of them, with these entries of schema 1, cards, and entries that point at them
   hold_with : (entries : Bytes × Bytes → Option Entry) (cards : ℤ → Option Card)
@@ -171,7 +173,7 @@ module _ (v : Version) (db : Database) (ours : db.schema ≡ schema_of v) (sound
   endless_where_old : HasRightsDefault v h
   endless_where_old =
       elim (is_from Four v) as (λ b. IsPermutation (cond b (db.trees 19) (map endless (db.trees 10)))
-      (map raw.right_values rows.rights) → Either b (Unit {0}) (AreEndless h)) [
+      (map right_values rows.rights) → Either b (Unit {0}) (AreEndless h)) [
         | true ↦ λ are. tt
         | false ↦ λ are. are_endless rows keys keep (each_endless _ _ are)
       ] raws.rights
@@ -188,7 +190,7 @@ module _ (v : Version) (db : Database) (ours : db.schema ≡ schema_of v) (sound
         ] refl raws.entries;
     defaults = elim (is_from Three v)
         as (λ b. IsPermutation (cond b (db.trees 17) (map with_six (db.trees 1)))
-        (map raw.merchant_values rows.merchants)
+        (map merchant_values rows.merchants)
         → Either b (HasRightsDefault v h) (AreSix h × HasRightsDefault v h)) [
           | true ↦ λ are. endless_where_old
           | false ↦ λ are. (are_six rows keys keep (each_six _ _ are), endless_where_old)

@@ -4,8 +4,9 @@ use Rattle.std.specs.List.Sorted.{IsSortedByKey}
 use Rattle.std.specs.Ordering.{int_cmp}
 use Rattle.sqlite.specs.Order.{Row}
 use Rattle.sqlite.specs.Tree.{Trees}
-use Rattle.vault_verdict.specs.Raw.{merchant_values, count_values, card_row, entry_values, record_values}
-use Rattle.vault_verdict.specs.Raw.{right_values}
+use Rattle.vault_tables.specs.Merchants.{merchant_values}
+use Rattle.vault_tables.specs.Rights.{right_values}
+use Rattle.vault_verdict.specs.Raw.{card_row, count_values, entry_values, record_values}
 use Rattle.vault_verdict.specs.ReadAs.{merchants_in, rights_in}
 use Rattle.vault_rules.specs.AllRows.{Rows}
 use Rattle.sql_maps.specs.Rows.{IsApart}

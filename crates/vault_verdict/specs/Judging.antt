@@ -6,7 +6,8 @@ use Rattle.sqlite.specs.State.{IsUnchanged}
 use Rattle.sqlite_trees.specs.declared.store.Store.{Ghosts}
 use Rattle.vault_verdict.specs.Apart.{AreApart, AreByRowid}
 use Rattle.vault_verdict.specs.Faults.{IsJudged}
-use Rattle.vault_verdict.specs.Raw.{record_values, right_values}
+use Rattle.vault_tables.specs.Rights.{right_values}
+use Rattle.vault_verdict.specs.Raw.{record_values}
 use Rattle.vault_verdict.specs.ReadAs.{replaced_in, rights_in}
 use Rattle.sql_stored.specs.Reading.{AreTable, IsAny}
 use Rattle.vault_verdict.specs.Reading.{AreCardsIn, AreEntriesIn, AreRightsFull, IsUnreadOne}

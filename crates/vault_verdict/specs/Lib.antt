@@ -7,6 +7,7 @@ pub mod Opened
 pub mod Raw
 pub mod ReadAs
 pub mod Reading
+pub mod Scans
 pub mod Sizes
 pub mod Taken
 pub mod Versions

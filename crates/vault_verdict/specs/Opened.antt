@@ -7,8 +7,9 @@ use Rattle.sqlite.specs.Tree.{Trees}
 use Rattle.vault_core.specs.Sound.{Sound}
 use Rattle.vault_core.specs.Vault.{Vault, empty_vault}
 use Rattle.vault_verdict.specs.Names.{IsMixed, vault_names}
-use Rattle.vault_verdict.specs.Raw.{version_values, merchant_values, count_values}
-use Rattle.vault_verdict.specs.Raw.{old_entry_values, record_values, right_values}
+use Rattle.vault_tables.specs.Merchants.{merchant_values}
+use Rattle.vault_tables.specs.Rights.{right_values}
+use Rattle.vault_verdict.specs.Raw.{count_values, old_entry_values, record_values, version_values}
 use Rattle.vault_verdict.specs.ReadAs.{AreEntries, merchants_in, replaced_in, rights_in}
 use Rattle.vault_verdict.specs.Reading.{IsOurs, shown_by, version_columns}
 use Rattle.vault_verdict.specs.Sizes.{sizes_of}

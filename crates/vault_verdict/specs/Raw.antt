@@ -4,24 +4,15 @@ use Rattle.sqlite.specs.declared.types.Value.TheVariants.{Null, Int, Text}
 use Rattle.sqlite.specs.Order.{Row}
 use Rattle.sql_stored.specs.Values.{int_value, maybe_text_value, row_text_value}
 use Rattle.vault_rules.specs.declared.rows.RawVersion.{RawVersion}
-use Rattle.vault_rules.specs.declared.rows.RawMerchant.{RawMerchant}
-use Rattle.vault_verdict.specs.declared.replaced.RowId.{RowId}
 use Rattle.vault_verdict.specs.declared.replaced.OldEntry.{OldEntry}
 use Rattle.vault_rules.specs.declared.rows.RawCount.{RawCount}
 use Rattle.vault_rules.specs.declared.rows.RawCard.{RawCard}
 use Rattle.vault_rules.specs.declared.rows.RawEntry.{RawEntry}
 use Rattle.vault_rules.specs.declared.rows.RawRecord.{RawRecord}
-use Rattle.vault_rules.specs.declared.rows.RawRight.{RawRight}
 
 -- its id, which the database keeps as the rowid, and the version
 abbrev pub version_values : RawVersion → Row
 version_values v = Int v.id ∷ Int v.version ∷ []
-
--- a row of `merchants3`, with its rowid in front
-abbrev pub merchant_values : RawMerchant → Row
-merchant_values m =
-    Int m.rowid ∷ Text (string_bytes m.name) ∷ Int m.single_life ∷ Int m.multi_life ∷ Int m.moment
-    ∷ Int m.lead ∷ []
 
 -- of `counts`
 abbrev pub count_values : RawCount → Row
@@ -49,18 +40,8 @@ old_entry_values e =
     Int e.rowid ∷ row_text_value e.merchant ∷ row_text_value e.token ∷ maybe_text_value e.number
     ∷ Int e.usage ∷ Int e.birth ∷ Int e.expires ∷ int_value e.revoked ∷ []
 
--- of a table that was replaced, its rowid alone
-abbrev pub id_values : RowId → Row
-id_values r = Int r.rowid ∷ []
-
 -- of `records`
 abbrev pub record_values : RawRecord → Row
 record_values r =
     Int r.rowid ∷ Text (string_bytes r.caller) ∷ Int r.request ∷ Text (string_bytes r.merchant)
     ∷ Text (string_bytes r.token) ∷ Int r.usage ∷ []
-
--- of `rights4`
-abbrev pub right_values : RawRight → Row
-right_values r =
-    Int r.rowid ∷ Text (string_bytes r.caller) ∷ Text (string_bytes r.merchant) ∷ Int r.what
-    ∷ int_value r.ends ∷ []

@@ -1,28 +1,21 @@
 -- The rows of each version's tables, read as those of the newest one.
-use Rattle.std.specs.Prelude.{◌≡◌, ◌+◌, ◌++◌, ℕ, pos, List, [], ◌∷◌, map, cond}
+use Rattle.std.specs.Prelude.{◌≡◌, ◌+◌, ℕ, List, [], ◌∷◌, map, cond}
 use Rattle.std.specs.List.{filter_map}
 use Rattle.std.specs.List.Sorted.{IsPermutation}
 use Rattle.sqlite.specs.Effect.{Database}
 use Rattle.sqlite.specs.Order.{Row}
 use Rattle.sqlite.specs.Tree.{Trees}
-use Rattle.sqlite.specs.declared.types.Value.TheVariants.{Null, Int}
 use Rattle.sql_stored.specs.Reading.{AreLonger, any_left}
 use Rattle.vault_rules.specs.AllRows.{Rows}
-use Rattle.vault_schema.specs.Layers.{Either, is_from}
-use Rattle.vault_schema.specs.Versions.{has_cards, schema_of}
+use Rattle.vault_schema.specs.Layers.{Either, Layer, is_from, is_past}
+use Rattle.vault_schema.specs.Versions.{has_cards, layers, schema_of}
 use Rattle.vault_schema.specs.declared.version.Version.{Version}
 use Rattle.vault_schema.specs.declared.version.Version.TheVariants.{Three, Four}
+use Rattle.vault_tables.specs.Merchants.{with_six}
+use Rattle.vault_tables.specs.Rights.{endless}
 use Rattle.vault_verdict.specs.Made.{as_card, as_entry}
 use Rattle.vault_verdict.specs.Raw.{card_row, card_values, entry_values, old_entry_values}
 use Rattle.vault_verdict.specs.declared.replaced.OldEntry.{OldEntry}
-
--- a merchant before schema 3: its masks show six digits at the left at most
-abbrev pub with_six : Row → Row
-with_six row = row ++ Int (pos 6) ∷ []
-
--- a right before schema 4: it doesn't end
-abbrev pub endless : Row → Row
-endless row = row ++ Null ∷ []
 
 abbrev pub merchants_in : Version → Trees → List Row
 merchants_in v db = cond (is_from Three v) (db 17) (map with_six (db 1))
@@ -30,14 +23,19 @@ merchants_in v db = cond (is_from Three v) (db 17) (map with_six (db 1))
 abbrev pub rights_in : Version → Trees → List Row
 rights_in v db = cond (is_from Four v) (db 19) (map endless (db 10))
 
--- of entries, merchants and rights, how many were replaced by a version and are left
+-- of these tables, how many were replaced by a version and still have rows
+abbrev pub left_at : {T : Type 0} → Version → List (Layer T) → Trees → ℕ
+left_at v [] db = 0
+left_at v (l ∷ ls) db = cond (is_past v l.till) (any_left (db l.table.tree)) 0 + left_at v ls db
+
+-- and of all tables
+abbrev pub replaced_in : Version → Trees → ℕ
+replaced_in v db = left_at v layers db
+
+-- the same sum of entries, merchants and rights, which are all that were replaced
 abbrev pub left_in : Version → ℕ → ℕ → ℕ → ℕ
 left_in v entries merchants rights =
     cond (has_cards v) entries 0 + cond (is_from Three v) merchants 0 + cond (is_from Four v) rights 0
-
--- how many of the tables that were replaced still have rows
-abbrev pub replaced_in : Version → Trees → ℕ
-replaced_in v db = left_in v (any_left (db 5)) (any_left (db 1)) (any_left (db 10))
 
 -- the rows of `cards2` and `entries2`
 pub record AreCards (db : Trees) (rows : Rows) : Type 0 where

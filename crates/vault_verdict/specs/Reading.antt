@@ -12,9 +12,8 @@ use Rattle.sqlite_trees.specs.declared.store.Store.{Ghosts}
 use Rattle.sql_maps.specs.States.{LeavesNoMore, Reads}
 use Rattle.vault_verdict.specs.Apart.{SharesRowid}
 use Rattle.vault_verdict.specs.Made.{as_card, as_entry}
-use Rattle.vault_verdict.specs.Raw.{merchant_values, count_values, card_values, card_row}
-use Rattle.vault_verdict.specs.Raw.{entry_values, id_values, old_entry_values, record_values, right_values}
-use Rattle.vault_verdict.specs.Raw.{version_values}
+use Rattle.vault_verdict.specs.Raw.{card_row, card_values, count_values, entry_values, old_entry_values}
+use Rattle.vault_verdict.specs.Raw.{record_values, version_values}
 use Rattle.vault_verdict.specs.ReadAs.{AreFull, IsFullIn, merchants_in, replaced_in}
 use Rattle.vault_verdict.specs.ReadAs.{rights_in}
 use Rattle.vault_verdict.specs.Taken.{CardsTaken, EntriesTaken}
@@ -22,6 +21,7 @@ use Rattle.vault_verdict.specs.declared.behind.Behind.{Behind}
 use Rattle.vault_verdict.specs.declared.first.First.{First}
 use Rattle.vault_verdict.specs.declared.read.WithCards.{WithCards}
 use Rattle.sql_stored.specs.Reading.{AreLonger, AreTable, IsAny, IsUnread}
+use Rattle.sql_stored.specs.Scans.{id_values}
 use Rattle.sql_stored.specs.declared.fault.ReadFault.{ReadFault}
 use Rattle.sql_stored.specs.declared.fault.ReadFault.TheVariants.{Store}
 use Rattle.vault_rules.specs.declared.rows.RawCard.{RawCard}
@@ -35,8 +35,12 @@ use Rattle.vault_rules.specs.declared.rows.RawRecord.{RawRecord}
 use Rattle.vault_verdict.specs.declared.replaced.OldEntry.{OldEntry}
 use Rattle.vault_schema.specs.declared.v1.TheConstants as v1
 use Rattle.vault_schema.specs.declared.v2.TheConstants as v2
-use Rattle.vault_schema.specs.declared.v3.TheConstants as v3
-use Rattle.vault_schema.specs.declared.v4.TheConstants as v4
+use Rattle.vault_tables.specs.Merchants.{merchant_values}
+use Rattle.vault_tables.specs.Rights.{right_values}
+use Rattle.vault_tables.specs.declared.merchants.TheConstants.{READ_MERCHANTS}
+use Rattle.vault_tables.specs.declared.merchants.old.TheConstants.{READ_MERCHANT_IDS, READ_OLD_MERCHANTS}
+use Rattle.vault_tables.specs.declared.rights.TheConstants.{READ_RIGHTS}
+use Rattle.vault_tables.specs.declared.rights.old.TheConstants.{READ_OLD_RIGHTS, READ_RIGHT_IDS}
 use Rattle.vault_schema.specs.Stands.{newest}
 use Rattle.vault_schema.specs.Layers.{Either, is_from}
 use Rattle.vault_schema.specs.Versions.{has_cards, schema_of}
@@ -73,10 +77,10 @@ AreRightsFull v db = Either (is_from Four v) (AreLonger 4 (db.trees 19)) (Unit {
 
 -- the text that reads the merchants of a version, and that of its rights
 abbrev pub merchants_text : Version → List ℕ
-merchants_text v = cond (is_from Three v) v3.READ_MERCHANTS.now v3.READ_OLD_MERCHANTS.now
+merchants_text v = cond (is_from Three v) READ_MERCHANTS.now READ_OLD_MERCHANTS.now
 
 abbrev pub rights_text : Version → List ℕ
-rights_text v = cond (is_from Four v) v4.READ_RIGHTS.now v4.READ_OLD_RIGHTS.now
+rights_text v = cond (is_from Four v) READ_RIGHTS.now READ_OLD_RIGHTS.now
 
 -- what was read of the entries of schema 1, and the cards of them
 pub record AreOldCards (db : Database) (olders : List OldEntry) (cards : List RawCard) : Type 0 where
@@ -157,8 +161,8 @@ module _ {S : Type 0} (g : Ghosts S) where
   abbrev pub IsUnreadReplaced : Database → Held S → Type 0
   IsUnreadReplaced db new =
       IsUnread g v1.READ_ENTRY_IDS.now id_values db new
-      ⊎ (IsUnread g v3.READ_MERCHANT_IDS.now id_values db new
-      ⊎ IsUnread g v4.READ_RIGHT_IDS.now id_values db new)
+      ⊎ (IsUnread g READ_MERCHANT_IDS.now id_values db new
+      ⊎ IsUnread g READ_RIGHT_IDS.now id_values db new)
 
   -- why one of the tables beside `vault` isn't read, though memory is there
   abbrev pub IsUnreadOne : Version → Database → Held S → Type 0

@@ -1,14 +1,17 @@
 //! The rows of each table as values of Rust, read as those of the newest version.
-ghost use Rattle.vault_verdict.specs.Raw.{version_values, merchant_values, count_values};
-ghost use Rattle.vault_verdict.specs.Raw.{card_values, entry_values, record_values, right_values};
+ghost use Rattle.std.specs.Prelude.{refl};
+ghost use Rattle.vault_verdict.specs.Raw.{card_values, count_values, entry_values, record_values};
+ghost use Rattle.vault_verdict.specs.Raw.{version_values};
+ghost use Rattle.vault_verdict.specs.Scans.{card_scan, count_scan, entry_scan, record_scan};
 
 use sql_stored::columns::Columns;
 use sql_stored::fault::ReadFault;
 use sql_stored::raws::Raw;
+use sql_stored::whole::Whole;
 use sqlite::Row;
-use vault_rules::rows::{
-    RawCard, RawCount, RawEntry, RawMerchant, RawRecord, RawRight, RawVersion,
-};
+use vault_rules::rows::{RawCard, RawCount, RawEntry, RawRecord, RawVersion};
+use vault_schema::v1::{READ_COUNTS, READ_RECORDS};
+use vault_schema::v2::{READ_CARDS, READ_ENTRIES};
 
 /// The rows of `vault`.
 pub(crate) struct VersionRows;
@@ -23,29 +26,6 @@ impl Raw for VersionRows {
         let raw = RawVersion {
             id: columns.next()?,
             version: columns.next()?,
-        };
-        columns.end()?;
-        Ok(raw)
-    }
-}
-
-/// The rows of `merchants3`.
-pub(crate) struct MerchantRows;
-
-impl Raw for MerchantRows {
-    type Of = RawMerchant;
-
-    ghost values = { merchant_values };
-
-    fn read(row: &Row) -> Result<RawMerchant, ReadFault> {
-        let mut columns = Columns::of(row);
-        let raw = RawMerchant {
-            rowid: columns.next()?,
-            name: columns.next()?,
-            single_life: columns.next()?,
-            multi_life: columns.next()?,
-            moment: columns.next()?,
-            lead: columns.next()?,
         };
         columns.end()?;
         Ok(raw)
@@ -73,6 +53,18 @@ impl Raw for CountRows {
     }
 }
 
+impl Whole for CountRows {
+    type Raw = CountRows;
+
+    ghost scan = { count_scan };
+
+    fn text() -> &'static str {
+        READ_COUNTS
+    }
+
+    ghost read_so = { refl };
+}
+
 /// The rows of `cards2`.
 pub(crate) struct CardRows;
 
@@ -92,6 +84,18 @@ impl Raw for CardRows {
         columns.end()?;
         Ok(raw)
     }
+}
+
+impl Whole for CardRows {
+    type Raw = CardRows;
+
+    ghost scan = { card_scan };
+
+    fn text() -> &'static str {
+        READ_CARDS
+    }
+
+    ghost read_so = { refl };
 }
 
 /// The rows of `entries2`.
@@ -119,6 +123,18 @@ impl Raw for EntryRows {
     }
 }
 
+impl Whole for EntryRows {
+    type Raw = EntryRows;
+
+    ghost scan = { entry_scan };
+
+    fn text() -> &'static str {
+        READ_ENTRIES
+    }
+
+    ghost read_so = { refl };
+}
+
 /// The rows of `records`.
 pub(crate) struct RecordRows;
 
@@ -142,24 +158,14 @@ impl Raw for RecordRows {
     }
 }
 
-/// The rows of `rights4`.
-pub(crate) struct RightRows;
+impl Whole for RecordRows {
+    type Raw = RecordRows;
 
-impl Raw for RightRows {
-    type Of = RawRight;
+    ghost scan = { record_scan };
 
-    ghost values = { right_values };
-
-    fn read(row: &Row) -> Result<RawRight, ReadFault> {
-        let mut columns = Columns::of(row);
-        let raw = RawRight {
-            rowid: columns.next()?,
-            caller: columns.next()?,
-            merchant: columns.next()?,
-            what: columns.next()?,
-            ends: columns.next()?,
-        };
-        columns.end()?;
-        Ok(raw)
+    fn text() -> &'static str {
+        READ_RECORDS
     }
+
+    ghost read_so = { refl };
 }

@@ -1,11 +1,16 @@
-//! Rows of the tables that a later schema replaced.
-ghost use Rattle.vault_verdict.specs.Raw.{id_values, old_entry_values};
+//! The rows of the table of entries that schema 2 replaced.
+ghost use Rattle.std.specs.Prelude.{refl};
+ghost use Rattle.vault_verdict.specs.Raw.{old_entry_values};
+ghost use Rattle.vault_verdict.specs.Scans.{entry_id_scan, old_entry_scan};
 
 use sql_stored::columns::Columns;
 use sql_stored::fault::ReadFault;
+use sql_stored::left::Left;
 use sql_stored::raws::Raw;
 use sql_stored::text::RowText;
+use sql_stored::whole::Whole;
 use sqlite::Row;
+use vault_schema::v1::{READ_ENTRIES, READ_ENTRY_IDS};
 
 /// A row of `entries`, the table of schema 1.
 #[derive(Drop)]
@@ -44,23 +49,22 @@ impl Raw for OldEntry {
     }
 }
 
-/// The rowid alone of a row.
-#[derive(Drop)]
-pub struct RowId {
-    pub rowid: i64,
+impl Whole for OldEntry {
+    type Raw = OldEntry;
+
+    ghost scan = { old_entry_scan };
+
+    fn text() -> &'static str {
+        READ_ENTRIES
+    }
+
+    ghost read_so = { refl };
 }
 
-impl Raw for RowId {
-    type Of = RowId;
+impl Left for OldEntry {
+    ghost left = { entry_id_scan };
 
-    ghost values = { id_values };
-
-    fn read(row: &Row) -> Result<RowId, ReadFault> {
-        let mut columns = Columns::of(row);
-        let raw = RowId {
-            rowid: columns.next()?,
-        };
-        columns.end()?;
-        Ok(raw)
+    fn ids_text() -> &'static str {
+        READ_ENTRY_IDS
     }
 }

@@ -2,11 +2,11 @@
 ghost use Rattle.std.specs.Prelude.{◌≡◌};
 ghost use Rattle.vault_core.specs.Changes.{no_changes, moved_lives};
 
-use crate::changes::{Changes, Lives};
+use crate::changes::Changes;
 use crate::moment::Moment;
 use crate::name::MerchantId;
 use crate::reply::Reply;
-use crate::row::MerchantRow;
+use crate::row::{Lives, MerchantRow};
 
 /// A refusal, which changes nothing.
 pub fn refused(number: u8) -> (Reply, Changes)
@@ -16,14 +16,15 @@ pub fn refused(number: u8) -> (Reply, Changes)
 }
 
 /// The merchant's moment moves.
-pub fn moved(merchant: MerchantId, row: &MerchantRow, now: Moment) -> Lives
+pub fn moved(merchant: MerchantId, row: &MerchantRow, now: Moment) -> (MerchantId, Lives)
     ensures { result ≡ moved_lives merchant row.now now }
 {
-    Lives {
+    let moment = row.moment.later(now);
+    (
         merchant,
-        single_life: row.single_life,
-        multi_life: row.multi_life,
-        lead: row.lead,
-        moment: row.moment.later(now),
-    }
+        Lives {
+            moment,
+            ..row.lives()
+        },
+    )
 }

@@ -1,8 +1,9 @@
 //! Merchants that are set, and rights that are given and taken away.
 ghost use Rattle.vault_core.specs.Changes.{Decides, RefusesQuietly};
+ghost use Rattle.vault_core.specs.Lives.{setting};
 ghost use Rattle.vault_core.specs.Scalar.{IsLife};
 
-use crate::changes::{Changes, Lives};
+use crate::changes::Changes;
 use crate::command::Command;
 use crate::decide::answer::{moved, refused};
 use crate::limit::MOST_MERCHANTS;
@@ -11,45 +12,30 @@ use crate::name::{Caller, MerchantId};
 use crate::refusal::{NO_MERCHANT, TOO_MANY_MERCHANTS};
 use crate::reply::Reply;
 use crate::right::Right;
-use crate::row::GrantRow;
+use crate::row::{GrantRow, Lives};
 use crate::window::Window;
-use vault_pan::lead::Lead;
 
-/// A merchant is set.
-pub fn set_merchant(
-    w: &Window,
-    merchant: MerchantId,
-    single_life: u64,
-    multi_life: u64,
-    lead: Lead,
-    now: Moment,
-) -> (Reply, Changes)
-    requires single { IsLife single_life }
-    requires multi { IsLife multi_life }
-    ensures settles { Decides w.now (Command.SetMerchant merchant single_life multi_life lead now) result }
-    ensures refusals { RefusesQuietly (Command.SetMerchant merchant single_life multi_life lead now)
-        result.0 result.1 }
+/// A merchant is set to these, whose moment is the one handed in.
+pub fn set_merchant(w: &Window, merchant: MerchantId, handed: Lives) -> (Reply, Changes)
+    requires single { IsLife handed.single_life }
+    requires multi { IsLife handed.multi_life }
+    ensures settles { Decides w.now (setting merchant handed) result }
+    ensures refusals { RefusesQuietly (setting merchant handed) result.0 result.1 }
 {
     let moment = match w.merchant {
-        Some(row) => row.moment.later(now),
+        Some(row) => row.moment.later(handed.moment),
         None => {
             if w.merchants >= MOST_MERCHANTS {
                 return refused(TOO_MANY_MERCHANTS);
             }
-            now
+            handed.moment
         }
     };
-    let lives = Lives {
-        merchant,
-        single_life,
-        multi_life,
-        lead,
-        moment,
-    };
+    let lives = Lives { moment, ..handed };
     (
         Reply::Done,
         Changes {
-            lives: Some(lives),
+            lives: Some((merchant, lives)),
             ..Changes::none()
         },
     )

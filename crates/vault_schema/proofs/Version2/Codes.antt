@@ -9,7 +9,7 @@ use Rattle.sql_maps.proofs.ById.{ById}
 use Rattle.sql_maps.proofs.ByKey.{Coding}
 use Rattle.sql_maps.proofs.Keys.{Keyed, coding}
 use Rattle.vault_core.specs.Keys.{bytes_cmp, entry_cmp, record_cmp, right_cmp}
-use Rattle.vault_schema.proofs.Grown.{keyed_in_grown}
+use Rattle.sql_maps.proofs.Grown.{keyed_in_grown}
 use Rattle.vault_schema.proofs.Version1.Codes as v1
 use Rattle.vault_schema.proofs.Version1.Codes.{number_in, maybe_number, number_back, number_fits}
 use Rattle.vault_schema.proofs.Version1.Codes.{text_in, use_in, use_back, entry_codes}

@@ -14,7 +14,7 @@ use Rattle.vault_schema.specs.Version1.Rows.{merchant_key, no_columns, right_key
 use Rattle.vault_schema.specs.Version1.Rows as one
 use Rattle.vault_schema.specs.Version3.Rows.{lives_columns, merchant_row}
 use Rattle.vault_schema.specs.Version3.Tables.{merchants, tables3, indexes3, v3}
-use Rattle.vault_schema.proofs.Grown.{keyed_in_grown}
+use Rattle.sql_maps.proofs.Grown.{keyed_in_grown}
 use Rattle.vault_schema.proofs.Version1.Codes as v1
 use Rattle.vault_schema.proofs.Version1.Codes.{number_in}
 use Rattle.vault_schema.proofs.Version2.Codes as v2

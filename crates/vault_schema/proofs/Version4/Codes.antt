@@ -8,7 +8,7 @@ use Rattle.vault_core.specs.Keys.{right_cmp}
 use Rattle.vault_schema.specs.Version1.Rows.{no_columns, right_key}
 use Rattle.vault_schema.specs.Version4.Rows.{ends_column, right_row}
 use Rattle.vault_schema.specs.Version4.Tables.{rights, tables4, indexes4, v4}
-use Rattle.vault_schema.proofs.Grown.{keyed_in_grown}
+use Rattle.sql_maps.proofs.Grown.{keyed_in_grown}
 use Rattle.vault_schema.proofs.Version1.Codes as v1
 use Rattle.vault_schema.proofs.Version1.Codes.{maybe_number, number_back, number_fits}
 use Rattle.vault_schema.proofs.Version3.Codes as v3

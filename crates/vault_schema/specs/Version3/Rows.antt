@@ -8,7 +8,7 @@ use Rattle.vault_pan.specs.Mask.{lead_digits}
 use Rattle.vault_pan.specs.declared.lead.Lead.TheVariants.{Six}
 use Rattle.vault_schema.specs.Version1.Rows.{merchant_key}
 use Rattle.vault_schema.specs.declared.v1.Lives as one
-use Rattle.vault_schema.specs.declared.v3.Lives.{Lives}
+use Rattle.vault_core.specs.declared.row.Lives.{Lives}
 
 -- the columns of a merchant's lives, its moment and its lead
 abbrev pub lives_columns : Lives → Row

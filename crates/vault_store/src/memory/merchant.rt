@@ -9,9 +9,9 @@ ghost use Rattle.vault_store.specs.ShownMerchants.{row_with as row_with_lem};
 
 use std::alloc::AllocError;
 use std::collections::BTreeMap;
-use vault_core::changes::{Changes, Count, Lives};
+use vault_core::changes::{Changes, Count};
 use vault_core::name::MerchantId;
-use vault_core::row::MerchantRow;
+use vault_core::row::{Lives, MerchantRow};
 
 /// Puts the row of the merchant whose lives change. Only a new merchant can be refused.
 pub fn put_merchant(
@@ -25,12 +25,12 @@ pub fn put_merchant(
     ensures allowed { (V : Vault) → ShowsMerchants merchants.old V → AddsNothing V (plus V ch.now)
         → IsOk result }
 {
-    let Some(lives) = ch.lives else {
+    let Some((m, lives)) = ch.lives else {
         return Ok(());
     };
-    let was = merchants.get(&lives.merchant).copied();
+    let was = merchants.get(&m).copied();
     let row = raised(row_with(was, &lives), ch.count);
-    merchants.insert(lives.merchant, row)?;
+    merchants.insert(m, row)?;
     Ok(())
 }
 
@@ -38,18 +38,9 @@ pub fn put_merchant(
 fn row_with(was: Option<MerchantRow>, lives: &Lives) -> MerchantRow
     ensures { result ≡ row_with_lem lives.now was }
 {
-    let (made, given, denied) = match was {
-        Some(row) => (row.made, row.given, row.denied),
-        None => (0, 0, 0),
-    };
-    MerchantRow {
-        single_life: lives.single_life,
-        multi_life: lives.multi_life,
-        lead: lives.lead,
-        moment: lives.moment,
-        made,
-        given,
-        denied,
+    match was {
+        Some(row) => lives.row(row.made, row.given, row.denied),
+        None => lives.row(0, 0, 0),
     }
 }
 

@@ -3,7 +3,6 @@ use Rattle.vault_core.specs.Changes.{Decides}
 use Rattle.vault_core.specs.Named.{command_by, token_command, token_command_in}
 use Rattle.vault_core.specs.declared.command.Command.{Command}
 use Rattle.vault_core.specs.declared.command.Command.TheVariants.{Detokenize, Revoke, Purge}
-use Rattle.vault_core.specs.declared.command.TokenCommand.{TokenCommand}
 use Rattle.vault_core.specs.declared.right.Right.TheVariants as right
 use Rattle.vault_core.proofs.Finds.{some_same}
 use Rattle.vault_core.proofs.decide.on_token.Goals as goal

@@ -58,8 +58,8 @@ fn decided_told(alloc: Global, desk: &mut Desk, line: &str) -> Option<String> {
 
 /// `lives`: the merchant's lives, its moment and its lead from now on.
 fn lives_told(alloc: Global, changes: &Changes) -> Option<String> {
-    let lives = changes.lives?;
-    let (shop, moment) = (text_of(lives.merchant.bytes()), lives.moment.seconds());
+    let (m, lives) = changes.lives?;
+    let (shop, moment) = (text_of(m.bytes()), lives.moment.seconds());
     let (single, multi, lead) = (lives.single_life, lives.multi_life, lives.lead);
     format!(in alloc; "{shop} {single} {multi} {moment} {lead:?}").ok()
 }

@@ -1,9 +1,9 @@
 use Rattle.std.proofs.Common.{option_map, refl}
 use Rattle.vault_core.specs.Vault.{merchant_at}
-use Rattle.vault_schema.specs.Stands.{lives_in}
+use Rattle.vault_core.specs.Lives.{lives_in}
 use Rattle.vault_schema.specs.Version4.Tables.{tables4, indexes4}
 use Rattle.vault_schema.proofs.Newest.{merchant_table}
-use Rattle.vault_schema.proofs.Version3.Texts.{read_merchants_is}
+use Rattle.vault_tables.specs.MerchantTexts.{read_merchants_is}
 use Rattle.vault_rows.proofs.Calls.{tells}
 use Rattle.vault_rows.proofs.Listed.{shows_all}
 use Rattle.vault_rows.proofs.merchants.all_merchants.Goals as goal

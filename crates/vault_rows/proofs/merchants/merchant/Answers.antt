@@ -1,4 +1,4 @@
-use Rattle.std.proofs.Common.{arith, sym, ◌∙◌}
+use Rattle.std.proofs.Common.{Some, ap, arith, sym, ◌∙◌}
 use Rattle.sqlite.specs.Held.{state}
 use Rattle.sqlite.specs.State.{HasCleanDisk}
 use Rattle.sql_maps.proofs.Calls.{reads_then}
@@ -33,7 +33,8 @@ returns g c = record {
       omega (arith, c.in_ok-counts.ensures.reads.clean, clean) in
       let held = (still_held {P = Unit {0}} c.in_ok-lives.ensures.reads V (tt, λ clean. h)).1 first in
       let shown = rw (c.merchant_text.ensures) at (c.in_ok-counts.ensures.told clean V held) in
-      row_is V c.args.m.now c.in-Some.lives (sym c.in-Some.is ∙ c.in_ok-lives.ensures.told first V h) _ _ _
+      ap Some c.row.ensures
+      ∙ row_is V c.args.m.now c.in-Some.lives (sym c.in-Some.is ∙ c.in_ok-lives.ensures.told first V h) _ _ _
       (total_is V c.args.m.now _ 1 _ shown (rw (c.deref.ensures.value) at c.in_ok-made.ensures))
       (total_is V c.args.m.now _ 2 _ shown (rw (c.deref-2.ensures.value) at c.in_ok-given.ensures))
       (total_is V c.args.m.now _ 3 _ shown (rw (c.deref-3.ensures.value) at c.in_ok-denied.ensures));

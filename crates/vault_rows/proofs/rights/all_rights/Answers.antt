@@ -1,6 +1,6 @@
 use Rattle.std.proofs.Common.{[], refl}
 use Rattle.vault_schema.proofs.Version4.Codes.{right_table}
-use Rattle.vault_schema.proofs.Version4.Texts.{read_rights_is}
+use Rattle.vault_tables.specs.RightTexts.{read_rights_is}
 use Rattle.vault_rows.proofs.Calls.{tells}
 use Rattle.vault_rows.proofs.Listed.{shows_all}
 use Rattle.std.specs.FinMap as map

@@ -3,8 +3,9 @@ use Rattle.vault_verdict.proofs.AllApart.{apart_by, told_by}
 use Rattle.vault_verdict.proofs.Rising.{rising_apart}
 use Rattle.vault_verdict.proofs.apart.are_apart.Goals as goal
 use Rattle.vault_verdict.specs.Apart.{TellsApart}
-use Rattle.vault_verdict.specs.Raw.{card_row, count_values, entry_values, merchant_values, record_values}
-use Rattle.vault_verdict.specs.Raw.{right_values}
+use Rattle.vault_tables.specs.Merchants.{merchant_values}
+use Rattle.vault_tables.specs.Rights.{right_values}
+use Rattle.vault_verdict.specs.Raw.{card_row, count_values, entry_values, record_values}
 use Rattle.vault_rules.specs.declared.card_rows.Cards.{Cards}
 use Rattle.vault_rules.specs.declared.entries.Entries.{Entries}
 use Rattle.vault_rules.specs.declared.index.Index.{Index}

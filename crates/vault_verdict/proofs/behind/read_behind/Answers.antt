@@ -2,7 +2,7 @@ use Rattle.std.proofs.Common.{arith, inl, inr, rules}
 use Rattle.vault_verdict.proofs.Results.{passed}
 use Rattle.sql_stored.proofs.Streamed.{after}
 use Rattle.vault_verdict.proofs.behind.read_behind.Goals as goal
-use Rattle.vault_verdict.specs.Raw.{right_values}
+use Rattle.vault_tables.specs.Rights.{right_values}
 use Rattle.sql_stored.specs.Reading.{IsUnread}
 use Rattle.vault_verdict.specs.Reading.{IsUnreadReplaced, rights_text}
 

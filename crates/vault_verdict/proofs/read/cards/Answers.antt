@@ -1,32 +1,28 @@
-use Rattle.std.proofs.Common.{[]}
-use Rattle.vault_schema.proofs.Newest.{behind_second, indexes_behind_second}
-use Rattle.vault_schema.specs.Version3.Tables.{tables3, indexes3}
+use Rattle.std.proofs.Common.{◌≡◌, ◌∙◌, false, sym, true}
+use Rattle.vault_schema.proofs.Behind.{behind_two, indexes_behind_two, schema_first, schema_second}
+use Rattle.vault_schema.specs.Versions.{has_cards}
 use Rattle.vault_verdict.proofs.read.cards.Goals as goal
 
-pub returns-in-One : goal.returns-in-One
-returns-in-One g c = rw (c.in-One.is) (record {
-  reads = c.first_cards.ensures.reads;
-  told = c.first_cards.ensures.told;
-  refused = c.first_cards.ensures.refused;
-})
+pub returns-then-is_from : goal.returns-then-is_from
+returns-then-is_from g c =
+    let v = c.args.version in
+    let has : has_cards v ≡ true = sym c.is_from.ensures ∙ c.if-is_from.true in
+    let later = c.later_cards.ensures in
+    record {
+      reads = rw (schema_second v has) (later.reads (behind_two v) (indexes_behind_two v));
+      told = λ clean ours.
+          rw has (later.told (behind_two v) (indexes_behind_two v) clean (ours ∙ schema_second v has));
+      refused = λ clean ours.
+          rw has (later.refused (behind_two v) (indexes_behind_two v) clean (ours ∙ schema_second v has));
+    }
 
-pub returns-in-Two : goal.returns-in-Two
-returns-in-Two g c = rw (c.in-Two.is) (record {
-  reads = c.later_cards.ensures.reads [] [];
-  told = c.later_cards.ensures.told [] [];
-  refused = c.later_cards.ensures.refused [] [];
-})
-
-pub returns-in-Three : goal.returns-in-Three
-returns-in-Three g c = rw (c.in-Three.is) (record {
-  reads = c.later_cards-in-Three.ensures.reads tables3 indexes3;
-  told = c.later_cards-in-Three.ensures.told tables3 indexes3;
-  refused = c.later_cards-in-Three.ensures.refused tables3 indexes3;
-})
-
-pub returns-in-Four : goal.returns-in-Four
-returns-in-Four g c = rw (c.in-Four.is) (record {
-  reads = c.later_cards-in-Four.ensures.reads behind_second indexes_behind_second;
-  told = c.later_cards-in-Four.ensures.told behind_second indexes_behind_second;
-  refused = c.later_cards-in-Four.ensures.refused behind_second indexes_behind_second;
-})
+pub returns-else-is_from : goal.returns-else-is_from
+returns-else-is_from g c =
+    let v = c.args.version in
+    let none : has_cards v ≡ false = sym c.is_from.ensures ∙ c.if-is_from.false in
+    let first = c.first_cards.ensures in
+    record {
+      reads = rw (schema_first v none) first.reads;
+      told = λ clean ours. rw none (first.told clean (ours ∙ schema_first v none));
+      refused = λ clean ours. rw none (first.refused clean (ours ∙ schema_first v none));
+    }

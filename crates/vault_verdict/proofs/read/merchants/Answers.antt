@@ -1,17 +1,30 @@
-use Rattle.std.proofs.Common.{[]}
-use Rattle.vault_schema.specs.Version4.Tables.{tables4, indexes4}
-use Rattle.vault_schema.specs.declared.version.Version.TheVariants.{Two}
-use Rattle.vault_schema.proofs.Behind.{behind, indexes_behind}
+use Rattle.std.proofs.Common.{◌≡◌, ◌∙◌, Bool, cond, false, map, sym, subst, true}
+use Rattle.sql_stored.specs.Reading.{IsAny, ReadsTable}
+use Rattle.vault_schema.proofs.Behind.{behind, behind_three, indexes_behind, indexes_behind_three}
+use Rattle.vault_schema.proofs.Behind.{schema_third}
+use Rattle.vault_schema.specs.Layers.{is_from}
+use Rattle.vault_schema.specs.Versions.{schema_of}
+use Rattle.vault_schema.specs.declared.version.Version.TheVariants.{Three}
+use Rattle.vault_tables.specs.Merchants.{merchant_values, with_six}
+use Rattle.vault_tables.specs.declared.merchants.TheConstants.{READ_MERCHANTS}
+use Rattle.vault_tables.specs.declared.merchants.old.TheConstants.{READ_OLD_MERCHANTS}
 use Rattle.vault_verdict.proofs.read.merchants.Goals as goal
 
-pub returns-in-One : goal.returns-in-One
-returns-in-One g c = rw (c.in-One.is) (c.old_merchants.ensures [] [])
+pub returns-then-is_from : goal.returns-then-is_from
+returns-then-is_from g c =
+    let v = c.args.version in
+    let has : is_from Three v ≡ true = sym c.is_from.ensures ∙ c.if-is_from.true in
+    subst (λ (b : Bool). ReadsTable g.S.Store (cond b READ_MERCHANTS.now READ_OLD_MERCHANTS.now)
+    merchant_values (schema_of v) IsAny (λ db. cond b (db 17) (map with_six (db 1))) merchant_values
+    (λ raw. raw.rowid) c.read_all.result c.args.conn.now c.read_all.new.conn) (sym has)
+    (rw (schema_third v has) (c.read_all.ensures (behind_three v) (indexes_behind_three v)))
 
-pub returns-in-Two : goal.returns-in-Two
-returns-in-Two g c = rw (c.in-Two.is) (c.old_merchants-in-Two.ensures (behind Two) (indexes_behind Two))
-
-pub returns-in-Three : goal.returns-in-Three
-returns-in-Three g c = rw (c.in-Three.is) (c.led_merchants.ensures [] [])
-
-pub returns-in-Four : goal.returns-in-Four
-returns-in-Four g c = rw (c.in-Four.is) (c.led_merchants-in-Four.ensures tables4 indexes4)
+pub returns-else-is_from : goal.returns-else-is_from
+returns-else-is_from g c =
+    let v = c.args.version in
+    let none : is_from Three v ≡ false = sym c.is_from.ensures ∙ c.if-is_from.false in
+    let read = c.read_all-else-is_from in
+    subst (λ (b : Bool). ReadsTable g.S.Store (cond b READ_MERCHANTS.now READ_OLD_MERCHANTS.now)
+    merchant_values (schema_of v) IsAny (λ db. cond b (db 17) (map with_six (db 1))) merchant_values
+    (λ raw. raw.rowid) read.result c.args.conn.now read.new.conn) (sym none)
+    (read.ensures (behind v) (indexes_behind v))

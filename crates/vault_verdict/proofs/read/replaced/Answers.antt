@@ -4,14 +4,15 @@ use Rattle.sqlite.specs.State.{HasCleanDisk}
 use Rattle.vault_schema.proofs.Behind.{behind, indexes_behind, schema_is}
 use Rattle.vault_verdict.proofs.Joined.{both_told, failed_as, failed_then, from_start, in_version, none_if}
 use Rattle.sql_maps.proofs.Calls.{reads_then}
+use Rattle.vault_verdict.proofs.Left.{left_is}
 use Rattle.vault_verdict.proofs.Results.{passed}
 use Rattle.vault_verdict.proofs.read.replaced.Goals as goal
-use Rattle.vault_verdict.specs.Raw.{id_values}
+use Rattle.sql_stored.specs.Scans.{id_values}
 use Rattle.sql_stored.specs.Reading.{any_left}
 use Rattle.vault_verdict.specs.ReadAs.{left_in}
 use Rattle.sql_stored.specs.Reading.{IsUnread}
-use Rattle.vault_schema.specs.declared.v3.TheConstants.{READ_MERCHANT_IDS}
-use Rattle.vault_schema.specs.declared.v4.TheConstants.{READ_RIGHT_IDS}
+use Rattle.vault_tables.specs.declared.merchants.old.TheConstants.{READ_MERCHANT_IDS}
+use Rattle.vault_tables.specs.declared.rights.old.TheConstants.{READ_RIGHT_IDS}
 
 pub returns-in_err-entries-clause-reads : goal.returns-in_err-entries-clause-reads
 returns-in_err-entries-clause-reads g c =
@@ -44,11 +45,11 @@ pub returns-in_err-merchants-clause-refused : goal.returns-in_err-merchants-clau
 returns-in_err-merchants-clause-refused g c clean has =
     let v = c.args.version in
     let second = c.in_err-merchants.ensures.told (behind v) (indexes_behind v) in
-    let early : HasCleanDisk (state g.S.Store c.entries_left.new.conn) =
+    let early : HasCleanDisk (state g.S.Store c.any_left.new.conn) =
     omega (arith, second.reads.clean, clean) in
     passed c.from_residual-in_err-merchants.result _ c.from_residual-in_err-merchants.ensures.1 (λ store.
     inr (inl (from_start (λ db. IsUnread g.S.Store READ_MERCHANT_IDS.now id_values db
-    c.merchants_left.new.conn) (c.in_ok-entries.ensures.told (behind v) (indexes_behind v)).reads early
+    c.any_left-2.new.conn) (c.in_ok-entries.ensures.told (behind v) (indexes_behind v)).reads early
     (has ∙ schema_is v) (λ same. second.refused clean same store))))
 
 pub returns-in_err-rights-clause-reads : goal.returns-in_err-rights-clause-reads
@@ -69,13 +70,13 @@ pub returns-in_err-rights-clause-refused : goal.returns-in_err-rights-clause-ref
 returns-in_err-rights-clause-refused g c clean has =
     let v = c.args.version in
     let third = c.in_err-rights.ensures.told (behind v) (indexes_behind v) in
-    let early : HasCleanDisk (state g.S.Store c.merchants_left.new.conn) =
+    let early : HasCleanDisk (state g.S.Store c.any_left-2.new.conn) =
     omega (arith, third.reads.clean, clean) in
     let first = c.in_ok-entries.ensures.told (behind v) (indexes_behind v) in
     let second = c.in_ok-merchants.ensures.told (behind v) (indexes_behind v) in
     let both = reads_then first.reads first.reads.kept second.reads in
     passed c.from_residual-in_err-rights.result _ c.from_residual-in_err-rights.ensures.1 (λ store.
-    inr (inr (from_start (λ db. IsUnread g.S.Store READ_RIGHT_IDS.now id_values db c.rights_left.new.conn)
+    inr (inr (from_start (λ db. IsUnread g.S.Store READ_RIGHT_IDS.now id_values db c.any_left-3.new.conn)
     both early (has ∙ schema_is v) (λ same. third.refused clean same store))))
 
 pub returns-clause-reads : goal.returns-clause-reads
@@ -93,9 +94,9 @@ returns-clause-told g c clean has =
     let first = c.in_ok-entries.ensures.told (behind v) (indexes_behind v) in
     let second = c.in_ok-merchants.ensures.told (behind v) (indexes_behind v) in
     let third = c.in_ok-rights.ensures.told (behind v) (indexes_behind v) in
-    let middle : HasCleanDisk (state g.S.Store c.merchants_left.new.conn) =
+    let middle : HasCleanDisk (state g.S.Store c.any_left-2.new.conn) =
     omega (arith, third.reads.clean, clean) in
-    let early : HasCleanDisk (state g.S.Store c.entries_left.new.conn) =
+    let early : HasCleanDisk (state g.S.Store c.any_left.new.conn) =
     omega (arith, second.reads.clean, middle) in
     let there = has ∙ schema_is v in
     let entries = first.told early there in
@@ -104,3 +105,4 @@ returns-clause-told g c clean has =
     let rights = from_start (λ db. c.in_ok-rights.rights ≡ any_left (db.trees 10))
     (reads_then first.reads first.reads.kept second.reads) middle there (λ same. third.told clean same) in
     c.left_in.ensures ∙ (λ i. left_in v (entries i) (merchants i) (rights i))
+    ∙ left_is v (state g.S.Store c.args.conn.now).now.trees

@@ -1,17 +1,29 @@
-use Rattle.std.proofs.Common.{[]}
-use Rattle.vault_schema.specs.declared.version.Version.TheVariants.{Two, Three}
-use Rattle.vault_schema.proofs.Behind.{behind, indexes_behind}
+use Rattle.std.proofs.Common.{◌≡◌, ◌∙◌, [], Bool, cond, false, map, sym, subst, true}
+use Rattle.sql_stored.specs.Reading.{AreLonger, ReadsTable}
+use Rattle.vault_schema.proofs.Behind.{behind, indexes_behind, schema_fourth}
+use Rattle.vault_schema.specs.Layers.{Either, is_from}
+use Rattle.vault_schema.specs.Versions.{schema_of}
+use Rattle.vault_schema.specs.declared.version.Version.TheVariants.{Four}
+use Rattle.vault_tables.specs.Rights.{endless, right_values}
+use Rattle.vault_tables.specs.declared.rights.TheConstants.{READ_RIGHTS}
+use Rattle.vault_tables.specs.declared.rights.old.TheConstants.{READ_OLD_RIGHTS}
 use Rattle.vault_verdict.proofs.read.rights.Goals as goal
 
-pub returns-in-One : goal.returns-in-One
-returns-in-One g c = rw (c.in-One.is) (c.old_rights.ensures [] [])
+pub returns-then-is_from : goal.returns-then-is_from
+returns-then-is_from g c =
+    let v = c.args.version in
+    let has : is_from Four v ≡ true = sym c.is_from.ensures ∙ c.if-is_from.true in
+    subst (λ (b : Bool). ReadsTable g.S.Store (cond b READ_RIGHTS.now READ_OLD_RIGHTS.now) right_values
+    (schema_of v) (λ db. Either b (AreLonger 4 (db.trees 19)) (Unit {0}))
+    (λ db. cond b (db 19) (map endless (db 10))) right_values (λ raw. raw.rowid) c.read_all.result
+    c.args.conn.now c.read_all.new.conn) (sym has) (rw (schema_fourth v has) (c.read_all.ensures [] []))
 
-pub returns-in-Two : goal.returns-in-Two
-returns-in-Two g c = rw (c.in-Two.is) (c.old_rights-in-Two.ensures (behind Two) (indexes_behind Two))
-
-pub returns-in-Three : goal.returns-in-Three
-returns-in-Three g c = rw (c.in-Three.is) (c.old_rights-in-Three.ensures (behind Three)
-    (indexes_behind Three))
-
-pub returns-in-Four : goal.returns-in-Four
-returns-in-Four g c = rw (c.in-Four.is) (c.ending_rights.ensures)
+pub returns-else-is_from : goal.returns-else-is_from
+returns-else-is_from g c =
+    let v = c.args.version in
+    let none : is_from Four v ≡ false = sym c.is_from.ensures ∙ c.if-is_from.false in
+    let read = c.read_all-else-is_from in
+    subst (λ (b : Bool). ReadsTable g.S.Store (cond b READ_RIGHTS.now READ_OLD_RIGHTS.now) right_values
+    (schema_of v) (λ db. Either b (AreLonger 4 (db.trees 19)) (Unit {0}))
+    (λ db. cond b (db 19) (map endless (db 10))) right_values (λ raw. raw.rowid) read.result
+    c.args.conn.now read.new.conn) (sym none) (read.ensures (behind v) (indexes_behind v))

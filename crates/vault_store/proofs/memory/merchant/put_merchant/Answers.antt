@@ -13,21 +13,22 @@ returns-in_default-clause-done c V h sound fit =
 
 pub returns-in_err-insert-clause-allowed : goal.returns-in_err-insert-clause-allowed
 returns-in_err-insert-clause-allowed c V h adds =
-    let m = c.in-Some.lives.merchant in
-    absurd (adds_merchant V c.args.ch.now c.in-Some.lives c.in-Some.is
+    let m = c.in-Some.m in
+    absurd (adds_merchant V c.args.ch.now m c.in-Some.lives c.in-Some.is
     (unknown V m (sym (h.at m) ∙ c.in_err-insert.ensures.absent)) adds)
 
 pub returns-clause-done : goal.returns-clause-done
 returns-clause-done c V h sound fit =
+    let m = c.in-Some.m in
     let x = c.in-Some.lives in
     let count = c.args.ch.now.count in
     let done = c.in_ok-insert.ensures in
-    let was = c.copied-was.ensures ∙ c.get.ensures.value ∙ h.at x.merchant in
+    let was = c.copied-was.ensures ∙ c.get.ensures.value ∙ h.at m in
     let with = c.row_with.ensures ∙ ap (row_with x) was in
     let row =
-    c.raised-row.ensures (subst HasRoom (sym with) (has_room V sound x x.merchant))
+    c.raised-row.ensures (subst HasRoom (sym with) (has_room V sound x m))
     ∙ ap (row_raised count) with in
-    shows-put_merchant V sound c.args.ch.now fit x c.in-Some.is c.args.merchants.now c.insert.new.self
+    shows-put_merchant V sound c.args.ch.now fit m x c.in-Some.is c.args.merchants.now c.insert.new.self
     (λ q. done.updates.0 q
-    ∙ ap (λ r. cond (eq_by_cmp bytes_cmp x.merchant q) (Some r) (get bytes_cmp c.args.merchants.now q)) row)
+    ∙ ap (λ r. cond (eq_by_cmp bytes_cmp m q) (Some r) (get bytes_cmp c.args.merchants.now q)) row)
     (done.len ∙ ap (λ o. btree_map_len c.args.merchants.now + cond (is_some o) 0 1) done.old) h

@@ -1,0 +1,56 @@
+-- What the texts of merchants mean, and how each version of the table is read whole.
+use Rattle.std.specs.Prelude.{◌++◌, [], refl}
+use Rattle.sqlite_tied.specs.Compute.{everything}
+use Rattle.sqlite.specs.Listing.{understood}
+use Rattle.sql_maps.proofs.Beside.{constants}
+use Rattle.sql_maps.specs.Texts.{IsQuery, IsWrite}
+use Rattle.sql_stored.proofs.Scans.{columns_of, filled_scan, present_scan}
+use Rattle.sql_stored.specs.Keyed.{finding, putting}
+use Rattle.sql_stored.specs.Scans.{IdScan, Scan, ScansTree}
+use Rattle.vault_rules.specs.declared.rows.RawMerchant.{RawMerchant}
+use Rattle.vault_schema.specs.Schema.{newest_schema}
+use Rattle.vault_schema.specs.Version1.Tables as one
+use Rattle.vault_schema.specs.Version1.Tables.{v1}
+use Rattle.vault_schema.specs.Version3.Tables.{merchants, v3}
+use Rattle.vault_tables.specs.Merchants.{first_lead, merchant_values}
+use Rattle.vault_tables.specs.declared.merchants.TheConstants.{FIND_LIVES, PUT_MERCHANT, READ_MERCHANTS}
+use Rattle.vault_tables.specs.declared.merchants.old.TheConstants.{READ_MERCHANT_IDS, READ_OLD_MERCHANTS}
+
+-- ---- the newest version
+
+pub read_merchants_is : ScansTree v3 READ_MERCHANTS.now 17 (columns_of merchants)
+unfolding understood everything
+read_merchants_is ts is = record { names = _; is = refl; plain = (refl, refl); unlisted = refl }
+
+pub lives_is : IsQuery newest_schema FIND_LIVES.now (finding merchants 1)
+unfolding understood everything
+lives_is = record { names = _; is = refl; plain = (refl, refl); unlisted = refl }
+
+pub put_merchant_is : IsWrite newest_schema PUT_MERCHANT.now (putting merchants 8 1)
+unfolding understood everything
+put_merchant_is = record { is = refl; plain = (refl, refl) }
+
+abbrev pub merchant_scan : Scan RawMerchant
+merchant_scan =
+    present_scan merchant_values (λ m. m.rowid) (λ m. refl) v3 READ_MERCHANTS.now merchants 8 refl refl 4 refl
+    refl read_merchants_is
+
+-- ---- before schema 3
+
+pub read_old_merchants_is : ScansTree v1 READ_OLD_MERCHANTS.now 1
+    (columns_of one.merchants ++ constants first_lead)
+unfolding understood everything
+read_old_merchants_is ts is = record { names = _; is = refl; plain = (refl, refl); unlisted = refl }
+
+pub read_merchant_ids_is : ScansTree v1 READ_MERCHANT_IDS.now 1 []
+unfolding understood everything
+read_merchant_ids_is ts is = record { names = _; is = refl; plain = (refl, refl); unlisted = refl }
+
+abbrev pub old_merchant_scan : Scan RawMerchant
+old_merchant_scan =
+    filled_scan merchant_values (λ m. m.rowid) (λ m. refl) v1 READ_OLD_MERCHANTS.now one.merchants 1 refl refl
+    first_lead 3 refl refl read_old_merchants_is
+
+abbrev pub merchant_id_scan : IdScan
+merchant_id_scan =
+    record { base = v1; tree = 1; text = READ_MERCHANT_IDS.now; means = read_merchant_ids_is }
