@@ -11,7 +11,7 @@ use Rattle.vault_words.specs.declared.jobs.Job.TheVariants.{Batch, Serve, Sweep,
 use Rattle.vault_words.specs.declared.jobs.Job.TheVariants.{Migrate}
 use Rattle.vault_jobs.specs.Streams.{Streams}
 use Rattle.vault_jobs.specs.declared.task.Task.{Task}
-use Rattle.vault_app.specs.Asked.{AsksFor, IsCheck, Unasked}
+use Rattle.vault_app.specs.Asked.{AsksFor, IsCheck}
 use Rattle.vault_app.specs.Ending.{Says, log_line, status_of}
 use Rattle.vault_app.specs.Files.{EndsOnFile}
 use Rattle.vault_app.specs.Jobs.{Does, DoesPlan}

@@ -8,8 +8,7 @@ use Rattle.vault_core.specs.Name.{IsName}
 use Rattle.vault_core.specs.Proper.{AllProper, HasLivesInRange, IsProper}
 use Rattle.vault_core.specs.Scalar.{IsMoment}
 use Rattle.vault_core.specs.declared.command.Command.{Command}
-use Rattle.vault_core.specs.declared.command.Command.TheVariants.{SetMerchant, Grant, Withdraw, Tokenize}
-use Rattle.vault_core.specs.declared.command.Command.TheVariants.{Detokenize, View, Revoke, Purge, Audit}
+use Rattle.vault_core.proofs.Setting.{if_setting}
 use Rattle.vault_rights.proofs.Lists.{all-contained}
 use Rattle.vault_rights.proofs.Words.{grant-exact}
 use Rattle.vault_rights.specs.Items.{grant_of}
@@ -28,15 +27,8 @@ use Rattle.vault_app.specs.Values.{AreValues}
 
 -- the lives of a proper command are lives
 lives_of : (c : Command) → IsProper c → HasLivesInRange c
-lives_of (SetMerchant m single multi lead now) is = (is.1, is.2)
-lives_of (Grant caller m right until now) is = tt
-lives_of (Withdraw caller m right now) is = tt
-lives_of (Tokenize caller m request usage pan digits now) is = tt
-lives_of (Detokenize caller m token now) is = tt
-lives_of (View caller m token now) is = tt
-lives_of (Revoke caller m token now) is = tt
-lives_of (Purge caller m token now) is = tt
-lives_of (Audit caller m now) is = tt
+lives_of c is = if_setting _ c (λ m x set.
+    let proper = subst IsProper set is in (proper.1.0, proper.1.1))
 
 -- and so are those of a task
 pub has_lives : (t : Task) → AreValues t → HasLives t

@@ -1,7 +1,9 @@
 -- What words ask for, and the lines of those that ask for no vault.
 use Rattle.std.specs.Prelude.{◌≡◌, ◌⊎◌, ℕ, ◌++◌, List, codes, decimal}
+use Rattle.std.specs.Fmt.{signed_decimal}
 use Rattle.clap.specs.Words.{IsAmong, Text, fault_of}
 use Rattle.clap.specs.declared.error.kind.ErrorKind.TheVariants.{DisplayHelp, DisplayVersion}
+use Rattle.vault_schema.specs.Versions.{newest, number_of}
 use Rattle.vault_core.specs.Name.{IsName}
 use Rattle.vault_core.specs.Scalar.{IsLife}
 use Rattle.vault_core.specs.Words.{right_word}
@@ -42,9 +44,9 @@ abbrev pub sound_line : Sizes → List ℕ
 sound_line sizes = codes "sound " ++ decimal sizes.merchants ++ codes " " ++ decimal sizes.entries
     ++ codes " " ++ decimal sizes.records ++ codes "\n"
 
--- the line of a file that is in the newest schema: the version of that is 4
+-- the line of a file that is in the newest schema
 abbrev pub schema_line : List ℕ
-schema_line = codes "schema 4\n"
+schema_line = codes "schema " ++ signed_decimal (number_of newest) ++ codes "\n"
 
 -- both names of a right are names
 abbrev pub AreNames : RightJob → Type 0

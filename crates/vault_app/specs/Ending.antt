@@ -1,6 +1,7 @@
 -- How a job ends, and what the program says of it.
 use Rattle.std.specs.Prelude.{ℕ, ℤ, ◌++◌, List, [], Option, Some, None, codes, decimal}
 use Rattle.std.specs.Fmt.{signed_decimal}
+use Rattle.vault_schema.specs.Versions.{newest, number_of as version_number}
 use Rattle.vault_file.specs.Faults as file
 use Rattle.vault_file.specs.declared.fault.NotOpened.{NotOpened as FileFault}
 use Rattle.vault_jobs.specs.Causes.{number_of}
@@ -21,7 +22,7 @@ status_of (Stopped s) = 4
 
 -- the line of the program's version and of the newest schema, on the output
 abbrev pub version_line : List ℕ
-version_line = codes "vault 0.4.0, schema 4\n"
+version_line = codes "vault 0.4.0, schema " ++ signed_decimal (version_number newest) ++ codes "\n"
 
 -- the line of a refusal, on the output
 abbrev pub refusal_line : ℕ → List ℕ

@@ -6,6 +6,7 @@ use Rattle.std.specs.Global.{Vec}
 use Rattle.std.specs.Prelude.{Result, Ok, Err}
 use Rattle.std.specs.Io.KnownBytes.{Appends}
 use Rattle.clap.specs.Words.{Text}
+use Rattle.vault_core.specs.Lives.{setting}
 use Rattle.vault_core.specs.Name.{IsName}
 use Rattle.vault_core.specs.Scalar.{IsLife}
 use Rattle.vault_core.specs.Words.{right_word}
@@ -18,6 +19,7 @@ use Rattle.vault_http.specs.declared.fault.ServeFault.TheVariants as service
 use Rattle.vault_live.specs.Live.{Turns}
 use Rattle.vault_rights.specs.Named.{Row}
 use Rattle.vault_verdict.specs.declared.sizes.Sizes.{Sizes}
+use Rattle.vault_words.specs.Commands.{lives_asked}
 use Rattle.vault_words.specs.declared.commands.rights_file.RightsFileJob.{RightsFileJob}
 use Rattle.vault_words.specs.declared.commands.trial.TrialJob.{TrialJob}
 use Rattle.vault_words.specs.declared.jobs.Job.{Job}
@@ -75,7 +77,7 @@ form_of false = Lines
 abbrev pub IsTaskOf : World → Job → Task → Type 0
 IsTaskOf world (Trial j) t = ⊥
 IsTaskOf world (Merchant j) t = IsName j.name.now × ((now : ℕ) × IsMomentOf world.tells j.now now
-    × (t ≡ task.Change (command.SetMerchant j.name.now j.single_life j.multi_life j.lead now)))
+    × (t ≡ task.Change (setting j.name.now (lives_asked j now))))
 IsTaskOf world (Grant j) t = AreNames j.given
     × ((right : Right) × (now : ℕ) × (j.given.right.now ≡ right_word right)
     × IsMomentOf world.tells j.given.now now

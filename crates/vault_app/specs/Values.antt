@@ -1,22 +1,19 @@
 -- Tasks whose parts are values of their types.
-use Rattle.std.specs.Prelude.{IfSome, None, Some}
+use Rattle.std.specs.Prelude.{◌≡◌, IfSome, None, Some}
 use Rattle.vault_pan.specs.Draw.{IsDrawing}
 use Rattle.vault_core.specs.Name.{IsName}
+use Rattle.vault_core.specs.Named.{caller_of}
 use Rattle.vault_core.specs.Proper.{AllProper, IsProper}
 use Rattle.vault_core.specs.Scalar.{IsMoment}
 use Rattle.vault_core.specs.declared.command.Command.{Command}
-use Rattle.vault_core.specs.declared.command.Command.TheVariants.{SetMerchant, Grant, Withdraw}
 use Rattle.vault_jobs.specs.Grants.{grants_at}
 use Rattle.vault_jobs.specs.declared.task.Task.{Task}
 use Rattle.vault_jobs.specs.declared.task.Task.TheVariants.{Change, Give, Settle, Sweep, Batch, Pipe, Serve}
 use Rattle.vault_jobs.specs.declared.task.Task.TheVariants.{Show}
 
--- a command that only the words of the program ask for
+-- a command of no caller, which only the words of the program ask for: of a merchant or of a right
 abbrev pub IsOwn : Command → Type 0
-IsOwn (SetMerchant m single multi lead now) = Unit {0}
-IsOwn (Grant caller m right until now) = Unit {0}
-IsOwn (Withdraw caller m right now) = Unit {0}
-IsOwn c = ⊥
+IsOwn c = caller_of c ≡ None
 
 -- The parts of a task are values of their types: its names are names, its lives are lives, its moments are
 -- moments and its digits a drawing. Its command is one of the words'.

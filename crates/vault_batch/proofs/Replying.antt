@@ -13,15 +13,13 @@ use Rattle.vault_core.specs.Tokens.{new_request, repetition, tokenize}
 use Rattle.vault_core.specs.Vault.{Merchant, Vault as Content, entitled, entry_at, made_count, merchant_at}
 use Rattle.vault_core.specs.Vault.{record_at, time_at}
 use Rattle.vault_core.specs.Table.{command_of, token_request}
-use Rattle.vault_core.specs.declared.command.Command.{Command}
 use Rattle.vault_core.specs.declared.command.TokenRequest.{TokenRequest}
 use Rattle.vault_core.specs.declared.limit.TheConstants.{MOST_TOKENS}
 use Rattle.vault_core.specs.declared.reply.Reply.TheVariants.{Token}
 use Rattle.vault_core.specs.declared.right.Right.TheVariants as right
 use Rattle.vault_core.specs.declared.row.Record.{Record}
 use Rattle.vault_core.specs.declared.usage.Use.{Use}
-use Rattle.vault_routes.specs.Wanted.{Wanted}
-use Rattle.vault_http.specs.Exchanges.{Pair, reply_to}
+use Rattle.vault_engine.specs.Asking.{Pair, Wanted, reply_to}
 use Rattle.vault_batch.specs.Asking.{Wants}
 use Rattle.vault_batch.specs.Laws.{HasCells, RowsHaveLines}
 use Rattle.vault_batch.specs.Rows.{Row}
@@ -70,15 +68,15 @@ token_shows V a =
     (found_or (new_request V a) (plain_refusal V no_merchant) (merchant_at V a.merchant) (new_shows V a)
     (tt {0}))
 
-refusal_shows : (V : Content) (n : ℕ) (r : Wanted Command) → r ≡ Err n → HasCells (reply_to V r)
+refusal_shows : (V : Content) (n : ℕ) (r : Wanted) → r ≡ Err n → HasCells (reply_to V r)
 refusal_shows V n r e = subst (λ w. HasCells (reply_to V w)) (sym e) (tt {0})
 
-must_shows : (V : Content) (n : ℕ) (r : Wanted Command) {P G : Type 0} → (G → HasCells (reply_to V r))
+must_shows : (V : Content) (n : ℕ) (r : Wanted) {P G : Type 0} → (G → HasCells (reply_to V r))
     → (P × G) ⊎ ((¬ P) × (r ≡ Err n)) → HasCells (reply_to V r)
 must_shows V n r f (inl q) = f q.1
 must_shows V n r f (inr q) = refusal_shows V n r q.1
 
-with_shows : (V : Content) (n : ℕ) (r : Wanted Command) {P G : Use → Type 0}
+with_shows : (V : Content) (n : ℕ) (r : Wanted) {P G : Use → Type 0}
     → ((u : Use) → G u → HasCells (reply_to V r))
     → ((u : Use) × P u × G u) ⊎ (((u : Use) → ¬ P u) × (r ≡ Err n)) → HasCells (reply_to V r)
 with_shows V n r f (inl q) = f q.0 q.2
@@ -88,11 +86,11 @@ request : Asker → Row → Pair → Use → TokenRequest
 request who row pair u =
     token_request who.caller who.merchant (digits_value 10 row.request) u (digits_of row.number) pair.1 pair.0
 
-asked_shows : (V : Content) (a : TokenRequest) (r : Wanted Command) → r ≡ Ok (command_of a)
+asked_shows : (V : Content) (a : TokenRequest) (r : Wanted) → r ≡ Ok (command_of a)
     → HasCells (reply_to V r)
 asked_shows V a r e = subst (λ w. HasCells (reply_to V w)) (sym e) (token_shows V a)
 
-wants_show : (who : Asker) (row : Row) (pair : Pair) (r : Wanted Command) (V : Content)
+wants_show : (who : Asker) (row : Row) (pair : Pair) (r : Wanted) (V : Content)
     → Wants who row pair r → HasCells (reply_to V r)
 unfolding request
 wants_show who row pair r V w =
@@ -100,4 +98,4 @@ wants_show who row pair r V w =
     (with_shows V 19 r (λ u e. asked_shows V (request who row pair u) r e)))) w
 
 pub rows_show : RowsHaveLines
-rows_show who x V asks = wants_show who x.row x.pair x.wanted V asks.1
+rows_show who x V asks = wants_show who x.unit x.pair x.wanted V asks

@@ -5,32 +5,35 @@ use Rattle.std.specs.Prelude.{◌⊎◌, All, Bool, true, false, Err}
 use Rattle.std.proofs.lemmas.List.{map-append}
 use Rattle.csv.specs.declared.reader.Reader.{Reader}
 use Rattle.vault_core.specs.Keys.{Bytes}
-use Rattle.vault_http.specs.Faults.{Failures, failures}
-use Rattle.vault_http.specs.Passing.{Passage}
-use Rattle.vault_batch.specs.Asking.{Asked, Asks}
-use Rattle.vault_batch.specs.Batched.{Answered, AnsweredBefore, Unchanged, rows_of}
+use Rattle.vault_engine.specs.Answered.{AnsweredBefore}
+use Rattle.vault_engine.specs.Passing.{Passage}
+use Rattle.vault_engine.specs.Stops.{Failures, StopsAt, failures}
+use Rattle.vault_engine.specs.declared.stop.Stop.{Stop}
+use Rattle.vault_engine.specs.declared.stop.Stop.TheVariants as stop
+use Rattle.vault_engine.proofs.Following.{Follows, before_one, cut_one, none_more, silent_one, undecided_one}
+use Rattle.vault_batch.specs.Asking.{Asked, Asks, rows_by}
+use Rattle.vault_batch.specs.Batched.{Answered, Unchanged, rows_of}
 use Rattle.vault_batch.specs.Beginning.{Begins, SendsFirst}
-use Rattle.vault_batch.specs.Faults.{Tells}
+use Rattle.vault_batch.specs.Faults.{Tells, fault_of}
 use Rattle.vault_batch.specs.Lines.{first_line}
 use Rattle.vault_batch.specs.Rows.{BeginRecordsOf, Row, fields_in, header, records_with}
-use Rattle.vault_batch.specs.Stops.{IsBatched, RowStops, Stops}
+use Rattle.vault_batch.specs.Stops.{IsBatched, Stops}
 use Rattle.vault_batch.specs.declared.counts.Counts.{Counts}
 use Rattle.vault_batch.specs.declared.fault.BatchFault.{BatchFault}
 use Rattle.vault_batch.specs.declared.fault.BatchFault.TheVariants as fault
 use Rattle.vault_batch.specs.declared.asker.Asker.{Asker}
-use Rattle.vault_batch.proofs.Following.{Follows, before_one, cut_one, none_more, silent_one, undecided_one}
 use Rattle.vault_batch.proofs.Tracking.{begins_all}
 
 -- the records of one row more
 pub records_more : (xs : List Asked) (x : Asked)
-    → records_with (rows_of (xs ++ x ∷ [])) ≡ records_with (rows_of xs) ++ fields_in x.row ∷ []
+    → records_with (rows_of (xs ++ x ∷ [])) ≡ records_with (rows_of xs) ++ fields_in x.unit ∷ []
 records_more xs x =
-    ap (λ rs. records_with rs) (map-append (λ (y : Asked). y.row) xs (x ∷ []))
-    ∙ ap (λ rs. fields_in header ∷ rs) (map-append fields_in (rows_of xs) (x.row ∷ []))
+    ap (λ rs. records_with rs) (map-append (λ (y : Asked). y.unit) xs (x ∷ []))
+    ∙ ap (λ rs. fields_in header ∷ rs) (map-append fields_in (rows_of xs) (x.unit ∷ []))
 
 -- all are answered, and nothing was taken for the next one
 pub before_of : (who : Asker) (first : Bytes) (w : Passage) (xs : List Asked) → Answered who first w xs
-    → AnsweredBefore who first w xs
+    → AnsweredBefore (rows_by who) first w xs
 before_of who first w xs a = record {
   unused = [];
   one = omega arith;
@@ -41,32 +44,39 @@ before_of who first w xs a = record {
 
 -- a row at which a batch stops, after others that were answered
 module _ (left : Option Bytes) (who : Asker) (second whole : Passage) (xs : List Asked)
-    (asked : All (Asks who) xs) (row : Row) (f : Follows second whole first_line xs)
+    (asked : All (Asks who) xs) (row : Row) (f : Follows (rows_by who) second whole first_line xs)
     (begin : BeginRecordsOf left (records_with (rows_of xs)))
     (next : BeginRecordsOf left (records_with (rows_of xs) ++ fields_in row ∷ [])) where
-  next_at : (x : Asked) → x.row ≡ row
-      → BeginRecordsOf left (records_with (rows_of xs) ++ fields_in x.row ∷ [])
+  next_at : (x : Asked) → x.unit ≡ row
+      → BeginRecordsOf left (records_with (rows_of xs) ++ fields_in x.unit ∷ [])
   next_at x same =
       subst (λ r. BeginRecordsOf left (records_with (rows_of xs) ++ fields_in r ∷ [])) (sym same) next
 
-  pub stops_at_row : (e : BatchFault) → RowStops who second row e → Stops left whole who e
-  stops_at_row fault.BadHeader q = absurd q
-  stops_at_row fault.Read q = absurd q
-  stops_at_row fault.Write q =
-      inr (xs, q.0, next_at q.0 q.1, cut_one who first_line second whole xs asked f q.0 q.2)
-  stops_at_row fault.Store q =
-      (xs, q.0, next_at q.0 q.1, undecided_one who first_line second whole xs asked f q.0 q.2)
-  stops_at_row fault.BadRecord q = absurd q
-  stops_at_row fault.Memory (inl q) =
-      inr (inl (xs, begin, before_one who first_line second whole xs asked f q))
-  stops_at_row fault.Memory (inr q) =
-      inr (inr (xs, q.0, next_at q.0 q.1, silent_one who first_line second whole xs asked f q.0 q.2))
-  stops_at_row fault.Source q = record {
+  stops_by : (e : Stop) → StopsAt (rows_by who) second row e → Stops left whole who (fault_of e)
+  stops_by stop.Read q = absurd q
+  stops_by stop.Write q =
+      inr (xs, q.0, next_at q.0 q.1, cut_one (rows_by who) first_line second whole xs asked f q.0 q.2)
+  stops_by stop.Store q =
+      (xs, q.0, next_at q.0 q.1, undecided_one (rows_by who) first_line second whole xs asked f q.0 q.2)
+  stops_by stop.Memory (inl q) =
+      inr (inl (xs, begin, before_one (rows_by who) first_line second whole xs asked f q))
+  stops_by stop.Memory (inr q) =
+      inr (inr (
+        xs,
+        q.0,
+        next_at q.0 q.1,
+        silent_one (rows_by who) first_line second whole xs asked f q.0 q.2,
+      ))
+  stops_by stop.Source q = record {
     rows = xs;
     next = row;
     records = next;
-    answered = none_more who first_line second whole xs asked f q;
+    answered = none_more (rows_by who) first_line second whole xs asked f q;
   }
+
+  pub stops_at_row : (e : Stop) (fault : BatchFault) → fault ≡ fault_of e → StopsAt (rows_by who) second row e
+      → Stops left whole who fault
+  stops_at_row e fault is q = subst (Stops left whole who) (sym is) (stops_by e q)
 
 -- a batch that stops at its beginning
 pub stops_first : (X : Type 0) {R : Type 0} (left : Option Bytes) (rem : R → Option Bytes)
@@ -95,17 +105,6 @@ stops_between left who w xs e begin a (inr same) =
 pub beside_writer : (s v w w' : Bool) → failures false false w' false ≡ failures false false w false
     → failures s false w' v ≡ failures s false w v
 beside_writer s v w w' t = ap (λ (f : Failures). failures s false f.writer v) t
-
--- a fault tells the same, whatever an answer would have been
-pub tells_as : (X Y : Type 0) (e : BatchFault) (a b c : Failures) → b ≡ a → Tells {X = X} (Err e) b c
-    → Tells {X = Y} (Err e) a c
-tells_as X Y fault.BadHeader a b c same t = t ∙ same
-tells_as X Y fault.Read a b c same t = t ∙ same
-tells_as X Y fault.Write a b c same t = t ∙ ap (λ (f : Failures). record f { writer = true }) same
-tells_as X Y fault.Store a b c same t = t ∙ ap (λ (f : Failures). record f { vault = true }) same
-tells_as X Y fault.BadRecord a b c same t = t ∙ same
-tells_as X Y fault.Memory a b c same t = t ∙ same
-tells_as X Y fault.Source a b c same t = t ∙ ap (λ (f : Failures). record f { source = true }) same
 
 between_rows : (left : Option Bytes) (w : Passage) (who : Asker) → Stops left w who fault.Read
     → Stops left w who fault.Memory

@@ -1,11 +1,10 @@
 -- Why a batch stops, and why a row asks for nothing.
 use Rattle.std.specs.Prelude.{◌≡◌, ℕ, true, Result, Ok, Err}
-use Rattle.vault_pan.specs.Pan.{fault_number}
-use Rattle.vault_http.specs.Faults.{Failures}
+use Rattle.vault_engine.specs.Stops.{Failures}
+use Rattle.vault_engine.specs.declared.stop.Stop.{Stop}
+use Rattle.vault_engine.specs.declared.stop.Stop.TheVariants as stop
 use Rattle.vault_batch.specs.declared.fault.BatchFault.{BatchFault}
 use Rattle.vault_batch.specs.declared.fault.BatchFault.TheVariants as fault
-use Rattle.vault_batch.specs.declared.row.RowFault.{RowFault}
-use Rattle.vault_batch.specs.declared.row.RowFault.TheVariants as row
 
 -- the numbers of the faults
 abbrev pub number_of : BatchFault → ℕ
@@ -17,11 +16,13 @@ number_of fault.BadRecord = 44
 number_of fault.Memory = 45
 number_of fault.Source = 46
 
--- the numbers by which rows are refused
-abbrev pub refusal_of : RowFault → ℕ
-refusal_of (row.Request e) = 5
-refusal_of (row.Number e) = fault_number e
-refusal_of (row.Use e) = 19
+-- the fault of a batch that stops at a row
+abbrev pub fault_of : Stop → BatchFault
+fault_of stop.Source = fault.Source
+fault_of stop.Read = fault.Read
+fault_of stop.Write = fault.Write
+fault_of stop.Store = fault.Store
+fault_of stop.Memory = fault.Memory
 
 -- A fault of the writer, the store or the source comes exactly where that one fails: it has failed now, and
 -- all else is as it was. Of the reader nothing is told here.

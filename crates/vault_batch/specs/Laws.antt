@@ -2,7 +2,7 @@
 use Rattle.vault_core.specs.Vault.{Vault as Content}
 use Rattle.vault_core.specs.declared.reply.Reply.{Reply}
 use Rattle.vault_core.specs.declared.reply.Reply.TheVariants.{Token, Refused}
-use Rattle.vault_http.specs.Exchanges.{reply_to}
+use Rattle.vault_engine.specs.Asking.{reply_to}
 use Rattle.vault_batch.specs.Asking.{Asked, Asks}
 use Rattle.vault_batch.specs.declared.asker.Asker.{Asker}
 

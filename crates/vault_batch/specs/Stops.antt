@@ -1,10 +1,10 @@
 -- A batch that was answered to its end, and where one stops.
-use Rattle.std.specs.Prelude.{◌≡◌, ◌≢◌, ◌⊎◌, List, [], ◌∷◌, ◌++◌, length, Option}
+use Rattle.std.specs.Prelude.{◌≢◌, ◌⊎◌, List, [], ◌∷◌, ◌++◌, length, Option}
 use Rattle.vault_core.specs.Keys.{Bytes}
-use Rattle.vault_http.specs.Passing.{Passage, Sends}
-use Rattle.vault_batch.specs.Asking.{Asked}
-use Rattle.vault_batch.specs.Batched.{Answered, AnsweredBefore, Counted, CutAt, FirstLineCut, SilentAt}
-use Rattle.vault_batch.specs.Batched.{Unchanged, UndecidedAt, rows_of}
+use Rattle.vault_engine.specs.Answered.{AnsweredBefore, CutAt, SilentAt, UndecidedAt}
+use Rattle.vault_engine.specs.Passing.{Passage, Sends}
+use Rattle.vault_batch.specs.Asking.{Asked, rows_by}
+use Rattle.vault_batch.specs.Batched.{Answered, Counted, FirstLineCut, Unchanged, rows_of}
 use Rattle.vault_batch.specs.Lines.{first_line}
 use Rattle.vault_batch.specs.Rows.{AreRecordsOf, BeginRecordsOf, Fields, Row, fields_in, header}
 use Rattle.vault_batch.specs.Rows.{records_with}
@@ -59,33 +59,22 @@ pub record StopsAtSource (left : Left) (w : Passage) (who : Asker) : Type 0 wher
 abbrev pub StopsAt : (List Asked → Asked → Type 0) → Left → Type 0
 StopsAt known left =
     (rows : List Asked) × (next : Asked)
-    × BeginRecordsOf left (records_with (rows_of rows) ++ fields_in next.row ∷ [])
+    × BeginRecordsOf left (records_with (rows_of rows) ++ fields_in next.unit ∷ [])
     × known rows next
 
 -- some rows are answered, and memory was refused before the next one was decided
 abbrev pub StopsBefore : Left → Passage → Asker → Type 0
 StopsBefore left w who =
     (rows : List Asked) × BeginRecordsOf left (records_with (rows_of rows))
-    × AnsweredBefore who first_line w rows
+    × AnsweredBefore (rows_by who) first_line w rows
 
 -- where a batch stopped, by its fault
 abbrev pub Stops : Left → Passage → Asker → BatchFault → Type 0
 Stops left w who fault.BadHeader = StopsAtOnce w × HasNoHeader left
 Stops left w who fault.Read = StopsAtOnce w ⊎ StopsAfter left w who
-Stops left w who fault.Write = FirstLineCut w ⊎ StopsAt (CutAt who first_line w) left
-Stops left w who fault.Store = StopsAt (UndecidedAt who first_line w) left
+Stops left w who fault.Write = FirstLineCut w ⊎ StopsAt (CutAt (rows_by who) first_line w) left
+Stops left w who fault.Store = StopsAt (UndecidedAt (rows_by who) first_line w) left
 Stops left w who fault.BadRecord = StopsAtRecord left w who
 Stops left w who fault.Memory =
-    StopsAtOnce w ⊎ StopsBefore left w who ⊎ StopsAt (SilentAt who first_line w) left
+    StopsAtOnce w ⊎ StopsBefore left w who ⊎ StopsAt (SilentAt (rows_by who) first_line w) left
 Stops left w who fault.Source = StopsAtSource left w who
-
--- what one row came to at which a batch stopped
-abbrev pub RowStops : Asker → Passage → Row → BatchFault → Type 0
-RowStops who w row fault.BadHeader = ⊥
-RowStops who w row fault.Read = ⊥
-RowStops who w row fault.Write = (x : Asked) × (x.row ≡ row) × CutAt who [] w [] x
-RowStops who w row fault.Store = (x : Asked) × (x.row ≡ row) × UndecidedAt who [] w [] x
-RowStops who w row fault.BadRecord = ⊥
-RowStops who w row fault.Memory =
-    AnsweredBefore who [] w [] ⊎ ((x : Asked) × (x.row ≡ row) × SilentAt who [] w [] x)
-RowStops who w row fault.Source = Answered who [] w []

@@ -1,8 +1,8 @@
 //! The rows of a batch answered, each before the next one is read.
 ghost use Rattle.std.specs.Prelude.{◌≡◌, ◌⊎◌, [], true, false, Err, IfErr, IfOk, OnOk, Option};
 ghost use Rattle.std.specs.Io.KnownBytes.{IsAtEnd};
-ghost use Rattle.vault_http.specs.Faults.{failures};
-ghost use Rattle.vault_http.specs.Passing.{Passage, passing};
+ghost use Rattle.vault_engine.specs.Passing.{Passage, passing};
+ghost use Rattle.vault_engine.specs.Stops.{failures};
 ghost use Rattle.vault_store.specs.Applied.{is_broken, tables_of};
 ghost use Rattle.vault_wire.specs.Watching.{inner_of, is_stopped};
 ghost use Rattle.vault_core.specs.Keys.{Bytes};
@@ -12,17 +12,19 @@ ghost use Rattle.vault_batch.specs.Reading.{StandsAfter};
 ghost use Rattle.vault_batch.specs.Stops.{IsBatched, Stops};
 ghost use Rattle.vault_batch.specs.declared.asker.Asker.{Asker as Asking};
 
-use crate::answer::answer_row;
 use crate::asker::Asker;
 use crate::counts::Counts;
 use crate::fault::BatchFault;
+use crate::line::has_token;
 use crate::records::{read_record, records_of};
 use crate::row::{Row, is_header};
+use crate::unit::AskedRow;
 use csv::{ByteRecord, Reader};
 use std::alloc::Global;
 use std::io::{Read, Write};
 use vault_core::name::{Caller, MerchantId};
 use vault_core::source::Source;
+use vault_engine::ask::ask;
 use vault_store::tables::Tables;
 use vault_store::vault::Vault;
 use vault_wire::send::send;
@@ -96,9 +98,10 @@ fn answer_rows<R: Read, W: Write, T: Tables, S: Source>(
         let Some(row) = Row::of(&fields) else {
             return Err(BatchFault::BadRecord);
         };
-        match answer_row(alloc, row, *asker, writer, vault, source) {
-            Ok(token) => tokens += u64::from(token),
-            Err(fault) => return Err(fault),
+        let asked = AskedRow { row, asker: *asker };
+        match ask(alloc, &asked, writer, vault, source) {
+            Ok(reply) => tokens += u64::from(has_token(&reply)),
+            Err(stop) => return Err(BatchFault::from(stop)),
         }
     }
 }

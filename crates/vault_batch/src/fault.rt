@@ -2,6 +2,7 @@
 ghost use Rattle.std.specs.Prelude.{◌≡◌};
 
 use crate::refusal::{BAD_HEADER, BAD_RECORD, MEMORY, READ, SOURCE, STORE, WRITE};
+use vault_engine::stop::Stop;
 
 /// Why a batch stopped before the end of its rows.
 #[derive(Clone, Copy, PartialEq, Eq, Debug, Drop)]
@@ -37,6 +38,23 @@ impl BatchFault {
             BatchFault::BadRecord => BAD_RECORD,
             BatchFault::Memory => MEMORY,
             BatchFault::Source => SOURCE,
+        }
+    }
+}
+
+impl From<Stop> for BatchFault {
+    ghost use Rattle.std.specs.Prelude.{◌≡◌};
+    ghost use Rattle.vault_batch.specs.Faults.{fault_of};
+
+    ghost from_gives = { λ stop fault. fault ≡ fault_of stop };
+
+    fn from(stop: Stop) -> BatchFault {
+        match stop {
+            Stop::Source => BatchFault::Source,
+            Stop::Read => BatchFault::Read,
+            Stop::Write => BatchFault::Write,
+            Stop::Store => BatchFault::Store,
+            Stop::Memory => BatchFault::Memory,
         }
     }
 }

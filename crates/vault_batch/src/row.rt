@@ -1,18 +1,18 @@
 //! One row: its three fields, and what it asks for.
 ghost use Rattle.std.specs.Prelude.{◌≡◌, ◌≢◌, ◌↔◌, IsTrue, IfOk, IfSome, length, IfNone};
 ghost use Rattle.csv.specs.Records.{fields_of};
-ghost use Rattle.vault_core.specs.Proper.{HasLivesInRange};
-ghost use Rattle.vault_batch.specs.Asking.{IsWanted, IsWritten, Wants};
+ghost use Rattle.vault_batch.specs.Asking.{Wants};
+ghost use Rattle.vault_engine.specs.Asking.{AreProper};
 ghost use Rattle.vault_batch.specs.Rows.{fields_in, header, row_of};
 
 use crate::asker::Asker;
 use csv::ByteRecord;
 use vault_core::command::Command;
 use vault_core::moment::Moment;
-use vault_core::request::{BadRequestNumber, RequestNo};
-use vault_core::usage::{BadUse, Use};
+use vault_core::request::RequestNo;
+use vault_core::usage::Use;
 use vault_pan::draw::Digits;
-use vault_pan::pan::{Pan, PanFault};
+use vault_pan::pan::Pan;
 
 /// A row: the texts of its three fields.
 #[derive(Clone, Copy)]
@@ -20,65 +20,6 @@ pub(crate) struct Row<'a> {
     pub(crate) request: &'a [u8],
     pub(crate) number: &'a [u8],
     pub(crate) usage: &'a [u8],
-}
-
-/// Why a row asks for nothing.
-#[derive(Clone, Copy, Debug, PartialEq, Eq, Drop)]
-pub(crate) enum RowFault {
-    /// 5: the first field is no number of a request.
-    Request(BadRequestNumber),
-    /// 1 or 2: the second field gives no card number.
-    Number(PanFault),
-    /// 19: the third field is no use.
-    Use(BadUse),
-}
-
-impl RowFault {
-    ghost use Rattle.vault_batch.specs.Faults.{refusal_of};
-
-    /// The number of the refusal.
-    pub(crate) fn number(self) -> u8
-        ensures { result ≡ refusal_of self }
-    {
-        match self {
-            RowFault::Request(fault) => fault.number(),
-            RowFault::Number(fault) => fault.number(),
-            RowFault::Use(fault) => fault.number(),
-        }
-    }
-}
-
-impl From<BadRequestNumber> for RowFault {
-    ghost use Rattle.std.specs.Prelude.{◌≡◌};
-    ghost use Rattle.vault_batch.specs.declared.row.RowFault.TheVariants as fault;
-
-    ghost from_gives = { λ refused e. e ≡ fault.Request refused };
-
-    fn from(refused: BadRequestNumber) -> RowFault {
-        RowFault::Request(refused)
-    }
-}
-
-impl From<PanFault> for RowFault {
-    ghost use Rattle.std.specs.Prelude.{◌≡◌};
-    ghost use Rattle.vault_batch.specs.declared.row.RowFault.TheVariants as fault;
-
-    ghost from_gives = { λ refused e. e ≡ fault.Number refused };
-
-    fn from(refused: PanFault) -> RowFault {
-        RowFault::Number(refused)
-    }
-}
-
-impl From<BadUse> for RowFault {
-    ghost use Rattle.std.specs.Prelude.{◌≡◌};
-    ghost use Rattle.vault_batch.specs.declared.row.RowFault.TheVariants as fault;
-
-    ghost from_gives = { λ refused e. e ≡ fault.Use refused };
-
-    fn from(refused: BadUse) -> RowFault {
-        RowFault::Use(refused)
-    }
 }
 
 impl<'a> Row<'a> {
@@ -100,18 +41,13 @@ impl<'a> Row<'a> {
     /// What the row asks for, at a moment and with drawn digits.
     ///
     /// Refusals, the first that applies: 5 BadRequestNumber, 1 BadNumber, 2 BadCheck, 19 BadUse.
-    pub(crate) fn command(
-        self,
-        asker: Asker,
-        now: Moment,
-        digits: Digits,
-    ) -> Result<Command, RowFault>
-        ensures wanted { IsWanted (Wants asker (row_of self.entry) (now, digits)) result }
-        ensures lives { IfOk result HasLivesInRange }
+    pub(crate) fn command(self, asker: Asker, now: Moment, digits: Digits) -> Result<Command, u8>
+        ensures wanted { Wants asker (row_of self.entry) (now, digits) result }
+        ensures proper { AreProper result }
     {
-        let request = RequestNo::read(self.request)?;
-        let pan = Pan::read(self.number)?;
-        let usage = Use::read(self.usage)?;
+        let request = RequestNo::read(self.request).map_err(|fault| fault.number())?;
+        let pan = Pan::read(self.number).map_err(|fault| fault.number())?;
+        let usage = Use::read(self.usage).map_err(|fault| fault.number())?;
         Ok(Command::Tokenize {
             caller: asker.caller,
             merchant: asker.merchant,
@@ -121,16 +57,6 @@ impl<'a> Row<'a> {
             digits,
             now,
         })
-    }
-
-    /// The request's text as the row's line has it: `0` where it is no number of a request.
-    pub(crate) fn written_request(self) -> &'a [u8]
-        ensures { IsWritten self.entry.request.now result.now }
-    {
-        match RequestNo::read(self.request) {
-            Ok(_) => self.request,
-            Err(_) => b"0",
-        }
     }
 }
 

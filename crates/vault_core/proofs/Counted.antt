@@ -8,7 +8,7 @@ use Rattle.std.specs.Cmp.Lexicographic.{texts_ties}
 use Rattle.vault_pan.specs.CardText.{same}
 use Rattle.vault_core.specs.Draw.{chosen_token}
 use Rattle.vault_core.specs.Keys.{Bytes, bytes_cmp}
-use Rattle.vault_core.specs.Lives.{handed_lives, new_merchant, setting, with_lives}
+use Rattle.vault_core.specs.Lives.{new_merchant, setting, with_lives}
 use Rattle.vault_core.specs.Merchants.{granting, withdrawal, set_from, set_to}
 use Rattle.vault_core.specs.Named.{token_command, merchant_of, denies}
 use Rattle.vault_core.specs.Outcome.{Outcome, plain_reply, plain_refusal, of_merchant}
@@ -28,7 +28,7 @@ use Rattle.vault_core.specs.Yields.{CountsFollow, given_by, denied_by, gives_num
 use Rattle.vault_core.specs.Yields.{answered_so}
 use Rattle.vault_core.specs.declared.limit.TheConstants.{MOST_MERCHANTS, MOST_TOKENS, MOST_COUNT}
 use Rattle.vault_core.specs.declared.command.Command.{Command}
-use Rattle.vault_core.specs.declared.command.Command.TheVariants.{SetMerchant, Grant, Withdraw, Tokenize}
+use Rattle.vault_core.specs.declared.command.Command.TheVariants.{Grant, Withdraw, Tokenize}
 use Rattle.vault_core.specs.declared.command.Command.TheVariants.{Detokenize, View, Revoke, Purge, Audit}
 use Rattle.vault_core.specs.declared.command.TokenCommand.{TokenCommand}
 use Rattle.vault_core.specs.declared.command.TokenRequest.{TokenRequest}
@@ -40,6 +40,7 @@ use Rattle.vault_core.specs.declared.right.Right.TheVariants as right
 use Rattle.vault_core.specs.declared.row.Entry.{Entry}
 use Rattle.vault_core.specs.declared.row.EntryState.{EntryState}
 use Rattle.vault_core.specs.declared.row.EntryState.TheVariants.{Kept, Purged}
+use Rattle.vault_core.proofs.Setting.{at_setting}
 use Rattle.vault_core.proofs.Branches.{by_test, by_option}
 use Rattle.vault_core.proofs.Maps.{bytes_total, bytes_exact, tied, get-insert_same, get-insert_other}
 use Rattle.vault_core.proofs.Repeats.{same-refl}
@@ -214,8 +215,6 @@ follows-detokenize V m caller q token now =
 
 -- one command
 pub follows : (V : Vault) (m : Bytes) (c : Command) → Follows c V m (outcome V c)
-follows V m (SetMerchant q single multi lead now) =
-    follows-set V m q (handed_lives single multi lead now) (merchant_at V q) refl
 follows V m (Grant caller q right until now) =
     by_option (Follows (Grant caller q right until now) V m) (merchant_at V q)
     (granting V caller q right until now)
@@ -301,6 +300,8 @@ follows V m (Audit caller q now) =
     (λ _. calm (Audit caller q now) V m (Refused no_right) refl refl)
     (λ _. calm (Audit caller q now) V m (Counts (made_count V q) known.given known.denied) refl refl))
     (λ _. calm (Audit caller q now) V m (Refused no_merchant) refl refl)
+follows V m c = at_setting (λ set. Follows set V m (outcome V set))
+    (λ q x. follows-set V m q x (merchant_at V q) refl) c refl
 
 given-follow : (cs : List Command) (V : Vault) (m : Bytes)
     → given_by (run cs V) m ≡ given_by V m + answered_so (λ c. gives_number) m cs V

@@ -1,8 +1,9 @@
 -- A command at a merchant is answered the same in vaults that agree on what it reads, and changes nothing
 -- else.
-use Rattle.std.proofs.Common.{◌≡◌, Option, Some, None, nat_lt, refl, sym, subst, ◌∙◌}
+use Rattle.std.proofs.Common.{◌≡◌, Option, Some, None, nat_lt, refl, sym, ap, subst, ◌∙◌}
+use Rattle.std.specs.Prelude.{IfSome}
 use Rattle.std.specs.FinMap as map
-use Rattle.vault_core.specs.Lives.{handed_lives}
+use Rattle.vault_core.specs.Lives.{setting_in}
 use Rattle.vault_core.specs.Isolation.{AgreeAt, AgreeFor, StepsAreIsolated}
 use Rattle.vault_core.specs.Keys.{Bytes}
 use Rattle.vault_core.specs.Merchants.{granting, withdrawal}
@@ -15,13 +16,14 @@ use Rattle.vault_core.specs.Table.{outcome, token_request}
 use Rattle.vault_core.specs.Vault.{Vault, merchant_at}
 use Rattle.vault_core.specs.declared.limit.TheConstants.{MOST_MERCHANTS}
 use Rattle.vault_core.specs.declared.command.Command.{Command}
-use Rattle.vault_core.specs.declared.command.Command.TheVariants.{SetMerchant, Grant, Withdraw, Tokenize}
+use Rattle.vault_core.specs.declared.command.Command.TheVariants.{Grant, Withdraw, Tokenize}
 use Rattle.vault_core.specs.declared.command.Command.TheVariants.{Detokenize, View, Revoke, Purge, Audit}
 use Rattle.vault_core.specs.declared.right.Right.TheVariants as right
 use Rattle.vault_core.proofs.Alike.{Alike, alike-of_merchant, alike-on_token, alike-refused, alike-set}
 use Rattle.vault_core.proofs.Alike.{alike-grant, alike-withdraw, alike-denied, alike-redeemed, alike-shown}
 use Rattle.vault_core.proofs.Alike.{alike-retired, alike-purged, alike-counted}
 use Rattle.vault_core.proofs.Finds.{some_same}
+use Rattle.vault_core.proofs.Setting.{at_setting, if_setting}
 use Rattle.vault_core.proofs.TokenizeAlike.{alike-tokenize}
 
 -- the caller whose record a command can write
@@ -31,22 +33,20 @@ writer_of c = None
 
 -- a new merchant is refused in both vaults or in neither
 abbrev pub HaveSameRoom : Command → Vault → Vault → Type 0
-HaveSameRoom (SetMerchant m single multi lead now) V W =
-    merchant_at V m ≡ None
-    → nat_lt (map.len V.merchants) MOST_MERCHANTS ≡ nat_lt (map.len W.merchants) MOST_MERCHANTS
-HaveSameRoom c V W = Unit {0}
+HaveSameRoom c V W = IfSome (setting_in c) (λ set. merchant_at V set.0 ≡ None
+    → nat_lt (map.len V.merchants) MOST_MERCHANTS ≡ nat_lt (map.len W.merchants) MOST_MERCHANTS)
 
 -- the vaults agree on the records of the caller whose record a command can write
 abbrev pub AgreeForWriter : Command → Vault → Vault → Type 0
 AgreeForWriter c V W = (caller : Bytes) → writer_of c ≡ Some caller → AgreeFor caller V W
 
--- each command, in two vaults
-pub alike : (V W : Vault) (c : Command) → AgreeAt (merchant_of c) V W → AgreeForWriter c V W
-    → HaveSameRoom c V W
+-- a command has alike outcomes in two vaults that agree on what it reads
+abbrev IsAlikeIn : Vault → Vault → Command → Type 0
+IsAlikeIn V W c = AgreeAt (merchant_of c) V W → AgreeForWriter c V W → HaveSameRoom c V W
     → Alike (merchant_of c) (writer_of c) V W (outcome V c) (outcome W c)
-alike V W (SetMerchant m single multi lead now) agree records room =
-    alike-set m None V W agree (handed_lives single multi lead now) (merchant_at V m) (merchant_at W m)
-    agree.merchant room
+
+-- each command, in two vaults
+pub alike : (V W : Vault) (c : Command) → IsAlikeIn V W c
 alike V W (Grant caller m right until now) agree records room =
     alike-of_merchant m None V W agree (λ U. granting U caller m right until now)
     (alike-grant m None V W agree caller right until now)
@@ -76,6 +76,10 @@ alike V W (Purge caller m token now) agree records room =
 alike V W (Audit caller m now) agree records room =
     alike-of_merchant m None V W agree (λ U. totals U caller m now)
     (alike-counted m None V W agree caller now)
+alike V W c agree records room =
+    at_setting (IsAlikeIn V W)
+    (λ m x agree records room. alike-set m None V W agree x (merchant_at V m) (merchant_at W m)
+    agree.merchant room) c refl agree records room
 
 -- a writer is the command's caller
 writer-is_caller : (c : Command) (writer caller : Bytes) → writer_of c ≡ Some writer
@@ -85,8 +89,7 @@ writer-is_caller c writer caller e f = absurd (cc)
 
 -- whoever sets merchants is no caller, so a caller's command finds the same room
 caller-room : (V W : Vault) (c : Command) (caller : Bytes) → caller_of c ≡ Some caller → HaveSameRoom c V W
-caller-room V W (SetMerchant m single multi lead now) caller e = absurd (cc)
-caller-room V W c caller e = tt
+caller-room V W c caller e = if_setting _ c (λ m x is. let clash = sym e ∙ ap caller_of is in absurd (cc))
 
 pub steps_isolated : StepsAreIsolated
 steps_isolated V W c caller is agree records =

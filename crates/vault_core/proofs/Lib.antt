@@ -15,6 +15,7 @@ pub mod Recorded
 pub mod Redeemed
 pub mod Repeats
 pub mod RunsIsolated
+pub mod Setting
 pub mod Shown
 pub mod SoundMoved
 pub mod SoundRedeem

@@ -1,6 +1,6 @@
 -- What was answered to a request is answered again.
 use Rattle.std.proofs.Common.{◌≡◌, ℕ, Bool, true, false, cond, Option, Some, None, List, [], ◌∷◌, not}
-use Rattle.std.proofs.Common.{is_none, refl, sym, ap, ◌∙◌, subst, inl, inr, ◌==◌, ◌&&◌, nat_lt}
+use Rattle.std.proofs.Common.{is_none, refl, sym, ap, ◌∙◌, subst, inl, inr, ◌==◌, ◌&&◌}
 use Rattle.std.specs.Option.{option_map_or}
 use Rattle.std.specs.FinMap as map
 use Rattle.std.specs.Cmp.{first_so, second_so, tied_itself}
@@ -10,8 +10,7 @@ use Rattle.vault_pan.specs.CardText.{same, fits}
 use Rattle.vault_core.specs.Draw.{chosen_token}
 use Rattle.vault_core.specs.Keys.{Bytes, bytes_cmp}
 use Rattle.vault_core.specs.Laws.{IsSameRequest, RepeatsAnswerFirst}
-use Rattle.vault_core.specs.Lives.{handed_lives, new_merchant}
-use Rattle.vault_core.specs.Merchants.{granting, withdrawal, set_from, set_to}
+use Rattle.vault_core.specs.Merchants.{granting, withdrawal}
 use Rattle.vault_core.specs.Named.{token_command}
 use Rattle.vault_core.specs.Outcome.{Outcome, plain_reply, plain_refusal, of_merchant, entry_change}
 use Rattle.vault_core.specs.Proper.{AllProper}
@@ -25,14 +24,13 @@ use Rattle.vault_core.specs.Tokens.{earlier_request, repetition, new_request, to
 use Rattle.vault_core.specs.Tokens.{drawing, new_entry, life_asked, tokenize}
 use Rattle.vault_core.specs.Vault.{Vault, Merchant, merchant_at, entry_at, record_at, entitled, made_count}
 use Rattle.vault_core.specs.Vault.{time_at, state_of}
-use Rattle.vault_core.specs.declared.limit.TheConstants.{MOST_MERCHANTS, MOST_TOKENS, MOST_COUNT}
+use Rattle.vault_core.specs.declared.limit.TheConstants.{MOST_TOKENS, MOST_COUNT}
 use Rattle.vault_core.specs.declared.command.Command.{Command}
-use Rattle.vault_core.specs.declared.command.Command.TheVariants.{SetMerchant, Grant, Withdraw, Tokenize}
+use Rattle.vault_core.specs.declared.command.Command.TheVariants.{Grant, Withdraw, Tokenize}
 use Rattle.vault_core.specs.declared.command.Command.TheVariants.{Detokenize, View, Revoke, Purge, Audit}
 use Rattle.vault_core.specs.declared.command.TokenCommand.{TokenCommand}
 use Rattle.vault_core.specs.declared.command.TokenRequest.{TokenRequest}
 use Rattle.vault_core.specs.Refusals.{no_merchant, no_right, wrong_use, number_reused, full, no_candidate}
-use Rattle.vault_core.specs.Refusals.{too_many_merchants}
 use Rattle.vault_core.specs.declared.reply.Reply.{Reply}
 use Rattle.vault_core.specs.declared.reply.Reply.TheVariants.{Token, Refused, Counts}
 use Rattle.vault_core.specs.declared.reply.State.TheVariants.{Live, Expired, Revoked}
@@ -43,6 +41,7 @@ use Rattle.vault_core.specs.declared.row.EntryState.TheVariants.{Kept, Purged}
 use Rattle.vault_core.specs.declared.row.Record.{Record}
 use Rattle.vault_core.specs.declared.usage.Use.{Use}
 use Rattle.vault_core.specs.declared.usage.Use.TheVariants.{Single, Multi}
+use Rattle.vault_core.proofs.Setting.{at_setting, by_set}
 use Rattle.vault_core.proofs.Branches.{by_test, by_option}
 use Rattle.vault_core.proofs.CurrentLemmas.{current-some, same-is}
 use Rattle.vault_core.proofs.DrawLemmas.{chosen-is_good}
@@ -315,15 +314,6 @@ KeepsAfter V o = Keeps V o.after
 
 -- a command keeps records and entries
 pub keeps-after : (V : Vault) → Sound V → (c : Command) → Keeps V (after V c)
-keeps-after V s (SetMerchant m single multi lead now) = set-keeps (merchant_at V m)
-  where
-    set-keeps : (o : Option Merchant) → Keeps V (set_from V m (handed_lives single multi lead now) o).after
-    set-keeps None =
-        by_test (KeepsAfter V) (nat_lt (map.len V.merchants) MOST_MERCHANTS)
-        (set_to V m (new_merchant (handed_lives single multi lead now)))
-        (plain_refusal V too_many_merchants)
-        (λ _. keeps-row V _) (λ _. keeps-refl V)
-    set-keeps (Some known) = keeps-row V _
 keeps-after V s (Grant caller m right until now) =
     by_option (KeepsAfter V) (merchant_at V m) (granting V caller m right until now)
     (plain_refusal V no_merchant)
@@ -406,6 +396,9 @@ keeps-after V s (Audit caller m now) =
     (plain_refusal V no_right) (plain_reply V (Counts (made_count V m) known.given known.denied))
     (λ _. keeps-refl V) (λ _. keeps-refl V))
     (λ _. keeps-refl V)
+keeps-after V s c = at_setting (λ set. Keeps V (after V set))
+    (λ m x. by_set (KeepsAfter V) V m x (merchant_at V m)
+    (λ _. keeps-row V _) (λ _. keeps-refl V) (λ known. keeps-row V _)) c refl
 
 remembered : (V : Vault) → Sound V → (cs : List Command) → AllProper cs
     → (a : TokenRequest) (token : Bytes) (expires : ℕ)

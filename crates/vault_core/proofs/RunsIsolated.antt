@@ -6,7 +6,7 @@ use Rattle.std.proofs.lemmas.Bool.Decides.{nat_tests}
 use Rattle.vault_core.specs.Isolation.{AgreeAt, AgreeFor, EachAtOneMerchant, HasRoomForMerchants}
 use Rattle.vault_core.specs.Isolation.{RunsAreIsolated, names, naming, replies_naming}
 use Rattle.vault_core.specs.Keys.{Bytes}
-use Rattle.vault_core.specs.Lives.{handed_lives, new_merchant}
+use Rattle.vault_core.specs.Lives.{new_merchant, setting}
 use Rattle.vault_core.specs.Merchants.{set_from, set_to}
 use Rattle.vault_core.specs.Named.{merchant_of}
 use Rattle.vault_core.specs.Outcome.{plain_refusal}
@@ -16,9 +16,11 @@ use Rattle.vault_core.specs.Table.{command_of, token_request, reply, after}
 use Rattle.vault_core.specs.Vault.{Vault, merchant_at}
 use Rattle.vault_core.specs.declared.limit.TheConstants.{MOST_MERCHANTS}
 use Rattle.vault_core.specs.declared.command.Command.{Command}
-use Rattle.vault_core.specs.declared.command.Command.TheVariants.{SetMerchant, Tokenize}
+use Rattle.vault_core.specs.declared.command.Command.TheVariants.{Tokenize}
 use Rattle.vault_core.specs.declared.command.TokenRequest.{TokenRequest}
 use Rattle.vault_core.specs.declared.reply.Reply.TheVariants.{Refused}
+use Rattle.vault_core.specs.declared.row.Lives.{Lives}
+use Rattle.vault_core.proofs.Setting.{if_setting}
 use Rattle.vault_core.proofs.Agree.{agree-refl, agree-sym, agree-trans}
 use Rattle.vault_core.proofs.CurrentLemmas.{same-is}
 use Rattle.vault_core.proofs.Finds.{some_same}
@@ -44,26 +46,26 @@ fewer-room v w le h = grind (arith, nat_tests)
 -- where a merchant isn't refused in a vault, it isn't in one with no more merchants
 same-room : (V W : Vault) (c : Command) → map.len W.merchants ≤ map.len V.merchants
     → reply V c ≢ Refused too_many_merchants → HaveSameRoom c V W
-same-room V W (SetMerchant m single multi lead now) le room =
-    λ none. go none (nat_lt (map.len V.merchants) MOST_MERCHANTS) refl
+same-room V W c le room =
+    if_setting _ c
+    (λ m x is none. go m x is none (nat_lt (map.len V.merchants) MOST_MERCHANTS) refl)
   where
-    refusal : merchant_at V m ≡ None → nat_lt (map.len V.merchants) MOST_MERCHANTS ≡ false
-        → reply V (SetMerchant m single multi lead now) ≡ Refused too_many_merchants
-    refusal none full =
-        ap (λ o. (set_from V m (handed_lives single multi lead now) o).reply) none
-        ∙ ap (λ b. (cond b (set_to V m (new_merchant (handed_lives single multi lead now)))
-        (plain_refusal V too_many_merchants)).reply) full
+    refusal : (m : Bytes) (x : Lives) → merchant_at V m ≡ None
+        → nat_lt (map.len V.merchants) MOST_MERCHANTS ≡ false
+        → reply V (setting m x) ≡ Refused too_many_merchants
+    refusal m x none full =
+        ap (λ o. (set_from V m x o).reply) none
+        ∙ ap (λ b. (cond b (set_to V m (new_merchant x)) (plain_refusal V too_many_merchants)).reply) full
 
-    go : merchant_at V m ≡ None → (b : Bool) → nat_lt (map.len V.merchants) MOST_MERCHANTS ≡ b
+    go : (m : Bytes) (x : Lives) → c ≡ setting m x → merchant_at V m ≡ None
+        → (b : Bool) → nat_lt (map.len V.merchants) MOST_MERCHANTS ≡ b
         → nat_lt (map.len V.merchants) MOST_MERCHANTS ≡ nat_lt (map.len W.merchants) MOST_MERCHANTS
-    go none true below = below ∙ sym (fewer-room _ _ le below)
-    go none false full = absurd (room (refusal none full))
-same-room V W c le room = tt
+    go m x is none true below = below ∙ sym (fewer-room _ _ le below)
+    go m x is none false full = absurd (room (ap (reply V) is ∙ refusal m x none full))
 
 -- one vault finds the same room as itself
 own-room : (V : Vault) (c : Command) → HaveSameRoom c V V
-own-room V (SetMerchant m single multi lead now) = λ none. refl
-own-room V c = tt
+own-room V c = if_setting _ c (λ m x is none. refl)
 
 each_later : (c : Command) (cs : List Command) → EachAtOneMerchant (c ∷ cs) → EachAtOneMerchant cs
 each_later c cs each a b x y =

@@ -28,10 +28,7 @@ shows_merchant V s a w row shows is = go (merchant_at V a.merchant) refl
           known,
           record {
             known_as = h;
-            single = cc;
-            multi = cc;
-            lead = cc;
-            moment = cc;
+            lives = cc;
             made_is = cc;
             right = shows.right ∙ ap (entitled V a.caller a.merchant right.Tokenize)
                 (moment_known V a.merchant known a.moment h);
@@ -39,6 +36,6 @@ shows_merchant V s a w row shows is = go (merchant_at V a.merchant) refl
                 (current V a.merchant a.pan
                 (option_map_or (λ merchant. time_at merchant a.moment) o a.moment))) h;
             candidate = shows.candidate;
-            life = life-bounds a.usage known.single_life known.multi_life old.single old.multi;
+            life = life-bounds a.usage known.single_life known.multi_life old.lives.0 old.lives.1;
           },
         )

@@ -32,8 +32,7 @@ sound-moved V s m known now is moment =
     known-set V s m known (record known { moment = time_at known now }) is
     (record {
       name = old.name;
-      single = old.single;
-      multi = old.multi;
+      lives = old.lives;
       moment = omega arith;
       given = old.given;
       denied = old.denied;

@@ -61,8 +61,7 @@ sound-detokenize V s t moment =
     known-set V s t.merchant known (merchant_after_denial known t.moment) e
     (record {
       name = old.name;
-      single = old.single;
-      multi = old.multi;
+      lives = old.lives;
       moment = omega arith;
       given = old.given;
       denied = below known.denied old.denied room;
@@ -75,8 +74,7 @@ sound-detokenize V s t moment =
     known-set V s t.merchant known (merchant_after_gift known t.moment) e
     (record {
       name = old.name;
-      single = old.single;
-      multi = old.multi;
+      lives = old.lives;
       moment = omega arith;
       given = below known.given old.given room;
       denied = old.denied;

@@ -14,7 +14,7 @@ use Rattle.vault_pan.proofs.DrawLemmas.{candidate_digits-fits, candidate_digits-
 use Rattle.vault_core.specs.Draw.{chosen_token, candidates, is_good}
 use Rattle.vault_core.specs.Keys.{Bytes}
 use Rattle.vault_core.specs.Laws.{StaysSound}
-use Rattle.vault_core.specs.Lives.{handed_lives, new_merchant, with_lives}
+use Rattle.vault_core.specs.Lives.{AreLives, new_merchant, with_lives}
 use Rattle.vault_core.specs.Merchants.{granting, set_from, set_to}
 use Rattle.vault_core.specs.Name.{IsName}
 use Rattle.vault_core.specs.Named.{token_command}
@@ -30,7 +30,7 @@ use Rattle.vault_core.specs.Vault.{Vault, Merchant, merchant_at, entry_at, recor
 use Rattle.vault_core.specs.Vault.{time_at, life_for}
 use Rattle.vault_core.specs.declared.limit.TheConstants.{MOST_MERCHANTS, MOST_TOKENS}
 use Rattle.vault_core.specs.declared.command.Command.{Command}
-use Rattle.vault_core.specs.declared.command.Command.TheVariants.{SetMerchant, Grant, Withdraw, Tokenize}
+use Rattle.vault_core.specs.declared.command.Command.TheVariants.{Grant, Withdraw, Tokenize}
 use Rattle.vault_core.specs.declared.command.Command.TheVariants.{Detokenize, View, Revoke, Purge, Audit}
 use Rattle.vault_core.specs.declared.command.TokenRequest.{TokenRequest}
 use Rattle.vault_core.specs.Refusals.{no_merchant, no_right, wrong_use, number_reused, full, no_candidate}
@@ -42,6 +42,7 @@ use Rattle.vault_core.specs.declared.right.Right.TheVariants as right
 use Rattle.vault_core.specs.declared.row.Entry.{Entry}
 use Rattle.vault_core.specs.declared.usage.Use.{Use}
 use Rattle.vault_core.specs.declared.usage.Use.TheVariants.{Single, Multi}
+use Rattle.vault_core.proofs.Setting.{at_setting}
 use Rattle.vault_core.proofs.Branches.{by_test, by_option}
 use Rattle.vault_core.proofs.CurrentLemmas.{current-none, current-some, same-is}
 use Rattle.vault_core.proofs.DrawLemmas.{chosen-is_good}
@@ -72,11 +73,10 @@ at_most false n = omega arith
 below-true : (a b : ℕ) → nat_lt a b ≡ true → a < b
 below-true a b h = grind (arith, nat_tests)
 
-sound-set : (V : Vault) → Sound V → (m : Bytes) (x : Lives) → IsName m
-    → IsLife x.single_life → IsLife x.multi_life → IsMoment x.moment
+sound-set : (V : Vault) → Sound V → (m : Bytes) (x : Lives) → IsName m → AreLives x → IsMoment x.moment
     → (o : Option Merchant) → merchant_at V m ≡ o
     → SoundAfter (set_from V m x o)
-sound-set V s m x name life life' moment None e =
+sound-set V s m x name lives moment None e =
     by_test SoundAfter (nat_lt (map.len V.merchants) MOST_MERCHANTS)
     (set_to V m (new_merchant x)) (plain_refusal V too_many_merchants)
     (λ few.
@@ -86,8 +86,7 @@ sound-set V s m x name life life' moment None e =
     sound-merchant V s m (new_merchant x)
     (record {
       name = name;
-      single = life;
-      multi = life';
+      lives = lives;
       moment = moment;
       given = omega arith;
       denied = omega arith;
@@ -95,15 +94,14 @@ sound-set V s m x name life life' moment None e =
     (λ old at. let clash = sym e ∙ at in cc)
     (omega (arith, count, most, below)))
     (λ many. s)
-sound-set V s m x name life life' moment (Some known) e =
+sound-set V s m x name lives moment (Some known) e =
     let old = s.merchants m known e in
     let before = old.moment in
     known-set V s m known
     (with_lives (record x { moment = time_at known x.moment }) known) e
     (record {
       name = old.name;
-      single = life;
-      multi = life';
+      lives = lives;
       moment = omega arith;
       given = old.given;
       denied = old.denied;
@@ -190,7 +188,7 @@ sound-new V s a p known is offered none room token drew =
     let good = chosen-is_good V a.merchant a.pan a.digits token drew in
     let shape = chosen-fits V a.merchant a.pan a.digits token p.4 p.3.0 drew in
     let lives = not-zero (life_asked a known) offered in
-    let short = life-bounds a.usage known.single_life known.multi_life old.single old.multi in
+    let short = life-bounds a.usage known.single_life known.multi_life old.lives.0 old.lives.1 in
     let few = not-full (made_count V a.merchant) (s.made_few a.merchant) room in
     let later : Merchant = record known { moment = time_at known a.moment } in
     let fine : IsSoundEntry token (new_entry a known) later = record {
@@ -263,8 +261,6 @@ sound-tokenize V s a p =
     offered known = cond (life_asked a known == 0) (plain_refusal V wrong_use) (given known)
 
 pub sound-after : (V : Vault) → Sound V → (c : Command) → IsProper c → Sound (after V c)
-sound-after V s (SetMerchant m single multi lead now) p =
-    sound-set V s m (handed_lives single multi lead now) p.0 p.1 p.2 p.3 (merchant_at V m) refl
 sound-after V s (Grant caller m right until now) p = sound-grant V s caller m right until now p.0 p.2 p.3
 sound-after V s (Withdraw caller m right now) p = sound-withdraw V s caller m right now p.2
 sound-after V s (Tokenize caller m request usage pan digits now) p =
@@ -277,6 +273,8 @@ sound-after V s (Revoke caller m token now) p =
 sound-after V s (Purge caller m token now) p =
     sound-purge V s (token_command caller m token right.Purge now) p.3
 sound-after V s (Audit caller m now) p = sound-audit V s caller m now
+sound-after V s c p = at_setting (λ set. IsProper set → Sound (after V set))
+    (λ m x q. sound-set V s m x q.0 q.1 q.2 (merchant_at V m) refl) c refl p
 
 pub stays_sound : StaysSound
 stays_sound V [] s p = s

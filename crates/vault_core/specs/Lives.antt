@@ -1,7 +1,9 @@
 -- A merchant without its counts: how long its tokens live, how many digits its masks show, and its moment.
-use Rattle.std.specs.Prelude.{ℕ}
+use Rattle.std.specs.Prelude.{ℕ, Option, Some, None}
 use Rattle.vault_pan.specs.declared.lead.Lead.{Lead}
+use Rattle.vault_pan.specs.declared.lead.Lead.TheVariants.{Six}
 use Rattle.vault_core.specs.Keys.{Bytes}
+use Rattle.vault_core.specs.Scalar.{IsLife}
 use Rattle.vault_core.specs.Vault.{Merchant}
 use Rattle.vault_core.specs.declared.command.Command.{Command}
 use Rattle.vault_core.specs.declared.command.Command.TheVariants.{SetMerchant}
@@ -13,9 +15,22 @@ abbrev pub handed_lives : ℕ → ℕ → Lead → ℕ → Lives
 handed_lives single multi lead now =
     record { single_life = single; multi_life = multi; moment = now; lead = lead }
 
+-- those of masks with six digits at the left
+abbrev pub usual_lives : ℕ → ℕ → ℕ → Lives
+usual_lives single multi now = handed_lives single multi Six now
+
 -- the command that sets a merchant to these
 abbrev pub setting : Bytes → Lives → Command
 setting m x = SetMerchant m x.single_life x.multi_life x.lead x.moment
+
+-- the merchant that a command sets, and to which lives, where it is a SetMerchant
+abbrev pub setting_in : Command → Option (Bytes × Lives)
+setting_in (SetMerchant m single multi lead now) = Some (m, handed_lives single multi lead now)
+setting_in c = None
+
+-- the lives of both uses are lives
+abbrev pub AreLives : Lives → Type 0
+AreLives x = IsLife x.single_life × IsLife x.multi_life
 
 -- those of a merchant
 abbrev pub lives_in : Merchant → Lives

@@ -2,6 +2,7 @@
 use Rattle.std.specs.Prelude.{List, [], ◌∷◌, IfSome}
 use Rattle.vault_pan.specs.CardText.{IsPan, IsToken}
 use Rattle.vault_pan.specs.Draw.{IsDrawing}
+use Rattle.vault_core.specs.Lives.{AreLives, handed_lives, setting_in}
 use Rattle.vault_core.specs.Name.{IsName}
 use Rattle.vault_core.specs.Named.{token_command_in}
 use Rattle.vault_core.specs.Scalar.{IsLife, IsMoment, IsRequest}
@@ -12,8 +13,7 @@ use Rattle.vault_core.specs.declared.command.TokenCommand.{TokenCommand}
 
 -- the lives that a SetMerchant sets are lives
 abbrev pub HasLivesInRange : Command → Type 0
-HasLivesInRange (SetMerchant m single multi lead now) = IsLife single × IsLife multi
-HasLivesInRange c = Unit {0}
+HasLivesInRange c = IfSome (setting_in c) (λ set. IsLife set.1.single_life × IsLife set.1.multi_life)
 
 -- the parts of a command on a token are values of their types
 abbrev pub IsProperOnToken : TokenCommand → Type 0
@@ -22,7 +22,8 @@ IsProperOnToken t = IsName t.caller × IsName t.merchant × IsToken t.token × I
 -- the parts of a command are values of their types, as the code's own types say of all but the lives; the
 -- last row is that of the commands on a token
 abbrev pub IsProper : Command → Type 0
-IsProper (SetMerchant m single multi lead now) = IsName m × IsLife single × IsLife multi × IsMoment now
+IsProper (SetMerchant m single multi lead now) =
+    IsName m × AreLives (handed_lives single multi lead now) × IsMoment now
 IsProper (Grant caller m right until now) = IsName caller × IsName m × IfSome until IsMoment × IsMoment now
 IsProper (Withdraw caller m right now) = IsName caller × IsName m × IsMoment now
 IsProper (Tokenize caller m request usage pan digits now) =

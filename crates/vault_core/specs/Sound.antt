@@ -3,9 +3,10 @@ use Rattle.std.specs.Prelude.{◌≡◌, ℕ, ◌+◌, ◌<◌, ◌≤◌, ◌�
 use Rattle.std.specs.FinMap as map
 use Rattle.vault_pan.specs.CardText.{IsPan, IsToken, fits}
 use Rattle.vault_core.specs.Keys.{Bytes}
+use Rattle.vault_core.specs.Lives.{AreLives, lives_in}
 use Rattle.vault_core.specs.Name.{IsName}
 use Rattle.vault_core.specs.Repeats.{is_reusable}
-use Rattle.vault_core.specs.Scalar.{IsMoment, IsLife, IsRequest}
+use Rattle.vault_core.specs.Scalar.{IsMoment, IsRequest}
 use Rattle.vault_core.specs.Vault.{Vault, Merchant, merchant_at, entry_at, record_at, right_at, made_count}
 use Rattle.vault_core.specs.declared.limit.TheConstants.{MOST_MERCHANTS, MOST_TOKENS, MOST_COUNT}
 use Rattle.vault_core.specs.declared.limit.TheConstants.{LONGEST_LIFE}
@@ -21,8 +22,7 @@ IsCount n = n ≤ MOST_COUNT
 -- a merchant's name is a name; its lives, its moment and its counts are within their limits
 pub record IsSoundMerchant (m : Bytes) (merchant : Merchant) : Type 0 where
   pub name : IsName m
-  pub single : IsLife merchant.single_life
-  pub multi : IsLife merchant.multi_life
+  pub lives : AreLives (lives_in merchant)
   pub moment : IsMoment merchant.moment
   pub given : IsCount merchant.given
   pub denied : IsCount merchant.denied

@@ -4,7 +4,7 @@ use Rattle.std.specs.Option.{option_map_or}
 use Rattle.std.specs.FinMap as map
 use Rattle.vault_core.specs.Draw.{chosen_token}
 use Rattle.vault_core.specs.Keys.{Bytes}
-use Rattle.vault_core.specs.Lives.{counted_row, lives_in}
+use Rattle.vault_core.specs.Lives.{counted_row, lives_in, row_lives}
 use Rattle.vault_core.specs.Named.{token_command_in}
 use Rattle.vault_core.specs.Repeats.{record_with_entry, current, reusable}
 use Rattle.vault_core.specs.Scalar.{IsLife}
@@ -77,10 +77,7 @@ empty_window =
 pub record ShowsMerchant (V : Vault) (a : TokenRequest) (known : Merchant) (w : Window)
     (row : MerchantRow) : Type 0 where
   pub known_as : merchant_at V a.merchant ≡ Some known
-  pub single : row.single_life ≡ known.single_life
-  pub multi : row.multi_life ≡ known.multi_life
-  pub lead : row.lead ≡ known.lead
-  pub moment : row.moment ≡ known.moment
+  pub lives : row_lives row ≡ lives_in known
   pub made_is : row.made ≡ made_count V a.merchant
   pub right : w.right ≡ entitled V a.caller a.merchant right.Tokenize (time_at known a.moment)
   pub held : w.current ≡ reusable a.usage (current V a.merchant a.pan (time_at known a.moment))

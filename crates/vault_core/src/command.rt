@@ -1,5 +1,6 @@
 //! The commands of a vault.
 ghost use Rattle.std.specs.Prelude.{IsTrue, IfSome, ◌↔◌, ◌≡◌};
+ghost use Rattle.vault_core.specs.Lives.{setting as setting_lem};
 ghost use Rattle.vault_core.specs.Name.{IsName};
 ghost use Rattle.vault_core.specs.Scalar.{IsMoment};
 ghost use Rattle.vault_core.specs.Named.{token_command_in};
@@ -10,6 +11,7 @@ use crate::moment::Moment;
 use crate::name::{Caller, MerchantId};
 use crate::request::RequestNo;
 use crate::right::Right;
+use crate::row::Lives;
 use crate::usage::Use;
 use vault_pan::draw::Digits;
 use vault_pan::lead::Lead;
@@ -112,6 +114,19 @@ pub struct TokenCommand {
 
 impl Command {
     ghost use Rattle.vault_core.specs.Proper.{HasLivesInRange, IsProper};
+
+    /// The SetMerchant that sets a merchant to these lives, at their moment.
+    pub fn setting(merchant: MerchantId, lives: Lives) -> Command
+        ensures { result ≡ setting_lem merchant lives }
+    {
+        Command::SetMerchant {
+            merchant,
+            single_life: lives.single_life,
+            multi_life: lives.multi_life,
+            lead: lives.lead,
+            now: lives.moment,
+        }
+    }
 
     /// Whether the lives of a SetMerchant are at most the longest one; true of every other command.
     pub fn proper(&self) -> bool

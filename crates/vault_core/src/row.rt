@@ -1,6 +1,6 @@
 //! The rows of a vault.
 ghost use Rattle.std.specs.Prelude.{◌≡◌};
-ghost use Rattle.vault_core.specs.Lives.{counted_row, row_lives};
+ghost use Rattle.vault_core.specs.Lives.{counted_row, row_lives, usual_lives};
 ghost use Rattle.vault_core.specs.Vault.{lasts, state_of};
 
 use crate::moment::Moment;
@@ -37,6 +37,18 @@ pub struct Lives {
 }
 
 impl Lives {
+    /// These lives of tokens, in seconds, with masks of six digits at the left.
+    pub fn usual(single_life: u64, multi_life: u64, moment: Moment) -> Lives
+        ensures { result ≡ usual_lives single_life multi_life moment }
+    {
+        Lives {
+            single_life,
+            multi_life,
+            moment,
+            lead: Lead::Six,
+        }
+    }
+
     /// The row of a merchant with these and its counts.
     pub fn row(&self, made: u64, given: u64, denied: u64) -> MerchantRow
         ensures { result ≡ counted_row self.now made given denied }

@@ -23,8 +23,8 @@ use Rattle.vault_verdict.specs.Opened.{IsFit, IsNoRefusal, Opens, StandsSound}
 use Rattle.vault_verdict.specs.declared.fault.OpenFault.{OpenFault}
 use Rattle.vault_verdict.specs.declared.fault.OpenFault.TheVariants.{WrongSchema, Damaged, Memory, Store}
 use Rattle.vault_file.proofs.Reopened.{some_again}
-use Rattle.vault_migrate.proofs.Moving.{never_blank, one_version}
-use Rattle.vault_schema.proofs.Newest.{held_by_newest, held_in_newest}
+use Rattle.vault_migrate.proofs.Moving.{never_blank}
+use Rattle.vault_schema.proofs.Newest.{held_by_newest, held_in_newest, one_version}
 use Rattle.vault_schema.specs.declared.version.Version.{Version}
 use Rattle.vault_schema.specs.Stands.{newest}
 use Rattle.vault_verdict.proofs.Judged.{full_in}

@@ -1,5 +1,5 @@
 //! The file at a path moves to the newest schema.
-ghost use Rattle.std.specs.Prelude.{◌≡◌, ◌≢◌, ◌↔◌, ℕ, ℤ, pos, None, Err, IfOk, IfErr, IfSome, IsErrAnd};
+ghost use Rattle.std.specs.Prelude.{◌≡◌, ◌≢◌, ◌↔◌, ℕ, ℤ, None, Err, IfOk, IfErr, IfSome, IsErrAnd};
 ghost use Rattle.sqlite.specs.Files.{file_state};
 ghost use Rattle.sqlite.specs.State.{HasCleanDisk};
 ghost use Rattle.sqlite.specs.View.{IsClean};
@@ -12,6 +12,7 @@ ghost use Rattle.vault_file.specs.Moved.{LeavesOld, MayFindOlder, MovesAs, Moves
 ghost use Rattle.vault_file.specs.Paths.{Each};
 ghost use Rattle.vault_file.specs.Reopened.{KeepsIn, KeepsSome};
 ghost use Rattle.vault_migrate.specs.Moved.{FindsBroken, FindsVersion};
+ghost use Rattle.vault_schema.specs.Versions.{newest, number_of};
 ghost use Rattle.vault_schema.specs.declared.version.Version.{Version};
 
 use crate::fault::NotOpened;
@@ -23,7 +24,7 @@ use vault_recover::options::Cache;
 use vault_recover::reopen::close;
 use vault_verdict::fault::OpenFault;
 
-/// Moves the file at a path to the newest schema, and answers its version, 4. The connection is given back,
+/// Moves the file at a path to the newest schema, and answers its version. The connection is given back,
 /// and with a refusal where there is one. The file keeps its mode; one that isn't there is made, as
 /// `open_from` makes it, and gets the tables of the empty vault.
 ///
@@ -37,7 +38,7 @@ pub fn migrate_from<P: Paths>(
     (NotOpened, Option<Connection<FileStore<P::Disk>>>),
 >
     ensures no_path { IsNoPath path.now → IsErrAnd result (λ e. e.0 ≡ NotOpened.Refused) }
-    ensures version { IfOk result (λ told. told.0 ≡ pos 4) }
+    ensures version { IfOk result (λ told. told.0 ≡ number_of newest) }
     ensures moved { IfOk result
         (λ told. Each (P.holds paths path.now) (λ image. MovesFrom image told.1)) }
     ensures refused { IfErr result (λ e. (e.0 ≡ NotOpened.Refused) ↔ (e.1 ≡ None)) }
@@ -87,7 +88,7 @@ pub fn migrate_file<P: Paths>(
     ensures no_path { IsNoPath path.now → result.0 ≡ Err NotOpened.Refused }
     ensures refused { (result.1 ≡ None) ↔ (result.0 ≡ Err NotOpened.Refused) }
     ensures refused_there { result.0 ≡ Err NotOpened.Refused → P.refuses paths path.now }
-    ensures version { IfOk result.0 (λ version. version ≡ pos 4) }
+    ensures version { IfOk result.0 (λ version. version ≡ number_of newest) }
     ensures moved { IfOk result.0 (λ _. IfSome result.1
         (λ left. Each (P.holds paths path.now) (λ image. MovesAs image left))) }
     ensures left { IfErr result.0 (λ why. IfSome result.1

@@ -3,11 +3,11 @@ use Rattle.std.specs.Prelude.{◌≡◌, ℕ, ◌==◌, List, [], ◌∷◌, ◌
 use Rattle.std.specs.Prelude.{Ok, Err, if◌then◌else◌}
 use Rattle.std.specs.List.{flat_map, list_any}
 use Rattle.vault_core.specs.Runs.{run}
-use Rattle.vault_core.specs.Table.{reply}
 use Rattle.vault_core.specs.Vault.{Vault as Content}
 use Rattle.vault_core.specs.declared.command.Command.{Command}
 use Rattle.vault_core.specs.declared.reply.Reply.{Reply}
-use Rattle.vault_core.specs.declared.reply.Reply.TheVariants.{Refused}
+use Rattle.vault_engine.specs.Asking.{Kind, kind}
+pub use Rattle.vault_engine.specs.Asking.{Pair, commands_in, reply_to}
 use Rattle.vault_wire.specs.Answer.{answer_bytes}
 use Rattle.vault_wire.specs.Faults.{number_of}
 use Rattle.vault_wire.specs.Messages.{Request}
@@ -17,10 +17,6 @@ use Rattle.vault_routes.specs.Reply.{body_text, refusal_text}
 use Rattle.vault_routes.specs.Status.{status_for, status_of}
 use Rattle.vault_routes.specs.Route.{methods_at}
 use Rattle.vault_routes.specs.Wanted.{Wanted, Wants}
-
--- a moment, and drawn digits
-abbrev pub Pair : Type 0
-Pair = ℕ × List ℕ
 
 -- a message by its parts, and what it asks for: a command, or the number of a refusal
 pub record Exchange : Type 0 where
@@ -39,11 +35,6 @@ AskFirst ps (pair ∷ pairs) [] = ⊥
 AskFirst [] (pair ∷ pairs) (x ∷ xs) = ⊥
 AskFirst (p ∷ ps) (pair ∷ pairs) (x ∷ xs) = Asks p pair x × AskFirst ps pairs xs
 
--- the command that is asked for, where there is one
-abbrev pub commands_in : Wanted Command → List Command
-commands_in (Ok c) = c ∷ []
-commands_in (Err n) = []
-
 -- the commands that are asked for
 abbrev pub commands_of : List Exchange → List Command
 commands_of xs = flat_map (λ x. commands_in x.wanted) xs
@@ -52,21 +43,22 @@ commands_of xs = flat_map (λ x. commands_in x.wanted) xs
 unfoldable pub vault_after : Content → List Exchange → Content
 vault_after V xs = run (commands_of xs) V
 
--- a command is answered by the vault, and a refusal of the message by its number
-abbrev pub reply_to : Content → Wanted Command → Reply
-reply_to V (Ok c) = reply V c
-reply_to V (Err n) = Refused n
-
 -- the methods that a message's target takes, which go with the refusal of another method
 abbrev pub methods_with : Parts → Wanted Command → Option (List ℕ)
 methods_with p (Ok c) = None
 methods_with p (Err n) = if n == 57 then methods_at p.target else None
 
+-- the text that answers a message which asks for this and is replied to so
+abbrev pub answer_for : Parts → Wanted Command → Reply → List ℕ
+answer_for p wanted r = answer_bytes (status_of r) (methods_with p wanted) (body_text r) (closes p)
+
+-- messages, and the texts that answer them
+abbrev pub messages : Kind Parts
+messages = kind (λ p pair. Wants p pair.0 pair.1) answer_for
+
 -- the text that answers a message
 unfoldable pub text_at : Content → Exchange → List ℕ
-text_at V x =
-    let r : Reply = reply_to V x.wanted in
-    answer_bytes (status_of r) (methods_with x.parts x.wanted) (body_text r) (closes x.parts)
+text_at V x = answer_for x.parts x.wanted (reply_to V x.wanted)
 
 -- the texts that answer messages, each by the vault that those before it leave
 abbrev pub texts : Content → List Exchange → List ℕ

@@ -1,5 +1,8 @@
 -- Why a service stops.
-use Rattle.std.specs.Prelude.{◌≡◌, ℕ, Bool, true, Result, Ok, Err}
+use Rattle.std.specs.Prelude.{◌≡◌, ℕ, true, Result, Ok, Err}
+pub use Rattle.vault_engine.specs.Stops.{Failures, failures}
+use Rattle.vault_engine.specs.declared.stop.Stop.{Stop}
+use Rattle.vault_engine.specs.declared.stop.Stop.TheVariants as stop
 use Rattle.vault_http.specs.declared.fault.ServeFault.{ServeFault}
 use Rattle.vault_http.specs.declared.fault.ServeFault.TheVariants.{Source, Read, Write, Store, Memory}
 
@@ -11,16 +14,13 @@ number_of Write = 62
 number_of Store = 63
 number_of Memory = 64
 
--- which of the four that a service stands on have failed: the source refused, the reader or the writer
--- failed, the vault is broken
-pub record Failures : Type 0 where
-  pub source : Bool
-  pub reader : Bool
-  pub writer : Bool
-  pub vault : Bool
-
-abbrev pub failures : Bool → Bool → Bool → Bool → Failures
-failures s r w v = record { source = s; reader = r; writer = w; vault = v }
+-- the fault of a service that stops at a message
+abbrev pub fault_of : Stop → ServeFault
+fault_of stop.Source = Source
+fault_of stop.Read = Read
+fault_of stop.Write = Write
+fault_of stop.Store = Store
+fault_of stop.Memory = Memory
 
 -- a fault comes exactly where its own one fails: that one has failed now, and all else is as it was
 abbrev pub Tells : {X : Type 0} → Result X ServeFault → Failures → Failures → Type 0

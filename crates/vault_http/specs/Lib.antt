@@ -1,7 +1,6 @@
 pub mod Exchanges
 pub mod Faults
 pub mod Laws
-pub mod Outcomes
 pub mod Passing
 pub mod Refusing
 pub mod Served

@@ -1,59 +1,11 @@
 -- What messages leave of a vault, a source and a writer, and what a stop leaves of them.
-use Rattle.std.specs.Prelude.{◌≡◌, ℕ, ◌<◌, ◌≤◌, ◌⊎◌, List, [], ◌∷◌, ◌++◌, length, take, Option}
-use Rattle.std.specs.Io.KnownBytes.{Appends}
+use Rattle.std.specs.Prelude.{◌≡◌, ℕ, ◌<◌, ◌≤◌, ◌⊎◌, List, [], ◌∷◌, ◌++◌, length, take}
 use Rattle.vault_core.specs.Vault.{Vault as Content}
-use Rattle.vault_store.specs.Applied.{Contains, tables_of}
-use Rattle.vault_store.specs.declared.vault.Vault.{Vault}
+pub use Rattle.vault_engine.specs.Passing.{Passage, passing, Takes, Sends, Keeps, IsBefore}
 use Rattle.vault_wire.specs.Parts.{Parts}
-use Rattle.vault_wire.specs.Watching.{inner_of}
-use Rattle.vault_wire.specs.declared.watched.Watched.{Watched}
 use Rattle.vault_http.specs.Exchanges.{Pair, Exchange, AskFirst, vault_after, text_at, texts}
 use Rattle.vault_http.specs.declared.fault.ServeFault.{ServeFault}
 use Rattle.vault_http.specs.declared.fault.ServeFault.TheVariants as fault
-
--- What is seen before and after a call: the pairs that a source gave, the bytes that a writer took, the
--- vaults that tables hold, and what a crash may leave of them. What is said of tables has the premise that
--- the disk is honest.
-pub record Passage : Type 1 where
-  pub given_old : List Pair
-  pub given_new : List Pair
-  pub sent_old : Option (List ℕ)
-  pub sent_new : Option (List ℕ)
-  pub honest : Type 0
-  pub held_old : Content → Type 0
-  pub held_new : Content → Type 0
-  pub left_new : Content → Content → Type 0
-
--- the passage of a source, a writer and a vault over tables
-abbrev pub passing : {S W T : Type 0} → (S → List Pair) → S → S
-    → (W → Option (List ℕ)) → Watched W → Watched W
-    → (T → Type 0) → (T → Content → Type 0) → (T → Content → Content → Type 0) → Vault T → Vault T → Passage
-passing given s s' contents w w' honest holds leaves v v' = record {
-  given_old = given s;
-  given_new = given s';
-  sent_old = contents (inner_of w);
-  sent_new = contents (inner_of w');
-  honest = honest (tables_of v');
-  held_old = Contains holds v;
-  held_new = Contains holds v';
-  left_new = leaves (tables_of v');
-}
-
--- in the call the source gave these pairs
-abbrev pub Takes : Passage → List Pair → Type 0
-Takes w pairs = w.given_new ≡ w.given_old ++ pairs
-
--- in the call the writer took these bytes
-abbrev pub Sends : Passage → List ℕ → Type 0
-Sends w bytes = Appends w.sent_old w.sent_new bytes
-
--- the tables hold this vault, and a crash leaves it alone
-abbrev pub Keeps : Passage → Content → Type 0
-Keeps w V = w.held_new V × w.left_new V V
-
--- the vault before the call
-abbrev pub IsBefore : Passage → Content → Type 0
-IsBefore w V = w.honest × w.held_old V
 
 -- the exchanges are answered: their texts went out, and the vault after them is kept
 abbrev pub Answered : Passage → List Exchange → Type 0

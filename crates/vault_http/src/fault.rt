@@ -3,6 +3,7 @@ ghost use Rattle.std.specs.Prelude.{◌≡◌};
 
 use crate::refusal::{READ, SOURCE, STORE, WRITE};
 use std::alloc::AllocError;
+use vault_engine::stop::Stop;
 use vault_routes::refusal::MEMORY;
 
 /// Why a service stopped before the end of its connection.
@@ -45,5 +46,22 @@ impl From<AllocError> for ServeFault {
 
     fn from(_refused: AllocError) -> ServeFault {
         ServeFault::Memory
+    }
+}
+
+impl From<Stop> for ServeFault {
+    ghost use Rattle.std.specs.Prelude.{◌≡◌};
+    ghost use Rattle.vault_http.specs.Faults.{fault_of};
+
+    ghost from_gives = { λ stop fault. fault ≡ fault_of stop };
+
+    fn from(stop: Stop) -> ServeFault {
+        match stop {
+            Stop::Source => ServeFault::Source,
+            Stop::Read => ServeFault::Read,
+            Stop::Write => ServeFault::Write,
+            Stop::Store => ServeFault::Store,
+            Stop::Memory => ServeFault::Memory,
+        }
     }
 }

@@ -7,3 +7,4 @@ pub mod laws;
 pub mod refusal;
 pub mod serve;
 pub mod served;
+mod unit;

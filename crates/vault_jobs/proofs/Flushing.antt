@@ -5,7 +5,8 @@ use Rattle.vault_http.specs.Exchanges.{last_text, texts}
 use Rattle.vault_http.specs.Passing.{Passage}
 use Rattle.vault_http.specs.Served.{IsServed}
 use Rattle.vault_http.specs.declared.served.Served.{Served}
-use Rattle.vault_batch.specs.Lines.{first_line, lines}
+use Rattle.vault_batch.specs.Batched.{lines}
+use Rattle.vault_batch.specs.Lines.{first_line}
 use Rattle.vault_batch.specs.Stops.{IsBatched}
 use Rattle.vault_batch.specs.declared.asker.Asker.{Asker}
 use Rattle.vault_batch.specs.declared.counts.Counts.{Counts}

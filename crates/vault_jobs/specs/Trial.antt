@@ -2,11 +2,11 @@
 use Rattle.std.specs.Prelude.{◌≡◌, ℕ, List, [], ◌∷◌, ◌++◌, length, map, take, false}
 use Rattle.std.specs.Prelude.{Option, Some, None}
 use Rattle.std.specs.Io.KnownBytes.{Appends, Consumes, IsAtEnd}
-use Rattle.vault_pan.specs.declared.lead.Lead.TheVariants.{Six}
+use Rattle.vault_core.specs.Lives.{setting, usual_lives}
 use Rattle.vault_core.specs.Table.{after}
 use Rattle.vault_core.specs.Vault.{Vault as Content, empty_vault}
 use Rattle.vault_core.specs.declared.command.Command.{Command}
-use Rattle.vault_core.specs.declared.command.Command.TheVariants.{SetMerchant, Grant}
+use Rattle.vault_core.specs.declared.command.Command.TheVariants.{Grant}
 use Rattle.vault_core.specs.declared.right.Right.{Right}
 use Rattle.vault_core.specs.declared.right.Right.TheVariants.{Tokenize, Detokenize, View}
 use Rattle.vault_core.specs.declared.right.Right.TheVariants.{Revoke, Purge, Audit}
@@ -39,7 +39,7 @@ grants caller m now rights = map (λ right. Grant caller m right None now) right
 -- at the left, where the caller has all rights
 abbrev pub trial_vault : List ℕ → List ℕ → ℕ → ℕ → Content
 trial_vault caller m life now =
-    left_by_all empty_vault (SetMerchant m life 0 Six now ∷ grants caller m now all_rights)
+    left_by_all empty_vault (setting m (usual_lives life 0 now) ∷ grants caller m now all_rights)
 
 -- The bytes that were read are messages, and an open rest or a fault. All messages up to the first that
 -- closes are asked, each with a pair of the fixed moment and digits, where these are fixed, or else of

@@ -18,10 +18,10 @@ use vault_core::command::Command;
 use vault_core::moment::Moment;
 use vault_core::name::{Caller, MerchantId};
 use vault_core::right::Right;
+use vault_core::row::Lives;
 use vault_http::fault::ServeFault;
 use vault_live::time::Timekeeper;
 use vault_pan::draw::Digits;
-use vault_pan::lead::Lead;
 use vault_store::memory::MemTables;
 use vault_store::vault::{Fault, Vault};
 use vault_wire::watched::Watched;
@@ -67,13 +67,7 @@ pub fn trial_vault(alloc: Global, trial: &Trial) -> Result<Vault<MemTables>, All
     ensures unbroken { IfOk result (λ vault. is_broken vault ≡ false) }
 {
     let mut vault = Vault::new(MemTables::new(alloc));
-    let set = Command::SetMerchant {
-        merchant: trial.merchant,
-        single_life: trial.life,
-        multi_life: 0,
-        lead: Lead::Six,
-        now: trial.made,
-    };
+    let set = Command::setting(trial.merchant, Lives::usual(trial.life, 0, trial.made));
     change(&mut vault, &set)?;
     give(&mut vault, trial, Right::Tokenize)?;
     give(&mut vault, trial, Right::Detokenize)?;

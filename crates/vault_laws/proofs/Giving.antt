@@ -6,7 +6,6 @@ use Rattle.std.specs.FinMap as map
 use Rattle.std.specs.Option.{option_map_or}
 use Rattle.vault_core.specs.Draw.{chosen_token}
 use Rattle.vault_core.specs.Keys.{Bytes}
-use Rattle.vault_core.specs.Lives.{handed_lives, new_merchant}
 use Rattle.vault_core.specs.Merchants.{granting, withdrawal, set_from, set_to}
 use Rattle.vault_core.specs.Named.{token_command}
 use Rattle.vault_core.specs.Outcome.{Outcome, plain_reply, plain_refusal, of_merchant, of_token}
@@ -25,7 +24,7 @@ use Rattle.vault_core.specs.Vault.{is_live, made_count, state_of, time_at}
 use Rattle.vault_core.specs.Yields.{gives_number}
 use Rattle.vault_core.specs.declared.limit.TheConstants.{MOST_COUNT, MOST_MERCHANTS, MOST_TOKENS}
 use Rattle.vault_core.specs.declared.command.Command.{Command}
-use Rattle.vault_core.specs.declared.command.Command.TheVariants.{SetMerchant, Grant, Withdraw, Tokenize}
+use Rattle.vault_core.specs.declared.command.Command.TheVariants.{Grant, Withdraw, Tokenize}
 use Rattle.vault_core.specs.declared.command.Command.TheVariants.{Detokenize, View, Revoke, Purge, Audit}
 use Rattle.vault_core.specs.declared.command.TokenCommand.{TokenCommand}
 use Rattle.vault_core.specs.declared.command.TokenRequest.{TokenRequest}
@@ -37,6 +36,7 @@ use Rattle.vault_core.specs.declared.row.Entry.{Entry}
 use Rattle.vault_core.specs.declared.row.EntryState.{EntryState}
 use Rattle.vault_core.specs.declared.row.Lives.{Lives}
 use Rattle.vault_core.specs.declared.row.EntryState.TheVariants.{Kept, Purged}
+use Rattle.vault_core.proofs.Setting.{at_setting, by_set}
 use Rattle.vault_core.proofs.Branches.{by_test, by_option}
 use Rattle.vault_core.proofs.Redeemed.{kept-has, moment_known}
 use Rattle.vault_core.proofs.Walks.{by_token}
@@ -45,12 +45,6 @@ use Rattle.vault_laws.specs.Giving.{AsksForDue}
 -- no number is given
 abbrev Gives : Outcome → Type 0
 Gives o = gives_number o.reply ≡ false
-
-quiet-set : (V : Content) (m : Bytes) (x : Lives) (o : Option Merchant) → Gives (set_from V m x o)
-quiet-set V m x (Some old) = refl
-quiet-set V m x None =
-    by_test Gives (nat_lt (map.len V.merchants) MOST_MERCHANTS) (set_to V m (new_merchant x))
-    (plain_refusal V too_many_merchants) (λ _. refl) (λ _. refl)
 
 quiet-tokenize : (V : Content) (a : TokenRequest) → Gives (tokenize V a)
 quiet-tokenize V a =
@@ -175,8 +169,6 @@ module _ (V : Content) (caller m token : Bytes) (now : ℕ) (number : Bytes) whe
 -- each command
 pub only_due : (V : Content) (c : Command) (number : Bytes) → reply V c ≡ Number number
     → AsksForDue V c number
-only_due V (SetMerchant m single multi lead now) number is =
-    absurd (not_given _ number (quiet-set V m (handed_lives single multi lead now) (merchant_at V m)) is)
 only_due V (Grant caller m right until now) number is =
     absurd (not_given _ number (by_option Gives (merchant_at V m) (granting V caller m right until now)
     (plain_refusal V no_merchant) (λ _ _. refl) (λ _. refl)) is)
@@ -226,3 +218,6 @@ only_due V (Audit caller m now) number is =
     (plain_refusal V no_right) (plain_reply V (Counts (made_count V m) known.given known.denied))
     (λ _. refl) (λ _. refl))
     (λ _. refl)) is)
+only_due V c number is = at_setting (λ set. reply V set ≡ Number number → AsksForDue V set number)
+    (λ m x set. absurd (not_given _ number
+    (by_set Gives V m x (merchant_at V m) (λ _. refl) (λ _. refl) (λ _. refl)) set)) c refl is

@@ -148,11 +148,10 @@ body_tells (Number other) number e =
     let cut : other ++ codes "\"}" ≡ number ++ codes "\"}" =
     append_cancel_left (codes "{\"number\":\"") (other ++ codes "\"}") (number ++ codes "\"}") e in
     ap Number (append_cancel_right other number (codes "\"}") cut)
-body_tells (Shown masked usage birth expires state) number e =
-    absurd (unlike 98 110 refl (ap (λ (t : List ℕ). get_or t 2 0) e))
 body_tells (Counts made given denied) number e =
     absurd (unlike 100 110 refl (ap (λ (t : List ℕ). get_or t 2 0) e))
 body_tells (Refused n) number e = absurd (unlike 114 110 refl (ap (λ (t : List ℕ). get_or t 2 0) e))
+body_tells shown number e = absurd (unlike 98 110 refl (ap (λ (t : List ℕ). get_or t 2 0) e))
 
 of_body : (r : Reply) (number : Bytes) (j k : Bool)
     → answer_bytes 200 None (body_text r) j ≡ number_text number k → (r ≡ Number number) × (j ≡ k)
@@ -162,14 +161,9 @@ of_body r number j k e =
 
 tells : (r : Reply) (number : Bytes) (j k : Bool)
     → answer_bytes (status_of r) None (body_text r) j ≡ number_text number k → (r ≡ Number number) × (j ≡ k)
-tells Done number j k e = of_body Done number j k e
-tells (Token token expires) number j k e = of_body (Token token expires) number j k e
-tells (Number other) number j k e = of_body (Number other) number j k e
-tells (Shown masked usage birth expires state) number j k e =
-    of_body (Shown masked usage birth expires state) number j k e
-tells (Counts made given denied) number j k e = of_body (Counts made given denied) number j k e
 tells (Refused n) number j k e =
     absurd ((refused_status n).apart None (refusal_text n) (body_text (Number number)) j k e)
+tells r number j k e = of_body r number j k e
 
 tells_wanted : (V : Content) (p : Parts) (w : Wanted Command) (number : Bytes) (close : Bool)
     → text_at V (record { parts = p; wanted = w }) ≡ number_text number close

@@ -11,18 +11,19 @@ use Rattle.sql_maps.specs.States.{LeavesNoMore}
 use Rattle.vault_core.specs.Vault.{Vault}
 use Rattle.vault_migrate.specs.Moved.{FindsBroken, FindsVersion, IsMovable, IsNoOlder, IsOlder}
 use Rattle.vault_migrate.specs.Moved.{IsSoundWhereFull, LeavesIn}
-use Rattle.vault_schema.proofs.Newest.{held_by_newest, ours_in_newest}
+use Rattle.vault_schema.proofs.Newest.{held_by_newest, newest_is, one_version, ours_in_newest}
 use Rattle.vault_schema.proofs.Versions.{last_commit}
 use Rattle.vault_schema.specs.Holds.{Holds, HoldsIn, LeavesEither}
+use Rattle.vault_schema.specs.Layers.{Either, is_from}
 use Rattle.vault_schema.specs.Left.{left_after}
 use Rattle.vault_schema.specs.Schema.{newest_schema}
 use Rattle.vault_schema.specs.Stands.{lookups_of, newest}
 use Rattle.vault_schema.specs.Versioned.{HasVersion}
-use Rattle.vault_schema.specs.Versions.{IsOf, number_of, schema_of}
+use Rattle.vault_schema.specs.Versions.{IsOf, schema_of}
 use Rattle.vault_schema.specs.declared.version.Version.{Version}
-use Rattle.vault_schema.specs.declared.version.Version.TheVariants.{One, Two, Three, Four}
 use Rattle.vault_verdict.proofs.InVersion.{has_version_in}
-use Rattle.vault_verdict.proofs.Judged.{full_of, no_refusal_in}
+use Rattle.vault_verdict.proofs.Full.{full_of}
+use Rattle.vault_verdict.proofs.Judged.{no_refusal_in}
 use Rattle.vault_verdict.proofs.Results.{if_err}
 use Rattle.vault_verdict.specs.Opened.{IsBrokenIn, IsFit, IsLeastBroken, IsNoRefusal, IsVersionIn, IsWrong}
 use Rattle.vault_verdict.specs.Opened.{LeavesFound, StandsSoundIn}
@@ -31,39 +32,22 @@ use Rattle.vault_verdict.specs.Reading.{IsFull, IsQuietWhere}
 use Rattle.vault_verdict.specs.declared.fault.OpenFault.{OpenFault}
 use Rattle.vault_verdict.specs.declared.fault.OpenFault.TheVariants.{WrongSchema, Damaged}
 
--- ---- the schemas differ in how many tables they have
+-- ---- which version it is
 
 many : (s t : Schema) → s ≡ t → length s.tables ≡ length t.tables
 many s t same = ap (λ (x : Schema). length x.tables) same
 
--- a schema is that of one version
-pub one_version : (v w : Version) → schema_of v ≡ schema_of w → v ≡ w
-one_version One One same = refl
-one_version One Two same = let e = many _ _ same in absurd (omega (arith, e))
-one_version One Three same = let e = many _ _ same in absurd (omega (arith, e))
-one_version One Four same = let e = many _ _ same in absurd (omega (arith, e))
-one_version Two One same = let e = many _ _ same in absurd (omega (arith, e))
-one_version Two Two same = refl
-one_version Two Three same = let e = many _ _ same in absurd (omega (arith, e))
-one_version Two Four same = let e = many _ _ same in absurd (omega (arith, e))
-one_version Three One same = let e = many _ _ same in absurd (omega (arith, e))
-one_version Three Two same = let e = many _ _ same in absurd (omega (arith, e))
-one_version Three Three same = refl
-one_version Three Four same = let e = many _ _ same in absurd (omega (arith, e))
-one_version Four One same = let e = many _ _ same in absurd (omega (arith, e))
-one_version Four Two same = let e = many _ _ same in absurd (omega (arith, e))
-one_version Four Three same = let e = many _ _ same in absurd (omega (arith, e))
-one_version Four Four same = refl
-
+-- a version has tables
 pub never_blank : (v : Version) → schema_of v ≡ no_schema → ⊥
 never_blank v same = let e = many _ _ same in absurd (omega (arith, e))
 
 -- a version is older or the newest
 older_or : (v : Version) → IsOlder v ⊎ (v ≡ newest)
-older_or One = inl tt
-older_or Two = inl tt
-older_or Three = inl tt
-older_or Four = inr refl
+older_or v =
+    elim (is_from newest v) as (λ b. is_from newest v ≡ b → Either b ⊥ (Unit {0}) ⊎ (v ≡ newest)) [
+      | true ↦ λ from. inr (newest_is v from)
+      | false ↦ λ before. inl tt
+    ] refl
 
 -- an older version isn't the newest
 pub newest_older : (v : Version) → IsOlder v → v ≡ newest → ⊥

@@ -9,8 +9,8 @@ use Rattle.vault_core.specs.Vault.{Vault, Merchant, merchant_at}
 use Rattle.vault_core.specs.declared.right.Right.{Right}
 use Rattle.vault_verdict.proofs.Backs.{same_count}
 use Rattle.vault_schema.proofs.Version1.Codes as codes
-use Rattle.vault_schema.proofs.Version3.Codes as three
-use Rattle.vault_schema.proofs.Version4.Codes as four
+use Rattle.vault_schema.proofs.Version3 as three
+use Rattle.vault_schema.proofs.Version4 as four
 use Rattle.vault_schema.specs.Versions.{Stand}
 use Rattle.vault_schema.specs.declared.version.Version.{Version}
 use Rattle.vault_steps.proofs.OneStand.{one_stand}

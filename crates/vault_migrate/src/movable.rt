@@ -17,7 +17,7 @@ use crate::typed::typed_entries;
 use sqlite::{Alter, Connection};
 use sqlite_schema::schema::Schema;
 use std::alloc::Global;
-use vault_schema::version::Version;
+use vault_schema::version::{NEWEST, Version};
 use vault_steps::entries::Piece;
 use vault_verdict::fault::OpenFault;
 use vault_verdict::verdict::{Judged, verdict};
@@ -29,8 +29,8 @@ pub(crate) fn older_in(schema: &Schema) -> Option<Version>
     ensures none { IfNone result ((v : Version) → IsOlder v → ¬ (schema.now ≡ schema_of v)) }
 {
     match Version::of(schema) {
-        Some(Version::Four) => None,
-        found => found,
+        Some(found) if !found.is_from(NEWEST) => Some(found),
+        _ => None,
     }
 }
 

@@ -8,10 +8,12 @@ use Rattle.std.proofs.lemmas.List.Elements.{All-cons, All-head, All-nil, All-tai
 use Rattle.std.specs.Io.KnownBytes.{Appends}
 use Rattle.std.specs.Prelude.{All}
 use Rattle.std.specs.Str.Parse.{digits_value}
-use Rattle.vault_batch.proofs.Lining.{lines-more, lines-nil, vault_after-nil}
-use Rattle.vault_batch.specs.Asking.{Asked, Asks, Wants}
-use Rattle.vault_batch.specs.Batched.{line_at, pairs_of, rows_of}
-use Rattle.vault_batch.specs.Lines.{commands_of, first_line, lines, vault_after}
+use Rattle.vault_batch.specs.Asking.{Asked, Asks, Wants, rows_by}
+use Rattle.vault_batch.specs.Batched.{line_at, lines, rows_of}
+use Rattle.vault_batch.specs.Lines.{first_line}
+use Rattle.vault_engine.proofs.Listing.{texts-more, vault_after-nil}
+use Rattle.vault_engine.specs.Answered.{pairs_of}
+use Rattle.vault_engine.specs.Asking.{commands_of, vault_after}
 use Rattle.vault_batch.specs.Rows.{BeginRecordsOf, Fields, Row, fields_in, header}
 use Rattle.vault_batch.specs.Rows.{records_with}
 use Rattle.vault_batch.specs.Stops.{IsBatched, Stops}
@@ -66,8 +68,8 @@ rows_proper : (who : Asker) (now : Option ℕ) (digits : Option (List ℕ)) (xs 
 rows_proper who now digits [] named at of asked = tt
 rows_proper who now digits (x ∷ xs) named at of asked =
     proper-append (commands_in x.wanted) (commands_of xs)
-    (row_proper who x.row x.pair now digits x.wanted named at
-    (All-head (IsPairOf now digits) x.pair (pairs_of xs) of) (All-head (Asks who) x xs asked).1)
+    (row_proper who x.unit x.pair now digits x.wanted named at
+    (All-head (IsPairOf now digits) x.pair (pairs_of xs) of) (All-head (Asks who) x xs asked))
     (rows_proper who now digits xs named at (All-tail (IsPairOf now digits) x.pair (pairs_of xs) of)
     (All-tail (Asks who) x xs asked))
 
@@ -94,20 +96,20 @@ has_rows s xs it = inr ([], subst (CameIn s) (sym (append-nil (records_with (row
 
 -- and with those of one more
 has_one : (s : Streams) (xs : List Asked) (x : Asked)
-    → BeginRecordsOf s.left_old (records_with (rows_of xs) ++ fields_in x.row ∷ [])
+    → BeginRecordsOf s.left_old (records_with (rows_of xs) ++ fields_in x.unit ∷ [])
     → (xs ++ x ∷ [] ≡ []) ⊎ ((more : List Fields) × CameIn s (records_with (rows_of (xs ++ x ∷ [])) ++ more))
 has_one s xs x it =
     has_rows s (xs ++ x ∷ [])
     (inr (subst (λ rs. BeginRecordsOf s.left_old rs) (sym (records-more xs x)) it))
   where
     records-more : (ys : List Asked) (y : Asked)
-        → records_with (rows_of (ys ++ y ∷ [])) ≡ records_with (rows_of ys) ++ fields_in y.row ∷ []
+        → records_with (rows_of (ys ++ y ∷ [])) ≡ records_with (rows_of ys) ++ fields_in y.unit ∷ []
     records-more ys y = ap (λ rs. fields_in header ∷ rs) (rows-more ys)
       where
         rows-more : (zs : List Asked)
-            → map fields_in (rows_of (zs ++ y ∷ [])) ≡ map fields_in (rows_of zs) ++ fields_in y.row ∷ []
+            → map fields_in (rows_of (zs ++ y ∷ [])) ≡ map fields_in (rows_of zs) ++ fields_in y.unit ∷ []
         rows-more [] = refl
-        rows-more (z ∷ zs) = ap (λ rs. fields_in z.row ∷ rs) (rows-more zs)
+        rows-more (z ∷ zs) = ap (λ rs. fields_in z.unit ∷ rs) (rows-more zs)
 
 module _ (who : Asker) (now : Option ℕ) (digits : Option (List ℕ)) (named : IsName who.caller)
     (at : IsName who.merchant) (w : Passage) (V : Content) (b : IsBefore w V) (s : Streams) (F : Type 0) where
@@ -132,7 +134,8 @@ module _ (who : Asker) (now : Option ℕ) (digits : Option (List ℕ)) (named : 
       let line = line_at (vault_after V xs) x in
       let so_far = first_line ++ lines V xs in
       let all : first_line ++ lines V (xs ++ x ∷ []) ≡ so_far ++ line =
-      ap (λ t. first_line ++ t) (lines-more V xs x) ∙ sym (append_assoc first_line (lines V xs) line) in
+      ap (λ t. first_line ++ t) (texts-more (rows_by who) V xs x)
+      ∙ sym (append_assoc first_line (lines V xs) line) in
       let cut : take (length so_far + n) (first_line ++ lines V (xs ++ x ∷ []))
       ≡ first_line ++ lines V xs ++ take n line =
       ap (λ t. take (length so_far + n) t) all ∙ take-append-add so_far line n
@@ -168,15 +171,14 @@ module _ (who : Asker) (now : Option ℕ) (digits : Option (List ℕ)) (named : 
     none : Went [] → w.left_new V V → Goal
     none went left =
         answered [] (inl refl) (All-nil (IsPairOf now digits)) (All-nil (Asks who)) went
-        (subst (λ W. w.left_new W W) (sym (vault_after-nil V)) left)
+        (subst (λ W. w.left_new W W) (sym (vault_after-nil Row V)) left)
 
     quiet_went : Appends s.sent_old s.sent_new [] → Went []
     quiet_went went = (0, went)
 
     first_went : (n : ℕ) → n < length first_line → Appends s.sent_old s.sent_new (take n first_line) → Went []
     first_went n part went =
-        let all : first_line ++ lines V [] ≡ first_line =
-        ap (λ t. first_line ++ t) (lines-nil V) ∙ append-nil first_line in
+        let all : first_line ++ lines V [] ≡ first_line = append-nil first_line in
         (n, subst (λ t. Appends s.sent_old s.sent_new (take n t)) (sym all) went)
 
     -- the pairs of the rows before one
@@ -190,7 +192,7 @@ module _ (who : Asker) (now : Option ℕ) (digits : Option (List ℕ)) (named : 
 
     -- some rows are answered, and one more is undecided
     torn : (xs : List Asked) (x : Asked)
-        → BeginRecordsOf s.left_old (records_with (rows_of xs) ++ fields_in x.row ∷ [])
+        → BeginRecordsOf s.left_old (records_with (rows_of xs) ++ fields_in x.unit ∷ [])
         → All (IsPairOf now digits) (pairs_of (xs ++ x ∷ []))
         → All (Asks who) (xs ++ x ∷ []) → Appends s.sent_old s.sent_new (first_line ++ lines V xs)
         → w.left_new (vault_after V xs) (vault_after V (xs ++ x ∷ [])) → Goal
@@ -207,7 +209,7 @@ module _ (who : Asker) (now : Option ℕ) (digits : Option (List ℕ)) (named : 
             subst (λ ys. All (Asks who) ys) (take-append_seam xs (x ∷ []))
                 (All-take (Asks who) (length xs) (xs ++ x ∷ []) asked),
             refl,
-            record { records = inr (fields_in x.row ∷ [], inr records); fixed = first_pairs xs x of },
+            record { records = inr (fields_in x.unit ∷ [], inr records); fixed = first_pairs xs x of },
             all_went xs went,
           );
           done = λ _. tt;

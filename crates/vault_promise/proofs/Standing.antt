@@ -15,7 +15,7 @@ use Rattle.vault_core.specs.declared.reply.Reply.{Reply}
 use Rattle.vault_core.specs.declared.reply.Reply.TheVariants.{Token}
 use Rattle.std.proofs.lemmas.Grind.{flat_map-append}
 use Rattle.vault_batch.specs.Asking.{Asked}
-use Rattle.vault_batch.specs.Lines as rows
+use Rattle.vault_engine.specs.Asking as rows
 use Rattle.vault_http.specs.Exchanges.{commands_in, commands_of}
 use Rattle.vault_recover.specs.Histories.{Answered, IsHistory, Step, last}
 use Rattle.vault_listen.specs.Peers.{Link}

@@ -6,8 +6,8 @@ use Rattle.std.specs.Prelude.{IfSome, codes}
 use Rattle.std.specs.FinMap as map
 use Rattle.std.specs.Global.{Vec}
 use Rattle.vault_rights.specs.Named.{Row}
+use Rattle.vault_core.proofs.Setting.{at_setting, by_set}
 use Rattle.vault_core.proofs.Branches.{by_option, by_test}
-use Rattle.vault_core.specs.Lives.{handed_lives, new_merchant}
 use Rattle.vault_core.specs.Merchants.{granting, set_from, set_to, withdrawal}
 use Rattle.vault_core.specs.Outcome.{Outcome, plain_refusal}
 use Rattle.vault_core.specs.Proper.{AllProper, IsProper}
@@ -16,7 +16,7 @@ use Rattle.vault_core.specs.Runs.{run}
 use Rattle.vault_core.specs.Table.{reply}
 use Rattle.vault_core.specs.Vault.{Merchant, Vault as Content, merchant_at}
 use Rattle.vault_core.specs.declared.command.Command.{Command}
-use Rattle.vault_core.specs.declared.command.Command.TheVariants.{SetMerchant, Grant, Withdraw, Tokenize}
+use Rattle.vault_core.specs.declared.command.Command.TheVariants.{Grant, Withdraw, Tokenize}
 use Rattle.vault_core.specs.declared.command.Command.TheVariants.{Detokenize, View, Revoke, Purge, Audit}
 use Rattle.vault_core.specs.declared.limit.TheConstants.{MOST_MERCHANTS}
 use Rattle.vault_http.specs.Passing.{IsBefore, Passage}
@@ -57,27 +57,21 @@ HasVerdict o = (v : Verdict) × (o.reply ≡ reply_of v)
 
 -- a command of the words is done or refused
 own_verdict : (V : Content) (c : Command) → IsOwn c → (v : Verdict) × (reply V c ≡ reply_of v)
-own_verdict V (SetMerchant m single multi lead now) own = set_verdict (merchant_at V m)
-  where
-    set_verdict : (o : Option Merchant) → HasVerdict (set_from V m (handed_lives single multi lead now) o)
-    set_verdict None =
-        by_test HasVerdict (nat_lt (map.len V.merchants) MOST_MERCHANTS)
-        (set_to V m (new_merchant (handed_lives single multi lead now)))
-        (plain_refusal V too_many_merchants)
-        (λ _. (verdict.Done, refl)) (λ _. (verdict.Refused too_many_merchants, refl))
-    set_verdict (Some known) = (verdict.Done, refl)
 own_verdict V (Grant caller m right until now) own =
     by_option HasVerdict (merchant_at V m) (granting V caller m right until now) (plain_refusal V no_merchant)
     (λ _ _. (verdict.Done, refl)) (λ _. (verdict.Refused no_merchant, refl))
 own_verdict V (Withdraw caller m right now) own =
     by_option HasVerdict (merchant_at V m) (withdrawal V caller m right now) (plain_refusal V no_merchant)
     (λ _ _. (verdict.Done, refl)) (λ _. (verdict.Refused no_merchant, refl))
-own_verdict V (Tokenize caller m request usage pan digits now) own = absurd own
-own_verdict V (Detokenize caller m token now) own = absurd own
-own_verdict V (View caller m token now) own = absurd own
-own_verdict V (Revoke caller m token now) own = absurd own
-own_verdict V (Purge caller m token now) own = absurd own
-own_verdict V (Audit caller m now) own = absurd own
+own_verdict V (Tokenize caller m request usage pan digits now) own = absurd (cc)
+own_verdict V (Detokenize caller m token now) own = absurd (cc)
+own_verdict V (View caller m token now) own = absurd (cc)
+own_verdict V (Revoke caller m token now) own = absurd (cc)
+own_verdict V (Purge caller m token now) own = absurd (cc)
+own_verdict V (Audit caller m now) own = absurd (cc)
+own_verdict V c own = at_setting (λ set. (v : Verdict) × (reply V set ≡ reply_of v))
+    (λ m x. by_set HasVerdict V m x (merchant_at V m) (λ _. (verdict.Done, refl))
+    (λ _. (verdict.Refused too_many_merchants, refl)) (λ _. (verdict.Done, refl))) c refl
 
 module _ (w : Passage) (V : Content) (b : IsBefore w V) (s : Streams) (unsent : Type 0)
     (quiet : unsent → IsQuiet s) (F : Type 0) where

@@ -14,7 +14,9 @@ use Rattle.vault_core.specs.declared.command.TokenRequest.{TokenRequest}
 use Rattle.vault_core.specs.declared.reply.Reply.{Reply}
 use Rattle.vault_core.specs.declared.reply.Reply.TheVariants.{Token}
 use Rattle.vault_batch.specs.Asking.{Asked}
-use Rattle.vault_batch.specs.Lines.{first_line, lines, vault_after as vault_after_rows}
+use Rattle.vault_batch.specs.Batched.{lines}
+use Rattle.vault_batch.specs.Lines.{first_line}
+use Rattle.vault_engine.specs.Asking.{vault_after as vault_after_rows}
 use Rattle.vault_http.specs.Exchanges.{Exchange, last_text, texts, vault_after}
 use Rattle.vault_wire.specs.declared.fault.WireFault.{WireFault}
 use Rattle.vault_listen.specs.Peers.{Link}

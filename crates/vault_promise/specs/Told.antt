@@ -15,9 +15,10 @@ use Rattle.vault_live.specs.Live.{IsPairOf}
 use Rattle.vault_wire.specs.Messages.{Request}
 use Rattle.vault_wire.specs.declared.fault.WireFault.{WireFault}
 use Rattle.vault_batch.specs.Asking.{Asked, Asks}
-use Rattle.vault_batch.specs.Batched.{pairs_of, rows_of}
-use Rattle.vault_batch.specs.Lines.{first_line, lines}
-use Rattle.vault_batch.specs.Lines as rows
+use Rattle.vault_batch.specs.Batched.{lines, rows_of}
+use Rattle.vault_batch.specs.Lines.{first_line}
+use Rattle.vault_engine.specs.Answered.{pairs_of}
+use Rattle.vault_engine.specs.Asking as rows
 use Rattle.vault_batch.specs.Rows.{AreRecordsOf, BeginRecordsOf, Fields, records_with}
 use Rattle.vault_listen.specs.Peers.{Link}
 use Rattle.vault_jobs.specs.Ahead.{MaySweep}

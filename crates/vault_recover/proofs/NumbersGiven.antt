@@ -1,24 +1,22 @@
 -- The count of numbers given, over a history.
 use Rattle.std.proofs.Common.{◌≡◌, ◌≤◌, ◌+◌, ◌&&◌, ℕ, Bool, true, false, cond, List, [], ◌∷◌, Option}
-use Rattle.std.proofs.Common.{Some, None, not, inl, inr, refl, sym, ap, ◌∙◌, arith, nat_lt}
+use Rattle.std.proofs.Common.{not, inl, inr, refl, sym, ap, ◌∙◌, arith}
 use Rattle.std.specs.FinMap as map
 use Rattle.std.specs.Option.{option_map_or}
 use Rattle.vault_pan.specs.CardText.{same}
 use Rattle.vault_core.specs.Keys.{Bytes, bytes_cmp}
-use Rattle.vault_core.specs.Lives.{handed_lives, new_merchant}
-use Rattle.vault_core.specs.Merchants.{granting, withdrawal, set_from, set_to}
+use Rattle.vault_core.specs.Merchants.{granting, withdrawal}
 use Rattle.vault_core.specs.Named.{merchant_of, token_command}
 use Rattle.vault_core.specs.Outcome.{Outcome, plain_reply, plain_refusal}
-use Rattle.vault_core.specs.Refusals.{no_merchant, no_right, too_many_merchants}
+use Rattle.vault_core.specs.Refusals.{no_merchant, no_right}
 use Rattle.vault_core.specs.Retire.{retirement, purging}
 use Rattle.vault_core.specs.Show.{showing, totals}
 use Rattle.vault_core.specs.Table.{reply, token_request}
 use Rattle.vault_core.specs.Vault.{Vault, Merchant, empty_vault, merchant_at, entitled, made_count, time_at}
 use Rattle.vault_core.specs.Yields.{given_by, gives_number}
 use Rattle.vault_core.specs.declared.command.Command.{Command}
-use Rattle.vault_core.specs.declared.command.Command.TheVariants.{SetMerchant, Grant, Withdraw, Tokenize}
+use Rattle.vault_core.specs.declared.command.Command.TheVariants.{Grant, Withdraw, Tokenize}
 use Rattle.vault_core.specs.declared.command.Command.TheVariants.{Detokenize, View, Revoke, Purge, Audit}
-use Rattle.vault_core.specs.declared.limit.TheConstants.{MOST_MERCHANTS}
 use Rattle.vault_core.specs.declared.reply.Reply.TheVariants.{Counts}
 use Rattle.vault_core.specs.declared.reply.State.TheVariants.{Live, Expired, Revoked}
 use Rattle.vault_core.specs.declared.right.Right.TheVariants as right
@@ -27,6 +25,7 @@ use Rattle.vault_core.specs.declared.row.EntryState.{EntryState}
 use Rattle.vault_core.specs.declared.row.EntryState.TheVariants.{Kept, Purged}
 use Rattle.vault_core.proofs.Branches.{by_test, by_option}
 use Rattle.vault_core.proofs.Counted.{follows}
+use Rattle.vault_core.proofs.Setting.{at_setting, by_set}
 use Rattle.vault_core.proofs.Walks.{by_token}
 use Rattle.vault_recover.specs.Histories.{Step, Answered, Undecided, Reopened, Migrated, IsStep, IsHistory}
 use Rattle.vault_recover.specs.Histories.{last, how_many, is_redeem, answers_number, leaves_number}
@@ -39,15 +38,6 @@ IsNone o = gives_number o.reply ≡ false
 
 -- a command that doesn't ask for a number isn't answered one
 only-redeem : (V : Vault) (c : Command) → is_redeem c ≡ false → gives_number (reply V c) ≡ false
-only-redeem V (SetMerchant m single multi lead now) is = set-none (merchant_at V m)
-  where
-    set-none : (o : Option Merchant) → IsNone (set_from V m (handed_lives single multi lead now) o)
-    set-none None =
-        by_test IsNone (nat_lt (map.len V.merchants) MOST_MERCHANTS)
-        (set_to V m (new_merchant (handed_lives single multi lead now)))
-        (plain_refusal V too_many_merchants)
-        (λ _. refl) (λ _. refl)
-    set-none (Some known) = refl
 only-redeem V (Grant caller m right until now) is =
     by_option IsNone (merchant_at V m) (granting V caller m right until now) (plain_refusal V no_merchant)
     (λ _ _. refl) (λ _. refl)
@@ -91,6 +81,8 @@ only-redeem V (Audit caller m now) is =
     (plain_refusal V no_right) (plain_reply V (Counts (made_count V m) known.given known.denied))
     (λ _. refl) (λ _. refl))
     (λ _. refl)
+only-redeem V c is = at_setting (λ set. gives_number (reply V set) ≡ false)
+    (λ m x. by_set IsNone V m x (merchant_at V m) (λ _. refl) (λ _. refl) (λ _. refl)) c refl
 
 -- so many more, or fewer
 at-most : (own gives redeem : Bool) → (redeem ≡ false → gives ≡ false)

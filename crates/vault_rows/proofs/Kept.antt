@@ -5,7 +5,7 @@ use Rattle.sql_maps.proofs.ByKey.{put_again}
 use Rattle.sql_maps.proofs.Calls as calls
 use Rattle.sql_maps.specs.Rows.{put}
 use Rattle.vault_core.specs.Keys.{Bytes, bytes_cmp}
-use Rattle.vault_schema.proofs.Version3.Codes.{merchant_coding}
+use Rattle.vault_schema.proofs.Newest.{merchant_coding, merchants_held}
 use Rattle.vault_schema.specs.Versions.{Lookups}
 use Rattle.vault_schema.specs.Versions.{Tables}
 use Rattle.vault_core.specs.declared.row.Lives.{Lives}
@@ -18,13 +18,13 @@ pub lives_kept : {E F : Type 0} {has : Bool} {old new : State} (m : Bytes) (x : 
     (λ t has. IsTrue has ↔ (t.merchants m ≡ Some x)) → IsTrue has
     → Makes (let it : Result (Unit {0}) F = Ok tt in it) old new (λ _. Unit {0})
     (λ h. record h { merchants = put bytes_cmp h.merchants m (Some x) })
-lives_kept {new = new} m x told says = record {
+lives_kept {old = old} {new = new} m x told says = record {
   steps = told.steps;
   done = λ clean base h w can.
       let seen = told.told clean base (tables_of h w.cards w.pointing) w.has in
       let same : h.merchants ≡ put bytes_cmp h.merchants m (Some x) =
-      λ i k. sym (put_again merchant_coding w.has.stands.rows.1.1.1.1.1.1.1.1.0 m (Some x)
-      (seen.0.0 says) k) i in
+      λ i k. sym (put_again merchant_coding (merchants_held _ old.now.trees w.has.stands.rows)
+      m (Some x) (seen.0.0 says) k) i in
       record {
         cards = w.cards;
         pointing = w.pointing;

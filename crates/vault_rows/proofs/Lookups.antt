@@ -10,8 +10,8 @@ use Rattle.std.specs.Option.{option_map_or}
 use Rattle.sqlite.specs.Term.{holds}
 use Rattle.sqlite.specs.declared.types.Value.TheVariants.{Int, Text}
 use Rattle.std.specs.Cmp.{tied_itself}
-use Rattle.vault_schema.proofs.Newest.{behind_first, indexes_behind_first, count_table}
-use Rattle.vault_schema.specs.Version4.Tables.{tables4, indexes4}
+use Rattle.vault_schema.proofs.Newest.{behind_first, indexes_behind_first, count_table, merchant_coding}
+use Rattle.vault_schema.proofs.Newest.{merchants_held}
 use Rattle.vault_core.proofs.Maps.{bytes_exact, bytes_total}
 use Rattle.vault_core.specs.Keys.{Bytes, bytes_cmp}
 use Rattle.vault_core.specs.Sound.{Sound}
@@ -29,15 +29,14 @@ use Rattle.vault_schema.specs.declared.v2.Pointing.{Pointing}
 use Rattle.vault_schema.specs.Version1.Rows.{number_column}
 use Rattle.vault_schema.specs.Version1.Rows.{count_row}
 use Rattle.vault_schema.specs.declared.v1.TheConstants.{FIND_COUNTS}
-use Rattle.vault_schema.specs.declared.v3.TheConstants.{COUNT_MERCHANTS}
-use Rattle.vault_schema.proofs.Version3.Codes.{merchant_coding}
+use Rattle.vault_tables.specs.MerchantTexts.{how_many_is}
+use Rattle.vault_tables.specs.declared.merchants.TheConstants.{COUNT_MERCHANTS}
 use Rattle.vault_schema.proofs.Version1.Texts.{counts_is}
-use Rattle.vault_schema.proofs.Version3.Texts.{how_many_is}
 use Rattle.vault_schema.specs.Schema.{newest_schema}
 use Rattle.vault_rows.specs.Shown.{count_columns, ShowsCounts, IsTotalOf}
 use Rattle.vault_core.specs.Lives.{counted_row, lives_in}
 use Rattle.vault_schema.specs.Stands.{count_at, unless_zero, lookups_of}
-use Rattle.vault_schema.specs.Versions.{tables_of}
+use Rattle.vault_schema.specs.Versions.{newest_merchants, tables_of}
 use Rattle.vault_core.proofs.Finds.{some_same}
 use Rattle.vault_core.specs.declared.row.Lives.{Lives}
 
@@ -69,10 +68,8 @@ module _ (old new : State) (V : Vault) (cards : ℤ → Option Card) (pointing :
     pub shows_how_many : Shown COUNT_MERCHANTS.now [] old new rows → Sound V
         → rows ≡ number_column (map.len V.merchants) ∷ []
     shows_how_many shown sound =
-        how_many old new it.schema 17 (how_many_is tables4 indexes4) shown merchant_coding lives_in
-        V.merchants
-        it.rows.1.1.1.1.1.1.1.1.0
-        (omega (arith, sound.few))
+        how_many old new it.schema newest_merchants.tree how_many_is shown merchant_coding lives_in
+        V.merchants (merchants_held _ old.now.trees it.rows) (omega (arith, sound.few))
 
 -- ---- the row of a merchant, put together from its own table and its counts
 

@@ -10,7 +10,7 @@ ghost use Rattle.vault_core.specs.Keys.{bytes_cmp};
 ghost use Rattle.vault_rows.specs.Calls.{Makes, Tells, TellsInside, Turns};
 ghost use Rattle.vault_schema.specs.Version1.Rows.{number_column};
 ghost use Rattle.vault_rows.specs.Listed.{ShowsAll};
-ghost use Rattle.vault_schema.specs.Version3.Rows.{merchant_row};
+ghost use Rattle.vault_schema.specs.Versions.{merchant_row};
 ghost use Rattle.vault_rows.specs.Shown.{IsTotalOf, ShowsCounts};
 ghost use Rattle.vault_core.specs.Lives.{lives_in};
 ghost use Rattle.sql_maps.specs.Rows.{put};
@@ -25,8 +25,7 @@ use vault_core::moment::Moment;
 use vault_core::name::MerchantId;
 use vault_core::row::{Lives, MerchantRow};
 use vault_schema::v1::{ADD_COUNT, FIND_COUNTS, RAISE_COUNT};
-use vault_schema::v3::COUNT_MERCHANTS;
-use vault_tables::merchants::{self as table, READ_MERCHANTS};
+use vault_tables::merchants::{self as table, COUNT_MERCHANTS, READ_MERCHANTS};
 
 /// The lives of a merchant.
 fn lives_at<S: Alter>(conn: &mut Connection<S>, m: &MerchantId) -> Result<Option<Lives>, StoreFault>
@@ -119,14 +118,14 @@ pub fn all_merchants<S: Alter>(conn: &mut Connection<S>) -> Result<Vec<Row>, Err
     rows_of(conn, READ_MERCHANTS, &[])
 }
 
-/// Whether these are the same lives, with the same moment and lead.
+/// Whether these are the same, with all that a merchant's own row has.
 fn are_same(x: &Lives, y: &Lives) -> bool
     ensures { IsTrue result ↔ (x.now ≡ y.now) }
 {
     x == y
 }
 
-/// Whether a merchant has these lives, this moment and this lead, inside a transaction.
+/// Whether a merchant's own row has these lives, and all else as here, inside a transaction.
 fn has_lives<S: Alter>(tx: &mut Transaction<'_, S>, m: &str, x: &Lives) -> Result<bool, StoreFault>
     ensures same_reference { tx.new.conn.ghost_name ≡ tx.old.conn.ghost_name }
     ensures told { TellsInside result (state S.Store tx.old.conn.now) (state S.Store tx.new.conn.now)
@@ -138,8 +137,8 @@ fn has_lives<S: Alter>(tx: &mut Transaction<'_, S>, m: &str, x: &Lives) -> Resul
     }
 }
 
-/// Writes the lives, the moment and the lead of a merchant where it has others or isn't there: a look costs
-/// less than a write, and within a second a merchant's moment stays.
+/// Writes the own row of a merchant where it has another or isn't there: a look costs less than a write, and
+/// within a second a merchant's moment stays.
 pub fn set_lives<S: Alter>(
     tx: &mut Transaction<'_, S>,
     m: &str,
@@ -157,7 +156,7 @@ pub fn set_lives<S: Alter>(
     Ok(put_merchant(tx, m, x)?)
 }
 
-/// Writes the lives, the moment and the lead of a merchant, whether or not it was there.
+/// Writes the own row of a merchant, whether or not it was there.
 fn put_merchant<S: Alter>(tx: &mut Transaction<'_, S>, m: &str, x: &Lives) -> Result<(), Error>
     requires single { x.now.single_life < 2 ^ 63 }
     requires multi { x.now.multi_life < 2 ^ 63 }

@@ -6,7 +6,7 @@ ghost use Rattle.vault_core.specs.Keys.{right_cmp};
 ghost use Rattle.vault_core.specs.Vault.{right_at};
 ghost use Rattle.vault_rows.specs.Calls.{Makes, Tells};
 ghost use Rattle.vault_rows.specs.Listed.{ShowsAll, ShowsRight};
-ghost use Rattle.vault_schema.specs.Version4.Rows.{right_row};
+ghost use Rattle.vault_schema.specs.Versions.{right_row};
 ghost use Rattle.sql_maps.specs.Rows.{put};
 
 use crate::columns::{caller_in, merchant_in, right_in};

@@ -1,7 +1,7 @@
 -- The rows of a sound vault keep each rule.
-use Rattle.std.proofs.Common.{◌≡◌, inl, inr, ℕ, zero, suc, ℤ, pos, ◌≤◌, ◌&&◌, true, false, length, Option}
-use Rattle.std.proofs.Common.{refl, sym, ap, ◌∙◌, arith}
-use Rattle.std.specs.Prelude.{string_bytes, nat_lt}
+use Rattle.std.proofs.Common.{◌≡◌, inl, inr, ℕ, zero, suc, ℤ, pos, ◌≤◌, ◌&&◌, true, false}
+use Rattle.std.proofs.Common.{List, [], ◌∷◌, Option, length, refl, sym, ap, ◌∙◌, arith}
+use Rattle.std.specs.Prelude.{string_bytes, nat_lt, slice_index_or}
 use Rattle.std.specs.List.{list_all}
 use Rattle.std.specs.Option.{option_map_or}
 use Rattle.std.specs.Ordering.{int_eq}
@@ -15,9 +15,9 @@ use Rattle.vault_core.specs.declared.right.Right.{Right}
 use Rattle.vault_core.specs.declared.right.Right.TheVariants.{Tokenize, Detokenize, View, Revoke, Purge}
 use Rattle.vault_core.specs.declared.right.Right.TheVariants.{Audit}
 use Rattle.vault_rules.specs.Lookups.{is_known, total_of, held_by}
-use Rattle.vault_rules.specs.Rules.{is_within, is_current, are_named, is_lasting, is_count, has_token}
+use Rattle.vault_rules.specs.Rules.{Rule, is_within, is_current, are_named, is_count, has_token}
 use Rattle.vault_rules.specs.Rules.{has_number, is_timed, is_kept, at_moments, is_counted, is_record}
-use Rattle.vault_rules.specs.Rules.{is_right, has_lead, has_end, keeps}
+use Rattle.vault_rules.specs.Rules.{is_right, has_end, keeps, rules, verdicts_of}
 use Rattle.vault_rules.specs.Showing.{Shows, ShowsCount}
 use Rattle.vault_rules.specs.Texts.{is_name, is_token}
 use Rattle.vault_rules.specs.VaultOf.{HasKeysApart}
@@ -28,11 +28,24 @@ use Rattle.vault_rules.specs.AllRows.{Rows}
 use Rattle.vault_rules.proofs.CardsFrom.{cards_kept}
 use Rattle.vault_rules.proofs.DistinctFrom.{keys_distinct}
 use Rattle.vault_rules.proofs.Ends.{ends_from}
-use Rattle.vault_rules.proofs.Leads.{lead_from}
+use Rattle.vault_rules.proofs.MerchantRows.{leads_kept, lives_kept}
 use Rattle.vault_rules.proofs.Numbers.{within_from, int_same, below_from}
 use Rattle.vault_rules.proofs.ShownRows.{entered, tested, held_known, known, entry_shown}
 use Rattle.vault_rules.proofs.TextLemmas.{name_from, token_from}
 use Rattle.vault_rules.proofs.TimedFrom.{number_kept, times_kept, number_or_over}
+
+-- each of these rules is kept
+data AreKept (rows : Rows) : List Rule → Type 0 where
+  NoneLeft : AreKept rows []
+  KeptToo : {rule : Rule} {rest : List Rule} → rule rows ≡ true → AreKept rows rest
+      → AreKept rows (rule ∷ rest)
+
+-- so is the one at a place
+kept_at : (rows : Rows) (rest : List Rule) → AreKept rows rest → (n : ℕ)
+    → slice_index_or (verdicts_of rows rest) n true ≡ true
+kept_at rows [] all n = refl
+kept_at rows (rule ∷ rest) (KeptToo is others) zero = is
+kept_at rows (rule ∷ rest) (KeptToo is others) (suc n) = kept_at rows rest others n
 
 right_within : (r : Right) (z : ℤ) → z ≡ pos (right_number r) → is_within (pos 1) (pos 6) z ≡ true
 right_within Tokenize z is = within_from 1 6 1 z is (omega arith) (omega arith)
@@ -56,15 +69,6 @@ module _ (rows : Rows) (V : Vault) (shows : Shows rows V) (sound : Sound V) wher
       (test_from (λ m. is_name (string_bytes m.name)) rows.merchants (λ m h.
       let it = shows.merchants m h in
       name_from (string_bytes m.name) (sound.merchants (string_bytes m.name) it.0 it.1).name))
-
-  kept_3 : list_all is_lasting rows.merchants ≡ true
-  kept_3 = test_from is_lasting rows.merchants (λ m h.
-      let it = shows.merchants m h in
-      let fine = sound.merchants (string_bytes m.name) it.0 it.1 in
-      and_from _ _ (and_from _ _
-      (within_from 0 3155760000 it.0.single_life m.single_life it.2.single_life (omega arith) fine.single)
-      (within_from 0 3155760000 it.0.multi_life m.multi_life it.2.multi_life (omega arith) fine.multi))
-      (within_from 0 253402300799 it.0.moment m.moment it.2.moment (omega arith) fine.moment))
 
   -- what a count's row says
   abbrev CountFine : RawCount → ℕ → ℕ → Type 0
@@ -167,38 +171,22 @@ module _ (rows : Rows) (V : Vault) (shows : Shows rows V) (sound : Sound V) wher
       (known rows V shows (string_bytes r.merchant) fine.1 fine.2))
       (right_within it.0 r.what it.2))
 
-  kept_14 : list_all has_lead rows.merchants ≡ true
-  kept_14 = test_from has_lead rows.merchants (λ m h.
-      let it = shows.merchants m h in
-      lead_from it.0.lead m.lead it.2.lead)
-
   kept_15 : list_all has_end rows.rights ≡ true
   kept_15 = test_from has_end rows.rights (λ r h.
       let it = shows.rights r h in
       let fine = sound.rights (string_bytes r.caller) (string_bytes r.merchant) it.0 it.1 it.3 in
       ap (λ o. option_map_or (is_within (pos 0) (pos 253402300799)) o true) it.4 ∙ ends_from it.1.ends fine.3)
 
-  kept_after : HasKeysApart rows → (n : ℕ)
-      → keeps rows (suc (suc (suc (suc (suc (suc (suc (suc n)))))))) ≡ true
-  kept_after apart zero = kept_8
-  kept_after apart (suc zero) = keys_distinct rows V shows sound apart.entries
-  kept_after apart (suc (suc zero)) = kept_10
-  kept_after apart (suc (suc (suc zero))) = kept_11
-  kept_after apart (suc (suc (suc (suc zero)))) = kept_12
-  kept_after apart (suc (suc (suc (suc (suc zero))))) = cards_kept rows V shows sound apart
-  kept_after apart (suc (suc (suc (suc (suc (suc zero)))))) = kept_14
-  kept_after apart (suc (suc (suc (suc (suc (suc (suc zero))))))) = kept_15
-  kept_after apart (suc (suc (suc (suc (suc (suc (suc (suc n)))))))) = refl
+  -- each rule, in their order
+  all_rules : HasKeysApart rows → AreKept rows rules
+  all_rules apart =
+      KeptToo kept_1 (KeptToo kept_2 (KeptToo (lives_kept rows V shows sound) (KeptToo kept_4
+      (KeptToo kept_5 (KeptToo kept_6 (KeptToo kept_7 (KeptToo kept_8
+      (KeptToo (keys_distinct rows V shows sound apart.entries) (KeptToo kept_10 (KeptToo kept_11
+      (KeptToo kept_12 (KeptToo (cards_kept rows V shows sound apart)
+      (KeptToo (leads_kept rows V shows sound) (KeptToo kept_15 NoneLeft))))))))))))))
 
 pub all_kept : (rows : Rows) (V : Vault) → Shows rows V → Sound V → HasKeysApart rows → (r : ℕ)
     → keeps rows r ≡ true
 all_kept rows V shows sound apart zero = refl
-all_kept rows V shows sound apart (suc zero) = kept_1 rows V shows sound
-all_kept rows V shows sound apart (suc (suc zero)) = kept_2 rows V shows sound
-all_kept rows V shows sound apart (suc (suc (suc zero))) = kept_3 rows V shows sound
-all_kept rows V shows sound apart (suc (suc (suc (suc zero)))) = kept_4 rows V shows sound
-all_kept rows V shows sound apart (suc (suc (suc (suc (suc zero))))) = kept_5 rows V shows sound
-all_kept rows V shows sound apart (suc (suc (suc (suc (suc (suc zero)))))) = kept_6 rows V shows sound
-all_kept rows V shows sound apart (suc (suc (suc (suc (suc (suc (suc zero))))))) = kept_7 rows V shows sound
-all_kept rows V shows sound apart (suc (suc (suc (suc (suc (suc (suc (suc n)))))))) =
-    kept_after rows V shows sound apart n
+all_kept rows V shows sound apart (suc n) = kept_at rows rules (all_rules rows V shows sound apart) n

@@ -9,10 +9,11 @@ use Rattle.vault_core.specs.Numbers.{use_number}
 use Rattle.vault_core.specs.Repeats.{is_reusable}
 use Rattle.vault_core.specs.Vault.{Merchant, merchant_at, entry_at}
 use Rattle.vault_core.specs.declared.row.Entry.{Entry}
+use Rattle.vault_rules.specs.Codes.{natural, use_of}
 use Rattle.vault_rules.specs.Lookups.{merchant_of}
 use Rattle.vault_rules.specs.Rules.{is_within, is_timed, live_key, live_number, keeps}
 use Rattle.vault_rules.specs.Showing.{ShowsEntry}
-use Rattle.vault_rules.specs.VaultOf.{vault_of, natural, use_of, entry_value}
+use Rattle.vault_rules.specs.VaultOf.{vault_of, entry_value}
 use Rattle.vault_rules.specs.declared.rows.RawEntry.{RawEntry}
 use Rattle.vault_rules.specs.AllRows.{Rows}
 use Rattle.vault_rules.proofs.FoundRows.{EntryRow, at_moment, merchant_row, entry_row}

@@ -11,9 +11,10 @@ use Rattle.sqlite_rules.proofs.ListLemmas.{has_found}
 use Rattle.vault_core.specs.Keys.{Bytes}
 use Rattle.vault_core.specs.Sound.{IsSoundMerchant}
 use Rattle.vault_core.specs.Vault.{Vault, Merchant, merchant_at, made_count}
+use Rattle.vault_rules.specs.Codes.{natural}
 use Rattle.vault_rules.specs.Lookups.{merchant_of, total_of, held_by, is_known}
 use Rattle.vault_rules.specs.Rules.{keeps}
-use Rattle.vault_rules.specs.VaultOf.{vault_of, natural, merchant_value, count_key, HasKeysApart}
+use Rattle.vault_rules.specs.VaultOf.{vault_of, merchant_value, count_key, HasKeysApart}
 use Rattle.vault_rules.specs.declared.rows.RawMerchant.{RawMerchant}
 use Rattle.vault_rules.specs.declared.rows.RawCount.{RawCount}
 use Rattle.vault_rules.specs.AllRows.{Rows}
@@ -21,6 +22,7 @@ use Rattle.vault_rules.proofs.Found.{bytes_are, bytes_same, merchant_is, made_is
 use Rattle.vault_rules.proofs.FoundRows.{merchant_found, merchant_row}
 use Rattle.vault_rules.proofs.Keyed.{find-some, keys_once}
 use Rattle.vault_rules.proofs.Kept as kept
+use Rattle.vault_rules.proofs.MerchantRows.{row_sound}
 use Rattle.vault_rules.proofs.Numbers.{IsBetween, int_is, int_same}
 use Rattle.vault_rules.proofs.RowsSound.{held_none}
 
@@ -171,15 +173,8 @@ module _ (rows : Rows) (keep : (r : ℕ) → keeps rows r ≡ true) where
   row_fine : (m : RawMerchant) → Has rows.merchants m
       → IsSoundMerchant (string_bytes m.name) (merchant_value rows.counts m)
   row_fine m h =
-      let lasting = kept.lasts rows keep m h in
-      record {
-        name = kept.named rows keep m h;
-        single = lasting.single.high_is;
-        multi = lasting.multi.high_is;
-        moment = lasting.moment.high_is;
-        given = (total_between (string_bytes m.name) (pos 2)).high_is;
-        denied = (total_between (string_bytes m.name) (pos 3)).high_is;
-      }
+      row_sound rows keep m h (total_between (string_bytes m.name) (pos 2)).high_is
+      (total_between (string_bytes m.name) (pos 3)).high_is
 
   pub merchants_sound : (name : Bytes) (merchant : Merchant)
       → merchant_at (vault_of rows) name ≡ Some merchant → IsSoundMerchant name merchant

@@ -3,8 +3,8 @@ use Rattle.std.proofs.Common.{◌≡◌, ℕ, ℤ, pos, true, Option, Some, None
 use Rattle.std.specs.Prelude.{IfSome}
 use Rattle.std.specs.Option.{option_map_or}
 use Rattle.vault_core.specs.Scalar.{IsMoment}
+use Rattle.vault_rules.specs.Codes.{natural}
 use Rattle.vault_rules.specs.Rules.{is_within}
-use Rattle.vault_rules.specs.VaultOf.{natural}
 use Rattle.vault_rules.proofs.Numbers.{within_is, within_from}
 
 -- an end that keeps its rule is a number that isn't negative

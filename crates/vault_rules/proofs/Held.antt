@@ -16,11 +16,12 @@ use Rattle.vault_core.specs.Vault.{merchant_at, entry_at, record_at, right_at}
 use Rattle.vault_core.specs.declared.right.Right.{Right}
 use Rattle.vault_core.proofs.Maps.{bytes_total, bytes_exact, entry_total, entry_exact, record_total}
 use Rattle.vault_core.proofs.Maps.{record_exact, right_total, right_exact}
+use Rattle.vault_rules.specs.Codes.{natural, right_of}
 use Rattle.vault_rules.specs.Lookups.{card_of}
 use Rattle.vault_rules.specs.Rules.{keeps}
-use Rattle.vault_rules.specs.VaultOf.{AreKeysApart, HasKeysApart, vault_of, natural, merchant_value}
+use Rattle.vault_rules.specs.VaultOf.{AreKeysApart, HasKeysApart, vault_of, merchant_value}
 use Rattle.vault_rules.specs.VaultOf.{entry_key, entry_value, record_key, record_value, request_key}
-use Rattle.vault_rules.specs.VaultOf.{right_key, right_of, grant_value, number_key}
+use Rattle.vault_rules.specs.VaultOf.{right_key, grant_value, number_key}
 use Rattle.vault_rules.specs.declared.rows.RawMerchant.{RawMerchant}
 use Rattle.vault_rules.specs.declared.rows.RawCard.{RawCard}
 use Rattle.vault_rules.specs.declared.rows.RawEntry.{RawEntry}

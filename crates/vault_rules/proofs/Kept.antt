@@ -11,9 +11,9 @@ use Rattle.sqlite_rules.proofs.ListLemmas.{test_has}
 use Rattle.vault_core.specs.Name.{IsName}
 use Rattle.vault_pan.specs.CardText.{IsToken}
 use Rattle.vault_rules.specs.Lookups.{is_known, entry_of, held_by, total_of, used_by}
-use Rattle.vault_rules.specs.Rules.{are_named, is_lasting, is_count, has_token, has_number, is_timed}
+use Rattle.vault_rules.specs.Rules.{are_named, is_count, has_token, has_number, is_timed}
 use Rattle.vault_rules.specs.Rules.{is_kept, at_moments, live_key, are_distinct, is_counted, is_record}
-use Rattle.vault_rules.specs.Rules.{is_right, is_card, has_card, has_lead, has_end, keeps}
+use Rattle.vault_rules.specs.Rules.{is_right, is_card, has_card, has_end, keeps}
 use Rattle.vault_rules.specs.Showing.{HasCard}
 use Rattle.vault_rules.specs.Texts.{is_name}
 use Rattle.vault_rules.specs.declared.rows.RawMerchant.{RawMerchant}
@@ -26,11 +26,6 @@ use Rattle.vault_rules.specs.AllRows.{Rows}
 use Rattle.vault_rules.proofs.Cards.{card_is}
 use Rattle.vault_rules.proofs.Numbers.{IsBetween, within_is, below_is, int_is, le_is}
 use Rattle.vault_rules.proofs.TextLemmas.{name_is, token_is}
-
-pub record LastsWell (m : RawMerchant) : Type 0 where
-  pub single : IsBetween 0 3155760000 m.single_life
-  pub multi : IsBetween 0 3155760000 m.multi_life
-  pub moment : IsBetween 0 253402300799 m.moment
 
 pub record CountsWell (merchants : List RawMerchant) (c : RawCount) : Type 0 where
   pub known : is_known merchants (string_bytes c.merchant) ≡ true
@@ -59,16 +54,6 @@ module _ (rows : Rows) (kept : (r : ℕ) → keeps rows r ≡ true) where
       let two : are_named rows.merchants ≡ true = kept 2 in
       name_is (string_bytes m.name)
       (test_has (λ n. is_name (string_bytes n.name)) rows.merchants m (and_parts _ _ two).1 h)
-
-  pub lasts : (m : RawMerchant) → Has rows.merchants m → LastsWell m
-  lasts m h =
-      let first = and_parts _ _ (test_has is_lasting rows.merchants m (kept 3) h) in
-      let second = and_parts _ _ first.0 in
-      record {
-        single = within_is 0 3155760000 m.single_life second.0;
-        multi = within_is 0 3155760000 m.multi_life second.1;
-        moment = within_is 0 253402300799 m.moment first.1;
-      }
 
   pub counts_well : (c : RawCount) → Has rows.counts c → CountsWell rows.merchants c
   counts_well c h =
@@ -152,9 +137,6 @@ module _ (rows : Rows) (kept : (r : ℕ) → keeps rows r ≡ true) where
   pub own_card : (e : RawEntry) → Has rows.entries e → HasCard rows.cards e
   own_card e h =
       card_is rows.cards e (test_has (has_card rows.cards) rows.entries e both_cards.1 h)
-
-  pub led : (m : RawMerchant) → Has rows.merchants m → has_lead m ≡ true
-  led m h = test_has has_lead rows.merchants m (kept 14) h
 
   pub ended : (r : RawRight) → Has rows.rights r → has_end r ≡ true
   ended r h = test_has has_end rows.rights r (kept 15) h

@@ -5,7 +5,7 @@ use Rattle.std.proofs.lemmas.Bool.{or_cases, or_left, or_right}
 use Rattle.vault_pan.specs.Mask.{lead_digits}
 use Rattle.vault_pan.specs.declared.lead.Lead.{Lead}
 use Rattle.vault_pan.specs.declared.lead.Lead.TheVariants.{Six, Eight}
-use Rattle.vault_rules.specs.VaultOf.{lead_of}
+use Rattle.vault_rules.specs.Codes.{lead_of}
 use Rattle.vault_rules.proofs.Numbers.{int_is, int_same}
 
 -- six or eight is the number of digits of its lead

@@ -18,6 +18,7 @@ pub mod LeastLemmas
 pub mod Live
 pub mod LiveKeys
 pub mod LiveLemmas
+pub mod MerchantRows
 pub mod PackedLemmas
 pub mod RisingLemmas
 pub mod Numbers

@@ -6,8 +6,8 @@ use Rattle.std.specs.Int.RustNames.{int_le}
 use Rattle.std.specs.Ordering.{int_eq}
 use Rattle.std.proofs.lemmas.Bool.{and_parts, and_from}
 use Rattle.std.proofs.lemmas.Bool.Decides.{nat_tests, Decides-int_eq}
+use Rattle.vault_rules.specs.Codes.{natural}
 use Rattle.vault_rules.specs.Rules.{is_within}
-use Rattle.vault_rules.specs.VaultOf.{natural}
 
 -- what lies between two natural numbers is one
 pub record IsBetween (low high : ℕ) (z : ℤ) : Type 0 where

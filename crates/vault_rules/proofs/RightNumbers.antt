@@ -1,7 +1,7 @@
 -- Rights and their numbers.
 use Rattle.std.proofs.Common.{◌≡◌, ℕ, zero, suc, ℤ, pos, ◌≤◌, refl, sym, ap, ◌∙◌, arith}
 use Rattle.vault_core.specs.Numbers.{right_number}
-use Rattle.vault_rules.specs.VaultOf.{natural, right_of}
+use Rattle.vault_rules.specs.Codes.{natural, right_of}
 use Rattle.vault_rules.proofs.Numbers.{IsBetween}
 
 numbered : (n : ℕ) → 1 ≤ n → n ≤ 6 → n ≡ right_number (right_of (pos n))

@@ -10,10 +10,11 @@ use Rattle.std.proofs.lemmas.Bool.Decides.{Decides-eqb}
 use Rattle.sqlite_rules.specs.Lists.{Has}
 use Rattle.vault_core.specs.Numbers.{use_number}
 use Rattle.vault_core.specs.Vault.{Merchant}
+use Rattle.vault_rules.specs.Codes.{natural, right_of, use_of}
 use Rattle.vault_rules.specs.Lookups.{total_of, entry_of}
 use Rattle.vault_rules.specs.Rules.{is_current, keeps}
 use Rattle.vault_rules.specs.Showing.{Shows, ShowsCount, ShowsRecord}
-use Rattle.vault_rules.specs.VaultOf.{HasKeysApart, vault_of, natural, use_of, right_of, merchant_value}
+use Rattle.vault_rules.specs.VaultOf.{HasKeysApart, vault_of, merchant_value}
 use Rattle.vault_rules.specs.VaultOf.{entry_value, record_value, grant_value}
 use Rattle.vault_rules.specs.declared.rows.RawVersion.{RawVersion}
 use Rattle.vault_rules.specs.declared.rows.RawCount.{RawCount}
@@ -27,7 +28,7 @@ use Rattle.vault_rules.proofs.Found.{many_is, made_is}
 use Rattle.vault_rules.proofs.FoundRows.{merchant_known, merchant_there, merchant_row, entry_found, entry_row}
 use Rattle.vault_rules.proofs.Held.{merchant_held, entry_held, record_held, right_held}
 use Rattle.vault_rules.proofs.Kept as kept
-use Rattle.vault_rules.proofs.Leads.{lead_is}
+use Rattle.vault_rules.proofs.MerchantRows.{row_shown}
 use Rattle.vault_rules.proofs.Numbers.{int_is, pos_same}
 use Rattle.vault_rules.proofs.Options.{tested_is}
 use Rattle.vault_rules.proofs.RightNumbers.{what_is}
@@ -123,16 +124,11 @@ module _ (rows : Rows) (apart : HasKeysApart rows) (keep : (r : ℕ) → keeps r
         id = one.2;
         replaced = current.1;
         many = sym (many_is rows apart);
-        merchants = λ m h.
-            let lasting = kept.lasts rows keep m h in (
+        merchants =
+            λ m h. (
               merchant_value rows.counts m,
               merchant_held rows apart m h,
-              record {
-                single_life = lasting.single.is;
-                multi_life = lasting.multi.is;
-                moment = lasting.moment.is;
-                lead = lead_is m.lead (kept.led rows keep m h);
-              },
+              row_shown rows keep m h,
             );
         merchants_there =
             λ name merchant at.

@@ -14,9 +14,10 @@ use Rattle.vault_core.specs.declared.right.Right.{Right}
 use Rattle.vault_core.specs.declared.row.Entry.{Entry}
 use Rattle.vault_core.specs.declared.row.GrantRow.{GrantRow}
 use Rattle.vault_core.specs.declared.row.Record.{Record}
+use Rattle.vault_rules.specs.Codes.{natural, use_of}
 use Rattle.vault_rules.specs.Lookups.{merchant_of, entry_of, held_by, is_known}
 use Rattle.vault_rules.specs.Rules.{is_timed, is_kept, keeps}
-use Rattle.vault_rules.specs.VaultOf.{vault_of, natural, use_of, merchant_value, entry_value, record_value}
+use Rattle.vault_rules.specs.VaultOf.{vault_of, merchant_value, entry_value, record_value}
 use Rattle.vault_rules.specs.declared.rows.RawMerchant.{RawMerchant}
 use Rattle.vault_rules.specs.declared.rows.RawEntry.{RawEntry}
 use Rattle.vault_rules.specs.declared.rows.RawRecord.{RawRecord}
@@ -27,6 +28,7 @@ use Rattle.vault_rules.proofs.FoundRows.{MerchantRow, merchant_known, merchant_f
 use Rattle.vault_rules.proofs.FoundRows.{at_moment, merchant_there, entry_there, entry_row, record_row}
 use Rattle.vault_rules.proofs.FoundRows.{right_row}
 use Rattle.vault_rules.proofs.Kept as kept
+use Rattle.vault_rules.proofs.MerchantRows.{lasts}
 use Rattle.vault_rules.proofs.Numbers.{int_is}
 use Rattle.vault_rules.proofs.Options.{tested_is}
 use Rattle.vault_rules.proofs.Timed.{entry_sound}
@@ -41,7 +43,7 @@ none_kept p (x ∷ xs) fails =
 module _ (rows : Rows) (keep : (r : ℕ) → keeps rows r ≡ true) where
   pub lasting_moment : (name : Bytes) (row : MerchantRow rows.merchants name)
       → row.m.moment ≡ pos (natural row.m.moment)
-  lasting_moment name row = (kept.lasts rows keep row.m row.there).moment.is
+  lasting_moment name row = (lasts rows keep row.m row.there).moment.is
 
   -- the merchant of an entry's row
   pub merchant_of_entry : (e : RawEntry) → Has rows.entries e

@@ -10,11 +10,12 @@ use Rattle.vault_core.specs.Sound.{IsNumber, IsRevocation, IsSoundEntry}
 use Rattle.vault_core.specs.Vault.{Merchant}
 use Rattle.vault_core.specs.declared.row.Entry.{Entry}
 use Rattle.vault_pan.specs.CardText.{IsToken, fits}
+use Rattle.vault_rules.specs.Codes.{natural}
 use Rattle.vault_rules.specs.Lookups.{number_of}
 use Rattle.vault_rules.specs.Rules.{is_within, is_timed, is_kept, has_number}
 use Rattle.vault_rules.specs.Showing.{HasCard}
 use Rattle.vault_rules.specs.Texts.{is_pan}
-use Rattle.vault_rules.specs.VaultOf.{natural, entry_value}
+use Rattle.vault_rules.specs.VaultOf.{entry_value}
 use Rattle.vault_rules.specs.declared.rows.RawCard.{RawCard}
 use Rattle.vault_rules.specs.declared.rows.RawEntry.{RawEntry}
 use Rattle.vault_rules.proofs.Cards.{number_there, number_purged}

@@ -1,9 +1,11 @@
 pub mod AllRows
+pub mod Codes
 pub mod Found
 pub mod Held
 pub mod Index
 pub mod Kept
 pub mod Lookups
+pub mod MerchantRows
 pub mod Packed
 pub mod Rising
 pub mod Rules

@@ -1,6 +1,6 @@
 -- The rules that the rows of a sound vault keep, over the rows as they stand.
 use Rattle.std.specs.Prelude.{◌≡◌, ◌<◌, ℕ, zero, suc, ℤ, pos, ◌+ℤ◌, ◌&&◌, ◌||◌, ◌==◌, not, Bool, true}
-use Rattle.std.specs.Prelude.{false, List, [], ◌∷◌, length, slice_index_or, Option, None, option_map}
+use Rattle.std.specs.Prelude.{false, List, [], ◌∷◌, length, map, slice_index_or, Option, None, option_map}
 use Rattle.std.specs.Prelude.{option_and_then, is_none, is_some, nat_lt, bytes_eq, string_bytes}
 use Rattle.std.specs.Prelude.{if◌then◌else◌}
 use Rattle.std.specs.Int.RustNames.{int_lt, int_le}
@@ -146,33 +146,39 @@ has_lead m = int_eq m.lead (pos 6) || int_eq m.lead (pos 8)
 abbrev pub has_end : RawRight → Bool
 has_end r = option_map_or (is_within (pos 0) (pos 253402300799)) r.ends true
 
--- each rule, from 1 to 15
-abbrev pub verdicts : Rows → List Bool
-verdicts rows =
-    let merchants = rows.merchants in
-    let cards = rows.cards in
-    let entries = rows.entries in
-    is_current rows.versions rows.replaced
-    ∷ are_named merchants
-    ∷ list_all is_lasting merchants
-    ∷ list_all (is_count merchants) rows.counts
-    ∷ list_all (has_token merchants) entries
-    ∷ list_all (has_number cards) entries
-    ∷ list_all (at_moments merchants is_timed) entries
-    ∷ list_all (at_moments merchants is_kept) entries
-    ∷ are_distinct (filter_map (live_key merchants cards) entries)
-    ∷ list_all (is_counted rows.counts entries) merchants
-    ∷ list_all (is_record entries) rows.records
-    ∷ list_all (is_right merchants) rows.rights
-    ∷ (list_all (is_card merchants entries) cards && list_all (has_card cards) entries)
-    ∷ list_all has_lead merchants
-    ∷ list_all has_end rows.rights
+-- what is asked of all rows
+abbrev pub Rule : Type 0
+Rule = Rows → Bool
+
+-- each rule, from 1 on
+abbrev pub rules : List Rule
+rules =
+    (λ rows. is_current rows.versions rows.replaced)
+    ∷ (λ rows. are_named rows.merchants)
+    ∷ (λ rows. list_all is_lasting rows.merchants)
+    ∷ (λ rows. list_all (is_count rows.merchants) rows.counts)
+    ∷ (λ rows. list_all (has_token rows.merchants) rows.entries)
+    ∷ (λ rows. list_all (has_number rows.cards) rows.entries)
+    ∷ (λ rows. list_all (at_moments rows.merchants is_timed) rows.entries)
+    ∷ (λ rows. list_all (at_moments rows.merchants is_kept) rows.entries)
+    ∷ (λ rows. are_distinct (filter_map (live_key rows.merchants rows.cards) rows.entries))
+    ∷ (λ rows. list_all (is_counted rows.counts rows.entries) rows.merchants)
+    ∷ (λ rows. list_all (is_record rows.entries) rows.records)
+    ∷ (λ rows. list_all (is_right rows.merchants) rows.rights)
+    ∷ (λ rows. list_all (is_card rows.merchants rows.entries) rows.cards
+    && list_all (has_card rows.cards) rows.entries)
+    ∷ (λ rows. list_all has_lead rows.merchants)
+    ∷ (λ rows. list_all has_end rows.rights)
     ∷ []
+
+-- whether the rows keep each of these rules
+abbrev pub verdicts_of : Rows → List Rule → List Bool
+verdicts_of rows rest = map (λ rule. rule rows) rest
 
 -- whether the rows keep the rule of this number
 abbrev pub keeps : Rows → ℕ → Bool
 keeps rows zero = true
-keeps rows (suc n) = slice_index_or (verdicts rows) n true
+keeps rows (suc n) = slice_index_or (verdicts_of rows rules) n true
 
 -- the rows break this rule, and none below it
 pub record IsLeastBroken (rows : Rows) (rule : ℕ) : Type 0 where

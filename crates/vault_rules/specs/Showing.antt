@@ -10,7 +10,6 @@ use Rattle.vault_core.specs.declared.right.Right.{Right}
 use Rattle.vault_core.specs.declared.row.Entry.{Entry}
 use Rattle.vault_core.specs.declared.row.GrantRow.{GrantRow}
 use Rattle.vault_core.specs.declared.row.Record.{Record}
-use Rattle.vault_pan.specs.Mask.{lead_digits}
 use Rattle.vault_rules.specs.Lookups.{total_of, held_by, card_of, number_of, used_by}
 use Rattle.vault_rules.specs.declared.rows.RawVersion.{RawVersion}
 use Rattle.vault_rules.specs.declared.rows.RawMerchant.{RawMerchant}
@@ -20,13 +19,7 @@ use Rattle.vault_rules.specs.declared.rows.RawEntry.{RawEntry}
 use Rattle.vault_rules.specs.declared.rows.RawRecord.{RawRecord}
 use Rattle.vault_rules.specs.declared.rows.RawRight.{RawRight}
 use Rattle.vault_rules.specs.AllRows.{Rows}
-
--- a row has the lives, the moment and the lead of a merchant
-pub record ShowsMerchant (m : RawMerchant) (merchant : Merchant) : Type 0 where
-  pub single_life : m.single_life ≡ pos merchant.single_life
-  pub multi_life : m.multi_life ≡ pos merchant.multi_life
-  pub moment : m.moment ≡ pos merchant.moment
-  pub lead : m.lead ≡ pos (lead_digits merchant.lead)
+use Rattle.vault_rules.specs.MerchantRows.{ShowsMerchant}
 
 -- the card of an entry, unless it is purged, is a card row of its merchant
 abbrev pub HasCard : List RawCard → RawEntry → Type 0
@@ -65,6 +58,13 @@ pub record ShowsCount (c : RawCount) (V : Vault) : Type 0 where
       ⊎ (merchant : Merchant) × (merchant_at V (string_bytes c.merchant) ≡ Some merchant)
       × ((kind ≡ 2) × (total ≡ merchant.given) ⊎ (kind ≡ 3) × (total ≡ merchant.denied))
 
+-- a row has the columns of a right
+abbrev pub ShowsRight : RawRight → Vault → Type 0
+ShowsRight r V =
+    (right : Right) × (g : GrantRow) × (r.what ≡ pos (right_number right))
+    × (right_at V (string_bytes r.caller) (string_bytes r.merchant) right ≡ Some g)
+    × (r.ends ≡ option_map pos g.ends)
+
 -- the rows of each table are the pairs of a vault
 pub record Shows (rows : Rows) (V : Vault) : Type 0 where
   pub version : RawVersion
@@ -90,7 +90,4 @@ pub record Shows (rows : Rows) (V : Vault) : Type 0 where
   pub records : (r : RawRecord) → Has rows.records r
       → (request : ℕ) × (shown : Record) × (r.request ≡ pos request)
       × (record_at V (string_bytes r.caller) request ≡ Some shown) × ShowsRecord r shown
-  pub rights : (r : RawRight) → Has rows.rights r
-      → (right : Right) × (g : GrantRow) × (r.what ≡ pos (right_number right))
-      × (right_at V (string_bytes r.caller) (string_bytes r.merchant) right ≡ Some g)
-      × (r.ends ≡ option_map pos g.ends)
+  pub rights : (r : RawRight) → Has rows.rights r → ShowsRight r V

@@ -1,22 +1,17 @@
 -- The vault that rows stand for.
-use Rattle.std.specs.Prelude.{◌≢◌, ℕ, ℤ, pos, negsuc, List, [], ◌∷◌, map, option_map, string_bytes}
-use Rattle.std.specs.Prelude.{if◌then◌else◌}
+use Rattle.std.specs.Prelude.{◌≢◌, ℕ, ℤ, pos, List, [], ◌∷◌, map, option_map, string_bytes}
 use Rattle.std.specs.FinMap as finite
-use Rattle.std.specs.Ordering.{int_eq}
 use Rattle.sqlite_rules.specs.Lists.{Has}
 use Rattle.vault_core.specs.Keys.{Bytes}
+use Rattle.vault_core.specs.Lives.{counted_merchant}
 use Rattle.vault_core.specs.Vault.{Vault, Merchant}
 use Rattle.vault_core.specs.declared.right.Right.{Right}
-use Rattle.vault_core.specs.declared.right.Right.TheVariants.{Tokenize, Detokenize, View, Revoke, Purge}
-use Rattle.vault_core.specs.declared.right.Right.TheVariants.{Audit}
 use Rattle.vault_core.specs.declared.row.Entry.{Entry}
 use Rattle.vault_core.specs.declared.row.GrantRow.{GrantRow}
 use Rattle.vault_core.specs.declared.row.Record.{Record}
-use Rattle.vault_core.specs.declared.usage.Use.{Use}
-use Rattle.vault_core.specs.declared.usage.Use.TheVariants.{Single, Multi}
-use Rattle.vault_pan.specs.declared.lead.Lead.{Lead}
-use Rattle.vault_pan.specs.declared.lead.Lead.TheVariants.{Six, Eight}
+use Rattle.vault_rules.specs.Codes.{natural, right_of, use_of}
 use Rattle.vault_rules.specs.Lookups.{total_of, number_of}
+use Rattle.vault_rules.specs.MerchantRows.{raw_lives}
 use Rattle.vault_rules.specs.declared.rows.RawMerchant.{RawMerchant}
 use Rattle.vault_rules.specs.declared.rows.RawCount.{RawCount}
 use Rattle.vault_rules.specs.declared.rows.RawCard.{RawCard}
@@ -25,39 +20,11 @@ use Rattle.vault_rules.specs.declared.rows.RawRecord.{RawRecord}
 use Rattle.vault_rules.specs.declared.rows.RawRight.{RawRight}
 use Rattle.vault_rules.specs.AllRows.{Rows}
 
--- a whole number that isn't negative
-abbrev pub natural : ℤ → ℕ
-natural (pos n) = n
-natural (negsuc n) = 0
-
--- the use of a number
-abbrev pub use_of : ℤ → Use
-use_of n = if int_eq n (pos 2) then Multi else Single
-
--- the right of a number
-abbrev pub right_of : ℤ → Right
-right_of n =
-    if int_eq n (pos 1) then Tokenize
-    else if int_eq n (pos 2) then Detokenize
-    else if int_eq n (pos 3) then View
-    else if int_eq n (pos 4) then Revoke
-    else if int_eq n (pos 5) then Purge
-    else Audit
-
--- the lead of so many digits
-abbrev pub lead_of : ℤ → Lead
-lead_of n = if int_eq n (pos 8) then Eight else Six
-
 -- a merchant, with its counts of numbers given (2) and denied (3)
 abbrev pub merchant_value : List RawCount → RawMerchant → Merchant
-merchant_value counts m = record {
-  single_life = natural m.single_life;
-  multi_life = natural m.multi_life;
-  lead = lead_of m.lead;
-  moment = natural m.moment;
-  given = natural (total_of counts (string_bytes m.name) (pos 2));
-  denied = natural (total_of counts (string_bytes m.name) (pos 3));
-}
+merchant_value counts m =
+    counted_merchant (raw_lives m) (natural (total_of counts (string_bytes m.name) (pos 2)))
+    (natural (total_of counts (string_bytes m.name) (pos 3)))
 
 -- an entry's merchant and token
 abbrev pub entry_key : RawEntry → Bytes × Bytes

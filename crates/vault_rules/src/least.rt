@@ -18,7 +18,7 @@ use crate::rules::merchants::{are_lasting, are_named, is_current};
 /// How many rules there are.
 const RULES: usize = 15;
 
-/// The least number of a rule that the rows break, from 1 to 15. The records came behind the entries, the
+/// The least number of a rule that the rows break, from 1 on. The records came behind the entries, the
 /// merchants, the counts and the cards.
 pub fn least_broken(
     versions: &[RawVersion],
@@ -35,7 +35,7 @@ pub fn least_broken(
     first_broken(&kept)
 }
 
-/// Whether the rows keep each rule, from 1 to 15, up to the first that they break.
+/// Whether the rows keep each rule, from 1 on, up to the first that they break.
 fn verdicts(
     versions: &[RawVersion],
     replaced: u64,

@@ -1,38 +1,42 @@
 -- What stands behind the tables of an older schema, in each version.
-use Rattle.std.proofs.Common.{◌≡◌, ℕ, zero, suc, true, false, List, [], ◌∷◌, refl, subst}
+use Rattle.std.proofs.Common.{◌≡◌, true, false, List, [], ◌∷◌, refl, subst}
 use Rattle.sqlite.specs.Table.{Table}
 use Rattle.sqlite_schema.specs.declared.schema.Index.{Index}
 use Rattle.sql_maps.proofs.Keys.{IsGuarded}
 use Rattle.sql_maps.specs.Schema.{columns_to, grown, guards_of, is_plain, table_of}
 use Rattle.sql_maps.proofs.Grown.{guarded_in_grown}
-use Rattle.vault_schema.proofs.Layers.{free_at, plain_at}
-use Rattle.vault_schema.specs.Layers.{indexes_at, is_from, is_many, rank, tables_at}
+use Rattle.vault_schema.proofs.Layers.{are_split, free_in, indexes_from, layers_after, no_indexes, no_tables}
+use Rattle.vault_schema.proofs.Layers.{plain_at, tables_from}
+use Rattle.vault_schema.specs.Layers.{indexes_at, is_from, tables_at}
 use Rattle.vault_schema.specs.Version1.Tables.{v1}
 use Rattle.vault_schema.specs.Version2.Tables.{cards, entries, v2}
-use Rattle.vault_schema.specs.Version3.Tables.{v3}
-use Rattle.vault_schema.specs.Version4.Tables.{v4}
+use Rattle.vault_schema.specs.Version3.{v3}
+use Rattle.vault_schema.specs.Version4.{v4}
 use Rattle.vault_schema.specs.Versioned.{HasVersion}
-use Rattle.vault_schema.specs.Versions.{fourth_layers, has_cards, layers, schema_of, second_layers}
-use Rattle.vault_schema.specs.Versions.{third_layers}
+use Rattle.vault_schema.specs.Versions.{has_cards, layers, schema_of, second_layers, third_layers}
 use Rattle.vault_schema.specs.declared.version.Version.{Version}
-use Rattle.vault_schema.specs.declared.version.Version.TheVariants.{Three, Four}
-
--- where there are more, there are so many
-fewer : (m n : ℕ) → is_many (suc m) n ≡ true → is_many m n ≡ true
-fewer zero n more = refl
-fewer (suc m) zero more = absurd cc
-fewer (suc m) (suc n) more = fewer m n more
+use Rattle.vault_schema.specs.declared.version.Version.TheVariants.{Two, Three, Four}
 
 guard_of_cards : IsGuarded v2.indexes (table_of cards) (2 ∷ 3 ∷ [])
 guard_of_cards = record { index = _; only = refl; order = refl; columns = refl }
 
--- and where there are fewer, there aren't more
-no_more : (m n : ℕ) → is_many m n ≡ false → is_many (suc m) n ≡ false
-no_more zero n none = absurd cc
-no_more (suc m) zero none = refl
-no_more (suc m) (suc n) none = no_more m n none
-
 module _ (v : Version) where
+  -- behind the tables of an older version
+  abbrev pub behind_from : Version → List Table
+  behind_from w = tables_at v (layers_after w layers)
+
+  abbrev pub indexes_behind_from : Version → List Index
+  indexes_behind_from w = indexes_at v (layers_after w layers)
+
+  -- each version begins with the tables and indexes of those before it
+  pub schema_from : (w : Version) → are_split w layers ≡ true → is_from w v ≡ true
+      → schema_of v ≡ grown (schema_of w) (behind_from w) (indexes_behind_from w)
+  schema_from w split from = λ i. record {
+    tables = tables_from w v layers split from i;
+    indexes = indexes_from w v layers split from i;
+    views = [];
+  }
+
   -- behind schema 1
   abbrev pub behind : List Table
   behind = tables_at v second_layers
@@ -49,10 +53,17 @@ module _ (v : Version) where
 
   -- behind schema 3
   abbrev pub behind_three : List Table
-  behind_three = tables_at v fourth_layers
+  behind_three = behind_from Three
 
   abbrev pub indexes_behind_three : List Index
-  indexes_behind_three = indexes_at v fourth_layers
+  indexes_behind_three = indexes_behind_from Three
+
+  -- behind schema 4
+  abbrev pub behind_four : List Table
+  behind_four = behind_from Four
+
+  abbrev pub indexes_behind_four : List Index
+  indexes_behind_four = indexes_behind_from Four
 
   pub schema_is : schema_of v ≡ grown v1 behind indexes_behind
   schema_is = refl
@@ -62,35 +73,26 @@ module _ (v : Version) where
 
   pub schema_first : has_cards v ≡ false → schema_of v ≡ v1
   schema_first none =
-      let no_third : is_from Three v ≡ false = no_more 1 (rank v) none in
-      let no_fourth : is_from Four v ≡ false = no_more 2 (rank v) no_third in
-      rw (none, no_third, no_fourth) refl
+      rw (no_tables Two v second_layers refl none, no_indexes Two v second_layers refl none) refl
 
   pub schema_second : has_cards v ≡ true → schema_of v ≡ grown v2 behind_two indexes_behind_two
-  schema_second has = rw (has) refl
-
-  -- what has the tables of schema 3 has those of schema 2
-  third_has : is_from Three v ≡ true → has_cards v ≡ true
-  third_has has = fewer 1 (rank v) has
+  schema_second has = schema_from Two refl has
 
   pub schema_third : is_from Three v ≡ true → schema_of v ≡ grown v3 behind_three indexes_behind_three
-  schema_third has = rw (third_has has, has) refl
+  schema_third has = schema_from Three refl has
 
-  fourth_third : is_from Four v ≡ true → is_from Three v ≡ true
-  fourth_third has = fewer 2 (rank v) has
-
-  pub schema_fourth : is_from Four v ≡ true → schema_of v ≡ v4
-  schema_fourth has = rw (third_has (fourth_third has), fourth_third has, has) refl
+  pub schema_fourth : is_from Four v ≡ true → schema_of v ≡ grown v4 behind_four indexes_behind_four
+  schema_fourth has = schema_from Four refl has
 
   -- the index of a merchant's numbers stays the only one that guards them
   pub cards_guarded : IsGuarded (grown v2 behind_two indexes_behind_two).indexes (table_of cards)
       (2 ∷ 3 ∷ [])
   cards_guarded = guarded_in_grown v2.indexes guard_of_cards indexes_behind_two
-      (free_at v cards (2 ∷ 3 ∷ []) third_layers (refl, (refl, tt)))
+      (free_in v cards (2 ∷ 3 ∷ []) third_layers refl)
 
   -- nor does a later index guard the key of entries that point at cards
   pub entries_free : guards_of indexes_behind_two (table_of entries) (columns_to 2) ≡ []
-  entries_free = free_at v entries (columns_to 2) third_layers (refl, (refl, tt))
+  entries_free = free_in v entries (columns_to 2) third_layers refl
 
   pub plain_is : is_plain (schema_of v) ≡ true
   plain_is = plain_at v layers refl refl

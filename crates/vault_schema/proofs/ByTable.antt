@@ -12,7 +12,7 @@ use Rattle.vault_schema.specs.Version1.Rows.{count_row, entry_row, record_row}
 use Rattle.vault_schema.specs.Version2.Rows.{card_columns, pointing_row}
 use Rattle.vault_schema.specs.Versions.{Lookups, StandJoined, StandRows, has_cards, layers, schema_of}
 use Rattle.vault_schema.specs.Versions.{OldMerchants, OldRights, Tables, claims_of, natural_of, third_layers}
-use Rattle.vault_schema.specs.Versions.{AreSix, HasDefaults, HasRightsDefault, tables_of, uncarded_claims}
+use Rattle.vault_schema.specs.Versions.{tables_of, uncarded_claims}
 use Rattle.vault_schema.specs.declared.v2.Card.{Card}
 use Rattle.vault_schema.specs.declared.v2.Pointing.{Pointing}
 use Rattle.vault_schema.specs.declared.version.Version.{Version}
@@ -82,12 +82,3 @@ module _ (v : Version) (db : Trees) (h : Lookups) where
   first_entries none stands =
       subst (λ b. claim_or_empty b (λ rows. AreRowsOf entry_row rows h.entries) (db 5)) none
       ((holds_at v _ db layers stands).1.1.1.0 refl)
-
--- the default of rights, alone
-pub rights_default : (v : Version) (h : Lookups) → HasDefaults v h → HasRightsDefault v h
-rights_default v h defaults =
-    elim (is_from Three v) as (λ b. Either b (HasRightsDefault v h) (AreSix h × HasRightsDefault v h)
-    → HasRightsDefault v h) [
-      | true ↦ λ rights. rights
-      | false ↦ λ both. both.1
-    ] defaults

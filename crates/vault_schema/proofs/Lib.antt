@@ -2,6 +2,7 @@ pub mod Behind
 pub mod ByTable
 pub mod Layers
 pub mod Newest
+pub mod Values
 pub mod Version1
 pub mod Version2
 pub mod Version3

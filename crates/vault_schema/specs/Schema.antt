@@ -1,7 +1,7 @@
 -- The schema of a vault's database, of the newest version.
 use Rattle.sqlite.specs.Schema.{Schema}
-use Rattle.vault_schema.specs.Version4.Tables.{v4}
+use Rattle.vault_schema.specs.Versions.{newest, schema_of}
 
 -- all tables and indexes, with their trees
 abbrev pub newest_schema : Schema
-newest_schema = v4
+newest_schema = schema_of newest

@@ -8,8 +8,7 @@ use Rattle.vault_core.specs.Lives.{lives_in}
 use Rattle.vault_core.specs.Vault.{Vault, Merchant, merchant_at, made_count}
 use Rattle.sql_maps.specs.States.{Claim}
 use Rattle.vault_schema.specs.Versions.{Lookups, StandJoined, Tables, claims_of}
-use Rattle.vault_schema.specs.declared.version.Version.{Version}
-use Rattle.vault_schema.specs.declared.version.Version.TheVariants.{Four}
+pub use Rattle.vault_schema.specs.Versions.{newest}
 
 -- how many tokens a merchant has (1), and how often a number was given (2) or denied (3)
 abbrev pub count_at : Vault → Bytes → ℕ → ℕ
@@ -32,10 +31,6 @@ lookups_of V = record {
   records = map.get V.records;
   rights = map.get V.rights;
 }
-
--- the newest version
-abbrev pub newest : Version
-newest = Four
 
 -- what is said of the rows of its tables
 abbrev pub newest_claims : Tables → List Claim

@@ -3,12 +3,13 @@
 use Rattle.std.specs.Prelude.{◌≡◌, ℕ, suc, ℤ, pos, Bool, List, [], ◌∷◌, false, Option, Some, None}
 use Rattle.std.specs.Prelude.{option_map, IsTrue}
 use Rattle.sqlite.specs.Effect.{Database, IsDatabase}
+use Rattle.sqlite.specs.Order.{Row}
 use Rattle.sqlite.specs.Schema.{Schema}
 use Rattle.sqlite.specs.State.{State}
 use Rattle.sqlite.specs.Tree.{Trees}
 use Rattle.sqlite_catalog.specs.Listing.{IsSound}
 use Rattle.sql_maps.specs.Rows.{AreRowsById, AreRowsOf}
-use Rattle.sql_maps.specs.Schema.{table_of}
+use Rattle.sql_maps.specs.Schema.{Descriptor, table_of}
 use Rattle.sql_maps.specs.States.{Claim, IsFree, StandsIn}
 use Rattle.vault_core.specs.Keys.{Bytes}
 use Rattle.vault_pan.specs.declared.lead.Lead.TheVariants.{Six}
@@ -21,14 +22,11 @@ use Rattle.vault_schema.specs.Version1.Claims.{IsVersion}
 use Rattle.vault_schema.specs.Version1.Rows.{count_row, entry_row, record_row}
 use Rattle.vault_schema.specs.Version1.Rows as one
 use Rattle.vault_schema.specs.Version1.Tables as tables1
-use Rattle.vault_schema.specs.Version1.Tables.{v1}
 use Rattle.vault_schema.specs.Version2.Joined.{AreJoined, nothing_owed}
 use Rattle.vault_schema.specs.Version2.Rows.{card_columns, pointing_row}
 use Rattle.vault_schema.specs.Version2.Tables as tables2
-use Rattle.vault_schema.specs.Version3.Rows as three
-use Rattle.vault_schema.specs.Version3.Tables as tables3
-use Rattle.vault_schema.specs.Version4.Rows as four
-use Rattle.vault_schema.specs.Version4.Tables as tables4
+use Rattle.vault_schema.specs.Version3 as three
+use Rattle.vault_schema.specs.Version4 as four
 use Rattle.vault_schema.specs.declared.v2.Card.{Card}
 use Rattle.vault_schema.specs.declared.v2.Pointing.{Pointing}
 use Rattle.vault_core.specs.declared.row.Lives.{Lives}
@@ -48,6 +46,26 @@ next_of One = Two
 next_of Two = Three
 next_of Three = Four
 next_of Four = Four
+
+-- the newest version
+abbrev pub newest : Version
+newest = Four
+
+-- ---- how the newest table has a merchant, and how the newest one has a right
+
+abbrev pub newest_merchants : Descriptor
+newest_merchants = three.merchants
+
+abbrev pub lives_columns : Lives → Row
+lives_columns = three.lives_columns
+
+abbrev pub merchant_row : Bytes → Lives → Row
+merchant_row = three.merchant_row
+
+abbrev pub right_row : Bytes × (Bytes × Right) → GrantRow → Row
+right_row = four.right_row
+
+-- ---- what is looked up, and what tables have of it
 
 -- what is looked up in a vault, whatever the version
 pub record Lookups : Type 0 where
@@ -84,10 +102,10 @@ abbrev pub OldRights : (Bytes × (Bytes × Right) → Option GrantRow) → Claim
 OldRights held rows = AreRowsOf one.right_row rows (λ key. option_map four.older (held key))
 
 abbrev pub Merchants : (Bytes → Option Lives) → Claim
-Merchants held rows = AreRowsOf three.merchant_row rows held
+Merchants held rows = AreRowsOf merchant_row rows held
 
 abbrev pub Rights : (Bytes × (Bytes × Right) → Option GrantRow) → Claim
-Rights held rows = AreRowsOf four.right_row rows held
+Rights held rows = AreRowsOf right_row rows held
 
 -- ---- the tables of a vault, in the order in which they came
 
@@ -100,8 +118,8 @@ abbrev pub fourth_layers : List (Layer Contents)
 fourth_layers = record {
   since = Four;
   till = None;
-  table = table_of tables4.rights;
-  indexes = tables4.indexes4;
+  table = table_of four.rights;
+  indexes = four.indexes4;
   claim = λ v held. Rights held.1.rights;
 } ∷ []
 
@@ -110,8 +128,8 @@ abbrev pub third_layers : List (Layer Contents)
 third_layers = record {
   since = Three;
   till = None;
-  table = table_of tables3.merchants;
-  indexes = tables3.indexes3;
+  table = table_of three.merchants;
+  indexes = three.indexes3;
   claim = λ v held. Merchants held.1.merchants;
 } ∷ fourth_layers
 
@@ -218,12 +236,22 @@ AreSix h = (m : Bytes) (x : Lives) → h.merchants m ≡ Some x → x.lead ≡ S
 abbrev pub AreEndless : Lookups → Type 0
 AreEndless h = (key : Bytes × (Bytes × Right)) (g : GrantRow) → h.rights key ≡ Some g → g.ends ≡ None
 
--- what a version can't hold has its default: rights up to schema 4, and merchants up to schema 3
-abbrev pub HasRightsDefault : Version → Lookups → Type 0
-HasRightsDefault v h = Either (is_from Four v) (Unit {0}) (AreEndless h)
+-- what is so of all that is looked up before a version, which can't hold anything else
+pub record Default : Type 1 where
+  pub till : Version
+  pub is : Lookups → Type 0
+
+-- in the order of the versions
+abbrev pub defaults : List Default
+defaults = record { till = Three; is = AreSix } ∷ record { till = Four; is = AreEndless } ∷ []
+
+-- what a version can't hold has its default
+abbrev pub HaveDefaults : Version → Lookups → List Default → Type 0
+HaveDefaults v h [] = Unit {0}
+HaveDefaults v h (d ∷ ds) = Either (is_from d.till v) (Unit {0}) (d.is h) × HaveDefaults v h ds
 
 abbrev pub HasDefaults : Version → Lookups → Type 0
-HasDefaults v h = Either (is_from Three v) (HasRightsDefault v h) (AreSix h × HasRightsDefault v h)
+HasDefaults v h = HaveDefaults v h defaults
 
 -- THE ROWS OF A VERSION STAND FOR WHAT IS LOOKED UP
 pub record Stand (v : Version) (db : Trees) (h : Lookups) : Type 0 where

@@ -12,17 +12,6 @@ pub struct Lives {
     pub moment: Moment,
 }
 
-/// The names of its tables, and of the index that isn't a key's.
-pub const NAMES: [&str; 7] = [
-    "vault",
-    "merchants",
-    "counts",
-    "entries",
-    "entries_number",
-    "records",
-    "rights",
-];
-
 /// Makes the table of the version.
 pub const CREATE_VAULT: &str =
     "CREATE TABLE vault (id INTEGER PRIMARY KEY, version INTEGER NOT NULL) STRICT";

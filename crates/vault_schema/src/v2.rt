@@ -25,20 +25,6 @@ pub struct Pointing {
     pub revoked: Option<Moment>,
 }
 
-/// The names of its tables, and of the indexes that aren't a key's.
-pub const NAMES: [&str; 10] = [
-    "vault",
-    "merchants",
-    "counts",
-    "entries",
-    "entries_number",
-    "records",
-    "rights",
-    "cards2",
-    "entries2",
-    "entries2_card",
-];
-
 /// Makes the table of cards.
 pub const CREATE_CARDS: &str = "\
     CREATE TABLE cards2 (id INTEGER PRIMARY KEY, merchant TEXT NOT NULL, number TEXT NOT NULL, \

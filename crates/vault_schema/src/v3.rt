@@ -1,21 +1,6 @@
 //! Schema 3: that of version 2, and behind it merchants with a lead, which take the older ones' place.
 pub mod shape;
 
-/// The names of its tables, and of the indexes that aren't a key's.
-pub const NAMES: [&str; 11] = [
-    "vault",
-    "merchants",
-    "counts",
-    "entries",
-    "entries_number",
-    "records",
-    "rights",
-    "cards2",
-    "entries2",
-    "entries2_card",
-    "merchants3",
-];
-
 /// Makes the table of merchants.
 pub const CREATE_MERCHANTS: &str = "\
     CREATE TABLE merchants3 (name TEXT NOT NULL PRIMARY KEY, single_life INTEGER NOT NULL, \
@@ -30,6 +15,3 @@ pub const EMPTY_MERCHANTS: &str = "DELETE FROM merchants";
 
 /// Writes the version over that of schema 2.
 pub const SET_VERSION: &str = "UPDATE vault SET version = 3 WHERE id = 1";
-
-/// How many merchants there are.
-pub const COUNT_MERCHANTS: &str = "SELECT count(*) FROM merchants3";

@@ -7,7 +7,7 @@ use vault_core::moment::Moment;
 use vault_core::name::{Caller, MerchantId};
 use vault_core::reply::Reply;
 use vault_core::right::Right;
-use vault_pan::lead::Lead;
+use vault_core::row::Lives;
 use vault_pan::token::Token;
 use vault_store::tables::Tables;
 use vault_store::vault::{Fault, Vault};
@@ -37,13 +37,8 @@ fn applied<T: Tables>(vault: &mut Vault<T>, command: &Command) -> Option<Answer>
 /// good.
 fn open<T: Tables>(vault: &mut Vault<T>, line: &str) -> Option<Answer> {
     let (caller, merchant, now) = (caller(line, 1)?, merchant(line, 2)?, moment(line, 5)?);
-    let set = Command::SetMerchant {
-        merchant,
-        single_life: number(line, 3)?,
-        multi_life: number(line, 4)?,
-        lead: Lead::Six,
-        now,
-    };
+    let lives = Lives::usual(number(line, 3)?, number(line, 4)?, now);
+    let set = Command::setting(merchant, lives);
     let mut answer = applied(vault, &set)?;
     for right in RIGHTS {
         let grant = Command::Grant {

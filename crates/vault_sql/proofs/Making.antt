@@ -1,52 +1,41 @@
 -- What making the schema leads to: the empty vault.
-use Rattle.std.proofs.Common.{◌≡◌, ℕ, ℤ, suc, pos, List, [], ◌∷◌, Option, None, Ok, true}
+use Rattle.std.proofs.Common.{◌≡◌, ℕ, suc, pos, List, [], ◌∷◌, Ok, true, length}
 use Rattle.std.proofs.Common.{option_map, refl, sym, ap, subst, ◌∙◌, arith, IsTrue, Result, OnOk}
+use Rattle.std.proofs.Common.{◌+◌, ◌<◌, get_or}
 use Rattle.std.proofs.lemmas.Bool.Decides.{nat_tests}
 use Rattle.sqlite.specs.State.{HasCleanDisk, State, ExecutesInside}
 use Rattle.sqlite.specs.Change.{indexed, created}
 use Rattle.sqlite_schema.specs.declared.schema.Index.{Index}
-use Rattle.sql_maps.specs.States.{Steps, IsEmpty, StandsIn, Within}
+use Rattle.sql_maps.specs.States.{Steps, IsEmpty, StandsIn}
 use Rattle.sql_maps.specs.Texts.{MakesIndex, MakesTable}
-use Rattle.sql_maps.proofs.Calls.{on_ok}
+use Rattle.sql_maps.proofs.Calls.{on_ok, steps_then}
 use Rattle.std.specs.FinMap as map
 use Rattle.std.specs.Ordering.{eq_by_cmp}
 use Rattle.sqlite.specs.Effect.{Database}
-use Rattle.sqlite.specs.Order.{Row}
 use Rattle.sqlite.specs.Schema.{Schema}
 use Rattle.sqlite.specs.Table.{Table}
 use Rattle.sqlite.specs.Tree.{Trees}
 use Rattle.sqlite.specs.declared.types.Value.TheVariants.{Null, Int}
-use Rattle.sql_maps.specs.Rows.{AreRowsById}
 use Rattle.sql_maps.specs.Schema.{no_schema}
-use Rattle.sql_maps.proofs.ByKey.{no_rows}
 use Rattle.sql_maps.proofs.Making.{makes_index, makes_table}
 use Rattle.sql_maps.proofs.Statements.{insert_first, retold}
 use Rattle.vault_core.proofs.Maps.{entry_total, entry_exact, get-retained}
 use Rattle.vault_core.specs.Keys.{Bytes, bytes_cmp, entry_cmp, record_cmp, right_cmp}
 use Rattle.vault_core.specs.Vault.{Merchant, empty_vault, entries_of, made_count}
 use Rattle.vault_core.specs.declared.row.Entry.{Entry}
-use Rattle.vault_schema.specs.Version1.Claims.{IsVersion}
-use Rattle.vault_schema.specs.Version1.Rows.{count_row, record_row}
-use Rattle.vault_schema.specs.Version3.Rows.{merchant_row}
-use Rattle.vault_schema.specs.Version3.Tables.{v3}
-use Rattle.vault_schema.specs.Version4.Rows.{right_row}
-use Rattle.vault_schema.specs.Version4.Tables.{rights}
 use Rattle.vault_schema.specs.Version1.Tables.{vault}
 use Rattle.vault_schema.specs.Stands.{newest_claims}
 use Rattle.vault_schema.specs.Version2.Joined.{AreJoined, nothing_owed}
-use Rattle.vault_schema.specs.Version2.Rows.{card_columns, pointing_row}
-use Rattle.vault_schema.specs.declared.v2.Card.{Card}
-use Rattle.vault_schema.specs.declared.v2.Pointing.{Pointing}
-use Rattle.vault_schema.specs.declared.v4.TheConstants.{PUT_VERSION}
-use Rattle.vault_schema.proofs.Version1.Making.{treeless}
-use Rattle.vault_schema.proofs.Version4.Making as version4
-use Rattle.vault_schema.proofs.Version4.Texts.{put_version_is}
+use Rattle.vault_schema.proofs.Newest.{emptied, emptied_claims, later_made, later_makes, later_texts}
+use Rattle.vault_schema.proofs.Newest.{no_tables, put_version_is}
+use Rattle.vault_schema.specs.Version2.Tables.{v2}
+use Rattle.vault_schema.specs.declared.version.TheConstants.{PUT_VERSION}
 use Rattle.vault_rows.specs.Calls.{IsWithin}
 use Rattle.vault_schema.specs.Making.{IsRowless, IsBegun, IsReady, empties}
 use Rattle.vault_schema.specs.Schema.{newest_schema}
 use Rattle.vault_core.specs.Lives.{lives_in}
 use Rattle.vault_schema.specs.Stands.{count_at, lookups_of, unless_zero}
-use Rattle.vault_schema.specs.Versions.{tables_of}
+use Rattle.vault_schema.specs.Versions.{newest, number_of, tables_of}
 
 -- ---- the tables, one after the other
 
@@ -108,6 +97,27 @@ pub all_tables : (n : ℕ) {s next : Schema} → s ≡ next → (Begun : Databas
 all_tables n same Begun st made clean base b =
     subst (λ s. IsRowless s n st base) same (made clean base b)
 
+-- so many of the tables that came since schema 2 are made
+pub record AreMade (old new : State) (n : ℕ) : Type 0 where
+  pub steps : Steps old new
+  pub made : Reached (IsRowless v2 8 old) new (later_made n) (length (later_made n).tables)
+
+-- and one more
+pub later_more : {old mid new : State} (n : ℕ) (text : List ℕ) → n < length later_texts
+    → text ≡ get_or later_texts n [] → AreMade old mid n → Steps mid new
+    → (HasCleanDisk new → IsTrue mid.in_transaction
+    → (count : ℕ) × ExecutesInside 0 text [] mid new (Ok count))
+    → AreMade old new (n + 1)
+later_more {old} {mid} {new} n text inside is before steps ran =
+    let it = later_makes n text inside is in
+    let made = all_tables (suc (length (later_made n).tables)) it.made (IsRowless v2 8 old) new
+    (table_made steps ran (length (later_made n).tables) it.makes before.made) in
+    let next : suc n ≡ n + 1 = omega arith in
+    subst (AreMade old new) next (record {
+      steps = steps_then before.steps steps;
+      made = subst (Reached (IsRowless v2 8 old) new (later_made (suc n))) it.more made;
+    })
+
 -- ---- the empty vault
 
 none_made : (m : Bytes) → made_count empty_vault m ≡ 0
@@ -125,14 +135,7 @@ no_count : (m : Bytes) (kind : ℕ) → count_at empty_vault m kind ≡ 0
 no_count m kind = let none = none_made m in let empty = map.get-empty {X = Merchant} bytes_cmp m in
     grind (arith, nat_tests, none, empty)
 
--- no cards, and no entries that point at one
-abbrev no_cards : ℤ → Option Card
-no_cards id = None
-
-abbrev no_pointing : Bytes × Bytes → Option Pointing
-no_pointing key = None
-
-none_joined : AreJoined nothing_owed no_cards no_pointing (map.get empty_vault.entries)
+none_joined : AreJoined nothing_owed no_tables.cards no_tables.pointing (map.get empty_vault.entries)
 none_joined = record {
   same = λ key. map.get-empty entry_cmp key;
   owned = λ key id at. absurd cc;
@@ -140,70 +143,43 @@ none_joined = record {
   used = λ id c is. absurd cc;
 }
 
-no_ids : (rows : List Row) → rows ≡ [] → AreRowsById card_columns rows no_cards
-no_ids rows is = subst (λ l. AreRowsById card_columns l no_cards) (sym is) (record {
-  apart = tt;
-  sound = λ r h. absurd h;
-  complete = λ n x some. absurd cc;
-})
+-- nothing is looked up in the empty vault
+nothing_held : no_tables ≡ tables_of (lookups_of empty_vault) no_tables.cards no_tables.pointing
+nothing_held = λ i. record {
+  merchants = λ m. sym (ap (option_map lives_in) (map.get-empty bytes_cmp m)) i;
+  counts = λ key. sym (ap unless_zero (no_count key.0 key.1)) i;
+  records = λ key. sym (map.get-empty record_cmp key) i;
+  rights = λ key. sym (map.get-empty right_cmp key) i;
+  cards = no_tables.cards;
+  pointing = no_tables.pointing;
+}
 
--- tables without rows stand for the empty vault
-emptied : (db : Trees) → StandsIn newest_schema.tables (IsVersion 4 ∷ empties 9) db
-    → StandsIn newest_schema.tables (newest_claims (tables_of
-    (lookups_of empty_vault) no_cards no_pointing)) db
-emptied db s = (
-  s.0,
-  (
-    s.1.0,
-    (
-      no_rows count_row (db 3) _ s.1.1.0 (λ key. ap unless_zero (no_count key.0 key.1)),
-      (
-        s.1.1.1.0,
-        (
-          no_rows record_row (db 8) _ s.1.1.1.1.0 (λ key. map.get-empty record_cmp key),
-          (
-            s.1.1.1.1.1.0,
-            (
-              no_ids (db 12) s.1.1.1.1.1.1.0,
-              (
-                no_rows pointing_row (db 14) no_pointing s.1.1.1.1.1.1.1.0 (λ key. refl),
-                (
-                  no_rows merchant_row (db 17) _ s.1.1.1.1.1.1.1.1.0
-                      (λ m. ap (option_map lives_in) (map.get-empty bytes_cmp m)),
-                  (
-                    no_rows right_row (db 19) _ s.1.1.1.1.1.1.1.1.1.0 (λ key. map.get-empty right_cmp key),
-                    tt,
-                  ),
-                ),
-              ),
-            ),
-          ),
-        ),
-      ),
-    ),
-  ),
-)
+-- tables without rows stand for it
+emptied_vault : (db : Trees) → StandsIn newest_schema.tables emptied_claims db
+    → StandsIn newest_schema.tables
+    (newest_claims (tables_of (lookups_of empty_vault) no_tables.cards no_tables.pointing)) db
+emptied_vault db s =
+    subst (λ t. StandsIn newest_schema.tables (newest_claims t) db) nothing_held (emptied db s)
 
 -- the version stands in its table, and all others are empty
 pub version_put : {R E : Type 0} (result : Result R E) {Begun : Database → Type 0} {old new : State}
     → Steps old new
     → (HasCleanDisk new → OnOk result (IsTrue old.in_transaction
     → (count : ℕ) × ExecutesInside 0 PUT_VERSION.now [] old new (Ok count)))
-    → Reached Begun old (created v3 (treeless rights)) 10 → HasCleanDisk new
+    → Reached Begun old newest_schema (length newest_schema.tables) → HasCleanDisk new
     → OnOk result ((base : Database) → Begun base → IsWithin new base (lookups_of empty_vault))
 version_put result {old = old} {new = new} steps ran before clean =
     on_ok result (ran clean) (λ ran base b.
-    let made = before (omega (arith, steps.clean, clean)) base b in
-    let ready : Within newest_schema (empties 10) base old =
-    subst (λ s. Within s (empties 10) base old) version4.all_made made in
-    let did = ran made.inside in
+    let ready = before (omega (arith, steps.clean, clean)) base b in
+    let did = ran ready.inside in
     record {
-      cards = no_cards;
-      pointing = no_pointing;
-      has = retold newest_schema (IsVersion 4 ∷ empties 9)
-          (newest_claims (tables_of (lookups_of empty_vault) no_cards no_pointing)) base new emptied
+      cards = no_tables.cards;
+      pointing = no_tables.pointing;
+      has = retold newest_schema emptied_claims
+          (newest_claims (tables_of (lookups_of empty_vault) no_tables.cards no_tables.pointing)) base new
+          emptied_vault
           (insert_first refl (record { within = ready; count = did.0; ran = did.1; limit = steps.limit })
-          vault 0
-          refl 3 _ (put_version_is [] []) (pos 1) (Null ∷ Int (pos 4) ∷ []) ready.stands.rows.0 refl refl);
+          vault 0 refl 3 _ put_version_is (pos 1) (Null ∷ Int (number_of newest) ∷ []) ready.stands.rows.0
+          refl refl);
       joined = none_joined;
     })

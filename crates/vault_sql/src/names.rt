@@ -4,7 +4,7 @@ ghost use Rattle.vault_core.specs.Keys.{bytes_cmp};
 ghost use Rattle.vault_core.specs.Vault.{Vault, merchant_at};
 ghost use Rattle.vault_rows.specs.Listed.{ShowsAll};
 ghost use Rattle.vault_core.specs.Lives.{lives_in};
-ghost use Rattle.vault_schema.specs.Version3.Rows.{merchant_row};
+ghost use Rattle.vault_schema.specs.Versions.{merchant_row};
 ghost use Rattle.vault_sql.specs.Gathered.{Gathers, ShowsName};
 ghost use Rattle.vault_store.specs.Listed.{merchant_names};
 

@@ -4,7 +4,7 @@ ghost use Rattle.std.specs.FinMap as map;
 ghost use Rattle.vault_core.specs.Keys.{right_cmp};
 ghost use Rattle.vault_core.specs.Vault.{Vault};
 ghost use Rattle.vault_rows.specs.Listed.{ShowsAll, ShowsRight};
-ghost use Rattle.vault_schema.specs.Version4.Rows.{right_row};
+ghost use Rattle.vault_schema.specs.Versions.{right_row};
 ghost use Rattle.vault_sql.specs.Gathered.{Gathers};
 
 use sqlite::Row;

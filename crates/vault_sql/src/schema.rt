@@ -16,7 +16,8 @@ ghost use Rattle.vault_schema.specs.Stands.{lookups_of};
 use sql_maps::run::step;
 use sqlite::{Alter, Connection, Error, Transaction};
 use sqlite_schema::schema::Schema;
-use vault_schema::{v1, v2, v3, v4};
+use vault_schema::version::{CREATE_LATER, PUT_VERSION};
+use vault_schema::{v1, v2};
 
 /// Why no schema was made.
 #[derive(Clone, Copy, Debug, PartialEq, Eq)]
@@ -65,7 +66,7 @@ fn create_second<S: Alter>(tx: &mut Transaction<'_, S>) -> Result<(), Error>
     step(tx, v2::CREATE_ENTRIES_CARD, &[])
 }
 
-/// Makes the tables that schemas 3 and 4 have besides and writes the version, inside a transaction.
+/// Makes the tables that later schemas have besides and writes the version, inside a transaction.
 fn create_last<S: Alter>(tx: &mut Transaction<'_, S>) -> Result<(), Error>
     ensures same_reference { tx.new.conn.ghost_name ≡ tx.old.conn.ghost_name }
     ensures steps { Steps (state S.Store tx.old.conn.now) (state S.Store tx.new.conn.now) }
@@ -73,9 +74,10 @@ fn create_last<S: Alter>(tx: &mut Transaction<'_, S>) -> Result<(), Error>
         → OnOk result ((base : _) → IsRowless second_schema 8 (state S.Store tx.old.conn.now) base
         → IsWithin (state S.Store tx.new.conn.now) base (lookups_of empty_vault)) }
 {
-    step(tx, v3::CREATE_MERCHANTS, &[])?;
-    step(tx, v4::CREATE_RIGHTS, &[])?;
-    step(tx, v4::PUT_VERSION, &[])
+    for text in CREATE_LATER {
+        step(tx, text, &[])?;
+    }
+    step(tx, PUT_VERSION, &[])
 }
 
 /// Makes all tables and writes the version, inside a transaction.

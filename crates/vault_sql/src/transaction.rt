@@ -57,7 +57,7 @@ pub(crate) fn are_storable(ch: &Changes) -> bool
     are_storable_lives(&ch.lives) && is_storable_entry(&ch.entry)
 }
 
-/// Writes the lives, the moment and the lead of a merchant.
+/// Writes the own row of a merchant.
 fn write_lives<S: Alter>(
     tx: &mut Transaction<'_, S>,
     lives: &Option<(MerchantId, Lives)>,

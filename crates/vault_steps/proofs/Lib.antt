@@ -1,8 +1,8 @@
 pub mod Carding
 pub mod Climbing
-pub mod Ending
 pub mod Entered
 pub mod Inside
-pub mod Leading
+pub mod MerchantTables
 pub mod OneStand
 pub mod Replacing
+pub mod RightTables

@@ -1,7 +1,7 @@
 -- A step that replaces a table: the newer one is made, filled from the older one, which is emptied, and the
--- version is said. Once for every such step.
-use Rattle.std.proofs.Common.{◌≡◌, ◌++◌, ℕ, ℤ, pos, true, List, [], ◌∷◌, Option, Some, None, refl, ap}
-use Rattle.std.proofs.Common.{Ordering, option_map, slice_get}
+-- version is said. Once for every such step. And what the rows of such a table tell, in whatever version.
+use Rattle.std.proofs.Common.{◌≡◌, ◌++◌, ◌∙◌, ℕ, ℤ, pos, Bool, true, false, List, [], ◌∷◌, Option, Some, None}
+use Rattle.std.proofs.Common.{Ordering, ap, option_map, refl, slice_get, subst, sym}
 use Rattle.sqlite.specs.Change.{created}
 use Rattle.sqlite.specs.Effect.{Database}
 use Rattle.sqlite.specs.Order.{Row}
@@ -16,11 +16,14 @@ use Rattle.sql_maps.specs.Schema.{is_plain, table_of}
 use Rattle.sql_maps.specs.States.{Claim, IsEmpty, Steps, Within, at_place}
 use Rattle.sql_maps.specs.Texts.{IsWrite, MakesTable, delete, eq, insert_from, update}
 use Rattle.sql_maps.proofs.Answers.{shown_as}
+use Rattle.sql_maps.proofs.ByKey.{Coding}
 use Rattle.sql_maps.proofs.Copies.{copy_in}
+use Rattle.sql_maps.proofs.Determined.{same_lookups}
 use Rattle.sql_maps.proofs.KeyTests.{int_eq}
 use Rattle.sql_maps.proofs.Keys.{Keyed}
 use Rattle.sql_maps.proofs.Moves.{change_one, empty_in}
 use Rattle.sql_maps.proofs.Plain.{claim_at}
+use Rattle.vault_schema.specs.Layers.{Either, claim_or_empty}
 use Rattle.vault_schema.specs.Version1.Claims.{IsVersion}
 use Rattle.vault_schema.specs.Version1.Tables.{vault}
 use Rattle.vault_steps.proofs.Inside.{Did, ran_in, table_in}
@@ -35,14 +38,47 @@ again {K} {X} {Y} widen older held same = λ i k. each k (held k) refl i
     each k None is = refl
     each k (Some y) is = ap (λ z. Some z) (same k y is)
 
+-- ---- what rows tell
+
+-- all that is looked up
+pub alike : {K X : Type 0} {cmp : K → K → Ordering} {encode : K → X → Row} {f g : K → Option X}
+    {rows : List Row} → Coding cmp encode → AreRowsOf encode rows f → AreRowsOf encode rows g → f ≡ g
+alike coding first other = λ i key. same_lookups coding first other key i
+
+-- before a version there is the default
+pub default_before : {P : Type 0} (past : Bool) → Either past (Unit {0}) P → past ≡ false → P
+default_before true is before = absurd cc
+default_before false is before = is
+
+-- and the older table
+pub claim_before : (past : Bool) (P : Claim) (rows : List Row) → claim_or_empty past P rows → past ≡ false
+    → P rows
+claim_before true P rows is before = absurd cc
+claim_before false P rows is before = is
+
+-- from a version on the newer table tells all, and before it the older one does, with the defaults
+pub told : {K X Y : Type 0} {cmp : K → K → Ordering} {encode : K → Y → Row} {rows : List Row} (past : Bool)
+    (widen : X → Y) (older : Y → X) (f g : K → Option Y) → Coding cmp encode
+    → (past ≡ true → AreRowsOf encode rows f) → (past ≡ true → AreRowsOf encode rows g)
+    → (past ≡ false → (k : K) (y : Y) → f k ≡ Some y → widen (older y) ≡ y)
+    → (past ≡ false → (k : K) (y : Y) → g k ≡ Some y → widen (older y) ≡ y)
+    → (past ≡ false → ◌≡◌ {A = K → Option X} (λ k. option_map older (f k)) (λ k. option_map older (g k)))
+    → f ≡ g
+told true widen older f g coding first other stays stays' before = alike coding (first refl) (other refl)
+told false widen older f g coding first other stays stays' before =
+    sym (again widen older f (stays refl)) ∙ (λ i k. option_map widen (before refl i k))
+    ∙ again widen older g (stays' refl)
+
+-- ---- a step
+
 module _ {next : Schema} {K X Y : Type 0} {cmp : K → K → Ordering} {key : K → Row}
     {was : X → Row} {value : Y → Row} (old : Keyed next cmp key was) (new : Keyed next cmp key value)
-    (widen : X → Y) (held : K → Option X) where
+    (widen : X → Y) (older : Y → X) (held : K → Option Y) where
   abbrev pub Old : Claim
-  Old rows = AreRowsOf (row_of key was) rows held
+  Old rows = AreRowsOf (row_of key was) rows (λ k. option_map older (held k))
 
   abbrev pub New : Claim
-  New rows = AreRowsOf (row_of key value) rows (λ k. option_map widen (held k))
+  New rows = AreRowsOf (row_of key value) rows held
 
   abbrev pub made_more : List Claim → List Claim
   made_more before = before ++ IsEmpty ∷ []
@@ -56,6 +92,7 @@ module _ {next : Schema} {K X Y : Type 0} {cmp : K → K → Ordering} {key : K 
   module _ {s : Schema} {claims : List Claim} {base : Database} {a b c d e : State}
       {create copy empty version : List ℕ} {t : Table}
       {project : List Term} (m n : ℕ) (fine : is_plain next ≡ true) (w : Within s claims base a)
+      (same : (k : K) (y : Y) → held k ≡ Some y → widen (older y) ≡ y)
       (makes : MakesTable s create t) (is : created s t ≡ next)
       (copies : IsWrite next copy (insert_from new.place old.table.tree project))
       (empties : IsWrite next empty (delete old.place old.table.tree []))
@@ -74,7 +111,11 @@ module _ {next : Schema} {K X Y : Type 0} {cmp : K → K → Ordering} {key : K 
     replaced one two three four create' copy' empty' version' said none still before shows =
         let first : Within next (made_more claims) base b = table_in is makes (ran_in one create' w) in
         let second : Within next (copied claims) base c =
-        copy_in fine (ran_in two copy' first) old new widen held (said _) (none _) project shows copies in
+        subst (λ (now : K → Option Y). Within next
+        (at_place (made_more claims) new.place (λ rows. AreRowsOf (row_of key value) rows now)) base c)
+        (again widen older held same)
+        (copy_in fine (ran_in two copy' first) old new widen (λ k. option_map older (held k)) (said _)
+        (none _) project shows copies) in
         let third : Within next (emptied claims) base d =
         empty_in fine (ran_in three empty' second) old.table old.place old.here empties
         (λ is r there. (still _ is).keyed r there) in

@@ -1,9 +1,10 @@
 -- What the texts of merchants mean, and how each version of the table is read whole.
-use Rattle.std.specs.Prelude.{◌++◌, [], refl}
+use Rattle.std.specs.Prelude.{◌++◌, [], ◌∷◌, refl}
 use Rattle.sqlite_tied.specs.Compute.{everything}
 use Rattle.sqlite.specs.Listing.{understood}
+use Rattle.sqlite.specs.Term.{col}
 use Rattle.sql_maps.proofs.Beside.{constants}
-use Rattle.sql_maps.specs.Texts.{IsQuery, IsWrite}
+use Rattle.sql_maps.specs.Texts.{IsQuery, IsWrite, counting_of, ordered_by, sorted_of}
 use Rattle.sql_stored.proofs.Scans.{columns_of, filled_scan, present_scan}
 use Rattle.sql_stored.specs.Keyed.{finding, putting}
 use Rattle.sql_stored.specs.Scans.{IdScan, Scan, ScansTree}
@@ -11,9 +12,10 @@ use Rattle.vault_rules.specs.declared.rows.RawMerchant.{RawMerchant}
 use Rattle.vault_schema.specs.Schema.{newest_schema}
 use Rattle.vault_schema.specs.Version1.Tables as one
 use Rattle.vault_schema.specs.Version1.Tables.{v1}
-use Rattle.vault_schema.specs.Version3.Tables.{merchants, v3}
+use Rattle.vault_schema.specs.Version3.{merchants, v3}
 use Rattle.vault_tables.specs.Merchants.{first_lead, merchant_values}
-use Rattle.vault_tables.specs.declared.merchants.TheConstants.{FIND_LIVES, PUT_MERCHANT, READ_MERCHANTS}
+use Rattle.vault_tables.specs.declared.merchants.TheConstants.{COUNT_MERCHANTS, FIND_LIVES, PUT_MERCHANT}
+use Rattle.vault_tables.specs.declared.merchants.TheConstants.{READ_MERCHANTS}
 use Rattle.vault_tables.specs.declared.merchants.old.TheConstants.{READ_MERCHANT_IDS, READ_OLD_MERCHANTS}
 
 -- ---- the newest version
@@ -21,6 +23,15 @@ use Rattle.vault_tables.specs.declared.merchants.old.TheConstants.{READ_MERCHANT
 pub read_merchants_is : ScansTree v3 READ_MERCHANTS.now 17 (columns_of merchants)
 unfolding understood everything
 read_merchants_is ts is = record { names = _; is = refl; plain = (refl, refl); unlisted = refl }
+
+pub all_merchants_is : IsQuery newest_schema READ_MERCHANTS.now
+    (sorted_of merchants.tree [] (col 1 0 ∷ columns_of merchants) [] (ordered_by (0 ∷ [])))
+unfolding understood everything
+all_merchants_is = record { names = _; is = refl; plain = (refl, refl); unlisted = refl }
+
+pub how_many_is : IsQuery newest_schema COUNT_MERCHANTS.now (counting_of merchants.tree)
+unfolding understood everything
+how_many_is = record { names = _; is = refl; plain = (refl, refl); unlisted = refl }
 
 pub lives_is : IsQuery newest_schema FIND_LIVES.now (finding merchants 1)
 unfolding understood everything

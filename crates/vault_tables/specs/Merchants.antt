@@ -7,8 +7,8 @@ use Rattle.sql_maps.proofs.Beside.{filled}
 use Rattle.sql_stored.specs.Keyed.{at_least}
 use Rattle.vault_pan.specs.Mask.{lead_digits}
 use Rattle.vault_rules.specs.declared.rows.RawMerchant.{RawMerchant}
-use Rattle.vault_schema.proofs.Version3.Codes.{merchant_codes}
-use Rattle.vault_schema.specs.Version3.Rows.{lives_columns}
+use Rattle.vault_schema.proofs.Version3.{merchant_codes}
+use Rattle.vault_schema.specs.Versions.{lives_columns}
 use Rattle.vault_core.specs.declared.row.Lives.{Lives}
 
 -- a row of `merchants3`, with its rowid in front

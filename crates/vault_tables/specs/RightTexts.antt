@@ -1,9 +1,10 @@
 -- What the texts of rights mean, and how each version of the table is read whole.
-use Rattle.std.specs.Prelude.{◌++◌, [], refl}
+use Rattle.std.specs.Prelude.{◌++◌, [], ◌∷◌, refl}
 use Rattle.sqlite_tied.specs.Compute.{everything}
 use Rattle.sqlite.specs.Listing.{understood}
+use Rattle.sqlite.specs.Term.{col}
 use Rattle.sql_maps.proofs.Beside.{constants}
-use Rattle.sql_maps.specs.Texts.{IsQuery, IsWrite}
+use Rattle.sql_maps.specs.Texts.{IsQuery, IsWrite, ordered_by, sorted_of}
 use Rattle.sql_stored.proofs.Scans.{columns_of, filled_scan, long_scan}
 use Rattle.sql_stored.specs.Keyed.{finding, putting, taking}
 use Rattle.sql_stored.specs.Scans.{IdScan, Scan, ScansTree}
@@ -11,7 +12,7 @@ use Rattle.vault_rules.specs.declared.rows.RawRight.{RawRight}
 use Rattle.vault_schema.specs.Schema.{newest_schema}
 use Rattle.vault_schema.specs.Version1.Tables as one
 use Rattle.vault_schema.specs.Version1.Tables.{v1}
-use Rattle.vault_schema.specs.Version4.Tables.{rights, v4}
+use Rattle.vault_schema.specs.Version4.{rights, v4}
 use Rattle.vault_tables.specs.Rights.{first_end, right_values}
 use Rattle.vault_tables.specs.declared.rights.TheConstants.{FIND_RIGHT, GIVE_RIGHT, READ_RIGHTS, TAKE_RIGHT}
 use Rattle.vault_tables.specs.declared.rights.old.TheConstants.{READ_OLD_RIGHTS, READ_RIGHT_IDS}
@@ -21,6 +22,11 @@ use Rattle.vault_tables.specs.declared.rights.old.TheConstants.{READ_OLD_RIGHTS,
 pub read_rights_is : ScansTree v4 READ_RIGHTS.now 19 (columns_of rights)
 unfolding understood everything
 read_rights_is ts is = record { names = _; is = refl; plain = (refl, refl); unlisted = refl }
+
+pub all_rights_is : IsQuery newest_schema READ_RIGHTS.now
+    (sorted_of rights.tree [] (col 1 0 ∷ columns_of rights) [] (ordered_by (0 ∷ [])))
+unfolding understood everything
+all_rights_is = record { names = _; is = refl; plain = (refl, refl); unlisted = refl }
 
 pub right_is : IsQuery newest_schema FIND_RIGHT.now (finding rights 3)
 unfolding understood everything

@@ -8,9 +8,9 @@ use Rattle.sql_stored.specs.Keyed.{at_least}
 use Rattle.sql_stored.specs.Values.{int_value}
 use Rattle.vault_core.specs.declared.row.GrantRow.{GrantRow}
 use Rattle.vault_rules.specs.declared.rows.RawRight.{RawRight}
-use Rattle.vault_schema.proofs.Version4.Codes.{right_codes}
+use Rattle.vault_schema.proofs.Version4.{right_codes}
 use Rattle.vault_schema.specs.Version1.Rows.{number_or_null}
-use Rattle.vault_schema.specs.Version4.Rows.{ends_column}
+use Rattle.vault_schema.specs.Version4.{ends_column}
 
 -- a row of `rights4`, with its rowid in front
 abbrev pub right_values : RawRight → Row

@@ -37,6 +37,9 @@ pub const PUT_MERCHANT: &str = "\
     ON CONFLICT (name) \
     DO UPDATE SET single_life = ?2, multi_life = ?3, moment = ?4, lead_digits = ?5";
 
+/// How many merchants there are.
+pub const COUNT_MERCHANTS: &str = "SELECT count(*) FROM merchants3";
+
 /// The table.
 pub struct Merchants;
 
@@ -84,8 +87,7 @@ impl Stored for Merchants {
     ghost use Rattle.vault_schema.specs.Schema.{newest_schema};
     ghost use Rattle.vault_schema.specs.Stands.{newest_claims};
     ghost use Rattle.vault_schema.specs.Version1.Rows.{merchant_key};
-    ghost use Rattle.vault_schema.specs.Version3.Rows.{lives_columns};
-    ghost use Rattle.vault_schema.specs.Versions.{Tables};
+    ghost use Rattle.vault_schema.specs.Versions.{Tables, lives_columns};
 
     type Key = MerchantId;
 

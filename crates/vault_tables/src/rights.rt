@@ -84,11 +84,11 @@ impl Whole for Rights {
 impl Stored for Rights {
     ghost use Rattle.std.specs.Prelude.{refl};
     ghost use Rattle.vault_core.specs.Keys.{right_cmp};
-    ghost use Rattle.vault_schema.proofs.Version4.Codes.{right_table};
+    ghost use Rattle.vault_schema.proofs.Newest.{right_table};
     ghost use Rattle.vault_schema.specs.Schema.{newest_schema};
     ghost use Rattle.vault_schema.specs.Stands.{newest_claims};
     ghost use Rattle.vault_schema.specs.Version1.Rows.{right_key};
-    ghost use Rattle.vault_schema.specs.Version4.Rows.{ends_column};
+    ghost use Rattle.vault_schema.specs.Version4.{ends_column};
     ghost use Rattle.vault_schema.specs.Versions.{Tables};
 
     type Key = (Caller, (MerchantId, Right));

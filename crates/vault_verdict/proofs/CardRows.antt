@@ -23,9 +23,10 @@ use Rattle.vault_verdict.proofs.Joining.{card_there, card_value, cards_in}
 use Rattle.vault_verdict.proofs.Permuted.{apart_permuted}
 use Rattle.vault_verdict.proofs.Tables.{same_text}
 use Rattle.vault_verdict.specs.Raw.{card_row}
+use Rattle.vault_rules.specs.Codes.{natural}
 use Rattle.vault_rules.proofs.Options.{mapped_is}
 use Rattle.vault_rules.specs.Lookups.{card_of}
-use Rattle.vault_rules.specs.VaultOf.{AreKeysApart, card_key, natural}
+use Rattle.vault_rules.specs.VaultOf.{AreKeysApart, card_key}
 use Rattle.vault_rules.specs.declared.rows.RawCard.{RawCard}
 use Rattle.vault_schema.specs.Version2.Rows.{card_columns}
 use Rattle.vault_schema.specs.Version2.Tables as v2

@@ -22,38 +22,37 @@ use Rattle.vault_core.specs.declared.row.Entry.{Entry}
 use Rattle.vault_core.specs.declared.usage.Use.{Use}
 use Rattle.vault_core.specs.declared.usage.Use.TheVariants.{Single, Multi}
 use Rattle.sql_maps.proofs.Determined.{both_ways}
-use Rattle.vault_verdict.proofs.Backs.{moment_told, none_unless, some_unless}
+use Rattle.vault_verdict.proofs.Merchants.{merchant_shown, merchant_there}
+use Rattle.vault_verdict.proofs.Rights.{right_shown}
+use Rattle.vault_schema.specs.Versions.{Merchants, Rights}
+use Rattle.vault_verdict.proofs.Backs.{none_unless, some_unless}
 use Rattle.vault_verdict.proofs.Table.{pair_of, row_at}
 use Rattle.vault_verdict.proofs.Tables as tables
 use Rattle.vault_verdict.proofs.VersionRows.{one_shown}
 use Rattle.vault_verdict.specs.Opened.{AreVersions}
 use Rattle.vault_verdict.specs.ReadAs.{merchants_in, rights_in}
 use Rattle.vault_verdict.specs.Raw.{version_values}
-use Rattle.sql_stored.specs.Values.{int_value}
 use Rattle.vault_tables.specs.Merchants.{merchant_values}
 use Rattle.vault_tables.specs.Rights.{right_values}
 use Rattle.vault_verdict.specs.Raw as raw
 use Rattle.vault_verdict.specs.Reading.{shown_by, version_columns}
+use Rattle.vault_rules.specs.Codes.{natural, use_of}
 use Rattle.vault_rules.proofs.Counts.{count_total, count_cases}
 use Rattle.vault_rules.proofs.Found.{made_is}
 use Rattle.vault_rules.proofs.FoundRows.{entry_row}
 use Rattle.vault_rules.proofs.Held.{entry_held}
-use Rattle.vault_rules.proofs.Options.{mapped_is}
 use Rattle.vault_rules.specs.Lookups.{total_of, held_by}
-use Rattle.vault_rules.specs.Showing.{Shows, ShowsCard, ShowsCount, ShowsEntry, ShowsMerchant, ShowsRecord}
-use Rattle.vault_rules.specs.VaultOf.{HasKeysApart, entry_key, entry_value, natural, right_of, use_of}
+use Rattle.vault_rules.specs.Showing.{Shows, ShowsCard, ShowsCount, ShowsEntry, ShowsRecord}
+use Rattle.vault_rules.specs.VaultOf.{HasKeysApart, entry_key, entry_value}
 use Rattle.vault_rules.specs.VaultOf.{vault_of}
 use Rattle.vault_rules.specs.declared.rows.RawVersion.{RawVersion}
 use Rattle.vault_rules.specs.declared.rows.RawCard.{RawCard}
 use Rattle.vault_rules.specs.declared.rows.RawCount.{RawCount}
 use Rattle.vault_rules.specs.declared.rows.RawEntry.{RawEntry}
 use Rattle.vault_rules.specs.AllRows.{Rows}
-use Rattle.vault_schema.proofs.Version3.Codes.{merchant_coding}
+use Rattle.vault_schema.proofs.Newest.{merchant_coding}
 use Rattle.vault_schema.specs.Version1.Claims.{IsVersion}
 use Rattle.vault_schema.specs.Version1.Rows as row
-use Rattle.vault_schema.specs.Version1.Rows.{number_or_null}
-use Rattle.vault_schema.specs.Version3.Rows as three
-use Rattle.vault_schema.specs.Version4.Rows as four
 use Rattle.vault_schema.specs.declared.version.Version.{Version}
 use Rattle.vault_core.specs.Lives.{lives_in}
 use Rattle.vault_schema.specs.Stands.{count_at, lookups_of, unless_zero}
@@ -103,10 +102,10 @@ moment_same (Some n) = refl
 -- what the rows of the tables that each version has are claimed to be, read as those of the newest one, and
 -- how they were read
 pub record AreShared (v : Version) (db : Trees) (V : Vault) (rows : Rows) : Type 0 where
-  pub merchants : AreRowsOf three.merchant_row (merchants_in v db) (lookups_of V).merchants
+  pub merchants : Merchants (lookups_of V).merchants (merchants_in v db)
   pub counts : AreRowsOf row.count_row (db 3) (lookups_of V).counts
   pub records : AreRowsOf row.record_row (db 8) (lookups_of V).records
-  pub rights : AreRowsOf four.right_row (rights_in v db) (lookups_of V).rights
+  pub rights : Rights (lookups_of V).rights (rights_in v db)
   pub merchants_are : IsPermutation (merchants_in v db) (map merchant_values rows.merchants)
   pub counts_are : IsPermutation (db 3) (map raw.count_values rows.counts)
   pub records_are : IsPermutation (db 8) (map raw.record_values rows.records)
@@ -213,15 +212,8 @@ module _ (v : Version) (db : Trees) (V : Vault) (rows : Rows) (claimed : AreShar
         id = id;
         replaced = replaced;
         many = sym (length-map rows.merchants _) ∙ size ∙ many;
-        merchants = λ m h.
-            let it = pair_of tables.merchants _ claimed.merchants_are claimed.merchants m h in
-            let back = mapped_is lives_in (merchant_at V (string_bytes m.name)) it.0 it.2 in
-            let is = it.1 ∙ ap (three.merchant_row (string_bytes m.name)) (sym back.2) in
-            let shown : ShowsMerchant m back.0 = grind (arith, is) in
-            (back.0, back.1, shown);
-        merchants_there = λ name merchant h.
-            let at = ap (option_map lives_in) h in
-            (row_at tables.merchants _ claimed.merchants_are claimed.merchants name _ at).0;
+        merchants = merchant_shown V _ rows.merchants claimed.merchants_are claimed.merchants;
+        merchants_there = merchant_there V _ rows.merchants claimed.merchants_are claimed.merchants;
         counts = count_shown;
         counted = made_counted;
         held = held_made;
@@ -234,8 +226,5 @@ module _ (v : Version) (db : Trees) (V : Vault) (rows : Rows) (claimed : AreShar
             let it = pair_of tables.records _ claimed.records_are claimed.records r h in
             let shown : ShowsRecord r it.0 = grind (arith, it.1) in
             (natural r.request, it.0, grind (arith, it.1), it.2, shown);
-        rights = λ r h.
-            let it = pair_of tables.rights _ claimed.rights_are claimed.rights r h in
-            let ends : int_value r.ends ≡ number_or_null it.0.ends = grind (arith, it.1) in
-            (right_of r.what, it.0, grind (arith, it.1), it.2, moment_told r.ends it.0.ends ends);
+        rights = right_shown V _ rows.rights claimed.rights_are claimed.rights;
       }

@@ -2,31 +2,20 @@
 use Rattle.std.proofs.Common.{◌≡◌, refl, subst, sym}
 use Rattle.sqlite.specs.Schema.{Schema}
 use Rattle.sql_maps.specs.Schema.{columns_to}
-use Rattle.vault_schema.proofs.Behind.{behind, behind_three, has_version, indexes_behind}
-use Rattle.vault_schema.proofs.Behind.{indexes_behind_three}
-use Rattle.vault_schema.proofs.Layers.{free_at}
+use Rattle.vault_schema.proofs.Behind.{behind, has_version, indexes_behind}
+use Rattle.vault_schema.proofs.Layers.{free_in}
 use Rattle.vault_schema.specs.Version1.Tables as one
-use Rattle.vault_schema.specs.Version3.Tables as three
 use Rattle.vault_schema.specs.Versioned.{HasVersion}
-use Rattle.vault_schema.specs.Versions.{fourth_layers, schema_of, second_layers}
+use Rattle.vault_schema.specs.Versions.{schema_of, second_layers}
 use Rattle.vault_schema.specs.declared.version.Version.{Version}
 use Rattle.vault_verdict.proofs.Tables.{IsFree}
 
 module _ (v : Version) where
   pub counts_free : IsFree (behind v) (indexes_behind v) one.counts 2
-  counts_free = free_at v one.counts (columns_to 2) second_layers (refl, (refl, (refl, (refl, tt))))
+  counts_free = free_in v one.counts (columns_to 2) second_layers refl
 
   pub records_free : IsFree (behind v) (indexes_behind v) one.records 2
-  records_free = free_at v one.records (columns_to 2) second_layers (refl, (refl, (refl, (refl, tt))))
-
-  pub rights_free : IsFree (behind v) (indexes_behind v) one.rights 3
-  rights_free = free_at v one.rights (columns_to 3) second_layers (refl, (refl, (refl, (refl, tt))))
-
-  pub merchants_free : IsFree (behind v) (indexes_behind v) one.merchants 1
-  merchants_free = free_at v one.merchants (columns_to 1) second_layers (refl, (refl, (refl, (refl, tt))))
-
-  pub newer_merchants_free : IsFree (behind_three v) (indexes_behind_three v) three.merchants 1
-  newer_merchants_free = free_at v three.merchants (columns_to 1) fourth_layers (refl, tt)
+  records_free = free_in v one.records (columns_to 2) second_layers refl
 
 pub has_version_in : (v : Version) (s : Schema) → s ≡ schema_of v → HasVersion s
 has_version_in v s ours = subst HasVersion (sym ours) (has_version v)

@@ -9,6 +9,7 @@ use Rattle.sqlite_rules.specs.Lists.{Has}
 use Rattle.std.specs.Ordering.{int_eq}
 use Rattle.vault_core.specs.Keys.{Bytes}
 use Rattle.vault_verdict.proofs.Pointers.{pointing_are}
+use Rattle.vault_rules.specs.Codes.{natural, use_of}
 use Rattle.vault_rules.proofs.Found.{bytes_same, entry_is}
 use Rattle.vault_rules.proofs.FoundRows.{entry_found}
 use Rattle.vault_rules.proofs.Keyed.{find-some, keys_once}
@@ -16,8 +17,8 @@ use Rattle.vault_rules.proofs.Numbers.{int_is}
 use Rattle.vault_rules.proofs.Options.{mapped_is}
 use Rattle.vault_rules.specs.Lookups.{card_of, entry_of, used_by}
 use Rattle.vault_rules.specs.Showing.{Shows}
-use Rattle.vault_rules.specs.VaultOf.{AreKeysApart, HasKeysApart, card_key, entry_key, entry_value, natural}
-use Rattle.vault_rules.specs.VaultOf.{use_of, vault_of}
+use Rattle.vault_rules.specs.VaultOf.{AreKeysApart, HasKeysApart, card_key, entry_key, entry_value}
+use Rattle.vault_rules.specs.VaultOf.{vault_of}
 use Rattle.vault_rules.specs.declared.rows.RawCard.{RawCard}
 use Rattle.vault_rules.specs.declared.rows.RawEntry.{RawEntry}
 use Rattle.vault_rules.specs.AllRows.{Rows}

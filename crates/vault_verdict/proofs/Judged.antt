@@ -1,15 +1,16 @@
 -- What the verdict over rows comes to.
-use Rattle.std.proofs.Common.{arith, drop, length, ◌<◌, ◌≡◌, ℕ, ℤ, pos, List, [], ◌∷◌, ◌&&◌, not, true}
+use Rattle.std.proofs.Common.{arith, ◌≡◌, ℕ, ℤ, pos, List, [], ◌∷◌, ◌&&◌, not, true}
 use Rattle.std.proofs.Common.{false, cond, Some, None, option_map, Ok, Err, Result, IfErr, inl}
 use Rattle.std.proofs.Common.{inr, map, refl, sym, ap, subst, ◌∙◌, true≢false}
 use Rattle.std.specs.List.Sorted.{IsPermutation, IsSortedByKey}
 use Rattle.std.specs.Ordering.{int_cmp, int_eq}
 use Rattle.std.specs.Prelude.{◌<ℤ◌}
 use Rattle.sqlite.specs.Effect.{Database, IsDatabase}
-use Rattle.sqlite.specs.Order.{Row}
 use Rattle.sqlite.specs.State.{State, IsUnchanged}
-use Rattle.sqlite.specs.Tree.{IsAscending, Trees}
+use Rattle.sqlite.specs.Tree.{IsAscending}
 use Rattle.sql_maps.specs.Rows.{IsApart}
+use Rattle.vault_verdict.proofs.Full.{entries_full, full_of, merchants_full, rights_full}
+use Rattle.vault_verdict.specs.ReadAs.{AreMerchantsFull, AreRightsFull}
 use Rattle.vault_verdict.proofs.InVersion.{has_version_in}
 use Rattle.vault_verdict.proofs.KeysIn.{apart_keys}
 use Rattle.vault_verdict.proofs.StandsShow.{keys_of, stands_shows, version_row}
@@ -26,28 +27,18 @@ use Rattle.vault_tables.specs.Merchants.{merchant_values}
 use Rattle.vault_tables.specs.Rights.{right_values}
 use Rattle.vault_verdict.specs.Raw.{card_row, card_values, count_values, entry_values, old_entry_values}
 use Rattle.vault_verdict.specs.Raw.{record_values}
-use Rattle.vault_verdict.specs.ReadAs.{AreCards, AreEntriesFull, AreOlders}
+use Rattle.vault_verdict.specs.ReadAs.{AreCards, AreOlders}
 use Rattle.vault_verdict.specs.ReadAs.{AreEntries, AreFull, IsFullIn, merchants_in, replaced_in}
 use Rattle.vault_verdict.specs.ReadAs.{rights_in}
 use Rattle.vault_verdict.specs.Judging.{AreOnward}
-use Rattle.vault_verdict.specs.Reading.{AreCardsIn, AreEntriesIn, AreFirst, AreRightsFull}
+use Rattle.vault_verdict.specs.Reading.{AreCardsIn, AreEntriesIn, AreFirst}
 use Rattle.vault_verdict.specs.Reading.{AreOldCards, ArePointingFull, IsOurs}
 use Rattle.sql_stored.specs.Reading.{AreLonger, AreTable, IsAny}
 use Rattle.vault_verdict.specs.declared.first.First.{First}
 use Rattle.vault_verdict.specs.declared.replaced.OldEntry.{OldEntry}
-use Rattle.vault_core.specs.Keys.{Bytes}
-use Rattle.vault_core.specs.declared.right.Right.{Right}
-use Rattle.sql_maps.specs.Rows.{AreRowsOf}
-use Rattle.vault_schema.specs.Version1.Rows.{entry_row}
-use Rattle.vault_schema.specs.Version2.Rows.{pointing_row}
-use Rattle.vault_schema.specs.Version4.Rows.{right_row}
-use Rattle.vault_schema.specs.Versions.{Lookups, Rights, Stand, StandJoined, has_cards, number_of, schema_of}
-use Rattle.vault_schema.specs.Versions.{uncarded_claims}
-use Rattle.vault_schema.specs.Layers.{Either, is_from}
-use Rattle.vault_schema.proofs.ByTable.{first_entries, held, joined_pointing}
-use Rattle.sql_maps.specs.States.{StandsIn}
+use Rattle.vault_schema.specs.Versions.{has_cards, number_of, schema_of}
+use Rattle.vault_schema.specs.Layers.{Either}
 use Rattle.vault_schema.specs.declared.version.Version.{Version}
-use Rattle.vault_schema.specs.declared.version.Version.TheVariants.{Four}
 use Rattle.vault_verdict.specs.Sizes.{counts_of}
 use Rattle.vault_verdict.specs.Versions.{is_other, other_than}
 use Rattle.vault_verdict.specs.declared.fault.OpenFault.{OpenFault}
@@ -100,14 +91,6 @@ sound_of v db ours sound olders rows raws keep apart says =
 
 -- ---- what was read
 
-entries_full : (v : Version) (db : Trees) → AreFull v db → AreEntriesFull v db
-entries_full v db full =
-    elim (is_from Four v) as (λ b. Either b (AreEntriesFull v db × AreLonger 4 (db 19)) (AreEntriesFull v db)
-    → AreEntriesFull v db) [
-      | true ↦ λ both. both.0
-      | false ↦ λ entries. entries
-    ] full
-
 entries_are : (v : Version) (db : Database) (olders : List OldEntry) (rows : Rows) → AreFull v db.trees
     → AreCardsIn v db olders rows.cards → AreEntriesIn v db olders rows.entries
     → AreEntries v db.trees olders rows
@@ -123,18 +106,11 @@ entries_are v db olders rows full cards entries =
           record { stand = cards.read.all full; entries = entries; cards = cards.made }
     ] (entries_full v db.trees full) cards entries
 
-rights_full : (v : Version) (db : Database) → AreFull v db.trees → AreRightsFull v db
-rights_full v db full =
-    elim (is_from Four v) as (λ b. Either b (AreEntriesFull v db.trees × AreLonger 4 (db.trees 19))
-    (AreEntriesFull v db.trees) → Either b (AreLonger 4 (db.trees 19)) (Unit {0})) [
-      | true ↦ λ both. both.1
-      | false ↦ λ entries. tt
-    ] full
-
 -- these are the rows of all tables of a version beside `vault`; of the tables that were replaced, how many
 -- still have rows
 pub record AreAll (v : Version) (db : Database) (olders : List OldEntry) (rows : Rows) : Type 0 where
-  pub merchants : AreTable IsAny (merchants_in v) merchant_values (λ m. m.rowid) db rows.merchants
+  pub merchants : AreTable (AreMerchantsFull v) (merchants_in v) merchant_values (λ m. m.rowid) db
+      rows.merchants
   pub counts : AreTable IsAny (λ t. t 3) count_values (λ c. c.rowid) db rows.counts
   pub cards : AreCardsIn v db olders rows.cards
   pub entries : AreEntriesIn v db olders rows.entries
@@ -163,7 +139,7 @@ are_read v old mid versions olders rows is same sound are told ours =
       sound = sound has;
       raws = record {
         versions = subst (AreVersions old.now.trees) (sym is) (are has);
-        merchants = all.merchants.all tt;
+        merchants = all.merchants.all (merchants_full v old.now ours.full);
         counts = all.counts.all tt;
         entries = entries_are v old.now olders rows ours.full all.cards all.entries;
         records = all.records.all tt;
@@ -179,8 +155,8 @@ pub all_of : (v : Version) (db : Database) (first : First) (olders : List OldEnt
     → AreOnward v olders versions first.merchants.items first.counts.items rows.cards db rows
     → AreAll v db olders rows
 all_of v db first olders versions rows are cards onward = record {
-  merchants = subst (AreTable IsAny (merchants_in v) merchant_values (λ m. m.rowid) db) (sym onward.merchants)
-      are.merchants;
+  merchants = subst (AreTable (AreMerchantsFull v) (merchants_in v) merchant_values (λ m. m.rowid) db)
+      (sym onward.merchants) are.merchants;
   counts = subst (AreTable IsAny (λ t. t 3) count_values (λ c. c.rowid) db) (sym onward.counts) are.counts;
   cards = cards;
   entries = onward.entries;
@@ -299,40 +275,6 @@ module _ (v : Version) (db : Database) (olders : List OldEntry) (rows : Rows)
 never_itself : (v : Version)
     → (int_eq (pos 1) (pos 1) && not (int_eq (number_of v) (number_of v))) ≡ false
 never_itself v = rw (int_same (number_of v) (number_of v) refl) refl
-
-behind : (n : ℕ) (row : Row) → length (drop 1 row) ≡ n → 0 < n → n < length row
-behind n [] e some = absurd (omega (arith, e, some))
-behind n (v ∷ row) e some = omega (arith, e)
-
--- rows of entries, and of rights that may end, have all their columns
-pointing_full : {rows : List Row} {held : Bytes × Bytes → _} → AreRowsOf pointing_row rows held
-    → AreLonger 7 rows
-pointing_full are row there =
-    let found = are.sound row there in behind 7 row (ap length found.2) (omega arith)
-
-olders_full : {rows : List Row} {held : Bytes × Bytes → _} → AreRowsOf entry_row rows held → AreLonger 7 rows
-olders_full are row there =
-    let found = are.sound row there in behind 7 row (ap length found.2) (omega arith)
-
-rights_are_full : {rows : List Row} {held : Bytes × (Bytes × Right) → _} → AreRowsOf right_row rows held
-    → AreLonger 4 rows
-rights_are_full are row there =
-    let found = are.sound row there in behind 4 row (ap length found.2) (omega arith)
-
-pub full_of : (v : Version) (db : Trees) (h : Lookups) → Stand v db h → AreFull v db
-full_of v db h s =
-    let entries : AreEntriesFull v db =
-    elim (has_cards v) as (λ b. has_cards v ≡ b → Either b (StandJoined v db h)
-    (StandsIn (schema_of v).tables (uncarded_claims v h) db)
-    → Either b (AreLonger 7 (db 14)) (AreLonger 7 (db 5))) [
-      | true ↦ λ has j. pointing_full (joined_pointing v db h has j)
-      | false ↦ λ none stands. olders_full (first_entries v db h none stands)
-    ] refl s.rows in
-    elim (is_from Four v) as (λ b. (b ≡ true → Rights h.rights (db 19))
-    → Either b (AreEntriesFull v db × AreLonger 4 (db 19)) (AreEntriesFull v db)) [
-      | true ↦ λ rights. (entries, rights_are_full (rights refl))
-      | false ↦ λ rights. entries
-    ] (held v db h s.rows).hold.1.1.1.1.1.1.1.1.1.0
 
 module _ (v : Version) (db : Database) (it : StandsSoundIn v db) where
   -- its rows break no rule

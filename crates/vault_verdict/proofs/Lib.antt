@@ -3,6 +3,7 @@ pub mod Backs
 pub mod CardRows
 pub mod Climbing
 pub mod FromStands
+pub mod Full
 pub mod Holders
 pub mod InTree
 pub mod InVersion
@@ -12,6 +13,7 @@ pub mod Judged
 pub mod KeptApart
 pub mod KeysIn
 pub mod Left
+pub mod Merchants
 pub mod More
 pub mod OldEntries
 pub mod OldRows
@@ -20,6 +22,7 @@ pub mod Opening
 pub mod Permuted
 pub mod Pointers
 pub mod Results
+pub mod Rights
 pub mod Rising
 pub mod ShownCards
 pub mod StandsShow

@@ -1,50 +1,36 @@
 -- The rows of a database that stands for a vault show that vault, in each version.
-use Rattle.std.proofs.Common.{◌≡◌, ◌+◌, pos, Bool, true, false, List, [], ◌∷◌, map, cond, Some, option_map}
-use Rattle.std.proofs.Common.{◌∙◌, ap, refl, sym}
+use Rattle.std.proofs.Common.{◌≡◌, pos, true, false, List, [], ◌∷◌, map, option_map}
+use Rattle.std.proofs.Common.{◌∙◌, ap, refl}
 use Rattle.sqlite.specs.Effect.{Database, IsDatabase}
-use Rattle.sqlite.specs.Order.{Row}
 use Rattle.sqlite.specs.Tree.{Trees}
-use Rattle.sqlite.specs.declared.types.Value.TheVariants.{Null, Int}
 use Rattle.sqlite_rules.specs.Lists.{Has}
 use Rattle.sql_maps.specs.Rows.{AreRowsById, AreRowsOf, IsApart}
-use Rattle.sql_maps.specs.States.{Claim, StandsIn}
-use Rattle.vault_core.specs.Keys.{Bytes}
+use Rattle.sql_maps.specs.States.{StandsIn}
 use Rattle.vault_core.specs.Vault.{Vault}
-use Rattle.vault_core.specs.declared.right.Right.{Right}
-use Rattle.vault_core.specs.declared.row.GrantRow.{GrantRow}
-use Rattle.vault_pan.specs.Mask.{lead_digits}
 use Rattle.vault_schema.proofs.Behind.{schema_first}
-use Rattle.vault_schema.proofs.ByTable.{first_entries, held, joined_cards, joined_pointing, rights_default}
-use Rattle.vault_schema.proofs.Version3.Codes.{merchant_coding}
-use Rattle.vault_schema.proofs.Version4.Codes.{right_coding}
+use Rattle.vault_schema.proofs.ByTable.{first_entries, held, joined_cards, joined_pointing}
 use Rattle.vault_schema.specs.Stands.{lookups_of}
 use Rattle.vault_schema.specs.Version1.Claims.{IsVersion}
 use Rattle.vault_schema.specs.Version1.Rows as one
-use Rattle.vault_schema.specs.Version1.Rows.{number_or_null}
 use Rattle.vault_schema.specs.Version2.Joined.{joined}
 use Rattle.vault_schema.specs.Version2.Rows.{card_columns, pointing_row}
-use Rattle.vault_schema.specs.Version3.Rows as three
-use Rattle.vault_schema.specs.Version4.Rows as four
-use Rattle.vault_schema.specs.Layers.{Either, claim_or_empty, is_from}
-use Rattle.vault_schema.specs.Versions.{AreEndless, AreSix, HasRightsDefault, Lookups, Merchants}
-use Rattle.vault_schema.specs.Versions.{OldMerchants, OldRights, Rights, Stand, StandJoined, has_cards}
+use Rattle.vault_schema.specs.Layers.{Either}
+use Rattle.vault_schema.specs.Versions.{Lookups, Merchants}
+use Rattle.vault_schema.specs.Versions.{Rights, Stand, StandJoined, has_cards}
 use Rattle.vault_schema.specs.Versions.{natural_of, number_of, schema_of, uncarded_claims}
-use Rattle.vault_core.specs.declared.row.Lives.{Lives}
 use Rattle.vault_schema.specs.declared.version.Version.{Version}
-use Rattle.vault_schema.specs.declared.version.Version.TheVariants.{Three, Four}
-use Rattle.vault_verdict.proofs.Left.{left_is}
+use Rattle.vault_verdict.proofs.Left.{none_at}
+use Rattle.vault_verdict.proofs.Merchants.{merchants_claimed}
+use Rattle.vault_verdict.proofs.Rights.{rights_claimed}
+use Rattle.vault_schema.specs.Versions.{layers}
 use Rattle.vault_verdict.proofs.FromStands.{ArePairs, AreShared, AreThere, shows_of, version_of}
 use Rattle.vault_verdict.proofs.KeysIn.{AreCardsApart, AreEntriesApart, keys_in}
 use Rattle.vault_verdict.proofs.OldEntries.{old_keys, old_pairs, old_there}
 use Rattle.vault_verdict.proofs.OldRows as old
 use Rattle.vault_verdict.proofs.Permuted.{apart_permuted}
 use Rattle.vault_verdict.proofs.ShownCards as cards
-use Rattle.vault_verdict.proofs.Widened.{widened}
 use Rattle.vault_verdict.specs.Opened.{AreRaws, AreVersions}
-use Rattle.sql_stored.specs.Reading.{any_left}
 use Rattle.vault_verdict.specs.Raw.{old_entry_values}
-use Rattle.vault_tables.specs.Merchants.{with_six}
-use Rattle.vault_tables.specs.Rights.{endless}
 use Rattle.vault_verdict.specs.ReadAs.{AreCards, AreOlders, merchants_in, replaced_in, rights_in}
 use Rattle.vault_verdict.specs.declared.replaced.OldEntry.{OldEntry}
 use Rattle.vault_rules.specs.Showing.{Shows, ShowsCard}
@@ -53,77 +39,26 @@ use Rattle.vault_rules.specs.declared.rows.RawCard.{RawCard}
 use Rattle.vault_rules.specs.declared.rows.RawVersion.{RawVersion}
 use Rattle.vault_rules.specs.AllRows.{Rows}
 
--- ---- the older tables, with what they can't hold beside them
-
-widened_merchants : (held : Bytes → _) (rows : List Row)
-    → ((m : Bytes) (x : Lives) → held m ≡ Some x → Int (pos (lead_digits x.lead)) ≡ Int (pos 6))
-    → AreRowsOf one.merchant_row rows (λ m. option_map three.older (held m))
-    → AreRowsOf three.merchant_row (map with_six rows) held
-widened_merchants held rows six are =
-    widened (Int (pos 6)) one.merchant_key one.lives_columns three.lives_columns merchant_coding three.older
-    (λ m x at. λ i. Int (pos x.single_life)
-    ∷ Int (pos x.multi_life) ∷ Int (pos x.moment) ∷ six m x at i ∷ []) are
-
-widened_rights : (held : Bytes × (Bytes × Right) → _) (rows : List Row)
-    → ((key : Bytes × (Bytes × Right)) (g : GrantRow) → held key ≡ Some g → number_or_null g.ends ≡ Null)
-    → AreRowsOf one.right_row rows (λ key. option_map four.older (held key))
-    → AreRowsOf four.right_row (map endless rows) held
-widened_rights held rows none are =
-    widened Null one.right_key one.no_columns four.ends_column right_coding four.older
-    (λ key g at. λ i. none key g at i ∷ []) are
-
-module _ (h : Lookups) where
-  merchants_wide : AreSix h → (rows : List Row)
-      → AreRowsOf one.merchant_row rows (λ m. option_map three.older (h.merchants m))
-      → AreRowsOf three.merchant_row (map with_six rows) h.merchants
-  merchants_wide six rows =
-      widened_merchants h.merchants rows (λ m x at. ap (λ lead. Int (pos (lead_digits lead))) (six m x at))
-
-  rights_wide : AreEndless h → (rows : List Row)
-      → AreRowsOf one.right_row rows (λ key. option_map four.older (h.rights key))
-      → AreRowsOf four.right_row (map endless rows) h.rights
-  rights_wide none rows =
-      widened_rights h.rights rows (λ key g at. ap number_or_null (none key g at))
-
 -- ---- what a version claims, read as the newest one
 
 pub record AreClaimed (v : Version) (db : Trees) (h : Lookups) : Type 0 where
   pub version : IsVersion (natural_of v) (db 0)
-  pub merchants : AreRowsOf three.merchant_row (merchants_in v db) h.merchants
+  pub merchants : Merchants h.merchants (merchants_in v db)
   pub counts : AreRowsOf one.count_row (db 3) h.counts
   pub records : AreRowsOf one.record_row (db 8) h.records
-  pub rights : AreRowsOf four.right_row (rights_in v db) h.rights
+  pub rights : Rights h.rights (rights_in v db)
   pub replaced : replaced_in v db ≡ 0
-
--- a table that was replaced has no rows
-none_there : (b : Bool) (P : Claim) (rows : List Row) → claim_or_empty b P rows → cond b (any_left rows) 0 ≡ 0
-none_there true P rows empty = ap any_left empty
-none_there false P rows is = refl
 
 pub claimed : (v : Version) (db : Trees) (h : Lookups) → Stand v db h → AreClaimed v db h
 claimed v db h s =
-    let t = (held v db h s.rows).hold in
+    let it = held v db h s.rows in
     record {
-      version = t.0 refl;
-      merchants = elim (is_from Three v) as (λ b. claim_or_empty b (OldMerchants h.merchants) (db 1)
-          → (b ≡ true → Merchants h.merchants (db 17))
-          → Either b (HasRightsDefault v h) (AreSix h × HasRightsDefault v h)
-          → AreRowsOf three.merchant_row (cond b (db 17) (map with_six (db 1))) h.merchants) [
-            | true ↦ λ older newer six. newer refl
-            | false ↦ λ older newer six. merchants_wide h six.0 (db 1) older
-          ] (t.1.0 refl) t.1.1.1.1.1.1.1.1.0 s.defaults;
-      counts = t.1.1.0 refl;
-      records = t.1.1.1.1.0 refl;
-      rights = elim (is_from Four v) as (λ b. claim_or_empty b (OldRights h.rights) (db 10)
-          → (b ≡ true → Rights h.rights (db 19)) → Either b (Unit {0}) (AreEndless h)
-          → AreRowsOf four.right_row (cond b (db 19) (map endless (db 10))) h.rights) [
-            | true ↦ λ older newer none. newer refl
-            | false ↦ λ older newer none. rights_wide h none (db 10) older
-          ] (t.1.1.1.1.1.0 refl) t.1.1.1.1.1.1.1.1.1.0 (rights_default v h s.defaults);
-      replaced =
-          sym (left_is v db) ∙ (λ i. none_there (has_cards v) _ (db 5) (t.1.1.1.0 refl) i
-          + none_there (is_from Three v) _ (db 1) (t.1.0 refl) i
-          + none_there (is_from Four v) _ (db 10) (t.1.1.1.1.1.0 refl) i);
+      version = it.hold.0 refl;
+      merchants = merchants_claimed v db h it s.defaults;
+      counts = it.hold.1.1.0 refl;
+      records = it.hold.1.1.1.1.0 refl;
+      rights = rights_claimed v db h it s.defaults;
+      replaced = none_at v db _ layers refl it.hold;
     }
 
 -- the one row of `vault` says the version

@@ -1,37 +1,29 @@
 -- A database whose rows keep the rules stands for the vault of its rows, table by table.
-use Rattle.std.proofs.Common.{◌≡◌, ℕ, ℤ, zero, pos, List, [], ◌∷◌, drop, map, true, Option, Some, None}
+use Rattle.std.proofs.Common.{◌≡◌, ℕ, zero, pos, List, [], ◌∷◌, drop, map, true, Some}
 use Rattle.std.proofs.Common.{option_map, refl, sym, ap, ◌∙◌, arith, string_bytes}
 use Rattle.sqlite.specs.Effect.{Database, IsDatabase}
 use Rattle.sqlite.specs.Table.{Table as SqlTable}
-use Rattle.sqlite.specs.declared.types.Value.TheVariants.{Null, Int, Text}
+use Rattle.sqlite.specs.declared.types.Value.TheVariants.{Int, Text}
 use Rattle.sqlite_rules.specs.Lists.{Has}
 use Rattle.sqlite_schema.specs.declared.schema.Index.{Index}
 use Rattle.sql_maps.proofs.Keys.{IsGuarded}
 use Rattle.sql_maps.specs.Rows.{AreRowsById, AreRowsOf, IsApart}
 use Rattle.sql_maps.specs.Schema.{columns_to, grown, guards_of, table_of}
 use Rattle.std.specs.List.Sorted.{IsPermutation}
-use Rattle.vault_core.proofs.Finds.{some_same}
 use Rattle.vault_core.specs.Keys.{Bytes}
-use Rattle.vault_core.specs.Vault.{Merchant, merchant_at}
 use Rattle.vault_core.specs.declared.row.Entry.{Entry}
-use Rattle.vault_core.specs.declared.row.GrantRow.{GrantRow}
-use Rattle.vault_pan.specs.Mask.{lead_digits}
-use Rattle.vault_pan.specs.declared.lead.Lead.{Lead}
-use Rattle.vault_pan.specs.declared.lead.Lead.TheVariants.{Six, Eight}
-use Rattle.vault_verdict.proofs.Backs.{moment_as, some_unless, unless_some}
+use Rattle.vault_verdict.proofs.Backs.{some_unless, unless_some}
 use Rattle.vault_verdict.proofs.CardRows.{cards_by_id, numbers_apart}
 use Rattle.vault_schema.proofs.Behind.{behind, indexes_behind, schema_is}
-use Rattle.vault_verdict.proofs.InVersion.{counts_free, merchants_free, records_free, rights_free}
+use Rattle.vault_verdict.proofs.InVersion.{counts_free, records_free}
 use Rattle.vault_verdict.proofs.Joining.{cards_in, entry_first, pointing_in, pointing_value, rows_joined}
 use Rattle.vault_verdict.proofs.Table.{stand_for}
 use Rattle.vault_verdict.proofs.Tables as tables
-use Rattle.sql_stored.specs.Values.{int_value}
-use Rattle.vault_tables.specs.Merchants.{merchant_values}
-use Rattle.vault_tables.specs.Rights.{right_values}
 use Rattle.vault_verdict.specs.Raw as raw
 use Rattle.vault_verdict.specs.ReadAs.{AreCards}
+use Rattle.vault_rules.specs.Codes.{natural}
 use Rattle.vault_rules.proofs.Counts.{counts_are, count_cases}
-use Rattle.vault_rules.proofs.FoundRows.{entry_found, record_row, right_row}
+use Rattle.vault_rules.proofs.FoundRows.{entry_found, record_row}
 use Rattle.vault_rules.proofs.Held.{card_held}
 use Rattle.vault_rules.proofs.Kept.{counts_well}
 use Rattle.vault_rules.proofs.Numbers.{pos_same}
@@ -39,39 +31,19 @@ use Rattle.vault_rules.proofs.Options.{mapped_is}
 use Rattle.vault_rules.proofs.RowsShow.{rows_show, count_held}
 use Rattle.vault_rules.specs.Rules.{keeps}
 use Rattle.vault_rules.specs.Showing.{Shows, ShowsEntry}
-use Rattle.vault_rules.specs.VaultOf.{HasKeysApart, vault_of, natural, entry_key}
+use Rattle.vault_rules.specs.VaultOf.{HasKeysApart, vault_of, entry_key}
 use Rattle.vault_rules.specs.declared.rows.RawCard.{RawCard}
 use Rattle.vault_rules.specs.declared.rows.RawCount.{RawCount}
 use Rattle.vault_rules.specs.declared.rows.RawEntry.{RawEntry}
-use Rattle.vault_rules.specs.declared.rows.RawMerchant.{RawMerchant}
-use Rattle.vault_rules.specs.declared.rows.RawRight.{RawRight}
 use Rattle.vault_rules.specs.AllRows.{Rows}
-use Rattle.vault_core.specs.Lives.{lives_in}
 use Rattle.vault_schema.specs.Stands.{count_at, lookups_of, unless_zero}
 use Rattle.vault_schema.specs.Version1.Rows as one
-use Rattle.vault_schema.specs.Version1.Rows.{number_or_null}
 use Rattle.vault_schema.specs.Version2.Joined.{AreJoined, nothing_owed}
 use Rattle.vault_schema.specs.Version2.Rows.{card_columns, pointing_row}
 use Rattle.vault_schema.specs.Version2.Tables as v2
 use Rattle.vault_schema.specs.Version2.Tables.{v2 as second_schema}
-use Rattle.vault_schema.specs.Version3.Rows as three
-use Rattle.vault_schema.specs.Version3.Tables as v3
-use Rattle.vault_schema.specs.Version3.Tables.{v3 as third_schema}
-use Rattle.vault_schema.specs.Version4.Rows as four
-use Rattle.vault_schema.specs.Version4.Tables.{v4}
-use Rattle.vault_schema.specs.Versions.{AreEndless, AreSix, Lookups, schema_of}
+use Rattle.vault_schema.specs.Versions.{Lookups, schema_of}
 use Rattle.vault_schema.specs.declared.version.Version.{Version}
-
-six_told : (lead : Lead) → lead_digits lead ≡ 6 → lead ≡ Six
-six_told Six is = refl
-six_told Eight is = absurd cc
-
-no_end : (ends : Option ℤ) → int_value ends ≡ Null → ends ≡ None
-no_end None is = refl
-no_end (Some n) is = absurd cc
-
-digits_of : (lead : Lead) (n : ℤ) → n ≡ pos (lead_digits lead) → Int n ≡ Int (pos 6) → lead_digits lead ≡ 6
-digits_of lead n shown six = let same : n ≡ pos 6 = cc in pos_same (sym shown ∙ same)
 
 -- a row of an entry is listed as it points
 entry_listed : (cards : List RawCard) (e : RawEntry) (entry : Entry) → ShowsEntry cards e entry
@@ -95,25 +67,6 @@ module _ (rows : Rows) (apart : HasKeysApart rows) (keep : (r : ℕ) → keeps r
       (λ e. let none : zero ≡ x = pos_same e in absurd (omega (arith, none, it.0, it.1)))
       (λ c row e. (c, row.there, λ i. (row.merchant_is i, natural (row.kind_is i))))
       (counts_are rows apart keep k.0 k.1 ∙ ap pos it.0)
-
-  -- ---- what older versions can't hold has its default
-
-  pub are_six : ((m : RawMerchant) → Has rows.merchants m → Int m.lead ≡ Int (pos 6)) → AreSix h
-  are_six six name x is =
-      let merchant = mapped_is lives_in (merchant_at (vault_of rows) name) x is in
-      let row = shows.merchants_there name merchant.0 merchant.1 in
-      let it = shows.merchants row.0 row.1 in
-      let same : it.0 ≡ merchant.0 =
-      some_same (sym it.1 ∙ ap (merchant_at (vault_of rows)) row.2 ∙ merchant.1) in
-      let lead = six_told it.0.lead (digits_of it.0.lead row.0.lead it.2.lead (six row.0 row.1)) in
-      sym (ap (λ (y : _). y.lead) merchant.2) ∙ sym (ap (λ (y : Merchant). y.lead) same) ∙ lead
-
-  pub are_endless : ((r : RawRight) → Has rows.rights r → int_value r.ends ≡ Null) → AreEndless h
-  are_endless endless key g is =
-      let row = right_row rows key.0 key.1.0 key.1.1 g is in
-      let it = shows.rights row.0 row.1 in
-      let none = no_end row.0.ends (endless row.0 row.1) in
-      sym (ap (λ (x : GrantRow). x.ends) row.3) ∙ ap (option_map natural) none
 
   module _ (db : Database) (sound : IsDatabase db) where
     -- ---- the tables that each version has
@@ -142,85 +95,6 @@ module _ (rows : Rows) (apart : HasKeysApart rows) (keep : (r : ℕ) → keeps r
           let listed : drop 1 (raw.record_values r) ≡ one.record_row _ it.1 = grind (arith, it.2, it.4) in
           ((string_bytes r.caller, it.0), it.1, listed, it.3))
           (λ k x h. let it = record_row rows k.0 k.1 x h in (it.0, it.1, it.2))
-
-      pub old_merchants_stand : IsPermutation (db.trees 1)
-          (map tables.old_merchant_values rows.merchants)
-          → IsApart (map tables.old_merchant_values rows.merchants)
-          → AreRowsOf one.merchant_row (db.trees 1) (λ m. option_map three.older (h.merchants m))
-      old_merchants_stand are up =
-          stand_for (tables.old_merchants_in (behind v) (indexes_behind v) (merchants_free v)) db
-          (ours ∙ schema_is v) sound _ are up
-          (λ m there.
-          let it = shows.merchants m there in
-          let name = string_bytes m.name in
-          let listed : drop 1 (tables.old_merchant_values m) ≡ one.merchant_row name
-          (three.older (lives_in it.0)) =
-          grind (arith, it.2) in (
-            name,
-            three.older (lives_in it.0),
-            listed,
-            ap (λ o. option_map three.older (option_map lives_in o)) it.1,
-          ))
-          (λ name x is.
-          let lives = mapped_is three.older (h.merchants name) x is in
-          let it = mapped_is lives_in (merchant_at (vault_of rows) name) lives.0 lives.1 in
-          shows.merchants_there name it.0 it.1)
-
-      pub old_rights_stand : IsPermutation (db.trees 10) (map tables.old_right_values rows.rights)
-          → IsApart (map tables.old_right_values rows.rights)
-          → AreRowsOf one.right_row (db.trees 10) (λ key. option_map four.older (h.rights key))
-      old_rights_stand are up =
-          stand_for (tables.old_rights_in (behind v) (indexes_behind v) (rights_free v)) db (ours
-          ∙ schema_is v)
-          sound _ are up
-          (λ r there.
-          let it = shows.rights r there in
-          let listed : drop 1 (tables.old_right_values r) ≡ one.right_row _ tt = grind (arith, it.2) in (
-            (string_bytes r.caller, (string_bytes r.merchant, it.0)),
-            tt,
-            listed,
-            ap (option_map four.older) it.3,
-          ))
-          (λ k x is.
-          let g = mapped_is four.older (h.rights k) x is in
-          let it = right_row rows k.0 k.1.0 k.1.1 g.0 g.1 in
-          (it.0, it.1, it.2))
-
-    -- ---- those that later ones brought
-
-    pub merchants_stand : (others : List SqlTable) (indexes : List Index)
-        → guards_of indexes (table_of v3.merchants) (columns_to 1) ≡ []
-        → db.schema ≡ grown third_schema others indexes
-        → IsPermutation (db.trees 17) (map merchant_values rows.merchants)
-        → IsApart (map merchant_values rows.merchants)
-        → AreRowsOf three.merchant_row (db.trees 17) h.merchants
-    merchants_stand others indexes free ours are up =
-        stand_for (tables.merchants_in others indexes free) db ours sound _ are up
-        (λ m there.
-        let it = shows.merchants m there in
-        let name = string_bytes m.name in
-        let listed : drop 1 (merchant_values m) ≡ three.merchant_row name (lives_in it.0) =
-        grind (arith, it.2) in
-        (name, lives_in it.0, listed, ap (option_map lives_in) it.1))
-        (λ name x is.
-        let it = mapped_is lives_in (merchant_at (vault_of rows) name) x is in
-        shows.merchants_there name it.0 it.1)
-
-    pub rights_stand : db.schema ≡ v4 → IsPermutation (db.trees 19) (map right_values rows.rights)
-        → IsApart (map right_values rows.rights) → AreRowsOf four.right_row (db.trees 19) h.rights
-    rights_stand ours are up =
-        stand_for tables.rights db ours sound _ are up
-        (λ r there.
-        let it = shows.rights r there in
-        let what = it.2 in
-        let ends : int_value r.ends ≡ number_or_null it.1.ends = ap int_value it.4
-        ∙ moment_as it.1.ends in (
-          (string_bytes r.caller, (string_bytes r.merchant, it.0)),
-          it.1,
-          λ i. Text (string_bytes r.caller) ∷ Text (string_bytes r.merchant) ∷ Int (what i) ∷ ends i ∷ [],
-          it.3,
-        ))
-        (λ k g is. let it = right_row rows k.0 k.1.0 k.1.1 g is in (it.0, it.1, it.2))
 
     -- cards, and the entries that point at them
     module _ (others : List SqlTable) (indexes : List Index)

@@ -1,5 +1,5 @@
 -- The tables of a vault, each in every schema that begins with the one that brought it.
-use Rattle.std.proofs.Common.{◌≡◌, ℕ, ℤ, true, List, [], ◌∷◌, refl, ap, ◌∙◌, is_eq, arith, string_bytes}
+use Rattle.std.proofs.Common.{◌≡◌, ℕ, ℤ, true, List, [], ◌∷◌, refl, ap, ◌∙◌, is_eq, arith}
 use Rattle.std.proofs.lemmas.Cmp.{tied_itself}
 use Rattle.std.specs.Cmp.{int_cmp_total}
 use Rattle.sqlite.specs.Collation.TheVariants.{Binary}
@@ -12,30 +12,22 @@ use Rattle.sql_maps.proofs.KeyTests.{text_eq, int_eq}
 use Rattle.sql_maps.specs.Schema.{Descriptor, columns_to, guards_of, table_of}
 use Rattle.vault_core.proofs.Maps.{bytes_total}
 use Rattle.vault_core.specs.Keys.{Bytes}
-use Rattle.vault_core.specs.declared.right.Right.{Right}
 use Rattle.vault_verdict.proofs.Table.{Table}
-use Rattle.vault_tables.specs.Merchants.{merchant_values}
-use Rattle.vault_tables.specs.Rights.{right_values}
 use Rattle.vault_verdict.specs.Raw as raw
-use Rattle.vault_rules.specs.VaultOf.{count_key, entry_key, request_key, number_key, natural, right_of}
-use Rattle.vault_rules.specs.declared.rows.RawMerchant.{RawMerchant}
+use Rattle.vault_rules.specs.Codes.{natural}
+use Rattle.vault_rules.specs.VaultOf.{count_key, entry_key, request_key}
 use Rattle.sql_stored.specs.Texts.{text_bytes}
 use Rattle.vault_verdict.specs.declared.replaced.OldEntry.{OldEntry}
 use Rattle.vault_rules.specs.declared.rows.RawCount.{RawCount}
 use Rattle.vault_rules.specs.declared.rows.RawEntry.{RawEntry}
 use Rattle.vault_rules.specs.declared.rows.RawRecord.{RawRecord}
-use Rattle.vault_rules.specs.declared.rows.RawRight.{RawRight}
 use Rattle.sql_maps.proofs.Grown.{keyed_in_grown}
 use Rattle.vault_schema.proofs.Version1.Codes as codes
 use Rattle.vault_schema.proofs.Newest as newest
 use Rattle.vault_schema.proofs.Version2.Codes as second
-use Rattle.vault_schema.proofs.Version3.Codes as third
-use Rattle.vault_schema.proofs.Version4.Codes as fourth
 use Rattle.vault_schema.specs.Version1.Rows as row
 use Rattle.vault_schema.specs.Version1.Tables as v1
 use Rattle.vault_schema.specs.Version2.Tables as v2
-use Rattle.vault_schema.specs.Version3.Tables as v3
-use Rattle.vault_schema.specs.Version4.Tables as v4
 
 -- a value that isn't NULL is equal to itself
 pub same_text : (t : Bytes) → equal Binary (Text t) (Text t) ≡ true
@@ -51,13 +43,6 @@ numbered q = Text q.0 ∷ Int q.1 ∷ []
 abbrev number_of : Bytes × ℤ → Bytes × ℕ
 number_of q = (q.0, natural q.1)
 
--- two texts and a number
-abbrev whose : Bytes × (Bytes × ℤ) → Row
-whose q = Text q.0 ∷ Text q.1.0 ∷ Int q.1.1 ∷ []
-
-abbrev right_in : Bytes × (Bytes × ℤ) → Bytes × (Bytes × Right)
-right_in q = (q.0, (q.1.0, right_of q.1.1))
-
 -- the columns of a key tell it
 pub name_back : (q k : Bytes) → Text q ∷ [] ≡ row.merchant_key k → q ≡ k
 name_back q k e = grind arith
@@ -68,35 +53,10 @@ number_back q k e = grind arith
 pub entry_back : (q k : Bytes × Bytes) → Text q.0 ∷ Text q.1 ∷ [] ≡ row.entry_key k → q ≡ k
 entry_back q k e = grind arith
 
-pub right_back : (q : Bytes × (Bytes × ℤ)) (k : Bytes × (Bytes × Right)) → whose q ≡ row.right_key k
-    → right_in q ≡ k
-right_back q k e = grind arith
-
--- what the older tables have of a merchant and of a right
-abbrev pub old_merchant_values : RawMerchant → Row
-old_merchant_values m =
-    Int m.rowid ∷ Text (string_bytes m.name) ∷ Int m.single_life ∷ Int m.multi_life ∷ Int m.moment ∷ []
-
-abbrev pub old_right_values : RawRight → Row
-old_right_values r =
-    Int r.rowid ∷ Text (string_bytes r.caller) ∷ Text (string_bytes r.merchant) ∷ Int r.what ∷ []
-
 module _ (tables : List SqlTable) (indexes : List Index) where
   -- no index behind those of schema 1 guards the key
   abbrev pub IsFree : Descriptor → ℕ → Type 0
   IsFree d n = guards_of indexes (table_of d) (columns_to n) ≡ []
-
-  abbrev pub old_merchants_in : (free : IsFree v1.merchants 1)
-      → Table (keyed_in_grown codes.merchant_table tables indexes free) RawMerchant Bytes
-  old_merchants_in free = record {
-    values = old_merchant_values;
-    shown = λ m. string_bytes m.name;
-    shows = λ q. Text q ∷ [];
-    key_of = λ q. q;
-    whole = λ m. refl;
-    fits = λ q. (refl, rw (same_text q) refl);
-    back = name_back;
-  }
 
   abbrev pub counts_in : (free : IsFree v1.counts 2)
       → Table (keyed_in_grown codes.count_table tables indexes free) RawCount (Bytes × ℤ)
@@ -120,18 +80,6 @@ module _ (tables : List SqlTable) (indexes : List Index) where
     whole = λ r. refl;
     fits = λ q. (refl, rw (same_text q.0, same_int q.1) refl);
     back = number_back;
-  }
-
-  abbrev pub old_rights_in : (free : IsFree v1.rights 3)
-      → Table (keyed_in_grown codes.right_table tables indexes free) RawRight (Bytes × (Bytes × ℤ))
-  old_rights_in free = record {
-    values = old_right_values;
-    shown = number_key;
-    shows = whose;
-    key_of = right_in;
-    whole = λ r. refl;
-    fits = λ q. (refl, rw (same_text q.0, same_text q.1.0, same_int q.1.1) refl);
-    back = right_back;
   }
 
 -- the entries of schema 1
@@ -160,36 +108,7 @@ module _ (tables : List SqlTable) (indexes : List Index) where
     back = entry_back;
   }
 
--- merchants with a lead, in each schema that begins with schema 3
-module _ (tables : List SqlTable) (indexes : List Index) where
-  abbrev pub merchants_in : (free : guards_of indexes (table_of v3.merchants) (columns_to 1) ≡ [])
-      → Table (keyed_in_grown third.merchant_table tables indexes free) RawMerchant Bytes
-  merchants_in free = record {
-    values = merchant_values;
-    shown = λ m. string_bytes m.name;
-    shows = λ q. Text q ∷ [];
-    key_of = λ q. q;
-    whole = λ m. refl;
-    fits = λ q. (refl, rw (same_text q) refl);
-    back = name_back;
-  }
-
--- rights that may end
-abbrev pub rights : Table fourth.right_table RawRight (Bytes × (Bytes × ℤ))
-rights = record {
-  values = right_values;
-  shown = number_key;
-  shows = whose;
-  key_of = right_in;
-  whole = λ r. refl;
-  fits = λ q. (refl, rw (same_text q.0, same_text q.1.0, same_int q.1.1) refl);
-  back = right_back;
-}
-
 -- the tables of the newest schema
-abbrev pub merchants : Table newest.merchant_table RawMerchant Bytes
-merchants = merchants_in v4.tables4 v4.indexes4 refl
-
 abbrev pub counts : Table (keyed_in_grown codes.count_table newest.behind_first newest.indexes_behind_first
     refl)
     RawCount (Bytes × ℤ)

@@ -10,7 +10,8 @@ use Rattle.vault_tables.specs.Rights.{right_values}
 use Rattle.vault_verdict.specs.Raw.{record_values}
 use Rattle.vault_verdict.specs.ReadAs.{replaced_in, rights_in}
 use Rattle.sql_stored.specs.Reading.{AreTable, IsAny}
-use Rattle.vault_verdict.specs.Reading.{AreCardsIn, AreEntriesIn, AreRightsFull, IsUnreadOne}
+use Rattle.vault_verdict.specs.ReadAs.{AreRightsFull}
+use Rattle.vault_verdict.specs.Reading.{AreCardsIn, AreEntriesIn, IsUnreadOne}
 use Rattle.vault_verdict.specs.Sizes.{counts_of}
 use Rattle.vault_verdict.specs.declared.fault.OpenFault.{OpenFault}
 use Rattle.vault_verdict.specs.declared.fault.OpenFault.TheVariants.{Damaged, Store}

@@ -7,8 +7,8 @@ use Rattle.sqlite_schema.specs.Names.{table_named, index_named, view_named}
 use Rattle.sql_maps.specs.Schema.{no_schema}
 use Rattle.vault_verdict.specs.declared.names.Holder.{Holder}
 use Rattle.vault_verdict.specs.declared.names.Holder.TheVariants.{Nobody, Vault, Mixed, Other}
-use Rattle.vault_schema.specs.declared.v4.TheConstants.{NAMES}
 use Rattle.vault_schema.specs.Schema.{newest_schema}
+use Rattle.vault_schema.specs.declared.version.TheConstants.{NAMES}
 
 -- a table, an index, or a view or another object has this name, as SQL compares names
 abbrev pub is_taken : Schema → List ℕ → Bool
@@ -26,10 +26,10 @@ any_taken s names = list_any (λ name. is_taken s name) names
 abbrev pub any_missing : Schema → List (List ℕ) → Bool
 any_missing s names = list_any (λ name. not (is_taken s name)) names
 
--- there are no more and no fewer than the ten tables and eleven indexes of a vault
+-- there are no more and no fewer than the tables and indexes of a vault
 pub record IsNumbered (s : Schema) : Type 0 where
-  pub tables : length s.tables ≡ 10
-  pub indexes : length s.indexes ≡ 11
+  pub tables : length s.tables ≡ length newest_schema.tables
+  pub indexes : length s.indexes ≡ length newest_schema.indexes
   pub views : s.views ≡ []
 
 -- some of these names are taken, and not all of them, or others stand beside them

@@ -1,22 +1,34 @@
 -- The rows of each version's tables, read as those of the newest one.
-use Rattle.std.specs.Prelude.{◌≡◌, ◌+◌, ℕ, List, [], ◌∷◌, map, cond}
+use Rattle.std.specs.Prelude.{◌≡◌, ◌+◌, ◌⊎◌, ℕ, Bool, false, List, [], ◌∷◌, map, cond, length, not}
 use Rattle.std.specs.List.{filter_map}
 use Rattle.std.specs.List.Sorted.{IsPermutation}
 use Rattle.sqlite.specs.Effect.{Database}
+use Rattle.sqlite.specs.Held.{Held}
 use Rattle.sqlite.specs.Order.{Row}
 use Rattle.sqlite.specs.Tree.{Trees}
-use Rattle.sql_stored.specs.Reading.{AreLonger, any_left}
+use Rattle.sqlite_schema.specs.declared.schema.Column.{Column}
+use Rattle.sqlite_trees.specs.declared.store.Store.{Ghosts}
+use Rattle.sql_stored.specs.Reading.{AreLonger, IsAny, IsUnread, any_left}
+use Rattle.sql_stored.specs.Scans.{id_values}
 use Rattle.vault_rules.specs.AllRows.{Rows}
 use Rattle.vault_schema.specs.Layers.{Either, Layer, is_from, is_past}
 use Rattle.vault_schema.specs.Versions.{has_cards, layers, schema_of}
+use Rattle.vault_schema.specs.declared.v1.TheConstants.{READ_ENTRY_IDS}
 use Rattle.vault_schema.specs.declared.version.Version.{Version}
 use Rattle.vault_schema.specs.declared.version.Version.TheVariants.{Three, Four}
 use Rattle.vault_tables.specs.Merchants.{with_six}
 use Rattle.vault_tables.specs.Rights.{endless}
+use Rattle.vault_tables.specs.declared.merchants.TheConstants.{READ_MERCHANTS}
+use Rattle.vault_tables.specs.declared.merchants.old.TheConstants.{READ_MERCHANT_IDS, READ_OLD_MERCHANTS}
+use Rattle.vault_tables.specs.declared.rights.TheConstants.{READ_RIGHTS}
+use Rattle.vault_tables.specs.declared.rights.old.TheConstants.{READ_OLD_RIGHTS, READ_RIGHT_IDS}
 use Rattle.vault_verdict.specs.Made.{as_card, as_entry}
 use Rattle.vault_verdict.specs.Raw.{card_row, card_values, entry_values, old_entry_values}
 use Rattle.vault_verdict.specs.declared.replaced.OldEntry.{OldEntry}
 
+-- ---- the rows
+
+-- its merchants, and its rights
 abbrev pub merchants_in : Version → Trees → List Row
 merchants_in v db = cond (is_from Three v) (db 17) (map with_six (db 1))
 
@@ -52,16 +64,54 @@ pub record AreOlders (db : Trees) (olders : List OldEntry) (rows : Rows) : Type 
 abbrev pub AreEntries : Version → Trees → List OldEntry → Rows → Type 0
 AreEntries v db olders rows = Either (has_cards v) (AreCards db rows) (AreOlders db olders rows)
 
--- each row of the entries of a version has all columns
-abbrev pub AreEntriesFull : Version → Trees → Type 0
-AreEntriesFull v db = Either (has_cards v) (AreLonger 7 (db 14)) (AreLonger 7 (db 5))
+-- ---- rows with all their columns
+
+-- the last of these columns may be NULL
+abbrev pub ends_open : List Column → Bool
+ends_open [] = false
+ends_open (c ∷ []) = not c.not_null
+ends_open (c ∷ d ∷ cs) = ends_open (d ∷ cs)
+
+-- each row of a table that a version has, and didn't replace, has all columns, where the last may be NULL
+abbrev pub IsTableFull : {T : Type 0} → Version → Layer T → Trees → Type 0
+IsTableFull v l db =
+    Either (ends_open l.table.columns) (Either (is_from l.since v) (Either (is_past v l.till) (Unit {0})
+    (AreLonger (length l.table.columns) (db l.table.tree))) (Unit {0})) (Unit {0})
+
+-- so of each of these tables
+abbrev pub AreTablesFull : {T : Type 0} → Version → List (Layer T) → Trees → Type 0
+AreTablesFull v [] db = Unit {0}
+AreTablesFull v (l ∷ ls) db = IsTableFull v l db × AreTablesFull v ls db
 
 -- The premise on a file: each row of a table whose last column may be NULL has all its columns. Nothing else
 -- says that no row was made before that column was added; no statement of this program adds one.
 abbrev pub AreFull : Version → Trees → Type 0
-AreFull v db = Either (is_from Four v) (AreEntriesFull v db × AreLonger 4 (db 19)) (AreEntriesFull v db)
+AreFull v db = AreTablesFull v layers db
 
 -- a database in the schema of a version, with full rows
 pub record IsFullIn (v : Version) (db : Database) : Type 0 where
   pub schema : db.schema ≡ schema_of v
   pub full : AreFull v db.trees
+
+-- ---- what reads them
+
+-- the premise on the merchants of a version, and that on its rights
+abbrev pub AreMerchantsFull : Version → Database → Type 0
+AreMerchantsFull v = IsAny
+
+abbrev pub AreRightsFull : Version → Database → Type 0
+AreRightsFull v db = Either (is_from Four v) (AreLonger 4 (db.trees 19)) (Unit {0})
+
+-- the text that reads its merchants, and that of its rights
+abbrev pub merchants_text : Version → List ℕ
+merchants_text v = cond (is_from Three v) READ_MERCHANTS.now READ_OLD_MERCHANTS.now
+
+abbrev pub rights_text : Version → List ℕ
+rights_text v = cond (is_from Four v) READ_RIGHTS.now READ_OLD_RIGHTS.now
+
+-- why the tables that were replaced aren't counted, though memory is there
+abbrev pub IsUnreadReplaced : {S : Type 0} → Ghosts S → Database → Held S → Type 0
+IsUnreadReplaced g db new =
+    IsUnread g READ_ENTRY_IDS.now id_values db new
+    ⊎ (IsUnread g READ_MERCHANT_IDS.now id_values db new
+    ⊎ IsUnread g READ_RIGHT_IDS.now id_values db new)

@@ -1,6 +1,6 @@
 -- Reading the whole of a table.
 use Rattle.std.specs.List.{filter_map}
-use Rattle.std.specs.Prelude.{◌≡◌, ◌≤◌, ◌⊎◌, ℕ, false, List, [], ◌∷◌, map, cond}
+use Rattle.std.specs.Prelude.{◌≡◌, ◌≤◌, ◌⊎◌, false, List, [], ◌∷◌, map}
 use Rattle.std.specs.Prelude.{Result, IfErr, IfOk}
 use Rattle.sqlite.specs.Effect.{Database}
 use Rattle.sqlite.specs.Held.{Held, state}
@@ -14,14 +14,13 @@ use Rattle.vault_verdict.specs.Apart.{SharesRowid}
 use Rattle.vault_verdict.specs.Made.{as_card, as_entry}
 use Rattle.vault_verdict.specs.Raw.{card_row, card_values, count_values, entry_values, old_entry_values}
 use Rattle.vault_verdict.specs.Raw.{record_values, version_values}
-use Rattle.vault_verdict.specs.ReadAs.{AreFull, IsFullIn, merchants_in, replaced_in}
-use Rattle.vault_verdict.specs.ReadAs.{rights_in}
+use Rattle.vault_verdict.specs.ReadAs.{AreFull, AreMerchantsFull, AreRightsFull, IsFullIn, IsUnreadReplaced}
+use Rattle.vault_verdict.specs.ReadAs.{merchants_in, merchants_text, replaced_in, rights_in, rights_text}
 use Rattle.vault_verdict.specs.Taken.{CardsTaken, EntriesTaken}
 use Rattle.vault_verdict.specs.declared.behind.Behind.{Behind}
 use Rattle.vault_verdict.specs.declared.first.First.{First}
 use Rattle.vault_verdict.specs.declared.read.WithCards.{WithCards}
 use Rattle.sql_stored.specs.Reading.{AreLonger, AreTable, IsAny, IsUnread}
-use Rattle.sql_stored.specs.Scans.{id_values}
 use Rattle.sql_stored.specs.declared.fault.ReadFault.{ReadFault}
 use Rattle.sql_stored.specs.declared.fault.ReadFault.TheVariants.{Store}
 use Rattle.vault_rules.specs.declared.rows.RawCard.{RawCard}
@@ -37,15 +36,10 @@ use Rattle.vault_schema.specs.declared.v1.TheConstants as v1
 use Rattle.vault_schema.specs.declared.v2.TheConstants as v2
 use Rattle.vault_tables.specs.Merchants.{merchant_values}
 use Rattle.vault_tables.specs.Rights.{right_values}
-use Rattle.vault_tables.specs.declared.merchants.TheConstants.{READ_MERCHANTS}
-use Rattle.vault_tables.specs.declared.merchants.old.TheConstants.{READ_MERCHANT_IDS, READ_OLD_MERCHANTS}
-use Rattle.vault_tables.specs.declared.rights.TheConstants.{READ_RIGHTS}
-use Rattle.vault_tables.specs.declared.rights.old.TheConstants.{READ_OLD_RIGHTS, READ_RIGHT_IDS}
 use Rattle.vault_schema.specs.Stands.{newest}
-use Rattle.vault_schema.specs.Layers.{Either, is_from}
+use Rattle.vault_schema.specs.Layers.{Either}
 use Rattle.vault_schema.specs.Versions.{has_cards, schema_of}
 use Rattle.vault_schema.specs.declared.version.Version.{Version}
-use Rattle.vault_schema.specs.declared.version.Version.TheVariants.{Three, Four}
 use Rattle.vault_schema.specs.Schema.{newest_schema}
 
 -- what the terms show of a row
@@ -64,23 +58,12 @@ IsFull db = AreFull newest db.trees
 abbrev pub IsOurs : Database → Type 0
 IsOurs db = IsFullIn newest db
 
--- the premise on the table of entries of schema 1, on those of entries that point at cards, and on that of
--- rights that end
+-- the premise on the table of entries of schema 1, and on that of entries that point at cards
 abbrev pub AreOldFull : Database → Type 0
 AreOldFull db = AreLonger 7 (db.trees 5)
 
 abbrev pub ArePointingFull : Database → Type 0
 ArePointingFull db = AreLonger 7 (db.trees 14)
-
-abbrev pub AreRightsFull : Version → Database → Type 0
-AreRightsFull v db = Either (is_from Four v) (AreLonger 4 (db.trees 19)) (Unit {0})
-
--- the text that reads the merchants of a version, and that of its rights
-abbrev pub merchants_text : Version → List ℕ
-merchants_text v = cond (is_from Three v) READ_MERCHANTS.now READ_OLD_MERCHANTS.now
-
-abbrev pub rights_text : Version → List ℕ
-rights_text v = cond (is_from Four v) READ_RIGHTS.now READ_OLD_RIGHTS.now
 
 -- what was read of the entries of schema 1, and the cards of them
 pub record AreOldCards (db : Database) (olders : List OldEntry) (cards : List RawCard) : Type 0 where
@@ -101,7 +84,8 @@ AreEntriesIn v db olders entries =
 
 -- the rows of a version that cards and entries name
 pub record AreFirst (v : Version) (db : Database) (it : First) : Type 0 where
-  pub merchants : AreTable IsAny (merchants_in v) merchant_values (λ m. m.rowid) db it.merchants.items
+  pub merchants : AreTable (AreMerchantsFull v) (merchants_in v) merchant_values (λ m. m.rowid) db
+      it.merchants.items
   pub counts : AreTable IsAny (λ t. t 3) count_values (λ c. c.rowid) db it.counts.items
 
 -- the entries and the records of a version, of which these were taken
@@ -157,13 +141,6 @@ module _ {S : Type 0} (g : Ghosts S) where
     pub refused : HasCleanDisk (state g new) → (state g old).now.schema ≡ schema_of v
         → IfErr result (λ e. e ≡ Store → IsUnreadEntries v (state g old).now new)
 
-  -- why the tables that were replaced aren't counted, though memory is there
-  abbrev pub IsUnreadReplaced : Database → Held S → Type 0
-  IsUnreadReplaced db new =
-      IsUnread g v1.READ_ENTRY_IDS.now id_values db new
-      ⊎ (IsUnread g READ_MERCHANT_IDS.now id_values db new
-      ⊎ IsUnread g READ_RIGHT_IDS.now id_values db new)
-
   -- why one of the tables beside `vault` isn't read, though memory is there
   abbrev pub IsUnreadOne : Version → Database → Held S → Type 0
   IsUnreadOne v db new =
@@ -172,7 +149,7 @@ module _ {S : Type 0} (g : Ghosts S) where
       ⊎ (IsUnreadEntries v db new
       ⊎ (IsUnread g v1.READ_RECORDS.now record_values db new
       ⊎ (IsUnread g (rights_text v) right_values db new
-      ⊎ IsUnreadReplaced db new))))
+      ⊎ IsUnreadReplaced g db new))))
 
 -- why 33 is told of a database in a version: a table isn't read, or in one a rowid comes twice
 abbrev pub IsUnreadIn : {S : Type 0} → Ghosts S → Version → Database → Held S → Type 0

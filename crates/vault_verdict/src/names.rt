@@ -4,8 +4,7 @@ ghost use Rattle.sql_maps.specs.Schema.{no_schema};
 ghost use Rattle.vault_verdict.specs.Names as spec;
 
 use sqlite_schema::schema::Schema;
-use vault_schema::v4::NAMES;
-use vault_schema::v4::shape::is_v4;
+use vault_schema::version::{INDEXES, NAMES, TABLES, is_newest};
 
 /// Whose tables a file holds.
 #[derive(Clone, Copy, PartialEq, Eq)]
@@ -54,7 +53,7 @@ fn any_missing(schema: &Schema, names: &[&str]) -> bool
 fn is_numbered(schema: &Schema) -> bool
     ensures { Decides result (spec.IsNumbered schema.now) }
 {
-    schema.tables.len() == 10 && schema.indexes.len() == 11 && schema.views.is_empty()
+    schema.tables.len() == TABLES && schema.indexes.len() == INDEXES && schema.views.is_empty()
 }
 
 /// Whether some of these names are taken, and not all of them, or others stand beside them.
@@ -77,7 +76,7 @@ pub fn holder_in(schema: &Schema) -> Holder
 {
     if is_blank(schema) {
         Holder::Nobody
-    } else if is_v4(schema) {
+    } else if is_newest(schema) {
         Holder::Vault
     } else if is_mixed(schema, &NAMES) {
         Holder::Mixed

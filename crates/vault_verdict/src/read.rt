@@ -22,10 +22,11 @@ ghost use Rattle.vault_tables.specs.Rights.{right_values};
 ghost use Rattle.vault_verdict.specs.Opened.{AreVersions};
 ghost use Rattle.vault_verdict.specs.Raw.{card_row, count_values, old_entry_values, record_values};
 ghost use Rattle.vault_verdict.specs.Raw.{version_values};
-ghost use Rattle.vault_verdict.specs.ReadAs.{left_in as left_spec, merchants_in, replaced_in, rights_in};
-ghost use Rattle.vault_verdict.specs.Reading.{AreOldCards, AreOldFull, AreRightsFull, IsQuietWhere};
-ghost use Rattle.vault_verdict.specs.Reading.{IsUnreadCards, IsUnreadReplaced, ReadsCards, TakesEntries};
-ghost use Rattle.vault_verdict.specs.Reading.{merchants_text, rights_text};
+ghost use Rattle.vault_verdict.specs.ReadAs.{AreMerchantsFull, AreRightsFull, IsUnreadReplaced};
+ghost use Rattle.vault_verdict.specs.ReadAs.{left_in as left_spec, merchants_in, merchants_text};
+ghost use Rattle.vault_verdict.specs.ReadAs.{replaced_in, rights_in, rights_text};
+ghost use Rattle.vault_verdict.specs.Reading.{AreOldCards, AreOldFull, IsQuietWhere, IsUnreadCards};
+ghost use Rattle.vault_verdict.specs.Reading.{ReadsCards, TakesEntries};
 ghost use Rattle.vault_verdict.specs.Taken.{CardsTaken, RecordsTaken};
 
 use crate::made;
@@ -74,8 +75,9 @@ pub(crate) fn merchants<S: Alter>(
     conn: &mut Connection<S>,
     version: Version,
 ) -> Result<Vec<RawMerchant>, ReadFault>
-    ensures { ReadsTable S.Store (merchants_text version) merchant_values (schema_of version) IsAny
-        (merchants_in version) merchant_values (λ raw. raw.rowid) result conn.old conn.new }
+    ensures { ReadsTable S.Store (merchants_text version) merchant_values (schema_of version)
+        (AreMerchantsFull version) (merchants_in version) merchant_values (λ raw. raw.rowid) result conn.old
+        conn.new }
 {
     if version.is_from(Version::Three) {
         read_all::<S, Merchants>(alloc, conn)

@@ -1,6 +1,8 @@
 -- The subcommands: the rules of their words in clap's terms, and what their values ask for.
-use Rattle.std.specs.Prelude.{List, [], ◌∷◌, option_map, true, codes}
+use Rattle.std.specs.Prelude.{ℕ, List, [], ◌∷◌, option_map, true, codes}
 use Rattle.clap.specs.Words.{App, Row, Rule, new_app, with_subcommand}
+use Rattle.vault_core.specs.Lives.{handed_lives}
+use Rattle.vault_core.specs.declared.row.Lives.{Lives}
 use Rattle.vault_words.specs.Rules.{digits_rule, flag_rule, lead_rule, now_rule, number_option, number_rule}
 use Rattle.vault_words.specs.Rules.{text_option, text_rule, until_rule, with_rules}
 use Rattle.vault_words.specs.Values.{HasConnections, HasDigits, HasFlag, HasLead, HasLife, HasMaybeText}
@@ -42,6 +44,10 @@ AsksMerchant rows job =
     HasNow rows job.now × HasLead rows job.lead × HasText rows (codes "FILE") job.file.now
     × HasText rows (codes "NAME") job.name.now × HasLife rows (codes "SINGLE") job.single_life
     × HasLife rows (codes "MULTI") job.multi_life
+
+-- what it asks to set a merchant to, at a moment
+abbrev pub lives_asked : MerchantJob → ℕ → Lives
+lives_asked job now = handed_lives job.single_life job.multi_life job.lead now
 
 -- FILE CALLER MERCHANT RIGHT
 abbrev pub right_rules : List Rule

@@ -33,7 +33,7 @@ pub enum JobFault {
 pub enum Job<'a> {
     /// Messages from standard input are answered by a vault in memory, which ends with the program.
     Trial(TrialJob<'a>),
-    /// A merchant's lives and its lead are set.
+    /// A merchant is set.
     Merchant(MerchantJob<'a>),
     /// A caller is given a right.
     Grant(GrantJob<'a>),

@@ -32,11 +32,5 @@ pub(crate) fn task<K: Timekeeper>(time: &K, job: &MerchantJob<'_>) -> Result<Tas
         Ok(now) => now,
         Err(stop) => return Err(Ending::Stopped(stop)),
     };
-    Ok(Task::Change(Command::SetMerchant {
-        merchant,
-        single_life: job.single_life,
-        multi_life: job.multi_life,
-        lead: job.lead,
-        now,
-    }))
+    Ok(Task::Change(Command::setting(merchant, job.lives(now))))
 }

@@ -1,5 +1,6 @@
 //! `migrate`: a file moves to the newest schema.
-ghost use Rattle.std.specs.Prelude.{◌≡◌, pos, IfOk};
+ghost use Rattle.std.specs.Prelude.{◌≡◌, IfOk};
+ghost use Rattle.vault_schema.specs.Versions.{newest, number_of};
 ghost use Rattle.vault_wire.specs.Watching.{inner_of, is_stopped};
 ghost use Rattle.vault_app.specs.Plans.{TellsMoved};
 
@@ -10,9 +11,9 @@ use std::io::Write;
 use vault_file::fault::NotOpened;
 use vault_wire::watched::Watched;
 
-/// Says which schema a file has now, 4; or ends as the file isn't opened.
+/// Says which schema a file has now, the newest; or ends as the file isn't opened.
 pub(crate) fn tell_moved<W: Write>(moved: Result<i64, NotOpened>, output: &mut Watched<W>) -> Ending
-    requires { IfOk moved (λ version. version ≡ pos 4) }
+    requires { IfOk moved (λ version. version ≡ number_of newest) }
     ensures { TellsMoved moved result (output.new ≡ output.old) (W.contents (inner_of output.old))
         (W.contents (inner_of output.new)) (is_stopped output.new) }
 {

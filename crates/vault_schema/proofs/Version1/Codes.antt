@@ -1,66 +1,21 @@
 -- Each key and value of schema 1 is told by its columns.
-use Rattle.std.proofs.Common.{◌≡◌, ℕ, pos, [], ◌==◌, true, cond, Option, Some, None, refl, sym, ap, ◌∙◌}
-use Rattle.std.proofs.Common.{nat_cmp}
-use Rattle.sqlite.specs.Kind.TheVariants.{Integer, Text as Words}
+use Rattle.std.proofs.Common.{◌≡◌, refl, sym, ap, ◌∙◌, nat_cmp}
 use Rattle.sqlite.specs.Order.{column}
-use Rattle.sqlite.specs.declared.types.Value.{Value}
-use Rattle.sqlite.specs.declared.types.Value.TheVariants.{Int, Text}
-use Rattle.sql_maps.specs.Codes.{Codes, fits}
+use Rattle.sql_maps.specs.Codes.{Codes}
 use Rattle.sql_maps.proofs.ByKey.{Coding}
 use Rattle.sql_maps.proofs.Keys.{Keyed, coding}
 use Rattle.sql_maps.proofs.KeyTests.{text_eq, number_eq, and_true, two_tests, three_tests}
 use Rattle.vault_core.proofs.Maps.{bytes_total, bytes_exact, entry_total, entry_exact, record_total}
 use Rattle.vault_core.proofs.Maps.{record_exact, right_total, right_exact}
-use Rattle.vault_core.specs.Keys.{Bytes, bytes_cmp, entry_cmp, record_cmp, right_cmp}
-use Rattle.vault_core.specs.Numbers.{right_number, use_number}
-use Rattle.vault_core.specs.declared.usage.Use.{Use}
-use Rattle.vault_core.specs.declared.usage.Use.TheVariants.{Single, Multi}
-use Rattle.vault_schema.specs.Version1.Rows.{text_or_null, number_or_null, merchant_key}
-use Rattle.vault_schema.specs.Version1.Rows.{lives_columns, numbered_key, number_column, entry_key}
+use Rattle.vault_core.specs.Keys.{bytes_cmp, entry_cmp, record_cmp, right_cmp}
+use Rattle.vault_core.specs.Numbers.{right_number}
+use Rattle.vault_schema.proofs.Values.{maybe_number, maybe_text, number_back, number_fits, number_in}
+use Rattle.vault_schema.proofs.Values.{text_back, text_fits, text_in, use_back, use_in}
+use Rattle.vault_schema.specs.Version1.Rows.{merchant_key, lives_columns, numbered_key, number_column}
+use Rattle.vault_schema.specs.Version1.Rows.{entry_key}
 use Rattle.vault_schema.specs.Version1.Rows.{entry_columns, record_columns, right_key, no_columns}
 use Rattle.vault_schema.specs.Version1.Rows.{merchant_row, count_row, entry_row, record_row, right_row}
 use Rattle.vault_schema.specs.Version1.Tables.{v1, merchants, counts, entries, records, rights}
-
--- ---- a value and back
-
-abbrev pub number_in : Value → ℕ
-number_in (Int (pos n)) = n
-number_in _ = 0
-
-abbrev pub text_in : Value → Bytes
-text_in (Text t) = t
-text_in _ = []
-
-abbrev maybe_text : Value → Option Bytes
-maybe_text (Text t) = Some t
-maybe_text _ = None
-
-abbrev pub maybe_number : Value → Option ℕ
-maybe_number (Int (pos n)) = Some n
-maybe_number _ = None
-
-abbrev pub use_in : Value → Use
-use_in v = cond (number_in v == 1) Single Multi
-
-text_back : (o : Option Bytes) → maybe_text (text_or_null o) ≡ o
-text_back None = refl
-text_back (Some t) = refl
-
-pub number_back : (o : Option ℕ) → maybe_number (number_or_null o) ≡ o
-number_back None = refl
-number_back (Some n) = refl
-
-pub use_back : (u : Use) → use_in (Int (pos (use_number u))) ≡ u
-use_back Single = refl
-use_back Multi = refl
-
-text_fits : (o : Option Bytes) → fits Words (text_or_null o) ≡ true
-text_fits None = refl
-text_fits (Some t) = refl
-
-pub number_fits : (o : Option ℕ) → fits Integer (number_or_null o) ≡ true
-number_fits None = refl
-number_fits (Some n) = refl
 
 -- ---- the tables
 

@@ -11,8 +11,9 @@ use Rattle.sql_maps.proofs.Keys.{Keyed, coding}
 use Rattle.vault_core.specs.Keys.{bytes_cmp, entry_cmp, record_cmp, right_cmp}
 use Rattle.sql_maps.proofs.Grown.{keyed_in_grown}
 use Rattle.vault_schema.proofs.Version1.Codes as v1
-use Rattle.vault_schema.proofs.Version1.Codes.{number_in, maybe_number, number_back, number_fits}
-use Rattle.vault_schema.proofs.Version1.Codes.{text_in, use_in, use_back, entry_codes}
+use Rattle.vault_schema.proofs.Version1.Codes.{entry_codes}
+use Rattle.vault_schema.proofs.Values.{maybe_number, number_back, number_fits, number_in, text_in, use_back}
+use Rattle.vault_schema.proofs.Values.{use_in}
 use Rattle.vault_schema.specs.Version1.Rows.{merchant_key, lives_columns, numbered_key, number_column}
 use Rattle.vault_schema.specs.Version1.Rows.{entry_key, entry_columns, record_columns, right_key, no_columns}
 use Rattle.vault_schema.specs.Version2.Rows.{card_columns, id_or_null, pointing_columns, pointing_row}

@@ -1,6 +1,6 @@
 //! Schema 3 as a database shows it.
 ghost use Rattle.std.specs.Prelude.{◌≡◌, Decides};
-ghost use Rattle.vault_schema.specs.Version3.Tables.{v3};
+ghost use Rattle.vault_schema.specs.Version3.{v3};
 
 use crate::v1::shape as v1;
 use crate::v2::shape as v2;

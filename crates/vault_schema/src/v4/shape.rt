@@ -1,6 +1,6 @@
 //! Schema 4 as a database shows it.
 ghost use Rattle.std.specs.Prelude.{◌≡◌, Decides};
-ghost use Rattle.vault_schema.specs.Version4.Tables.{v4};
+ghost use Rattle.vault_schema.specs.Version4.{v4};
 
 use crate::v1::shape as v1;
 use crate::v2::shape as v2;
@@ -11,7 +11,7 @@ use sqlite_schema::schema::Kind::{Integer, Text};
 use sqlite_schema::schema::Schema;
 
 /// Rights, each with its end.
-const RIGHTS: TableShape<'static> = TableShape {
+pub(crate) const RIGHTS: TableShape<'static> = TableShape {
     name: "rights4",
     tree: 19,
     columns: &[
@@ -26,7 +26,7 @@ const RIGHTS: TableShape<'static> = TableShape {
 };
 
 /// The key of rights.
-const RIGHTS_KEY: IndexShape<'static> = IndexShape {
+pub(crate) const RIGHTS_KEY: IndexShape<'static> = IndexShape {
     name: "sqlite_autoindex_rights4_1",
     tree: 20,
     table: 19,

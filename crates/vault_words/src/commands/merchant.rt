@@ -1,7 +1,7 @@
 //! `merchant [--now T] [--lead L] FILE NAME SINGLE MULTI`
-ghost use Rattle.std.specs.Prelude.{IfOk};
+ghost use Rattle.std.specs.Prelude.{◌≡◌, IfOk};
 ghost use Rattle.clap.specs.Words.{found_of, rows_of};
-ghost use Rattle.vault_words.specs.Commands.{AsksMerchant, merchant_app};
+ghost use Rattle.vault_words.specs.Commands.{AsksMerchant, lives_asked, merchant_app};
 ghost use Rattle.vault_words.specs.Rules.{IsApp};
 ghost use Rattle.vault_words.specs.Values.{Finds};
 
@@ -10,6 +10,7 @@ use crate::values::{self, BadValue};
 use clap::{ArgMatches, Command};
 use std::alloc::{AllocError, Global};
 use vault_core::moment::Moment;
+use vault_core::row::Lives;
 use vault_pan::lead::Lead;
 
 /// What a merchant's lives and its lead are set with.
@@ -30,6 +31,18 @@ pub struct MerchantJob<'a> {
 }
 
 impl<'a> MerchantJob<'a> {
+    /// What the merchant is set to, at a moment.
+    pub fn lives(&self, now: Moment) -> Lives
+        ensures { result ≡ lives_asked self.entry.now now }
+    {
+        Lives {
+            single_life: self.single_life,
+            multi_life: self.multi_life,
+            moment: now,
+            lead: self.lead,
+        }
+    }
+
     /// The job that the values of `merchant` ask for.
     pub(crate) fn read(matches: &ArgMatches<'a>) -> Result<MerchantJob<'a>, BadValue<'a>>
         ensures { Finds result (AsksMerchant (rows_of (found_of matches.now))) }

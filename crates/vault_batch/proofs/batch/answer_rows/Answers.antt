@@ -2,16 +2,15 @@ use Rattle.std.proofs.Common.{◌≡◌, ◌+◌, [], ◌∷◌, ◌++◌, lengt
 use Rattle.std.proofs.Common.{length-append}
 use Rattle.std.specs.Prelude.{if◌then◌else◌}
 use Rattle.csv.specs.Records.{fields_of}
-use Rattle.vault_http.specs.Exchanges.{reply_to}
-use Rattle.vault_http.specs.Passing.{passing}
-use Rattle.vault_batch.specs.Asking.{Asked}
-use Rattle.vault_batch.specs.Batched.{rows_of}
-use Rattle.vault_batch.specs.Lines.{first_line, has_token, tokens, vault_after}
+use Rattle.vault_engine.specs.Asking.{reply_to, vault_after}
+use Rattle.vault_engine.specs.Passing.{passing}
+use Rattle.vault_engine.proofs.Following.{follows, one_more}
+use Rattle.vault_batch.specs.Asking.{Asked, rows_by}
+use Rattle.vault_batch.specs.Batched.{rows_of, tokens}
+use Rattle.vault_batch.specs.Lines.{first_line, has_token}
 use Rattle.vault_batch.specs.Reading.{StandsAfter, StandsNext}
 use Rattle.vault_batch.specs.Rows.{BeginRecordsOf, Fields, fields_in, records_with, row_of}
-use Rattle.vault_batch.proofs.Answering.{first_answered}
-use Rattle.vault_batch.proofs.Following.{follows, one_more}
-use Rattle.vault_batch.proofs.Lining.{counts_one, one_at_most, tokens-more, tokens-nil}
+use Rattle.vault_batch.proofs.Lining.{counts_one, first_answered, one_at_most, tokens-more, tokens-nil}
 use Rattle.vault_batch.proofs.Stopping.{beside_writer, records_more, stops_at_row, stops_between, stops_first}
 use Rattle.vault_batch.proofs.Tracking.{begins_given}
 use Rattle.vault_batch.proofs.batch.answer_rows.Goals as goal
@@ -101,17 +100,16 @@ rows-preserved g c =
     (c.in-Ok-true.ensures.next known _ inv.stands) in
     let one = c.in-Ok.ensures.answered in
     let x : Asked = one.0 in
-    let second = passing g.S.Source.given c.rows.source c.answer_row.new.source g.W.Write.contents
-    c.rows.writer c.answer_row.new.writer g.T.Tables.is_honest g.T.Tables.holds g.T.Tables.leaves c.rows.vault
-    c.answer_row.new.vault in
-    let whole = passing g.S.Source.given c.args.source.now c.answer_row.new.source g.W.Write.contents
-    c.args.writer.now c.answer_row.new.writer g.T.Tables.is_honest g.T.Tables.holds g.T.Tables.leaves
-    c.args.vault.now c.answer_row.new.vault in
-    let f = follows g.S.Source.given c.args.source.now c.rows.source c.answer_row.new.source
-    g.W.Write.contents c.args.writer.now c.rows.writer c.answer_row.new.writer g.T.Tables.is_honest
-    g.T.Tables.holds g.T.Tables.leaves c.args.vault.now c.rows.vault c.answer_row.new.vault
-    c.answer_row.ensures.honest
-    c.args.asker.now first_line inv.asked inv.answered in
+    let second = passing g.S.Source.given c.rows.source c.ask.new.source g.W.Write.contents
+    c.rows.writer c.ask.new.writer g.T.Tables.is_honest g.T.Tables.holds g.T.Tables.leaves c.rows.vault
+    c.ask.new.vault in
+    let whole = passing g.S.Source.given c.args.source.now c.ask.new.source g.W.Write.contents
+    c.args.writer.now c.ask.new.writer g.T.Tables.is_honest g.T.Tables.holds g.T.Tables.leaves
+    c.args.vault.now c.ask.new.vault in
+    let f = follows g.S.Source.given c.args.source.now c.rows.source c.ask.new.source
+    g.W.Write.contents c.args.writer.now c.rows.writer c.ask.new.writer g.T.Tables.is_honest
+    g.T.Tables.holds g.T.Tables.leaves c.args.vault.now c.rows.vault c.ask.new.vault
+    (rows_by c.args.asker.now) c.ask.ensures.trusted.honest first_line inv.asked inv.answered in
     let more : length (inv.asked ++ x ∷ []) ≡ length inv.asked + 1 = length-append inv.asked (x ∷ []) in
     record {
       asked = inv.asked ++ x ∷ [];
@@ -119,46 +117,46 @@ rows-preserved g c =
           subst (λ rs. StandsAfter known (λ r. g.R.Read.remaining r.now.inner) rs c.read_record.new.records)
           (ap (λ (fs : Fields). records_with (rows_of inv.asked) ++ fs ∷ [])
           (c.in-Some.ensures.some ∙ ap fields_in (sym one.1)) ∙ sym (records_more inv.asked x)) next;
-      answered = one_more c.args.asker.now first_line second whole inv.asked inv.answered.asked f x one.2;
-      few = omega (arith, inv.few, more, c.from-tokens.ensures, one_at_most c.in-Ok.token);
+      answered =
+          one_more (rows_by c.args.asker.now) first_line second whole inv.asked inv.answered.asked f x one.2;
+      few = omega (arith, inv.few, more, c.from-tokens.ensures, one_at_most c.has_token.result);
       counted = λ V b.
           let before : c.rows.tokens ≡ tokens V inv.asked =
-          inv.counted V (c.answer_row.ensures.honest b.0, b.1) in
+          inv.counted V (c.ask.ensures.trusted.honest b.0, b.1) in
           let all : tokens V (inv.asked ++ x ∷ [])
           ≡ c.rows.tokens + (if has_token (reply_to (vault_after V inv.asked) x.wanted) then 1 else 0) =
           tokens-more V inv.asked x
           ∙ ap (λ n. n + (if has_token (reply_to (vault_after V inv.asked) x.wanted) then 1 else 0))
           (sym before) in
-          counts_one c.in-Ok.token _ c.rows.tokens _ c.from-tokens.result c.from-tokens.ensures
-          (one.3 (vault_after V inv.asked) (f.before V b)) all;
+          counts_one c.has_token.result _ c.rows.tokens _ c.from-tokens.result c.from-tokens.ensures
+          (c.has_token.ensures ∙ ap has_token (one.3 (vault_after V inv.asked) (f.before V b))) all;
       pairs = omega (arith, inv.pairs, c.in-Ok.ensures.counted, more);
-      later = g.met.S.Source.transitive _ _ _ inv.later c.answer_row.ensures.later;
+      later = g.met.S.Source.transitive _ _ _ inv.later c.ask.ensures.later;
       told = c.in-Ok.ensures.told ∙ inv.told;
-      honest = λ h. inv.honest (c.answer_row.ensures.honest h);
+      honest = λ h. inv.honest (c.ask.ensures.trusted.honest h);
     }
 
-pub returns-in-Err-answer_row-clause-stopped : goal.returns-in-Err-answer_row-clause-stopped
-returns-in-Err-answer_row-clause-stopped g c =
+pub returns-in-Err-ask-clause-stopped : goal.returns-in-Err-ask-clause-stopped
+returns-in-Err-ask-clause-stopped g c =
     let inv = c.rows.invariant in
     let known = g.R.Read.remaining c.args.reader.now.inner in
     let next = subst (StandsNext known (λ r. g.R.Read.remaining r.now.inner)
     (records_with (rows_of inv.asked)) (fields_of c.read_record.new.fields)
     c.read_record.new.records) c.in-Ok-true.field-0-test
     (c.in-Ok-true.ensures.next known _ inv.stands) in
-    let second = passing g.S.Source.given c.rows.source c.answer_row.new.source g.W.Write.contents
-    c.rows.writer c.answer_row.new.writer g.T.Tables.is_honest g.T.Tables.holds g.T.Tables.leaves c.rows.vault
-    c.answer_row.new.vault in
-    let whole = passing g.S.Source.given c.args.source.now c.answer_row.new.source g.W.Write.contents
-    c.args.writer.now c.answer_row.new.writer g.T.Tables.is_honest g.T.Tables.holds g.T.Tables.leaves
-    c.args.vault.now c.answer_row.new.vault in
-    let f = follows g.S.Source.given c.args.source.now c.rows.source c.answer_row.new.source
-    g.W.Write.contents c.args.writer.now c.rows.writer c.answer_row.new.writer g.T.Tables.is_honest
-    g.T.Tables.holds g.T.Tables.leaves c.args.vault.now c.rows.vault c.answer_row.new.vault
-    c.answer_row.ensures.honest
-    c.args.asker.now first_line inv.asked inv.answered in
+    let second = passing g.S.Source.given c.rows.source c.ask.new.source g.W.Write.contents
+    c.rows.writer c.ask.new.writer g.T.Tables.is_honest g.T.Tables.holds g.T.Tables.leaves c.rows.vault
+    c.ask.new.vault in
+    let whole = passing g.S.Source.given c.args.source.now c.ask.new.source g.W.Write.contents
+    c.args.writer.now c.ask.new.writer g.T.Tables.is_honest g.T.Tables.holds g.T.Tables.leaves
+    c.args.vault.now c.ask.new.vault in
+    let f = follows g.S.Source.given c.args.source.now c.rows.source c.ask.new.source
+    g.W.Write.contents c.args.writer.now c.rows.writer c.ask.new.writer g.T.Tables.is_honest
+    g.T.Tables.holds g.T.Tables.leaves c.args.vault.now c.rows.vault c.ask.new.vault
+    (rows_by c.args.asker.now) c.ask.ensures.trusted.honest first_line inv.asked inv.answered in
     stops_at_row known c.args.asker.now second whole inv.asked inv.answered.asked (row_of c.in-Some.row) f
     (begins_given known (λ r. g.R.Read.remaining r.now.inner) c.rows.records _ inv.stands.gave)
     (subst (λ (fs : Fields). BeginRecordsOf known (records_with (rows_of inv.asked) ++ fs ∷ []))
     c.in-Some.ensures.some
     (begins_given known (λ r. g.R.Read.remaining r.now.inner) c.read_record.new.records _ next.gave))
-    c.in-Err-answer_row.fault c.in-Err-answer_row.ensures.stopped
+    c.in-Err-ask.stop _ c.from.ensures c.in-Err-ask.ensures.stopped

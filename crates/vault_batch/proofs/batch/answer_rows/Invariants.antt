@@ -2,11 +2,11 @@ use Rattle.std.proofs.Common.{◌≡◌, ◌+◌, ◌≤◌, List, length, false
 use Rattle.vault_core.specs.Vault.{Vault as Content}
 use Rattle.vault_store.specs.Applied.{is_broken, tables_of}
 use Rattle.vault_wire.specs.Watching.{is_stopped}
-use Rattle.vault_http.specs.Faults.{failures}
-use Rattle.vault_http.specs.Passing.{IsBefore, passing}
+use Rattle.vault_engine.specs.Passing.{IsBefore, passing}
+use Rattle.vault_engine.specs.Stops.{failures}
 use Rattle.vault_batch.specs.Asking.{Asked}
-use Rattle.vault_batch.specs.Batched.{Answered, rows_of}
-use Rattle.vault_batch.specs.Lines.{first_line, tokens}
+use Rattle.vault_batch.specs.Batched.{Answered, rows_of, tokens}
+use Rattle.vault_batch.specs.Lines.{first_line}
 use Rattle.vault_batch.specs.Reading.{StandsAfter}
 use Rattle.vault_batch.specs.Rows.{records_with}
 use Rattle.vault_batch.proofs.batch.answer_rows.Given as goal

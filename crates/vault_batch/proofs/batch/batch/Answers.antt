@@ -1,4 +1,4 @@
-use Rattle.vault_http.specs.Passing.{passing}
+use Rattle.vault_engine.specs.Passing.{passing}
 use Rattle.vault_batch.proofs.Stopping.{memory_for_read, stops_after_all}
 use Rattle.vault_batch.proofs.batch.batch.Goals as goal
 

@@ -7,4 +7,4 @@ returns-clause-holds c =
     let empty = c.new-vault.ensures.contains empty_vault c.new.ensures sound-empty in
     c.in_ok-give-6.ensures.given _ (c.in_ok-give-5.ensures.given _ (c.in_ok-give-4.ensures.given _
     (c.in_ok-give-3.ensures.given _ (c.in_ok-give-2.ensures.given _ (c.in_ok-give.ensures.given _
-    (c.in_ok-change.ensures.changed _ empty))))))
+    (rw c.usual.ensures at (rw c.setting-set.ensures at (c.in_ok-change.ensures.changed _ empty))))))))

@@ -2,11 +2,11 @@ use Rattle.std.proofs.Common.{◌≡◌, ◌∙◌, ap, inl, subst, sym}
 use Rattle.sqlite.specs.Held.{state}
 use Rattle.vault_migrate.proofs.Moving.{broken_else, broken_in, each_err, held_newest, is_newest, left_newest}
 use Rattle.vault_migrate.proofs.Moving.{movable_else, movable_in, never_blank, older_found, older_schema}
-use Rattle.vault_migrate.proofs.Moving.{one_version, version_else, version_in}
+use Rattle.vault_migrate.proofs.Moving.{version_else, version_in}
 use Rattle.vault_migrate.proofs.migrate.migrate.Given.{Over}
 use Rattle.vault_migrate.proofs.migrate.migrate.Goals as goal
 use Rattle.vault_migrate.specs.Moved.{HoldsSoundIn, IsNoOlder, IsOlder, LeavesIn, LeavesStep}
-use Rattle.vault_schema.proofs.Newest.{held_in_newest}
+use Rattle.vault_schema.proofs.Newest.{held_in_newest, one_version}
 use Rattle.vault_schema.specs.Holds.{AreIn, HoldsIn}
 use Rattle.vault_schema.specs.Versions.{next_of, number_of, schema_of}
 use Rattle.vault_schema.specs.declared.version.Version.{Version}

@@ -2,11 +2,11 @@ use Rattle.std.proofs.Common.{◌≡◌, ◌∙◌, subst, sym}
 use Rattle.sqlite.specs.Held.{state}
 use Rattle.vault_migrate.proofs.Moving.{broken_else, broken_in, each_err, held_newest, left_newest}
 use Rattle.vault_migrate.proofs.Moving.{movable_else, movable_in, never_blank, older_found, older_schema}
-use Rattle.vault_migrate.proofs.Moving.{one_version, sound_where_full, version_else, version_in}
+use Rattle.vault_migrate.proofs.Moving.{sound_where_full, version_else, version_in}
 use Rattle.vault_migrate.proofs.migrate.migrate_all.Given.{Over}
 use Rattle.vault_migrate.proofs.migrate.migrate_all.Goals as goal
 use Rattle.vault_migrate.specs.Moved.{HoldsSoundIn, IsNoOlder, IsOlder, LeavesIn}
-use Rattle.vault_schema.proofs.Newest.{held_in_newest}
+use Rattle.vault_schema.proofs.Newest.{held_in_newest, one_version}
 use Rattle.vault_schema.specs.Holds.{HoldsIn}
 use Rattle.vault_schema.specs.Stands.{newest}
 use Rattle.vault_schema.specs.Versions.{schema_of}

@@ -1,6 +1,6 @@
-use Rattle.std.proofs.Common.{[], refl}
-use Rattle.vault_schema.proofs.Version4.Codes.{right_table}
-use Rattle.vault_tables.specs.RightTexts.{read_rights_is}
+use Rattle.std.proofs.Common.{refl}
+use Rattle.vault_schema.proofs.Newest.{right_table}
+use Rattle.vault_tables.specs.RightTexts.{all_rights_is}
 use Rattle.vault_rows.proofs.Calls.{tells}
 use Rattle.vault_rows.proofs.Listed.{shows_all}
 use Rattle.std.specs.FinMap as map
@@ -8,7 +8,7 @@ use Rattle.vault_rows.proofs.rights.all_rights.Goals as goal
 
 pub returns : goal.returns
 returns g c =
-    tells (read_rights_is [] []) c.rows_of.ensures.reads (λ rows. rows.items) _ c.rows_of.ensures.told
+    tells all_rights_is c.rows_of.ensures.reads (λ rows. rows.items) _ c.rows_of.ensures.told
     (λ V cards pointing rows joined it shown.
-    shows_all _ _ it _ rows.items shown right_table (map.get V.rights) (λ are. are) _ (read_rights_is [] [])
-    refl (λ k x. refl))
+    shows_all _ _ it _ rows.items shown right_table (map.get V.rights) (λ are. are) _ all_rights_is refl
+    (λ k x. refl))

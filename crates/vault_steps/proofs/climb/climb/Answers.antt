@@ -1,12 +1,13 @@
 use Rattle.std.proofs.Common.{◌-◌, ◌<◌, arith, subst, sym}
 use Rattle.sqlite.specs.Held.{state}
 use Rattle.sqlite.specs.State.{HasCleanDisk}
+use Rattle.vault_schema.proofs.Newest.{fewer_left, newest_is}
 use Rattle.vault_schema.specs.Layers.{rank}
 use Rattle.vault_schema.specs.Stands.{newest}
 use Rattle.vault_schema.specs.Versions.{HoldsOf}
 use Rattle.vault_schema.specs.declared.version.Version.{Version}
 use Rattle.vault_steps.specs.Entries.{joined}
-use Rattle.vault_steps.proofs.Climbing.{fewer_left, newest_is, nothing_given, some_of}
+use Rattle.vault_steps.proofs.Climbing.{nothing_given, some_of}
 use Rattle.vault_steps.proofs.climb.climb.Goals as goal
 
 pub returns-in_err-upgrade-clause-crash : goal.returns-in_err-upgrade-clause-crash

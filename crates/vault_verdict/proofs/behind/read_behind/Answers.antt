@@ -4,7 +4,7 @@ use Rattle.sql_stored.proofs.Streamed.{after}
 use Rattle.vault_verdict.proofs.behind.read_behind.Goals as goal
 use Rattle.vault_tables.specs.Rights.{right_values}
 use Rattle.sql_stored.specs.Reading.{IsUnread}
-use Rattle.vault_verdict.specs.Reading.{IsUnreadReplaced, rights_text}
+use Rattle.vault_verdict.specs.ReadAs.{IsUnreadReplaced, rights_text}
 
 pub returns-in_err-rights-clause-refused : goal.returns-in_err-rights-clause-refused
 returns-in_err-rights-clause-refused g c clean has =

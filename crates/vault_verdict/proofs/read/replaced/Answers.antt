@@ -1,18 +1,24 @@
 use Rattle.std.proofs.Common.{◌≡◌, ◌∙◌, arith, inl, inr}
 use Rattle.sqlite.specs.Held.{state}
 use Rattle.sqlite.specs.State.{HasCleanDisk}
+use Rattle.sqlite.specs.Tree.{Trees}
 use Rattle.vault_schema.proofs.Behind.{behind, indexes_behind, schema_is}
 use Rattle.vault_verdict.proofs.Joined.{both_told, failed_as, failed_then, from_start, in_version, none_if}
 use Rattle.sql_maps.proofs.Calls.{reads_then}
-use Rattle.vault_verdict.proofs.Left.{left_is}
+use Rattle.vault_schema.specs.declared.version.Version.{Version}
 use Rattle.vault_verdict.proofs.Results.{passed}
 use Rattle.vault_verdict.proofs.read.replaced.Goals as goal
 use Rattle.sql_stored.specs.Scans.{id_values}
 use Rattle.sql_stored.specs.Reading.{any_left}
-use Rattle.vault_verdict.specs.ReadAs.{left_in}
+use Rattle.vault_verdict.specs.ReadAs.{left_in, replaced_in}
 use Rattle.sql_stored.specs.Reading.{IsUnread}
 use Rattle.vault_tables.specs.declared.merchants.old.TheConstants.{READ_MERCHANT_IDS}
 use Rattle.vault_tables.specs.declared.rights.old.TheConstants.{READ_RIGHT_IDS}
+
+-- the sum of the tables one by one is that of all
+left_is : (v : Version) (db : Trees)
+    → left_in v (any_left (db 5)) (any_left (db 1)) (any_left (db 10)) ≡ replaced_in v db
+left_is v db = omega arith
 
 pub returns-in_err-entries-clause-reads : goal.returns-in_err-entries-clause-reads
 returns-in_err-entries-clause-reads g c =

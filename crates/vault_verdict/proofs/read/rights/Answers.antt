@@ -1,6 +1,7 @@
-use Rattle.std.proofs.Common.{◌≡◌, ◌∙◌, [], Bool, cond, false, map, sym, subst, true}
+use Rattle.std.proofs.Common.{◌≡◌, ◌∙◌, Bool, cond, false, map, sym, subst, true}
 use Rattle.sql_stored.specs.Reading.{AreLonger, ReadsTable}
-use Rattle.vault_schema.proofs.Behind.{behind, indexes_behind, schema_fourth}
+use Rattle.vault_schema.proofs.Behind.{behind, behind_four, indexes_behind, indexes_behind_four}
+use Rattle.vault_schema.proofs.Behind.{schema_fourth}
 use Rattle.vault_schema.specs.Layers.{Either, is_from}
 use Rattle.vault_schema.specs.Versions.{schema_of}
 use Rattle.vault_schema.specs.declared.version.Version.TheVariants.{Four}
@@ -16,7 +17,8 @@ returns-then-is_from g c =
     subst (λ (b : Bool). ReadsTable g.S.Store (cond b READ_RIGHTS.now READ_OLD_RIGHTS.now) right_values
     (schema_of v) (λ db. Either b (AreLonger 4 (db.trees 19)) (Unit {0}))
     (λ db. cond b (db 19) (map endless (db 10))) right_values (λ raw. raw.rowid) c.read_all.result
-    c.args.conn.now c.read_all.new.conn) (sym has) (rw (schema_fourth v has) (c.read_all.ensures [] []))
+    c.args.conn.now c.read_all.new.conn) (sym has)
+    (rw (schema_fourth v has) (c.read_all.ensures (behind_four v) (indexes_behind_four v)))
 
 pub returns-else-is_from : goal.returns-else-is_from
 returns-else-is_from g c =

@@ -1,17 +1,18 @@
-use Rattle.std.proofs.Common.{◌≡◌, ◌∙◌, ◌++◌, List, ℕ, ℤ, ap, codes, pos, subst, to_z, of_z, w64}
+use Rattle.std.proofs.Common.{◌≡◌, ◌∙◌, ◌++◌, List, ℕ, ℤ, ap, codes, subst, to_z, of_z, w64}
 use Rattle.std.specs.Fmt.{digits, signed_decimal}
+use Rattle.vault_schema.specs.Versions.{newest, number_of}
 use Rattle.vault_app.specs.Plans.{LineEnds}
 use Rattle.vault_app.proofs.commands.migrate.tell_moved.Goals as goal
 
--- the version is 4, and so is its text
+-- the version is the newest, and its text is in the line
 pub returns : goal.returns
 unfolding digits
 returns g c =
     let old = g.W.Write.contents c.args.output.now.inner in
     let new = g.W.Write.contents c.end_with.new.output.inner in
-    let four : c.in-Ok.version ≡ pos 4 = rw c.in-Ok.is at c.requires in
-    let written : c.format.result.now ≡ codes "4" =
-    c.format.ensures.text ∙ ap (λ (z : ℤ). signed_decimal (to_z w64 (of_z w64 z))) four in
+    let last : c.in-Ok.version ≡ number_of newest = rw c.in-Ok.is at c.requires in
+    let written : c.format.result.now ≡ signed_decimal (number_of newest) =
+    c.format.ensures.text ∙ ap (λ (z : ℤ). signed_decimal (to_z w64 (of_z w64 z))) last in
     rw c.in-Ok.is (subst
     (λ (text : List ℕ). LineEnds (codes "schema " ++ text ++ codes "\n") c.end_with.result old new
     c.end_with.new.output.stopped) written c.end_with.ensures)

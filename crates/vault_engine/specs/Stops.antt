@@ -1,0 +1,50 @@
+-- Where asking stops, by its cause.
+use Rattle.std.specs.Prelude.{◌≡◌, ◌⊎◌, [], ◌∷◌, Bool, true, false, Result, Ok, Err}
+use Rattle.vault_core.specs.Vault.{Vault as Content}
+use Rattle.vault_core.specs.declared.reply.Reply.{Reply}
+use Rattle.vault_store.specs.Applied.{is_broken, tables_of}
+use Rattle.vault_store.specs.declared.vault.Vault.{Vault}
+use Rattle.vault_engine.specs.Answered.{Answered, AnsweredBefore, CutAt, SilentAt, UndecidedAt}
+use Rattle.vault_engine.specs.Asking.{Asked, Kind, reply_to}
+use Rattle.vault_engine.specs.Passing.{IsBefore, Passage}
+use Rattle.vault_engine.specs.declared.stop.Stop.{Stop}
+use Rattle.vault_engine.specs.declared.stop.Stop.TheVariants as stop
+
+-- what was seen of the one unit at which asking stopped
+abbrev pub StopsAt : {X : Type 0} → Kind X → Passage → X → Stop → Type 0
+StopsAt k w u stop.Source = Answered k [] w []
+StopsAt k w u stop.Read = ⊥
+StopsAt k w u stop.Write = (x : Asked _) × (x.unit ≡ u) × CutAt k [] w [] x
+StopsAt k w u stop.Store = (x : Asked _) × (x.unit ≡ u) × UndecidedAt k [] w [] x
+StopsAt k w u stop.Memory =
+    AnsweredBefore k [] w [] ⊎ ((x : Asked _) × (x.unit ≡ u) × SilentAt k [] w [] x)
+
+-- the unit is answered, and this is the reply
+abbrev pub IsAnswered : {X : Type 0} → Kind X → Passage → X → Reply → Type 0
+IsAnswered k w u reply = (x : Asked _) × (x.unit ≡ u) × Answered k [] w (x ∷ [])
+    × ((V : Content) → IsBefore w V → reply ≡ reply_to V x.wanted)
+
+-- which of the four have failed: the source refused, the reader or the writer failed, the vault is broken
+pub record Failures : Type 0 where
+  pub source : Bool
+  pub reader : Bool
+  pub writer : Bool
+  pub vault : Bool
+
+abbrev pub failures : Bool → Bool → Bool → Bool → Failures
+failures s r w v = record { source = s; reader = r; writer = w; vault = v }
+
+-- it stops exactly where its own one fails: that one has failed now, and all else is as it was
+abbrev pub Tells : {X : Type 0} → Result X Stop → Failures → Failures → Type 0
+Tells (Ok x) old new = new ≡ old
+Tells (Err stop.Source) old new = new ≡ record old { source = true }
+Tells (Err stop.Read) old new = new ≡ record old { reader = true }
+Tells (Err stop.Write) old new = new ≡ record old { writer = true }
+Tells (Err stop.Store) old new = new ≡ record old { vault = true }
+Tells (Err stop.Memory) old new = new ≡ old
+
+-- an honest disk was honest before, and tables that can't fail don't
+pub record Trusts {T X : Type 0} (is_honest : T → Type 0) (may_fail : Bool) (old new : Vault T)
+    (r : Result X Stop) : Type 0 where
+  pub honest : is_honest (tables_of new) → is_honest (tables_of old)
+  pub sturdy : may_fail ≡ false → is_broken old ≡ false → ¬ (r ≡ Err stop.Store)

@@ -1,0 +1,151 @@
+//! One unit asked of a vault and answered.
+ghost use Rattle.std.specs.Prelude.{◌≡◌, ◌↔◌, ◌⊎◌, ◌+◌, true, false, Err, IfErr, IfOk, OnOk};
+ghost use Rattle.vault_core.specs.Proper.{HasLivesInRange};
+ghost use Rattle.vault_core.specs.Table.{after, reply as reply_lem};
+ghost use Rattle.vault_core.specs.Vault.{Vault as Content};
+ghost use Rattle.vault_store.specs.Applied.{Contains, is_broken, tables_of};
+ghost use Rattle.vault_wire.specs.Watching.{is_stopped};
+ghost use Rattle.vault_engine.specs.Asking.{Wanted, kind, left_by};
+ghost use Rattle.vault_engine.specs.Deciding.{Decided, StandsFor, Undecided, reply_in};
+ghost use Rattle.vault_engine.specs.Passing.{Passage, passing};
+ghost use Rattle.vault_engine.specs.Stops.{IsAnswered, StopsAt, Tells, Trusts, failures};
+
+use crate::stop::Stop;
+use crate::unit::Unit;
+use std::alloc::{AllocError, Global};
+use std::io::Write;
+use vault_core::command::Command;
+use vault_core::moment::Moment;
+use vault_core::reply::Reply;
+use vault_core::source::Source;
+use vault_pan::draw::Digits;
+use vault_store::tables::Tables;
+use vault_store::vault::{Fault, Vault};
+use vault_wire::send::send;
+use vault_wire::watched::Watched;
+
+/// What a unit comes to.
+#[derive(Clone, Copy, Drop)]
+enum Outcome {
+    /// The vault's reply to its command.
+    Replied(Reply),
+    /// The unit itself is refused, by this number.
+    Refused(u8),
+}
+
+/// Answers a command by the vault, after what it changes was written.
+fn apply<T: Tables>(vault: &mut Vault<T>, command: &Command) -> Result<Reply, Stop>
+    requires { HasLivesInRange command.now }
+    ensures answered { T.is_honest (tables_of vault.new) → IfOk result (λ reply. (V : Content)
+        → Contains T.holds vault.old V
+        → (reply ≡ reply_lem V command.now) × Contains T.holds vault.new (after V command.now)) }
+    ensures memory { result ≡ Err Stop.Memory
+        → (V : Content) → Contains T.holds vault.old V → Contains T.holds vault.new V }
+    ensures store { result ≡ Err Stop.Store → T.is_honest (tables_of vault.new)
+        → (V : Content) → Contains T.holds vault.old V
+        → T.leaves (tables_of vault.new) V (after V command.now) }
+    ensures only { IfErr result (λ e. (e ≡ Stop.Memory) ⊎ (e ≡ Stop.Store)) }
+    ensures broken { (result ≡ Err Stop.Store) ↔ (is_broken vault.new ≡ true) }
+    ensures told { Tells result
+        (failures false false false (is_broken vault.old))
+        (failures false false false (is_broken vault.new)) }
+    ensures trusted { Trusts T.is_honest T.may_fail vault.old vault.new result }
+{
+    match vault.apply(command) {
+        Ok(reply) => Ok(reply),
+        Err(Fault::Memory) => Err(Stop::Memory),
+        Err(Fault::Store) => Err(Stop::Store),
+        Err(Fault::Reopen) => Err(Stop::Store),
+    }
+}
+
+/// Decides what a unit asks for, after what it changes was written.
+fn decide<U: Unit, T: Tables>(
+    alloc: Global,
+    unit: &U,
+    vault: &mut Vault<T>,
+    now: Moment,
+    digits: Digits,
+) -> Result<Outcome, Stop>
+    ensures ok { IfOk result (λ outcome. Decided (kind (U.wants unit.now) U.text) (U.shown unit.now)
+        (now, digits) outcome
+        (T.is_honest (tables_of vault.new)) (Contains T.holds vault.old) (Contains T.holds vault.new)) }
+    ensures memory { result ≡ Err Stop.Memory
+        → (V : Content) → Contains T.holds vault.old V → Contains T.holds vault.new V }
+    ensures store { result ≡ Err Stop.Store
+        → Undecided (kind (U.wants unit.now) U.text) (U.shown unit.now) (now, digits)
+        (T.is_honest (tables_of vault.new)) (Contains T.holds vault.old) (T.leaves (tables_of vault.new)) }
+    ensures only { IfErr result (λ e. (e ≡ Stop.Memory) ⊎ (e ≡ Stop.Store)) }
+    ensures told { Tells result
+        (failures false false false (is_broken vault.old))
+        (failures false false false (is_broken vault.new)) }
+    ensures trusted { Trusts T.is_honest T.may_fail vault.old vault.new result }
+{
+    match unit.command(alloc, now, digits) {
+        Ok(Ok(command)) => match apply(vault, &command) {
+            Ok(reply) => Ok(Outcome::Replied(reply)),
+            Err(stop) => Err(stop),
+        },
+        Ok(Err(number)) => Ok(Outcome::Refused(number)),
+        Err(_) => Err(Stop::Memory),
+    }
+}
+
+/// The text that answers a unit.
+fn text<U: Unit>(alloc: Global, unit: &U, outcome: &Outcome) -> Result<Vec<u8>, AllocError>
+    ensures { (w : Wanted) → StandsFor outcome.now w
+        → IfOk result (λ out. out.items ≡ U.text (U.shown unit.now) w (reply_in outcome.now)) }
+{
+    match outcome {
+        Outcome::Replied(reply) => unit.replied(alloc, reply),
+        Outcome::Refused(number) => unit.refused(alloc, *number),
+    }
+}
+
+/// The reply of an outcome.
+fn reply_of(outcome: &Outcome) -> Reply
+    ensures { result ≡ reply_in outcome.now }
+{
+    match outcome {
+        Outcome::Replied(reply) => *reply,
+        Outcome::Refused(number) => Reply::Refused(*number),
+    }
+}
+
+/// Asks one unit of a vault with the source's next pair, and hands out its text after what it changes was
+/// written.
+pub fn ask<U: Unit, W: Write, T: Tables, S: Source>(
+    alloc: Global,
+    unit: &U,
+    writer: &mut Watched<W>,
+    vault: &mut Vault<T>,
+    source: &mut S,
+) -> Result<Reply, Stop>
+    ensures answered { let w : Passage = passing S.given source.old source.new W.contents writer.old
+        writer.new T.is_honest T.holds T.leaves vault.old vault.new in
+        IfOk result (IsAnswered (kind (U.wants unit.now) U.text) w (U.shown unit.now)) }
+    ensures stopped { let w : Passage = passing S.given source.old source.new W.contents writer.old writer.new
+        T.is_honest T.holds T.leaves vault.old vault.new in
+        IfErr result (StopsAt (kind (U.wants unit.now) U.text) w (U.shown unit.now)) }
+    ensures told { Tells result
+        (failures (S.has_refused source.old) false (is_stopped writer.old) (is_broken vault.old))
+        (failures (S.has_refused source.new) false (is_stopped writer.new) (is_broken vault.new)) }
+    ensures counted { OnOk result (S.count_left source.old ≡ S.count_left source.new + 1) }
+    ensures later { S.precedes source.old source.new }
+    ensures trusted { Trusts T.is_honest T.may_fail vault.old vault.new result }
+{
+    let Ok(pair) = source.next() else {
+        return Err(Stop::Source);
+    };
+    let outcome = match decide(alloc, unit, vault, pair.0, pair.1) {
+        Ok(outcome) => outcome,
+        Err(stop) => return Err(stop),
+    };
+    let Ok(out) = text(alloc, unit, &outcome) else {
+        return Err(Stop::Memory);
+    };
+    if send(writer, &out).is_err() {
+        return Err(Stop::Write);
+    }
+    Ok(reply_of(&outcome))
+}

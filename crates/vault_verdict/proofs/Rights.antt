@@ -1,0 +1,265 @@
+-- Rights in each version: what its tables have of them, read as the rows of the newest one.
+use Rattle.std.proofs.Common.{◌≡◌, ◌∙◌, ℕ, ℤ, true, false, List, [], ◌∷◌, drop, map, cond, Option, Some}
+use Rattle.std.proofs.Common.{None, ap, arith, option_map, refl, subst, sym}
+use Rattle.std.specs.List.Sorted.{IsPermutation}
+use Rattle.std.specs.Prelude.{string_bytes}
+use Rattle.sqlite.specs.Effect.{Database, IsDatabase}
+use Rattle.sqlite.specs.Order.{Row}
+use Rattle.sqlite.specs.Table.{Table as SqlTable}
+use Rattle.sqlite.specs.Tree.{Trees}
+use Rattle.sqlite.specs.declared.types.Value.TheVariants.{Int, Null, Text}
+use Rattle.sqlite_rules.specs.Lists.{Has}
+use Rattle.sqlite_schema.specs.declared.schema.Index.{Index}
+use Rattle.sql_maps.proofs.Beside.{each_has, stand_narrow}
+use Rattle.sql_maps.proofs.Grown.{keyed_in_grown}
+use Rattle.sql_maps.specs.Rows.{IsApart}
+use Rattle.sql_maps.specs.Schema.{columns_to}
+use Rattle.sql_stored.specs.Reading.{any_left}
+use Rattle.sql_stored.specs.Values.{int_value}
+use Rattle.vault_core.specs.Keys.{Bytes}
+use Rattle.vault_core.specs.Vault.{Vault}
+use Rattle.vault_core.specs.declared.right.Right.{Right}
+use Rattle.vault_core.specs.declared.row.GrantRow.{GrantRow}
+use Rattle.vault_rules.proofs.FoundRows.{right_row}
+use Rattle.vault_rules.proofs.Options.{mapped_is}
+use Rattle.vault_rules.proofs.RowsShow.{rows_show}
+use Rattle.vault_rules.specs.AllRows.{Rows}
+use Rattle.vault_rules.specs.Codes.{natural, right_of}
+use Rattle.vault_rules.specs.Rules.{keeps}
+use Rattle.vault_rules.specs.Showing.{Shows, ShowsRight}
+use Rattle.vault_rules.specs.VaultOf.{AreKeysApart, HasKeysApart, number_key, vault_of}
+use Rattle.vault_rules.specs.declared.rows.RawRight.{RawRight}
+use Rattle.vault_schema.proofs.Behind.{behind, behind_four, indexes_behind, indexes_behind_four}
+use Rattle.vault_schema.proofs.Behind.{schema_fourth, schema_is}
+use Rattle.vault_schema.proofs.ByTable.{AreHeld}
+use Rattle.vault_schema.proofs.Layers.{free_in, layers_after}
+use Rattle.vault_schema.proofs.Newest as newest_tables
+use Rattle.vault_schema.proofs.Version1.Codes as first
+use Rattle.vault_schema.proofs.Version4 as fourth
+use Rattle.vault_schema.specs.Layers.{Either, claim_or_empty, is_from}
+use Rattle.vault_schema.specs.Stands.{lookups_of}
+use Rattle.vault_schema.specs.Version1.Rows as one
+use Rattle.vault_schema.specs.Version1.Rows.{number_or_null}
+use Rattle.vault_schema.specs.Version1.Tables as v1
+use Rattle.vault_schema.specs.Version4 as four
+use Rattle.vault_schema.specs.Versions.{AreEndless, HasDefaults, Lookups, OldRights, Rights, layers, newest}
+use Rattle.vault_schema.specs.Versions.{schema_of, second_layers}
+use Rattle.vault_schema.specs.declared.version.Version.{Version}
+use Rattle.vault_schema.specs.declared.version.Version.TheVariants.{Four}
+use Rattle.vault_tables.specs.Rights.{endless, right_values}
+use Rattle.vault_verdict.proofs.Backs.{moment_as, moment_told}
+use Rattle.vault_verdict.proofs.Left.{AreGone, none_left}
+use Rattle.vault_verdict.proofs.Permuted.{apart_as}
+use Rattle.vault_verdict.proofs.Table.{Table, keys_apart, pair_of, stand_for}
+use Rattle.vault_verdict.proofs.Tables.{IsFree, same_int, same_text}
+use Rattle.vault_verdict.proofs.Widened.{widened}
+use Rattle.vault_verdict.specs.ReadAs.{rights_in}
+
+-- ---- the tables
+
+-- two texts and a number
+abbrev whose : Bytes × (Bytes × ℤ) → Row
+whose q = Text q.0 ∷ Text q.1.0 ∷ Int q.1.1 ∷ []
+
+abbrev right_told : Bytes × (Bytes × ℤ) → Bytes × (Bytes × Right)
+right_told q = (q.0, (q.1.0, right_of q.1.1))
+
+-- the columns of the key tell it
+right_back : (q : Bytes × (Bytes × ℤ)) (k : Bytes × (Bytes × Right)) → whose q ≡ one.right_key k
+    → right_told q ≡ k
+right_back q k e = grind arith
+
+-- what the older table has of a right
+abbrev old_right_values : RawRight → Row
+old_right_values r =
+    Int r.rowid ∷ Text (string_bytes r.caller) ∷ Text (string_bytes r.merchant) ∷ Int r.what ∷ []
+
+module _ (others : List SqlTable) (indexes : List Index) where
+  -- without an end
+  abbrev old_right_table : (free : IsFree others indexes v1.rights 3)
+      → Table (keyed_in_grown first.right_table others indexes free) RawRight (Bytes × (Bytes × ℤ))
+  old_right_table free = record {
+    values = old_right_values;
+    shown = number_key;
+    shows = whose;
+    key_of = right_told;
+    whole = λ r. refl;
+    fits = λ q. (refl, rw (same_text q.0, same_text q.1.0, same_int q.1.1) refl);
+    back = right_back;
+  }
+
+  -- with an end, or none
+  abbrev ending_right_table : (free : IsFree others indexes four.rights 3)
+      → Table (keyed_in_grown fourth.right_table others indexes free) RawRight (Bytes × (Bytes × ℤ))
+  ending_right_table free = record {
+    values = right_values;
+    shown = number_key;
+    shows = whose;
+    key_of = right_told;
+    whole = λ r. refl;
+    fits = λ q. (refl, rw (same_text q.0, same_text q.1.0, same_int q.1.1) refl);
+    back = right_back;
+  }
+
+-- that of the newest schema
+abbrev newest_right_table : Table newest_tables.right_table RawRight (Bytes × (Bytes × ℤ))
+newest_right_table = ending_right_table (behind_four newest) (indexes_behind_four newest) refl
+
+-- no later index guards their keys
+module _ (v : Version) where
+  old_rights_free : IsFree (behind v) (indexes_behind v) v1.rights 3
+  old_rights_free = free_in v v1.rights (columns_to 3) second_layers refl
+
+  ending_rights_free : IsFree (behind_four v) (indexes_behind_four v) four.rights 3
+  ending_rights_free = free_in v four.rights (columns_to 3) (layers_after Four layers) refl
+
+-- ---- rows of the older table, read with no end
+
+module _ (rows : List Row) (items : List RawRight)
+    (are : IsPermutation (map endless rows) (map right_values items)) where
+  -- the rows of it are those that were read, without the end, and each of these has none
+  old_rights_are : IsPermutation rows (map old_right_values items)
+  old_rights_are =
+      stand_narrow right_values old_right_values (λ r. int_value r.ends) (λ r. refl) Null rows items are
+
+  each_endless : (r : RawRight) → Has items r → int_value r.ends ≡ Null
+  each_endless =
+      each_has right_values old_right_values (λ r. int_value r.ends) (λ r. refl) Null rows items are
+
+-- without the end, too, no rowid comes twice
+old_rights_up : (items : List RawRight) → IsApart (map right_values items)
+    → IsApart (map old_right_values items)
+old_rights_up = apart_as right_values old_right_values (λ r. refl)
+
+-- no right comes twice in them, where no rowid does
+pub rights_apart : (v : Version) (db : Database) → db.schema ≡ schema_of v → IsDatabase db
+    → (items : List RawRight) → IsPermutation (rights_in v db.trees) (map right_values items)
+    → IsApart (map right_values items) → AreKeysApart number_key items
+rights_apart v db ours sound items are up =
+    elim (is_from Four v) as (λ b. is_from Four v ≡ b
+    → IsPermutation (cond b (db.trees 19) (map endless (db.trees 10))) (map right_values items)
+    → AreKeysApart number_key items) [
+      | true ↦ λ has rows_are.
+          keys_apart (ending_right_table (behind_four v) (indexes_behind_four v) (ending_rights_free v)) db
+          (ours ∙ schema_fourth v has) sound items rows_are up
+      | false ↦ λ none rows_are.
+          keys_apart (old_right_table (behind v) (indexes_behind v) (old_rights_free v)) db
+          (ours ∙ schema_is v) sound items (old_rights_are (db.trees 10) items rows_are)
+          (old_rights_up items up)
+    ] refl are
+
+-- ---- from what a version says of its tables
+
+-- the older table with no end beside each row
+with_no_ends : (held : Bytes × (Bytes × Right) → _) (rows : List Row)
+    → ((key : Bytes × (Bytes × Right)) (g : GrantRow) → held key ≡ Some g → number_or_null g.ends ≡ Null)
+    → OldRights held rows → Rights held (map endless rows)
+with_no_ends held rows none are =
+    widened Null one.right_key one.no_columns four.ends_column fourth.right_coding four.older
+    (λ key g at. λ i. none key g at i ∷ []) are
+
+-- what a version says of its tables is so of the rows that are read
+pub rights_claimed : (v : Version) (db : Trees) (h : Lookups) → AreHeld v db h → HasDefaults v h
+    → Rights h.rights (rights_in v db)
+rights_claimed v db h it defaults =
+    elim (is_from Four v) as (λ b. claim_or_empty b (OldRights h.rights) (db 10)
+    → (b ≡ true → Rights h.rights (db 19)) → Either b (Unit {0}) (AreEndless h)
+    → Rights h.rights (cond b (db 19) (map endless (db 10)))) [
+      | true ↦ λ older newer none. newer refl
+      | false ↦ λ older newer none. with_no_ends h.rights (db 10)
+          (λ key g at. ap number_or_null (none key g at)) older
+    ] (it.hold.1.1.1.1.1.0 refl) it.hold.1.1.1.1.1.1.1.1.1.0 defaults.1.0
+
+-- rows that stand for the rights of a vault show them
+pub right_shown : (V : Vault) (tree : List Row) (items : List RawRight)
+    → IsPermutation tree (map right_values items) → Rights (lookups_of V).rights tree
+    → (r : RawRight) → Has items r → ShowsRight r V
+right_shown V tree items are claimed r h =
+    let it = pair_of newest_right_table _ are claimed r h in
+    let ends : int_value r.ends ≡ number_or_null it.0.ends = grind (arith, it.1) in
+    (right_of r.what, it.0, grind (arith, it.1), it.2, moment_told r.ends it.0.ends ends)
+
+-- ---- from rows that keep the rules
+
+-- NULL is no end
+no_end : (ends : Option ℤ) → int_value ends ≡ Null → ends ≡ None
+no_end None is = refl
+no_end (Some n) is = absurd cc
+
+module _ (rows : Rows) (apart : HasKeysApart rows) (keep : (r : ℕ) → keeps rows r ≡ true) where
+  abbrev h : Lookups
+  h = lookups_of (vault_of rows)
+
+  shows : Shows rows (vault_of rows)
+  shows = rows_show rows apart keep
+
+  -- where no row has an end, no right ends
+  are_endless : ((r : RawRight) → Has rows.rights r → int_value r.ends ≡ Null) → AreEndless h
+  are_endless endless key g is =
+      let row = right_row rows key.0 key.1.0 key.1.1 g is in
+      let none = no_end row.0.ends (endless row.0 row.1) in
+      sym (ap (λ (x : GrantRow). x.ends) row.3) ∙ ap (option_map natural) none
+
+  module _ (db : Database) (sound : IsDatabase db) (v : Version) (ours : db.schema ≡ schema_of v) where
+    -- the rows of each table stand for the rights of the vault of all rows
+    old_rights_stand : IsPermutation (db.trees 10) (map old_right_values rows.rights)
+        → IsApart (map old_right_values rows.rights) → OldRights h.rights (db.trees 10)
+    old_rights_stand are up =
+        stand_for (old_right_table (behind v) (indexes_behind v) (old_rights_free v)) db
+        (ours ∙ schema_is v) sound _ are up
+        (λ r there.
+        let it = shows.rights r there in
+        let listed : drop 1 (old_right_values r) ≡ one.right_row _ tt = grind (arith, it.2) in (
+          (string_bytes r.caller, (string_bytes r.merchant, it.0)),
+          tt,
+          listed,
+          ap (option_map four.older) it.3,
+        ))
+        (λ k x is.
+        let g = mapped_is four.older (h.rights k) x is in
+        let it = right_row rows k.0 k.1.0 k.1.1 g.0 g.1 in
+        (it.0, it.1, it.2))
+
+    ending_rights_stand : is_from Four v ≡ true → IsPermutation (db.trees 19) (map right_values rows.rights)
+        → IsApart (map right_values rows.rights) → Rights h.rights (db.trees 19)
+    ending_rights_stand has are up =
+        stand_for (ending_right_table (behind_four v) (indexes_behind_four v) (ending_rights_free v)) db
+        (ours ∙ schema_fourth v has) sound _ are up
+        (λ r there.
+        let it = shows.rights r there in
+        let what = it.2 in
+        let ends : int_value r.ends ≡ number_or_null it.1.ends = ap int_value it.4
+        ∙ moment_as it.1.ends in (
+          (string_bytes r.caller, (string_bytes r.merchant, it.0)),
+          it.1,
+          λ i. Text (string_bytes r.caller) ∷ Text (string_bytes r.merchant) ∷ Int (what i) ∷ ends i ∷ [],
+          it.3,
+        ))
+        (λ k g is. let it = right_row rows k.0 k.1.0 k.1.1 g is in (it.0, it.1, it.2))
+
+    module _ (are : IsPermutation (rights_in v db.trees) (map right_values rows.rights))
+        (up : IsApart (map right_values rows.rights)) (gone : AreGone v db.trees layers) where
+      -- the table of schema 1, and that of schema 4
+      pub old_rights_hold : claim_or_empty (is_from Four v) (OldRights h.rights) (db.trees 10)
+      old_rights_hold =
+          elim (is_from Four v) as (λ b. cond b (any_left (db.trees 10)) 0 ≡ 0
+          → IsPermutation (cond b (db.trees 19) (map endless (db.trees 10))) (map right_values rows.rights)
+          → claim_or_empty b (OldRights h.rights) (db.trees 10)) [
+            | true ↦ λ gone are. none_left (db.trees 10) gone
+            | false ↦ λ gone are. old_rights_stand (old_rights_are _ _ are) (old_rights_up _ up)
+          ] gone.1.1.1.1.1.0 are
+
+      pub rights_hold : is_from Four v ≡ true → Rights h.rights (db.trees 19)
+      rights_hold has =
+          ending_rights_stand has
+          (subst (λ b. IsPermutation (cond b (db.trees 19) (map endless (db.trees 10)))
+          (map right_values rows.rights)) has are) up
+
+      -- before schema 4 none ends
+      pub endless_where_old : Either (is_from Four v) (Unit {0}) (AreEndless h)
+      endless_where_old =
+          elim (is_from Four v) as (λ b. IsPermutation (cond b (db.trees 19) (map endless (db.trees 10)))
+          (map right_values rows.rights) → Either b (Unit {0}) (AreEndless h)) [
+            | true ↦ λ are. tt
+            | false ↦ λ are. are_endless (each_endless _ _ are)
+          ] are
