@@ -1,8 +1,8 @@
 //! Runs of the program, and what they end with.
 use sqlite::Unknown;
 use std::alloc::Global;
-use std::fs;
-use std::io::{Read, Write};
+use std::io::{Error, ErrorKind, Read, Write};
+use std::{fs, io};
 use vault_app::run::run;
 use vault_file::host::HostPaths;
 use vault_listen::network::Loopback;
@@ -40,14 +40,92 @@ impl Ran {
     }
 }
 
+/// What a run reads: these bytes, unless each call fails. All runs read and write by these two types, so that
+/// the program is compiled for no others.
+#[derive(Drop)]
+pub struct Input<'a> {
+    pub bytes: &'a [u8],
+    pub is_broken: bool,
+}
+
+impl<'a> Input<'a> {
+    /// A reader of bytes.
+    pub fn of(bytes: &'a [u8]) -> Input<'a> {
+        Input {
+            bytes,
+            is_broken: false,
+        }
+    }
+}
+
+impl<'a> Read for Input<'a> {
+    fn read(&mut self, buf: &mut [u8]) -> io::Result<usize> {
+        if self.is_broken {
+            return Err(Error::from(ErrorKind::Other));
+        }
+        let taken = self.bytes.len().min(buf.len());
+        let (now, later) = self.bytes.split_at(taken);
+        buf[..taken].copy_from_slice(now);
+        self.bytes = later;
+        Ok(taken)
+    }
+}
+
+/// What a writer does with bytes.
+#[derive(Clone, Copy)]
+pub enum Manner {
+    /// It takes them all, and hands them on.
+    Takes,
+    /// It takes them all, and hands none on.
+    Keeps,
+    /// Each of its calls fails.
+    Fails,
+}
+
+/// What a run writes to.
+#[derive(Drop)]
+pub struct Output<'a> {
+    pub out: &'a mut Vec<u8>,
+    pub manner: Manner,
+}
+
+impl<'a> Output<'a> {
+    /// A writer that takes all bytes.
+    pub fn to(out: &'a mut Vec<u8>) -> Output<'a> {
+        Output {
+            out,
+            manner: Manner::Takes,
+        }
+    }
+}
+
+impl<'a> Write for Output<'a> {
+    fn write(&mut self, buf: &[u8]) -> io::Result<usize> {
+        match self.manner {
+            Manner::Takes | Manner::Keeps => {
+                self.out.extend_from_slice(buf)?;
+                Ok(buf.len())
+            }
+            Manner::Fails => Err(Error::from(ErrorKind::Other)),
+        }
+    }
+
+    fn flush(&mut self) -> io::Result<()> {
+        match self.manner {
+            Manner::Takes => Ok(()),
+            Manner::Keeps | Manner::Fails => Err(Error::from(ErrorKind::Other)),
+        }
+    }
+}
+
 /// Runs the program, and answers its status alone: it has no clause, so that no caller's proof carries those
 /// of `run`.
-pub fn status_of<R: Read, W: Write, E: Write>(
+pub fn status_of(
     rt: &HostRuntime,
     words: &[&str],
-    input: &mut Watched<R>,
-    output: &mut Watched<W>,
-    errors: &mut Watched<E>,
+    input: &mut Watched<Input<'_>>,
+    output: &mut Watched<Output<'_>>,
+    errors: &mut Watched<Output<'_>>,
 ) -> u8 {
     let time = ClockTime::new(rt);
     let mut network = Loopback::new(rt, Limits::of_service());
@@ -83,9 +161,9 @@ pub fn run_on(rt: &HostRuntime, line: &str, file: &str, input: &[u8]) -> Ran {
     let words = words_of(rt.alloc(), line, file);
     let mut output = Vec::new(rt.alloc());
     let mut errors = Vec::new(rt.alloc());
-    let mut reader = Watched::new(input);
-    let mut writer = Watched::new(&mut output);
-    let mut teller = Watched::new(&mut errors);
+    let mut reader = Watched::new(Input::of(input));
+    let mut writer = Watched::new(Output::to(&mut output));
+    let mut teller = Watched::new(Output::to(&mut errors));
     let status = status_of(rt, &words, &mut reader, &mut writer, &mut teller);
     Ran {
         status,

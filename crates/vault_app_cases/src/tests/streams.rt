@@ -1,70 +1,40 @@
 //! Readers and writers that fail.
-use super::running::{ASKED, is_folder_made, status_of, words_of};
-use std::io::{Error, ErrorKind, Read, Result, Write};
+use super::running::{ASKED, Input, Manner, Output, is_folder_made, status_of, words_of};
 use vault_wire::watched::Watched;
-
-/// A reader and writer whose every call fails.
-#[derive(Drop)]
-struct Broken;
-
-impl Read for Broken {
-    fn read(&mut self, _buf: &mut [u8]) -> Result<usize> {
-        Err(Error::from(ErrorKind::Other))
-    }
-}
-
-impl Write for Broken {
-    fn write(&mut self, _buf: &[u8]) -> Result<usize> {
-        Err(Error::from(ErrorKind::Other))
-    }
-
-    fn flush(&mut self) -> Result<()> {
-        Err(Error::from(ErrorKind::Other))
-    }
-}
-
-/// A writer that takes all bytes and hands none on.
-#[derive(Drop)]
-struct Unflushed;
-
-impl Write for Unflushed {
-    fn write(&mut self, buf: &[u8]) -> Result<usize> {
-        Ok(buf.len())
-    }
-
-    fn flush(&mut self) -> Result<()> {
-        Err(Error::from(ErrorKind::Other))
-    }
-}
 
 /// The words of a trial of the worked message.
 const TRIAL: &str = "vault trial --now 1000 --digits 0 till-1 shop1 60";
 
-/// Whether a run of these words over this reader and writer stops with this line.
-fn stops<R: Read, W: Write>(
+/// Whether a run of these words over this reader, and a writer of this manner, stops with this line; and what
+/// went out.
+fn stops(
     rt: &HostRuntime,
     words: &str,
-    reader: R,
-    writer: W,
+    input: Input<'_>,
+    manner: Manner,
     line: &[u8],
-) -> bool
-where
-    R: Drop,
-    W: Drop,
-{
+) -> (bool, Vec<u8>) {
     let words = words_of(rt.alloc(), words, "app_streams/vault.db");
+    let mut output = Vec::new(rt.alloc());
     let mut errors = Vec::new(rt.alloc());
-    let mut teller = Watched::new(&mut errors);
-    let mut reader = Watched::new(reader);
-    let mut writer = Watched::new(writer);
+    let mut teller = Watched::new(Output::to(&mut errors));
+    let mut reader = Watched::new(input);
+    let mut writer = Watched::new(Output {
+        out: &mut output,
+        manner,
+    });
     let status = status_of(rt, words.as_slice(), &mut reader, &mut writer, &mut teller);
-    status == 4 && errors.as_slice() == line
+    (status == 4 && errors.as_slice() == line, output)
 }
 
 /// Whether a reader that fails stops the trial with 61, and nothing goes out.
 fn is_unread(rt: &HostRuntime) -> bool {
-    let mut output = Vec::new(rt.alloc());
-    stops(rt, TRIAL, Broken, &mut output, b"vault: stopped 61\n") && output.is_empty()
+    let broken = Input {
+        bytes: b"",
+        is_broken: true,
+    };
+    let (is_stopped, output) = stops(rt, TRIAL, broken, Manner::Takes, b"vault: stopped 61\n");
+    is_stopped && output.is_empty()
 }
 
 #[test]
@@ -72,9 +42,15 @@ fn a_reader_that_fails_stops_with_61(rt: HostRuntime) {
     assert!(rt; is_unread(&rt));
 }
 
+/// Whether a writer that fails stops the trial with 62.
+fn is_unwritten(rt: &HostRuntime) -> bool {
+    let input = Input::of(ASKED.as_bytes());
+    stops(rt, TRIAL, input, Manner::Fails, b"vault: stopped 62\n").0
+}
+
 #[test]
 fn a_writer_that_fails_stops_with_62(rt: HostRuntime) {
-    assert!(rt; stops(&rt, TRIAL, ASKED.as_bytes(), Broken, b"vault: stopped 62\n"));
+    assert!(rt; is_unwritten(&rt));
 }
 
 /// Words whose answers a writer takes and doesn't hand on, and the line with which each run stops.
@@ -92,7 +68,7 @@ const HEADER: &str = "request,number,use\n";
 fn are_unflushed(rt: &HostRuntime) -> bool {
     UNFLUSHED.iter().all(|(words, line)| {
         let input = if *words == TRIAL { ASKED } else { HEADER };
-        stops(rt, words, input.as_bytes(), Unflushed, line)
+        stops(rt, words, Input::of(input.as_bytes()), Manner::Keeps, line).0
     })
 }
 

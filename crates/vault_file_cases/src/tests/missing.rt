@@ -1,10 +1,9 @@
 //! Files of each version with a table missing.
 use super::moved::older;
 use super::over::Step;
-use super::steps::{all_done, is_told, tell};
+use super::steps::{TestDisk, all_done, is_told, lasting, tell};
 use super::stops::copy;
 use sqlite::Files;
-use sqlite_disk::Memory;
 use std::alloc::Global;
 
 /// How many steps a file of schema 1 goes up, the tables of which one is dropped then, and how the file is
@@ -39,15 +38,15 @@ const ROWS: [Row; 9] = [
 ];
 
 /// The same files again.
-fn again(alloc: Global, base: &Files<Memory>) -> Files<Memory> {
+fn again(alloc: Global, base: &Files<TestDisk>) -> Files<TestDisk> {
     Files {
-        log: copy(alloc, base.log.bytes()),
-        db: copy(alloc, base.db.bytes()),
+        log: lasting(copy(alloc, base.log.inner().bytes())),
+        db: lasting(copy(alloc, base.db.inner().bytes())),
     }
 }
 
 /// Whether files without this table are refused so.
-fn is_missed(rt: &HostRuntime, base: &Files<Memory>, table: &str, row: Row) -> bool {
+fn is_missed(rt: &HostRuntime, base: &Files<TestDisk>, table: &str, row: Row) -> bool {
     let (_, _, checked, moved) = row;
     let alloc = rt.alloc();
     let drop = format!(in alloc; "DROP TABLE {table}").unwrap_or(String::new(alloc));

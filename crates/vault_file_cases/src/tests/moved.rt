@@ -1,9 +1,8 @@
 //! Files of older schemas: refused, moved to the newest schema, and stopped while they move.
 use super::over::Step;
-use super::steps::{all_done, are_told, is_told, no_files, tell};
+use super::steps::{TestDisk, all_done, are_told, is_told, no_files, tell};
 use super::stops::{Trial, is_whole_where_stopped};
 use sqlite::Files;
-use sqlite_disk::Memory;
 use std::alloc::Global;
 use vault_schema::v1::{
     CREATE_COUNTS, CREATE_ENTRIES, CREATE_ENTRIES_NUMBER, CREATE_MERCHANTS, CREATE_RECORDS,
@@ -44,7 +43,7 @@ const REFUSED: &str =
     "changed; changed; changed; changed; changed; changed; changed; changed; 30 1; 30 1; ";
 
 /// Files of schema 1, and what they told.
-pub fn older(alloc: Global) -> (String, Files<Memory>) {
+pub fn older(alloc: Global) -> (String, Files<TestDisk>) {
     all_done(alloc, no_files(alloc), MADE.as_slice())
 }
 

@@ -3,9 +3,8 @@ ghost use Rattle.std.specs.Prelude.{◌≡◌, false, None};
 ghost use Rattle.vault_core.specs.Proper.{HasLivesInRange};
 
 use super::over::Step;
-use super::steps::{all_done, is_told, no_files};
+use super::steps::{TestDisk, all_done, is_told, no_files};
 use sqlite::{Alter, Connection, Files};
-use sqlite_disk::Disk;
 use std::alloc::Global;
 use vault_core::command::Command;
 use vault_core::reply::Reply;
@@ -33,11 +32,11 @@ fn is_token(answer: Result<Reply, Fault>) -> bool {
 }
 
 /// Answers one command over the files, and tells whether it was a token, with the files again.
-fn answered<D: Disk + Drop>(
+fn answered(
     alloc: Global,
-    files: Files<D>,
+    files: Files<TestDisk>,
     request: &Command,
-) -> Option<(bool, Files<D>)>
+) -> Option<(bool, Files<TestDisk>)>
     requires { HasLivesInRange request.now }
 {
     match open_files(alloc, files) {
@@ -50,7 +49,7 @@ fn answered<D: Disk + Drop>(
 }
 
 /// The files after they were opened and closed.
-fn passed<D: Disk + Drop>(alloc: Global, files: Files<D>) -> Option<Files<D>> {
+fn passed(alloc: Global, files: Files<TestDisk>) -> Option<Files<TestDisk>> {
     match open_files(alloc, files) {
         Some(conn) => Some(close(conn).close()),
         None => None,
@@ -58,7 +57,7 @@ fn passed<D: Disk + Drop>(alloc: Global, files: Files<D>) -> Option<Files<D>> {
 }
 
 /// What checks tell of the files after a last command, and after they were opened and closed once more.
-fn found<D: Disk + Drop>(alloc: Global, files: Files<D>, request: &Command) -> String
+fn found(alloc: Global, files: Files<TestDisk>, request: &Command) -> String
     requires { HasLivesInRange request.now }
 {
     let (_, files) = all_done(
@@ -74,7 +73,7 @@ fn found<D: Disk + Drop>(alloc: Global, files: Files<D>, request: &Command) -> S
 }
 
 /// What checks tell of files before and after they were opened and closed.
-fn found_again<D: Disk + Drop>(alloc: Global, files: Files<D>) -> String {
+fn found_again(alloc: Global, files: Files<TestDisk>) -> String {
     let (mut told, files) = all_done(alloc, files, &[Step::Check]);
     match passed(alloc, files) {
         Some(files) => {

@@ -3,10 +3,9 @@
 use super::over::Step;
 use super::sent::LINES;
 use super::sessions::{Left, is_beginning, session};
-use super::steps::{done, no_files};
+use super::steps::{TestDisk, done, no_files};
 use super::stops::MOST_CALLS;
 use sqlite::Files;
-use sqlite_disk::Memory;
 use std::alloc::Global;
 use vault_script::forty::answers;
 
@@ -79,7 +78,7 @@ fn is_answered_again(
     sending: Sending,
     whole: &str,
     out: &str,
-    files: Files<Memory>,
+    files: Files<TestDisk>,
 ) -> bool {
     let (counted, files) = done(rt.alloc(), files, COUNTED);
     let (again, _files) = done(rt.alloc(), files, sending.step());

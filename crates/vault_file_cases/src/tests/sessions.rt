@@ -1,10 +1,10 @@
 //! The forty requests in sessions: each is stopped one call to a file later than the one before, and the next
 //! sends all from the start, until one ends without a stop.
 use super::over::Step;
-use super::steps::{all_done, done, is_told, no_files};
+use super::steps::{TestDisk, all_done, done, is_told, lasting, no_files};
 use super::stops::{MOST_CALLS, copy, fused, is_among};
 use sqlite::Files;
-use sqlite_disk::{Crash, Memory};
+use sqlite_disk::Crash;
 use std::alloc::Global;
 use vault_script::forty::answers;
 
@@ -14,13 +14,13 @@ pub struct Left {
     /// What went out.
     pub out: String,
     /// The files after the crash.
-    pub files: Files<Memory>,
+    pub files: Files<TestDisk>,
 }
 
 /// Does a step over files of which one stops after so many calls, and crashes.
 pub fn session(
     alloc: Global,
-    files: &Files<Memory>,
+    files: &Files<TestDisk>,
     calls: u64,
     is_log: bool,
     step: Step<'_>,
@@ -29,8 +29,8 @@ pub fn session(
     left.log.crash();
     left.db.crash();
     let files = Files {
-        log: copy(alloc, left.log.inner().bytes()),
-        db: copy(alloc, left.db.inner().bytes()),
+        log: lasting(copy(alloc, left.log.inner().bytes())),
+        db: lasting(copy(alloc, left.db.inner().bytes())),
     };
     Left { out, files }
 }
@@ -39,7 +39,7 @@ pub fn session(
 #[derive(Drop)]
 struct Sent {
     numbers: u64,
-    files: Files<Memory>,
+    files: Files<TestDisk>,
 }
 
 /// How many card numbers these answers bring.

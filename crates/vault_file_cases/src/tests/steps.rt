@@ -1,12 +1,16 @@
 //! Databases in memory: opened, asked and ended. A connection is made and ended here alone.
 use super::over::{Step, done_over};
 use sqlite::{Connection, FileStore, Files, Options};
-use sqlite_disk::{Disk, Memory};
+use sqlite_disk::{Fuse, Memory};
 use std::alloc::Global;
 use vault_script::told::text;
 
+/// A file in memory that may stop after some calls. All tests are over this one kind, so that the database is
+/// compiled for no other.
+pub type TestDisk = Fuse<Memory>;
+
 /// The files that a connection ends with.
-fn ended<D: Disk + Drop>(conn: Connection<FileStore<D>>) -> Files<D> {
+fn ended(conn: Connection<FileStore<TestDisk>>) -> Files<TestDisk> {
     match conn.close_files() {
         Ok(files) => files,
         Err((_, store)) => store.close(),
@@ -14,7 +18,7 @@ fn ended<D: Disk + Drop>(conn: Connection<FileStore<D>>) -> Files<D> {
 }
 
 /// Does a step over files, and gives them again.
-pub fn done<D: Disk + Drop>(alloc: Global, files: Files<D>, step: Step<'_>) -> (String, Files<D>) {
+pub fn done(alloc: Global, files: Files<TestDisk>, step: Step<'_>) -> (String, Files<TestDisk>) {
     if !files.may_be_used() {
         return (text(alloc, "not connected"), files);
     }
@@ -28,11 +32,11 @@ pub fn done<D: Disk + Drop>(alloc: Global, files: Files<D>, step: Step<'_>) -> (
 }
 
 /// Does steps over files in turn, and gives the files again; what each step tells ends with `; `.
-pub fn all_done<D: Disk + Drop>(
+pub fn all_done(
     alloc: Global,
-    files: Files<D>,
+    files: Files<TestDisk>,
     steps: &[Step<'_>],
-) -> (String, Files<D>) {
+) -> (String, Files<TestDisk>) {
     let mut files = files;
     let mut all = String::new(alloc);
     for step in steps {
@@ -44,11 +48,16 @@ pub fn all_done<D: Disk + Drop>(
     (all, files)
 }
 
-/// Files without a byte.
-pub fn no_files(alloc: Global) -> Files<Memory> {
+/// A file that never stops.
+pub fn lasting(file: Memory) -> TestDisk {
+    Fuse::new(file, u64::MAX)
+}
+
+/// Files without a byte, which never stop.
+pub fn no_files(alloc: Global) -> Files<TestDisk> {
     Files {
-        log: Memory::new(alloc),
-        db: Memory::new(alloc),
+        log: lasting(Memory::new(alloc)),
+        db: lasting(Memory::new(alloc)),
     }
 }
 
@@ -62,12 +71,7 @@ pub fn is_told(rt: &HostRuntime, told: &str, wanted: &str) -> bool {
 }
 
 /// Whether steps over files tell this.
-pub fn tell<D: Disk + Drop>(
-    rt: &HostRuntime,
-    files: Files<D>,
-    steps: &[Step<'_>],
-    wanted: &str,
-) -> bool {
+pub fn tell(rt: &HostRuntime, files: Files<TestDisk>, steps: &[Step<'_>], wanted: &str) -> bool {
     let (told, _files) = all_done(rt.alloc(), files, steps);
     is_told(rt, told.as_str(), wanted)
 }

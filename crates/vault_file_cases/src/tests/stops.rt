@@ -1,7 +1,7 @@
 //! A Tokenize that is stopped at each call to the files in turn leaves its entry, its record and its count,
 //! or none of them.
 use super::over::Step;
-use super::steps::{all_done, done, is_told, no_files};
+use super::steps::{TestDisk, all_done, done, is_told, no_files};
 use sqlite::Files;
 use sqlite_disk::{Crash, Disk, Fuse, Memory};
 use std::alloc::Global;
@@ -83,7 +83,7 @@ fn found(rt: &HostRuntime, trial: &Trial<'_>, told: &str, seen: &str) -> Left {
 }
 
 /// Does a step over files of which one may stop, and tells what a crash leaves of it.
-fn stopped<D: Crash + Drop>(rt: &HostRuntime, files: Files<D>, trial: &Trial<'_>) -> Left {
+fn stopped(rt: &HostRuntime, files: Files<TestDisk>, trial: &Trial<'_>) -> Left {
     let alloc = rt.alloc();
     let (told, mut files) = done(alloc, files, trial.step);
     files.log.crash();
@@ -93,15 +93,15 @@ fn stopped<D: Crash + Drop>(rt: &HostRuntime, files: Files<D>, trial: &Trial<'_>
 }
 
 /// Copies of files, of which one stops after so many calls.
-pub fn fused(alloc: Global, base: &Files<Memory>, calls: u64, is_log: bool) -> Files<Fuse<Memory>> {
+pub fn fused(alloc: Global, base: &Files<TestDisk>, calls: u64, is_log: bool) -> Files<TestDisk> {
     let (log, db) = if is_log {
         (calls, u64::MAX)
     } else {
         (u64::MAX, calls)
     };
     Files {
-        log: Fuse::new(copy(alloc, base.log.bytes()), log),
-        db: Fuse::new(copy(alloc, base.db.bytes()), db),
+        log: Fuse::new(copy(alloc, base.log.inner().bytes()), log),
+        db: Fuse::new(copy(alloc, base.db.inner().bytes()), db),
     }
 }
 
@@ -110,7 +110,7 @@ pub fn fused(alloc: Global, base: &Files<Memory>, calls: u64, is_log: bool) -> F
 /// done.
 fn calls_until_done(
     rt: &HostRuntime,
-    base: &Files<Memory>,
+    base: &Files<TestDisk>,
     is_log: bool,
     trial: &Trial<'_>,
 ) -> Option<u64> {
@@ -125,7 +125,7 @@ fn calls_until_done(
 }
 
 /// Whether a step over files of which one is stopped leaves what it may, or is done, and was stopped.
-fn is_whole(rt: &HostRuntime, base: &Files<Memory>, is_log: bool, trial: &Trial<'_>) -> bool {
+fn is_whole(rt: &HostRuntime, base: &Files<TestDisk>, is_log: bool, trial: &Trial<'_>) -> bool {
     match calls_until_done(rt, base, is_log, trial) {
         Some(calls) => calls > 0,
         None => false,
@@ -133,7 +133,7 @@ fn is_whole(rt: &HostRuntime, base: &Files<Memory>, is_log: bool, trial: &Trial<
 }
 
 /// Whether that is so over each of the two files in turn.
-pub fn is_whole_where_stopped(rt: &HostRuntime, base: &Files<Memory>, trial: &Trial<'_>) -> bool {
+pub fn is_whole_where_stopped(rt: &HostRuntime, base: &Files<TestDisk>, trial: &Trial<'_>) -> bool {
     is_whole(rt, base, true, trial) && is_whole(rt, base, false, trial)
 }
 
