@@ -6,16 +6,15 @@ use Rattle.sqlite_disk.specs.declared.Disk.{Ghosts}
 use Rattle.sqlite_store.specs.declared.store.FileStore.{FileStore}
 use Rattle.vault_file.specs.declared.fault.NotOpened.{NotOpened as FileFault}
 use Rattle.vault_words.specs.declared.jobs.Job.{Job}
-use Rattle.vault_words.specs.declared.jobs.Job.TheVariants.{Trial, Merchant, Grant, Withdraw, Rights, Pipe}
-use Rattle.vault_words.specs.declared.jobs.Job.TheVariants.{Batch, Serve, Sweep, List as Listing, Check}
-use Rattle.vault_words.specs.declared.jobs.Job.TheVariants.{Migrate}
+use Rattle.vault_words.specs.declared.jobs.Job.TheVariants.{Check, Migrate}
 use Rattle.vault_jobs.specs.Streams.{Streams}
 use Rattle.vault_jobs.specs.declared.task.Task.{Task}
 use Rattle.vault_app.specs.Asked.{AsksFor, IsCheck}
 use Rattle.vault_app.specs.Ending.{Says, log_line, status_of}
 use Rattle.vault_app.specs.Files.{EndsOnFile}
 use Rattle.vault_app.specs.Jobs.{Does, DoesPlan}
-use Rattle.vault_app.specs.Plans.{IsPlanOf, TellsMoved}
+use Rattle.vault_app.specs.Commands.Migrate.{TellsMoved}
+use Rattle.vault_app.specs.Plans.{IsPlanOf}
 use Rattle.vault_app.specs.World.{World}
 use Rattle.vault_app.specs.declared.ending.Ending.{Ending}
 use Rattle.vault_app.specs.declared.ending.Ending.TheVariants.{Done, DoneWithLog, Version, Refused}
@@ -49,18 +48,9 @@ module _ {D : Type 0} {g : Ghosts D} (world : World) (left : Option (FileStore D
   plan_logs (plan.Do path t) h = absurd (file_logs path.now left t h)
 
   check_in : (job : Job) (p : Plan) → IsPlanOf world job p → Checks p → IsCheck job
-  check_in (Trial j) p (t, is, same) h = absurd (subst Checks same h)
-  check_in (Merchant j) p (t, is, same) h = absurd (subst Checks same h)
-  check_in (Grant j) p (t, is, same) h = absurd (subst Checks same h)
-  check_in (Withdraw j) p (t, is, same) h = absurd (subst Checks same h)
-  check_in (Rights j) p (t, is, same) h = absurd (subst Checks same h)
-  check_in (Pipe j) p (t, is, same) h = absurd (subst Checks same h)
-  check_in (Batch j) p (t, is, same) h = absurd (subst Checks same h)
-  check_in (Serve j) p (t, is, same) h = absurd (subst Checks same h)
-  check_in (Sweep j) p (t, is, same) h = absurd (subst Checks same h)
-  check_in (Listing j) p (t, is, same) h = absurd (subst Checks same h)
   check_in (Check j) p same h = (j, refl)
   check_in (Migrate j) p same h = absurd (subst Checks same h)
+  check_in job p (t, is, same) h = absurd (subst Checks same h)
 
   check_of : (words : List Text) → Does world left words DoneWithLog unread unsent s → AsksFor words IsCheck
   check_of words (inl (job, asked, inl (p, is, proper, h))) = (job, asked, check_in job p is (plan_logs p h))

@@ -27,8 +27,11 @@ use Rattle.vault_app.specs.Asked.{AsksFor, IsBatch, Unasked}
 use Rattle.vault_app.specs.Ending.{Says, status_of}
 use Rattle.vault_app.specs.Files.{EndsOnFile}
 use Rattle.vault_app.specs.Jobs.{Does, DoesPlan}
-use Rattle.vault_app.specs.Plans.{IsPlanOf, IsServeOf, IsTaskOf, LineEnds, TellsMoved, TellsSizes, beside}
-use Rattle.vault_app.specs.Plans.{without_end}
+use Rattle.vault_app.specs.Commands.Check.{TellsSizes, beside}
+use Rattle.vault_app.specs.Commands.Migrate.{TellsMoved}
+use Rattle.vault_app.specs.Commands.Serve.{IsServeOf, without_end}
+use Rattle.vault_app.specs.Endings.{LineEnds}
+use Rattle.vault_app.specs.Plans.{IsPlanOf, IsTaskOf}
 use Rattle.vault_app.specs.World.{World}
 use Rattle.vault_app.specs.declared.ending.Ending.{Ending}
 use Rattle.vault_app.specs.declared.ending.Ending.TheVariants.{Done, DoneWithLog, Version, Refused}
@@ -63,12 +66,8 @@ said_at why (Refused n) A B o e (inr at) said = absurd (omega (arith, at))
 abbrev IsOfLine : Ending → Type 0
 IsOfLine Done = Unit {0}
 IsOfLine DoneWithLog = Unit {0}
-IsOfLine Version = ⊥
-IsOfLine (Refused n) = ⊥
-IsOfLine SomeRefused = ⊥
-IsOfLine BadWords = ⊥
-IsOfLine (NotOpened f) = ⊥
 IsOfLine (Stopped why) = Unit {0}
+IsOfLine ending = ⊥
 
 -- a check ends so
 of_line : (log : Bool) (text : List ℕ) (old new : Known) (writer : Bool) (line ending : Ending)
@@ -77,27 +76,15 @@ of_line true text old new writer Done ending ends is = subst IsOfLine (sym is) t
 of_line false text old new writer Done ending ends is = subst IsOfLine (sym is) tt
 of_line true text old new writer (Stopped why) ending ends is = subst IsOfLine (sym is) tt
 of_line false text old new writer (Stopped why) ending ends is = subst IsOfLine (sym is) tt
-of_line log text old new writer DoneWithLog ending ends is = absurd ends
-of_line log text old new writer Version ending ends is = absurd ends
-of_line log text old new writer (Refused n) ending ends is = absurd ends
-of_line log text old new writer SomeRefused ending ends is = absurd ends
-of_line log text old new writer BadWords ending ends is = absurd ends
-of_line log text old new writer (NotOpened f) ending ends is = absurd ends
+of_line log text old new writer line ending ends is = absurd ends
 
 -- the task answers rows
 abbrev IsOfRows : Task → Type 0
-IsOfRows (task.Change c) = ⊥
-IsOfRows (task.Give rows now) = ⊥
-IsOfRows (task.Settle rows now) = ⊥
-IsOfRows (task.Sweep who now giver) = ⊥
 IsOfRows (task.Batch who now digits) = Unit {0}
-IsOfRows (task.Pipe now digits) = ⊥
-IsOfRows (task.Serve port connections listed) = ⊥
-IsOfRows (task.Show it) = ⊥
+IsOfRows t = ⊥
 
 -- the words ask for such a task only by a batch
 batch_of : (world : World) (job : Job) (t : Task) → IsTaskOf world job t → IsOfRows t → IsBatch job
-batch_of world (Trial j) t is rows = absurd is
 batch_of world (Merchant j) t (name, (now, moment, same)) rows = absurd (subst IsOfRows same rows)
 batch_of world (Grant j) t (names, (right, now, word, moment, same)) rows = absurd (subst IsOfRows same rows)
 batch_of world (Withdraw j) t (names, (right, now, word, moment, same)) rows =
@@ -123,8 +110,7 @@ batch_of world (Serve j) t is rows =
 batch_of world (Listing j) t same rows = absurd (subst IsOfRows same rows)
 batch_of world (Sweep j) t (names, (who, now, caller, merchant, moment, same)) rows =
     absurd (subst IsOfRows same rows)
-batch_of world (Check j) t is rows = absurd is
-batch_of world (Migrate j) t is rows = absurd is
+batch_of world job t is rows = absurd is
 
 module _ (tells : Turns) (unread unsent : Type 0) (s : Streams) where
   rows_of : (t : Task) (w : Passage) (broken : Bool)
@@ -146,14 +132,9 @@ module _ (tells : Turns) (unread unsent : Type 0) (s : Streams) where
 
   unread_by : (t : Task) (w : Passage) (broken : Bool) (n : ℕ)
       → Performs tells t w broken (Ok (outcome.Refused n)) unread unsent s → unread
-  unread_by (task.Change c) w broken n d = d.begun
-  unread_by (task.Give rows now) w broken n d = d.begun
-  unread_by (task.Settle rows now) w broken n d = d.begun
-  unread_by (task.Sweep who now giver) w broken n d = d.begun
   unread_by (task.Batch who now digits) w broken n d = absurd d.works
   unread_by (task.Pipe now digits) w broken n d = absurd d.works
-  unread_by (task.Serve port connections listed) w broken n d = d.begun
-  unread_by (task.Show it) w broken n d = d.begun
+  unread_by t w broken n d = d.begun
 
 module _ {D : Type 0} {g : Ghosts D} (world : World) (left : Option (FileStore D g))
     (unread unsent : Type 0) (s : Streams) where
@@ -244,17 +225,9 @@ module _ {D : Type 0} {g : Ghosts D} (world : World) (left : Option (FileStore D
 
   batch_in : (job : Job) (p : Plan) → IsPlanOf world job p → IsPart p → IsBatch job
   batch_in (Trial j) p (t, is, same) h = absurd (subst IsPart same h)
-  batch_in (Merchant j) p (t, is, same) h = batch_of world (Merchant j) t is (subst IsPart same h)
-  batch_in (Grant j) p (t, is, same) h = batch_of world (Grant j) t is (subst IsPart same h)
-  batch_in (Withdraw j) p (t, is, same) h = batch_of world (Withdraw j) t is (subst IsPart same h)
-  batch_in (Rights j) p (t, is, same) h = batch_of world (Rights j) t is (subst IsPart same h)
-  batch_in (Pipe j) p (t, is, same) h = batch_of world (Pipe j) t is (subst IsPart same h)
-  batch_in (Batch j) p is h = (j, refl)
-  batch_in (Serve j) p (t, is, same) h = batch_of world (Serve j) t is (subst IsPart same h)
-  batch_in (Sweep j) p (t, is, same) h = batch_of world (Sweep j) t is (subst IsPart same h)
-  batch_in (Listing j) p (t, is, same) h = batch_of world (Listing j) t is (subst IsPart same h)
   batch_in (Check j) p same h = absurd (subst IsPart same h)
   batch_in (Migrate j) p same h = absurd (subst IsPart same h)
+  batch_in job p (t, is, same) h = batch_of world job t is (subst IsPart same h)
 
   -- with a status of 2 or 3 nothing was read, and nothing written by a job
   pub calm_at : (words : List Text) (ending : Ending) → (status_of ending ≡ 2) ⊎ (status_of ending ≡ 3)

@@ -21,7 +21,7 @@ use Rattle.vault_jobs.specs.declared.task.Task.{Task}
 use Rattle.vault_jobs.specs.declared.task.Task.TheVariants.{Change, Give, Settle, Sweep, Batch, Pipe, Serve}
 use Rattle.vault_jobs.specs.declared.task.Task.TheVariants.{Show}
 use Rattle.vault_words.specs.declared.commands.rights_file.RightsFileJob.{RightsFileJob}
-use Rattle.vault_app.specs.Plans.{rights_task}
+use Rattle.vault_app.specs.Commands.RightsFile.{rights_task}
 use Rattle.vault_app.specs.Rights.{IsListed}
 use Rattle.vault_app.specs.Values.{AreValues}
 

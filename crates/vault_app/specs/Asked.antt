@@ -5,7 +5,6 @@ use Rattle.clap.specs.Words.{IsAmong, Text, fault_of}
 use Rattle.clap.specs.declared.error.kind.ErrorKind.TheVariants.{DisplayHelp, DisplayVersion}
 use Rattle.vault_schema.specs.Versions.{newest, number_of}
 use Rattle.vault_core.specs.Name.{IsName}
-use Rattle.vault_core.specs.Scalar.{IsLife}
 use Rattle.vault_core.specs.Words.{right_word}
 use Rattle.vault_core.specs.declared.right.Right.{Right}
 use Rattle.vault_store.specs.declared.vault.Fault.TheVariants as vault
@@ -16,28 +15,11 @@ use Rattle.vault_words.specs.declared.commands.batch.BatchJob.{BatchJob}
 use Rattle.vault_words.specs.declared.commands.check.CheckJob.{CheckJob}
 use Rattle.vault_words.specs.declared.commands.rights.RightJob.{RightJob}
 use Rattle.vault_words.specs.declared.jobs.Job.{Job}
-use Rattle.vault_words.specs.declared.jobs.Job.TheVariants.{Trial, Merchant, Grant, Withdraw, Rights, Pipe}
-use Rattle.vault_words.specs.declared.jobs.Job.TheVariants.{Batch, Serve, Sweep, List as Listing, Check}
-use Rattle.vault_words.specs.declared.jobs.Job.TheVariants.{Migrate}
+use Rattle.vault_words.specs.declared.jobs.Job.TheVariants.{Batch, Check}
 use Rattle.vault_jobs.specs.declared.stop.Stop.TheVariants.{Vault}
 use Rattle.vault_app.specs.declared.ending.Ending.{Ending}
 use Rattle.vault_app.specs.declared.ending.Ending.TheVariants.{Done, Version}
 use Rattle.vault_app.specs.declared.ending.Ending.TheVariants.{BadWords, Stopped}
-
--- the lives of a job are lives
-abbrev pub HasLives : Job → Type 0
-HasLives (Trial j) = IsLife j.life
-HasLives (Merchant j) = IsLife j.single_life × IsLife j.multi_life
-HasLives (Grant j) = Unit {0}
-HasLives (Withdraw j) = Unit {0}
-HasLives (Rights j) = Unit {0}
-HasLives (Pipe j) = Unit {0}
-HasLives (Batch j) = Unit {0}
-HasLives (Serve j) = Unit {0}
-HasLives (Sweep j) = Unit {0}
-HasLives (Listing j) = Unit {0}
-HasLives (Check j) = Unit {0}
-HasLives (Migrate j) = Unit {0}
 
 -- the line of a file that is sound
 abbrev pub sound_line : Sizes → List ℕ

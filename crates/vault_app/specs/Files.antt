@@ -26,10 +26,11 @@ use Rattle.vault_jobs.specs.declared.task.Outcome.TheVariants as outcome
 use Rattle.vault_jobs.specs.declared.show.Shown.{Shown}
 use Rattle.vault_jobs.specs.declared.task.Task.{Task}
 use Rattle.vault_jobs.specs.declared.task.Task.TheVariants.{Show}
+use Rattle.vault_app.specs.Endings.{EndsSo, no_ending}
 use Rattle.vault_app.specs.World.{World}
 use Rattle.vault_app.specs.declared.ending.Ending.{Ending}
-use Rattle.vault_app.specs.declared.ending.Ending.TheVariants.{Done, DoneWithLog, Version, Refused}
-use Rattle.vault_app.specs.declared.ending.Ending.TheVariants.{SomeRefused, BadWords, NotOpened, Stopped}
+use Rattle.vault_app.specs.declared.ending.Ending.TheVariants.{Done, Refused, SomeRefused, NotOpened}
+use Rattle.vault_app.specs.declared.ending.Ending.TheVariants.{Stopped}
 
 -- how a job ends whose task came to this
 abbrev pub ending_for : Result Outcome Stop → Ending
@@ -80,19 +81,16 @@ module _ {D : Type 0} {g : Ghosts D} where
   -- what was done with the vault in files with such bytes, by how a task on it ended
   abbrev pub DoesOnFile : Turns → (Image → Type 0) → FileStore D g → Task → Ending → Type 0 → Type 0
       → Streams → Type 0
-  DoesOnFile tells Holding left task Done unread unsent s =
-      WorksOn Holding left (λ p broken. Does tells task p broken (Ok outcome.Done) unread unsent s)
-  DoesOnFile tells Holding left task DoneWithLog unread unsent s = ⊥
-  DoesOnFile tells Holding left task Version unread unsent s = ⊥
-  DoesOnFile tells Holding left task (Refused n) unread unsent s =
-      WorksOn Holding left (λ p broken. Does tells task p broken (Ok (outcome.Refused n)) unread unsent s)
-  DoesOnFile tells Holding left task SomeRefused unread unsent s =
-      WorksOn Holding left (λ p broken. Does tells task p broken (Ok outcome.SomeRefused) unread unsent s)
-  DoesOnFile tells Holding left task BadWords unread unsent s = ⊥
-  DoesOnFile tells Holding left task (NotOpened why) unread unsent s =
-      RefusesFile Holding left why × unread × unsent
-  DoesOnFile tells Holding left task (Stopped stop) unread unsent s =
-      WorksOn Holding left (λ p broken. Does tells task p broken (Err stop) unread unsent s)
+  DoesOnFile tells Holding left task ending unread unsent s =
+      let works : Result Outcome Stop → Type 0 =
+      λ result. WorksOn Holding left (λ p broken. Does tells task p broken result unread unsent s) in
+      EndsSo (record no_ending {
+        done = works (Ok outcome.Done);
+        refused = λ n. works (Ok (outcome.Refused n));
+        some_refused = works (Ok outcome.SomeRefused);
+        not_opened = λ why. RefusesFile Holding left why × unread × unsent;
+        stopped = λ stop. works (Err stop);
+      }) ending
 
   -- The same at a path, where files are left only if they were opened, or refused with a connection: none are
   -- where an open of the path may fail; nor where nothing is there, and the task only says what is.

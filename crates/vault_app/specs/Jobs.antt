@@ -24,8 +24,11 @@ use Rattle.vault_jobs.specs.Streams.{Known, Streams, streams, with_links}
 use Rattle.vault_jobs.specs.Told.{Tells}
 use Rattle.vault_app.specs.Ending.{Says, status_of}
 use Rattle.vault_app.specs.Files.{EndsOnFile}
-use Rattle.vault_app.specs.Plans.{EndsBefore, IsPlanOf, IsProperPlan, TellsMoved, TellsSizes, TrialEnds}
+use Rattle.vault_app.specs.Plans.{EndsBefore, IsPlanOf, IsProperPlan}
 use Rattle.vault_app.specs.Asked.{AsksFor, Unasked}
+use Rattle.vault_app.specs.Commands.Check.{TellsSizes}
+use Rattle.vault_app.specs.Commands.Migrate.{TellsMoved}
+use Rattle.vault_app.specs.Commands.Trial.{TrialEnds}
 use Rattle.vault_app.specs.World.{World}
 use Rattle.vault_app.specs.declared.ending.Ending.{Ending}
 use Rattle.vault_app.specs.declared.plan.Plan.{Plan}

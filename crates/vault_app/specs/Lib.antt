@@ -1,9 +1,12 @@
 pub mod Asked
+pub mod Commands
 pub mod Ending
+pub mod Endings
 pub mod Files
 pub mod Jobs
 pub mod Listed
 pub mod Plans
 pub mod Rights
+pub mod Saying
 pub mod Values
 pub mod World

@@ -7,9 +7,8 @@ use Rattle.vault_rights.specs.Proper.{IsProper}
 use Rattle.vault_rights.specs.declared.fault.RightsFault.{RightsFault}
 use Rattle.vault_jobs.specs.declared.stop.Stop.TheVariants as stop
 use Rattle.vault_jobs.specs.declared.stop.Unread.{Unread}
+use Rattle.vault_app.specs.Endings.{EndsSo, no_ending}
 use Rattle.vault_app.specs.declared.ending.Ending.{Ending}
-use Rattle.vault_app.specs.declared.ending.Ending.TheVariants.{Done, DoneWithLog, Version, Refused}
-use Rattle.vault_app.specs.declared.ending.Ending.TheVariants.{SomeRefused, BadWords, NotOpened, Stopped}
 
 -- the rows are the rights that the document of a text that is said names, in order and each once, with the
 -- latest of its ends
@@ -24,11 +23,7 @@ IsRefusedText n = (text : List ℕ) × (fault : RightsFault)
 
 -- a job ends without a list: its text is refused, or it isn't read
 abbrev pub IsUnlisted : Ending → Type 0
-IsUnlisted Done = ⊥
-IsUnlisted DoneWithLog = ⊥
-IsUnlisted Version = ⊥
-IsUnlisted (Refused n) = IsRefusedText n
-IsUnlisted SomeRefused = ⊥
-IsUnlisted BadWords = ⊥
-IsUnlisted (NotOpened f) = ⊥
-IsUnlisted (Stopped s) = (unread : Unread) × (s ≡ stop.Rights unread)
+IsUnlisted ending = EndsSo (record no_ending {
+  refused = IsRefusedText;
+  stopped = λ s. (unread : Unread) × (s ≡ stop.Rights unread);
+}) ending

@@ -2,7 +2,7 @@
 ghost use Rattle.std.specs.Prelude.{◌≡◌};
 ghost use Rattle.std.specs.List.{flat_map};
 ghost use Rattle.vault_wire.specs.Watching.{inner_of, is_stopped};
-ghost use Rattle.vault_app.specs.Plans.{LineEnds};
+ghost use Rattle.vault_app.specs.Endings.{LineEnds};
 
 use crate::ending::Ending;
 use std::io::Write;

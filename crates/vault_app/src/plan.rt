@@ -1,7 +1,6 @@
 //! What is to be done for a job.
 ghost use Rattle.std.specs.Prelude.{IfOk, MatchResult};
-ghost use Rattle.vault_app.specs.Plans.{EndsBefore, IsPlanOf, IsProperPlan};
-ghost use Rattle.vault_app.specs.Asked.{HasLives};
+ghost use Rattle.vault_app.specs.Plans.{EndsBefore, HasLives, IsPlanOf, IsProperPlan};
 ghost use Rattle.vault_app.specs.World.{World, world_of};
 
 use crate::commands::{batch, list, merchant, pipe, rights, rights_file, serve, sweep, trial};

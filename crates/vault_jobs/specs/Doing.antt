@@ -24,6 +24,7 @@ use Rattle.vault_jobs.specs.Batched.{StopsBatch}
 use Rattle.vault_jobs.specs.Carried.{Carries}
 use Rattle.vault_jobs.specs.Causes.{IsCauseOf}
 use Rattle.vault_jobs.specs.Grants.{AreDone, CarriesAll, grants_at}
+use Rattle.vault_jobs.specs.Outcomes.{ComesTo, no_outcome}
 use Rattle.vault_jobs.specs.Piped.{IsPiped, StopsPiping}
 use Rattle.vault_jobs.specs.Streams.{Known, Streams}
 use Rattle.vault_jobs.specs.Sweeps.{Sweeps}
@@ -34,8 +35,7 @@ use Rattle.vault_jobs.specs.declared.clock.Giver.TheVariants.{Words, Clock}
 use Rattle.vault_jobs.specs.declared.change.Verdict.{Verdict}
 use Rattle.vault_jobs.specs.declared.change.Verdict.TheVariants as verdict
 use Rattle.vault_jobs.specs.declared.stop.Stop.{Stop}
-use Rattle.vault_jobs.specs.declared.stop.Stop.TheVariants.{Vault, Service, Listener, Rights}
-use Rattle.vault_jobs.specs.declared.stop.Stop.TheVariants as stop
+use Rattle.vault_jobs.specs.declared.stop.Stop.TheVariants.{Vault}
 use Rattle.vault_jobs.specs.declared.sweep.Swept.TheVariants.{Purged, Refused}
 use Rattle.vault_jobs.specs.declared.task.Outcome.{Outcome}
 use Rattle.vault_jobs.specs.declared.task.Outcome.TheVariants as outcome
@@ -78,34 +78,25 @@ FailsToRead w broken vault.Reopen = ⊥
 -- they came to done.
 abbrev pub CommandsEnd : (Result Verdict Fault → Type 0) → List ℕ → Result Outcome Stop → Type 0
     → Known → Known → Bool → Type 0
-CommandsEnd Carried line (Ok outcome.Done) unsent old new writer =
-    (writer ≡ false) × Appends old new line × Carried (Ok verdict.Done)
-CommandsEnd Carried line (Ok (outcome.Refused n)) unsent old new writer =
-    unsent × Carried (Ok (verdict.Refused n))
-CommandsEnd Carried line (Ok outcome.SomeRefused) unsent old new writer = ⊥
-CommandsEnd Carried line (Err (Vault f)) unsent old new writer = unsent × Carried (Err f)
-CommandsEnd Carried line (Err (Service f)) unsent old new writer =
-    (f ≡ service.Write) × (writer ≡ true) × Carried (Ok verdict.Done)
-CommandsEnd Carried line (Err (Listener f)) unsent old new writer = ⊥
-CommandsEnd Carried line (Err (Rights f)) unsent old new writer = ⊥
-CommandsEnd Carried line (Err (stop.Batch f)) unsent old new writer = ⊥
+CommandsEnd Carried line result unsent old new writer = ComesTo (record no_outcome {
+  done = (writer ≡ false) × Appends old new line × Carried (Ok verdict.Done);
+  refused = λ n. unsent × Carried (Ok (verdict.Refused n));
+  vault = λ f. unsent × Carried (Err f);
+  service = λ f. (f ≡ service.Write) × (writer ≡ true) × Carried (Ok verdict.Done);
+}) result
 
 -- how a sweep ends: with Done its line says how many were purged, and went out; with a refusal of a purge
 -- nothing went out; where the writer failed all were purged
 abbrev pub SweepEnds : Asker → ℕ → Passage → Bool → Result Outcome Stop → Type 0
     → Known → Known → Bool → Type 0
-SweepEnds who now w broken (Ok outcome.Done) unsent old new writer = (writer ≡ false)
-    × ((count : ℕ) × Sweeps who now w broken (Ok (Purged count)) × Appends old new (purged_line count))
-SweepEnds who now w broken (Ok (outcome.Refused n)) unsent old new writer =
-    unsent × Sweeps who now w broken (Ok (Refused n))
-SweepEnds who now w broken (Ok outcome.SomeRefused) unsent old new writer = ⊥
-SweepEnds who now w broken (Err (Vault f)) unsent old new writer = unsent × Sweeps who now w broken (Err f)
-SweepEnds who now w broken (Err (Service f)) unsent old new writer =
-    (f ≡ service.Write) × (writer ≡ true)
-    × ((count : ℕ) × Sweeps who now w broken (Ok (Purged count)))
-SweepEnds who now w broken (Err (Listener f)) unsent old new writer = ⊥
-SweepEnds who now w broken (Err (Rights f)) unsent old new writer = ⊥
-SweepEnds who now w broken (Err (stop.Batch f)) unsent old new writer = ⊥
+SweepEnds who now w broken result unsent old new writer = ComesTo (record no_outcome {
+  done = (writer ≡ false)
+      × ((count : ℕ) × Sweeps who now w broken (Ok (Purged count)) × Appends old new (purged_line count));
+  refused = λ n. unsent × Sweeps who now w broken (Ok (Refused n));
+  vault = λ f. unsent × Sweeps who now w broken (Err f);
+  service = λ f. (f ≡ service.Write) × (writer ≡ true)
+      × ((count : ℕ) × Sweeps who now w broken (Ok (Purged count)));
+}) result
 
 -- How a sweep ends whose moment the words or the clock gave. At one of the words it ends as above. At one of
 -- the clock it does too, and then the merchant's moment isn't far ahead; or that is, and it is refused by 81:
@@ -124,35 +115,23 @@ TimedSweepEnds Clock who now w broken result unsent old new writer =
 -- how a batch ends: its rows are answered, by nobody else and with such pairs; or it wasn't begun
 abbrev pub BatchEnds : Turns → Asker → Option ℕ → Option (List ℕ) → Passage → Result Outcome Stop
     → Type 0 → Type 0 → Streams → Type 0
-BatchEnds tells who now digits w (Ok outcome.Done) unread unsent s =
-    (s.writer ≡ false) × (counts : Counts) × (counts.refused ≡ 0) × IsAtEnd s.left_new
-    × Along tells 100000 now digits w s (λ p. IsBatched s.left_old p who counts)
-BatchEnds tells who now digits w (Ok (outcome.Refused n)) unread unsent s = ⊥
-BatchEnds tells who now digits w (Ok outcome.SomeRefused) unread unsent s =
-    (s.writer ≡ false) × (counts : Counts) × (counts.refused ≢ 0) × IsAtEnd s.left_new
-    × Along tells 100000 now digits w s (λ p. IsBatched s.left_old p who counts)
-BatchEnds tells who now digits w (Err (Vault f)) unread unsent s = ⊥
-BatchEnds tells who now digits w (Err (Service f)) unread unsent s = ⊥
-BatchEnds tells who now digits w (Err (Listener f)) unread unsent s = ⊥
-BatchEnds tells who now digits w (Err (Rights f)) unread unsent s = ⊥
-BatchEnds tells who now digits w (Err (stop.Batch f)) unread unsent s =
-    (f ≡ row.Source) × unread × unsent × IsUntouched w
-    ⊎ Along tells 100000 now digits w s (λ p. StopsBatch s.left_old p who f)
+BatchEnds tells who now digits w result unread unsent s = ComesTo (record no_outcome {
+  done = (s.writer ≡ false) × (counts : Counts) × (counts.refused ≡ 0) × IsAtEnd s.left_new
+      × Along tells 100000 now digits w s (λ p. IsBatched s.left_old p who counts);
+  some_refused = (s.writer ≡ false) × (counts : Counts) × (counts.refused ≢ 0) × IsAtEnd s.left_new
+      × Along tells 100000 now digits w s (λ p. IsBatched s.left_old p who counts);
+  batch = λ f. (f ≡ row.Source) × unread × unsent × IsUntouched w
+      ⊎ Along tells 100000 now digits w s (λ p. StopsBatch s.left_old p who f);
+}) result
 
 -- how messages end: they are served with such pairs; or it wasn't begun
 abbrev pub PipeEnds : Turns → Option ℕ → Option (List ℕ) → Passage → Result Outcome Stop → Type 0 → Type 0
     → Streams → Type 0
-PipeEnds tells now digits w (Ok outcome.Done) unread unsent s =
-    (s.writer ≡ false) × Along tells 1000 now digits w s (IsPiped s.left_old s.left_new)
-PipeEnds tells now digits w (Ok (outcome.Refused n)) unread unsent s = ⊥
-PipeEnds tells now digits w (Ok outcome.SomeRefused) unread unsent s = ⊥
-PipeEnds tells now digits w (Err (Vault f)) unread unsent s = ⊥
-PipeEnds tells now digits w (Err (Service f)) unread unsent s =
-    (f ≡ service.Source) × unread × unsent × IsUntouched w
-    ⊎ Along tells 1000 now digits w s (λ p. StopsPiping s.left_old s.left_new p f)
-PipeEnds tells now digits w (Err (Listener f)) unread unsent s = ⊥
-PipeEnds tells now digits w (Err (Rights f)) unread unsent s = ⊥
-PipeEnds tells now digits w (Err (stop.Batch f)) unread unsent s = ⊥
+PipeEnds tells now digits w result unread unsent s = ComesTo (record no_outcome {
+  done = (s.writer ≡ false) × Along tells 1000 now digits w s (IsPiped s.left_old s.left_new);
+  service = λ f. (f ≡ service.Source) × unread × unsent × IsUntouched w
+      ⊎ Along tells 1000 now digits w s (λ p. StopsPiping s.left_old s.left_new p f);
+}) result
 
 -- the service said on which port it listens: the one that was asked for, or any where that is 0
 abbrev pub IsListening : ℕ → Known → Known → Type 0
@@ -162,18 +141,13 @@ IsListening port old new = (bound : ℕ) × (port ≢ 0 → bound ≡ port) × A
 -- or it wasn't begun, for want of digits or of a port, or since the writer failed, and none came.
 abbrev pub ServeEnds : Turns → ℕ → ℕ → Passage → Result Outcome Stop → Type 0 → Known → Known → Bool
     → List (Option Link) → Type 0
-ServeEnds tells port most w (Ok outcome.Done) unsent old new writer links =
-    (writer ≡ false) × IsListening port old new × Leaves tells most links w (Ok tt)
-ServeEnds tells port most w (Ok (outcome.Refused n)) unsent old new writer links = ⊥
-ServeEnds tells port most w (Ok outcome.SomeRefused) unsent old new writer links = ⊥
-ServeEnds tells port most w (Err (Vault f)) unsent old new writer links = ⊥
-ServeEnds tells port most w (Err (Service f)) unsent old new writer links = IsUntouched w × (links ≡ [])
-    × ((f ≡ service.Source) × unsent ⊎ (f ≡ service.Write) × (writer ≡ true))
-ServeEnds tells port most w (Err (Listener f)) unsent old new writer links =
-    (f ≡ listener.Accept) × unsent × IsUntouched w × (links ≡ [])
-    ⊎ IsListening port old new × Leaves tells most links w (Err f)
-ServeEnds tells port most w (Err (Rights f)) unsent old new writer links = ⊥
-ServeEnds tells port most w (Err (stop.Batch f)) unsent old new writer links = ⊥
+ServeEnds tells port most w result unsent old new writer links = ComesTo (record no_outcome {
+  done = (writer ≡ false) × IsListening port old new × Leaves tells most links w (Ok tt);
+  service = λ f. IsUntouched w × (links ≡ [])
+      × ((f ≡ service.Source) × unsent ⊎ (f ≡ service.Write) × (writer ≡ true));
+  listener = λ f. (f ≡ listener.Accept) × unsent × IsUntouched w × (links ≡ [])
+      ⊎ IsListening port old new × Leaves tells most links w (Err f);
+}) result
 
 -- The rights become exactly those of a list, or the first commands are done that make them so: the changes
 -- are those of the vault before.
@@ -196,16 +170,12 @@ SettleEnds now rows w broken result unsent old new writer =
 -- vault; where the writer failed, a beginning of it did. Nothing is changed.
 abbrev pub ShowEnds : (Content → List ℕ) → Passage → Bool → Result Outcome Stop → Type 0 → Known → Known
     → Bool → Type 0
-ShowEnds text w broken (Ok outcome.Done) unsent old new writer =
-    (writer ≡ false) × IsUntouched w × ((V : Content) → IsBefore w V → Appends old new (text V))
-ShowEnds text w broken (Ok (outcome.Refused n)) unsent old new writer = ⊥
-ShowEnds text w broken (Ok outcome.SomeRefused) unsent old new writer = ⊥
-ShowEnds text w broken (Err (Vault f)) unsent old new writer = unsent × FailsToRead w broken f
-ShowEnds text w broken (Err (Service f)) unsent old new writer = (f ≡ service.Write) × (writer ≡ true)
-    × IsUntouched w × ((V : Content) → IsBefore w V → (n : ℕ) × Appends old new (take n (text V)))
-ShowEnds text w broken (Err (Listener f)) unsent old new writer = ⊥
-ShowEnds text w broken (Err (Rights f)) unsent old new writer = ⊥
-ShowEnds text w broken (Err (stop.Batch f)) unsent old new writer = ⊥
+ShowEnds text w broken result unsent old new writer = ComesTo (record no_outcome {
+  done = (writer ≡ false) × IsUntouched w × ((V : Content) → IsBefore w V → Appends old new (text V));
+  vault = λ f. unsent × FailsToRead w broken f;
+  service = λ f. (f ≡ service.Write) × (writer ≡ true)
+      × IsUntouched w × ((V : Content) → IsBefore w V → (n : ℕ) × Appends old new (take n (text V)));
+}) result
 
 -- the passage from the vault that commands leave
 abbrev pub behind : List Command → Passage → Passage
@@ -214,16 +184,10 @@ behind cs w = record w { held_old = λ U. (V : Content) × w.held_old V × (U �
 -- How the rights of a list end that stand before a service: they aren't all given, so no connection comes;
 -- they are refused, or stopped by the vault.
 abbrev pub ListEnds : ℕ → List Row → Passage → Bool → Result Outcome Stop → Type 0 → Type 0
-ListEnds now rows w broken (Ok outcome.Done) unsent = ⊥
-ListEnds now rows w broken (Ok (outcome.Refused n)) unsent =
-    unsent × Settles now rows w broken (Ok (verdict.Refused n))
-ListEnds now rows w broken (Ok outcome.SomeRefused) unsent = ⊥
-ListEnds now rows w broken (Err (Vault f)) unsent =
-    unsent × (Settles now rows w broken (Err f) ⊎ FailsToRead w broken f)
-ListEnds now rows w broken (Err (Service f)) unsent = ⊥
-ListEnds now rows w broken (Err (Listener f)) unsent = ⊥
-ListEnds now rows w broken (Err (Rights f)) unsent = ⊥
-ListEnds now rows w broken (Err (stop.Batch f)) unsent = ⊥
+ListEnds now rows w broken result unsent = ComesTo (record no_outcome {
+  refused = λ n. unsent × Settles now rows w broken (Ok (verdict.Refused n));
+  vault = λ f. unsent × (Settles now rows w broken (Err f) ⊎ FailsToRead w broken f);
+}) result
 
 -- How a service ends that may begin with a list of rights: they are all done, and it ends as a service does,
 -- from the vault that they leave; or it doesn't listen.

@@ -7,6 +7,7 @@ pub mod Doing
 pub mod Grants
 pub mod Listing
 pub mod Moments
+pub mod Outcomes
 pub mod Piped
 pub mod Streams
 pub mod Sweeps

@@ -1,5 +1,5 @@
 -- What is done with a vault.
-use Rattle.std.specs.Prelude.{◌≡◌, ◌⊎◌, ℕ, List, [], Bool, true, Some, None, Result, Ok, Err, ◌++◌}
+use Rattle.std.specs.Prelude.{◌≡◌, ◌⊎◌, ℕ, List, [], Bool, true, Some, Result, Ok, Err, ◌++◌}
 use Rattle.std.specs.Prelude.{codes, decimal}
 use Rattle.vault_core.specs.Proper.{HasLivesInRange}
 use Rattle.vault_http.specs.declared.fault.ServeFault.TheVariants as service
@@ -13,7 +13,6 @@ use Rattle.vault_jobs.specs.declared.stop.Stop.TheVariants as stop
 use Rattle.vault_jobs.specs.declared.task.Outcome.{Outcome}
 use Rattle.vault_jobs.specs.declared.task.Task.{Task}
 use Rattle.vault_jobs.specs.declared.task.Task.TheVariants.{Change, Give, Settle, Sweep, Batch, Pipe, Serve}
-use Rattle.vault_jobs.specs.declared.task.Task.TheVariants.{Show}
 
 -- the line of a service that listens
 abbrev pub listening_line : ℕ → List ℕ
@@ -30,13 +29,7 @@ purged_line count = codes "purged " ++ decimal count ++ codes "\n"
 -- the lives of its command are lives
 abbrev pub IsProper : Task → Type 0
 IsProper (Change c) = HasLivesInRange c
-IsProper (Give rows now) = Unit {0}
-IsProper (Settle rows now) = Unit {0}
-IsProper (Sweep who now giver) = Unit {0}
-IsProper (Batch who now digits) = Unit {0}
-IsProper (Pipe now digits) = Unit {0}
-IsProper (Serve port connections listed) = Unit {0}
-IsProper (Show it) = Unit {0}
+IsProper task = Unit {0}
 
 -- it carries out commands of its own, which may be refused: so does a service that begins with rights
 abbrev pub IsOfCommands : Task → Type 0
@@ -44,33 +37,19 @@ IsOfCommands (Change c) = Unit {0}
 IsOfCommands (Give rows now) = Unit {0}
 IsOfCommands (Settle rows now) = Unit {0}
 IsOfCommands (Sweep who now giver) = Unit {0}
-IsOfCommands (Batch who now digits) = ⊥
-IsOfCommands (Pipe now digits) = ⊥
-IsOfCommands (Serve port connections None) = ⊥
 IsOfCommands (Serve port connections (Some listed)) = Unit {0}
-IsOfCommands (Show it) = ⊥
+IsOfCommands task = ⊥
 
 -- the input is unread, but by a batch and messages
 abbrev pub IsTaskBegun : Task → Type 0 → Type 0
-IsTaskBegun (Change c) unread = unread
-IsTaskBegun (Give rows now) unread = unread
-IsTaskBegun (Settle rows now) unread = unread
-IsTaskBegun (Sweep who now giver) unread = unread
 IsTaskBegun (Batch who now digits) unread = Unit {0}
 IsTaskBegun (Pipe now digits) unread = Unit {0}
-IsTaskBegun (Serve port connections listed) unread = unread
-IsTaskBegun (Show it) unread = unread
+IsTaskBegun task unread = unread
 
 -- no connection came, but to a service
 abbrev pub HasNoLinks : Task → Streams → Type 0
-HasNoLinks (Change c) s = s.links ≡ []
-HasNoLinks (Give rows now) s = s.links ≡ []
-HasNoLinks (Settle rows now) s = s.links ≡ []
-HasNoLinks (Sweep who now giver) s = s.links ≡ []
-HasNoLinks (Batch who now digits) s = s.links ≡ []
-HasNoLinks (Pipe now digits) s = s.links ≡ []
 HasNoLinks (Serve port connections listed) s = Unit {0}
-HasNoLinks (Show it) s = s.links ≡ []
+HasNoLinks task s = s.links ≡ []
 
 -- the store failed
 abbrev pub FailsStore : Result Outcome Stop → Type 0

@@ -30,19 +30,12 @@ record ArePiped (r : Run) (W : Content) (cs : List Command) : Type 0 where
 by_task : (r : Run) (W : Content) (cs : List Command) (t : Task)
     → AsksFor r.words (λ job. IsTaskOf anything job t) → Tells t W cs r.streams
     → DidNoPipe r ⊎ ArePiped r W cs
-by_task r W cs (task.Change c) asked told = inl (inr (task.Change c, asked, tt))
-by_task r W cs (task.Give rights now) asked told = inl (inr (task.Give rights now, asked, tt))
-by_task r W cs (task.Settle rights now) asked told = inl (inr (task.Settle rights now, asked, tt))
-by_task r W cs (task.Sweep who now giver) asked told = inl (inr (task.Sweep who now giver, asked, tt))
-by_task r W cs (task.Batch who now digits) asked told = inl (inr (task.Batch who now digits, asked, tt))
 by_task r W cs (task.Pipe now digits) asked (xs, are, heard, (fault, sent, went)) = inr (record {
   xs = xs;
   are = are;
   piped = record { now = now; digits = digits; heard = heard; fault = fault; sent = sent; went = went };
 })
-by_task r W cs (task.Serve port connections listed) asked told =
-    inl (inr (task.Serve port connections listed, asked, tt))
-by_task r W cs (task.Show it) asked told = inl (inr (task.Show it, asked, tt))
+by_task r W cs t asked told = inl (inr (t, asked, tt))
 
 piped_of : (V : Content) (c : Option Command) (r : Run) (w : Work V c r)
     → DidNoPipe r ⊎ ArePiped r w.opened w.answered

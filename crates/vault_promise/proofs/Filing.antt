@@ -40,7 +40,10 @@ use Rattle.vault_words.specs.Jobs.{IsAsked}
 use Rattle.vault_words.specs.declared.jobs.Job.{Job}
 use Rattle.vault_words.specs.declared.jobs.Job.TheVariants as job
 use Rattle.vault_app.specs.Jobs.{Does as DoesWords, DoesPlan, IsChecked, IsMoved}
-use Rattle.vault_app.specs.Plans.{IsPlanOf, IsProperPlan, IsServeOf, IsTaskOf, without_end}
+use Rattle.vault_app.specs.Commands.Serve.{IsServeOf, without_end}
+use Rattle.vault_app.specs.Plans.{IsPlanOf, IsProperPlan, IsTaskOf, saying}
+use Rattle.vault_app.specs.Saying.{IsBeside, IsPlanFor, IsTaskFor, OfCheck, OfMove, OfTask, OfTrial, Purpose}
+use Rattle.vault_app.specs.Saying.{path_of}
 use Rattle.vault_app.specs.Asked.{AsksFor, Unasked}
 use Rattle.vault_app.specs.Values.{AreValues}
 use Rattle.vault_app.specs.World.{World, anything, world_of}
@@ -58,7 +61,7 @@ use Rattle.vault_promise.proofs.Piping.{pipe_works}
 use Rattle.vault_promise.proofs.Settling.{listed_serve_works, settle_works, show_works}
 use Rattle.vault_promise.proofs.Sweeping.{timed_sweep_works}
 use Rattle.vault_promise.proofs.Working.{Works, change_works, give_works}
-use Rattle.vault_promise.specs.Runs.{AreOf, Bear, Comes, EveryRunIsOne, IsAside, IsFound, IsRun, Leaves}
+use Rattle.vault_promise.specs.Runs.{AreOf, Bear, Comes, EveryRunIsOne, IsFound, IsRun, Leaves}
 use Rattle.vault_promise.specs.Runs.{file_of, Rests, Run, Work, kept_by, perhaps, undecided_by}
 use Rattle.vault_promise.specs.Told.{IsQuiet, Tells}
 
@@ -90,12 +93,16 @@ works tells (task.Serve port connections listed) w V b sound s broken r unread u
 works tells (task.Show it) w V b sound s broken r unread unsent still quiet values F fin h =
     show_works w V b sound s unsent quiet F it broken r fin h.works
 
+-- what a job asks for that has this plan and is for this
+abbrev FitsFor : Purpose → Plan → Type 0
+FitsFor it (plan.Trial t) = IsBeside it
+FitsFor it (plan.Check path) = IsBeside it
+FitsFor it (plan.Migrate path) = IsBeside it
+FitsFor it (plan.Do path t) = IsTaskFor it anything t
+
 -- what a job with this plan asks for
 abbrev Fits : Job → Plan → Type 0
-Fits job (plan.Trial t) = IsAside job
-Fits job (plan.Check path) = IsAside job
-Fits job (plan.Migrate path) = IsAside job
-Fits job (plan.Do path t) = IsTaskOf anything job t
+Fits job p = FitsFor (saying job).purpose p
 
 -- a task at a moment that was told, of a text that was, is one whatever may be told
 any_moment : (tells : Turns) (fixed : Option ℕ) (now : ℕ) → IsMomentOf tells fixed now
@@ -103,7 +110,6 @@ any_moment : (tells : Turns) (fixed : Option ℕ) (now : ℕ) → IsMomentOf tel
 any_moment tells fixed now is = (is.0, λ free. tt)
 
 any_task : (world : World) (job : Job) (t : Task) → IsTaskOf world job t → IsTaskOf anything job t
-any_task world (job.Trial j) t is = is
 any_task world (job.Merchant j) t (name, (now, moment, same)) =
     (name, (now, any_moment world.tells j.now now moment, same))
 any_task world (job.Grant j) t (names, (right, now, word, moment, same)) =
@@ -112,8 +118,6 @@ any_task world (job.Withdraw j) t (names, (right, now, word, moment, same)) =
     (names, (right, now, word, any_moment world.tells j.now now moment, same))
 any_task world (job.Rights j) t (rows, now, (text, document, said, is, proper, listed), moment, same) =
     (rows, now, (text, document, tt, is, proper, listed), any_moment world.tells j.now now moment, same)
-any_task world (job.Pipe j) t is = is
-any_task world (job.Batch j) t is = is
 any_task world (job.Serve j) t is = any_serve j.port (unwrap_or j.connections without_end) j.rights is
   where
     any_serve : (port connections : ℕ) (o : Option (Bor (List ℕ))) → IsServeOf world port connections o t
@@ -124,29 +128,17 @@ any_task world (job.Serve j) t is = any_serve j.port (unwrap_or j.connections wi
         (rows, now, (text, document, tt, is, proper, listed), any_moment world.tells None now moment, same)
 any_task world (job.Sweep j) t (names, (who, now, caller, merchant, moment, same)) =
     (names, (who, now, caller, merchant, any_moment world.tells j.now now moment, same))
-any_task world (job.List j) t is = is
-any_task world (job.Check j) t is = is
-any_task world (job.Migrate j) t is = is
+any_task world job t is = is
+
+fits_for : (world : World) (it : Purpose) → ((t : Task) → IsTaskFor it world t → IsTaskFor it anything t)
+    → (p : Plan) → IsPlanFor it world p → FitsFor it p
+fits_for world (OfTrial Is) any p (t, is, same) = subst (FitsFor (OfTrial Is)) (sym same) tt
+fits_for world (OfCheck path) any p same = subst (FitsFor (OfCheck path)) (sym same) tt
+fits_for world (OfMove path) any p same = subst (FitsFor (OfMove path)) (sym same) tt
+fits_for world (OfTask path Is) any p (t, is, same) = subst (FitsFor (OfTask path Is)) (sym same) (any t is)
 
 fits : (world : World) (job : Job) (p : Plan) → IsPlanOf world job p → Fits job p
-fits world (job.Trial j) p (t, is, same) = subst (Fits (job.Trial j)) (sym same) tt
-fits world (job.Merchant j) p (t, is, same) =
-    subst (Fits (job.Merchant j)) (sym same) (any_task world (job.Merchant j) t is)
-fits world (job.Grant j) p (t, is, same) =
-    subst (Fits (job.Grant j)) (sym same) (any_task world (job.Grant j) t is)
-fits world (job.Withdraw j) p (t, is, same) =
-    subst (Fits (job.Withdraw j)) (sym same) (any_task world (job.Withdraw j) t is)
-fits world (job.Rights j) p (t, is, same) =
-    subst (Fits (job.Rights j)) (sym same) (any_task world (job.Rights j) t is)
-fits world (job.Pipe j) p (t, is, same) = subst (Fits (job.Pipe j)) (sym same) is
-fits world (job.Batch j) p (t, is, same) = subst (Fits (job.Batch j)) (sym same) is
-fits world (job.Serve j) p (t, is, same) =
-    subst (Fits (job.Serve j)) (sym same) (any_task world (job.Serve j) t is)
-fits world (job.Sweep j) p (t, is, same) =
-    subst (Fits (job.Sweep j)) (sym same) (any_task world (job.Sweep j) t is)
-fits world (job.List j) p (t, is, same) = subst (Fits (job.List j)) (sym same) is
-fits world (job.Check j) p same = subst (Fits (job.Check j)) (sym same) tt
-fits world (job.Migrate j) p same = subst (Fits (job.Migrate j)) (sym same) tt
+fits world job = fits_for world (saying job).purpose (any_task world job)
 
 -- the bytes that the files of a plan hold
 abbrev IsAt : World → Image → Plan → Type 0
@@ -155,30 +147,18 @@ IsAt world image (plan.Check path) = world.holds path.now image
 IsAt world image (plan.Migrate path) = world.holds path.now image
 IsAt world image (plan.Do path t) = world.holds path.now image
 
+found_for : (world : World) (image : Image) (it : Purpose) (p : Plan) → IsPlanFor it world p
+    → ((path : List ℕ) → path_of it ≡ Some path → world.holds path image) → IsAt world image p
+found_for world image (OfTrial Is) p (t, is, same) at = subst (IsAt world image) (sym same) tt
+found_for world image (OfCheck path) p same at = subst (IsAt world image) (sym same) (at path.now refl)
+found_for world image (OfMove path) p same at = subst (IsAt world image) (sym same) (at path.now refl)
+found_for world image (OfTask path Is) p (t, is, same) at =
+    subst (IsAt world image) (sym same) (at path.now refl)
+
 -- are those at the path of its job
 found_at : (world : World) (image : Image) (job : Job) (p : Plan) → IsPlanOf world job p
     → ((path : List ℕ) → file_of job ≡ Some path → world.holds path image) → IsAt world image p
-found_at world image (job.Trial j) p (t, is, same) at = subst (IsAt world image) (sym same) tt
-found_at world image (job.Merchant j) p (t, is, same) at =
-    subst (IsAt world image) (sym same) (at j.file.now refl)
-found_at world image (job.Grant j) p (t, is, same) at =
-    subst (IsAt world image) (sym same) (at j.given.file.now refl)
-found_at world image (job.Withdraw j) p (t, is, same) at =
-    subst (IsAt world image) (sym same) (at j.file.now refl)
-found_at world image (job.Rights j) p (t, is, same) at =
-    subst (IsAt world image) (sym same) (at j.file.now refl)
-found_at world image (job.Pipe j) p (t, is, same) at =
-    subst (IsAt world image) (sym same) (at j.file.now refl)
-found_at world image (job.Batch j) p (t, is, same) at =
-    subst (IsAt world image) (sym same) (at j.file.now refl)
-found_at world image (job.Serve j) p (t, is, same) at =
-    subst (IsAt world image) (sym same) (at j.file.now refl)
-found_at world image (job.Sweep j) p (t, is, same) at =
-    subst (IsAt world image) (sym same) (at j.file.now refl)
-found_at world image (job.List j) p (t, is, same) at =
-    subst (IsAt world image) (sym same) (at j.file.now refl)
-found_at world image (job.Check j) p same at = subst (IsAt world image) (sym same) (at j.file.now refl)
-found_at world image (job.Migrate j) p same at = subst (IsAt world image) (sym same) (at j.file.now refl)
+found_at world image job = found_for world image (saying job).purpose
 
 -- words that ask for no job
 unasked : (words : List Text) (end : Ending) (unread unsent quiet : Type 0) → (unsent → quiet)

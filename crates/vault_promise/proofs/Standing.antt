@@ -166,10 +166,6 @@ links_stand (Some x ∷ xs) W cs Later stand (first, more, is, here, rest) = (
 -- what went out of a task stands
 texts_stand : (t : Task) (W : Content) (cs : List Command) (s : Streams) (Later : Command → Reply → Type 0)
     → TokensStand (AnswersIn W cs) Later → Tells t W cs s → TellsStanding t W s Later
-texts_stand (task.Change c) W cs s Later stand told = tt
-texts_stand (task.Give rights now) W cs s Later stand told = tt
-texts_stand (task.Settle rights now) W cs s Later stand told = tt
-texts_stand (task.Sweep who now giver) W cs s Later stand told = tt
 texts_stand (task.Batch who now digits) W cs s Later stand (xs, asked, are, read, (sent, went)) = record {
   rows = xs;
   read = read;
@@ -200,7 +196,7 @@ texts_stand (task.Serve port connections (Some it)) W cs s Later stand (inr (mor
       is ∙ ap (λ ds. changes ++ ds) same ∙ sym (append_assoc changes front (command_of a ∷ behind)),
       subst (λ U. reply U (command_of a) ≡ Token token expires) (sym (run_append changes front W)) replied,
     )) told
-texts_stand (task.Show it) W cs s Later stand told = tt
+texts_stand t W cs s Later stand told = tt
 
 stand_in : HistoriesLast → (V : Content) (c : Option Command) (rs : List Run) (end : Image)
     (come : Come V c rs end) → Sound V → IsHistory V (history V c rs end come) → Stand V c rs end come

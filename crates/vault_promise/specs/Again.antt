@@ -10,8 +10,7 @@ use Rattle.vault_core.specs.declared.reply.Reply.{Reply}
 use Rattle.vault_http.specs.Exchanges.{Exchange, last_text, texts, vault_after}
 use Rattle.vault_wire.specs.declared.fault.WireFault.{WireFault}
 use Rattle.vault_jobs.specs.declared.task.Task.{Task}
-use Rattle.vault_jobs.specs.declared.task.Task.TheVariants.{Change, Give, Settle, Sweep, Batch, Pipe, Serve}
-use Rattle.vault_jobs.specs.declared.task.Task.TheVariants.{Show}
+use Rattle.vault_jobs.specs.declared.task.Task.TheVariants.{Pipe}
 use Rattle.vault_app.specs.Asked.{AsksFor}
 use Rattle.vault_app.specs.Plans.{IsTaskOf}
 use Rattle.vault_app.specs.World.{anything}
@@ -21,14 +20,8 @@ use Rattle.vault_promise.specs.Told.{AreHeard}
 
 -- the task answers no messages of the input
 abbrev pub IsNoPipe : Task → Type 0
-IsNoPipe (Change c) = Unit {0}
-IsNoPipe (Give rights now) = Unit {0}
-IsNoPipe (Settle rights now) = Unit {0}
-IsNoPipe (Sweep who now giver) = Unit {0}
-IsNoPipe (Batch who now digits) = Unit {0}
 IsNoPipe (Pipe now digits) = ⊥
-IsNoPipe (Serve port connections listed) = Unit {0}
-IsNoPipe (Show it) = Unit {0}
+IsNoPipe task = Unit {0}
 
 -- the run answered no messages of its input: it rests, or its words ask for another task
 abbrev pub DidNoPipe : Run → Type 0

@@ -29,12 +29,10 @@ use Rattle.vault_jobs.specs.declared.task.Task.{Task}
 use Rattle.vault_words.specs.Commands.{program_app}
 use Rattle.vault_words.specs.Jobs.{IsAsked}
 use Rattle.vault_words.specs.declared.jobs.Job.{Job}
-use Rattle.vault_words.specs.declared.jobs.Job.TheVariants.{Trial, Merchant, Grant, Withdraw, Rights, Pipe}
-use Rattle.vault_words.specs.declared.jobs.Job.TheVariants.{Batch, Serve, Sweep, List as Listing, Check}
-use Rattle.vault_words.specs.declared.jobs.Job.TheVariants.{Migrate}
 use Rattle.vault_app.specs.Jobs.{RunsAs}
-use Rattle.vault_app.specs.Plans.{EndsPlanless, IsTaskOf}
+use Rattle.vault_app.specs.Plans.{EndsPlanless, IsTaskOf, saying}
 use Rattle.vault_app.specs.Asked.{AsksFor}
+use Rattle.vault_app.specs.Saying.{IsBeside, path_of}
 use Rattle.vault_app.specs.World.{anything, world_of}
 use Rattle.vault_app.specs.declared.ending.Ending.{Ending}
 use Rattle.vault_app.specs.declared.ending.Ending.TheVariants.{Done, NotOpened}
@@ -86,18 +84,7 @@ ShownIsLeft {D} g = (image : Image) (left : FileStore D g) → IsClean (files.vi
 
 -- the job asks for nothing of the vault in a file: it is a trial, a check or a move to the newest schema
 abbrev pub IsAside : Job → Type 0
-IsAside (Trial j) = Unit {0}
-IsAside (Merchant j) = ⊥
-IsAside (Grant j) = ⊥
-IsAside (Withdraw j) = ⊥
-IsAside (Rights j) = ⊥
-IsAside (Pipe j) = ⊥
-IsAside (Batch j) = ⊥
-IsAside (Serve j) = ⊥
-IsAside (Sweep j) = ⊥
-IsAside (Listing j) = ⊥
-IsAside (Check j) = Unit {0}
-IsAside (Migrate j) = Unit {0}
+IsAside job = IsBeside (saying job).purpose
 
 -- A run rests: it ended without a plan, by a name, a right, a list, a moment or its words, or with help; or
 -- its file wasn't opened; and nothing went out but help. Or its words ask for a trial, a check or a move.
@@ -143,18 +130,7 @@ IsRun r next = (V : Content) (c : Option Command) → Sound V → IfSome c IsPro
 
 -- the path of the file with which a job works, if it works with one
 abbrev pub file_of : Job → Option (List ℕ)
-file_of (Trial j) = None
-file_of (Merchant j) = Some j.file.now
-file_of (Grant j) = Some j.given.file.now
-file_of (Withdraw j) = Some j.file.now
-file_of (Rights j) = Some j.file.now
-file_of (Pipe j) = Some j.file.now
-file_of (Batch j) = Some j.file.now
-file_of (Serve j) = Some j.file.now
-file_of (Sweep j) = Some j.file.now
-file_of (Listing j) = Some j.file.now
-file_of (Check j) = Some j.file.now
-file_of (Migrate j) = Some j.file.now
+file_of job = path_of (saying job).purpose
 
 -- such bytes are held at the path for which these words ask, if they ask for one
 abbrev pub IsFound : List Text → (List ℕ → Type 0) → Type 0

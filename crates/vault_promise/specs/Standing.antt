@@ -23,8 +23,7 @@ use Rattle.vault_listen.specs.Peers.{Link}
 use Rattle.vault_jobs.specs.Changes.{changes_at, rights_of}
 use Rattle.vault_jobs.specs.Streams.{Streams}
 use Rattle.vault_jobs.specs.declared.task.Task.{Task}
-use Rattle.vault_jobs.specs.declared.task.Task.TheVariants.{Change, Give, Settle, Sweep, Batch, Pipe, Serve}
-use Rattle.vault_jobs.specs.declared.task.Task.TheVariants.{Show}
+use Rattle.vault_jobs.specs.declared.task.Task.TheVariants.{Batch, Pipe, Serve}
 use Rattle.vault_promise.specs.Runs.{AreOf, Come, Run, Runs, Work, before}
 use Rattle.vault_promise.specs.Told.{AreHeard, AreRead, streams_of}
 
@@ -82,16 +81,12 @@ LinksStand W (Some x ∷ xs) Later = (it : TextsStand None None W (streams_of x)
 
 -- so of a run that answered the messages or the rows of its input, or those of connections
 abbrev pub TellsStanding : Task → Content → Streams → (Command → Reply → Type 0) → Type 0
-TellsStanding (Change c) W s Later = Unit {0}
-TellsStanding (Give rights now) W s Later = Unit {0}
-TellsStanding (Settle rights now) W s Later = Unit {0}
-TellsStanding (Sweep who now giver) W s Later = Unit {0}
 TellsStanding (Batch who now digits) W s Later = LinesStand now digits W s Later
 TellsStanding (Pipe now digits) W s Later = TextsStand now digits W s Later
 TellsStanding (Serve port connections None) W s Later = LinksStand W s.links Later
 TellsStanding (Serve port connections (Some it)) W s Later =
     LinksStand (run (changes_at true it.now it.rights.items (rights_of W)) W) s.links Later
-TellsStanding (Show it) W s Later = Unit {0}
+TellsStanding task W s Later = Unit {0}
 
 -- and of each of the runs, with those after it
 abbrev pub Stand : (V : Content) (c : Option Command) (rs : List Run) (end : Image) → Come V c rs end → Type 0

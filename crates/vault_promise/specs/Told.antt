@@ -70,10 +70,8 @@ AllDone (Settle rights now) V cs =
     (cs ≡ changes_at true now rights.items (rights_of V)) × AreDone (length cs) cs V
 AllDone (Sweep who now giver) V cs = MaySweep giver V who.merchant now
     × ((tokens : List Bytes) × (cs ≡ purges_at who now tokens) × (left_dead who now tokens V ≡ []))
-AllDone (Batch who now digits) V cs = Unit {0}
-AllDone (Pipe now digits) V cs = Unit {0}
-AllDone (Serve port connections listed) V cs = Unit {0}
 AllDone (Show it) V cs = cs ≡ []
+AllDone task V cs = Unit {0}
 
 -- Messages answered commands from the vault V: they were read, and what went out are the texts that answer
 -- them, or the first bytes of these and of the text that answers a fault.

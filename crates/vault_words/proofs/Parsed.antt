@@ -13,18 +13,18 @@ use Rattle.clap.specs.declared.error.Error.{Error}
 use Rattle.clap.specs.declared.error.kind.ErrorKind.{ErrorKind}
 use Rattle.clap.specs.declared.parser.matches.ArgMatches.{ArgMatches}
 use Rattle.clap.specs.declared.parser.matches.ArgMatches.TheViews.{out-ArgMatches, out-SubCommand}
-use Rattle.vault_words.specs.Commands.{AsksBatch, AsksPipe, AsksTrial, program_app}
-use Rattle.vault_words.specs.Jobs.{Asks, AsksBy, Explains, StandsFor}
+use Rattle.vault_words.specs.Commands.Batch.{AsksBatch}
+use Rattle.vault_words.specs.Commands.Pipe.{AsksPipe}
+use Rattle.vault_words.specs.Commands.Trial.{AsksTrial}
+use Rattle.vault_words.specs.Jobs.{AsksBy, Explains, StandsFor}
+use Rattle.vault_words.specs.Commands.{Asks, program_app}
 use Rattle.vault_words.specs.Values.{Finds}
 use Rattle.vault_words.specs.declared.commands.batch.BatchJob.{BatchJob}
 use Rattle.vault_words.specs.declared.commands.pipe.PipeJob.{PipeJob}
 use Rattle.vault_words.specs.declared.commands.trial.TrialJob.{TrialJob}
 use Rattle.vault_words.specs.Why.{HasFewDigits}
 use Rattle.vault_words.specs.declared.jobs.Job.{Job}
-use Rattle.vault_words.specs.declared.jobs.Job.TheVariants.{Trial, Merchant, Grant, Withdraw}
-use Rattle.vault_words.specs.declared.jobs.Job.TheVariants.{Rights, Pipe, Batch, Serve, Sweep, Check}
-use Rattle.vault_words.specs.declared.jobs.Job.TheVariants.{List as ListOf}
-use Rattle.vault_words.specs.declared.jobs.Job.TheVariants.{Migrate}
+use Rattle.vault_words.specs.declared.jobs.Job.TheVariants.{Trial, Pipe, Batch}
 use Rattle.vault_words.specs.declared.jobs.JobFault.{JobFault}
 use Rattle.vault_words.specs.declared.jobs.JobFault.TheVariants.{Help, Version, BadWords, Memory}
 
@@ -57,8 +57,8 @@ by_met met name rows (Err fault) e h = λ job asked.
 by_met met name rows (Ok job) e h = (name, rows, e, h)
 
 -- one text isn't two
-differ : (name a b : Text) → bytes_eq a a ≡ true → bytes_eq a b ≡ false → name ≡ a → name ≡ b → ⊥
-differ name a b one two is also =
+differ : (name a b : Text) → name ≡ a → name ≡ b → bytes_eq a a ≡ true → bytes_eq a b ≡ false → ⊥
+differ name a b is also one two =
     let same : bytes_eq a a ≡ bytes_eq a b = ap (bytes_eq a) (sym is ∙ also) in
     absurd (cc (same, one, two))
 
@@ -66,56 +66,17 @@ differ name a b one two is also =
 pub no_trial : (name : Text) (rows : List Row) → name ≡ codes "trial"
     → ((job : TrialJob) → ¬ (AsksTrial rows job)) → (job : Job) → ¬ (Asks name rows job)
 no_trial name rows is never (Trial job) h = never job h.1
-no_trial name rows is never (Merchant job) h =
-    differ name (codes "trial") (codes "merchant") refl refl is h.0
-no_trial name rows is never (Grant job) h = differ name (codes "trial") (codes "grant") refl refl is h.0
-no_trial name rows is never (Withdraw job) h =
-    differ name (codes "trial") (codes "withdraw") refl refl is h.0
-no_trial name rows is never (Rights job) h =
-    differ name (codes "trial") (codes "rights") refl refl is h.0
-no_trial name rows is never (Pipe job) h = differ name (codes "trial") (codes "pipe") refl refl is h.0
-no_trial name rows is never (Batch job) h = differ name (codes "trial") (codes "batch") refl refl is h.0
-no_trial name rows is never (Serve job) h = differ name (codes "trial") (codes "serve") refl refl is h.0
-no_trial name rows is never (Sweep job) h = differ name (codes "trial") (codes "sweep") refl refl is h.0
-no_trial name rows is never (ListOf job) h = differ name (codes "trial") (codes "list") refl refl is h.0
-no_trial name rows is never (Check job) h = differ name (codes "trial") (codes "check") refl refl is h.0
-no_trial name rows is never (Migrate job) h = differ name (codes "trial") (codes "migrate") refl refl is h.0
+no_trial name rows is never job h = differ name (codes "trial") _ is h.0 refl refl
 
 pub no_pipe : (name : Text) (rows : List Row) → name ≡ codes "pipe"
     → ((job : PipeJob) → ¬ (AsksPipe rows job)) → (job : Job) → ¬ (Asks name rows job)
-no_pipe name rows is never (Trial job) h = differ name (codes "pipe") (codes "trial") refl refl is h.0
-no_pipe name rows is never (Merchant job) h =
-    differ name (codes "pipe") (codes "merchant") refl refl is h.0
-no_pipe name rows is never (Grant job) h = differ name (codes "pipe") (codes "grant") refl refl is h.0
-no_pipe name rows is never (Withdraw job) h =
-    differ name (codes "pipe") (codes "withdraw") refl refl is h.0
-no_pipe name rows is never (Rights job) h = differ name (codes "pipe") (codes "rights") refl refl is h.0
 no_pipe name rows is never (Pipe job) h = never job h.1
-no_pipe name rows is never (Batch job) h = differ name (codes "pipe") (codes "batch") refl refl is h.0
-no_pipe name rows is never (Serve job) h = differ name (codes "pipe") (codes "serve") refl refl is h.0
-no_pipe name rows is never (Sweep job) h = differ name (codes "pipe") (codes "sweep") refl refl is h.0
-no_pipe name rows is never (ListOf job) h = differ name (codes "pipe") (codes "list") refl refl is h.0
-no_pipe name rows is never (Check job) h = differ name (codes "pipe") (codes "check") refl refl is h.0
-no_pipe name rows is never (Migrate job) h = differ name (codes "pipe") (codes "migrate") refl refl is h.0
+no_pipe name rows is never job h = differ name (codes "pipe") _ is h.0 refl refl
 
 pub no_batch : (name : Text) (rows : List Row) → name ≡ codes "batch"
     → ((job : BatchJob) → ¬ (AsksBatch rows job)) → (job : Job) → ¬ (Asks name rows job)
-no_batch name rows is never (Trial job) h =
-    differ name (codes "batch") (codes "trial") refl refl is h.0
-no_batch name rows is never (Merchant job) h =
-    differ name (codes "batch") (codes "merchant") refl refl is h.0
-no_batch name rows is never (Grant job) h = differ name (codes "batch") (codes "grant") refl refl is h.0
-no_batch name rows is never (Withdraw job) h =
-    differ name (codes "batch") (codes "withdraw") refl refl is h.0
-no_batch name rows is never (Rights job) h =
-    differ name (codes "batch") (codes "rights") refl refl is h.0
-no_batch name rows is never (Pipe job) h = differ name (codes "batch") (codes "pipe") refl refl is h.0
 no_batch name rows is never (Batch job) h = never job h.1
-no_batch name rows is never (Serve job) h = differ name (codes "batch") (codes "serve") refl refl is h.0
-no_batch name rows is never (Sweep job) h = differ name (codes "batch") (codes "sweep") refl refl is h.0
-no_batch name rows is never (ListOf job) h = differ name (codes "batch") (codes "list") refl refl is h.0
-no_batch name rows is never (Check job) h = differ name (codes "batch") (codes "check") refl refl is h.0
-no_batch name rows is never (Migrate job) h = differ name (codes "batch") (codes "migrate") refl refl is h.0
+no_batch name rows is never job h = differ name (codes "batch") _ is h.0 refl refl
 
 -- the program's commands are plain enough for clap to say all of a parse
 is_plain : is_simple_and_free program_app ≡ true

@@ -1,33 +1,13 @@
 -- The job that words ask for.
-use Rattle.std.specs.Prelude.{◌≡◌, ◌≢◌, ◌⊎◌, List, [], ◌∷◌, Option, Some, codes, string_bytes}
+use Rattle.std.specs.Prelude.{◌≡◌, ◌≢◌, ◌⊎◌, List, [], ◌∷◌, Option, Some, string_bytes}
 use Rattle.clap.specs.Words.{App, Row, Text, IsAmong, fault_of, subcommand_of}
 use Rattle.clap.specs.declared.error.kind.ErrorKind.{ErrorKind}
 use Rattle.clap.specs.declared.error.kind.ErrorKind.TheVariants.{DisplayHelp, DisplayVersion, OutOfMemory}
-use Rattle.vault_words.specs.Commands.{AsksBatch, AsksCheck, AsksGrant, AsksMerchant, AsksMigrate, AsksPipe}
-use Rattle.vault_words.specs.Commands.{AsksList, AsksRight, AsksRights, AsksServe, AsksSweep, AsksTrial}
+use Rattle.vault_words.specs.Commands.{Asks}
 use Rattle.vault_words.specs.Why.{HasFewDigits}
 use Rattle.vault_words.specs.declared.jobs.Job.{Job}
-use Rattle.vault_words.specs.declared.jobs.Job.TheVariants.{Trial, Merchant, Grant, Withdraw}
-use Rattle.vault_words.specs.declared.jobs.Job.TheVariants.{Rights, Pipe, Batch, Serve, Sweep, Check}
-use Rattle.vault_words.specs.declared.jobs.Job.TheVariants.{List as ListOf}
-use Rattle.vault_words.specs.declared.jobs.Job.TheVariants.{Migrate}
 use Rattle.vault_words.specs.declared.jobs.JobFault.{JobFault}
 use Rattle.vault_words.specs.declared.jobs.JobFault.TheVariants.{Help, Version, BadWords, Memory}
-
--- the subcommand of this name, with these values, asks for the job
-abbrev pub Asks : Text → List Row → Job → Type 0
-Asks name rows (Trial job) = (name ≡ codes "trial") × AsksTrial rows job
-Asks name rows (Merchant job) = (name ≡ codes "merchant") × AsksMerchant rows job
-Asks name rows (Grant job) = (name ≡ codes "grant") × AsksGrant rows job
-Asks name rows (Withdraw job) = (name ≡ codes "withdraw") × AsksRight rows job
-Asks name rows (Rights job) = (name ≡ codes "rights") × AsksRights rows job
-Asks name rows (Pipe job) = (name ≡ codes "pipe") × AsksPipe rows job
-Asks name rows (Batch job) = (name ≡ codes "batch") × AsksBatch rows job
-Asks name rows (Serve job) = (name ≡ codes "serve") × AsksServe rows job
-Asks name rows (Sweep job) = (name ≡ codes "sweep") × AsksSweep rows job
-Asks name rows (ListOf job) = (name ≡ codes "list") × AsksList rows job
-Asks name rows (Check job) = (name ≡ codes "check") × AsksCheck rows job
-Asks name rows (Migrate job) = (name ≡ codes "migrate") × AsksMigrate rows job
 
 -- the subcommand that was met, with its values, asks for the job
 abbrev pub AsksBy : Option (Text × List Row) → Job → Type 0

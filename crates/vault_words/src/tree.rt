@@ -1,24 +1,75 @@
-//! The tree of the program's commands.
+//! The tree of the program's commands, and the job of each of its subcommands.
 ghost use Rattle.std.specs.Prelude.{IfOk};
-ghost use Rattle.clap.specs.Words.{App, with_subcommand};
-ghost use Rattle.vault_words.specs.Commands.{root_app, program_app};
+ghost use Rattle.clap.specs.Words.{App, found_of, rows_of, with_subcommand};
+ghost use Rattle.vault_words.specs.Commands.{Asks, program_app, root_app};
 ghost use Rattle.vault_words.specs.Rules.{IsApp};
+ghost use Rattle.vault_words.specs.Values.{Finds};
 
 use crate::args::command;
-use crate::commands::batch::batch;
-use crate::commands::check::check;
-use crate::commands::list::list;
-use crate::commands::merchant::merchant;
-use crate::commands::migrate::migrate;
-use crate::commands::pipe::pipe;
-use crate::commands::rights::{grant, withdraw};
-use crate::commands::rights_file::rights;
-use crate::commands::serve::serve;
-use crate::commands::sweep::sweep;
-use crate::commands::trial::trial;
-use crate::jobs::VERSION;
-use clap::Command;
+use crate::commands::batch::{BatchJob, batch};
+use crate::commands::check::{CheckJob, check};
+use crate::commands::list::{ListJob, list};
+use crate::commands::merchant::{MerchantJob, merchant};
+use crate::commands::migrate::{MigrateJob, migrate};
+use crate::commands::pipe::{PipeJob, pipe};
+use crate::commands::rights::{GrantJob, RightJob, grant, withdraw};
+use crate::commands::rights_file::{RightsFileJob, rights};
+use crate::commands::serve::{ServeJob, serve};
+use crate::commands::sweep::{SweepJob, sweep};
+use crate::commands::trial::{TrialJob, trial};
+use crate::jobs::{Job, VERSION};
+use crate::values::BadValue;
+use clap::{ArgMatches, Command};
 use std::alloc::{AllocError, Global};
+
+/// The subcommands, in their order in help: of each its word, its command, the struct of its values, and its
+/// job. The macro that is named makes something of all of them.
+macro_rules! subcommands {
+    ($make:ident, $($given:ident),+) => {
+        $make! {
+            $($given),+;
+            "trial" trial TrialJob Trial,
+            "merchant" merchant MerchantJob Merchant,
+            "grant" grant GrantJob Grant,
+            "withdraw" withdraw RightJob Withdraw,
+            "rights" rights RightsFileJob Rights,
+            "pipe" pipe PipeJob Pipe,
+            "batch" batch BatchJob Batch,
+            "serve" serve ServeJob Serve,
+            "sweep" sweep SweepJob Sweep,
+            "list" list ListJob List,
+            "check" check CheckJob Check,
+            "migrate" migrate MigrateJob Migrate,
+        }
+    };
+}
+
+/// The program's command with these subcommands.
+macro_rules! with_each {
+    ($alloc:ident; $($word:literal $command:ident $values:ident $job:ident,)+) => {{
+        let tree = Ok(root($alloc));
+        $(let tree = with(tree, $command($alloc));)+
+        tree
+    }};
+}
+
+/// The job of the one of these subcommands that has this name. The borrow rules don't cover `?` and `map` on
+/// most of the structs of values, so it is a `match`.
+macro_rules! named {
+    ($name:ident, $matches:ident; $($word:literal $command:ident $values:ident $job:ident,)+) => {
+        match $name {
+            $($word => match $values::read($matches) {
+                Ok(job) => Ok(Job::$job(job)),
+                Err(fault) => Err(fault),
+            },)+
+            given => Err(BadValue {
+                id: "command",
+                given,
+                wanted: "a command",
+            }),
+        }
+    };
+}
 
 /// The program's command without its subcommands, one of which must be named; it has a version. With no word
 /// at all its help is shown.
@@ -46,16 +97,12 @@ fn with<'a>(
 pub(crate) fn tree<'a>(alloc: Global) -> Result<Command<'a>, AllocError>
     ensures { IfOk result (λ c. IsApp c program_app) }
 {
-    let tree = with(Ok(root(alloc)), trial(alloc));
-    let tree = with(tree, merchant(alloc));
-    let tree = with(tree, grant(alloc));
-    let tree = with(tree, withdraw(alloc));
-    let tree = with(tree, rights(alloc));
-    let tree = with(tree, pipe(alloc));
-    let tree = with(tree, batch(alloc));
-    let tree = with(tree, serve(alloc));
-    let tree = with(tree, sweep(alloc));
-    let tree = with(tree, list(alloc));
-    let tree = with(tree, check(alloc));
-    with(tree, migrate(alloc))
+    subcommands!(with_each, alloc)
+}
+
+/// The job of the subcommand of this name.
+pub(crate) fn job_of<'a>(name: &'a str, matches: &ArgMatches<'a>) -> Result<Job<'a>, BadValue<'a>>
+    ensures { Finds result (Asks name.entry.now (rows_of (found_of matches.now))) }
+{
+    subcommands!(named, name, matches)
 }

@@ -1,7 +1,7 @@
 //! `check`: the whole check of a file.
 ghost use Rattle.std.specs.Prelude.{◌≡◌};
 ghost use Rattle.vault_wire.specs.Watching.{inner_of, is_stopped};
-ghost use Rattle.vault_app.specs.Plans.{TellsSizes, beside};
+ghost use Rattle.vault_app.specs.Commands.Check.{TellsSizes, beside};
 
 use crate::ending::Ending;
 use crate::line::end_with;

@@ -2,7 +2,7 @@
 ghost use Rattle.std.specs.Prelude.{◌≡◌, IfOk};
 ghost use Rattle.vault_schema.specs.Versions.{newest, number_of};
 ghost use Rattle.vault_wire.specs.Watching.{inner_of, is_stopped};
-ghost use Rattle.vault_app.specs.Plans.{TellsMoved};
+ghost use Rattle.vault_app.specs.Commands.Migrate.{TellsMoved};
 
 use crate::ending::Ending;
 use crate::line::end_with;

@@ -2,7 +2,8 @@
 ghost use Rattle.std.specs.Prelude.{◌≡◌, ◌≢◌, IfErr, IfOk, MatchResult};
 ghost use Rattle.vault_words.specs.declared.jobs.Job.{Job};
 ghost use Rattle.vault_app.specs.World.{said};
-ghost use Rattle.vault_app.specs.Plans.{EndsBefore, IsTaskOf, rights_task};
+ghost use Rattle.vault_app.specs.Plans.{EndsBefore, IsTaskOf};
+ghost use Rattle.vault_app.specs.Commands.RightsFile.{rights_task};
 ghost use Rattle.vault_app.specs.Rights.{IsListed, IsUnlisted};
 ghost use Rattle.vault_app.specs.Values.{AreValues};
 

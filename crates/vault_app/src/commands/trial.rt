@@ -5,7 +5,8 @@ ghost use Rattle.vault_wire.specs.Watching.{inner_of};
 ghost use Rattle.vault_words.specs.declared.jobs.Job.{Job};
 ghost use Rattle.vault_jobs.specs.Streams.{Streams, streams};
 ghost use Rattle.vault_app.specs.World.{told};
-ghost use Rattle.vault_app.specs.Plans.{EndsBefore, IsTrialOf, TrialEnds};
+ghost use Rattle.vault_app.specs.Plans.{EndsBefore};
+ghost use Rattle.vault_app.specs.Commands.Trial.{IsTrialOf, TrialEnds};
 
 use crate::ending::Ending;
 use std::io::{Read, Write};

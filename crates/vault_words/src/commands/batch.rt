@@ -1,7 +1,7 @@
 //! `batch [--now T] [--digits D] FILE CALLER MERCHANT`
 ghost use Rattle.std.specs.Prelude.{IfOk};
 ghost use Rattle.clap.specs.Words.{found_of, rows_of};
-ghost use Rattle.vault_words.specs.Commands.{AsksBatch, batch_app};
+ghost use Rattle.vault_words.specs.Commands.Batch.{AsksBatch, batch_app};
 ghost use Rattle.vault_words.specs.Rules.{IsApp};
 ghost use Rattle.vault_words.specs.Values.{Finds};
 

@@ -1,7 +1,7 @@
 //! `check FILE`
 ghost use Rattle.std.specs.Prelude.{IfOk};
 ghost use Rattle.clap.specs.Words.{found_of, rows_of};
-ghost use Rattle.vault_words.specs.Commands.{AsksCheck, check_app};
+ghost use Rattle.vault_words.specs.Commands.Check.{AsksCheck, check_app};
 ghost use Rattle.vault_words.specs.Rules.{IsApp};
 ghost use Rattle.vault_words.specs.Values.{Finds};
 

@@ -1,7 +1,7 @@
 //! `list [--json] FILE`
 ghost use Rattle.std.specs.Prelude.{IfOk};
 ghost use Rattle.clap.specs.Words.{found_of, rows_of};
-ghost use Rattle.vault_words.specs.Commands.{AsksList, list_app};
+ghost use Rattle.vault_words.specs.Commands.Listing.{AsksList, list_app};
 ghost use Rattle.vault_words.specs.Rules.{IsApp};
 ghost use Rattle.vault_words.specs.Values.{Finds};
 

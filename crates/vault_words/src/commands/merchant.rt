@@ -1,7 +1,7 @@
 //! `merchant [--now T] [--lead L] FILE NAME SINGLE MULTI`
 ghost use Rattle.std.specs.Prelude.{◌≡◌, IfOk};
 ghost use Rattle.clap.specs.Words.{found_of, rows_of};
-ghost use Rattle.vault_words.specs.Commands.{AsksMerchant, lives_asked, merchant_app};
+ghost use Rattle.vault_words.specs.Commands.Merchant.{AsksMerchant, lives_asked, merchant_app};
 ghost use Rattle.vault_words.specs.Rules.{IsApp};
 ghost use Rattle.vault_words.specs.Values.{Finds};
 

@@ -1,7 +1,7 @@
 //! `migrate FILE`
 ghost use Rattle.std.specs.Prelude.{IfOk};
 ghost use Rattle.clap.specs.Words.{found_of, rows_of};
-ghost use Rattle.vault_words.specs.Commands.{AsksMigrate, migrate_app};
+ghost use Rattle.vault_words.specs.Commands.Migrate.{AsksMigrate, migrate_app};
 ghost use Rattle.vault_words.specs.Rules.{IsApp};
 ghost use Rattle.vault_words.specs.Values.{Finds};
 

@@ -1,7 +1,7 @@
 //! `pipe [--now T] [--digits D] FILE`
 ghost use Rattle.std.specs.Prelude.{IfOk};
 ghost use Rattle.clap.specs.Words.{found_of, rows_of};
-ghost use Rattle.vault_words.specs.Commands.{AsksPipe, pipe_app};
+ghost use Rattle.vault_words.specs.Commands.Pipe.{AsksPipe, pipe_app};
 ghost use Rattle.vault_words.specs.Rules.{IsApp};
 ghost use Rattle.vault_words.specs.Values.{Finds};
 

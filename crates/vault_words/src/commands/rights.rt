@@ -1,7 +1,8 @@
 //! `grant [--now T] [--until T] FILE CALLER MERCHANT RIGHT`, and `withdraw`, which has no `--until`
 ghost use Rattle.std.specs.Prelude.{IfOk};
 ghost use Rattle.clap.specs.Words.{App, found_of, rows_of};
-ghost use Rattle.vault_words.specs.Commands.{AsksGrant, AsksRight, grant_app, right_rules, withdraw_app};
+ghost use Rattle.vault_words.specs.Commands.Rights.{AsksGrant, AsksRight};
+ghost use Rattle.vault_words.specs.Commands.Rights.{grant_app, right_rules, withdraw_app};
 ghost use Rattle.vault_words.specs.Rules.{IsApp, with_rules};
 ghost use Rattle.vault_words.specs.Values.{Finds};
 

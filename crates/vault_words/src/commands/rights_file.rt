@@ -1,7 +1,7 @@
 //! `rights [--now T] [--exact] [--dry-run] FILE RIGHTS`
 ghost use Rattle.std.specs.Prelude.{IfOk};
 ghost use Rattle.clap.specs.Words.{found_of, rows_of};
-ghost use Rattle.vault_words.specs.Commands.{AsksRights, rights_app};
+ghost use Rattle.vault_words.specs.Commands.RightsFile.{AsksRights, rights_app};
 ghost use Rattle.vault_words.specs.Rules.{IsApp};
 ghost use Rattle.vault_words.specs.Values.{Finds};
 

@@ -1,7 +1,7 @@
 //! `serve [--connections N] [--port P] [--rights RIGHTS] FILE`
 ghost use Rattle.std.specs.Prelude.{IfOk};
 ghost use Rattle.clap.specs.Words.{found_of, rows_of};
-ghost use Rattle.vault_words.specs.Commands.{AsksServe, serve_app};
+ghost use Rattle.vault_words.specs.Commands.Serve.{AsksServe, serve_app};
 ghost use Rattle.vault_words.specs.Rules.{IsApp};
 ghost use Rattle.vault_words.specs.Values.{Finds};
 

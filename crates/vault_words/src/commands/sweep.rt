@@ -1,7 +1,7 @@
 //! `sweep [--now T] FILE CALLER MERCHANT`
 ghost use Rattle.std.specs.Prelude.{IfOk};
 ghost use Rattle.clap.specs.Words.{found_of, rows_of};
-ghost use Rattle.vault_words.specs.Commands.{AsksSweep, sweep_app};
+ghost use Rattle.vault_words.specs.Commands.Sweep.{AsksSweep, sweep_app};
 ghost use Rattle.vault_words.specs.Rules.{IsApp};
 ghost use Rattle.vault_words.specs.Values.{Finds};
 

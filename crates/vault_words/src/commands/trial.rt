@@ -1,7 +1,7 @@
 //! `trial [--now T] [--digits D] CALLER MERCHANT LIFE`
 ghost use Rattle.std.specs.Prelude.{IfOk};
 ghost use Rattle.clap.specs.Words.{found_of, rows_of};
-ghost use Rattle.vault_words.specs.Commands.{AsksTrial, trial_app};
+ghost use Rattle.vault_words.specs.Commands.Trial.{AsksTrial, trial_app};
 ghost use Rattle.vault_words.specs.Rules.{IsApp};
 ghost use Rattle.vault_words.specs.Values.{Finds};
 

@@ -35,9 +35,8 @@ returns-in-Give-clause-does g c =
       none_then (g.N.Network.tells c.args.network.now),
       give_done tells w (is_broken c.do_give.new.vault) c.do_give.result
           (c.args.input.now ≡ c.args.input.now) (c.do_give.new.output ≡ c.args.output.now) s c.in-Give.rights
-          c.in-Give.now
-          c.in-Give.now c.deref.result.now c.deref.ensures.value refl refl refl
-          c.do_give.ensures.breaks (rw c.in-Give.is at c.do_give.ensures.does),
+          c.in-Give.now _ c.deref.result.now c.deref.ensures.value (rw c.in-Give.is refl) refl refl
+          c.do_give.ensures.breaks c.do_give.ensures.does,
     )
 
 pub returns-in-Sweep-clause-does : goal.returns-in-Sweep-clause-does

@@ -13,4 +13,4 @@ returns c =
     let h₉ = c.with-tree-9.ensures _ _ h₈ c.sweep.ensures in
     let h₁₀ = c.with-tree-10.ensures _ _ h₉ c.list.ensures in
     let h₁₁ = c.with-tree-11.ensures _ _ h₁₀ c.check.ensures in
-    c.with.ensures _ _ h₁₁ c.migrate.ensures
+    c.with-tree-12.ensures _ _ h₁₁ c.migrate.ensures

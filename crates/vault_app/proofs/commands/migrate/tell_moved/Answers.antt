@@ -1,7 +1,7 @@
 use Rattle.std.proofs.Common.{◌≡◌, ◌∙◌, ◌++◌, List, ℕ, ℤ, ap, codes, subst, to_z, of_z, w64}
 use Rattle.std.specs.Fmt.{digits, signed_decimal}
 use Rattle.vault_schema.specs.Versions.{newest, number_of}
-use Rattle.vault_app.specs.Plans.{LineEnds}
+use Rattle.vault_app.specs.Endings.{LineEnds}
 use Rattle.vault_app.proofs.commands.migrate.tell_moved.Goals as goal
 
 -- the version is the newest, and its text is in the line

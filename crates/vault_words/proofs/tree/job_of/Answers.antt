@@ -1,6 +1,6 @@
 use Rattle.clap.specs.Words.{found_of, rows_of}
 use Rattle.vault_words.proofs.Parsed.{no_batch, no_pipe, no_trial}
-use Rattle.vault_words.proofs.job.job_of.Goals as goal
+use Rattle.vault_words.proofs.tree.job_of.Goals as goal
 
 pub returns-in-Err : goal.returns-in-Err
 returns-in-Err c =

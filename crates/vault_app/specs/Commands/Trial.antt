@@ -1,0 +1,47 @@
+-- `trial`: messages answered by a vault in memory.
+use Rattle.std.specs.Prelude.{◌≡◌, ◌≢◌, None, false}
+use Rattle.vault_core.specs.Name.{IsName}
+use Rattle.vault_core.specs.Scalar.{IsLife}
+use Rattle.vault_http.specs.declared.fault.ServeFault.{ServeFault}
+use Rattle.vault_http.specs.declared.fault.ServeFault.TheVariants as service
+use Rattle.vault_live.specs.Live.{Turns}
+use Rattle.vault_words.specs.declared.commands.trial.TrialJob.{TrialJob}
+use Rattle.vault_jobs.specs.Causes.{IsCauseOf}
+use Rattle.vault_jobs.specs.Moments.{IsMomentOf}
+use Rattle.vault_jobs.specs.Streams.{Streams}
+use Rattle.vault_jobs.specs.Trial as memory
+use Rattle.vault_jobs.specs.declared.stop.Stop.TheVariants as stop
+use Rattle.vault_jobs.specs.declared.trial.Trial.{Trial as Asked}
+use Rattle.vault_app.specs.Endings.{EndsSo, no_ending}
+use Rattle.vault_app.specs.Saying.{OfTrial, Saying, quiet}
+use Rattle.vault_app.specs.World.{World}
+use Rattle.vault_app.specs.declared.ending.Ending.{Ending}
+
+-- the trial that the words ask for
+pub record IsTrialOf (world : World) (j : TrialJob) (t : Asked) : Type 0 where
+  pub caller : t.caller ≡ j.caller.now
+  pub merchant : t.merchant ≡ j.merchant.now
+  pub life : t.life ≡ j.life
+  pub made : IsMomentOf world.tells j.now t.made
+  pub moment : t.moment ≡ j.now
+  pub digits : t.digits ≡ j.digits
+
+-- it is refused by 4 for a name that is none
+abbrev pub trial_says : TrialJob → Saying
+trial_says j = record (quiet (OfTrial (λ world t. IsTrialOf world j t))) {
+  lives = IsLife j.life;
+  refused = λ n. (n ≡ 4) × ¬ (IsName j.caller.now × IsName j.merchant.now);
+  needs_moment = j.now ≡ None;
+}
+
+-- how a trial ends: with the answers of its vault, or with the first of them
+abbrev pub TrialEnds : Turns → Asked → Ending → Streams → Type 0
+TrialEnds tells t ending s = EndsSo (record no_ending {
+  done = (s.writer ≡ false)
+      × memory.IsTrial tells s.left_old s.left_new s.sent_old s.sent_new
+      (memory.trial_vault t.caller t.merchant t.life t.made) t.moment t.digits;
+  stopped = λ why. IsCauseOf why s
+      × ((fault : ServeFault) × (why ≡ stop.Service fault) × (fault ≢ service.Store))
+      × memory.IsCut tells s.left_old s.left_new s.sent_old s.sent_new
+      (memory.trial_vault t.caller t.merchant t.life t.made) t.moment t.digits;
+}) ending

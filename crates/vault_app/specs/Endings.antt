@@ -1,0 +1,53 @@
+-- What holds by how a job ends.
+use Rattle.std.specs.Prelude.{◌≡◌, ℕ, List, Bool, true, false}
+use Rattle.std.specs.Io.KnownBytes.{Appends}
+use Rattle.vault_file.specs.declared.fault.NotOpened.{NotOpened as FileFault}
+use Rattle.vault_http.specs.declared.fault.ServeFault.TheVariants as service
+use Rattle.vault_jobs.specs.Streams.{Known}
+use Rattle.vault_jobs.specs.declared.stop.Stop.{Stop}
+use Rattle.vault_jobs.specs.declared.stop.Stop.TheVariants as stop
+use Rattle.vault_app.specs.declared.ending.Ending.{Ending}
+use Rattle.vault_app.specs.declared.ending.Ending.TheVariants.{Done, DoneWithLog, Version, Refused}
+use Rattle.vault_app.specs.declared.ending.Ending.TheVariants.{SomeRefused, BadWords, NotOpened, Stopped}
+
+-- what holds with each ending
+pub record Endings : Type 1 where
+  pub done : Type 0
+  pub done_with_log : Type 0
+  pub version : Type 0
+  pub refused : ℕ → Type 0
+  pub some_refused : Type 0
+  pub bad_words : Type 0
+  pub not_opened : FileFault → Type 0
+  pub stopped : Stop → Type 0
+
+-- no ending comes
+abbrev pub no_ending : Endings
+no_ending = record {
+  done = ⊥;
+  done_with_log = ⊥;
+  version = ⊥;
+  refused = λ n. ⊥;
+  some_refused = ⊥;
+  bad_words = ⊥;
+  not_opened = λ f. ⊥;
+  stopped = λ s. ⊥;
+}
+
+-- the ending comes, and what holds with it
+abbrev pub EndsSo : Endings → Ending → Type 0
+EndsSo it Done = it.done
+EndsSo it DoneWithLog = it.done_with_log
+EndsSo it Version = it.version
+EndsSo it (Refused n) = it.refused n
+EndsSo it SomeRefused = it.some_refused
+EndsSo it BadWords = it.bad_words
+EndsSo it (NotOpened f) = it.not_opened f
+EndsSo it (Stopped s) = it.stopped s
+
+-- a job that is done wrote this line, or the writer failed
+abbrev pub LineEnds : List ℕ → Ending → Known → Known → Bool → Type 0
+LineEnds line ending old new writer = EndsSo (record no_ending {
+  done = (writer ≡ false) × Appends old new line;
+  stopped = λ why. (why ≡ stop.Service service.Write) × (writer ≡ true);
+}) ending
