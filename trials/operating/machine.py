@@ -65,7 +65,7 @@ class Machine:
         self.inside = ["nsenter", "-t", self.leader, "-m", "-u", "-i", "-n", "-p", "-r", "-w"]
         is_up = [*self.inside, "systemctl", "is-system-running"]
         up = ("running\n", "degraded\n")
-        if not until(60, lambda: subprocess.run(is_up, capture_output=True, text=True).stdout in up):
+        if not until(180, lambda: subprocess.run(is_up, capture_output=True, text=True).stdout in up):
             raise SystemExit(f"no machine came up: {open('console').read()[-500:]}\n0 passed, 1 failed")
         home = {"HOME": "/root", "PATH": "/usr/sbin:/usr/bin:/sbin:/bin", "DEBIAN_FRONTEND": "noninteractive"}
         self.shell = subprocess.Popen(
