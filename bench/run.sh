@@ -7,8 +7,8 @@ here=$(cd "$(dirname "$0")" && pwd)
 program=${PROGRAM:-}
 vault=${VAULT:-}
 same=
-crates='sql_maps vault_pan vault_core vault_rules vault_store vault_schema vault_cards vault_rows vault_sql'
-crates="$crates vault_verdict vault_recover vault_blank"
+crates='sql_maps sql_stored vault_refusal vault_pan vault_core vault_rules vault_store vault_schema vault_tables'
+crates="$crates vault_cards vault_steps vault_rows vault_sql vault_verdict vault_recover vault_migrate vault_file"
 
 for tool in python3 /usr/bin/time; do
     command -v "$tool" > /dev/null || { echo "$tool is missing" >&2; exit 1; }

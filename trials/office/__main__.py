@@ -21,7 +21,7 @@ def words(tally, repository):
     table = re.search(r"const REFUSED = \{\n(.*?)\n\};", script, re.S)[1]
     said = [int(it) for it in re.findall(r"(?m)^  ([0-9]+): \"", table)]
     page = open(f"{repository}/docs/REFUSALS.md").read()
-    rows = re.findall(r"(?m)^\| ([0-9]+) \| [A-Za-z]+ \| .* \| ([0-9]{3}|-) \| [^|]* \| [^|]* \|$", page)
+    rows = re.findall(r"(?m)^\| ([0-9]+) \| [A-Za-z]+ \| .* \| ([0-9]{3}|-) \| [^|]* \|$", page)
     listed = [int(number) for number, status in rows if status != "-"]
     tally.judge("it has words for each refusal", unlike(sorted(said), sorted(listed)))
     for forbidden in ("innerHTML", "localStorage", "sessionStorage", "document.cookie", "eval("):

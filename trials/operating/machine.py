@@ -59,13 +59,8 @@ class Machine:
             stdout=self.console,
             stderr=self.console,
         )
-        children = f"/proc/{self.process.pid}/task/{self.process.pid}/children"
-        until(10, lambda: open(children).read())
-        self.leader = open(children).read().split()[0]
-        self.inside = ["nsenter", "-t", self.leader, "-m", "-u", "-i", "-n", "-p", "-r", "-w"]
-        is_up = [*self.inside, "systemctl", "is-system-running"]
-        up = ("running\n", "degraded\n")
-        if not until(180, lambda: subprocess.run(is_up, capture_output=True, text=True).stdout in up):
+        self.children = f"/proc/{self.process.pid}/task/{self.process.pid}/children"
+        if not until(180, self.is_up):
             raise SystemExit(f"no machine came up: {open('console').read()[-500:]}\n0 passed, 1 failed")
         home = {"HOME": "/root", "PATH": "/usr/sbin:/usr/bin:/sbin:/bin", "DEBIAN_FRONTEND": "noninteractive"}
         self.shell = subprocess.Popen(
@@ -76,6 +71,18 @@ class Machine:
             env={**home, "LANG": "C.UTF-8"},
         )
         self.shell.stdin.write("cd /srv\ntrap 'echo \"failed: $BASH_COMMAND\"; failed=1' ERR\nset -E\n")
+
+    def is_up(self):
+        """Whether the machine answers. Before its first process, nspawn has another child for some
+        milliseconds, so the first process is looked up at each call."""
+        children = open(self.children).read().split()
+        if not children:
+            return False
+        self.leader = children[0]
+        self.inside = ["nsenter", "-t", self.leader, "-m", "-u", "-i", "-n", "-p", "-r", "-w"]
+        is_running = [*self.inside, "systemctl", "is-system-running"]
+        told = subprocess.run(is_running, capture_output=True, text=True).stdout
+        return told in ("running\n", "degraded\n")
 
     def __enter__(self):
         return self

@@ -1,12 +1,13 @@
 //! A query, and a statement further in a transaction, with what any text does.
-ghost use Rattle.std.specs.Prelude.{◌≡◌, ℕ, IsTrue, Ok, IfOk, OnOk};
+ghost use Rattle.std.specs.Prelude.{◌≡◌, IsTrue, Ok, IfOk, OnOk};
 ghost use Rattle.sqlite.specs.Effect.{IsDatabase};
 ghost use Rattle.sqlite.specs.Held.{state};
 ghost use Rattle.sqlite.specs.Listing.{understood};
 ghost use Rattle.sqlite.specs.State.{ExecutesInside, HasCleanDisk, IsUnchanged, Shown};
 ghost use Rattle.sqlite.specs.Values.{bound};
 ghost use Rattle.sqlite.proofs.Callers.{IsPlain};
-ghost use Rattle.sql_maps.specs.States.{Reads, Steps};
+ghost use Rattle.sql_maps.specs.States.{Reads};
+ghost use Rattle.sql_maps.specs.Transactions.{Proceeds, RunsText};
 
 use sqlite::{Alter, Connection, Error, Row, Transaction};
 use sqlite_value::value::ValueRef;
@@ -36,8 +37,7 @@ pub fn change<S: Alter>(
     sql: &str,
     params: &[ValueRef<'_>],
 ) -> Result<usize, Error>
-    ensures same_reference { tx.new.conn.ghost_name ≡ tx.old.conn.ghost_name }
-    ensures steps { Steps (state S.Store tx.old.conn.now) (state S.Store tx.new.conn.now) }
+    ensures goes_on { Proceeds S.Store tx.old tx.new }
     ensures ran { HasCleanDisk (state S.Store tx.new.conn.now)
         → IfOk result (λ count. IsTrue (state S.Store tx.old.conn.now).in_transaction
         → ExecutesInside 0 sql.now (bound params.now) (state S.Store tx.old.conn.now)
@@ -52,13 +52,7 @@ pub fn step<S: Alter>(
     sql: &str,
     params: &[ValueRef<'_>],
 ) -> Result<(), Error>
-    ensures same_reference { tx.new.conn.ghost_name ≡ tx.old.conn.ghost_name }
-    ensures steps { Steps (state S.Store tx.old.conn.now) (state S.Store tx.new.conn.now) }
-    ensures ran { HasCleanDisk (state S.Store tx.new.conn.now)
-        → OnOk result (IsTrue (state S.Store tx.old.conn.now).in_transaction
-        → (count : ℕ)
-        × ExecutesInside 0 sql.now (bound params.now) (state S.Store tx.old.conn.now)
-        (state S.Store tx.new.conn.now) (Ok count)) }
+    ensures { RunsText S.Store tx.old tx.new result sql.now (bound params.now) }
 {
     change(tx, sql, params)?;
     Ok(())
@@ -70,8 +64,7 @@ pub fn rows_in<S: Alter>(
     sql: &str,
     params: &[ValueRef<'_>],
 ) -> Result<Vec<Row>, Error>
-    ensures same_reference { tx.new.conn.ghost_name ≡ tx.old.conn.ghost_name }
-    ensures steps { Steps (state S.Store tx.old.conn.now) (state S.Store tx.new.conn.now) }
+    ensures goes_on { Proceeds S.Store tx.old tx.new }
     ensures told { HasCleanDisk (state S.Store tx.new.conn.now)
         → IfOk result (λ rows. Shown sql.now (bound params.now) (state S.Store tx.old.conn.now)
         (state S.Store tx.new.conn.now) rows.items) }

@@ -16,7 +16,7 @@ use Rattle.sqlite_trees.specs.declared.store.Store.{Ghosts}
 use Rattle.sql_maps.specs.Schema.{grown}
 use Rattle.sql_maps.specs.Texts.{IsQuery, ordered_by, sorted_of}
 use Rattle.sql_stored.specs.Reading.{ReadsTable, TakesTable, TellsAny}
-use Rattle.sql_stored.specs.declared.fault.ReadFault.{ReadFault}
+use Rattle.sql_stored.specs.declared.fault.StoreFault.{StoreFault}
 use Rattle.sql_stored.specs.declared.left.RowId.{RowId}
 
 -- a text that shows these terms of each row of a tree, behind its rowid, in each schema that begins with this
@@ -58,20 +58,20 @@ id_values r = Int r.rowid ∷ []
 module _ {S : Type 0} (g : Ghosts S) where
   module _ {R : Type 0} (scan : Scan R) where
     -- the table is read so, in each schema that begins with its first one
-    abbrev pub ReadsScan : Result (Vec R) ReadFault → Held S → Held S → Type 0
+    abbrev pub ReadsScan : Result (Vec R) StoreFault → Held S → Held S → Type 0
     ReadsScan result old new =
         (ts : List Table) (is : List Index) → ReadsTable g scan.text scan.values (grown scan.base ts is)
         scan.full scan.rows scan.stands scan.id result old new
 
     -- and it is taken so, row by row
-    abbrev pub TakesScan : {K : Type 0} → (K → List R → Type 0) → Result K ReadFault → Held S → Held S
+    abbrev pub TakesScan : {K : Type 0} → (K → List R → Type 0) → Result K StoreFault → Held S → Held S
         → Type 0
     TakesScan Has result old new =
         (ts : List Table) (is : List Index) → TakesTable g scan.text scan.values (grown scan.base ts is) Has
         scan.full scan.rows scan.stands scan.id result old new
 
   -- it is told so whether the table has rows
-  abbrev pub TellsScan : IdScan → Result ℕ ReadFault → Held S → Held S → Type 0
+  abbrev pub TellsScan : IdScan → Result ℕ StoreFault → Held S → Held S → Type 0
   TellsScan scan result old new =
       (ts : List Table) (is : List Index) → TellsAny g scan.text id_values (grown scan.base ts is)
       (λ db. db scan.tree) result old new

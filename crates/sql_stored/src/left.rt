@@ -4,7 +4,7 @@ ghost use Rattle.sql_stored.specs.Reading.{any_left as left_of};
 ghost use Rattle.sql_stored.specs.Scans.{IdScan, TellsScan, id_values};
 
 use crate::columns::Columns;
-use crate::fault::ReadFault;
+use crate::fault::StoreFault;
 use crate::raws::{Raw, shown};
 use sqlite::{Alter, Connection, Row};
 use std::alloc::Global;
@@ -20,7 +20,7 @@ impl Raw for RowId {
 
     ghost values = { id_values };
 
-    fn read(row: &Row) -> Result<RowId, ReadFault> {
+    fn read(row: &Row) -> Result<RowId, StoreFault> {
         let mut columns = Columns::of(row);
         let raw = RowId {
             rowid: columns.next()?,
@@ -53,7 +53,7 @@ fn any_of(ids: &[RowId]) -> u64
 pub fn any_left<S: Alter, T: Left>(
     alloc: Global,
     conn: &mut Connection<S>,
-) -> Result<u64, ReadFault>
+) -> Result<u64, StoreFault>
     ensures small { IfOk result (λ n. n ≤ 1) }
     ensures told { TellsScan S.Store T.left result conn.old conn.new }
 {

@@ -5,7 +5,7 @@ ghost use Rattle.sqlite.specs.Listing.{understood};
 ghost use Rattle.sqlite.specs.Schema.{Schema};
 ghost use Rattle.sql_stored.specs.Reading.{TakesRows};
 
-use crate::fault::ReadFault;
+use crate::fault::StoreFault;
 use crate::raws::Raw;
 use sqlite::{Alter, Connection};
 use std::alloc::AllocError;
@@ -48,7 +48,7 @@ pub fn taken<S: Alter, R: Raw, K: Taker<R>>(
     conn: &mut Connection<S>,
     sql: &str,
     start: K,
-) -> Result<K, ReadFault>
+) -> Result<K, StoreFault>
     ensures { (s : Schema) → IsPlain (understood s sql.now)
         → TakesRows S.Store sql.now R.values s (K.took start) result conn.old conn.new }
 {

@@ -2,7 +2,7 @@
 ghost use Rattle.std.specs.Prelude.{◌≡◌};
 ghost use Rattle.sql_stored.specs.Scans.{ReadsScan, Scan, TakesScan};
 
-use crate::fault::ReadFault;
+use crate::fault::StoreFault;
 use crate::raws::{Raw, shown};
 use crate::taken::{Taker, taken};
 use sqlite::{Alter, Connection};
@@ -25,7 +25,7 @@ pub trait Whole {
 pub fn read_all<S: Alter, T: Whole>(
     alloc: Global,
     conn: &mut Connection<S>,
-) -> Result<Vec<<T::Raw as Raw>::Of>, ReadFault>
+) -> Result<Vec<<T::Raw as Raw>::Of>, StoreFault>
     ensures { ReadsScan S.Store T.scan result conn.old conn.new }
 {
     shown::<S, T::Raw>(alloc, conn, T::text())
@@ -35,7 +35,7 @@ pub fn read_all<S: Alter, T: Whole>(
 pub fn take_all<S: Alter, T: Whole, K: Taker<T::Raw>>(
     conn: &mut Connection<S>,
     start: K,
-) -> Result<K, ReadFault>
+) -> Result<K, StoreFault>
     ensures { TakesScan S.Store T.scan (K.took start) result conn.old conn.new }
 {
     taken::<S, T::Raw, K>(conn, T::text(), start)

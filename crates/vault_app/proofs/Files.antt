@@ -27,7 +27,7 @@ use Rattle.vault_jobs.specs.declared.task.Outcome.{Outcome}
 use Rattle.vault_jobs.specs.declared.task.Outcome.TheVariants as outcome
 use Rattle.vault_jobs.specs.declared.task.Task.{Task}
 use Rattle.vault_listen.specs.Peers.{vault_passing}
-use Rattle.vault_live.specs.Live.{Turns}
+use Rattle.vault_listen.specs.Live.{Turns}
 use Rattle.vault_recover.specs.Crashed.{Reopens, ReopensEither}
 use Rattle.vault_schema.specs.Holds.{Holds, LeavesEither}
 use Rattle.vault_store.specs.Applied.{Contains}

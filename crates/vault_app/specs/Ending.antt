@@ -2,9 +2,10 @@
 use Rattle.std.specs.Prelude.{ℕ, ℤ, ◌++◌, List, [], Option, Some, None, codes, decimal}
 use Rattle.std.specs.Fmt.{signed_decimal}
 use Rattle.vault_schema.specs.Versions.{newest, number_of as version_number}
+use Rattle.vault_refusal.specs.Refusal.{number_of}
 use Rattle.vault_file.specs.Faults as file
 use Rattle.vault_file.specs.declared.fault.NotOpened.{NotOpened as FileFault}
-use Rattle.vault_jobs.specs.Causes.{number_of}
+use Rattle.vault_jobs.specs.Causes.{refusal_of}
 use Rattle.vault_app.specs.declared.ending.Ending.{Ending}
 use Rattle.vault_app.specs.declared.ending.Ending.TheVariants.{Done, DoneWithLog, Version, Refused}
 use Rattle.vault_app.specs.declared.ending.Ending.TheVariants.{SomeRefused, BadWords, NotOpened, Stopped}
@@ -36,16 +37,11 @@ log_line = codes "vault: the file has a log, FILE-wal, and a copy needs both\n"
 abbrev pub bad_words_line : List ℕ
 bad_words_line = codes "vault: bad words\n"
 
--- the version or the rule that goes with a refusal of a file
-abbrev pub detail_text : Option ℤ → List ℕ
-detail_text None = []
-detail_text (Some m) = codes " " ++ signed_decimal m
-
 -- a file isn't opened
 abbrev pub not_opened_line : FileFault → List ℕ
 not_opened_line f =
-    codes "vault: file not opened " ++ decimal (file.number_of f) ++ detail_text (file.detail_of f)
-    ++ codes "\n"
+    codes "vault: file not opened " ++ decimal (number_of (file.refusal_of f))
+    ++ file.detail_text (file.detail_of f) ++ codes "\n"
 
 -- the program stopped by the fault of this number
 abbrev pub stop_line : ℕ → List ℕ
@@ -62,4 +58,5 @@ Says why (Refused n) same_output same_errors output errors = output (refusal_lin
 Says why SomeRefused same_output same_errors output errors = same_output × same_errors
 Says why BadWords same_output same_errors output errors = same_output × errors (bad_words_line ++ why)
 Says why (NotOpened f) same_output same_errors output errors = same_output × errors (not_opened_line f)
-Says why (Stopped s) same_output same_errors output errors = same_output × errors (stop_line (number_of s))
+Says why (Stopped s) same_output same_errors output errors =
+    same_output × errors (stop_line (number_of (refusal_of s)))

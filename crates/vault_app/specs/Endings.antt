@@ -2,7 +2,7 @@
 use Rattle.std.specs.Prelude.{◌≡◌, ℕ, List, Bool, true, false}
 use Rattle.std.specs.Io.KnownBytes.{Appends}
 use Rattle.vault_file.specs.declared.fault.NotOpened.{NotOpened as FileFault}
-use Rattle.vault_http.specs.declared.fault.ServeFault.TheVariants as service
+use Rattle.vault_engine.specs.declared.stop.Stop.TheVariants as service
 use Rattle.vault_jobs.specs.Streams.{Known}
 use Rattle.vault_jobs.specs.declared.stop.Stop.{Stop}
 use Rattle.vault_jobs.specs.declared.stop.Stop.TheVariants as stop

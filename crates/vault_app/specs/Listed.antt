@@ -3,7 +3,7 @@ use Rattle.std.specs.Prelude.{◌≡◌, ◌⊎◌, None}
 use Rattle.std.specs.Prelude.{ℕ, List}
 use Rattle.vault_core.specs.Proper.{AllProper}
 use Rattle.vault_core.specs.Scalar.{IsMoment}
-use Rattle.vault_http.specs.declared.fault.ServeFault.TheVariants as service
+use Rattle.vault_engine.specs.declared.stop.Stop.TheVariants as service
 use Rattle.vault_jobs.specs.Grants.{grants_at}
 use Rattle.vault_jobs.specs.Moments.{IsMomentOf}
 use Rattle.vault_jobs.specs.declared.stop.Stop.TheVariants as stop

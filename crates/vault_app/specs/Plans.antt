@@ -2,7 +2,7 @@
 use Rattle.std.specs.Prelude.{◌≡◌, ◌⊎◌, List}
 use Rattle.clap.specs.Words.{Text}
 use Rattle.vault_core.specs.Scalar.{IsLife}
-use Rattle.vault_http.specs.declared.fault.ServeFault.TheVariants as service
+use Rattle.vault_engine.specs.declared.stop.Stop.TheVariants as service
 use Rattle.vault_words.specs.declared.jobs.Job.{Job}
 use Rattle.vault_words.specs.declared.jobs.Job.TheVariants.{Trial, Merchant, Grant, Withdraw, Rights, Pipe}
 use Rattle.vault_words.specs.declared.jobs.Job.TheVariants.{Batch, Serve, Sweep, List as Listing, Check}

@@ -1,7 +1,9 @@
 -- The list of a rights file.
 use Rattle.std.specs.Prelude.{◌≡◌, ◌≢◌, ℕ, List}
 use Rattle.toml.specs.Data.{Members}
-use Rattle.vault_rights.specs.Faults.{IsDocument, IsFault, number_of}
+use Rattle.vault_refusal.specs.Refusal.{number_of}
+use Rattle.vault_refusal.specs.declared.refusal.Refusal.TheVariants.{RightsMemory}
+use Rattle.vault_rights.specs.Faults.{IsDocument, IsFault, refusal_of}
 use Rattle.vault_rights.specs.Named.{IsListOf, Names, Row}
 use Rattle.vault_rights.specs.Proper.{IsProper}
 use Rattle.vault_rights.specs.declared.fault.RightsFault.{RightsFault}
@@ -19,7 +21,7 @@ IsListed says rows = (text : List ℕ) × (document : Members) × says text
 -- a text names no rights by a fault of this number, which isn't want of memory
 abbrev pub IsRefusedText : ℕ → Type 0
 IsRefusedText n = (text : List ℕ) × (fault : RightsFault)
-    × IsFault text fault × (n ≡ number_of fault) × (n ≢ 74)
+    × IsFault text fault × (n ≡ number_of (refusal_of fault)) × (n ≢ number_of RightsMemory)
 
 -- a job ends without a list: its text is refused, or it isn't read
 abbrev pub IsUnlisted : Ending → Type 0

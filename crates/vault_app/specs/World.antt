@@ -1,7 +1,7 @@
 -- What is told of the world around a run.
 use Rattle.std.specs.Prelude.{ℕ, Bool, List}
 use Rattle.sqlite_wal.specs.Recovery.{Image}
-use Rattle.vault_live.specs.Live.{Turns}
+use Rattle.vault_listen.specs.Live.{Turns}
 
 -- Which moments are told at which turn; and of each path which bytes its files may hold, that nothing is
 -- there, that an open of it may fail, which text it may have, and whether its file has a log.

@@ -4,7 +4,7 @@ ghost use Rattle.vault_core.specs.Name.{IsName};
 
 use vault_batch::asker::Asker;
 use vault_core::name::{Caller, MerchantId};
-use vault_core::refusal::BAD_NAME;
+use vault_refusal::refusal::Refusal;
 
 /// Who asks at which merchant, or the number of a name's refusal.
 pub(crate) fn asker_of(caller: &str, merchant: &str) -> Result<Asker, u8>
@@ -14,10 +14,10 @@ pub(crate) fn asker_of(caller: &str, merchant: &str) -> Result<Asker, u8>
     ensures value { IfOk result (λ asker. (asker.caller ≡ caller.now) × (asker.merchant ≡ merchant.now)) }
 {
     let Ok(caller) = Caller::read(caller.as_bytes()) else {
-        return Err(BAD_NAME);
+        return Err(Refusal::BadName.number());
     };
     let Ok(merchant) = MerchantId::read(merchant.as_bytes()) else {
-        return Err(BAD_NAME);
+        return Err(Refusal::BadName.number());
     };
     Ok(Asker { caller, merchant })
 }

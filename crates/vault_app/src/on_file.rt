@@ -15,7 +15,7 @@ use vault_file::paths::Paths;
 use vault_jobs::stop::Stop;
 use vault_jobs::task::{Outcome, Task, do_task};
 use vault_listen::network::Network;
-use vault_live::time::Timekeeper;
+use vault_listen::time::Timekeeper;
 use vault_recover::options::Cache;
 use vault_wire::watched::Watched;
 

@@ -8,7 +8,7 @@ use crate::ending::Ending;
 use vault_file::paths::Paths;
 use vault_jobs::task::Task;
 use vault_jobs::trial::Trial;
-use vault_live::time::Timekeeper;
+use vault_listen::time::Timekeeper;
 use vault_words::jobs::Job;
 
 /// What is to be done for a job: its names, its rights and its moment are read.

@@ -38,11 +38,16 @@ fn tell_not_opened<E: Write>(errors: &mut Watched<E>, fault: &NotOpened)
         (is_stopped errors.new) (not_opened_line fault.now) }
 {
     match fault.detail() {
-        None => tell_numbered(errors, "vault: file not opened ", fault.number()),
+        None => tell_numbered(errors, "vault: file not opened ", fault.refusal().number()),
         Some(detail) => {
             let mut digits = Buffer::new();
             let text = digits.format(detail);
-            tell_both(errors, "vault: file not opened ", fault.number(), text);
+            tell_both(
+                errors,
+                "vault: file not opened ",
+                fault.refusal().number(),
+                text,
+            );
         }
     }
 }
@@ -99,7 +104,7 @@ pub(crate) fn report<W: Write, E: Write>(
             3
         }
         Ending::Stopped(stop) => {
-            tell_numbered(errors, "vault: stopped ", stop.number());
+            tell_numbered(errors, "vault: stopped ", stop.refusal().number());
             4
         }
     }

@@ -31,7 +31,7 @@ use vault_file::paths::Paths;
 use vault_jobs::stop::Stop;
 use vault_jobs::told::tell;
 use vault_listen::network::Network;
-use vault_live::time::Timekeeper;
+use vault_listen::time::Timekeeper;
 use vault_store::vault::Fault;
 use vault_wire::watched::Watched;
 use vault_words::job::job;

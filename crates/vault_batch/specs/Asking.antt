@@ -8,7 +8,9 @@ use Rattle.vault_core.specs.Scalar.{IsRequestText}
 use Rattle.vault_core.specs.Words.{use_word}
 use Rattle.vault_core.specs.declared.command.Command.TheVariants.{Tokenize}
 use Rattle.vault_core.specs.declared.usage.Use.{Use}
-use Rattle.vault_core.specs.Refusals.{bad_request_number, bad_use}
+use Rattle.vault_refusal.specs.declared.refusal.Refusal.TheVariants.{BadRequestNumber, BadNumber, BadCheck}
+use Rattle.vault_refusal.specs.declared.refusal.Refusal.TheVariants.{BadUse}
+use Rattle.vault_core.specs.Refusals.{bad_request_number}
 use Rattle.vault_core.specs.declared.reply.Reply.{Reply}
 use Rattle.vault_engine.specs.Asking.{Kind, Pair, Wanted, kind}
 use Rattle.vault_engine.specs.Asking as engine
@@ -22,10 +24,10 @@ use Rattle.vault_batch.specs.declared.asker.Asker.{Asker}
 -- moment, with its digits
 abbrev pub Wants : Asker → Row → Pair → Wanted → Type 0
 Wants who row pair =
-    Must (IsRequestText row.request) bad_request_number (
-    Must (IsCardText row.number × IsNumber (digits_of row.number)) 1 (
-    Must (passes_check (digits_of row.number) ≡ true) 2 (
-    With (λ (usage : Use). row.usage ≡ use_word usage) bad_use (λ usage r.
+    Must (IsRequestText row.request) BadRequestNumber (
+    Must (IsCardText row.number × IsNumber (digits_of row.number)) BadNumber (
+    Must (passes_check (digits_of row.number) ≡ true) BadCheck (
+    With (λ (usage : Use). row.usage ≡ use_word usage) BadUse (λ usage r.
     r ≡ Ok (Tokenize who.caller who.merchant (digits_value 10 row.request) usage (digits_of row.number)
     pair.1 pair.0)))))
 

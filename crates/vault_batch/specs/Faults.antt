@@ -1,20 +1,22 @@
 -- Why a batch stops, and why a row asks for nothing.
 use Rattle.std.specs.Prelude.{◌≡◌, ℕ, true, Result, Ok, Err}
+use Rattle.vault_refusal.specs.declared.refusal.Refusal.{Refusal}
+use Rattle.vault_refusal.specs.declared.refusal.Refusal.TheVariants as refusal
 use Rattle.vault_engine.specs.Stops.{Failures}
 use Rattle.vault_engine.specs.declared.stop.Stop.{Stop}
 use Rattle.vault_engine.specs.declared.stop.Stop.TheVariants as stop
 use Rattle.vault_batch.specs.declared.fault.BatchFault.{BatchFault}
 use Rattle.vault_batch.specs.declared.fault.BatchFault.TheVariants as fault
 
--- the numbers of the faults
-abbrev pub number_of : BatchFault → ℕ
-number_of fault.BadHeader = 40
-number_of fault.Read = 41
-number_of fault.Write = 42
-number_of fault.Store = 43
-number_of fault.BadRecord = 44
-number_of fault.Memory = 45
-number_of fault.Source = 46
+-- the refusal that a fault is
+abbrev pub refusal_of : BatchFault → Refusal
+refusal_of fault.BadHeader = refusal.BadHeader
+refusal_of fault.Read = refusal.BatchRead
+refusal_of fault.Write = refusal.BatchWrite
+refusal_of fault.Store = refusal.BatchStore
+refusal_of fault.BadRecord = refusal.BadRecord
+refusal_of fault.Memory = refusal.BatchMemory
+refusal_of fault.Source = refusal.BatchSource
 
 -- the fault of a batch that stops at a row
 abbrev pub fault_of : Stop → BatchFault

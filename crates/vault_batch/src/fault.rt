@@ -1,8 +1,8 @@
 //! Why a batch stops.
 ghost use Rattle.std.specs.Prelude.{◌≡◌};
 
-use crate::refusal::{BAD_HEADER, BAD_RECORD, MEMORY, READ, SOURCE, STORE, WRITE};
 use vault_engine::stop::Stop;
+use vault_refusal::refusal::Refusal;
 
 /// Why a batch stopped before the end of its rows.
 #[derive(Clone, Copy, PartialEq, Eq, Debug, Drop)]
@@ -24,20 +24,20 @@ pub enum BatchFault {
 }
 
 impl BatchFault {
-    ghost use Rattle.vault_batch.specs.Faults.{number_of};
+    ghost use Rattle.vault_batch.specs.Faults.{refusal_of};
 
-    /// The number of the fault, 40 to 46.
-    pub fn number(self) -> u8
-        ensures { result ≡ number_of self }
+    /// Its refusal: 40 to 46.
+    pub fn refusal(self) -> Refusal
+        ensures { result ≡ refusal_of self }
     {
         match self {
-            BatchFault::BadHeader => BAD_HEADER,
-            BatchFault::Read => READ,
-            BatchFault::Write => WRITE,
-            BatchFault::Store => STORE,
-            BatchFault::BadRecord => BAD_RECORD,
-            BatchFault::Memory => MEMORY,
-            BatchFault::Source => SOURCE,
+            BatchFault::BadHeader => Refusal::BadHeader,
+            BatchFault::Read => Refusal::BatchRead,
+            BatchFault::Write => Refusal::BatchWrite,
+            BatchFault::Store => Refusal::BatchStore,
+            BatchFault::BadRecord => Refusal::BadRecord,
+            BatchFault::Memory => Refusal::BatchMemory,
+            BatchFault::Source => Refusal::BatchSource,
         }
     }
 }

@@ -8,6 +8,5 @@ pub mod fault;
 pub mod laws;
 mod line;
 mod records;
-pub mod refusal;
 mod row;
 mod unit;

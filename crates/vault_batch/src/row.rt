@@ -45,9 +45,9 @@ impl<'a> Row<'a> {
         ensures wanted { Wants asker (row_of self.entry) (now, digits) result }
         ensures proper { AreProper result }
     {
-        let request = RequestNo::read(self.request).map_err(|fault| fault.number())?;
-        let pan = Pan::read(self.number).map_err(|fault| fault.number())?;
-        let usage = Use::read(self.usage).map_err(|fault| fault.number())?;
+        let request = RequestNo::read(self.request).map_err(|refused| refused.number())?;
+        let pan = Pan::read(self.number).map_err(|fault| fault.refusal().number())?;
+        let usage = Use::read(self.usage).map_err(|refused| refused.number())?;
         Ok(Command::Tokenize {
             caller: asker.caller,
             merchant: asker.merchant,

@@ -6,10 +6,10 @@ use crate::row::Row;
 use std::alloc::{AllocError, Global};
 use vault_core::command::Command;
 use vault_core::moment::Moment;
-use vault_core::refusal::BAD_REQUEST_NUMBER;
 use vault_core::reply::Reply;
 use vault_engine::unit::Unit;
 use vault_pan::draw::Digits;
+use vault_refusal::refusal::Refusal;
 
 /// A row, and who asks by it.
 #[derive(Clone, Copy)]
@@ -45,7 +45,7 @@ impl<'a> Unit for AskedRow<'a> {
 
     fn refused(&self, alloc: Global, number: u8) -> Result<Vec<u8>, AllocError> {
         let reply = Reply::Refused(number);
-        if number == BAD_REQUEST_NUMBER {
+        if number == Refusal::BadRequestNumber.number() {
             line(alloc, b"0", &reply)
         } else {
             line(alloc, self.row.request, &reply)

@@ -1,17 +1,17 @@
 //! The rows of cards: each number once a merchant, and how many entries point at it.
 ghost use Rattle.std.specs.Ordering.{int_cmp};
 ghost use Rattle.std.specs.Prelude.{◌≡◌, ◌<◌, ◌^◌, ◌+◌, ℤ, Some, None};
-ghost use Rattle.sqlite.specs.Held.{state};
 ghost use Rattle.sql_maps.specs.Rows.{one_of, put};
+ghost use Rattle.sql_maps.specs.Transactions.{Inside};
 ghost use Rattle.vault_schema.specs.declared.v2.Card.{Card};
-ghost use Rattle.vault_cards.specs.Calls.{TellsInside, Turns};
+ghost use Rattle.vault_cards.specs.Calls.{TellsInEach, TurnsInEach};
 ghost use Rattle.vault_cards.specs.Cards.{HasNoCard, IsAdded, IsGone, OwesNoMore, OwesNothing};
 ghost use Rattle.vault_cards.specs.Cards.{OwesNumber, OwesUse};
 ghost use Rattle.vault_cards.specs.Cards.{ShowsCard, card_made, card_shown, uses_column};
 
-use crate::fault::StoreFault;
 use crate::parameters::GREATEST;
 use sql_maps::run::{rows_in, step};
+use sql_stored::fault::StoreFault;
 use sqlite::{Alter, Error, Row, Transaction, params};
 use vault_pan::pan::Pan;
 use vault_schema::v2::{ADD_CARD, DROP_CARD, FIND_CARD, FIND_USES, SET_USES};
@@ -22,18 +22,16 @@ fn card_rows_in<S: Alter>(
     m: &str,
     number: &str,
 ) -> Result<Vec<Row>, Error>
-    ensures same_reference { tx.new.conn.ghost_name ≡ tx.old.conn.ghost_name }
-    ensures told { TellsInside result (state S.Store tx.old.conn.now) (state S.Store tx.new.conn.now)
-        (λ t rows. ShowsCard rows.items t.cards m.now number.now) }
+    ensures { Inside S.Store tx.old tx.new (TellsInEach result
+        (λ t rows. ShowsCard rows.items t.cards m.now number.now)) }
 {
     rows_in(tx, FIND_CARD, params![m, number])
 }
 
 /// The row of the uses of a card, inside a transaction.
 fn uses_rows<S: Alter>(tx: &mut Transaction<'_, S>, id: i64) -> Result<Vec<Row>, Error>
-    ensures same_reference { tx.new.conn.ghost_name ≡ tx.old.conn.ghost_name }
-    ensures told { TellsInside result (state S.Store tx.old.conn.now) (state S.Store tx.new.conn.now)
-        (λ t rows. rows.items ≡ one_of uses_column (t.cards id)) }
+    ensures { Inside S.Store tx.old tx.new (TellsInEach result
+        (λ t rows. rows.items ≡ one_of uses_column (t.cards id))) }
 {
     rows_in(tx, FIND_USES, params![id])
 }
@@ -41,45 +39,41 @@ fn uses_rows<S: Alter>(tx: &mut Transaction<'_, S>, id: i64) -> Result<Vec<Row>,
 /// Writes the uses of a card that is there.
 fn set_uses<S: Alter>(tx: &mut Transaction<'_, S>, id: i64, uses: u64) -> Result<(), Error>
     requires { uses < 2 ^ 63 }
-    ensures same_reference { tx.new.conn.ghost_name ≡ tx.old.conn.ghost_name }
-    ensures done { Turns result (state S.Store tx.old.conn.now) (state S.Store tx.new.conn.now)
+    ensures { Inside S.Store tx.old tx.new (TurnsInEach result
         (λ t. (c : Card) × (t.cards id ≡ Some c))
         (λ it t new. (c : Card) → t.cards id ≡ Some c
-        → new ≡ record t { cards = put int_cmp t.cards id (Some (record c { uses = uses })) }) }
+        → new ≡ record t { cards = put int_cmp t.cards id (Some (record c { uses = uses })) })) }
 {
     step(tx, SET_USES, params![id, uses as i64])
 }
 
 /// Takes a card away.
 fn drop_card<S: Alter>(tx: &mut Transaction<'_, S>, id: i64) -> Result<(), Error>
-    ensures same_reference { tx.new.conn.ghost_name ≡ tx.old.conn.ghost_name }
-    ensures done { Turns result (state S.Store tx.old.conn.now) (state S.Store tx.new.conn.now)
-        (λ t. Unit {0}) (λ it t new. IsGone t new id) }
+    ensures { Inside S.Store tx.old tx.new (TurnsInEach result
+        (λ t. Unit {0}) (λ it t new. IsGone t new id)) }
 {
     step(tx, DROP_CARD, params![id])
 }
 
 /// Makes a card that is used once.
 fn put_card<S: Alter>(tx: &mut Transaction<'_, S>, m: &str, number: &str) -> Result<(), Error>
-    ensures same_reference { tx.new.conn.ghost_name ≡ tx.old.conn.ghost_name }
-    ensures done { Turns result (state S.Store tx.old.conn.now) (state S.Store tx.new.conn.now)
-        (λ t. Unit {0}) (λ it t new. IsAdded t new m.now number.now) }
+    ensures { Inside S.Store tx.old tx.new (TurnsInEach result
+        (λ t. Unit {0}) (λ it t new. IsAdded t new m.now number.now)) }
 {
     step(tx, ADD_CARD, params![m, number])
 }
 
 /// Uses a card once more, whose row this is.
 fn use_again<S: Alter>(tx: &mut Transaction<'_, S>, row: &Row) -> Result<i64, StoreFault>
-    ensures same_reference { tx.new.conn.ghost_name ≡ tx.old.conn.ghost_name }
-    ensures done { Turns result (state S.Store tx.old.conn.now) (state S.Store tx.new.conn.now)
+    ensures { Inside S.Store tx.old tx.new (TurnsInEach result
         (λ t. (id : ℤ) × (c : Card) × (t.cards id ≡ Some c) × (row.now ≡ card_shown id c))
         (λ it t new. (id : ℤ) (c : Card) → t.cards id ≡ Some c → row.now ≡ card_shown id c → (it ≡ id)
-        × (new ≡ record t { cards = put int_cmp t.cards id (Some (record c { uses = c.uses + 1 })) })) }
+        × (new ≡ record t { cards = put int_cmp t.cards id (Some (record c { uses = c.uses + 1 })) }))) }
 {
     let id: i64 = row.get(0)?;
     let uses: u64 = row.get(1)?;
     if uses >= GREATEST {
-        return Err(StoreFault);
+        return Err(StoreFault::Store);
     }
     set_uses(tx, id, uses + 1)?;
     Ok(id)
@@ -91,17 +85,16 @@ fn make_card<S: Alter>(
     m: &str,
     number: &str,
 ) -> Result<i64, StoreFault>
-    ensures same_reference { tx.new.conn.ghost_name ≡ tx.old.conn.ghost_name }
-    ensures done { Turns result (state S.Store tx.old.conn.now) (state S.Store tx.new.conn.now)
+    ensures { Inside S.Store tx.old tx.new (TurnsInEach result
         (λ t. HasNoCard t.cards m.now number.now)
         (λ id t new. (t.cards id ≡ None)
-        × (new ≡ record t { cards = put int_cmp t.cards id (Some (card_made m.now number.now)) })) }
+        × (new ≡ record t { cards = put int_cmp t.cards id (Some (card_made m.now number.now)) }))) }
 {
     put_card(tx, m, number)?;
     let rows = card_rows_in(tx, m, number)?;
     match rows.first() {
         Some(row) => Ok(row.get(0)?),
-        None => Err(StoreFault),
+        None => Err(StoreFault::Store),
     }
 }
 
@@ -111,9 +104,8 @@ pub(crate) fn use_card<S: Alter>(
     m: &str,
     number: &str,
 ) -> Result<i64, StoreFault>
-    ensures same_reference { tx.new.conn.ghost_name ≡ tx.old.conn.ghost_name }
-    ensures done { Turns result (state S.Store tx.old.conn.now) (state S.Store tx.new.conn.now)
-        (λ t. Unit {0}) (λ id t new. OwesUse t new id m.now number.now) }
+    ensures { Inside S.Store tx.old tx.new (TurnsInEach result
+        (λ t. Unit {0}) (λ id t new. OwesUse t new id m.now number.now)) }
 {
     let rows = card_rows_in(tx, m, number)?;
     match rows.first() {
@@ -124,12 +116,11 @@ pub(crate) fn use_card<S: Alter>(
 
 /// Takes one of so many uses from a card; the last one takes the card away.
 fn use_less<S: Alter>(tx: &mut Transaction<'_, S>, id: i64, uses: u64) -> Result<(), StoreFault>
-    ensures same_reference { tx.new.conn.ghost_name ≡ tx.old.conn.ghost_name }
-    ensures done { Turns result (state S.Store tx.old.conn.now) (state S.Store tx.new.conn.now)
-        (λ t. (c : Card) × (t.cards id ≡ Some c) × (c.uses ≡ uses)) (λ it t new. OwesNothing t new id) }
+    ensures { Inside S.Store tx.old tx.new (TurnsInEach result
+        (λ t. (c : Card) × (t.cards id ≡ Some c) × (c.uses ≡ uses)) (λ it t new. OwesNothing t new id)) }
 {
     if uses > GREATEST {
-        return Err(StoreFault);
+        return Err(StoreFault::Store);
     }
     if uses > 1 {
         set_uses(tx, id, uses - 1)?;
@@ -141,9 +132,8 @@ fn use_less<S: Alter>(tx: &mut Transaction<'_, S>, id: i64, uses: u64) -> Result
 
 /// Uses a card once less; the last one takes the card away.
 pub(crate) fn leave_card<S: Alter>(tx: &mut Transaction<'_, S>, id: i64) -> Result<(), StoreFault>
-    ensures same_reference { tx.new.conn.ghost_name ≡ tx.old.conn.ghost_name }
-    ensures done { Turns result (state S.Store tx.old.conn.now) (state S.Store tx.new.conn.now)
-        (λ t. Unit {0}) (λ it t new. OwesNothing t new id) }
+    ensures { Inside S.Store tx.old tx.new (TurnsInEach result
+        (λ t. Unit {0}) (λ it t new. OwesNothing t new id)) }
 {
     let rows = uses_rows(tx, id)?;
     match rows.first() {
@@ -151,7 +141,7 @@ pub(crate) fn leave_card<S: Alter>(tx: &mut Transaction<'_, S>, id: i64) -> Resu
             let uses: u64 = row.get(0)?;
             use_less(tx, id, uses)
         }
-        None => Err(StoreFault),
+        None => Err(StoreFault::Store),
     }
 }
 
@@ -161,9 +151,8 @@ pub(crate) fn use_number<S: Alter>(
     m: &str,
     number: &Option<Pan>,
 ) -> Result<Option<i64>, StoreFault>
-    ensures same_reference { tx.new.conn.ghost_name ≡ tx.old.conn.ghost_name }
-    ensures done { Turns result (state S.Store tx.old.conn.now) (state S.Store tx.new.conn.now)
-        (λ t. Unit {0}) (λ card t new. OwesNumber t new card m.now number.now) }
+    ensures { Inside S.Store tx.old tx.new (TurnsInEach result
+        (λ t. Unit {0}) (λ card t new. OwesNumber t new card m.now number.now)) }
 {
     match number {
         Some(number) => Ok(Some(use_card(tx, m, number.as_str())?)),
@@ -176,9 +165,8 @@ pub(crate) fn leave_number<S: Alter>(
     tx: &mut Transaction<'_, S>,
     card: Option<i64>,
 ) -> Result<(), StoreFault>
-    ensures same_reference { tx.new.conn.ghost_name ≡ tx.old.conn.ghost_name }
-    ensures done { Turns result (state S.Store tx.old.conn.now) (state S.Store tx.new.conn.now)
-        (λ t. Unit {0}) (λ it t new. OwesNoMore t new card) }
+    ensures { Inside S.Store tx.old tx.new (TurnsInEach result
+        (λ t. Unit {0}) (λ it t new. OwesNoMore t new card)) }
 {
     match card {
         Some(id) => leave_card(tx, id),

@@ -3,7 +3,7 @@ ghost use Rattle.std.specs.Prelude.{◌≡◌, IfOk};
 ghost use Rattle.sqlite.specs.Order.{column};
 ghost use Rattle.vault_schema.specs.Version2.Rows.{id_or_null};
 
-use crate::fault::StoreFault;
+use sql_stored::fault::StoreFault;
 use sqlite::Row;
 
 /// The id of a card, or NULL.

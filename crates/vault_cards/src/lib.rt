@@ -3,7 +3,6 @@
 
 mod cards;
 pub mod columns;
-pub mod fault;
 pub mod parameters;
 pub mod pointing;
 pub mod text;

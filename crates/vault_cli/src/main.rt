@@ -8,7 +8,7 @@ use vault_app::run::{no_words, run};
 use vault_file::host::HostPaths;
 use vault_listen::network::Loopback;
 use vault_listen::peer::Limits;
-use vault_live::time::ClockTime;
+use vault_listen::time::ClockTime;
 use vault_wire::watched::Watched;
 
 /// The words that the program was started with.

@@ -10,6 +10,7 @@ pub mod Name
 pub mod Named
 pub mod Numbers
 pub mod Outcome
+pub mod Parts
 pub mod Proper
 pub mod Redeem
 pub mod Refusals

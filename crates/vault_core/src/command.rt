@@ -1,14 +1,12 @@
 //! The commands of a vault.
-ghost use Rattle.std.specs.Prelude.{IsTrue, IfSome, ◌↔◌, ◌≡◌};
+ghost use Rattle.std.specs.Prelude.{IsTrue, ◌↔◌, ◌≡◌};
 ghost use Rattle.vault_core.specs.Lives.{setting as setting_lem};
-ghost use Rattle.vault_core.specs.Name.{IsName};
-ghost use Rattle.vault_core.specs.Scalar.{IsMoment};
-ghost use Rattle.vault_core.specs.Named.{token_command_in};
-ghost use Rattle.vault_core.specs.Table.{request_in};
+ghost use Rattle.vault_core.specs.Named.{token_command, token_command_in};
 
 use crate::limit::LONGEST_LIFE;
 use crate::moment::Moment;
 use crate::name::{Caller, MerchantId};
+use crate::parts::Parts;
 use crate::request::RequestNo;
 use crate::right::Right;
 use crate::row::Lives;
@@ -112,6 +110,27 @@ pub struct TokenCommand {
     pub moment: Moment,
 }
 
+impl TokenCommand {
+    /// The one with these parts.
+    pub fn new(
+        caller: Caller,
+        merchant: MerchantId,
+        token: Token,
+        right: Right,
+        moment: Moment,
+    ) -> TokenCommand
+        ensures { result ≡ token_command caller merchant token right moment }
+    {
+        TokenCommand {
+            caller,
+            merchant,
+            token,
+            right,
+            moment,
+        }
+    }
+}
+
 impl Command {
     ghost use Rattle.vault_core.specs.Proper.{HasLivesInRange, IsProper};
 
@@ -133,83 +152,11 @@ impl Command {
         ensures lives { IsTrue result ↔ HasLivesInRange self.now }
         ensures parts { IsTrue result ↔ IsProper self.now }
     {
-        match *self {
-            Command::SetMerchant {
-                merchant,
-                single_life,
-                multi_life,
-                now,
-                ..
-            } => {
-                let _merchant = merchant.bytes();
-                let _now = now.seconds();
-                single_life <= LONGEST_LIFE && multi_life <= LONGEST_LIFE
+        match Parts::of(self) {
+            Parts::SetMerchant(_, lives) => {
+                lives.single_life <= LONGEST_LIFE && lives.multi_life <= LONGEST_LIFE
             }
-            Command::Grant {
-                caller,
-                merchant,
-                until,
-                now,
-                ..
-            } => has_end(until) && is_asked(caller, merchant, now),
-            Command::Withdraw {
-                caller,
-                merchant,
-                now,
-                ..
-            }
-            | Command::Audit {
-                caller,
-                merchant,
-                now,
-            } => is_asked(caller, merchant, now),
-            Command::Tokenize {
-                caller,
-                merchant,
-                request,
-                pan,
-                digits,
-                now,
-                ..
-            } => {
-                let _request = request.get();
-                let _pan = pan.digits();
-                let _digits = digits.values();
-                is_asked(caller, merchant, now)
-            }
-            _ => {
-                let Some(asked) = self.token_command() else {
-                    unreachable!()
-                };
-                let _token = asked.token.digits();
-                is_asked(asked.caller, asked.merchant, asked.moment)
-            }
-        }
-    }
-
-    /// The parts of a Tokenize; nothing of every other command.
-    pub fn token_request(&self) -> Option<TokenRequest>
-        ensures { result ≡ request_in self.now }
-    {
-        match *self {
-            Command::Tokenize {
-                caller,
-                merchant,
-                request,
-                usage,
-                pan,
-                digits,
-                now,
-            } => Some(TokenRequest {
-                caller,
-                merchant,
-                request,
-                usage,
-                pan,
-                digits,
-                moment: now,
-            }),
-            _ => None,
+            _ => true,
         }
     }
 
@@ -217,60 +164,12 @@ impl Command {
     pub fn token_command(&self) -> Option<TokenCommand>
         ensures { result ≡ token_command_in self.now }
     {
-        let (caller, merchant, token, right, moment) = match *self {
-            Command::Detokenize {
-                caller,
-                merchant,
-                token,
-                now,
-            } => (caller, merchant, token, Right::Detokenize, now),
-            Command::View {
-                caller,
-                merchant,
-                token,
-                now,
-            } => (caller, merchant, token, Right::View, now),
-            Command::Revoke {
-                caller,
-                merchant,
-                token,
-                now,
-            } => (caller, merchant, token, Right::Revoke, now),
-            Command::Purge {
-                caller,
-                merchant,
-                token,
-                now,
-            } => (caller, merchant, token, Right::Purge, now),
-            _ => return None,
-        };
-        Some(TokenCommand {
-            caller,
-            merchant,
-            token,
-            right,
-            moment,
-        })
+        match Parts::of(self) {
+            Parts::Detokenize(asked)
+            | Parts::View(asked)
+            | Parts::Revoke(asked)
+            | Parts::Purge(asked) => Some(asked),
+            _ => None,
+        }
     }
-}
-
-/// The parts that most commands have are always proper. Each is read, since what its type promises
-/// is known where it was.
-fn is_asked(caller: Caller, merchant: MerchantId, now: Moment) -> bool
-    ensures { IsTrue result × IsName caller × IsName merchant × IsMoment now }
-{
-    let _caller = caller.bytes();
-    let _merchant = merchant.bytes();
-    let _now = now.seconds();
-    true
-}
-
-/// So is the end of a right, where there is one.
-fn has_end(until: Option<Moment>) -> bool
-    ensures { IsTrue result × IfSome until IsMoment }
-{
-    if let Some(end) = until {
-        let _end = end.seconds();
-    }
-    true
 }

@@ -1,8 +1,8 @@
 //! What a command answers, and what it changes.
-ghost use Rattle.std.specs.Prelude.{◌≡◌, IsSome};
+ghost use Rattle.std.specs.Prelude.{◌≡◌};
 ghost use Rattle.vault_core.specs.Changes.{Decides, FitsVault, RefusesQuietly, WritesNothing, no_changes};
-ghost use Rattle.vault_core.specs.Named.{token_command_in};
-ghost use Rattle.vault_core.specs.Proper.{HasLivesInRange, IsProper};
+ghost use Rattle.vault_core.specs.Parts.{command_with};
+ghost use Rattle.vault_core.specs.Proper.{HasLivesInRange};
 
 mod answer;
 mod merchant;
@@ -13,8 +13,8 @@ mod token;
 
 use crate::changes::Changes;
 use crate::command::Command;
+use crate::parts::Parts;
 use crate::reply::Reply;
-use crate::row::Lives;
 use crate::window::Window;
 use merchant::{grant, set_merchant, withdraw};
 use redeem::detokenize;
@@ -34,77 +34,27 @@ pub fn decide(w: &Window, c: &Command) -> (Reply, Changes)
     ensures refusals { RefusesQuietly c.now result.0 result.1 }
     ensures silent { WritesNothing w.now c.now → result.1 ≡ no_changes }
 {
-    let proper = c.proper();
-    prove!(proper);
-    settled(w, c)
+    settled(w, &Parts::of(c))
 }
 
 /// Each command in its own function.
-fn settled(w: &Window, c: &Command) -> (Reply, Changes)
-    requires { IsProper c.now }
-    ensures settles { Decides w.now c.now result }
-    ensures refusals { RefusesQuietly c.now result.0 result.1 }
-    ensures silent { WritesNothing w.now c.now → result.1 ≡ no_changes }
+fn settled(w: &Window, parts: &Parts) -> (Reply, Changes)
+    requires { HasLivesInRange (command_with parts.now) }
+    ensures settles { Decides w.now (command_with parts.now) result }
+    ensures refusals { RefusesQuietly (command_with parts.now) result.0 result.1 }
+    ensures silent { WritesNothing w.now (command_with parts.now) → result.1 ≡ no_changes }
 {
-    match *c {
-        Command::SetMerchant {
-            merchant,
-            single_life,
-            multi_life,
-            lead,
-            now,
-        } => {
-            let handed = Lives {
-                single_life,
-                multi_life,
-                moment: now,
-                lead,
-            };
-            set_merchant(w, merchant, handed)
-        }
-        Command::Grant {
-            caller,
-            merchant,
-            right,
-            until,
-            now,
-        } => grant(w, caller, merchant, right, until, now),
-        Command::Tokenize { .. } => {
-            let Some(asked) = c.token_request() else {
-                unreachable!()
-            };
-            tokenize(w, &asked)
-        }
-        Command::Withdraw {
-            caller,
-            merchant,
-            right,
-            now,
-        } => withdraw(w, caller, merchant, right, now),
-        Command::Audit {
-            caller,
-            merchant,
-            now,
-        } => audit(w, caller, merchant, now),
-        _ => on_token(w, c),
-    }
-}
-
-/// Each command on a token in its own function.
-fn on_token(w: &Window, c: &Command) -> (Reply, Changes)
-    requires { IsSome (token_command_in c.now) }
-    ensures settles { Decides w.now c.now result }
-    ensures refusals { RefusesQuietly c.now result.0 result.1 }
-    ensures silent { WritesNothing w.now c.now → result.1 ≡ no_changes }
-{
-    let Some(asked) = c.token_command() else {
-        unreachable!()
-    };
-    match *c {
-        Command::Detokenize { .. } => detokenize(w, &asked),
-        Command::View { .. } => view(w, &asked),
-        Command::Revoke { .. } => revoke(w, &asked),
-        Command::Purge { .. } => purge(w, &asked),
-        _ => unreachable!(),
+    match *parts {
+        Parts::SetMerchant(merchant, handed) => set_merchant(w, merchant, handed),
+        Parts::Grant(caller, merchant, right, until, now) => grant(
+            w, caller, merchant, right, until, now,
+        ),
+        Parts::Withdraw(caller, merchant, right, now) => withdraw(w, caller, merchant, right, now),
+        Parts::Tokenize(asked) => tokenize(w, &asked),
+        Parts::Detokenize(asked) => detokenize(w, &asked),
+        Parts::View(asked) => view(w, &asked),
+        Parts::Revoke(asked) => revoke(w, &asked),
+        Parts::Purge(asked) => purge(w, &asked),
+        Parts::Audit(caller, merchant, now) => audit(w, caller, merchant, now),
     }
 }

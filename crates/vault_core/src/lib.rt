@@ -8,7 +8,7 @@ pub mod laws;
 pub mod limit;
 pub mod moment;
 pub mod name;
-pub mod refusal;
+pub mod parts;
 pub mod reply;
 pub mod request;
 pub mod right;

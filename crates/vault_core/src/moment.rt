@@ -1,11 +1,10 @@
 //! Moments.
-ghost use Rattle.std.specs.Prelude.{◌≡◌, IsOk, IfOk, ◌↔◌, max};
+ghost use Rattle.std.specs.Prelude.{◌≡◌, IsOk, IfErr, IfOk, ◌↔◌, max};
 ghost use Rattle.vault_core.specs.Scalar.{IsMoment};
-ghost use Rattle.vault_core.specs.Refusals.{bad_moment};
 
 use crate::limit::LAST_MOMENT;
-use crate::refusal::BAD_MOMENT;
 use std::marker::Model;
+use vault_refusal::refusal::Refusal;
 
 /// Whole seconds since 1970. Contracts see their number.
 #[derive(Clone, Copy, Debug, PartialEq, Eq, PartialOrd, Ord)]
@@ -26,27 +25,15 @@ impl Model for Moment {
     ghost inverse = { λ n. record { seconds = n } };
 }
 
-/// A number of seconds is no moment.
-#[derive(Clone, Copy, Debug, PartialEq, Eq)]
-pub struct BadMoment;
-
-impl BadMoment {
-    /// The number of the refusal, 6.
-    pub fn number(self) -> u8
-        ensures { result ≡ bad_moment }
-    {
-        BAD_MOMENT
-    }
-}
-
 impl Moment {
     /// The moment of a number of seconds since 1970; else 6 BadMoment.
-    pub fn new(seconds: u64) -> Result<Moment, BadMoment>
+    pub fn new(seconds: u64) -> Result<Moment, Refusal>
         ensures moment { IsOk result ↔ IsMoment seconds }
+        ensures refused { IfErr result (λ refused. refused ≡ Refusal.BadMoment) }
         ensures value { IfOk result (λ m. m ≡ seconds) }
     {
         if seconds > LAST_MOMENT {
-            return Err(BadMoment);
+            return Err(Refusal::BadMoment);
         }
         Ok(Moment { seconds })
     }

@@ -1,11 +1,10 @@
 //! Names of callers and merchants.
-ghost use Rattle.std.specs.Prelude.{◌≡◌, IfOk, IsOk, ◌↔◌};
+ghost use Rattle.std.specs.Prelude.{◌≡◌, IfErr, IfOk, IsOk, ◌↔◌};
 ghost use Rattle.vault_core.specs.Name.{IsName};
-ghost use Rattle.vault_core.specs.Refusals.{bad_name};
 
-use crate::refusal::BAD_NAME;
 use std::marker::Model;
 use vault_pan::short::Short;
+use vault_refusal::refusal::Refusal;
 
 /// The name of a caller, a till or a back office. Contracts see its bytes.
 #[derive(Clone, Copy, Debug, PartialEq, Eq, PartialOrd, Ord)]
@@ -45,27 +44,15 @@ impl Model for MerchantId {
     ghost inverse = { λ name. record { text = name } };
 }
 
-/// A text is no name.
-#[derive(Clone, Copy, Debug, PartialEq, Eq)]
-pub struct BadName;
-
-impl BadName {
-    /// The number of the refusal, 4.
-    pub fn number(self) -> u8
-        ensures { result ≡ bad_name }
-    {
-        BAD_NAME
-    }
-}
-
 /// The bytes of a name.
-fn read_name(text: &[u8]) -> Result<Short<16>, BadName>
+fn read_name(text: &[u8]) -> Result<Short<16>, Refusal>
     ensures name { IsOk result ↔ IsName text.now }
+    ensures refused { IfErr result (λ refused. refused ≡ Refusal.BadName) }
     ensures value { IfOk result (λ name. name ≡ text.now) }
 {
     let valid = text.iter().all(|b| b.is_ascii_lowercase() || b.is_ascii_digit() || *b == b'-');
     if text.is_empty() || text.len() > 16 || !valid {
-        return Err(BadName);
+        return Err(Refusal::BadName);
     }
     let mut name = Short::new();
     name.extend(text);
@@ -74,8 +61,9 @@ fn read_name(text: &[u8]) -> Result<Short<16>, BadName>
 
 impl Caller {
     /// Reads a name: 1 to 16 small letters, digits and hyphens; else 4 BadName.
-    pub fn read(text: &[u8]) -> Result<Caller, BadName>
+    pub fn read(text: &[u8]) -> Result<Caller, Refusal>
         ensures name { IsOk result ↔ IsName text.now }
+        ensures refused { IfErr result (λ refused. refused ≡ Refusal.BadName) }
         ensures value { IfOk result (λ name. name ≡ text.now) }
     {
         let text = read_name(text)?;
@@ -93,8 +81,9 @@ impl Caller {
 
 impl MerchantId {
     /// Reads a name: 1 to 16 small letters, digits and hyphens; else 4 BadName.
-    pub fn read(text: &[u8]) -> Result<MerchantId, BadName>
+    pub fn read(text: &[u8]) -> Result<MerchantId, Refusal>
         ensures name { IsOk result ↔ IsName text.now }
+        ensures refused { IfErr result (λ refused. refused ≡ Refusal.BadName) }
         ensures value { IfOk result (λ name. name ≡ text.now) }
     {
         let text = read_name(text)?;

@@ -1,12 +1,11 @@
 //! The numbers of requests.
-ghost use Rattle.std.specs.Prelude.{◌≡◌, ◌≤◌, IsTrue, IsOk, IfOk, ◌↔◌, All, length};
+ghost use Rattle.std.specs.Prelude.{◌≡◌, ◌≤◌, IsTrue, IsOk, IfErr, IfOk, ◌↔◌, All, length};
 ghost use Rattle.std.specs.Char.{IsAsciiDigit};
 ghost use Rattle.std.specs.Str.Parse.{digits_value};
 ghost use Rattle.vault_core.specs.Scalar.{IsRequest, IsRequestText};
-ghost use Rattle.vault_core.specs.Refusals.{bad_request_number};
 
-use crate::refusal::BAD_REQUEST_NUMBER;
 use std::marker::Model;
+use vault_refusal::refusal::Refusal;
 
 /// The greatest request number.
 pub const LAST_REQUEST: u64 = 9223372036854775807;
@@ -28,19 +27,6 @@ impl Model for RequestNo {
     ghost invariant = { λ r. IsRequest r.number };
 
     ghost inverse = { λ n. record { number = n } };
-}
-
-/// A text is no request number.
-#[derive(Clone, Copy, Debug, PartialEq, Eq)]
-pub struct BadRequestNumber;
-
-impl BadRequestNumber {
-    /// The number of the refusal, 5.
-    pub fn number(self) -> u8
-        ensures { result ≡ bad_request_number }
-    {
-        BAD_REQUEST_NUMBER
-    }
 }
 
 /// Whether all bytes are digits.
@@ -65,19 +51,20 @@ fn value_of(digits: &[u8]) -> u64
 
 impl RequestNo {
     /// Reads a request number: 1 to 19 digits without a leading zero; else 5 BadRequestNumber.
-    pub fn read(text: &[u8]) -> Result<RequestNo, BadRequestNumber>
+    pub fn read(text: &[u8]) -> Result<RequestNo, Refusal>
         ensures request { IsOk result ↔ IsRequestText text.now }
+        ensures refused { IfErr result (λ refused. refused ≡ Refusal.BadRequestNumber) }
         ensures value { IfOk result (λ r. r ≡ digits_value 10 text.now) }
     {
         if text.is_empty() || text.len() > 19 || text[0] == b'0' {
-            return Err(BadRequestNumber);
+            return Err(Refusal::BadRequestNumber);
         }
         if !are_digits(text) {
-            return Err(BadRequestNumber);
+            return Err(Refusal::BadRequestNumber);
         }
         let number = value_of(text);
         if number > LAST_REQUEST {
-            return Err(BadRequestNumber);
+            return Err(Refusal::BadRequestNumber);
         }
         Ok(RequestNo { number })
     }

@@ -1,6 +1,6 @@
 //! The rows of a vault.
 ghost use Rattle.std.specs.Prelude.{◌≡◌};
-ghost use Rattle.vault_core.specs.Lives.{counted_row, row_lives, usual_lives};
+ghost use Rattle.vault_core.specs.Lives.{counted_row, handed_lives, row_lives, usual_lives};
 ghost use Rattle.vault_core.specs.Vault.{lasts, state_of};
 
 use crate::moment::Moment;
@@ -37,16 +37,23 @@ pub struct Lives {
 }
 
 impl Lives {
-    /// These lives of tokens, in seconds, with masks of six digits at the left.
-    pub fn usual(single_life: u64, multi_life: u64, moment: Moment) -> Lives
-        ensures { result ≡ usual_lives single_life multi_life moment }
+    /// Those of these parts.
+    pub fn new(single_life: u64, multi_life: u64, lead: Lead, moment: Moment) -> Lives
+        ensures { result ≡ handed_lives single_life multi_life lead moment }
     {
         Lives {
             single_life,
             multi_life,
             moment,
-            lead: Lead::Six,
+            lead,
         }
+    }
+
+    /// These lives of tokens, in seconds, with masks of six digits at the left.
+    pub fn usual(single_life: u64, multi_life: u64, moment: Moment) -> Lives
+        ensures { result ≡ usual_lives single_life multi_life moment }
+    {
+        Lives::new(single_life, multi_life, Lead::Six, moment)
     }
 
     /// The row of a merchant with these and its counts.
@@ -70,12 +77,7 @@ impl MerchantRow {
     pub fn lives(&self) -> Lives
         ensures { result ≡ row_lives self.now }
     {
-        Lives {
-            single_life: self.single_life,
-            multi_life: self.multi_life,
-            moment: self.moment,
-            lead: self.lead,
-        }
+        Lives::new(self.single_life, self.multi_life, self.lead, self.moment)
     }
 }
 

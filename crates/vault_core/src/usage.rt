@@ -1,10 +1,9 @@
 //! The uses of tokens.
-ghost use Rattle.std.specs.Prelude.{◌≡◌, IfOk, OnErr, codes};
+ghost use Rattle.std.specs.Prelude.{◌≡◌, IfErr, IfOk, OnErr, codes};
 ghost use Rattle.vault_core.specs.Numbers.{use_number};
 ghost use Rattle.vault_core.specs.Words.{use_word};
-ghost use Rattle.vault_core.specs.Refusals.{bad_use};
 
-use crate::refusal::BAD_USE;
+use vault_refusal::refusal::Refusal;
 
 /// What a token stands for. The numbers stand in the stored rows.
 #[derive(Clone, Copy, Debug, PartialEq, Eq)]
@@ -15,25 +14,13 @@ pub enum Use {
     Multi,
 }
 
-/// A text is no use.
-#[derive(Clone, Copy, Debug, PartialEq, Eq)]
-pub struct BadUse;
-
-impl BadUse {
-    /// The number of the refusal, 19.
-    pub fn number(self) -> u8
-        ensures { result ≡ bad_use }
-    {
-        BAD_USE
-    }
-}
-
 impl Use {
     ghost use Rattle.vault_core.specs.declared.usage.Use.{Use};
 
     /// Reads `single` or `multi`; else 19 BadUse.
-    pub fn read(text: &[u8]) -> Result<Use, BadUse>
+    pub fn read(text: &[u8]) -> Result<Use, Refusal>
         ensures word { IfOk result (λ usage. text.now ≡ use_word usage) }
+        ensures refused { IfErr result (λ refused. refused ≡ Refusal.BadUse) }
         ensures none { OnErr result ((usage : Use) → ¬ (text.now ≡ use_word usage)) }
     {
         if text == b"single".as_slice() {
@@ -41,7 +28,7 @@ impl Use {
         } else if text == b"multi".as_slice() {
             Ok(Use::Multi)
         } else {
-            Err(BadUse)
+            Err(Refusal::BadUse)
         }
     }
 

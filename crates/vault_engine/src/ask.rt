@@ -36,19 +36,24 @@ enum Outcome {
 /// Answers a command by the vault, after what it changes was written.
 fn apply<T: Tables>(vault: &mut Vault<T>, command: &Command) -> Result<Reply, Stop>
     requires { HasLivesInRange command.now }
+    // the reply is the vault's, and the vault after the command is held
     ensures answered { T.is_honest (tables_of vault.new) → IfOk result (λ reply. (V : Content)
         → Contains T.holds vault.old V
         → (reply ≡ reply_lem V command.now) × Contains T.holds vault.new (after V command.now)) }
+    // where memory was refused, the vault stays
     ensures memory { result ≡ Err Stop.Memory
         → (V : Content) → Contains T.holds vault.old V → Contains T.holds vault.new V }
+    // where the store failed, a crash leaves the vault before the command or after it
     ensures store { result ≡ Err Stop.Store → T.is_honest (tables_of vault.new)
         → (V : Content) → Contains T.holds vault.old V
         → T.leaves (tables_of vault.new) V (after V command.now) }
     ensures only { IfErr result (λ e. (e ≡ Stop.Memory) ⊎ (e ≡ Stop.Store)) }
     ensures broken { (result ≡ Err Stop.Store) ↔ (is_broken vault.new ≡ true) }
+    // the one of the four that it stands on and that failed, and no other
     ensures told { Tells result
         (failures false false false (is_broken vault.old))
         (failures false false false (is_broken vault.new)) }
+    // an honest disk was honest before, and tables that can't fail don't
     ensures trusted { Trusts T.is_honest T.may_fail vault.old vault.new result }
 {
     match vault.apply(command) {
@@ -76,9 +81,11 @@ fn decide<U: Unit, T: Tables>(
         → Undecided (kind (U.wants unit.now) U.text) (U.shown unit.now) (now, digits)
         (T.is_honest (tables_of vault.new)) (Contains T.holds vault.old) (T.leaves (tables_of vault.new)) }
     ensures only { IfErr result (λ e. (e ≡ Stop.Memory) ⊎ (e ≡ Stop.Store)) }
+    // the one of the four that it stands on and that failed, and no other
     ensures told { Tells result
         (failures false false false (is_broken vault.old))
         (failures false false false (is_broken vault.new)) }
+    // an honest disk was honest before, and tables that can't fail don't
     ensures trusted { Trusts T.is_honest T.may_fail vault.old vault.new result }
 {
     match unit.command(alloc, now, digits) {
@@ -121,17 +128,23 @@ pub fn ask<U: Unit, W: Write, T: Tables, S: Source>(
     vault: &mut Vault<T>,
     source: &mut S,
 ) -> Result<Reply, Stop>
+    // the unit asked for something with the pair that was taken, and its text went out after the write
     ensures answered { let w : Passage = passing S.given source.old source.new W.contents writer.old
         writer.new T.is_honest T.holds T.leaves vault.old vault.new in
         IfOk result (IsAnswered (kind (U.wants unit.now) U.text) w (U.shown unit.now)) }
+    // by which cause it stopped, and what went out and is held then
     ensures stopped { let w : Passage = passing S.given source.old source.new W.contents writer.old writer.new
         T.is_honest T.holds T.leaves vault.old vault.new in
         IfErr result (StopsAt (kind (U.wants unit.now) U.text) w (U.shown unit.now)) }
+    // the one of the four that it stands on and that failed, and no other
     ensures told { Tells result
         (failures (S.has_refused source.old) false (is_stopped writer.old) (is_broken vault.old))
         (failures (S.has_refused source.new) false (is_stopped writer.new) (is_broken vault.new)) }
+    // one pair was taken
     ensures counted { OnOk result (S.count_left source.old ≡ S.count_left source.new + 1) }
+    // the source is the same, further on
     ensures later { S.precedes source.old source.new }
+    // an honest disk was honest before, and tables that can't fail don't
     ensures trusted { Trusts T.is_honest T.may_fail vault.old vault.new result }
 {
     let Ok(pair) = source.next() else {

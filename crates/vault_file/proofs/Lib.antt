@@ -1,5 +1,6 @@
 pub mod Leaving
 pub mod Moving
 pub mod Opening
+pub mod PageLemmas
 pub mod Reopened
 pub mod Whole

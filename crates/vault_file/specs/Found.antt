@@ -12,11 +12,12 @@ use Rattle.sqlite_store.specs.declared.store.FileStore.{FileStore}
 use Rattle.sqlite_wal.specs.Recovery.{Image}
 use Rattle.vault_core.specs.Sound.{Sound}
 use Rattle.vault_core.specs.Vault.{Vault, empty_vault}
-use Rattle.vault_file.specs.Faults.{number_of}
+use Rattle.vault_file.specs.Faults.{refusal_of}
 use Rattle.vault_file.specs.Reopened.{KeepsSome, ReopensSome}
 use Rattle.vault_migrate.specs.Moved.{LeavesSome}
 use Rattle.vault_file.specs.declared.fault.NotOpened.{NotOpened}
 use Rattle.vault_file.specs.declared.fault.NotOpened.TheVariants.{Fault}
+use Rattle.vault_refusal.specs.Refusal.{number_of}
 use Rattle.vault_recover.specs.Crashed.{AreBlank, HoldsEither, IsOpenOf}
 use Rattle.vault_recover.specs.Crashed.{Keeps, KeepsEither, KeepsFirst, MayFind, Reopens, ReopensEither}
 use Rattle.vault_recover.specs.Crashed.{ReopensFirst}
@@ -48,7 +49,7 @@ HoldsSuch image IsSuch = (db : Database) × IsFoundIn image db × IsSuch db
 
 -- neither a wrong schema nor damage
 abbrev pub IsNoVerdict : NotOpened → Type 0
-IsNoVerdict why = (number_of why ≢ 30) × (number_of why ≢ 31)
+IsNoVerdict why = (number_of (refusal_of why) ≢ 30) × (number_of (refusal_of why) ≢ 31)
 
 -- Whatever a stop leaves of a sound vault isn't refused for its schema or its rows, by 30 or 31: not where
 -- the files keep the vault, nor where they keep one of two, nor where they have no table yet or just the

@@ -1,5 +1,7 @@
 pub mod Faults
 pub mod Found
 pub mod Moved
+pub mod Page
 pub mod Paths
+pub mod Refused
 pub mod Reopened

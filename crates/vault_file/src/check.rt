@@ -1,16 +1,17 @@
 //! The whole check of the file at a path.
-ghost use Rattle.std.specs.Prelude.{◌≡◌, ◌↔◌, ℕ, ℤ, None, Err, IfOk, IfErr, IfSome, IsErrAnd};
+ghost use Rattle.std.specs.Prelude.{◌≡◌, ◌↔◌, ℕ, None, Err, IfOk, IfErr, IfSome};
 ghost use Rattle.sqlite.specs.Files.{file_state};
 ghost use Rattle.sqlite.specs.State.{HasCleanDisk};
 ghost use Rattle.sqlite.specs.View.{IsClean};
 ghost use Rattle.sqlite_store.specs.FileStore.{view};
+ghost use Rattle.vault_file.specs.Refused.{GivesBack, IsRefused};
 ghost use Rattle.vault_core.specs.Sound.{Sound};
 ghost use Rattle.vault_core.specs.Vault.{Vault as Content, empty_vault};
 ghost use Rattle.vault_file.specs.Found.{ChecksAs, HoldsSuch, IsNoPath, IsVaultOf, LeavesWhole};
 ghost use Rattle.vault_file.specs.Found.{LeavesFrom, SparesStopped, Stays, StaysWhole, TellsFound};
 ghost use Rattle.vault_file.specs.Paths.{Each};
 ghost use Rattle.vault_recover.specs.Crashed.{Keeps};
-ghost use Rattle.vault_verdict.specs.Opened.{IsLeastBroken, IsWrong};
+ghost use Rattle.vault_verdict.specs.Opened.{IsLeastBroken};
 ghost use Rattle.vault_verdict.specs.Reading.{IsFull};
 ghost use Rattle.vault_verdict.specs.Sizes.{sizes_of};
 ghost use Rattle.vault_schema.specs.Holds.{Holds};
@@ -37,7 +38,7 @@ pub fn check_from<P: Paths>(
     (Sizes, Connection<FileStore<P::Disk>>),
     (NotOpened, Option<Connection<FileStore<P::Disk>>>),
 >
-    ensures no_path { IsNoPath path.now → IsErrAnd result (λ e. e.0 ≡ NotOpened.Refused) }
+    ensures no_path { IsNoPath path.now → IsRefused result }
     ensures sizes { IfOk result (λ told. Each (P.holds paths path.now) (λ image.
         HasCleanDisk (file_state told.1) → HoldsSuch image (λ db. IsVaultOf db told.0))) }
     ensures kept { IfOk result (λ told. Each (P.holds paths path.now) (λ image.
@@ -47,14 +48,10 @@ pub fn check_from<P: Paths>(
         (λ told. Each (P.holds paths path.now) (λ image. LeavesFrom image told.1)) }
     ensures left_refused { IfErr result
         (λ e. IfSome e.1 (λ conn. Each (P.holds paths path.now) (λ image. LeavesFrom image conn))) }
-    ensures refused { IfErr result (λ e. (e.0 ≡ NotOpened.Refused) ↔ (e.1 ≡ None)) }
+    ensures refused { GivesBack result }
     ensures refused_there { IfErr result (λ e. e.0 ≡ NotOpened.Refused → P.refuses paths path.now) }
-    ensures damaged { IfErr result (λ e. IfSome e.1 (λ conn. Each (P.holds paths path.now) (λ image.
-        HasCleanDisk (file_state conn) → (rule : ℕ) → e.0 ≡ NotOpened.Fault (OpenFault.Damaged rule)
-        → HoldsSuch image (λ db. IsFull db → IsLeastBroken db rule)))) }
-    ensures wrong { IfErr result (λ e. IfSome e.1 (λ conn. Each (P.holds paths path.now) (λ image.
-        HasCleanDisk (file_state conn) → (n : ℤ) → e.0 ≡ NotOpened.Fault (OpenFault.WrongSchema n)
-        → HoldsSuch image (λ db. IsWrong db n)))) }
+    ensures tells { IfErr result (λ e. IfSome e.1 (λ conn. Each (P.holds paths path.now) (λ image.
+        HasCleanDisk (file_state conn) → TellsFound image e.0))) }
     ensures never { IfErr result (λ e. IfSome e.1 (λ conn. Each (P.holds paths path.now) (λ image.
         HasCleanDisk (file_state conn) → SparesStopped image e.0))) }
     ensures same { IfOk result

@@ -1,8 +1,9 @@
 //! Why the file at a path isn't opened.
 ghost use Rattle.std.specs.Prelude.{◌≡◌};
-ghost use Rattle.vault_file.specs.Faults.{detail_of, number_of};
+ghost use Rattle.vault_file.specs.Faults.{detail_of, refusal_of};
 
 use std::fmt;
+use vault_refusal::refusal::Refusal;
 use vault_verdict::fault::OpenFault;
 
 /// Why no vault is opened from the file at a path.
@@ -15,13 +16,13 @@ pub enum NotOpened {
 }
 
 impl NotOpened {
-    /// The number of the refusal.
-    pub fn number(&self) -> u8
-        ensures { result ≡ number_of self.now }
+    /// Its refusal: 30 to 34.
+    pub fn refusal(&self) -> Refusal
+        ensures { result ≡ refusal_of self.now }
     {
         match self {
-            NotOpened::Refused => 34,
-            NotOpened::Fault(fault) => fault.number(),
+            NotOpened::Refused => Refusal::FileRefused,
+            NotOpened::Fault(fault) => fault.refusal(),
         }
     }
 
@@ -45,12 +46,10 @@ impl fmt::Display for NotOpened {
     ghost output = { λ fault. Some (words_of fault) };
 
     fn fmt<W: fmt::Write>(&self, f: &mut fmt::Formatter<W>) -> fmt::Result {
-        match self {
-            NotOpened::Refused => f.write_str("34"),
-            NotOpened::Fault(OpenFault::WrongSchema(version)) => write!(f, "30 {version}"),
-            NotOpened::Fault(OpenFault::Damaged(rule)) => write!(f, "31 {rule}"),
-            NotOpened::Fault(OpenFault::Memory) => f.write_str("32"),
-            NotOpened::Fault(OpenFault::Store) => f.write_str("33"),
+        let number = self.refusal().number();
+        match self.detail() {
+            None => write!(f, "{number}"),
+            Some(detail) => write!(f, "{number} {detail}"),
         }
     }
 }

@@ -1,6 +1,7 @@
 //! The vault in the file at a path.
 #![tactic(auto)]
 
+pub mod blank;
 pub mod check;
 pub mod fault;
 pub mod host;

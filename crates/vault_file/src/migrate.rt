@@ -1,17 +1,17 @@
 //! The file at a path moves to the newest schema.
-ghost use Rattle.std.specs.Prelude.{◌≡◌, ◌≢◌, ◌↔◌, ℕ, ℤ, None, Err, IfOk, IfErr, IfSome, IsErrAnd};
+ghost use Rattle.std.specs.Prelude.{◌≡◌, ◌≢◌, ◌↔◌, None, Err, IfOk, IfErr, IfSome};
 ghost use Rattle.sqlite.specs.Files.{file_state};
 ghost use Rattle.sqlite.specs.State.{HasCleanDisk};
 ghost use Rattle.sqlite.specs.View.{IsClean};
 ghost use Rattle.sqlite_store.specs.FileStore.{view};
+ghost use Rattle.vault_file.specs.Refused.{GivesBack, IsRefused};
 ghost use Rattle.vault_core.specs.Sound.{Sound};
 ghost use Rattle.vault_core.specs.Vault.{Vault as Content};
-ghost use Rattle.vault_file.specs.Found.{HoldsSuch, IsNoPath, IsNoVerdict, LeavesFrom, LeavesWhole};
+ghost use Rattle.vault_file.specs.Found.{IsNoPath, IsNoVerdict, LeavesFrom, LeavesWhole};
 ghost use Rattle.vault_file.specs.Found.{MayFindNone, SparesStopped, Stays, StaysWhole};
 ghost use Rattle.vault_file.specs.Moved.{LeavesOld, MayFindOlder, MovesAs, MovesFrom, StaysOld, TellsOld};
 ghost use Rattle.vault_file.specs.Paths.{Each};
 ghost use Rattle.vault_file.specs.Reopened.{KeepsIn, KeepsSome};
-ghost use Rattle.vault_migrate.specs.Moved.{FindsBroken, FindsVersion};
 ghost use Rattle.vault_schema.specs.Versions.{newest, number_of};
 ghost use Rattle.vault_schema.specs.declared.version.Version.{Version};
 
@@ -37,18 +37,14 @@ pub fn migrate_from<P: Paths>(
     (i64, Connection<FileStore<P::Disk>>),
     (NotOpened, Option<Connection<FileStore<P::Disk>>>),
 >
-    ensures no_path { IsNoPath path.now → IsErrAnd result (λ e. e.0 ≡ NotOpened.Refused) }
+    ensures no_path { IsNoPath path.now → IsRefused result }
     ensures version { IfOk result (λ told. told.0 ≡ number_of newest) }
     ensures moved { IfOk result
         (λ told. Each (P.holds paths path.now) (λ image. MovesFrom image told.1)) }
-    ensures refused { IfErr result (λ e. (e.0 ≡ NotOpened.Refused) ↔ (e.1 ≡ None)) }
+    ensures refused { GivesBack result }
     ensures refused_there { IfErr result (λ e. e.0 ≡ NotOpened.Refused → P.refuses paths path.now) }
-    ensures damaged { IfErr result (λ e. IfSome e.1 (λ conn. Each (P.holds paths path.now) (λ image.
-        HasCleanDisk (file_state conn) → (rule : ℕ) → e.0 ≡ NotOpened.Fault (OpenFault.Damaged rule)
-        → HoldsSuch image (λ db. FindsBroken db rule)))) }
-    ensures wrong { IfErr result (λ e. IfSome e.1 (λ conn. Each (P.holds paths path.now) (λ image.
-        HasCleanDisk (file_state conn) → (n : ℤ) → e.0 ≡ NotOpened.Fault (OpenFault.WrongSchema n)
-        → HoldsSuch image (λ db. FindsVersion db n)))) }
+    ensures tells { IfErr result (λ e. IfSome e.1 (λ conn. Each (P.holds paths path.now) (λ image.
+        HasCleanDisk (file_state conn) → TellsOld image e.0))) }
     ensures never_in { IfErr result (λ e. IfSome e.1 (λ conn. Each (P.holds paths path.now) (λ image.
         HasCleanDisk (file_state conn)
         → (v : Version) (V : Content) → Sound V → KeepsIn v image V → IsNoVerdict e.0))) }

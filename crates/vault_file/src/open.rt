@@ -1,16 +1,15 @@
 //! The vault in the file at a path is opened, and closed.
-ghost use Rattle.std.specs.Prelude.{◌≡◌, ◌↔◌, ◌≤◌, ℕ, ℤ, false, None, Err, IfOk, IfErr, IfSome, IsErrAnd};
+ghost use Rattle.std.specs.Prelude.{◌≡◌, ◌≤◌, false, None, Err, IfOk, IfErr, IfSome};
 ghost use Rattle.sqlite.specs.Files.{file_state};
 ghost use Rattle.sqlite.specs.State.{HasCleanDisk};
 ghost use Rattle.sqlite.specs.View.{IsClean, doubt};
 ghost use Rattle.sqlite_store.specs.FileStore.{view};
+ghost use Rattle.vault_file.specs.Refused.{GivesBack, IsRefused};
 ghost use Rattle.vault_core.specs.Vault.{Vault as Content};
-ghost use Rattle.vault_file.specs.Found.{HoldsSuch, IsNoPath, LeavesWhole, LeavesFrom, MayFindNone};
+ghost use Rattle.vault_file.specs.Found.{IsNoPath, LeavesWhole, LeavesFrom, MayFindNone};
 ghost use Rattle.vault_file.specs.Found.{OpensFrom, SparesStopped, Stays, StaysWhole, TellsFound};
 ghost use Rattle.vault_file.specs.Paths.{Each};
 ghost use Rattle.vault_recover.specs.Crashed.{Reopens, ReopensEither};
-ghost use Rattle.vault_verdict.specs.Opened.{IsLeastBroken, IsWrong};
-ghost use Rattle.vault_verdict.specs.Reading.{IsFull};
 ghost use Rattle.vault_schema.specs.Holds.{LeavesEither};
 ghost use Rattle.vault_sql.specs.Held.{AreFresh, AreHeld};
 ghost use Rattle.vault_store.specs.Applied.{Contains, is_broken, tables_of};
@@ -45,18 +44,14 @@ pub fn open_from<P: Paths>(
     paths: P,
     cache: Cache,
 ) -> Result<Vault<TablesAt<P>>, (NotOpened, Option<Connection<FileStore<P::Disk>>>)>
-    ensures no_path { IsNoPath path.now → IsErrAnd result (λ e. e.0 ≡ NotOpened.Refused) }
+    ensures no_path { IsNoPath path.now → IsRefused result }
     ensures fresh { IfOk result (λ vault. (is_broken vault ≡ false) × AreFresh (tables_of vault)) }
     ensures found { IfOk result (λ vault. Each (P.holds paths path.now)
         (λ image. OpensFrom image (tables_of vault).conn)) }
-    ensures refused { IfErr result (λ e. (e.0 ≡ NotOpened.Refused) ↔ (e.1 ≡ None)) }
+    ensures refused { GivesBack result }
     ensures refused_there { IfErr result (λ e. e.0 ≡ NotOpened.Refused → P.refuses paths path.now) }
-    ensures damaged { IfErr result (λ e. IfSome e.1 (λ conn. Each (P.holds paths path.now) (λ image.
-        HasCleanDisk (file_state conn) → (rule : ℕ) → e.0 ≡ NotOpened.Fault (OpenFault.Damaged rule)
-        → HoldsSuch image (λ db. IsFull db → IsLeastBroken db rule)))) }
-    ensures wrong { IfErr result (λ e. IfSome e.1 (λ conn. Each (P.holds paths path.now) (λ image.
-        HasCleanDisk (file_state conn) → (n : ℤ) → e.0 ≡ NotOpened.Fault (OpenFault.WrongSchema n)
-        → HoldsSuch image (λ db. IsWrong db n)))) }
+    ensures tells { IfErr result (λ e. IfSome e.1 (λ conn. Each (P.holds paths path.now) (λ image.
+        HasCleanDisk (file_state conn) → TellsFound image e.0))) }
     ensures never { IfErr result (λ e. IfSome e.1 (λ conn. Each (P.holds paths path.now) (λ image.
         HasCleanDisk (file_state conn) → SparesStopped image e.0))) }
     ensures left { IfErr result
@@ -84,11 +79,11 @@ pub fn open_vault<P: Paths>(
     paths: P,
     cache: Cache,
 ) -> Result<Vault<TablesAt<P>>, (NotOpened, Option<FileStore<P::Disk>>)>
-    ensures no_path { IsNoPath path.now → IsErrAnd result (λ e. e.0 ≡ NotOpened.Refused) }
+    ensures no_path { IsNoPath path.now → IsRefused result }
     ensures fresh { IfOk result (λ vault. (is_broken vault ≡ false) × AreFresh (tables_of vault)) }
     ensures found { IfOk result (λ vault. Each (P.holds paths path.now)
         (λ image. OpensFrom image (tables_of vault).conn)) }
-    ensures refused { IfErr result (λ e. (e.0 ≡ NotOpened.Refused) ↔ (e.1 ≡ None)) }
+    ensures refused { GivesBack result }
     ensures refused_there { IfErr result (λ e. e.0 ≡ NotOpened.Refused → P.refuses paths path.now) }
     ensures never { IfErr result (λ e. IfSome e.1 (λ left. Each (P.holds paths path.now)
         (λ image. IsClean (view left) → SparesStopped image e.0))) }

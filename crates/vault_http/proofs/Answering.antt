@@ -13,7 +13,6 @@ use Rattle.vault_engine.specs.declared.stop.Stop.TheVariants as stop
 use Rattle.vault_wire.specs.Parts.{Parts}
 use Rattle.vault_routes.specs.Wanted.{Wants}
 use Rattle.vault_http.specs.Exchanges.{Asks, Exchange, messages, text_at, vault_after}
-use Rattle.vault_http.specs.Faults.{fault_of}
 use Rattle.vault_http.specs.Passing.{Passage, AllAnswered, Answered, IsBefore, Keeps, Sends, Stops}
 use Rattle.vault_http.proofs.Exchanging.{vault_after-nil}
 
@@ -40,7 +39,7 @@ answered_of w p x is a = record {
 }
 
 -- asking stopped at one message
-pub stops_of : (w : Passage) (p : Parts) (e : Stop) → StopsAt messages w p e → Stops (fault_of e) w (p ∷ [])
+pub stops_of : (w : Passage) (p : Parts) (e : Stop) → StopsAt messages w p e → Stops e w (p ∷ [])
 unfolding exchange_of text_at vault_after asking.text_at asking.vault_after
 stops_of w p stop.Source a = record {
   pairs = [];

@@ -11,8 +11,8 @@ use Rattle.vault_http.specs.Exchanges.{Pair, Exchange, AskFirst, text_at, texts,
 use Rattle.vault_http.specs.Passing.{Passage, passing, Takes, Sends, Keeps, IsBefore, Answered, AllAnswered}
 use Rattle.vault_http.specs.Passing.{StopsAtSource, StopsAtWrite, StopsAtStore, StopsBefore, StopsAfter}
 use Rattle.vault_http.specs.Passing.{Stops}
-use Rattle.vault_http.specs.declared.fault.ServeFault.{ServeFault}
-use Rattle.vault_http.specs.declared.fault.ServeFault.TheVariants as fault
+use Rattle.vault_engine.specs.declared.stop.Stop.{Stop as ServeFault}
+use Rattle.vault_engine.specs.declared.stop.Stop.TheVariants as fault
 use Rattle.vault_http.proofs.Bytes.{appends_both}
 use Rattle.vault_http.proofs.Exchanging.{asks_both, asks_longer, texts-append, vault_after-append}
 

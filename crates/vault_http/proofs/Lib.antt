@@ -3,6 +3,7 @@ pub mod Bytes
 pub mod Closing
 pub mod Counting
 pub mod Exchanging
+pub mod Fed
 pub mod Following
 pub mod Serving
 pub mod Telling

@@ -22,8 +22,8 @@ use Rattle.vault_http.specs.Passing.{Stops}
 use Rattle.vault_http.specs.Refusing.{IsRefused}
 use Rattle.vault_http.specs.Served.{Begins, IsServed, IsStopped}
 use Rattle.vault_http.specs.Served.{answered_fault}
-use Rattle.vault_http.specs.declared.fault.ServeFault.{ServeFault}
-use Rattle.vault_http.specs.declared.fault.ServeFault.TheVariants as fault
+use Rattle.vault_engine.specs.declared.stop.Stop.{Stop as ServeFault}
+use Rattle.vault_engine.specs.declared.stop.Stop.TheVariants as fault
 use Rattle.vault_http.specs.declared.served.Served.{Served}
 use Rattle.vault_http.proofs.Bytes.{appends_both}
 use Rattle.vault_http.proofs.Closing.{up_to_close-none}

@@ -2,8 +2,8 @@
 use Rattle.std.proofs.Common.{◌≡◌, ap, ◌∙◌}
 use Rattle.std.specs.Prelude.{Bool, true, false, Result, Ok, Err}
 use Rattle.vault_http.specs.Faults.{Failures, Tells, failures}
-use Rattle.vault_http.specs.declared.fault.ServeFault.{ServeFault}
-use Rattle.vault_http.specs.declared.fault.ServeFault.TheVariants as fault
+use Rattle.vault_engine.specs.declared.stop.Stop.{Stop as ServeFault}
+use Rattle.vault_engine.specs.declared.stop.Stop.TheVariants as fault
 
 -- no reader is watched, so none failed
 pub not_read : (e : ServeFault) (s w v s' w' v' : Bool)
@@ -48,3 +48,8 @@ tells_as X Y fault.Read a b c same t = t ∙ ap (λ (f : Failures). record f { r
 tells_as X Y fault.Write a b c same t = t ∙ ap (λ (f : Failures). record f { writer = true }) same
 tells_as X Y fault.Store a b c same t = t ∙ ap (λ (f : Failures). record f { vault = true }) same
 tells_as X Y fault.Memory a b c same t = t ∙ same
+
+-- what was told before a read that went well is told after it
+pub after_read : (s b b' w v : Bool) (before : Failures) → b' ≡ b → failures s b w v ≡ before
+    → failures s b' w v ≡ before
+after_read s b b' w v before same told = ap (λ r. failures s r w v) same ∙ told

@@ -9,7 +9,8 @@ use Rattle.vault_core.specs.declared.reply.Reply.{Reply}
 use Rattle.vault_engine.specs.Asking.{Kind, kind}
 pub use Rattle.vault_engine.specs.Asking.{Pair, commands_in, reply_to}
 use Rattle.vault_wire.specs.Answer.{answer_bytes}
-use Rattle.vault_wire.specs.Faults.{number_of}
+use Rattle.vault_refusal.specs.Refusal.{number_of}
+use Rattle.vault_wire.specs.Faults.{refusal_of}
 use Rattle.vault_wire.specs.Messages.{Request}
 use Rattle.vault_wire.specs.Parts.{Parts, parts_of, closes}
 use Rattle.vault_wire.specs.declared.fault.WireFault.{WireFault}
@@ -67,7 +68,8 @@ texts V (x ∷ xs) = text_at V x ++ texts (vault_after V (x ∷ [])) xs
 
 -- the text that answers a fault of the bytes, after which the connection closes
 unfoldable pub fault_text : WireFault → List ℕ
-fault_text e = answer_bytes (status_for (number_of e)) None (refusal_text (number_of e)) true
+fault_text e =
+    let number = number_of (refusal_of e) in answer_bytes (status_for number) None (refusal_text number) true
 
 -- the same, where there is a fault
 abbrev pub last_text : Option WireFault → List ℕ

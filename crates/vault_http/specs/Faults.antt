@@ -1,32 +1,14 @@
 -- Why a service stops.
-use Rattle.std.specs.Prelude.{◌≡◌, ℕ, true, Result, Ok, Err}
-pub use Rattle.vault_engine.specs.Stops.{Failures, failures}
+pub use Rattle.vault_engine.specs.Stops.{Failures, Tells, failures}
 use Rattle.vault_engine.specs.declared.stop.Stop.{Stop}
-use Rattle.vault_engine.specs.declared.stop.Stop.TheVariants as stop
-use Rattle.vault_http.specs.declared.fault.ServeFault.{ServeFault}
-use Rattle.vault_http.specs.declared.fault.ServeFault.TheVariants.{Source, Read, Write, Store, Memory}
+use Rattle.vault_engine.specs.declared.stop.Stop.TheVariants.{Source, Read, Write, Store, Memory}
+use Rattle.vault_refusal.specs.declared.refusal.Refusal.{Refusal}
+use Rattle.vault_refusal.specs.declared.refusal.Refusal.TheVariants as refusal
 
--- the numbers of the faults
-abbrev pub number_of : ServeFault → ℕ
-number_of Source = 60
-number_of Read = 61
-number_of Write = 62
-number_of Store = 63
-number_of Memory = 64
-
--- the fault of a service that stops at a message
-abbrev pub fault_of : Stop → ServeFault
-fault_of stop.Source = Source
-fault_of stop.Read = Read
-fault_of stop.Write = Write
-fault_of stop.Store = Store
-fault_of stop.Memory = Memory
-
--- a fault comes exactly where its own one fails: that one has failed now, and all else is as it was
-abbrev pub Tells : {X : Type 0} → Result X ServeFault → Failures → Failures → Type 0
-Tells (Ok x) old new = new ≡ old
-Tells (Err Source) old new = new ≡ record old { source = true }
-Tells (Err Read) old new = new ≡ record old { reader = true }
-Tells (Err Write) old new = new ≡ record old { writer = true }
-Tells (Err Store) old new = new ≡ record old { vault = true }
-Tells (Err Memory) old new = new ≡ old
+-- the refusal that its stop is
+abbrev pub refusal_of : Stop → Refusal
+refusal_of Source = refusal.ServiceSource
+refusal_of Read = refusal.ServiceRead
+refusal_of Write = refusal.ServiceWrite
+refusal_of Store = refusal.ServiceStore
+refusal_of Memory = refusal.ServiceMemory

@@ -4,8 +4,8 @@ use Rattle.vault_core.specs.Vault.{Vault as Content}
 pub use Rattle.vault_engine.specs.Passing.{Passage, passing, Takes, Sends, Keeps, IsBefore}
 use Rattle.vault_wire.specs.Parts.{Parts}
 use Rattle.vault_http.specs.Exchanges.{Pair, Exchange, AskFirst, vault_after, text_at, texts}
-use Rattle.vault_http.specs.declared.fault.ServeFault.{ServeFault}
-use Rattle.vault_http.specs.declared.fault.ServeFault.TheVariants as fault
+use Rattle.vault_engine.specs.declared.stop.Stop.{Stop as ServeFault}
+use Rattle.vault_engine.specs.declared.stop.Stop.TheVariants as fault
 
 -- the exchanges are answered: their texts went out, and the vault after them is kept
 abbrev pub Answered : Passage → List Exchange → Type 0

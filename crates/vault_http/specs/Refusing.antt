@@ -1,8 +1,8 @@
 -- A text that is sent, or a beginning of it.
 use Rattle.std.specs.Prelude.{◌≡◌, ℕ, ◌<◌, List, length, take, Option, Result, Ok, Err}
 use Rattle.std.specs.Io.KnownBytes.{Appends}
-use Rattle.vault_http.specs.declared.fault.ServeFault.{ServeFault}
-use Rattle.vault_http.specs.declared.fault.ServeFault.TheVariants as fault
+use Rattle.vault_engine.specs.declared.stop.Stop.{Stop as ServeFault}
+use Rattle.vault_engine.specs.declared.stop.Stop.TheVariants as fault
 
 -- the text went out; or a beginning of it and not all, where the writer failed; or nothing, for want
 -- of memory

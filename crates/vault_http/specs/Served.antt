@@ -1,6 +1,6 @@
 -- What a service does with the bytes of a connection.
 use Rattle.std.specs.Prelude.{◌≡◌, ℕ, ◌+◌, ◌<◌, ◌⊎◌, List, ◌++◌, length, take, All, false, Option}
-use Rattle.std.specs.Prelude.{Some, None, if◌then◌else◌}
+use Rattle.std.specs.Prelude.{Some, None, IfErr, IfOk, Result, if◌then◌else◌}
 use Rattle.std.specs.List.{flat_map}
 use Rattle.std.specs.Io.KnownBytes.{Consumes, IsAtEnd}
 use Rattle.vault_core.specs.Keys.{Bytes}
@@ -11,8 +11,8 @@ use Rattle.vault_wire.specs.declared.fault.WireFault.{WireFault}
 use Rattle.vault_http.specs.Exchanges.{Pair, Exchange, AskFirst, commands_of, fault_text, has_close}
 use Rattle.vault_http.specs.Exchanges.{last_text, shown, texts, up_to_close, vault_after}
 use Rattle.vault_http.specs.Passing.{Passage, IsBefore, Keeps, Sends, Stops, Takes}
-use Rattle.vault_http.specs.declared.fault.ServeFault.{ServeFault}
-use Rattle.vault_http.specs.declared.fault.ServeFault.TheVariants as fault
+use Rattle.vault_engine.specs.declared.stop.Stop.{Stop as ServeFault}
+use Rattle.vault_engine.specs.declared.stop.Stop.TheVariants as fault
 use Rattle.vault_http.specs.declared.served.Served.{Served}
 
 -- bytes as a reader has them left
@@ -100,3 +100,9 @@ IsStopped old new w fault.Write = ((e : Option WireFault) × StopsAmong fault.Wr
     ⊎ StopsAtFault old new w
 IsStopped old new w fault.Store = (e : Option WireFault) × StopsAmong fault.Store old new w e
 IsStopped old new w fault.Memory = StopsForMemory old new w
+
+-- how a service of a connection ends: all is answered and each number that went out is counted, or it stopped
+pub record Serves (old new : Left) (w : Passage) (r : Result Served ServeFault) : Type 0 where
+  pub served : IfOk r (IsServed old new w)
+  pub counted : IfOk r (IsCounted w)
+  pub stopped : IfErr r (IsStopped old new w)

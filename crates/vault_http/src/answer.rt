@@ -4,6 +4,7 @@ ghost use Rattle.vault_store.specs.Applied.{is_broken, tables_of};
 ghost use Rattle.vault_wire.specs.Watching.{is_stopped};
 ghost use Rattle.vault_http.specs.Faults.{Tells, failures};
 ghost use Rattle.vault_http.specs.Passing.{AllAnswered, Passage, Stops, passing};
+ghost use Rattle.vault_engine.specs.Stops.{Trusts};
 
 use crate::fault::ServeFault;
 use crate::unit::AskedMessage;
@@ -34,12 +35,11 @@ pub(crate) fn answer_one<W: Write, T: Tables, S: Source>(
         (failures (S.has_refused source.new) false (is_stopped writer.new) (is_broken vault.new)) }
     ensures counted { OnOk result (S.count_left source.old ≡ S.count_left source.new + 1) }
     ensures later { S.precedes source.old source.new }
-    ensures sturdy { T.may_fail ≡ false → is_broken vault.old ≡ false → ¬ (result ≡ Err ServeFault.Store) }
-    ensures honest { T.is_honest (tables_of vault.new) → T.is_honest (tables_of vault.old) }
+    ensures trusted { Trusts T.is_honest T.may_fail vault.old vault.new result }
 {
     let asked = AskedMessage { routes, message };
     match ask(alloc, &asked, writer, vault, source) {
         Ok(_) => Ok(()),
-        Err(stop) => Err(ServeFault::from(stop)),
+        Err(stop) => Err(stop),
     }
 }

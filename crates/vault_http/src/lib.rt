@@ -4,7 +4,6 @@
 mod answer;
 pub mod fault;
 pub mod laws;
-pub mod refusal;
 pub mod serve;
 pub mod served;
 mod unit;

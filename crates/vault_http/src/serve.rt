@@ -6,7 +6,8 @@ ghost use Rattle.vault_http.specs.Exchanges.{fault_text, has_close, up_to_close}
 ghost use Rattle.vault_http.specs.Faults.{Tells, failures};
 ghost use Rattle.vault_http.specs.Passing.{AllAnswered, Passage, Stops, passing};
 ghost use Rattle.vault_http.specs.Refusing.{IsRefused};
-ghost use Rattle.vault_http.specs.Served.{IsCounted, IsServed, IsStopped};
+ghost use Rattle.vault_http.specs.Served.{Serves};
+ghost use Rattle.vault_engine.specs.Stops.{Trusts};
 
 use crate::answer::answer_one;
 use crate::fault::ServeFault;
@@ -49,8 +50,7 @@ fn answer_all<W: Write, T: Tables, S: Source>(
     ensures counted { OnOk result (S.count_left source.old
         ≡ S.count_left source.new + length (up_to_close messages.now)) }
     ensures later { S.precedes source.old source.new }
-    ensures sturdy { T.may_fail ≡ false → is_broken vault.old ≡ false → ¬ (result ≡ Err ServeFault.Store) }
-    ensures honest { T.is_honest (tables_of vault.new) → T.is_honest (tables_of vault.old) }
+    ensures trusted { Trusts T.is_honest T.may_fail vault.old vault.new result }
 {
     for message in messages {
         match answer_one(alloc, routes, message, writer, vault, source) {
@@ -70,7 +70,7 @@ fn answer_all<W: Write, T: Tables, S: Source>(
 fn fault_answer(alloc: Global, fault: WireFault) -> Result<Vec<u8>, AllocError>
     ensures { IfOk result (λ out. out.items ≡ fault_text fault) }
 {
-    let number = fault.number();
+    let number = fault.refusal().number();
     let body = refusal_text(alloc, number)?;
     answer_text(alloc, status_for(number), None, &body, true)
 }
@@ -105,20 +105,16 @@ pub fn serve_by<R: Read, W: Write, T: Tables, S: Source>(
     vault: &mut Vault<T>,
     source: &mut S,
 ) -> Result<Served, ServeFault>
-    ensures served { let w : Passage = passing S.given source.old source.new W.contents writer.old writer.new
+    ensures serves { let w : Passage = passing S.given source.old source.new W.contents writer.old writer.new
         T.is_honest T.holds T.leaves vault.old vault.new in
-        IfOk result (IsServed (R.remaining (inner_of reader.old)) (R.remaining (inner_of reader.new)) w) }
-    ensures stopped { let w : Passage = passing S.given source.old source.new W.contents writer.old writer.new
-        T.is_honest T.holds T.leaves vault.old vault.new in
-        IfErr result (IsStopped (R.remaining (inner_of reader.old)) (R.remaining (inner_of reader.new)) w) }
+        Serves (R.remaining (inner_of reader.old)) (R.remaining (inner_of reader.new)) w result }
     ensures told { Tells result
         (failures (S.has_refused source.old) (is_stopped reader.old) (is_stopped writer.old)
         (is_broken vault.old))
         (failures (S.has_refused source.new) (is_stopped reader.new) (is_stopped writer.new)
         (is_broken vault.new)) }
     ensures later { S.precedes source.old source.new }
-    ensures sturdy { T.may_fail ≡ false → is_broken vault.old ≡ false → ¬ (result ≡ Err ServeFault.Store) }
-    ensures honest { T.is_honest (tables_of vault.new) → T.is_honest (tables_of vault.old) }
+    ensures trusted { Trusts T.is_honest T.may_fail vault.old vault.new result }
 {
     let mut intake = Intake::new(alloc);
     let mut piece = [0u8; PIECE];
@@ -172,22 +168,16 @@ pub fn serve<R: Read, W: Write, T: Tables, S: Source>(
     vault: &mut Vault<T>,
     source: &mut S,
 ) -> Result<Served, ServeFault>
-    ensures served { let w : Passage = passing S.given source.old source.new W.contents writer.old writer.new
+    ensures serves { let w : Passage = passing S.given source.old source.new W.contents writer.old writer.new
         T.is_honest T.holds T.leaves vault.old vault.new in
-        IfOk result (IsServed (R.remaining (inner_of reader.old)) (R.remaining (inner_of reader.new)) w) }
-    ensures counted { let w : Passage = passing S.given source.old source.new W.contents writer.old writer.new
-        T.is_honest T.holds T.leaves vault.old vault.new in IfOk result (IsCounted w) }
-    ensures stopped { let w : Passage = passing S.given source.old source.new W.contents writer.old writer.new
-        T.is_honest T.holds T.leaves vault.old vault.new in
-        IfErr result (IsStopped (R.remaining (inner_of reader.old)) (R.remaining (inner_of reader.new)) w) }
+        Serves (R.remaining (inner_of reader.old)) (R.remaining (inner_of reader.new)) w result }
     ensures told { Tells result
         (failures (S.has_refused source.old) (is_stopped reader.old) (is_stopped writer.old)
         (is_broken vault.old))
         (failures (S.has_refused source.new) (is_stopped reader.new) (is_stopped writer.new)
         (is_broken vault.new)) }
     ensures later { S.precedes source.old source.new }
-    ensures sturdy { T.may_fail ≡ false → is_broken vault.old ≡ false → ¬ (result ≡ Err ServeFault.Store) }
-    ensures honest { T.is_honest (tables_of vault.new) → T.is_honest (tables_of vault.old) }
+    ensures trusted { Trusts T.is_honest T.may_fail vault.old vault.new result }
 {
     let Ok(routes) = Routes::new(alloc) else {
         return Err(ServeFault::Memory);

@@ -11,8 +11,8 @@ use vault_core::moment::Moment;
 use vault_core::reply::Reply;
 use vault_engine::unit::Unit;
 use vault_pan::draw::Digits;
+use vault_refusal::refusal::Refusal;
 use vault_routes::fault::HttpFault;
-use vault_routes::refusal::BAD_METHOD;
 use vault_routes::reply::body_of;
 use vault_routes::route::Routes;
 use vault_routes::status::status_of;
@@ -46,7 +46,7 @@ fn written(
 fn methods(routes: &Routes, message: &Message, number: u8) -> Option<&'static str>
     ensures { option_map (λ s. s.now) result ≡ methods_with message.now (Err number) }
 {
-    if number != BAD_METHOD {
+    if number != Refusal::BadMethod.number() {
         return None;
     }
     let route = routes.find(message.target())?;
@@ -75,7 +75,7 @@ impl<'a> Unit for AskedMessage<'a> {
         match command_of(alloc, self.routes, self.message, now, digits) {
             Ok(command) => Ok(Ok(command)),
             Err(fault) => match fault {
-                HttpFault::Memory => Err(AllocError),
+                HttpFault::ServiceMemory => Err(AllocError),
                 _ => Ok(Err(fault.number())),
             },
         }

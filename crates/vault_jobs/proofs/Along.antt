@@ -2,7 +2,7 @@
 use Rattle.std.proofs.Common.{◌≡◌, ℕ, ◌≤◌, List, [], None, Option, length, subst}
 use Rattle.vault_http.specs.Exchanges.{Pair}
 use Rattle.vault_http.specs.Passing.{Passage}
-use Rattle.vault_live.specs.Live.{AreGiven, Turns}
+use Rattle.vault_listen.specs.Live.{AreGiven, Turns}
 use Rattle.vault_jobs.specs.Doing.{Along}
 use Rattle.vault_jobs.specs.Streams.{Streams}
 

@@ -6,7 +6,7 @@ use Rattle.vault_core.specs.Vault.{Vault as Content}
 use Rattle.vault_core.specs.declared.command.Command.{Command}
 use Rattle.vault_http.specs.Passing.{IsBefore, Passage}
 use Rattle.vault_listen.specs.Peers.{Link, vault_passing}
-use Rattle.vault_live.specs.Live.{Turns}
+use Rattle.vault_listen.specs.Live.{Turns}
 use Rattle.vault_rights.specs.Named.{Row}
 use Rattle.vault_store.specs.Applied.{Contains, tables_of}
 use Rattle.vault_store.specs.declared.vault.Vault.{Vault}

@@ -5,7 +5,7 @@ use Rattle.std.proofs.Common.{subst, sym}
 use Rattle.std.specs.Prelude.{IfErr}
 use Rattle.vault_http.specs.Passing.{Passage}
 use Rattle.vault_batch.specs.declared.asker.Asker.{Asker}
-use Rattle.vault_live.specs.Live.{Turns}
+use Rattle.vault_listen.specs.Live.{Turns}
 use Rattle.vault_listen.specs.Peers.{Link}
 use Rattle.vault_store.specs.declared.vault.Fault.{Fault}
 use Rattle.vault_jobs.specs.Causes.{IsCause, IsCauseOf}

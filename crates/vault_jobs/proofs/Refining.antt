@@ -6,8 +6,8 @@ use Rattle.vault_core.specs.declared.command.Command.{Command}
 use Rattle.vault_wire.specs.Parts.{Parts}
 use Rattle.vault_http.specs.Passing.{AllAnswered, IsBefore, Keeps, Passage, Stops}
 use Rattle.vault_http.specs.Served.{IsServed, IsStopped}
-use Rattle.vault_http.specs.declared.fault.ServeFault.{ServeFault}
-use Rattle.vault_http.specs.declared.fault.ServeFault.TheVariants as fault
+use Rattle.vault_engine.specs.declared.stop.Stop.{Stop as ServeFault}
+use Rattle.vault_engine.specs.declared.stop.Stop.TheVariants as fault
 use Rattle.vault_http.specs.declared.served.Served.{Served}
 use Rattle.vault_batch.specs.Batched.{Answered}
 use Rattle.vault_batch.specs.Asking.{Asked}
@@ -16,7 +16,7 @@ use Rattle.vault_batch.specs.declared.asker.Asker.{Asker}
 use Rattle.vault_batch.specs.declared.counts.Counts.{Counts}
 use Rattle.vault_batch.specs.declared.fault.BatchFault.{BatchFault}
 use Rattle.vault_batch.specs.declared.fault.BatchFault.TheVariants as row
-use Rattle.vault_live.specs.Live.{Turns}
+use Rattle.vault_listen.specs.Live.{Turns}
 use Rattle.vault_listen.specs.Peers.{Link}
 use Rattle.vault_listen.specs.Service.{AllKept, Leaves}
 use Rattle.vault_listen.specs.declared.fault.ListenFault.{ListenFault}

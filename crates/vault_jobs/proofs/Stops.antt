@@ -8,9 +8,9 @@ use Rattle.std.proofs.Common.{Result, Ok, Err}
 use Rattle.std.specs.Prelude.{IfErr, OnErr, OnOk}
 use Rattle.std.specs.Io.KnownBytes.{Appends, Consumes}
 use Rattle.vault_core.specs.Vault.{Vault as Content}
-use Rattle.vault_live.specs.Live.{AreGiven, Continues, Fixes, Turns, pairs_of}
-use Rattle.vault_live.proofs.Turns.{given_first, none_given}
-use Rattle.vault_live.specs.declared.live.LiveSource.{LiveSource}
+use Rattle.vault_listen.specs.Live.{AreGiven, Continues, Fixes, Turns, pairs_of}
+use Rattle.vault_listen.proofs.Turns.{given_first, none_given}
+use Rattle.vault_listen.specs.declared.live.LiveSource.{LiveSource}
 use Rattle.vault_wire.specs.Messages.{Reads, Request}
 use Rattle.vault_wire.specs.Parts.{Parts, parts_of}
 use Rattle.vault_wire.specs.declared.fault.WireFault.{WireFault}
@@ -22,9 +22,9 @@ use Rattle.vault_http.specs.Exchanges.{AskFirst, Exchange, Pair, fault_text, has
 use Rattle.vault_http.specs.Exchanges.{text_at, texts, up_to_close, vault_after}
 use Rattle.vault_http.specs.Passing.{IsBefore, Passage, Sends, Stops, Takes}
 use Rattle.vault_http.specs.Served.{Begins, IsServed, IsStopped, StopsAtFault, answered_fault}
-use Rattle.vault_http.specs.declared.fault.ServeFault.{ServeFault}
+use Rattle.vault_engine.specs.declared.stop.Stop.{Stop as ServeFault}
 use Rattle.vault_http.specs.declared.served.Served.{Served}
-use Rattle.vault_http.specs.declared.fault.ServeFault.TheVariants as fault
+use Rattle.vault_engine.specs.declared.stop.Stop.TheVariants as fault
 use Rattle.vault_jobs.specs.Piped.{StopsPiping}
 use Rattle.vault_jobs.specs.Streams.{Known}
 use Rattle.vault_jobs.specs.Trial.{IsCut, IsLast, IsTrial}

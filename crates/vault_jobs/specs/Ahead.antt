@@ -2,6 +2,8 @@
 use Rattle.std.specs.Prelude.{◌≡◌, ℕ, ◌+◌, List, [], ◌∷◌, Bool, false, Option, Some, None, nat_lt, bytes_eq}
 use Rattle.std.specs.Prelude.{if◌then◌else◌}
 use Rattle.std.specs.Option.{option_map_or}
+use Rattle.vault_refusal.specs.Refusal.{number_of}
+use Rattle.vault_refusal.specs.declared.refusal.Refusal.TheVariants.{MomentAhead}
 use Rattle.vault_core.specs.Keys.{Bytes}
 use Rattle.vault_core.specs.Vault.{Vault as Content, merchant_at}
 use Rattle.vault_core.specs.declared.row.MerchantRow.{MerchantRow}
@@ -14,7 +16,7 @@ most_ahead = 86400
 
 -- by which number a sweep is refused where it is ahead by more
 abbrev pub moment_ahead : ℕ
-moment_ahead = 81
+moment_ahead = number_of MomentAhead
 
 -- a moment is ahead of another by more than a day
 abbrev pub is_far_ahead : ℕ → ℕ → Bool

@@ -1,13 +1,15 @@
 -- What stops a job.
-use Rattle.std.specs.Prelude.{◌≡◌, ℕ, Bool, true}
-use Rattle.vault_store.specs.Applied.{fault_number}
+use Rattle.std.specs.Prelude.{◌≡◌, Bool, true}
+use Rattle.vault_refusal.specs.declared.refusal.Refusal.{Refusal}
+use Rattle.vault_refusal.specs.declared.refusal.Refusal.TheVariants as refusal
+use Rattle.vault_store.specs.Applied as vault
 use Rattle.vault_batch.specs.Faults as batch
 use Rattle.vault_batch.specs.Stops.{HasNoHeader}
 use Rattle.vault_batch.specs.declared.fault.BatchFault.{BatchFault}
 use Rattle.vault_batch.specs.declared.fault.BatchFault.TheVariants as row
 use Rattle.vault_http.specs.Faults as service
-use Rattle.vault_http.specs.declared.fault.ServeFault.{ServeFault}
-use Rattle.vault_http.specs.declared.fault.ServeFault.TheVariants as fault
+use Rattle.vault_engine.specs.declared.stop.Stop.{Stop as ServeFault}
+use Rattle.vault_engine.specs.declared.stop.Stop.TheVariants as fault
 use Rattle.vault_listen.specs.Faults as listener
 use Rattle.vault_jobs.specs.Batched.{HasBadRecord}
 use Rattle.vault_jobs.specs.Streams.{Streams}
@@ -15,14 +17,14 @@ use Rattle.vault_jobs.specs.declared.stop.Stop.{Stop}
 use Rattle.vault_jobs.specs.declared.stop.Stop.TheVariants.{Vault, Service, Listener, Rights, Batch}
 use Rattle.vault_jobs.specs.declared.stop.Unread.TheVariants as unread
 
--- the number of what stopped a job
-abbrev pub number_of : Stop → ℕ
-number_of (Vault f) = fault_number f
-number_of (Service f) = service.number_of f
-number_of (Listener f) = listener.number_of f
-number_of (Batch f) = batch.number_of f
-number_of (Rights unread.Memory) = 74
-number_of (Rights unread.File) = 80
+-- the refusal that stopped a job
+abbrev pub refusal_of : Stop → Refusal
+refusal_of (Vault f) = vault.refusal_of f
+refusal_of (Service f) = service.refusal_of f
+refusal_of (Listener f) = listener.refusal_of f
+refusal_of (Batch f) = batch.refusal_of f
+refusal_of (Rights unread.Memory) = refusal.RightsMemory
+refusal_of (Rights unread.File) = refusal.Accept
 
 -- a service is stopped by its reader only where that failed, and by its writer only where that failed
 abbrev pub IsCause : ServeFault → Bool → Bool → Type 0

@@ -1,6 +1,6 @@
 -- What holds by how a task ends.
 use Rattle.std.specs.Prelude.{ℕ, Result, Ok, Err}
-use Rattle.vault_http.specs.declared.fault.ServeFault.{ServeFault}
+use Rattle.vault_engine.specs.declared.stop.Stop.{Stop as ServeFault}
 use Rattle.vault_batch.specs.declared.fault.BatchFault.{BatchFault}
 use Rattle.vault_listen.specs.declared.fault.ListenFault.{ListenFault}
 use Rattle.vault_store.specs.declared.vault.Fault.{Fault}

@@ -2,8 +2,8 @@
 use Rattle.std.specs.Prelude.{◌≡◌, ◌⊎◌}
 use Rattle.vault_http.specs.Passing.{Passage}
 use Rattle.vault_http.specs.Served.{IsServed, IsStopped}
-use Rattle.vault_http.specs.declared.fault.ServeFault.{ServeFault}
-use Rattle.vault_http.specs.declared.fault.ServeFault.TheVariants.{Write}
+use Rattle.vault_engine.specs.declared.stop.Stop.{Stop as ServeFault}
+use Rattle.vault_engine.specs.declared.stop.Stop.TheVariants.{Write}
 use Rattle.vault_http.specs.declared.served.Served.{Served}
 use Rattle.vault_jobs.specs.Streams.{Known}
 

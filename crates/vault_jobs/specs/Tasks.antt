@@ -2,7 +2,7 @@
 use Rattle.std.specs.Prelude.{◌≡◌, ◌⊎◌, ℕ, List, [], Bool, true, Some, Result, Ok, Err, ◌++◌}
 use Rattle.std.specs.Prelude.{codes, decimal}
 use Rattle.vault_core.specs.Proper.{HasLivesInRange}
-use Rattle.vault_http.specs.declared.fault.ServeFault.TheVariants as service
+use Rattle.vault_engine.specs.declared.stop.Stop.TheVariants as service
 use Rattle.vault_batch.specs.declared.fault.BatchFault.TheVariants as row
 use Rattle.vault_listen.specs.declared.fault.ListenFault.TheVariants as listener
 use Rattle.vault_store.specs.declared.vault.Fault.TheVariants as vault

@@ -10,7 +10,7 @@ use Rattle.vault_core.specs.declared.command.Command.TheVariants.{Grant}
 use Rattle.vault_core.specs.declared.right.Right.{Right}
 use Rattle.vault_core.specs.declared.right.Right.TheVariants.{Tokenize, Detokenize, View}
 use Rattle.vault_core.specs.declared.right.Right.TheVariants.{Revoke, Purge, Audit}
-use Rattle.vault_live.specs.Live.{AreGiven, Turns}
+use Rattle.vault_listen.specs.Live.{AreGiven, Turns}
 use Rattle.vault_wire.specs.Messages.{Request, Reads}
 use Rattle.vault_wire.specs.declared.fault.WireFault.{WireFault}
 use Rattle.vault_http.specs.Exchanges.{AskFirst, Exchange, Pair, has_close, last_text, shown, texts}

@@ -5,7 +5,7 @@ ghost use Rattle.vault_core.specs.Vault.{Vault as Content};
 ghost use Rattle.vault_store.specs.Applied.{is_broken, tables_of};
 ghost use Rattle.vault_http.specs.Passing.{IsBefore, Keeps, Passage};
 ghost use Rattle.vault_listen.specs.Peers.{vault_passing};
-ghost use Rattle.vault_jobs.specs.Ahead.{is_far_ahead, is_merchant_ahead, moment_ahead, moment_among};
+ghost use Rattle.vault_jobs.specs.Ahead.{is_far_ahead, is_merchant_ahead, moment_among};
 ghost use Rattle.vault_jobs.specs.Doing.{FailsToRead};
 
 use vault_core::moment::Moment;
@@ -13,9 +13,6 @@ use vault_core::name::MerchantId;
 use vault_store::listing::NamedRow;
 use vault_store::tables::Tables;
 use vault_store::vault::{Fault, Vault};
-
-/// A sweep at the clock's moment is refused by this number, where the merchant's is far ahead of it.
-pub const MOMENT_AHEAD: u8 = 81;
 
 /// The most seconds by which a merchant's moment may be ahead of the clock's: those of a day.
 const MOST_AHEAD: u64 = 86_400;

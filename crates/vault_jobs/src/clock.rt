@@ -5,7 +5,7 @@ ghost use Rattle.vault_jobs.specs.Moments.{IsMomentOf, giver_of};
 use crate::stop::Stop;
 use vault_core::moment::Moment;
 use vault_http::fault::ServeFault;
-use vault_live::time::Timekeeper;
+use vault_listen::time::Timekeeper;
 
 /// Who gives the moment of a job.
 #[derive(Clone, Copy, Debug, PartialEq, Eq, Drop)]

@@ -18,7 +18,7 @@ use std::io::Write;
 use vault_http::fault::ServeFault;
 use vault_listen::network::Network;
 use vault_listen::service::serve_on;
-use vault_live::time::Timekeeper;
+use vault_listen::time::Timekeeper;
 use vault_store::tables::Tables;
 use vault_store::vault::Vault;
 use vault_wire::watched::Watched;

@@ -5,6 +5,7 @@ ghost use Rattle.vault_wire.specs.Watching.{inner_of, is_stopped};
 ghost use Rattle.vault_http.specs.Faults.{Tells, failures};
 ghost use Rattle.vault_http.specs.Passing.{Passage, passing};
 ghost use Rattle.vault_jobs.specs.Piped.{IsPiped, StopsPiping};
+ghost use Rattle.vault_engine.specs.Stops.{Trusts};
 
 use std::alloc::Global;
 use std::io::{Read, Write};
@@ -41,8 +42,7 @@ pub fn pipe<R: Read, W: Write, T: Tables, S: Source>(
         (failures (S.has_refused source.new) (is_stopped input.new) (is_stopped output.new)
         (is_broken vault.new)) }
     ensures later { S.precedes source.old source.new }
-    ensures sturdy { T.may_fail ≡ false → is_broken vault.old ≡ false → ¬ (result ≡ Err ServeFault.Store) }
-    ensures honest { T.is_honest (tables_of vault.new) → T.is_honest (tables_of vault.old) }
+    ensures trusted { Trusts T.is_honest T.may_fail vault.old vault.new result }
 {
     match serve(alloc, input, output, vault, source) {
         Ok(_) => match output.flush() {

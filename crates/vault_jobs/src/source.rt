@@ -1,6 +1,6 @@
 //! The pairs that a job's messages and rows are asked with.
 ghost use Rattle.std.specs.Prelude.{◌≡◌, IfErr, IfOk, IfSome};
-ghost use Rattle.vault_live.specs.Live.{Fixes, IsFresh};
+ghost use Rattle.vault_listen.specs.Live.{Fixes, IsFresh};
 
 use rand::make_rng;
 use rand::rngs::StdRng;
@@ -8,8 +8,8 @@ use std::random::RandomSource;
 use vault_batch::fault::BatchFault;
 use vault_core::moment::Moment;
 use vault_http::fault::ServeFault;
-use vault_live::live::LiveSource;
-use vault_live::time::Timekeeper;
+use vault_listen::live::LiveSource;
+use vault_listen::time::Timekeeper;
 use vault_pan::draw::Digits;
 
 /// The most messages of one job.

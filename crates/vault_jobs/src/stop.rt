@@ -2,9 +2,9 @@
 ghost use Rattle.std.specs.Prelude.{◌≡◌};
 
 use vault_batch::fault::BatchFault;
-use vault_http::fault::ServeFault;
+use vault_http::fault::{ServeFault, refusal_of};
 use vault_listen::fault::ListenFault;
-use vault_rights::fault::RightsFault;
+use vault_refusal::refusal::Refusal;
 use vault_store::vault::Fault;
 
 /// Why a rights file isn't read.
@@ -33,19 +33,19 @@ pub enum Stop {
 }
 
 impl Stop {
-    ghost use Rattle.vault_jobs.specs.Causes.{number_of};
+    ghost use Rattle.vault_jobs.specs.Causes.{refusal_of as refusal_lem};
 
-    /// The number of the fault.
-    pub fn number(self) -> u8
-        ensures { result ≡ number_of self }
+    /// Its refusal.
+    pub fn refusal(self) -> Refusal
+        ensures { result ≡ refusal_lem self }
     {
         match self {
-            Stop::Vault(fault) => fault.number(),
-            Stop::Service(fault) => fault.number(),
-            Stop::Listener(fault) => fault.number(),
-            Stop::Batch(fault) => fault.number(),
-            Stop::Rights(Unread::Memory) => RightsFault::Memory.number(),
-            Stop::Rights(Unread::File) => ListenFault::Accept.number(),
+            Stop::Vault(fault) => fault.refusal(),
+            Stop::Service(fault) => refusal_of(fault),
+            Stop::Listener(fault) => fault.refusal(),
+            Stop::Batch(fault) => fault.refusal(),
+            Stop::Rights(Unread::Memory) => Refusal::RightsMemory,
+            Stop::Rights(Unread::File) => Refusal::Accept,
         }
     }
 }

@@ -16,7 +16,7 @@ ghost use Rattle.vault_jobs.specs.Grants.{CarriesAll, grants_at};
 ghost use Rattle.vault_jobs.specs.Tasks.{BreaksBy, FailsStore, IsProper, granted_line};
 ghost use Rattle.vault_jobs.specs.declared.task.Task.{Task};
 
-use crate::ahead::{MOMENT_AHEAD, is_ahead};
+use crate::ahead::is_ahead;
 use crate::answer::{answer, answer_text};
 use crate::batch::batch_input;
 use crate::change::{Verdict, change};
@@ -37,8 +37,9 @@ use vault_batch::asker::Asker;
 use vault_core::command::Command;
 use vault_core::moment::Moment;
 use vault_listen::network::Network;
-use vault_live::time::Timekeeper;
+use vault_listen::time::Timekeeper;
 use vault_pan::draw::Digits;
+use vault_refusal::refusal::Refusal;
 use vault_store::tables::Tables;
 use vault_store::vault::Vault;
 use vault_wire::watched::Watched;
@@ -271,7 +272,7 @@ fn do_sweep<W: Write, T: Tables>(
     match giver {
         Giver::Words => do_purges(vault, asker, now, output),
         Giver::Clock => match is_ahead(vault, asker.merchant, now) {
-            Ok(true) => Ok(Outcome::Refused(MOMENT_AHEAD)),
+            Ok(true) => Ok(Outcome::Refused(Refusal::MomentAhead.number())),
             Ok(false) => do_purges(vault, asker, now, output),
             Err(fault) => Err(Stop::Vault(fault)),
         },

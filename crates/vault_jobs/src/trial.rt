@@ -20,7 +20,7 @@ use vault_core::name::{Caller, MerchantId};
 use vault_core::right::Right;
 use vault_core::row::Lives;
 use vault_http::fault::ServeFault;
-use vault_live::time::Timekeeper;
+use vault_listen::time::Timekeeper;
 use vault_pan::draw::Digits;
 use vault_store::memory::MemTables;
 use vault_store::vault::{Fault, Vault};

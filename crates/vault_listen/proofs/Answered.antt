@@ -10,8 +10,8 @@ use Rattle.vault_http.specs.Exchanges.{vault_after}
 use Rattle.vault_http.specs.Passing.{AllAnswered, IsBefore, Keeps, Passage, Sends, Stops, StopsAfter}
 use Rattle.vault_http.specs.Passing.{StopsAtSource, StopsAtWrite, StopsBefore}
 use Rattle.vault_http.specs.Served.{IsServed, IsStopped, StopsAmong, StopsAtFault}
-use Rattle.vault_http.specs.declared.fault.ServeFault.{ServeFault}
-use Rattle.vault_http.specs.declared.fault.ServeFault.TheVariants as fault
+use Rattle.vault_engine.specs.declared.stop.Stop.{Stop as ServeFault}
+use Rattle.vault_engine.specs.declared.stop.Stop.TheVariants as fault
 use Rattle.vault_http.specs.declared.served.Served.{Served}
 
 -- the same passage from one vault to another

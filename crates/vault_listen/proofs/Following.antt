@@ -6,8 +6,8 @@ use Rattle.std.proofs.lemmas.List.Elements.{All-head, All-tail}
 use Rattle.vault_core.specs.Vault.{Vault as Content}
 use Rattle.vault_store.specs.Applied.{Contains, tables_of}
 use Rattle.vault_store.specs.declared.vault.Vault.{Vault}
-use Rattle.vault_http.specs.declared.fault.ServeFault.TheVariants as fault
-use Rattle.vault_live.specs.Live.{Turns}
+use Rattle.vault_engine.specs.declared.stop.Stop.TheVariants as fault
+use Rattle.vault_listen.specs.Live.{Turns}
 use Rattle.vault_listen.specs.Peers.{AreLinks, IsLink, Link, link_passing, vault_passing}
 use Rattle.vault_listen.specs.Service.{AllKept, AllLead, GoesOn, Leaves, OneUndecided}
 use Rattle.vault_listen.specs.declared.fault.ListenFault.{ListenFault}

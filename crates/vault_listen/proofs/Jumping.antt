@@ -5,7 +5,7 @@ use Rattle.std.specs.Prelude.{All}
 use Rattle.std.proofs.lemmas.List.Elements.{All-append, All-cons, All-nil}
 use Rattle.vault_core.specs.Vault.{Vault as Content}
 use Rattle.vault_store.specs.declared.vault.Vault.{Vault}
-use Rattle.vault_live.specs.Live.{Turns}
+use Rattle.vault_listen.specs.Live.{Turns}
 use Rattle.vault_listen.specs.Peers.{AreLinks, Event, Link, events_of, vault_passing}
 use Rattle.vault_listen.specs.Service.{GoesOn, Leaves}
 use Rattle.vault_listen.specs.declared.fault.ListenFault.TheVariants.{Source}

@@ -8,10 +8,10 @@ use Rattle.vault_store.specs.declared.vault.Vault.{Vault}
 use Rattle.vault_http.specs.Exchanges.{Pair}
 use Rattle.vault_http.specs.Faults.{Tells, failures}
 use Rattle.vault_http.specs.Served.{IsServed, IsStopped}
-use Rattle.vault_http.specs.declared.fault.ServeFault.{ServeFault}
+use Rattle.vault_engine.specs.declared.stop.Stop.{Stop as ServeFault}
 use Rattle.vault_http.specs.declared.served.Served.{Served}
 use Rattle.vault_listen.specs.declared.peers.Accepted.{Accepted}
-use Rattle.vault_live.specs.Live.{AreGiven, Turns}
+use Rattle.vault_listen.specs.Live.{AreGiven, Turns}
 use Rattle.vault_listen.specs.Peers.{AreLinks, Event, IsClosedBy, IsLink, Known, Link}
 use Rattle.vault_listen.specs.Peers.{came_in, closing, coming, events_of, link_passing}
 use Rattle.vault_listen.specs.Peers.Event.{Lost, Came, Closed}

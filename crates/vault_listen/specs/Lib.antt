@@ -1,3 +1,5 @@
+pub mod Clocks
 pub mod Faults
+pub mod Live
 pub mod Peers
 pub mod Service

@@ -8,9 +8,9 @@ use Rattle.vault_http.specs.Exchanges.{Pair}
 use Rattle.vault_http.specs.Faults.{Tells, failures}
 use Rattle.vault_http.specs.Passing.{Passage}
 use Rattle.vault_http.specs.Served.{IsServed, IsStopped}
-use Rattle.vault_http.specs.declared.fault.ServeFault.{ServeFault}
+use Rattle.vault_engine.specs.declared.stop.Stop.{Stop as ServeFault}
 use Rattle.vault_http.specs.declared.served.Served.{Served}
-use Rattle.vault_live.specs.Live.{AreGiven, Turns}
+use Rattle.vault_listen.specs.Live.{AreGiven, Turns}
 use Rattle.vault_listen.specs.declared.peers.Accepted.{Accepted}
 
 -- bytes as a reader has them left, or as a writer has taken them

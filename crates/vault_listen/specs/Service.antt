@@ -5,8 +5,8 @@ use Rattle.vault_core.specs.Vault.{Vault as Content}
 use Rattle.vault_http.specs.Exchanges.{Pair}
 use Rattle.vault_http.specs.Passing.{Passage, IsBefore, Keeps}
 use Rattle.vault_http.specs.Served.{IsServed, IsStopped}
-use Rattle.vault_http.specs.declared.fault.ServeFault.TheVariants as fault
-use Rattle.vault_live.specs.Live.{AreGiven, Turns}
+use Rattle.vault_engine.specs.declared.stop.Stop.TheVariants as fault
+use Rattle.vault_listen.specs.Live.{AreGiven, Turns}
 use Rattle.vault_listen.specs.Peers.{Link}
 use Rattle.vault_listen.specs.declared.fault.ListenFault.{ListenFault}
 use Rattle.vault_listen.specs.declared.fault.ListenFault.TheVariants.{Source, Store, Memory, Accept}

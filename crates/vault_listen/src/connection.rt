@@ -6,8 +6,11 @@ ghost use Rattle.vault_http.specs.Exchanges.{Pair};
 ghost use Rattle.vault_http.specs.Faults.{Tells, failures};
 ghost use Rattle.vault_http.specs.Passing.{Passage, passing};
 ghost use Rattle.vault_http.specs.Served.{IsServed, IsStopped};
-ghost use Rattle.vault_live.specs.Live.{AreGiven};
+ghost use Rattle.vault_listen.specs.Live.{AreGiven};
+ghost use Rattle.vault_engine.specs.Stops.{Trusts};
 
+use crate::live::LiveSource;
+use crate::time::Timekeeper;
 use rand_core::Rng;
 use std::alloc::Global;
 use std::io::{Read, Write};
@@ -15,8 +18,6 @@ use std::time::Duration;
 use vault_http::fault::ServeFault;
 use vault_http::serve::serve_by;
 use vault_http::served::Served;
-use vault_live::live::LiveSource;
-use vault_live::time::Timekeeper;
 use vault_routes::route::Routes;
 use vault_store::tables::Tables;
 use vault_store::vault::Vault;
@@ -51,8 +52,7 @@ pub fn serve_connection<K: Timekeeper, G: Rng, R: Read, W: Write, T: Tables>(
     ensures told { (refused : Bool) × Tells result
         (failures false (is_stopped reader.old) (is_stopped writer.old) (is_broken vault.old))
         (failures refused (is_stopped reader.new) (is_stopped writer.new) (is_broken vault.new)) }
-    ensures sturdy { T.may_fail ≡ false → is_broken vault.old ≡ false → ¬ (result ≡ Err ServeFault.Store) }
-    ensures honest { T.is_honest (tables_of vault.new) → T.is_honest (tables_of vault.old) }
+    ensures trusted { Trusts T.is_honest T.may_fail vault.old vault.new result }
 {
     let mut source = LiveSource::ending(alloc, time, generator, MESSAGES, end);
     serve_by(alloc, routes, reader, writer, vault, &mut source)

@@ -1,11 +1,9 @@
 //! Why a service over a listener ends before its last connection.
 ghost use Rattle.std.specs.Prelude.{◌≡◌};
 
-use crate::refusal::ACCEPT;
 use std::error::Error;
 use std::fmt;
-use vault_http::refusal::{SOURCE, STORE};
-use vault_routes::refusal::MEMORY;
+use vault_refusal::refusal::Refusal;
 
 /// Why a service over a listener ended before its last connection.
 #[derive(Clone, Copy, PartialEq, Eq, Debug, Drop)]
@@ -21,35 +19,31 @@ pub enum ListenFault {
 }
 
 impl ListenFault {
-    ghost use Rattle.vault_listen.specs.Faults.{number_of};
+    ghost use Rattle.vault_listen.specs.Faults.{refusal_of};
 
-    /// The number of the fault: 60, 63, 64 or 80.
-    pub fn number(self) -> u8
-        ensures { result ≡ number_of self }
+    /// Its refusal: 60, 63, 64 or 80.
+    pub fn refusal(self) -> Refusal
+        ensures { result ≡ refusal_of self }
     {
         match self {
-            ListenFault::Source => SOURCE,
-            ListenFault::Store => STORE,
-            ListenFault::Memory => MEMORY,
-            ListenFault::Accept => ACCEPT,
+            ListenFault::Source => Refusal::ServiceSource,
+            ListenFault::Store => Refusal::ServiceStore,
+            ListenFault::Memory => Refusal::ServiceMemory,
+            ListenFault::Accept => Refusal::Accept,
         }
     }
 }
 
 impl fmt::Display for ListenFault {
     ghost use Rattle.std.specs.Prelude.{Some};
-    ghost use Rattle.vault_listen.specs.Faults.{line_of};
+    ghost use Rattle.vault_refusal.specs.Words.{words_of};
+    ghost use Rattle.vault_listen.specs.Faults.{refusal_of};
 
-    ghost output = { λ fault. Some (line_of fault) };
+    ghost output = { λ fault. Some (words_of (refusal_of fault)) };
 
     fn fmt<W: fmt::Write>(&self, f: &mut fmt::Formatter<W>) -> fmt::Result {
-        let reason = match self {
-            ListenFault::Source => "the time jumped",
-            ListenFault::Store => "the store failed",
-            ListenFault::Memory => "memory was refused",
-            ListenFault::Accept => "listening or accepting was refused",
-        };
-        write!(f, "{reason}")
+        let words = self.refusal().words();
+        write!(f, "{words}")
     }
 }
 

@@ -2,12 +2,14 @@
 #![tactic(auto)]
 
 pub mod connection;
+pub mod draw;
 pub mod fault;
 pub mod linger;
+pub mod live;
 pub mod network;
 pub mod peer;
 pub mod peers;
-pub mod refusal;
 pub mod service;
 pub mod tcp;
+pub mod time;
 mod waiting;

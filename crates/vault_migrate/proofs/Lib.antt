@@ -1,4 +1,5 @@
 pub mod Entries
+pub mod Migrating
 pub mod More
 pub mod Moving
 pub mod OneVault

@@ -1,15 +1,19 @@
 //! A vault's file is checked whole in the schema that it has, and moves up.
-ghost use Rattle.std.specs.Prelude.{◌≡◌, ◌≢◌, ◌≤◌, ◌<◌, ℕ, ℤ, false, None, IfErr, IfOk, OnOk};
+ghost use Rattle.std.specs.Prelude.{◌≡◌, ◌≢◌, ◌<◌, false, None, IfErr, IfOk, OnOk};
 ghost use Rattle.sqlite.specs.Held.{state};
-ghost use Rattle.sqlite.specs.State.{HasCleanDisk, IsUnchanged};
-ghost use Rattle.sqlite.specs.View.{doubt};
+ghost use Rattle.sqlite.specs.State.{HasCleanDisk};
 ghost use Rattle.sql_maps.specs.Schema.{no_schema};
 ghost use Rattle.sql_maps.specs.States.{LeavesNoMore};
+ghost use Rattle.sql_maps.specs.Transactions.{KeepsDoubts};
+ghost use Rattle.vault_migrate.specs.Migrated.{Migrates};
+ghost use Rattle.vault_verdict.specs.Refusals.{IsBrokenWhereFull, IsLeastWhereFull, IsOtherIn, IsUntouched};
+ghost use Rattle.vault_verdict.specs.Refusals.{RowsBreak, SparesFit, TellsOther, WritesNothing};
+ghost use Rattle.vault_migrate.specs.Refused.{StaysIn};
 ghost use Rattle.vault_core.specs.Vault.{Vault, empty_vault};
-ghost use Rattle.vault_migrate.specs.Moved.{FindsBroken, FindsVersion, HoldsSoundIn, IsKnown, IsMovable};
-ghost use Rattle.vault_migrate.specs.Moved.{IsNoOlder, IsOlder, IsSoundWhereFull, LeavesClimbed, LeavesIn};
+ghost use Rattle.vault_migrate.specs.Moved.{HoldsSoundIn, IsKnown};
+ghost use Rattle.vault_migrate.specs.Moved.{IsNoOlder, IsSoundWhereFull, LeavesClimbed, LeavesIn};
 ghost use Rattle.vault_migrate.specs.Moved.{LeavesMoved, LeavesSome, LeavesStep};
-ghost use Rattle.vault_verdict.specs.Opened.{IsBrokenIn, IsFit, IsLeastBroken, IsNoRefusal, IsVersionIn};
+ghost use Rattle.vault_verdict.specs.Opened.{IsFit};
 ghost use Rattle.vault_verdict.specs.Opened.{IsWrong, LeavesFound, StandsSoundIn};
 ghost use Rattle.vault_verdict.specs.ReadAs.{IsFullIn};
 ghost use Rattle.vault_verdict.specs.Reading.{IsFull};
@@ -40,7 +44,7 @@ fn move_up<S: Alter>(
     requires unlimited { conn.old.step_limit ≡ None }
     ensures next { IfOk result (λ n. n ≡ number_of (next_of version)) }
     ensures idle { conn.new.in_transaction ≡ false }
-    ensures clean { doubt (state S.Store conn.old).is_clean ≤ doubt (state S.Store conn.new).is_clean }
+    ensures clean { KeepsDoubts S.Store conn.old conn.new }
     ensures moved { HasCleanDisk (state S.Store conn.new) → OnOk result ((V : Vault)
         → HoldsIn version V (state S.Store conn.old) → HoldsIn (next_of version) V (state S.Store conn.new)) }
     ensures whole { HasCleanDisk (state S.Store conn.new) → OnOk result ((V : Vault)
@@ -51,20 +55,14 @@ fn move_up<S: Alter>(
         → HoldsSoundIn (next_of version) (state S.Store conn.new)) }
     ensures crash { HasCleanDisk (state S.Store conn.new) → (V : Vault)
         → HoldsIn version V (state S.Store conn.old) → LeavesStep version V (state S.Store conn.new) }
-    ensures stays { HasCleanDisk (state S.Store conn.new) → IfErr result (λ e. e ≢ OpenFault.Store
-        → (V : Vault) → HoldsIn version V (state S.Store conn.old)
-        → LeavesIn version V (state S.Store conn.new)) }
+    ensures stays { StaysIn S.Store version conn.old conn.new result }
     ensures unwritten { HasCleanDisk (state S.Store conn.new) → IfErr result (λ e. e ≢ OpenFault.Store
         → (state S.Store conn.old).now.schema ≡ schema_of version
         → LeavesNoMore (state S.Store conn.old) (state S.Store conn.new)) }
-    ensures damaged { HasCleanDisk (state S.Store conn.new)
-        → IfErr result (λ e. (rule : ℕ) → e ≡ OpenFault.Damaged rule
-        → IsFullIn version (state S.Store conn.old).now
-        → IsBrokenIn version (state S.Store conn.old).now rule) }
-    ensures wrong { HasCleanDisk (state S.Store conn.new)
-        → IfErr result (λ e. (n : ℤ) → e ≡ OpenFault.WrongSchema n
-        → (state S.Store conn.old).now.schema ≡ schema_of version
-        → IsVersionIn version (state S.Store conn.old).now n) }
+    ensures damaged { RowsBreak S.Store conn.old conn.new result
+        (IsBrokenWhereFull version) }
+    ensures wrong { TellsOther S.Store conn.old conn.new result
+        (IsOtherIn version) }
 {
     let _settled = conn.is_autocommit();
     let entries = judged(alloc, conn, version)?;
@@ -84,7 +82,7 @@ fn climb_up<S: Alter>(
     requires unlimited { conn.old.step_limit ≡ None }
     ensures newest { IfOk result (λ n. n ≡ number_of newest) }
     ensures idle { conn.new.in_transaction ≡ false }
-    ensures clean { doubt (state S.Store conn.old).is_clean ≤ doubt (state S.Store conn.new).is_clean }
+    ensures clean { KeepsDoubts S.Store conn.old conn.new }
     ensures moved { HasCleanDisk (state S.Store conn.new) → OnOk result ((V : Vault)
         → HoldsIn version V (state S.Store conn.old) → HoldsIn newest V (state S.Store conn.new)) }
     ensures whole { HasCleanDisk (state S.Store conn.new) → OnOk result ((V : Vault)
@@ -97,20 +95,14 @@ fn climb_up<S: Alter>(
         → StandsSoundIn version (state S.Store conn.old).now) }
     ensures crash { HasCleanDisk (state S.Store conn.new) → (V : Vault)
         → HoldsIn version V (state S.Store conn.old) → LeavesSome V (state S.Store conn.new) }
-    ensures stays { HasCleanDisk (state S.Store conn.new) → IfErr result (λ e. e ≢ OpenFault.Store
-        → (V : Vault) → HoldsIn version V (state S.Store conn.old)
-        → LeavesIn version V (state S.Store conn.new)) }
+    ensures stays { StaysIn S.Store version conn.old conn.new result }
     ensures unwritten { HasCleanDisk (state S.Store conn.new) → IfErr result (λ e. e ≢ OpenFault.Store
         → (state S.Store conn.old).now.schema ≡ schema_of version
         → LeavesNoMore (state S.Store conn.old) (state S.Store conn.new)) }
-    ensures damaged { HasCleanDisk (state S.Store conn.new)
-        → IfErr result (λ e. (rule : ℕ) → e ≡ OpenFault.Damaged rule
-        → IsFullIn version (state S.Store conn.old).now
-        → IsBrokenIn version (state S.Store conn.old).now rule) }
-    ensures wrong { HasCleanDisk (state S.Store conn.new)
-        → IfErr result (λ e. (n : ℤ) → e ≡ OpenFault.WrongSchema n
-        → (state S.Store conn.old).now.schema ≡ schema_of version
-        → IsVersionIn version (state S.Store conn.old).now n) }
+    ensures damaged { RowsBreak S.Store conn.old conn.new result
+        (IsBrokenWhereFull version) }
+    ensures wrong { TellsOther S.Store conn.old conn.new result
+        (IsOtherIn version) }
 {
     let _settled = conn.is_autocommit();
     let entries = judged(alloc, conn, version)?;
@@ -125,12 +117,10 @@ fn make_or_check<S: Alter>(alloc: Global, conn: &mut Connection<S>) -> Result<i6
     requires { conn.old.in_transaction ≡ false }
     ensures newest { IfOk result (λ version. version ≡ number_of newest) }
     ensures idle { conn.new.in_transaction ≡ false }
-    ensures clean { doubt (state S.Store conn.old).is_clean ≤ doubt (state S.Store conn.new).is_clean }
+    ensures clean { KeepsDoubts S.Store conn.old conn.new }
     ensures kept { HasCleanDisk (state S.Store conn.new) → OnOk result
         ((V : Vault) → Holds (state S.Store conn.old) V → Holds (state S.Store conn.new) V) }
-    ensures same { HasCleanDisk (state S.Store conn.new) → OnOk result (
-        (state S.Store conn.old).now.schema ≡ newest_schema
-        → IsUnchanged (state S.Store conn.old) (state S.Store conn.new)) }
+    ensures same { IsUntouched S.Store newest conn.old conn.new result }
     ensures blank { HasCleanDisk (state S.Store conn.new) → OnOk result (IsReady (state S.Store conn.old)
         → (state S.Store conn.old).now.schema ≡ no_schema → Holds (state S.Store conn.new) empty_vault) }
     ensures checked { HasCleanDisk (state S.Store conn.new)
@@ -139,21 +129,14 @@ fn make_or_check<S: Alter>(alloc: Global, conn: &mut Connection<S>) -> Result<i6
         → (state S.Store conn.old).now.schema ≡ no_schema) }
     ensures left { HasCleanDisk (state S.Store conn.new)
         → LeavesFound (state S.Store conn.old) (state S.Store conn.new) }
-    // A refusal by any number but 33 writes nothing.
-    ensures unwritten { HasCleanDisk (state S.Store conn.new) → IfErr result (λ e. e ≢ OpenFault.Store
-        → LeavesNoMore (state S.Store conn.old) (state S.Store conn.new)) }
+    ensures unwritten { WritesNothing S.Store conn.old conn.new result }
     // Where there is a table, nor does 33.
     ensures unmade { HasCleanDisk (state S.Store conn.new)
         → IfErr result (λ e. ¬ ((state S.Store conn.old).now.schema ≡ no_schema)
         → LeavesNoMore (state S.Store conn.old) (state S.Store conn.new)) }
-    ensures damaged { HasCleanDisk (state S.Store conn.new)
-        → IfErr result (λ e. (rule : ℕ) → e ≡ OpenFault.Damaged rule
-        → IsFull (state S.Store conn.old).now → IsLeastBroken (state S.Store conn.old).now rule) }
-    ensures wrong { HasCleanDisk (state S.Store conn.new)
-        → IfErr result (λ e. (n : ℤ) → e ≡ OpenFault.WrongSchema n
-        → IsWrong (state S.Store conn.old).now n) }
-    ensures never { HasCleanDisk (state S.Store conn.new)
-        → IfErr result (λ e. IsFit (state S.Store conn.old).now → IsNoRefusal e) }
+    ensures damaged { RowsBreak S.Store conn.old conn.new result IsLeastWhereFull }
+    ensures wrong { TellsOther S.Store conn.old conn.new result IsWrong }
+    ensures never { SparesFit S.Store conn.old conn.new result IsFit }
 {
     match make_schema(conn) {
         Ok(()) => Ok(NEWEST.number()),
@@ -185,44 +168,9 @@ pub fn migrate<S: Alter>(alloc: Global, conn: &mut Connection<S>) -> Result<i64,
     ensures next { IfOk result (λ n. (v : Version) → (state S.Store conn.old).now.schema ≡ schema_of v
         → n ≡ number_of (next_of v)) }
     ensures made { IfOk result (λ n. IsNoOlder (state S.Store conn.old).now → n ≡ number_of newest) }
-    ensures idle { conn.new.in_transaction ≡ false }
-    ensures clean { doubt (state S.Store conn.old).is_clean ≤ doubt (state S.Store conn.new).is_clean }
-    ensures moved { HasCleanDisk (state S.Store conn.new) → OnOk result ((v : Version) (V : Vault)
-        → HoldsIn v V (state S.Store conn.old) → HoldsIn (next_of v) V (state S.Store conn.new)) }
-    ensures whole { HasCleanDisk (state S.Store conn.new) → OnOk result ((v : Version) (V : Vault)
-        → HoldsIn v V (state S.Store conn.old) → LeavesIn (next_of v) V (state S.Store conn.new)) }
-    ensures sound { HasCleanDisk (state S.Store conn.new)
-        → OnOk result ((v : Version) → IsOlder v → IsFullIn v (state S.Store conn.old).now
-        → HoldsSoundIn (next_of v) (state S.Store conn.new)) }
-    ensures same { HasCleanDisk (state S.Store conn.new) → OnOk result (
-        (state S.Store conn.old).now.schema ≡ newest_schema
-        → IsUnchanged (state S.Store conn.old) (state S.Store conn.new)) }
-    ensures blank { HasCleanDisk (state S.Store conn.new) → OnOk result (IsReady (state S.Store conn.old)
-        → (state S.Store conn.old).now.schema ≡ no_schema → Holds (state S.Store conn.new) empty_vault) }
-    ensures checked { HasCleanDisk (state S.Store conn.new)
-        → OnOk result (IsNoOlder (state S.Store conn.old).now → IsFull (state S.Store conn.old).now
-        → IsFit (state S.Store conn.old).now) }
+    ensures migrates { Migrates S.Store next_of conn.old conn.new result }
     ensures crash { HasCleanDisk (state S.Store conn.new)
         → LeavesMoved (state S.Store conn.old) (state S.Store conn.new) }
-    ensures stays { HasCleanDisk (state S.Store conn.new) → IfErr result (λ e. e ≢ OpenFault.Store
-        → (v : Version) (V : Vault) → HoldsIn v V (state S.Store conn.old)
-        → LeavesIn v V (state S.Store conn.new)) }
-    // A refusal by any number but 33 writes nothing.
-    ensures unwritten { HasCleanDisk (state S.Store conn.new) → IfErr result (λ e. e ≢ OpenFault.Store
-        → LeavesNoMore (state S.Store conn.old) (state S.Store conn.new)) }
-    // Where there is a table, and no older schema, nor does 33.
-    ensures unmoved { HasCleanDisk (state S.Store conn.new)
-        → IfErr result (λ e. IsNoOlder (state S.Store conn.old).now
-        → ¬ ((state S.Store conn.old).now.schema ≡ no_schema)
-        → LeavesNoMore (state S.Store conn.old) (state S.Store conn.new)) }
-    ensures damaged { HasCleanDisk (state S.Store conn.new)
-        → IfErr result (λ e. (rule : ℕ) → e ≡ OpenFault.Damaged rule
-        → FindsBroken (state S.Store conn.old).now rule) }
-    ensures wrong { HasCleanDisk (state S.Store conn.new)
-        → IfErr result (λ e. (n : ℤ) → e ≡ OpenFault.WrongSchema n
-        → FindsVersion (state S.Store conn.old).now n) }
-    ensures never { HasCleanDisk (state S.Store conn.new)
-        → IfErr result (λ e. IsMovable (state S.Store conn.old).now → IsNoRefusal e) }
 {
     match older_in(conn.schema()) {
         Some(version) => move_up(alloc, conn, version),
@@ -240,47 +188,12 @@ pub fn migrate_all<S: Alter>(alloc: Global, conn: &mut Connection<S>) -> Result<
     requires idle { conn.old.in_transaction ≡ false }
     requires unlimited { conn.old.step_limit ≡ None }
     ensures newest { IfOk result (λ n. n ≡ number_of newest) }
-    ensures idle { conn.new.in_transaction ≡ false }
-    ensures clean { doubt (state S.Store conn.old).is_clean ≤ doubt (state S.Store conn.new).is_clean }
-    ensures moved { HasCleanDisk (state S.Store conn.new) → OnOk result ((v : Version) (V : Vault)
-        → HoldsIn v V (state S.Store conn.old) → HoldsIn newest V (state S.Store conn.new)) }
-    ensures whole { HasCleanDisk (state S.Store conn.new) → OnOk result ((v : Version) (V : Vault)
-        → HoldsIn v V (state S.Store conn.old) → LeavesIn newest V (state S.Store conn.new)) }
-    ensures sound { HasCleanDisk (state S.Store conn.new)
-        → OnOk result ((v : Version) → IsOlder v → IsFullIn v (state S.Store conn.old).now
-        → HoldsSoundIn newest (state S.Store conn.new)) }
-    ensures same { HasCleanDisk (state S.Store conn.new) → OnOk result (
-        (state S.Store conn.old).now.schema ≡ newest_schema
-        → IsUnchanged (state S.Store conn.old) (state S.Store conn.new)) }
-    ensures blank { HasCleanDisk (state S.Store conn.new) → OnOk result (IsReady (state S.Store conn.old)
-        → (state S.Store conn.old).now.schema ≡ no_schema → Holds (state S.Store conn.new) empty_vault) }
-    ensures checked { HasCleanDisk (state S.Store conn.new)
-        → OnOk result (IsNoOlder (state S.Store conn.old).now → IsFull (state S.Store conn.old).now
-        → IsFit (state S.Store conn.old).now) }
+    ensures migrates { Migrates S.Store (λ v. newest) conn.old conn.new result }
     ensures known { OnOk result (IsKnown (state S.Store conn.old).now) }
     ensures stood { HasCleanDisk (state S.Store conn.new)
         → OnOk result (IsSoundWhereFull (state S.Store conn.old).now) }
     ensures crash { HasCleanDisk (state S.Store conn.new)
         → LeavesClimbed (state S.Store conn.old) (state S.Store conn.new) }
-    ensures stays { HasCleanDisk (state S.Store conn.new) → IfErr result (λ e. e ≢ OpenFault.Store
-        → (v : Version) (V : Vault) → HoldsIn v V (state S.Store conn.old)
-        → LeavesIn v V (state S.Store conn.new)) }
-    // A refusal by any number but 33 writes nothing.
-    ensures unwritten { HasCleanDisk (state S.Store conn.new) → IfErr result (λ e. e ≢ OpenFault.Store
-        → LeavesNoMore (state S.Store conn.old) (state S.Store conn.new)) }
-    // Where there is a table, and no older schema, nor does 33.
-    ensures unmoved { HasCleanDisk (state S.Store conn.new)
-        → IfErr result (λ e. IsNoOlder (state S.Store conn.old).now
-        → ¬ ((state S.Store conn.old).now.schema ≡ no_schema)
-        → LeavesNoMore (state S.Store conn.old) (state S.Store conn.new)) }
-    ensures damaged { HasCleanDisk (state S.Store conn.new)
-        → IfErr result (λ e. (rule : ℕ) → e ≡ OpenFault.Damaged rule
-        → FindsBroken (state S.Store conn.old).now rule) }
-    ensures wrong { HasCleanDisk (state S.Store conn.new)
-        → IfErr result (λ e. (n : ℤ) → e ≡ OpenFault.WrongSchema n
-        → FindsVersion (state S.Store conn.old).now n) }
-    ensures never { HasCleanDisk (state S.Store conn.new)
-        → IfErr result (λ e. IsMovable (state S.Store conn.old).now → IsNoRefusal e) }
 {
     match older_in(conn.schema()) {
         Some(version) => climb_up(alloc, conn, version),

@@ -1,17 +1,18 @@
 //! A vault in an older schema is checked whole before it moves.
-ghost use Rattle.std.specs.Prelude.{◌≡◌, ℕ, ℤ, IfErr, IfNone, IfOk, IfSome, OnOk};
+ghost use Rattle.std.specs.Prelude.{◌≡◌, IfErr, IfNone, IfOk, IfSome, OnOk};
 ghost use Rattle.sqlite.specs.Effect.{IsDatabase};
 ghost use Rattle.sqlite.specs.Held.{state};
-ghost use Rattle.sqlite.specs.State.{HasCleanDisk, IsUnchanged};
+ghost use Rattle.sqlite.specs.State.{HasCleanDisk};
+ghost use Rattle.vault_verdict.specs.Refusals.{IsBrokenWhereFull, IsOtherIn, IsStill, IsUntouched};
+ghost use Rattle.vault_verdict.specs.Refusals.{RowsBreak, TellsOther};
 ghost use Rattle.vault_core.specs.Vault.{Vault};
 ghost use Rattle.vault_migrate.specs.Moved.{IsOlder};
 ghost use Rattle.vault_schema.specs.Holds.{HoldsIn};
 ghost use Rattle.vault_schema.specs.Stands.{lookups_of};
 ghost use Rattle.vault_schema.specs.Versions.{schema_of};
 ghost use Rattle.vault_steps.specs.Entries.{AreFor, AreStorable, joined};
-ghost use Rattle.vault_verdict.specs.Opened.{IsBrokenIn, IsVersionIn, StandsSoundIn};
+ghost use Rattle.vault_verdict.specs.Opened.{StandsSoundIn};
 ghost use Rattle.vault_verdict.specs.ReadAs.{IsFullIn};
-ghost use Rattle.vault_verdict.specs.Reading.{IsQuietWhere};
 
 use crate::typed::typed_entries;
 use sqlite::{Alter, Connection};
@@ -52,19 +53,12 @@ pub(crate) fn judged<S: Alter>(
     ensures sound { HasCleanDisk (state S.Store conn.new)
         → OnOk result (IsFullIn version (state S.Store conn.old).now
         → StandsSoundIn version (state S.Store conn.old).now) }
-    ensures kept { HasCleanDisk (state S.Store conn.new)
-        → OnOk result ((state S.Store conn.old).now.schema ≡ schema_of version
-        → IsUnchanged (state S.Store conn.old) (state S.Store conn.new)) }
-    ensures damaged { HasCleanDisk (state S.Store conn.new)
-        → IfErr result (λ e. (rule : ℕ) → e ≡ OpenFault.Damaged rule
-        → IsFullIn version (state S.Store conn.old).now
-        → IsBrokenIn version (state S.Store conn.old).now rule) }
-    ensures versioned { HasCleanDisk (state S.Store conn.new)
-        → IfErr result (λ e. (n : ℤ) → e ≡ OpenFault.WrongSchema n
-        → (state S.Store conn.old).now.schema ≡ schema_of version
-        → IsVersionIn version (state S.Store conn.old).now n) }
-    ensures quiet { IsQuietWhere ((state S.Store conn.old).now.schema ≡ schema_of version)
-        (state S.Store conn.old) (state S.Store conn.new) }
+    ensures kept { IsUntouched S.Store version conn.old conn.new result }
+    ensures damaged { RowsBreak S.Store conn.old conn.new result
+        (IsBrokenWhereFull version) }
+    ensures versioned { TellsOther S.Store conn.old conn.new result
+        (IsOtherIn version) }
+    ensures quiet { IsStill S.Store version conn.old conn.new }
 {
     let Judged { sizes: _, olders } = verdict(alloc, conn, version)?;
     Ok(typed_entries(alloc, olders)?)

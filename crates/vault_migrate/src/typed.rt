@@ -11,7 +11,7 @@ ghost use Rattle.vault_pan.specs.CardText.{IsToken};
 ghost use Rattle.vault_schema.specs.Version1.Rows.{entry_columns, number_or_null, text_or_null};
 ghost use Rattle.vault_steps.specs.Entries.{AreStorable, joined};
 
-use sql_stored::fault::ReadFault;
+use sql_stored::fault::StoreFault;
 use sql_stored::text::RowText;
 use std::alloc::{AllocError, Global};
 use vault_core::moment::Moment;
@@ -24,39 +24,39 @@ use vault_steps::entries::{PIECE, Piece};
 use vault_verdict::replaced::OldEntry;
 
 /// The name of a merchant.
-fn merchant_of(text: &str) -> Result<MerchantId, ReadFault>
+fn merchant_of(text: &str) -> Result<MerchantId, StoreFault>
     ensures value { IfOk result (λ m. m ≡ text.now) }
     ensures refused { IsOk result ↔ IsName text.now }
 {
     match MerchantId::read(text.as_bytes()) {
         Ok(m) => Ok(m),
-        Err(_) => Err(ReadFault::Store),
+        Err(_) => Err(StoreFault::Store),
     }
 }
 
 /// A token.
-fn token_of(text: &str) -> Result<Token, ReadFault>
+fn token_of(text: &str) -> Result<Token, StoreFault>
     ensures value { IfOk result (λ token. token ≡ text.now) }
     ensures refused { IsOk result ↔ IsToken text.now }
 {
     match Token::read(text.as_bytes()) {
         Ok(token) => Ok(token),
-        Err(_) => Err(ReadFault::Store),
+        Err(_) => Err(StoreFault::Store),
     }
 }
 
 /// A card number.
-fn number_of(text: &str) -> Result<Pan, ReadFault>
+fn number_of(text: &str) -> Result<Pan, StoreFault>
     ensures { IfOk result (λ number. number ≡ text.now) }
 {
     match Pan::read(text.as_bytes()) {
         Ok(pan) if pan.as_str() == text => Ok(pan),
-        _ => Err(ReadFault::Store),
+        _ => Err(StoreFault::Store),
     }
 }
 
 /// A card number, or none.
-fn maybe_number_of(text: &Option<RowText>) -> Result<Option<Pan>, ReadFault>
+fn maybe_number_of(text: &Option<RowText>) -> Result<Option<Pan>, StoreFault>
     ensures { IfOk result (λ number. maybe_text_value text.now ≡ text_or_null number) }
 {
     match text {
@@ -66,42 +66,42 @@ fn maybe_number_of(text: &Option<RowText>) -> Result<Option<Pan>, ReadFault>
 }
 
 /// A use, by its number.
-fn usage_of(number: i64) -> Result<Use, ReadFault>
+fn usage_of(number: i64) -> Result<Use, StoreFault>
     ensures value { IfOk result (λ usage. number ≡ pos (use_number usage)) }
     ensures refused { IfErr result (λ e. (number ≢ pos 1) × (number ≢ pos 2)) }
 {
     match number {
         1 => Ok(Use::Single),
         2 => Ok(Use::Multi),
-        _ => Err(ReadFault::Store),
+        _ => Err(StoreFault::Store),
     }
 }
 
 /// A number of seconds.
-fn seconds_of(number: i64) -> Result<u64, ReadFault>
+fn seconds_of(number: i64) -> Result<u64, StoreFault>
     ensures value { IfOk result (λ seconds. number ≡ pos seconds) }
     ensures small { IfOk result (λ seconds. seconds < 2 ^ 63) }
     ensures refused { IfErr result (λ e. (n : ℕ) → number ≢ pos n) }
 {
     if number < 0 {
-        return Err(ReadFault::Store);
+        return Err(StoreFault::Store);
     }
     Ok(number as u64)
 }
 
 /// A moment.
-fn moment_of(number: i64) -> Result<Moment, ReadFault>
+fn moment_of(number: i64) -> Result<Moment, StoreFault>
     ensures value { IfOk result (λ moment. number ≡ pos moment) }
     ensures refused { IfErr result (λ e. (n : ℕ) → number ≡ pos n → 253402300799 < n) }
 {
     match Moment::new(seconds_of(number)?) {
         Ok(moment) => Ok(moment),
-        Err(_) => Err(ReadFault::Store),
+        Err(_) => Err(StoreFault::Store),
     }
 }
 
 /// A moment, or none.
-fn maybe_moment_of(number: Option<i64>) -> Result<Option<Moment>, ReadFault>
+fn maybe_moment_of(number: Option<i64>) -> Result<Option<Moment>, StoreFault>
     ensures { IfOk result (λ moment. int_value number ≡ number_or_null moment) }
 {
     match number {
@@ -115,7 +115,7 @@ fn entry_of(
     older: &OldEntry,
     number: Option<Pan>,
     revoked: Option<Moment>,
-) -> Result<Entry, ReadFault>
+) -> Result<Entry, StoreFault>
     requires number { maybe_text_value older.now.number ≡ text_or_null number }
     requires revoked { int_value older.now.revoked ≡ number_or_null revoked }
     ensures columns { IfOk result (λ e. drop 3 (old_entry_values older.now) ≡ entry_columns e) }
@@ -138,7 +138,7 @@ fn typed(
     older: &OldEntry,
     number: Option<Pan>,
     revoked: Option<Moment>,
-) -> Result<(MerchantId, Token, Entry), ReadFault>
+) -> Result<(MerchantId, Token, Entry), StoreFault>
     requires number { maybe_text_value older.now.number ≡ text_or_null number }
     requires revoked { int_value older.now.revoked ≡ number_or_null revoked }
     ensures row { IfOk result (λ x. old_columns older.now ≡ typed_columns x) }
@@ -151,7 +151,7 @@ fn typed(
 }
 
 /// Old entries, each with its merchant and its token; one that can't be read so is refused.
-fn typed_piece(alloc: Global, olders: &[OldEntry]) -> Result<Piece, ReadFault>
+fn typed_piece(alloc: Global, olders: &[OldEntry]) -> Result<Piece, StoreFault>
     ensures rows { IfOk result (λ xs. map old_columns olders.now ≡ map typed_columns xs.items) }
     ensures storable { IfOk result (λ xs. All (λ x. x.2.expires < 2 ^ 63) xs.items) }
 {
@@ -176,7 +176,7 @@ fn last_piece(left: &mut Vec<OldEntry>) -> Result<Vec<OldEntry>, AllocError>
 
 /// Old entries in pieces, each with its merchant and its token; one that can't be read so is refused. A piece
 /// of old entries goes as soon as it was read, so that no more is kept than either of the lists.
-pub(crate) fn typed_entries(alloc: Global, olders: Vec<OldEntry>) -> Result<Vec<Piece>, ReadFault>
+pub(crate) fn typed_entries(alloc: Global, olders: Vec<OldEntry>) -> Result<Vec<Piece>, StoreFault>
     ensures rows { IfOk result (λ xs. map old_columns olders.items ≡ map typed_columns (joined xs.items)) }
     ensures storable { IfOk result (λ xs. AreStorable xs.items) }
 {

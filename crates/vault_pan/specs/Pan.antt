@@ -1,5 +1,7 @@
 -- What reading a card number and a token answers.
-use Rattle.std.specs.Prelude.{false, ◌≡◌, ℕ, List, Result, Ok, Err, codes}
+use Rattle.std.specs.Prelude.{false, ◌≡◌, ℕ, List, Result, Ok, Err}
+use Rattle.vault_refusal.specs.declared.refusal.Refusal.{Refusal}
+use Rattle.vault_refusal.specs.declared.refusal.Refusal.TheVariants as refusal
 use Rattle.vault_pan.specs.CardText.{IsCardText, IsNumber, IsPan, IsToken, digits_of}
 use Rattle.vault_pan.specs.Luhn.{passes_check}
 use Rattle.vault_pan.specs.declared.pan.PanFault.{PanFault}
@@ -19,16 +21,7 @@ abbrev pub ReadsToken : List ℕ → Result (List ℕ) BadToken → Type 0
 ReadsToken text (Ok token) = IsToken text × (token ≡ text)
 ReadsToken text (Err fault) = ¬ IsToken text
 
--- the number of a refused card number
-abbrev pub fault_number : PanFault → ℕ
-fault_number BadNumber = 1
-fault_number BadCheck = 2
-
--- the number of a refused token
-abbrev pub bad_token_number : ℕ
-bad_token_number = 3
-
--- what a refused card number is told
-abbrev pub fault_text : PanFault → List ℕ
-fault_text BadNumber = codes "not a card number"
-fault_text BadCheck = codes "wrong check digit"
+-- the refusal of a text that is no card number
+abbrev pub refusal_of : PanFault → Refusal
+refusal_of BadNumber = refusal.BadNumber
+refusal_of BadCheck = refusal.BadCheck

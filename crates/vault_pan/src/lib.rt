@@ -13,7 +13,6 @@ pub mod lead;
 pub mod luhn;
 pub mod mask;
 pub mod pan;
-pub mod refusal;
 pub mod short;
 mod text;
 pub mod token;

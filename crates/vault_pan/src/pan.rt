@@ -4,12 +4,12 @@ ghost use Rattle.vault_pan.specs.Pan.{ReadsPan};
 ghost use Rattle.vault_pan.specs.CardText.{IsPan};
 
 use crate::luhn::passes;
-use crate::refusal;
 use crate::short::Short;
 use crate::text::{as_text, read_digits};
 use std::error::Error;
 use std::fmt;
 use std::marker::Model;
+use vault_refusal::refusal::Refusal;
 
 /// The fewest digits of a card number, and of a token.
 pub const LEAST_DIGITS: usize = 10;
@@ -106,30 +106,40 @@ pub enum PanFault {
 }
 
 impl PanFault {
-    ghost use Rattle.vault_pan.specs.Pan.{fault_number};
+    ghost use Rattle.vault_pan.specs.Pan.{refusal_of};
 
-    /// The number of this refusal in `refusal`.
-    pub fn number(self) -> u8
-        ensures { result ≡ fault_number self }
+    /// Its refusal: 1 or 2.
+    pub fn refusal(self) -> Refusal
+        ensures { result ≡ refusal_of self }
     {
         match self {
-            PanFault::BadNumber => refusal::BAD_NUMBER,
-            PanFault::BadCheck => refusal::BAD_CHECK,
+            PanFault::BadNumber => Refusal::BadNumber,
+            PanFault::BadCheck => Refusal::BadCheck,
         }
+    }
+}
+
+impl From<PanFault> for Refusal {
+    ghost use Rattle.std.specs.Prelude.{◌≡◌};
+    ghost use Rattle.vault_pan.specs.Pan.{refusal_of};
+
+    ghost from_gives = { λ fault refused. refused ≡ refusal_of fault };
+
+    fn from(fault: PanFault) -> Refusal {
+        fault.refusal()
     }
 }
 
 impl fmt::Display for PanFault {
     ghost use Rattle.std.specs.Prelude.{Some};
-    ghost use Rattle.vault_pan.specs.Pan.{fault_text};
+    ghost use Rattle.vault_refusal.specs.Words.{words_of};
+    ghost use Rattle.vault_pan.specs.Pan.{refusal_of};
 
-    ghost output = { λ fault. Some (fault_text fault) };
+    ghost output = { λ fault. Some (words_of (refusal_of fault)) };
 
     fn fmt<W: fmt::Write>(&self, f: &mut fmt::Formatter<W>) -> fmt::Result {
-        match self {
-            PanFault::BadNumber => write!(f, "not a card number"),
-            PanFault::BadCheck => write!(f, "wrong check digit"),
-        }
+        let words = self.refusal().words();
+        write!(f, "{words}")
     }
 }
 

@@ -5,12 +5,12 @@ ghost use Rattle.vault_pan.specs.CardText.{IsToken, fits};
 
 use crate::luhn::passes;
 use crate::pan::{LEAST_DIGITS, MOST_DIGITS, Pan};
-use crate::refusal;
 use crate::short::Short;
 use crate::text::as_text;
 use std::error::Error;
 use std::fmt;
 use std::marker::Model;
+use vault_refusal::refusal::Refusal;
 
 /// A token: 10 to 19 digits that fail the check. Contracts see its ASCII digits.
 ///
@@ -112,23 +112,35 @@ impl fmt::Debug for Token {
 pub struct BadToken;
 
 impl BadToken {
-    ghost use Rattle.vault_pan.specs.Pan.{bad_token_number};
-
-    /// The number of this refusal in `refusal`.
-    pub fn number(self) -> u8
-        ensures { result ≡ bad_token_number }
+    /// Its refusal: 3.
+    pub fn refusal(self) -> Refusal
+        ensures { result ≡ Refusal.BadToken }
     {
-        refusal::BAD_TOKEN
+        Refusal::BadToken
+    }
+}
+
+impl From<BadToken> for Refusal {
+    ghost use Rattle.std.specs.Prelude.{◌≡◌};
+    ghost use Rattle.vault_refusal.specs.declared.refusal.Refusal.TheVariants as refusal;
+
+    ghost from_gives = { λ _ refused. refused ≡ refusal.BadToken };
+
+    fn from(fault: BadToken) -> Refusal {
+        fault.refusal()
     }
 }
 
 impl fmt::Display for BadToken {
-    ghost use Rattle.std.specs.Prelude.{Some, codes};
+    ghost use Rattle.std.specs.Prelude.{Some};
+    ghost use Rattle.vault_refusal.specs.Words.{words_of};
+    ghost use Rattle.vault_refusal.specs.declared.refusal.Refusal.TheVariants as refusal;
 
-    ghost output = { λ _. Some (codes "not a token") };
+    ghost output = { λ _. Some (words_of refusal.BadToken) };
 
     fn fmt<W: fmt::Write>(&self, f: &mut fmt::Formatter<W>) -> fmt::Result {
-        write!(f, "not a token")
+        let words = self.refusal().words();
+        write!(f, "{words}")
     }
 }
 

@@ -29,7 +29,7 @@ use Rattle.vault_core.specs.declared.command.Command.{Command}
 use Rattle.vault_core.specs.declared.command.Command.TheVariants.{Tokenize}
 use Rattle.vault_http.specs.Exchanges.{Pair, commands_in}
 use Rattle.vault_http.specs.Passing.{IsBefore, Passage, Takes}
-use Rattle.vault_live.specs.Live.{IsPairOf, Turns}
+use Rattle.vault_listen.specs.Live.{IsPairOf, Turns}
 use Rattle.vault_pan.specs.CardText.{digits_of}
 use Rattle.vault_routes.specs.Wanted.{Wanted}
 use Rattle.vault_jobs.specs.Doing.{BatchEnds, along}

@@ -24,7 +24,7 @@ use Rattle.vault_schema.specs.Stands.{newest}
 use Rattle.std.specs.Prelude.{IfSome}
 use Rattle.vault_recover.specs.Crashed.{AreBlank, KeepsEither, KeepsSuch, MayFind}
 use Rattle.vault_schema.specs.Holds.{AreOurs, Holds}
-use Rattle.vault_live.specs.Live.{Turns}
+use Rattle.vault_listen.specs.Live.{Turns}
 use Rattle.vault_jobs.specs.Moments.{IsMomentOf}
 use Rattle.vault_jobs.specs.Doing.{Does}
 use Rattle.vault_jobs.specs.Streams.{Known, Streams, streams, with_links}

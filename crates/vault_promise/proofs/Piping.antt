@@ -12,7 +12,7 @@ use Rattle.std.specs.Io.KnownBytes.{Appends, Consumes}
 use Rattle.vault_http.specs.Exchanges.{Exchange, commands_in, commands_of, last_text, texts, vault_after}
 use Rattle.vault_wire.specs.declared.fault.WireFault.{WireFault}
 use Rattle.vault_http.specs.Passing.{IsBefore, Passage}
-use Rattle.vault_live.specs.Live.{Turns}
+use Rattle.vault_listen.specs.Live.{Turns}
 use Rattle.vault_routes.specs.Wanted.{Wanted}
 use Rattle.vault_jobs.specs.Doing.{PipeEnds}
 use Rattle.vault_jobs.specs.Streams.{Streams}

@@ -9,9 +9,9 @@ use Rattle.vault_core.specs.declared.command.Command.{Command}
 use Rattle.vault_http.specs.Exchanges.{Exchange, commands_in, commands_of, vault_after}
 use Rattle.vault_http.specs.Passing.{IsBefore, Passage}
 use Rattle.vault_http.specs.Served.{IsServed, IsStopped}
-use Rattle.vault_http.specs.declared.fault.ServeFault.{ServeFault}
+use Rattle.vault_engine.specs.declared.stop.Stop.{Stop as ServeFault}
 use Rattle.vault_http.specs.declared.served.Served.{Served}
-use Rattle.vault_live.specs.Live.{Turns}
+use Rattle.vault_listen.specs.Live.{Turns}
 use Rattle.vault_listen.specs.Peers.{Link}
 use Rattle.vault_listen.specs.Service.{AllKept, AllLead, Leads, OneUndecided, link_from}
 use Rattle.vault_listen.specs.declared.fault.ListenFault.TheVariants as listener

@@ -20,7 +20,7 @@ use Rattle.vault_core.specs.Vault.{Vault as Content}
 use Rattle.vault_core.specs.declared.command.Command.{Command}
 use Rattle.vault_http.specs.Passing.{IsBefore, Passage}
 use Rattle.vault_listen.specs.Peers.{Link}
-use Rattle.vault_live.specs.Live.{Turns}
+use Rattle.vault_listen.specs.Live.{Turns}
 use Rattle.vault_rights.specs.Named.{Row}
 use Rattle.vault_rows.proofs.Dead.{has_found}
 use Rattle.vault_store.specs.declared.vault.Fault.{Fault}

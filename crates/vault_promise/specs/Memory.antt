@@ -6,7 +6,7 @@ use Rattle.sqlite_disk.specs.declared.Files.{Files}
 use Rattle.sqlite_disk.specs.declared.memory.Memory.{Memory}
 use Rattle.sqlite_wal.specs.Recovery.{Image}
 use Rattle.vault_app.specs.World.{World, world_of}
-use Rattle.vault_live.specs.Live.{Turns}
+use Rattle.vault_listen.specs.Live.{Turns}
 
 -- the bytes of the files
 abbrev pub bytes_in : Files Memory → Image

@@ -21,7 +21,7 @@ use Rattle.vault_recover.specs.Crashed.{AreBlank, KeepsEither, KeepsFirst, MayFi
 use Rattle.vault_schema.specs.Stands.{lookups_of}
 use Rattle.vault_steps.specs.Entries.{AreSome}
 use Rattle.vault_recover.specs.Histories.{Answered, IsHistory, Reopened, Step, Undecided}
-use Rattle.vault_live.specs.Live.{Turns}
+use Rattle.vault_listen.specs.Live.{Turns}
 use Rattle.vault_listen.specs.Peers.{Link}
 use Rattle.vault_wire.specs.declared.watched.Watched.{Watched}
 use Rattle.vault_jobs.specs.Streams.{Known, Streams, streams, with_links}

@@ -11,7 +11,7 @@ use Rattle.vault_core.specs.declared.reply.Reply.TheVariants.{Done}
 use Rattle.vault_http.specs.Exchanges.{AskFirst, Exchange, Pair, commands_of, last_text, shown, texts}
 use Rattle.vault_http.specs.Exchanges.{up_to_close}
 use Rattle.vault_http.specs.Served.{Begins}
-use Rattle.vault_live.specs.Live.{IsPairOf}
+use Rattle.vault_listen.specs.Live.{IsPairOf}
 use Rattle.vault_wire.specs.Messages.{Request}
 use Rattle.vault_wire.specs.declared.fault.WireFault.{WireFault}
 use Rattle.vault_batch.specs.Asking.{Asked, Asks}

@@ -13,7 +13,7 @@ use sqlite_disk::{Disk, Memory};
 use std::convert::AsStr;
 use std::io::{Read, Write};
 use vault_listen::network::Network;
-use vault_live::time::Timekeeper;
+use vault_listen::time::Timekeeper;
 use vault_wire::watched::Watched;
 
 /// Runs the program on the words and then on the words of another call, each with an input of its own, and

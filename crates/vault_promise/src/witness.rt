@@ -19,7 +19,7 @@ use std::io::{Read, Write};
 use vault_app::run::run;
 use vault_file::paths::Paths;
 use vault_listen::network::Network;
-use vault_live::time::Timekeeper;
+use vault_listen::time::Timekeeper;
 use vault_wire::watched::Watched;
 
 /// Runs the program, and answers its exit status and the files that it leaves.

@@ -9,6 +9,10 @@ ghost use Rattle.vault_verdict.specs.Opened.{IsFit, IsLeastBroken, IsNoDamage, I
 ghost use Rattle.vault_verdict.specs.Opened.{LeavesFound, Opens};
 ghost use Rattle.vault_verdict.specs.Reading.{IsFull, IsOurs, IsQuietWhere, IsUnreadFile};
 ghost use Rattle.sql_maps.specs.Schema.{no_schema};
+ghost use Rattle.sql_maps.specs.Transactions.{KeepsDoubts};
+ghost use Rattle.vault_verdict.specs.Refusals.{IsLeastWhereFull, IsStillVersioned, LeavesSeen, RowsBreak};
+ghost use Rattle.vault_verdict.specs.Refusals.{SparesFit, TellsOther, TellsUnread, WhereMixed};
+ghost use Rattle.vault_verdict.specs.Refusals.{WhereStrange};
 ghost use Rattle.vault_schema.specs.Versioned.{HasVersion};
 ghost use Rattle.vault_sql.specs.Held.{AreFresh};
 ghost use Rattle.vault_store.specs.Applied.{is_broken, tables_of};
@@ -29,35 +33,22 @@ fn ready<S: Alter>(alloc: Global, conn: &mut Connection<S>) -> Result<(), OpenFa
     requires unlimited { conn.old.step_limit ≡ None }
     ensures opens { HasCleanDisk (state S.Store conn.new)
         → OnOk result (Opens (state S.Store conn.old) (state S.Store conn.new)) }
-    ensures damaged { HasCleanDisk (state S.Store conn.new)
-        → IfErr result (λ e. (rule : ℕ) → e ≡ OpenFault.Damaged rule → IsFull (state S.Store conn.old).now
-        → IsLeastBroken (state S.Store conn.old).now rule) }
-    ensures wrong { HasCleanDisk (state S.Store conn.new)
-        → IfErr result
-        (λ e. (n : ℤ) → e ≡ OpenFault.WrongSchema n → IsWrong (state S.Store conn.old).now n) }
-    ensures unread { HasCleanDisk (state S.Store conn.new)
-        → IfErr result (λ e. e ≡ OpenFault.Store → IsOurs (state S.Store conn.old).now
-        → IsUnreadFile S.Store (state S.Store conn.old).now conn.new) }
-    ensures never { HasCleanDisk (state S.Store conn.new)
-        → IfErr result (λ e. IsFit (state S.Store conn.old).now → IsNoRefusal e) }
+    ensures damaged { RowsBreak S.Store conn.old conn.new result IsLeastWhereFull }
+    ensures wrong { TellsOther S.Store conn.old conn.new result IsWrong }
+    ensures unread { TellsUnread S.Store conn.old conn.new result }
+    ensures never { SparesFit S.Store conn.old conn.new result IsFit }
     ensures left { HasCleanDisk (state S.Store conn.new)
         → LeavesFound (state S.Store conn.old) (state S.Store conn.new) }
-    ensures mixed { IsForeign (state S.Store conn.old).now.schema
-        → ¬ HasVersion (state S.Store conn.old).now.schema
-        → IsMixed (state S.Store conn.old).now.schema vault_names
-        → (result ≡ Err (OpenFault.WrongSchema (pos 0))) × (conn.new ≡ conn.old) }
-    ensures strange { IsForeign (state S.Store conn.old).now.schema
-        → ¬ HasVersion (state S.Store conn.old).now.schema
-        → ¬ IsMixed (state S.Store conn.old).now.schema vault_names
-        → (result ≡ Err OpenFault.Store) × (conn.new ≡ conn.old) }
+    ensures mixed { WhereMixed (state S.Store conn.old).now
+        ((result ≡ Err (OpenFault.WrongSchema (pos 0))) × (conn.new ≡ conn.old)) }
+    ensures strange { WhereStrange (state S.Store conn.old).now
+        ((result ≡ Err OpenFault.Store) × (conn.new ≡ conn.old)) }
     ensures foreign { IsForeign (state S.Store conn.old).now.schema → IsErrAnd result IsNoDamage }
-    ensures sees { HasCleanDisk (state S.Store conn.new) → IfErr result (λ e. IsJudged e
-        → HasVersion (state S.Store conn.old).now.schema
-        → IsUnchanged (state S.Store conn.old) (state S.Store conn.new)) }
+    ensures sees { LeavesSeen S.Store conn.old conn.new result
+        (HasVersion (state S.Store conn.old).now.schema) }
     ensures quiet { ¬ ((state S.Store conn.old).now.schema ≡ no_schema)
-        → IsQuietWhere (HasVersion (state S.Store conn.old).now.schema) (state S.Store conn.old)
-        (state S.Store conn.new) }
-    ensures clean { doubt (state S.Store conn.old).is_clean ≤ doubt (state S.Store conn.new).is_clean }
+        → IsStillVersioned S.Store conn.old conn.new }
+    ensures clean { KeepsDoubts S.Store conn.old conn.new }
     ensures idle { conn.new.in_transaction ≡ false }
 {
     let _settled = conn.is_autocommit();

@@ -3,6 +3,8 @@ use Rattle.std.specs.Prelude.{◌≡◌, ◌<◌, ◌⊎◌, ℕ, ℤ, pos, List
 use Rattle.std.specs.declared.cmp.Ordering.TheVariants.{Less}
 use Rattle.toml.specs.Data.{Data, Items, Members, array, table, get_item, get_member, as_array, as_table}
 use Rattle.toml.specs.Parse.{parse_document}
+use Rattle.vault_refusal.specs.declared.refusal.Refusal.{Refusal}
+use Rattle.vault_refusal.specs.declared.refusal.Refusal.TheVariants as refusal
 use Rattle.vault_core.specs.Keys.{Bytes, bytes_cmp}
 use Rattle.vault_core.specs.Name.{IsName}
 use Rattle.vault_core.specs.Scalar.{IsMoment}
@@ -14,14 +16,14 @@ use Rattle.vault_rights.specs.declared.fault.RightsFault.{RightsFault}
 use Rattle.vault_rights.specs.declared.fault.RightsFault.TheVariants.{NotToml, UnknownRight, BadName}
 use Rattle.vault_rights.specs.declared.fault.RightsFault.TheVariants.{WrongType, Memory, BadEnd}
 
--- the number of a fault
-abbrev pub number_of : RightsFault → ℕ
-number_of NotToml = 70
-number_of UnknownRight = 71
-number_of BadName = 72
-number_of WrongType = 73
-number_of Memory = 74
-number_of BadEnd = 75
+-- the refusal that a fault is
+abbrev pub refusal_of : RightsFault → Refusal
+refusal_of NotToml = refusal.NotToml
+refusal_of UnknownRight = refusal.UnknownRight
+refusal_of BadName = refusal.BadKey
+refusal_of WrongType = refusal.WrongType
+refusal_of Memory = refusal.RightsMemory
+refusal_of BadEnd = refusal.BadEnd
 
 -- an item that is neither a text nor a table of a word and an end
 abbrev pub IsOtherItem : Data → Type 0

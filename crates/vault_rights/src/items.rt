@@ -68,7 +68,10 @@ fn read_end(end: Option<i64>) -> Result<Option<Moment>, RightsFault>
     if end < 0 {
         return Err(RightsFault::BadEnd);
     }
-    Ok(Some(Moment::new(end as u64)?))
+    match Moment::new(end as u64) {
+        Ok(until) => Ok(Some(until)),
+        Err(_) => Err(RightsFault::BadEnd),
+    }
 }
 
 /// Reads an item of an array.

@@ -31,7 +31,9 @@ fn read_merchant(
     ensures fault { IfErr result (λ fault.
         (fault ≡ Memory) ⊎ IsMerchantFault key.now (view value.now) fault) }
 {
-    let merchant = MerchantId::read(key.as_bytes())?;
+    let Ok(merchant) = MerchantId::read(key.as_bytes()) else {
+        return Err(RightsFault::BadName);
+    };
     let items = match value.as_array() {
         Some(items) => items,
         None => return Err(RightsFault::WrongType),
@@ -74,7 +76,9 @@ fn read_caller(
         rows.old.items rows.new.items) }
     ensures fault { IfErr result (λ fault. (fault ≡ Memory) ⊎ IsCallerFault key.now (view value.now) fault) }
 {
-    let caller = Caller::read(key.as_bytes())?;
+    let Ok(caller) = Caller::read(key.as_bytes()) else {
+        return Err(RightsFault::BadName);
+    };
     let members = match value.as_table() {
         Some(members) => members,
         None => return Err(RightsFault::WrongType),

@@ -5,6 +5,7 @@ pub mod NameLemmas
 pub mod ParameterLemmas
 pub mod RoomLemmas
 pub mod SegmentLemmas
+pub mod Statuses
 pub mod TemplateLemmas
 pub mod WalkLemmas
 pub mod WantedLemmas

@@ -6,7 +6,8 @@ use Rattle.std.specs.Result.{IsErrAnd}
 use Rattle.std.specs.Str.Parse.{digits_value}
 use Rattle.vault_pan.specs.CardText.{IsCardText, IsNumber, digits_of}
 use Rattle.vault_pan.specs.Luhn.{passes_check}
-use Rattle.vault_pan.specs.Pan.{ReadsPan, fault_number}
+use Rattle.vault_pan.specs.Pan as pan
+use Rattle.vault_pan.specs.Pan.{ReadsPan}
 use Rattle.vault_pan.specs.declared.pan.PanFault.{PanFault}
 use Rattle.vault_pan.specs.declared.pan.PanFault.TheVariants.{BadNumber, BadCheck}
 use Rattle.vault_core.specs.Scalar.{IsRequestText}
@@ -14,24 +15,28 @@ use Rattle.vault_wire.specs.Fields.{sole_value}
 use Rattle.vault_core.specs.declared.command.Command.{Command}
 use Rattle.vault_wire.specs.Parts.{Parts}
 use Rattle.vault_routes.specs.Body.{asked_in}
-use Rattle.vault_routes.specs.Faults.{body_fault, number_of}
+use Rattle.vault_refusal.specs.Refusal.{number_of}
+use Rattle.vault_refusal.specs.declared.refusal.Refusal.{Refusal}
+use Rattle.vault_refusal.specs.declared.refusal.Refusal.TheVariants.{ServiceMemory}
 use Rattle.vault_routes.specs.Route.{Target, route_of}
 use Rattle.vault_routes.specs.Table.{action_at}
 use Rattle.vault_routes.specs.Wanted.{IsWanted, Wanted, Wants, WantsAction, WantsAsker, WantsBody, WantsOrder}
-use Rattle.vault_routes.specs.declared.body.BodyFault.{BodyFault}
-use Rattle.vault_routes.specs.declared.body.BodyFault.TheVariants as body
-use Rattle.vault_routes.specs.declared.fault.HttpFault.{HttpFault}
-use Rattle.vault_routes.specs.declared.fault.HttpFault.TheVariants.{Memory}
 use Rattle.vault_routes.specs.declared.table.Action.{Action}
 use Rattle.vault_routes.specs.declared.wanted.Asker.{Asker}
 use Rattle.vault_routes.specs.declared.wanted.Order.{Order}
 
 -- a refusal that came through
-pub refused_by : {X : Type 0} (W : Wanted X → Type 0) (r : Result X HttpFault) (e : HttpFault)
-    → IsErrAnd r (λ f. f ≡ e) → (e ≢ Memory → W (Err (number_of e))) → IsWanted W r
+pub refused_by : {X : Type 0} (W : Wanted X → Type 0) (r : Result X Refusal) (e : Refusal)
+    → IsErrAnd r (λ f. f ≡ e) → (e ≢ ServiceMemory → W (Err (number_of e))) → IsWanted W r
 refused_by W (Ok x) e h w = absurd h
 refused_by W (Err f) e h w = λ n.
-    subst (λ k. W (Err (number_of k))) (sym h) (w (subst (λ (k : HttpFault). k ≢ Memory) h n))
+    subst (λ k. W (Err (number_of k))) (sym h) (w (subst (λ (k : Refusal). k ≢ ServiceMemory) h n))
+
+-- a refusal that came through, of a reader that has this one
+pub refused_as : {X : Type 0} (W : Wanted X → Type 0) (r : Result X Refusal) (e k : Refusal)
+    → IsErrAnd r (λ f. f ≡ e) → e ≡ k → W (Err (number_of k)) → IsWanted W r
+refused_as W r e k came told w =
+    refused_by W r e came (λ _. subst (λ (k : Refusal). W (Err (number_of k))) (sym told) w)
 
 -- the target and the method are as they have to be
 pub wants_of : (p : Parts) (now : ℕ) (drawn : List ℕ) (target : Target) (asked : Action) (r : Wanted Command)
@@ -113,18 +118,14 @@ order_body p goes text body r is request same h =
     inl (text, is, inl (request, subst (λ b. WantsBody b (digits_value 10 text) goes r) same h))
 
 -- a body that gives no texts
-pub no_body : {X : Type 0} (fault : BodyFault) (text : List ℕ) (n : ℕ) (goes : Order → Wanted X → Type 0)
-    → (fault ≡ body.NotAsked → asked_in text ≡ None) → body_fault fault ≢ Memory
-    → WantsBody text n goes (Err (number_of (body_fault fault)))
-no_body body.NotAsked text n goes none some =
-    let is_none = none refl in
-    inr ((λ texts is. (let clash = sym is ∙ is_none in cc)), refl)
-no_body body.Memory text n goes none some = absurd (some refl)
+pub no_body : {X : Type 0} (text : List ℕ) (n : ℕ) (goes : Order → Wanted X → Type 0)
+    → asked_in text ≡ None → WantsBody text n goes (Err 59)
+no_body text n goes none = inr ((λ texts is. (let clash = sym is ∙ none in cc)), refl)
 
 -- a body whose number is none: no digits of one, or a wrong check digit
 pub no_pan : {X : Type 0} (fault : PanFault) (text : List ℕ) (n : ℕ) (goes : Order → Wanted X → Type 0)
     (texts : List ℕ × List ℕ) → asked_in text ≡ Some texts → ReadsPan texts.0 (Err fault)
-    → WantsBody text n goes (Err (fault_number fault))
+    → WantsBody text n goes (Err (number_of (pan.refusal_of fault)))
 no_pan BadNumber text n goes texts is h = inl (texts, is, inr (h, refl))
 no_pan BadCheck text n goes texts is h =
     inl (texts, is, inl ((h.0, h.1), inr ((λ passes. (let clash = sym passes ∙ h.2 in cc)), refl)))

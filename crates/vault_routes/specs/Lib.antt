@@ -1,5 +1,4 @@
 pub mod Body
-pub mod Faults
 pub mod Reply
 pub mod Route
 pub mod Status

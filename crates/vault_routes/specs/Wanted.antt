@@ -3,9 +3,7 @@ use Rattle.std.specs.Prelude.{◌≡◌, ◌≢◌, ℕ, ◌⊎◌, List, codes,
 use Rattle.std.specs.Str.Parse.{digits_value}
 use Rattle.vault_pan.specs.CardText.{IsCardText, IsNumber, IsToken, digits_of}
 use Rattle.vault_pan.specs.Luhn.{passes_check}
-use Rattle.vault_pan.specs.Pan.{bad_token_number}
 use Rattle.vault_core.specs.Name.{IsName}
-use Rattle.vault_core.specs.Refusals.{bad_name, bad_request_number, bad_use}
 use Rattle.vault_core.specs.Scalar.{IsRequestText}
 use Rattle.vault_core.specs.Words.{use_word}
 use Rattle.vault_core.specs.declared.command.Command.{Command}
@@ -15,11 +13,14 @@ use Rattle.vault_core.specs.declared.usage.Use.{Use}
 use Rattle.vault_wire.specs.Fields.{sole_value}
 use Rattle.vault_wire.specs.Parts.{Parts}
 use Rattle.vault_routes.specs.Body.{asked_in}
-use Rattle.vault_routes.specs.Faults.{number_of}
+use Rattle.vault_refusal.specs.Refusal.{number_of}
+use Rattle.vault_refusal.specs.declared.refusal.Refusal.{Refusal}
+use Rattle.vault_refusal.specs.declared.refusal.Refusal.TheVariants.{BadFields, BadName, BadBody, BadNumber}
+use Rattle.vault_refusal.specs.declared.refusal.Refusal.TheVariants.{BadCheck, BadUse, BadRequestNumber}
+use Rattle.vault_refusal.specs.declared.refusal.Refusal.TheVariants.{BadToken, NoRoute, BadMethod}
+use Rattle.vault_refusal.specs.declared.refusal.Refusal.TheVariants.{ServiceMemory}
 use Rattle.vault_routes.specs.Route.{Target, route_of}
 use Rattle.vault_routes.specs.Table.{action_at}
-use Rattle.vault_routes.specs.declared.fault.HttpFault.{HttpFault}
-use Rattle.vault_routes.specs.declared.fault.HttpFault.TheVariants.{Memory}
 use Rattle.vault_routes.specs.declared.table.Action.{Action}
 use Rattle.vault_routes.specs.declared.table.Action.TheVariants as action
 use Rattle.vault_routes.specs.declared.table.TokenAction.{TokenAction}
@@ -35,38 +36,38 @@ Bytes = List ℕ
 abbrev pub Wanted : Type 0 → Type 0
 Wanted X = Result X ℕ
 
--- P holds and the rest goes on, or it doesn't and the refusal is n
-abbrev pub Must : {X : Type 0} → Type 0 → ℕ → (Wanted X → Type 0) → Wanted X → Type 0
-Must P n goes r = (P × goes r) ⊎ ((¬ P) × (r ≡ Err n))
+-- P holds and the rest goes on, or it doesn't and this is the refusal
+abbrev pub Must : {X : Type 0} → Type 0 → Refusal → (Wanted X → Type 0) → Wanted X → Type 0
+Must P refused goes r = (P × goes r) ⊎ ((¬ P) × (r ≡ Err (number_of refused)))
 
--- the rest goes on with a y of which P holds, or there is none and the refusal is n
-abbrev pub With : {X Y : Type 0} → (Y → Type 0) → ℕ → (Y → Wanted X → Type 0) → Wanted X → Type 0
-With {X} {Y} P n goes r =
-    ((y : Y) × P y × goes y r) ⊎ (((y : Y) → ¬ P y) × (r ≡ Err n))
+-- the rest goes on with a y of which P holds, or there is none and this is the refusal
+abbrev pub With : {X Y : Type 0} → (Y → Type 0) → Refusal → (Y → Wanted X → Type 0) → Wanted X → Type 0
+With {X} {Y} P refused goes r =
+    ((y : Y) × P y × goes y r) ⊎ (((y : Y) → ¬ P y) × (r ≡ Err (number_of refused)))
 
 -- one field has the caller's name, else 58; it and the merchant's text are names, else 4
 abbrev pub WantsAsker : {X : Type 0} → Parts → Bytes → ℕ → (Asker → Wanted X → Type 0) → Wanted X → Type 0
 WantsAsker p m now goes =
-    With (λ (caller : Bytes). sole_value (codes "x-vault-caller") p.pairs ≡ Some caller) 58 (λ caller.
-    Must (IsName caller) bad_name (
-    Must (IsName m) bad_name (
+    With (λ (caller : Bytes). sole_value (codes "x-vault-caller") p.pairs ≡ Some caller) BadFields (λ caller.
+    Must (IsName caller) BadName (
+    Must (IsName m) BadName (
     goes (record { caller = caller; merchant = m; now = now }))))
 
 -- the body has the two texts, else 59; the number's text reads as digits of a card number, else 1, that
 -- pass the check, else 2; the use's text is the word of a use, else 19
 abbrev pub WantsBody : {X : Type 0} → Bytes → ℕ → (Order → Wanted X → Type 0) → Wanted X → Type 0
 WantsBody body request goes =
-    With (λ (texts : Bytes × Bytes). asked_in body ≡ Some texts) 59 (λ texts.
-    Must (IsCardText texts.0 × IsNumber (digits_of texts.0)) 1 (
-    Must (passes_check (digits_of texts.0) ≡ true) 2 (
-    With (λ (usage : Use). texts.1 ≡ use_word usage) bad_use (λ usage.
+    With (λ (texts : Bytes × Bytes). asked_in body ≡ Some texts) BadBody (λ texts.
+    Must (IsCardText texts.0 × IsNumber (digits_of texts.0)) BadNumber (
+    Must (passes_check (digits_of texts.0) ≡ true) BadCheck (
+    With (λ (usage : Use). texts.1 ≡ use_word usage) BadUse (λ usage.
     goes (record { request = request; usage = usage; pan = digits_of texts.0 })))))
 
 -- one field has the request's number, else 58, and it reads as one, else 5; then the body counts
 abbrev pub WantsOrder : {X : Type 0} → Parts → (Order → Wanted X → Type 0) → Wanted X → Type 0
 WantsOrder p goes =
-    With (λ (text : Bytes). sole_value (codes "x-vault-request") p.pairs ≡ Some text) 58 (λ text.
-    Must (IsRequestText text) bad_request_number (
+    With (λ (text : Bytes). sole_value (codes "x-vault-request") p.pairs ≡ Some text) BadFields (λ text.
+    Must (IsRequestText text) BadRequestNumber (
     WantsBody p.body (digits_value 10 text) goes))
 
 -- the command that asks for this of a token
@@ -84,18 +85,18 @@ command_for a o drawn = Tokenize a.caller a.merchant o.request o.usage o.pan dra
 abbrev pub WantsAction : Action → Target → Parts → Bytes → Asker → Wanted Command → Type 0
 WantsAction action.Tokenize target p drawn a = WantsOrder p (λ o r. r ≡ Ok (command_for a o drawn))
 WantsAction (action.OnToken what) target p drawn a =
-    Must (IsToken target.token) bad_token_number (λ r. r ≡ Ok (command_on what a target.token))
+    Must (IsToken target.token) BadToken (λ r. r ≡ Ok (command_on what a target.token))
 WantsAction action.Audit target p drawn a = λ r. r ≡ Ok (Audit a.caller a.merchant a.now)
 
 -- the target names something, else 56, and takes the method, else 57
 abbrev pub Wants : Parts → ℕ → Bytes → Wanted Command → Type 0
 Wants p now drawn =
-    With (λ (target : Target). route_of p.target ≡ Some target) 56 (λ target.
-    With (λ (asked : Action). action_at target.place p.method ≡ Some asked) 57 (λ asked.
+    With (λ (target : Target). route_of p.target ≡ Some target) NoRoute (λ target.
+    With (λ (asked : Action). action_at target.place p.method ≡ Some asked) BadMethod (λ asked.
     WantsAsker p target.merchant now (λ a.
     WantsAction asked target p drawn a)))
 
 -- what is answered is wanted; want of memory says nothing
-abbrev pub IsWanted : {X : Type 0} → (Wanted X → Type 0) → Result X HttpFault → Type 0
+abbrev pub IsWanted : {X : Type 0} → (Wanted X → Type 0) → Result X Refusal → Type 0
 IsWanted wants (Ok x) = wants (Ok x)
-IsWanted wants (Err e) = e ≢ Memory → wants (Err (number_of e))
+IsWanted wants (Err e) = e ≢ ServiceMemory → wants (Err (number_of e))

@@ -1,5 +1,5 @@
 //! The body of a message that asks for a token.
-ghost use Rattle.std.specs.Prelude.{◌≡◌, IfOk, Some, None, Err, option_map, string_bytes};
+ghost use Rattle.std.specs.Prelude.{◌≡◌, IfOk, option_map, string_bytes};
 ghost use Rattle.serde_json.specs.View.{view};
 ghost use Rattle.vault_routes.specs.Body.{asked_in, json_in, texts_of};
 
@@ -15,35 +15,14 @@ pub struct TokenBody {
     pub usage: String,
 }
 
-/// Why no texts came from a body.
-#[derive(Clone, Copy, Debug, Drop, PartialEq, Eq)]
-pub enum BodyFault {
-    /// It is no JSON object with exactly the members `number` and `use`, both texts.
-    NotAsked,
-    /// There was no memory to read it.
-    Memory,
-}
-
-impl From<AllocError> for BodyFault {
-    ghost use Rattle.std.specs.Prelude.{◌≡◌};
-    ghost use Rattle.vault_routes.specs.declared.body.BodyFault.TheVariants.{Memory};
-
-    ghost from_gives = { λ _ e. e ≡ Memory };
-
-    fn from(_refused: AllocError) -> BodyFault {
-        BodyFault::Memory
-    }
-}
-
-// The JSON value of the bytes.
-fn read_json(alloc: Global, bytes: &[u8]) -> Result<Value, BodyFault>
-    ensures ok { IfOk result (λ v. json_in bytes.now ≡ Some (view v)) }
-    ensures refused { result ≡ Err BodyFault.NotAsked → json_in bytes.now ≡ None }
+// The JSON value of the bytes, where they are one.
+fn read_json(alloc: Global, bytes: &[u8]) -> Result<Option<Value>, AllocError>
+    ensures { IfOk result (λ value. json_in bytes.now ≡ option_map view value) }
 {
     match Value::from_slice(alloc, bytes) {
-        Ok(value) => Ok(value),
-        Err(fault) if fault.is_memory() => Err(BodyFault::Memory),
-        Err(_) => Err(BodyFault::NotAsked),
+        Ok(value) => Ok(Some(value)),
+        Err(fault) if fault.is_memory() => Err(AllocError),
+        Err(_) => Ok(None),
     }
 }
 
@@ -61,19 +40,21 @@ fn asked_texts(value: &Value) -> Option<(&str, &str)>
 }
 
 impl TokenBody {
-    /// Reads a body. Where a member stands twice, its last value counts.
-    pub fn read(alloc: Global, bytes: &[u8]) -> Result<TokenBody, BodyFault>
-        ensures ok { IfOk result (λ b. asked_in bytes.now
-            ≡ Some (string_bytes b.number, string_bytes b.usage)) }
-        ensures refused { result ≡ Err BodyFault.NotAsked → asked_in bytes.now ≡ None }
+    /// Reads a body: nothing where it is no JSON object with exactly the members `number` and `use`, both
+    /// texts. Where a member stands twice, its last value counts.
+    pub fn read(alloc: Global, bytes: &[u8]) -> Result<Option<TokenBody>, AllocError>
+        ensures { IfOk result (λ body. asked_in bytes.now
+            ≡ option_map (λ b. (string_bytes b.number, string_bytes b.usage)) body) }
     {
-        let value = read_json(alloc, bytes)?;
-        let Some((number, usage)) = asked_texts(&value) else {
-            return Err(BodyFault::NotAsked);
+        let Some(value) = read_json(alloc, bytes)? else {
+            return Ok(None);
         };
-        Ok(TokenBody {
+        let Some((number, usage)) = asked_texts(&value) else {
+            return Ok(None);
+        };
+        Ok(Some(TokenBody {
             number: String::from_str(alloc, number)?,
             usage: String::from_str(alloc, usage)?,
-        })
+        }))
     }
 }

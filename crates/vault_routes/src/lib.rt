@@ -3,7 +3,6 @@
 
 pub mod body;
 pub mod fault;
-pub mod refusal;
 pub mod reply;
 pub mod route;
 pub mod status;

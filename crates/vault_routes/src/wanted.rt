@@ -1,8 +1,6 @@
 //! The command that a message asks for.
-ghost use Rattle.std.specs.Prelude.{◌≡◌, List, Ok, Option, IfOk, IfErr, ℕ};
+ghost use Rattle.std.specs.Prelude.{◌≡◌, Ok, IfOk};
 ghost use Rattle.vault_core.specs.Proper.{HasLivesInRange};
-ghost use Rattle.vault_routes.specs.Faults.{Allows};
-ghost use Rattle.vault_routes.specs.Route.{methods_at};
 ghost use Rattle.vault_routes.specs.Wanted.{IsWanted, Wants, WantsAsker, WantsOrder, command_for, command_on};
 
 use crate::body::TokenBody;
@@ -40,7 +38,6 @@ impl Asker {
     // Reads who asks of a message, at the merchant of this text.
     fn read(message: &Message, merchant: &str, now: Moment) -> Result<Asker, HttpFault>
         ensures wanted { IsWanted (WantsAsker message.now merchant.now now (λ a r. r ≡ Ok a)) result }
-        ensures allow { IfErr result (λ e. (methods : Option (List ℕ)) → Allows methods e) }
     {
         let Some(caller) = message.sole(b"x-vault-caller") else {
             return Err(HttpFault::BadFields);
@@ -113,13 +110,18 @@ impl Order {
     // Reads what a message asks for a token with.
     fn read(alloc: Global, message: &Message) -> Result<Order, HttpFault>
         ensures wanted { IsWanted (WantsOrder message.now (λ o r. r ≡ Ok o)) result }
-        ensures allow { IfErr result (λ e. (methods : Option (List ℕ)) → Allows methods e) }
     {
         let Some(request) = message.sole(b"x-vault-request") else {
             return Err(HttpFault::BadFields);
         };
         let request = RequestNo::read(request)?;
-        let texts = TokenBody::read(alloc, message.body())?;
+        let Ok(body) = TokenBody::read(alloc, message.body()) else {
+            return Err(HttpFault::ServiceMemory);
+        };
+        let texts = match body {
+            Some(texts) => texts,
+            None => return Err(HttpFault::BadBody),
+        };
         let pan = Pan::read(texts.number.as_bytes())?;
         let usage = Use::read(texts.usage.as_bytes())?;
         Ok(Order {
@@ -145,13 +147,12 @@ pub fn command_of(
 ) -> Result<Command, HttpFault>
     ensures wanted { IsWanted (Wants message.now now digits) result }
     ensures lives { IfOk result HasLivesInRange }
-    ensures allow { IfErr result (Allows (methods_at message.now.target)) }
 {
     let Some(route) = routes.find(message.target()) else {
         return Err(HttpFault::NoRoute);
     };
     let Some(action) = route.place.action(message.method()) else {
-        return Err(HttpFault::BadMethod(route.place));
+        return Err(HttpFault::BadMethod);
     };
     let asker = Asker::read(message, route.merchant, now)?;
     match action {

@@ -32,12 +32,14 @@ use Rattle.vault_schema.specs.Stands.{newest_claims}
 use Rattle.vault_schema.specs.Version2.Joined.{AreJoined, nothing_owed}
 use Rattle.vault_schema.specs.declared.v2.Card.{Card}
 use Rattle.vault_schema.specs.declared.v2.Pointing.{Pointing}
-use Rattle.vault_rows.specs.Calls.{HasTables, IsWithin, Makes, Tells, TellsInside, TellsTables, Turns}
+use Rattle.vault_cards.specs.Calls.{HasTables, IsWithin, Makes, TellsInside, Turns}
+use Rattle.vault_rows.specs.Calls.{Tells, TellsTables}
 use Rattle.vault_schema.specs.Holds.{AreOurs, Holds, LeavesEither}
 use Rattle.vault_schema.specs.Left.{left_after}
 use Rattle.vault_schema.specs.Schema.{newest_schema}
 use Rattle.vault_schema.specs.Stands.{Stands, lookups_of}
 use Rattle.vault_schema.specs.Versions.{tables_of}
+use Rattle.vault_schema.specs.Stands.{newest}
 use Rattle.sqlite_catalog.specs.Listing.{IsSound}
 
 -- ---- parameters
@@ -72,7 +74,7 @@ as_vault st V cards pointing joined h = record {
 
 -- a transaction that was just begun
 pub begun_over : (st : State) (V : Vault) → Holds st V
-    → IsWithin (record st { in_transaction = true }) st.committed (lookups_of V)
+    → IsWithin newest (record st { in_transaction = true }) st.committed (lookups_of V)
 begun_over st V h = record {
   cards = h.stands.cards;
   pointing = h.stands.pointing;
@@ -81,13 +83,13 @@ begun_over st V h = record {
 }
 
 -- and one that is committed
-pub held_after : {mid new : State} {base : Database} (V : Vault) → IsWithin mid base (lookups_of V)
+pub held_after : {mid new : State} {base : Database} (V : Vault) → IsWithin newest mid base (lookups_of V)
     → Shows mid new mid.now mid.now false → new.step_limit ≡ mid.step_limit → Holds new V
 held_after {new = new} V w shows limit =
     as_vault new V w.cards w.pointing w.joined (calls.committed w.has shows limit)
 
 -- what a commit of the transaction writes
-pub ours : {st : State} {base : Database} (V : Vault) → IsWithin st base (lookups_of V) → (db : Trees)
+pub ours : {st : State} {base : Database} (V : Vault) → IsWithin newest st base (lookups_of V) → (db : Trees)
     → db ≡ st.now.trees → AreOurs db V
 ours {st} V w db is = record {
   sound = subst (λ (t : Trees). IsSound newest_schema t) (sym is)
@@ -105,7 +107,7 @@ pub tells_tables : {R E : Type 0} {result : Result R E} {old new : State} {sql :
     → (items : R → List Row) (params : Row)
     → (HasCleanDisk new → IfOk result (λ rows. Shown sql params old new (items rows)))
     → ((t : Tables) (rows : R) → maps.Stands newest_schema (newest_claims t) old.now
-    → Shown sql params old new (items rows) → Is t rows) → TellsTables result old new Is
+    → Shown sql params old new (items rows) → Is t rows) → TellsTables result Is old new
 tells_tables {result = result} {old = old} {new = new} {sql = sql} means reads items params told
     lemma = record {
       reads = reads newest_schema means.plain;
@@ -115,10 +117,10 @@ tells_tables {result = result} {old = old} {new = new} {sql = sql} means reads i
 
 -- and so what they show of a vault
 pub tells_of : {R E : Type 0} {result : Result R E} {old new : State} {Is : Tables → R → Type 0}
-    {Of : Vault → R → Type 0} → TellsTables result old new Is
+    {Of : Vault → R → Type 0} → TellsTables result Is old new
     → ((V : Vault) (cards : ℤ → Option Card) (pointing : Bytes × Bytes → Option Pointing) (x : R)
     → AreJoined nothing_owed cards pointing (map.get V.entries)
-    → Is (tables_of (lookups_of V) cards pointing) x → Of V x) → Tells result old new Of
+    → Is (tables_of (lookups_of V) cards pointing) x → Of V x) → Tells result Of old new
 tells_of {result = result} {old = old} {Is = Is} it of = record {
   reads = it.reads;
   told = λ clean. calls.if_ok result (λ x. (t : Tables) → maps.Stands newest_schema (newest_claims t) old.now
@@ -137,7 +139,7 @@ pub tells : {R E : Type 0} {result : Result R E} {old new : State} {sql : List �
     → ((V : Vault) (cards : ℤ → Option Card) (pointing : Bytes × Bytes → Option Pointing) (rows : R)
     → AreJoined nothing_owed cards pointing (map.get V.entries)
     → maps.Stands newest_schema (newest_claims (tables_of (lookups_of V) cards pointing)) old.now
-    → Shown sql params old new (items rows) → Is V rows) → Tells result old new Is
+    → Shown sql params old new (items rows) → Is V rows) → Tells result Is old new
 tells {result = result} {old = old} {new = new} {sql = sql} means reads items params told lemma = record {
   reads = reads newest_schema means.plain;
   told = λ clean. calls.if_ok result (λ rows. Shown sql params old new (items rows)) _ (told clean)
@@ -157,7 +159,7 @@ pub looks_up : {R E K X : Type 0} {result : Result R E} {old new : State} {sql :
     → (HasCleanDisk new → IfOk result (λ rows. Shown sql params old new (items rows)))
     → (k : K) → params ≡ key k ++ [] → (show : X → Row)
     → ((m : ℤ) (x : X) → shown_as params project (Int m ∷ row_of key value k x) ≡ show x)
-    → TellsTables result old new (λ h rows. items rows ≡ one_of show (held h k))
+    → TellsTables result (λ h rows. items rows ≡ one_of show (held h k)) old new
 looks_up {old = old} {new = new} t held said means reads items params told k given show shows =
     tells_tables means reads items params told (λ h rows it shown.
     look_up old new it _ params (items rows) shown t (held h) (said h _) _ means k given show shows)
@@ -178,36 +180,14 @@ still_held {old = old} {new = new} reads V h = (
 
 -- a statement
 
--- what it makes of the tables is done
-pub turns : {E : Type 0} {result : Result (Unit {0}) E} {old new : State} {sql : List ℕ} {params : Row}
-    {Can : Tables → Type 0} {After : Unit {0} → Tables → Tables → Type 0} → Steps old new
-    → (HasCleanDisk new
-    → OnOk result
-    (IsTrue old.in_transaction → (count : ℕ) × ExecutesInside 0 sql params old new (Ok count)))
-    → ((t : Tables) (base : Database) → Can t → Ran newest_schema (newest_claims t) base old new sql params
-    → (after : Tables) × After tt t after × HasTables new base after) → Turns result old new Can After
-turns {E} {result} {old} {new} {sql} {params} {Can} {After} steps ran lemma = record {
-  steps = steps;
-  done = λ clean. go result (ran clean);
-}
-  where
-    go : (r : Result (Unit {0}) E)
-        → OnOk r (IsTrue old.in_transaction → (count : ℕ) × ExecutesInside 0 sql params old new (Ok count))
-        → IfOk r (λ x. (base : Database) (t : Tables) → HasTables old base t → Can t
-        → (after : Tables) × After x t after × HasTables new base after)
-    go (Err e) did = tt
-    go (Ok x) did = λ base t w can.
-        let it = did w.inside in
-        lemma t base can (record { within = w; count = it.0; ran = it.1; limit = steps.limit })
-
--- and so where it tells how many rows it changed
+-- what it makes of the tables is done, where it tells how many rows it changed
 pub turns_telling : {R E : Type 0} {y : R} {old new : State} {sql : List ℕ} {params : Row} {count : ℕ}
     {Can : Tables → Type 0} {After : R → Tables → Tables → Type 0} → Steps old new
     → (HasCleanDisk new → IsTrue old.in_transaction → ExecutesInside 0 sql params old new (Ok count))
     → ((t : Tables) (base : Database) → Can t → (run : Ran newest_schema
     (newest_claims t) base old new sql params)
-    → run.count ≡ count → (after : Tables) × After y t after × HasTables new base after)
-    → Turns (let it : Result R E = Ok y in it) old new Can After
+    → run.count ≡ count → (after : Tables) × After y t after × HasTables newest new base after)
+    → Turns newest (let it : Result R E = Ok y in it) Can After old new
 turns_telling {count = count} steps ran lemma = record {
   steps = steps;
   done = λ clean base t w can.
@@ -215,36 +195,7 @@ turns_telling {count = count} steps ran lemma = record {
       refl;
 }
 
--- what the rows of a query show of the tables is told, and they stay
-pub tells_inside : {R E : Type 0} {result : Result R E} {old new : State} {sql : List ℕ} {body : Query}
-    {Is : Tables → R → Type 0} → IsQuery newest_schema sql body → Steps old new
-    → (items : R → List Row) (params : Row)
-    → (HasCleanDisk new → IfOk result (λ rows. Shown sql params old new (items rows)))
-    → (HasCleanDisk new → (s : Schema) → IsPlain (understood s sql) → old.now.schema ≡ s
-    → OnOk result (IsUnchanged old new))
-    → ((t : Tables) (rows : R) → maps.Stands newest_schema (newest_claims t) old.now
-    → Shown sql params old new (items rows) → Is t rows) → TellsInside result old new Is
-tells_inside {R} {E} {result} {old} {new} {sql} {Is = Is} means steps items params told kept lemma = record {
-  steps = steps;
-  told = λ clean. go result (told clean) (kept clean newest_schema means.plain);
-}
-  where
-    go : (r : Result R E) → IfOk r (λ rows. Shown sql params old new (items rows))
-        → (old.now.schema ≡ newest_schema → OnOk r (IsUnchanged old new))
-        → IfOk r (λ x. (base : Database) (t : Tables) → HasTables old base t → Is t x × HasTables new base t)
-    go (Err e) shown same = tt
-    go (Ok rows) shown same = λ base t w.
-        let still = same w.stands.schema in (
-          lemma t rows w.stands shown,
-          record {
-            free = record { is_open = still.0.is_open; unlimited = steps.limit ∙ w.free.unlimited };
-            inside = still.0.mode ∙ w.inside;
-            committed = still.0.committed_is ∙ w.committed;
-            stands = subst (maps.Stands newest_schema (newest_claims t)) (sym still.0.now_is) w.stands;
-          },
-        )
-
--- and so what it makes of lookups, where the entries stay
+-- what it makes of lookups is done, where the entries stay
 pub makes : {R E : Type 0} {result : Result R E} {old new : State} {sql : List ℕ} {params : Row}
     {Can : Lookups → Type 0} {after : Lookups → Lookups} → Steps old new
     → (HasCleanDisk new
@@ -253,8 +204,8 @@ pub makes : {R E : Type 0} {result : Result R E} {old new : State} {sql : List �
     → ((h : Lookups) → (after h).entries ≡ h.entries)
     → ((h : Lookups) (cards : ℤ → Option Card) (pointing : Bytes × Bytes → Option Pointing) (base : Database)
     → Can h → Ran newest_schema (newest_claims (tables_of h cards pointing)) base old new sql params
-    → HasTables new base (tables_of (after h) cards pointing))
-    → Makes result old new Can after
+    → HasTables newest new base (tables_of (after h) cards pointing))
+    → Makes newest result Can after old new
 makes {result = result} steps ran keeps lemma = record {
   steps = steps;
   done = λ clean. calls.on_ok result (ran clean) (λ did base h w can.
@@ -265,19 +216,6 @@ makes {result = result} steps ran keeps lemma = record {
             (record { within = w.has; count = it.0; ran = it.1; limit = steps.limit });
         joined = subst (AreJoined nothing_owed w.cards w.pointing) (sym (keeps h)) w.joined;
       });
-}
-
--- one step after another
-pub makes_then : {R E R' E' : Type 0} {x : R} {second : Result R' E'} {a b c : State}
-    {Can First Next : Lookups → Type 0} {f f' : Lookups → Lookups}
-    → Makes (let it : Result R E = Ok x in it) a b First f → Makes second b c Next f'
-    → ((h : Lookups) → Can h → First h) → ((h : Lookups) → Can h → Next (f h))
-    → Makes second a c Can (λ h. f' (f h))
-makes_then {second = second} {b = b} {f = f} one two can next = record {
-  steps = calls.steps_then one.steps two.steps;
-  done = λ clean. calls.on_ok second (two.done clean) (λ did base h w ok.
-      let before : HasCleanDisk b = omega (arith, two.steps.clean, clean) in
-      did base (f h) (one.done before base h w (can h ok)) (next h ok));
 }
 
 -- ---- several queries
@@ -295,7 +233,7 @@ pub fails_then : {R E R' E' R'' E'' : Type 0} {x : R} {second : Result R' E'} {t
     {a b c : State} {Is : Vault → R'' → Type 0}
     → Reads newest_schema (let it : Result R E = Ok x in it) a b → Reads newest_schema second b c
     → IsErr third
-    → Tells third a c Is
+    → Tells third Is a c
 fails_then {third = third} one two failed =
     let both = calls.reads_then one one.kept two in record {
       reads = record {
@@ -324,15 +262,15 @@ reads_as it = assumption it
 
 -- what the answer of a query tells
 pub answers : {R E R' E' : Type 0} {x : R} {y : R'} {old new : State} {Is : Vault → R → Type 0}
-    {Is' : Vault → R' → Type 0} → Tells (let it : Result R E = Ok x in it) old new Is
-    → ((V : Vault) → Is V x → Is' V y) → Tells (let it : Result R' E' = Ok y in it) old new Is'
+    {Is' : Vault → R' → Type 0} → Tells (let it : Result R E = Ok x in it) Is old new
+    → ((V : Vault) → Is V x → Is' V y) → Tells (let it : Result R' E' = Ok y in it) Is' old new
 answers tells so = record { reads = reads_as tells.reads; told = λ clean V h. so V (tells.told clean V h) }
 
 -- two queries of the tables, one after the other
 pub tables_then : {R E R' E' : Type 0} {x : R} {second : Result R' E'} {a b c : State}
     {Is : Tables → R → Type 0} {Is' So : Tables → R' → Type 0}
-    → TellsTables (let it : Result R E = Ok x in it) a b Is → TellsTables second b c Is'
-    → ((t : Tables) (y : R') → Is t x → Is' t y → So t y) → TellsTables second a c So
+    → TellsTables (let it : Result R E = Ok x in it) Is a b → TellsTables second Is' b c
+    → ((t : Tables) (y : R') → Is t x → Is' t y → So t y) → TellsTables second So a c
 tables_then {second = second} {b = b} one two so = record {
   reads = calls.reads_then one.reads one.reads.kept two.reads;
   told = λ clean. calls.if_ok second _ _ (two.told clean) (λ y did t st.
@@ -344,8 +282,8 @@ tables_then {second = second} {b = b} one two so = record {
 
 -- what the answer of a query tells of the tables
 pub tables_so : {R E R' E' : Type 0} {x : R} {y : R'} {old new : State} {Is : Tables → R → Type 0}
-    {So : Tables → R' → Type 0} → TellsTables (let it : Result R E = Ok x in it) old new Is
-    → ((t : Tables) → Is t x → So t y) → TellsTables (let it : Result R' E' = Ok y in it) old new So
+    {So : Tables → R' → Type 0} → TellsTables (let it : Result R E = Ok x in it) Is old new
+    → ((t : Tables) → Is t x → So t y) → TellsTables (let it : Result R' E' = Ok y in it) So old new
 tables_so tells so =
     record { reads = reads_as tells.reads; told = λ clean t st. so t (tells.told clean t st) }
 
@@ -357,7 +295,7 @@ pub told_of : {R E R' E' : Type 0} {x : R} {y : R'} {old new : State} {Of : Vaul
     → (HasCleanDisk new → (t : Tables) → maps.Stands newest_schema (newest_claims t) old.now → Is t x)
     → ((V : Vault) (cards : ℤ → Option Card) (pointing : Bytes × Bytes → Option Pointing)
     → Is (tables_of (lookups_of V) cards pointing) x → Of V y)
-    → Tells (let it : Result R' E' = Ok y in it) old new Of
+    → Tells (let it : Result R' E' = Ok y in it) Of old new
 told_of {old = old} Is reads told of = record {
   reads = reads_as reads;
   told = λ clean V h.
@@ -367,17 +305,17 @@ told_of {old = old} Is reads told of = record {
 -- what is made of the tables is made of the lookups
 pub made_of : {R E : Type 0} {result : Result R E} {old new : State} {after : Lookups → Lookups}
     (on : Tables → Tables) → Steps old new
-    → (HasCleanDisk new → OnOk result ((base : Database) (t : Tables) → HasTables old base t
-    → HasTables new base (on t)))
+    → (HasCleanDisk new → OnOk result ((base : Database) (t : Tables) → HasTables newest old base t
+    → HasTables newest new base (on t)))
     → ((h : Lookups) (cards : ℤ → Option Card) (pointing : Bytes × Bytes → Option Pointing)
     → on (tables_of h cards pointing) ≡ tables_of (after h) cards pointing)
-    → ((h : Lookups) → (after h).entries ≡ h.entries) → Makes result old new (λ h. Unit {0}) after
+    → ((h : Lookups) → (after h).entries ≡ h.entries) → Makes newest result (λ h. Unit {0}) after old new
 made_of {result = result} {new = new} on steps done same keeps = record {
   steps = steps;
   done = λ clean. calls.on_ok result (done clean) (λ did base h w can. record {
     cards = w.cards;
     pointing = w.pointing;
-    has = subst (HasTables new base) (same h w.cards w.pointing)
+    has = subst (HasTables newest new base) (same h w.cards w.pointing)
         (did base (tables_of h w.cards w.pointing) w.has);
     joined = subst (AreJoined nothing_owed w.cards w.pointing) (sym (keeps h)) w.joined;
   });
@@ -386,9 +324,9 @@ made_of {result = result} {new = new} on steps done same keeps = record {
 -- what is told of the tables inside a transaction
 pub told_inside : {R R' E' : Type 0} {x : R} {y : R'} {old new : State} {So : Tables → R' → Type 0}
     (Is : Tables → R → Type 0) → Steps old new
-    → (HasCleanDisk new → (base : Database) (t : Tables) → HasTables old base t
-    → Is t x × HasTables new base t)
-    → ((t : Tables) → Is t x → So t y) → TellsInside (let it : Result R' E' = Ok y in it) old new So
+    → (HasCleanDisk new → (base : Database) (t : Tables) → HasTables newest old base t
+    → Is t x × HasTables newest new base t)
+    → ((t : Tables) → Is t x → So t y) → TellsInside newest (let it : Result R' E' = Ok y in it) So old new
 told_inside Is steps told so = record {
   steps = steps;
   told = λ clean base t w. let it = told clean base t w in (so t it.0, it.1);

@@ -9,15 +9,16 @@ use Rattle.vault_schema.proofs.Newest.{merchant_coding, merchants_held}
 use Rattle.vault_schema.specs.Versions.{Lookups}
 use Rattle.vault_schema.specs.Versions.{Tables}
 use Rattle.vault_core.specs.declared.row.Lives.{Lives}
-use Rattle.vault_rows.specs.Calls.{HasTables, Makes, TellsInside}
+use Rattle.vault_cards.specs.Calls.{HasTables, Makes, TellsInside}
 use Rattle.vault_schema.specs.Versions.{tables_of}
+use Rattle.vault_schema.specs.Stands.{newest}
 
 -- lives that a merchant has are put again, and nothing changes
 pub lives_kept : {E F : Type 0} {has : Bool} {old new : State} (m : Bytes) (x : Lives)
-    → TellsInside (let it : Result Bool E = Ok has in it) old new
-    (λ t has. IsTrue has ↔ (t.merchants m ≡ Some x)) → IsTrue has
-    → Makes (let it : Result (Unit {0}) F = Ok tt in it) old new (λ _. Unit {0})
-    (λ h. record h { merchants = put bytes_cmp h.merchants m (Some x) })
+    → TellsInside newest (let it : Result Bool E = Ok has in it)
+    (λ t has. IsTrue has ↔ (t.merchants m ≡ Some x)) old new → IsTrue has
+    → Makes newest (let it : Result (Unit {0}) F = Ok tt in it) (λ _. Unit {0})
+    (λ h. record h { merchants = put bytes_cmp h.merchants m (Some x) }) old new
 lives_kept {old = old} {new = new} m x told says = record {
   steps = told.steps;
   done = λ clean base h w can.
@@ -28,7 +29,7 @@ lives_kept {old = old} {new = new} m x told says = record {
       record {
         cards = w.cards;
         pointing = w.pointing;
-        has = subst (λ (held : Bytes → Option Lives). HasTables new base
+        has = subst (λ (held : Bytes → Option Lives). HasTables newest new base
             (tables_of (record h { merchants = held }) w.cards w.pointing)) same seen.1;
         joined = w.joined;
       };
@@ -37,9 +38,9 @@ lives_kept {old = old} {new = new} m x told says = record {
 -- a step after a look
 pub told_makes : {R R' R'' E E' E'' : Type 0} {x : R} {y : R'} {z : R''} {a b c : State}
     {Is : Tables → R → Type 0} {Can : Lookups → Type 0} {after : Lookups → Lookups}
-    → TellsInside (let it : Result R E = Ok x in it) a b Is
-    → Makes (let it : Result R' E' = Ok y in it) b c Can after
-    → Makes (let it : Result R'' E'' = Ok z in it) a c Can after
+    → TellsInside newest (let it : Result R E = Ok x in it) Is a b
+    → Makes newest (let it : Result R' E' = Ok y in it) Can after b c
+    → Makes newest (let it : Result R'' E'' = Ok z in it) Can after a c
 told_makes {b = b} look step = record {
   steps = calls.steps_then look.steps step.steps;
   done = λ clean base h w can.

@@ -1,7 +1,6 @@
 pub mod Calls
 pub mod Current
 pub mod Dead
-pub mod InEach
 pub mod JoinedEntries
 pub mod Kept
 pub mod Listed

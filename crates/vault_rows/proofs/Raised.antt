@@ -9,8 +9,9 @@ use Rattle.sql_maps.specs.States.{Steps}
 use Rattle.vault_core.specs.Keys.{Bytes}
 use Rattle.vault_schema.specs.Versions.{Tables}
 use Rattle.vault_schema.specs.declared.v1.TheConstants.{RAISE_COUNT}
-use Rattle.vault_rows.specs.Calls.{HasTables, Makes, Turns}
+use Rattle.vault_cards.specs.Calls.{HasTables, Makes, Turns}
 use Rattle.vault_schema.specs.Versions.{tables_of}
+use Rattle.vault_schema.specs.Stands.{newest}
 use Rattle.vault_rows.specs.Written.{HasRoomAt, IsRaised, raise_at}
 use Rattle.vault_cards.proofs.Calls.{on_if}
 use Rattle.vault_rows.proofs.Calls.{turns_telling}
@@ -38,8 +39,8 @@ module _ (at : Bytes × ℕ) where
   pub row_raised : {E : Type 0} {old new : State} (count : ℕ) → Steps old new
       → (HasCleanDisk new → IsTrue old.in_transaction
       → ExecutesInside 0 RAISE_COUNT.now (Text at.0 ∷ Int (pos at.1) ∷ []) old new (Ok count))
-      → Turns (let it : Result Bool E = Ok (nat_lt 0 count) in it) old new (λ t. HasRoomAt t.counts at)
-      (λ has t after. IsRaised has t after at)
+      → Turns newest (let it : Result Bool E = Ok (nat_lt 0 count) in it) (λ t. HasRoomAt t.counts at)
+      (λ has t after. IsRaised has t after at) old new
   row_raised count steps ran = turns_telling steps ran (λ t base room run is.
       elim (count_raised at room run) [
         | inl none ↦ (t, no_row t count (sym is ∙ none.1) none.0, none.2)
@@ -48,10 +49,10 @@ module _ (at : Bytes × ℕ) where
 
   -- where there was a row, that is all
   pub raised_at_once : {E F : Type 0} {has : Bool} {old new : State}
-      → Turns (let it : Result Bool E = Ok has in it) old new (λ t. HasRoomAt t.counts at)
-      (λ has t after. IsRaised has t after at) → has ≡ true
-      → Makes (let it : Result (Unit {0}) F = Ok tt in it) old new (λ h. HasRoomAt h.counts at)
-      (λ h. record h { counts = raise_at h.counts at })
+      → Turns newest (let it : Result Bool E = Ok has in it) (λ t. HasRoomAt t.counts at)
+      (λ has t after. IsRaised has t after at) old new → has ≡ true
+      → Makes newest (let it : Result (Unit {0}) F = Ok tt in it) (λ h. HasRoomAt h.counts at)
+      (λ h. record h { counts = raise_at h.counts at }) old new
   raised_at_once {new = new} one has = record {
     steps = one.steps;
     done = λ clean base h w room.
@@ -59,7 +60,7 @@ module _ (at : Bytes × ℕ) where
         let it = one.done clean base start w.has room in record {
           cards = w.cards;
           pointing = w.pointing;
-          has = subst (HasTables new base)
+          has = subst (HasTables newest new base)
               (it.1.after ∙ ap (λ (b : Bool). if b then raised start else start) has) it.2;
           joined = w.joined;
         };
@@ -70,10 +71,10 @@ module _ (at : Bytes × ℕ) where
 
   -- else its first row follows
   pub raised_anew : {E F : Type 0} {has : Bool} {second : Result (Unit {0}) F} {a b c : State}
-      → Turns (let it : Result Bool E = Ok has in it) a b (λ t. HasRoomAt t.counts at)
-      (λ has t after. IsRaised has t after at) → has ≡ false
-      → Turns second b c (λ t. t.counts at ≡ None) (λ it t new. new ≡ raised t)
-      → Makes second a c (λ h. HasRoomAt h.counts at) (λ h. record h { counts = raise_at h.counts at })
+      → Turns newest (let it : Result Bool E = Ok has in it) (λ t. HasRoomAt t.counts at)
+      (λ has t after. IsRaised has t after at) a b → has ≡ false
+      → Turns newest second (λ t. t.counts at ≡ None) (λ it t new. new ≡ raised t) b c
+      → Makes newest second (λ h. HasRoomAt h.counts at) (λ h. record h { counts = raise_at h.counts at }) a c
   raised_anew {has = has} {second = second} {b = b} {c = c} one lacks two = record {
     steps = calls.steps_then one.steps two.steps;
     done = λ clean. on_if second (two.done clean) (λ it did base h w room.
@@ -86,7 +87,7 @@ module _ (at : Bytes × ℕ) where
         record {
           cards = w.cards;
           pointing = w.pointing;
-          has = subst (HasTables c base) (end.1 ∙ ap raised same) end.2;
+          has = subst (HasTables newest c base) (end.1 ∙ ap raised same) end.2;
           joined = w.joined;
         });
   }

@@ -19,17 +19,18 @@ use Rattle.vault_schema.specs.Version1.Rows.{numbered_key, count_row}
 use Rattle.vault_schema.specs.Version1.Rows.{record_columns}
 use Rattle.vault_schema.specs.declared.v1.TheConstants.{RAISE_COUNT, ADD_COUNT, ADD_RECORD}
 use Rattle.vault_schema.proofs.Version1.Texts.{raise_is, add_count_is, add_record_is}
-use Rattle.vault_rows.specs.Calls.{HasTables}
+use Rattle.vault_cards.specs.Calls.{HasTables}
 use Rattle.vault_schema.specs.Schema.{newest_schema}
+use Rattle.vault_schema.specs.Stands.{newest}
 use Rattle.vault_rows.specs.Written.{raise_at, HasRoomAt}
 
 module _ {t : Tables} {base : Database} {old new : State} where
   pub count_raised : (at : Bytes × ℕ) → HasRoomAt t.counts at
       → (run : Ran newest_schema (newest_claims t) base old new RAISE_COUNT.now
       (Text at.0 ∷ Int (pos at.1) ∷ []))
-      → ((t.counts at ≡ None) × (run.count ≡ 0) × HasTables new base t)
+      → ((t.counts at ≡ None) × (run.count ≡ 0) × HasTables newest new base t)
       ⊎ ((y : ℕ) × (t.counts at ≡ Some y) × (run.count ≡ 1)
-      × HasTables new base (record t { counts = raise_at t.counts at }))
+      × HasTables newest new base (record t { counts = raise_at t.counts at }))
   count_raised at room run =
       change_in refl run count_table t.counts (λ are. are) at (unwrap_or (t.counts at) 0 + 1) _
       (raise_is behind_first indexes_behind_first) refl raised
@@ -44,9 +45,9 @@ module _ {t : Tables} {base : Database} {old new : State} where
 
   pub count_added : (at : Bytes × ℕ) → t.counts at ≡ None
       → Ran newest_schema (newest_claims t) base old new ADD_COUNT.now (Text at.0 ∷ Int (pos at.1) ∷ [])
-      → HasTables new base (record t { counts = raise_at t.counts at })
+      → HasTables newest new base (record t { counts = raise_at t.counts at })
   count_added at none run =
-      subst (λ (o : Option ℕ). HasTables new base
+      subst (λ (o : Option ℕ). HasTables newest new base
       (record t { counts = put record_cmp t.counts at (Some (unwrap_or o 0 + 1)) }))
       (sym none)
       (insert_in refl run count_table t.counts (λ are. are) at 1 4 _
@@ -54,7 +55,7 @@ module _ {t : Tables} {base : Database} {old new : State} where
 
   pub record_added : (at : Bytes × ℕ) (x : Record)
       → Ran newest_schema (newest_claims t) base old new ADD_RECORD.now (numbered_key at ++ record_columns x)
-      → HasTables new base (record t { records = put record_cmp t.records at (Some x) })
+      → HasTables newest new base (record t { records = put record_cmp t.records at (Some x) })
   record_added at x run =
       (insert_in refl run record_table t.records (λ are. are) at x 6 _
       (add_record_is behind_first indexes_behind_first)

@@ -1,7 +1,7 @@
 //! The rows of cards as they are looked up.
 ghost use Rattle.std.specs.Prelude.{◌≡◌};
-ghost use Rattle.sqlite.specs.Held.{state};
 ghost use Rattle.sql_maps.specs.Rows.{one_of};
+ghost use Rattle.sql_maps.specs.Transactions.{Between};
 ghost use Rattle.vault_cards.specs.Cards.{ShowsCard};
 ghost use Rattle.vault_schema.specs.Version2.Joined.{number_of};
 ghost use Rattle.vault_rows.specs.Calls.{TellsTables};
@@ -9,8 +9,8 @@ ghost use Rattle.vault_rows.specs.Shown.{text_column};
 
 use crate::columns::number_in;
 use sql_maps::run::rows_of;
+use sql_stored::fault::StoreFault;
 use sqlite::{Alter, Connection, Error, Row, params};
-use vault_cards::fault::StoreFault;
 use vault_pan::pan::Pan;
 use vault_schema::v2::{FIND_CARD, FIND_NUMBER};
 
@@ -20,16 +20,16 @@ pub(crate) fn card_rows<S: Alter>(
     m: &str,
     number: &str,
 ) -> Result<Vec<Row>, Error>
-    ensures { TellsTables result (state S.Store conn.old) (state S.Store conn.new)
-        (λ t rows. ShowsCard rows.items t.cards m.now number.now) }
+    ensures { Between S.Store conn.old conn.new (TellsTables result
+        (λ t rows. ShowsCard rows.items t.cards m.now number.now)) }
 {
     rows_of(conn, FIND_CARD, params![m, number])
 }
 
 /// The row of the number of a card.
 fn number_rows<S: Alter>(conn: &mut Connection<S>, id: i64) -> Result<Vec<Row>, Error>
-    ensures { TellsTables result (state S.Store conn.old) (state S.Store conn.new)
-        (λ t rows. rows.items ≡ one_of text_column (number_of t.cards id)) }
+    ensures { Between S.Store conn.old conn.new (TellsTables result (λ t rows. rows.items
+        ≡ one_of text_column (number_of t.cards id))) }
 {
     rows_of(conn, FIND_NUMBER, params![id])
 }
@@ -39,8 +39,8 @@ pub(crate) fn number_at<S: Alter>(
     conn: &mut Connection<S>,
     id: i64,
 ) -> Result<Option<Pan>, StoreFault>
-    ensures { TellsTables result (state S.Store conn.old) (state S.Store conn.new)
-        (λ t found. found ≡ number_of t.cards id) }
+    ensures { Between S.Store conn.old conn.new (TellsTables result (λ t found.
+        found ≡ number_of t.cards id)) }
 {
     let rows = number_rows(conn, id)?;
     match rows.first() {

@@ -5,8 +5,8 @@ ghost use Rattle.sqlite.specs.declared.types.Value.TheVariants.{Int, Text};
 ghost use Rattle.vault_core.specs.Numbers.{right_number, use_number};
 ghost use Rattle.vault_schema.specs.Version1.Rows.{text_or_null};
 
+use sql_stored::fault::StoreFault;
 use sqlite::Row;
-use vault_cards::fault::StoreFault;
 use vault_core::name::{Caller, MerchantId};
 use vault_core::right::Right;
 use vault_core::usage::Use;
@@ -20,7 +20,7 @@ pub(crate) fn caller_in(row: &Row, at: usize) -> Result<Caller, StoreFault>
     let text: String = row.get(at)?;
     match Caller::read(text.as_bytes()) {
         Ok(caller) => Ok(caller),
-        Err(_) => Err(StoreFault),
+        Err(_) => Err(StoreFault::Store),
     }
 }
 
@@ -31,7 +31,7 @@ pub fn merchant_in(row: &Row, at: usize) -> Result<MerchantId, StoreFault>
     let text: String = row.get(at)?;
     match MerchantId::read(text.as_bytes()) {
         Ok(m) => Ok(m),
-        Err(_) => Err(StoreFault),
+        Err(_) => Err(StoreFault::Store),
     }
 }
 
@@ -42,7 +42,7 @@ pub fn token_in(row: &Row, at: usize) -> Result<Token, StoreFault>
     let text: String = row.get(at)?;
     match Token::read(text.as_bytes()) {
         Ok(token) => Ok(token),
-        Err(_) => Err(StoreFault),
+        Err(_) => Err(StoreFault::Store),
     }
 }
 
@@ -56,7 +56,7 @@ pub(crate) fn number_in(row: &Row, at: usize) -> Result<Option<Pan>, StoreFault>
     };
     match Pan::read(text.as_bytes()) {
         Ok(pan) if pan.as_str() == text.as_str() => Ok(Some(pan)),
-        _ => Err(StoreFault),
+        _ => Err(StoreFault::Store),
     }
 }
 
@@ -68,7 +68,7 @@ pub(crate) fn usage_in(row: &Row, at: usize) -> Result<Use, StoreFault>
     match number {
         1 => Ok(Use::Single),
         2 => Ok(Use::Multi),
-        _ => Err(StoreFault),
+        _ => Err(StoreFault::Store),
     }
 }
 
@@ -84,6 +84,6 @@ pub(crate) fn right_in(row: &Row, at: usize) -> Result<Right, StoreFault>
         4 => Ok(Right::Revoke),
         5 => Ok(Right::Purge),
         6 => Ok(Right::Audit),
-        _ => Err(StoreFault),
+        _ => Err(StoreFault::Store),
     }
 }

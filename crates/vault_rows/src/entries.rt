@@ -1,9 +1,9 @@
 //! The rows of entries.
 ghost use Rattle.std.specs.Prelude.{◌≡◌, ◌<◌, ◌^◌, ℕ, ℤ, Some, IfOk, option_map, map, min, take};
-ghost use Rattle.sqlite.specs.Held.{state};
 ghost use Rattle.sqlite.specs.Order.{column};
 ghost use Rattle.sqlite.specs.declared.types.Value.TheVariants.{Int};
 ghost use Rattle.sql_maps.specs.Rows.{one_of};
+ghost use Rattle.sql_maps.specs.Transactions.{Between};
 ghost use Rattle.vault_cards.specs.Cards.{numbered};
 ghost use Rattle.vault_core.specs.Dead.{dead_tokens};
 ghost use Rattle.vault_core.specs.Keys.{Bytes};
@@ -22,9 +22,9 @@ ghost use Rattle.vault_rows.specs.Shown.{ShowsPointing, text_column};
 use crate::cards::{card_rows, number_at};
 use crate::columns::{token_in, usage_in};
 use sql_maps::run::rows_of;
+use sql_stored::fault::StoreFault;
 use sqlite::{Alter, Connection, Error, Row, params};
 use vault_cards::columns::card_in;
-use vault_cards::fault::StoreFault;
 use vault_cards::text::merchant_text;
 use vault_core::limit::MOST_TOKENS;
 use vault_core::moment::Moment;
@@ -41,8 +41,8 @@ fn pointing_rows<S: Alter>(
     m: &str,
     token: &str,
 ) -> Result<Vec<Row>, Error>
-    ensures { TellsTables result (state S.Store conn.old) (state S.Store conn.new)
-        (λ t rows. rows.items ≡ one_of pointing_columns (t.pointing (m.now, token.now))) }
+    ensures { Between S.Store conn.old conn.new (TellsTables result (λ t rows. rows.items
+        ≡ one_of pointing_columns (t.pointing (m.now, token.now)))) }
 {
     rows_of(conn, FIND_ENTRY, params![m, token])
 }
@@ -71,8 +71,8 @@ fn pointing_at<S: Alter>(
     m: &str,
     token: &str,
 ) -> Result<Option<Pointing>, StoreFault>
-    ensures { TellsTables result (state S.Store conn.old) (state S.Store conn.new)
-        (λ t found. found ≡ t.pointing (m.now, token.now)) }
+    ensures { Between S.Store conn.old conn.new (TellsTables result (λ t found.
+        found ≡ t.pointing (m.now, token.now))) }
 {
     let rows = pointing_rows(conn, m, token)?;
     match rows.first() {
@@ -107,8 +107,8 @@ fn entry_of<S: Alter>(
     id: i64,
     found: &Pointing,
 ) -> Result<Option<Entry>, StoreFault>
-    ensures { TellsTables result (state S.Store conn.old) (state S.Store conn.new)
-        (λ t entry. entry ≡ Some (numbered (number_of t.cards id) found.now)) }
+    ensures { Between S.Store conn.old conn.new (TellsTables result (λ t entry.
+        entry ≡ Some (numbered (number_of t.cards id) found.now))) }
 {
     let number = number_at(conn, id)?;
     Ok(Some(entry_with(number, found)))
@@ -120,8 +120,8 @@ pub fn entry<S: Alter>(
     m: &MerchantId,
     token: &Token,
 ) -> Result<Option<Entry>, StoreFault>
-    ensures { Tells result (state S.Store conn.old) (state S.Store conn.new)
-        (λ V found. found ≡ entry_at V m.now token.now) }
+    ensures { Between S.Store conn.old conn.new (Tells result
+        (λ V found. found ≡ entry_at V m.now token.now)) }
 {
     let Some(found) = pointing_at(conn, merchant_text(m), token.as_str())? else {
         return Ok(None);
@@ -140,10 +140,9 @@ fn current_rows<S: Alter>(
     at: u64,
 ) -> Result<Vec<Row>, Error>
     requires { at < 2 ^ 63 }
-    ensures { TellsTables result (state S.Store conn.old) (state S.Store conn.new)
-        (λ t rows. (V : Vault) (pan : Bytes) → HasCard t V id m.now pan → Sound V
-        → moment_at V m.now at ≡ at
-        → rows.items ≡ one_of text_column (option_map (λ held. held.0) (current_lem V m.now pan at))) }
+    ensures { Between S.Store conn.old conn.new (TellsTables result (λ t rows. (V : Vault) (pan : Bytes)
+        → HasCard t V id m.now pan → Sound V → moment_at V m.now at ≡ at → rows.items
+        ≡ one_of text_column (option_map (λ held. held.0) (current_lem V m.now pan at)))) }
 {
     rows_of(conn, FIND_CURRENT, params![m, id, at as i64])
 }
@@ -157,10 +156,10 @@ fn current_of<S: Alter>(
     at: u64,
 ) -> Result<Option<Token>, StoreFault>
     requires { at < 2 ^ 63 }
-    ensures { TellsTables result (state S.Store conn.old) (state S.Store conn.new)
-        (λ t found. (V : Vault) (pan : Bytes) (id : ℤ) → column row.now 0 ≡ Int id
+    ensures { Between S.Store conn.old conn.new (TellsTables result (λ t found.
+        (V : Vault) (pan : Bytes) (id : ℤ) → column row.now 0 ≡ Int id
         → HasCard t V id m.now pan → Sound V → moment_at V m.now at ≡ at
-        → found ≡ option_map (λ held. held.0) (current_lem V m.now pan at)) }
+        → found ≡ option_map (λ held. held.0) (current_lem V m.now pan at))) }
 {
     let id: i64 = row.get(0)?;
     let rows = current_rows(conn, m, id, at)?;
@@ -177,9 +176,9 @@ pub fn current<S: Alter>(
     number: &Pan,
     at: Moment,
 ) -> Result<Option<Token>, StoreFault>
-    ensures { Tells result (state S.Store conn.old) (state S.Store conn.new)
+    ensures { Between S.Store conn.old conn.new (Tells result
         (λ V found. Sound V → moment_at V m.now at ≡ at
-        → found ≡ option_map (λ held. held.0) (current_lem V m.now number.now at)) }
+        → found ≡ option_map (λ held. held.0) (current_lem V m.now number.now at))) }
 {
     let rows = card_rows(conn, merchant_text(m), number.as_str())?;
     match rows.first() {
@@ -198,9 +197,9 @@ fn dead_rows<S: Alter>(
 ) -> Result<Vec<Row>, Error>
     requires at { at < 2 ^ 63 }
     requires many { many < 2 ^ 63 }
-    ensures { Tells result (state S.Store conn.old) (state S.Store conn.new)
+    ensures { Between S.Store conn.old conn.new (Tells result
         (λ V rows. HasNoDeadBefore V m.now at from.now → (now : ℕ) → moment_at V m.now now ≡ at
-        → rows.items ≡ map text_column (take many (dead_tokens V m.now now))) }
+        → rows.items ≡ map text_column (take many (dead_tokens V m.now now)))) }
 {
     rows_of(conn, FIND_DEAD, params![m, from, at as i64, many as i64])
 }
@@ -214,9 +213,9 @@ pub fn dead<S: Alter>(
     from: &str,
     limit: usize,
 ) -> Result<Vec<Row>, StoreFault>
-    ensures { Tells result (state S.Store conn.old) (state S.Store conn.new)
+    ensures { Between S.Store conn.old conn.new (Tells result
         (λ V rows. HasNoDeadBefore V m.now at from.now → (now : ℕ) → moment_at V m.now now ≡ at
-        → rows.items ≡ map text_column (take (min MOST_TOKENS limit) (dead_tokens V m.now now))) }
+        → rows.items ≡ map text_column (take (min MOST_TOKENS limit) (dead_tokens V m.now now)))) }
 {
     let many = MOST_TOKENS.min(limit as u64);
     Ok(dead_rows(conn, merchant_text(m), from, at.seconds(), many)?)

@@ -1,24 +1,25 @@
 //! The rows of merchants and their counts.
 ghost use Rattle.std.specs.FinMap as map;
 ghost use Rattle.std.specs.Prelude.{◌≡◌, ◌↔◌, ◌<◌, ◌^◌, [], ◌∷◌, None, Some, IfOk, IsTrue, option_map};
-ghost use Rattle.sqlite.specs.Held.{state};
 ghost use Rattle.vault_core.specs.Numbers.{count_number};
 ghost use Rattle.vault_core.specs.Sound.{Sound};
 ghost use Rattle.vault_core.specs.Vault.{merchant_at};
 ghost use Rattle.vault_core.specs.Window.{moment_at, row_at};
 ghost use Rattle.vault_core.specs.Keys.{bytes_cmp};
-ghost use Rattle.vault_rows.specs.Calls.{Makes, Tells, TellsInside, Turns};
+ghost use Rattle.vault_rows.specs.Calls.{Tells};
 ghost use Rattle.vault_schema.specs.Version1.Rows.{number_column};
 ghost use Rattle.vault_rows.specs.Listed.{ShowsAll};
-ghost use Rattle.vault_schema.specs.Versions.{merchant_row};
+ghost use Rattle.vault_schema.specs.Versions.{merchant_row, newest};
 ghost use Rattle.vault_rows.specs.Shown.{IsTotalOf, ShowsCounts};
 ghost use Rattle.vault_core.specs.Lives.{lives_in};
 ghost use Rattle.sql_maps.specs.Rows.{put};
+ghost use Rattle.sql_maps.specs.Transactions.{Inside, Between};
+ghost use Rattle.vault_cards.specs.Calls.{Makes, TellsInside, Turns};
 ghost use Rattle.vault_rows.specs.Written.{HasRoomAt, IsRaised, raise_at};
 
 use sql_maps::run::{change, rows_of, step};
+use sql_stored::fault::StoreFault;
 use sqlite::{Alter, Connection, Error, Row, Transaction, params};
-use vault_cards::fault::StoreFault;
 use vault_cards::text::merchant_text;
 use vault_core::changes::Count;
 use vault_core::moment::Moment;
@@ -29,8 +30,8 @@ use vault_tables::merchants::{self as table, COUNT_MERCHANTS, READ_MERCHANTS};
 
 /// The lives of a merchant.
 fn lives_at<S: Alter>(conn: &mut Connection<S>, m: &MerchantId) -> Result<Option<Lives>, StoreFault>
-    ensures { Tells result (state S.Store conn.old) (state S.Store conn.new)
-        (λ V found. found ≡ option_map lives_in (merchant_at V m.now)) }
+    ensures { Between S.Store conn.old conn.new (Tells result
+        (λ V found. found ≡ option_map lives_in (merchant_at V m.now))) }
 {
     Ok(table::find(conn, merchant_text(m))?)
 }
@@ -41,8 +42,7 @@ pub fn moment<S: Alter>(
     m: &MerchantId,
     now: Moment,
 ) -> Result<Moment, StoreFault>
-    ensures { Tells result (state S.Store conn.old) (state S.Store conn.new)
-        (λ V found. found ≡ moment_at V m.now now) }
+    ensures { Between S.Store conn.old conn.new (Tells result (λ V found. found ≡ moment_at V m.now now)) }
 {
     match lives_at(conn, m)? {
         Some(lives) => Ok(lives.moment.later(now)),
@@ -52,8 +52,7 @@ pub fn moment<S: Alter>(
 
 /// The rows of a merchant's counts.
 fn count_rows<S: Alter>(conn: &mut Connection<S>, m: &str) -> Result<Vec<Row>, Error>
-    ensures { Tells result (state S.Store conn.old) (state S.Store conn.new)
-        (λ V rows. ShowsCounts rows.items V m.now) }
+    ensures { Between S.Store conn.old conn.new (Tells result (λ V rows. ShowsCounts rows.items V m.now)) }
 {
     rows_of(conn, FIND_COUNTS, params![m])
 }
@@ -77,8 +76,7 @@ pub fn merchant<S: Alter>(
     conn: &mut Connection<S>,
     m: &MerchantId,
 ) -> Result<Option<MerchantRow>, StoreFault>
-    ensures { Tells result (state S.Store conn.old) (state S.Store conn.new)
-        (λ V found. found ≡ row_at V m.now) }
+    ensures { Between S.Store conn.old conn.new (Tells result (λ V found. found ≡ row_at V m.now)) }
 {
     let Some(lives) = lives_at(conn, m)? else {
         return Ok(None);
@@ -92,28 +90,28 @@ pub fn merchant<S: Alter>(
 
 /// The row of the number of merchants.
 fn how_many_rows<S: Alter>(conn: &mut Connection<S>) -> Result<Vec<Row>, Error>
-    ensures { Tells result (state S.Store conn.old) (state S.Store conn.new)
-        (λ V rows. Sound V → rows.items ≡ number_column (map.len V.merchants) ∷ []) }
+    ensures { Between S.Store conn.old conn.new (Tells result
+        (λ V rows. Sound V → rows.items ≡ number_column (map.len V.merchants) ∷ [])) }
 {
     rows_of(conn, COUNT_MERCHANTS, &[])
 }
 
 /// How many merchants there are.
 pub fn how_many<S: Alter>(conn: &mut Connection<S>) -> Result<u64, StoreFault>
-    ensures { Tells result (state S.Store conn.old) (state S.Store conn.new)
-        (λ V found. Sound V → found ≡ map.len V.merchants) }
+    ensures { Between S.Store conn.old conn.new (Tells result
+        (λ V found. Sound V → found ≡ map.len V.merchants)) }
 {
     let rows = how_many_rows(conn)?;
     match rows.first() {
         Some(row) => Ok(row.get(0)?),
-        None => Err(StoreFault),
+        None => Err(StoreFault::Store),
     }
 }
 
 /// The rows of all merchants, without their counts.
 pub fn all_merchants<S: Alter>(conn: &mut Connection<S>) -> Result<Vec<Row>, Error>
-    ensures { Tells result (state S.Store conn.old) (state S.Store conn.new)
-        (λ V rows. ShowsAll merchant_row rows.items (λ m. option_map lives_in (merchant_at V m))) }
+    ensures { Between S.Store conn.old conn.new (Tells result
+        (λ V rows. ShowsAll merchant_row rows.items (λ m. option_map lives_in (merchant_at V m)))) }
 {
     rows_of(conn, READ_MERCHANTS, &[])
 }
@@ -127,9 +125,8 @@ fn are_same(x: &Lives, y: &Lives) -> bool
 
 /// Whether a merchant's own row has these lives, and all else as here, inside a transaction.
 fn has_lives<S: Alter>(tx: &mut Transaction<'_, S>, m: &str, x: &Lives) -> Result<bool, StoreFault>
-    ensures same_reference { tx.new.conn.ghost_name ≡ tx.old.conn.ghost_name }
-    ensures told { TellsInside result (state S.Store tx.old.conn.now) (state S.Store tx.new.conn.now)
-        (λ t has. IsTrue has ↔ (t.merchants m.now ≡ Some x.now)) }
+    ensures { Inside S.Store tx.old tx.new (TellsInside newest result
+        (λ t has. IsTrue has ↔ (t.merchants m.now ≡ Some x.now))) }
 {
     match table::find_in(tx, m)? {
         Some(found) => Ok(are_same(&found, x)),
@@ -146,9 +143,8 @@ pub fn set_lives<S: Alter>(
 ) -> Result<(), StoreFault>
     requires single { x.now.single_life < 2 ^ 63 }
     requires multi { x.now.multi_life < 2 ^ 63 }
-    ensures same_reference { tx.new.conn.ghost_name ≡ tx.old.conn.ghost_name }
-    ensures done { Makes result (state S.Store tx.old.conn.now) (state S.Store tx.new.conn.now)
-        (λ _. Unit {0}) (λ h. record h { merchants = put bytes_cmp h.merchants m.now (Some x.now) }) }
+    ensures { Inside S.Store tx.old tx.new (Makes newest result
+        (λ _. Unit {0}) (λ h. record h { merchants = put bytes_cmp h.merchants m.now (Some x.now) })) }
 {
     if has_lives(tx, m, x)? {
         return Ok(());
@@ -160,18 +156,16 @@ pub fn set_lives<S: Alter>(
 fn put_merchant<S: Alter>(tx: &mut Transaction<'_, S>, m: &str, x: &Lives) -> Result<(), Error>
     requires single { x.now.single_life < 2 ^ 63 }
     requires multi { x.now.multi_life < 2 ^ 63 }
-    ensures same_reference { tx.new.conn.ghost_name ≡ tx.old.conn.ghost_name }
-    ensures done { Makes result (state S.Store tx.old.conn.now) (state S.Store tx.new.conn.now)
-        (λ _. Unit {0}) (λ h. record h { merchants = put bytes_cmp h.merchants m.now (Some x.now) }) }
+    ensures { Inside S.Store tx.old tx.new (Makes newest result
+        (λ _. Unit {0}) (λ h. record h { merchants = put bytes_cmp h.merchants m.now (Some x.now) })) }
 {
     table::put(tx, m, x)
 }
 
 /// Raises a count of a merchant by one where it has a row, and tells whether it has.
 fn raise_row<S: Alter>(tx: &mut Transaction<'_, S>, m: &str, kind: u8) -> Result<bool, Error>
-    ensures same_reference { tx.new.conn.ghost_name ≡ tx.old.conn.ghost_name }
-    ensures done { Turns result (state S.Store tx.old.conn.now) (state S.Store tx.new.conn.now)
-        (λ t. HasRoomAt t.counts (m.now, kind)) (λ has t new. IsRaised has t new (m.now, kind)) }
+    ensures { Inside S.Store tx.old tx.new (Turns newest result
+        (λ t. HasRoomAt t.counts (m.now, kind)) (λ has t new. IsRaised has t new (m.now, kind))) }
 {
     let changed = change(tx, RAISE_COUNT, params![m, kind as i64])?;
     Ok(changed > 0)
@@ -179,20 +173,18 @@ fn raise_row<S: Alter>(tx: &mut Transaction<'_, S>, m: &str, kind: u8) -> Result
 
 /// Begins a count of a merchant, which has no row, at one.
 fn add_count<S: Alter>(tx: &mut Transaction<'_, S>, m: &str, kind: u8) -> Result<(), Error>
-    ensures same_reference { tx.new.conn.ghost_name ≡ tx.old.conn.ghost_name }
-    ensures done { Turns result (state S.Store tx.old.conn.now) (state S.Store tx.new.conn.now)
+    ensures { Inside S.Store tx.old tx.new (Turns newest result
         (λ t. t.counts (m.now, kind) ≡ None)
-        (λ it t new. new ≡ record t { counts = raise_at t.counts (m.now, kind) }) }
+        (λ it t new. new ≡ record t { counts = raise_at t.counts (m.now, kind) })) }
 {
     step(tx, ADD_COUNT, params![m, kind as i64])
 }
 
 /// Raises a count of a merchant by one. It has a row but for the first time.
 pub fn raise<S: Alter>(tx: &mut Transaction<'_, S>, m: &str, kind: u8) -> Result<(), Error>
-    ensures same_reference { tx.new.conn.ghost_name ≡ tx.old.conn.ghost_name }
-    ensures done { Makes result (state S.Store tx.old.conn.now) (state S.Store tx.new.conn.now)
+    ensures { Inside S.Store tx.old tx.new (Makes newest result
         (λ h. HasRoomAt h.counts (m.now, kind))
-        (λ h. record h { counts = raise_at h.counts (m.now, kind) }) }
+        (λ h. record h { counts = raise_at h.counts (m.now, kind) })) }
 {
     if raise_row(tx, m, kind)? {
         return Ok(());

@@ -1,17 +1,19 @@
 //! The rows of records.
 ghost use Rattle.std.specs.Prelude.{◌≡◌, ◌<◌, ◌^◌, Some, IfOk};
-ghost use Rattle.sqlite.specs.Held.{state};
 ghost use Rattle.vault_core.specs.Vault.{record_at};
 ghost use Rattle.vault_core.specs.Keys.{record_cmp};
-ghost use Rattle.vault_rows.specs.Calls.{Makes, Tells};
+ghost use Rattle.vault_rows.specs.Calls.{Tells};
 ghost use Rattle.vault_schema.specs.Version1.Rows.{record_columns};
 ghost use Rattle.vault_rows.specs.Shown.{ShowsRecord};
 ghost use Rattle.sql_maps.specs.Rows.{one_of, put};
+ghost use Rattle.sql_maps.specs.Transactions.{Inside, Between};
+ghost use Rattle.vault_schema.specs.Versions.{newest};
+ghost use Rattle.vault_cards.specs.Calls.{Makes};
 
 use crate::columns::{merchant_in, token_in, usage_in};
 use sql_maps::run::{rows_of, step};
+use sql_stored::fault::StoreFault;
 use sqlite::{Alter, Connection, Error, Row, Transaction, params};
-use vault_cards::fault::StoreFault;
 use vault_cards::text::{caller_text, merchant_text};
 use vault_core::name::Caller;
 use vault_core::request::RequestNo;
@@ -25,8 +27,8 @@ fn record_rows<S: Alter>(
     request: u64,
 ) -> Result<Vec<Row>, Error>
     requires { request < 2 ^ 63 }
-    ensures { Tells result (state S.Store conn.old) (state S.Store conn.new)
-        (λ V rows. rows.items ≡ one_of record_columns (record_at V caller.now request)) }
+    ensures { Between S.Store conn.old conn.new (Tells result
+        (λ V rows. rows.items ≡ one_of record_columns (record_at V caller.now request))) }
 {
     rows_of(conn, FIND_RECORD, params![caller, request as i64])
 }
@@ -51,8 +53,8 @@ pub fn recorded<S: Alter>(
     caller: &Caller,
     request: RequestNo,
 ) -> Result<Option<Record>, StoreFault>
-    ensures { Tells result (state S.Store conn.old) (state S.Store conn.new)
-        (λ V found. found ≡ record_at V caller.now request) }
+    ensures { Between S.Store conn.old conn.new (Tells result
+        (λ V found. found ≡ record_at V caller.now request)) }
 {
     let rows = record_rows(conn, caller_text(caller), request.get())?;
     match rows.first() {
@@ -69,10 +71,9 @@ pub fn add_record<S: Alter>(
     answered: &Record,
 ) -> Result<(), Error>
     requires { request < 2 ^ 63 }
-    ensures same_reference { tx.new.conn.ghost_name ≡ tx.old.conn.ghost_name }
-    ensures done { Makes result (state S.Store tx.old.conn.now) (state S.Store tx.new.conn.now)
+    ensures { Inside S.Store tx.old tx.new (Makes newest result
         (λ _. Unit {0})
-        (λ h. record h { records = put record_cmp h.records (caller.now, request) (Some answered.now) }) }
+        (λ h. record h { records = put record_cmp h.records (caller.now, request) (Some answered.now) })) }
 {
     let m = merchant_text(&answered.merchant);
     let token = answered.token.as_str();

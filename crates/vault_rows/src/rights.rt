@@ -1,18 +1,19 @@
 //! The rows of rights.
 ghost use Rattle.std.specs.Prelude.{◌≡◌, None, Some, IfOk};
 ghost use Rattle.std.specs.FinMap as map;
-ghost use Rattle.sqlite.specs.Held.{state};
 ghost use Rattle.vault_core.specs.Keys.{right_cmp};
 ghost use Rattle.vault_core.specs.Vault.{right_at};
-ghost use Rattle.vault_rows.specs.Calls.{Makes, Tells};
+ghost use Rattle.vault_rows.specs.Calls.{Tells};
 ghost use Rattle.vault_rows.specs.Listed.{ShowsAll, ShowsRight};
-ghost use Rattle.vault_schema.specs.Versions.{right_row};
+ghost use Rattle.vault_schema.specs.Versions.{newest, right_row};
 ghost use Rattle.sql_maps.specs.Rows.{put};
+ghost use Rattle.sql_maps.specs.Transactions.{Inside, Between};
+ghost use Rattle.vault_cards.specs.Calls.{Makes};
 
 use crate::columns::{caller_in, merchant_in, right_in};
 use sql_maps::run::rows_of;
+use sql_stored::fault::StoreFault;
 use sqlite::{Alter, Connection, Error, Row, Transaction};
-use vault_cards::fault::StoreFault;
 use vault_cards::text::{caller_text, merchant_text};
 use vault_core::name::{Caller, MerchantId};
 use vault_core::right::Right;
@@ -27,16 +28,16 @@ pub fn right<S: Alter>(
     m: &MerchantId,
     right: Right,
 ) -> Result<Option<GrantRow>, StoreFault>
-    ensures { Tells result (state S.Store conn.old) (state S.Store conn.new)
-        (λ V found. found ≡ right_at V caller.now m.now right) }
+    ensures { Between S.Store conn.old conn.new (Tells result
+        (λ V found. found ≡ right_at V caller.now m.now right)) }
 {
     Ok(rights::find(conn, caller_text(caller), merchant_text(m), right)?)
 }
 
 /// The rows of all rights.
 pub fn all_rights<S: Alter>(conn: &mut Connection<S>) -> Result<Vec<Row>, Error>
-    ensures { Tells result (state S.Store conn.old) (state S.Store conn.new)
-        (λ V rows. ShowsAll right_row rows.items (map.get V.rights)) }
+    ensures { Between S.Store conn.old conn.new (Tells result
+        (λ V rows. ShowsAll right_row rows.items (map.get V.rights))) }
 {
     rows_of(conn, READ_RIGHTS, &[])
 }
@@ -60,10 +61,9 @@ pub fn give<S: Alter>(
     right: Right,
     row: GrantRow,
 ) -> Result<(), Error>
-    ensures same_reference { tx.new.conn.ghost_name ≡ tx.old.conn.ghost_name }
-    ensures done { Makes result (state S.Store tx.old.conn.now) (state S.Store tx.new.conn.now)
+    ensures { Inside S.Store tx.old tx.new (Makes newest result
         (λ _. Unit {0})
-        (λ h. record h { rights = put right_cmp h.rights (caller.now, (m.now, right)) (Some row) }) }
+        (λ h. record h { rights = put right_cmp h.rights (caller.now, (m.now, right)) (Some row) })) }
 {
     rights::give(tx, caller, m, right, row)
 }
@@ -75,10 +75,9 @@ pub fn take<S: Alter>(
     m: &str,
     right: Right,
 ) -> Result<(), Error>
-    ensures same_reference { tx.new.conn.ghost_name ≡ tx.old.conn.ghost_name }
-    ensures done { Makes result (state S.Store tx.old.conn.now) (state S.Store tx.new.conn.now)
+    ensures { Inside S.Store tx.old tx.new (Makes newest result
         (λ _. Unit {0})
-        (λ h. record h { rights = put right_cmp h.rights (caller.now, (m.now, right)) None }) }
+        (λ h. record h { rights = put right_cmp h.rights (caller.now, (m.now, right)) None })) }
 {
     rights::take(tx, caller, m, right)
 }

@@ -13,3 +13,8 @@ pub record IsFoundIn (merchants : List RawMerchant) (cards : List RawCard) (it :
   pub merchant : option_copied it.merchant ≡ merchant_of merchants (string_bytes it.entry.now.merchant)
   pub card : option_map seen_card it.card
       ≡ option_map (kept_card merchants) (option_and_then (card_of cards) it.entry.now.card)
+
+-- this is so of whatever merchants and cards the entry's own are among
+abbrev pub WhereFound : Found → (List RawMerchant → List RawCard → Type 0) → Type 0
+WhereFound it Is = (merchants : List RawMerchant) (cards : List RawCard) → IsFoundIn merchants cards it
+    → Is merchants cards

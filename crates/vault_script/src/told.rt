@@ -52,7 +52,7 @@ pub fn tokens_told(alloc: Global, tokens: &[Token]) -> String {
 
 /// A fault in words.
 pub fn fault_told(alloc: Global, fault: Fault) -> String {
-    let number = fault.number();
+    let number = fault.refusal().number();
     let told = format!(in alloc; "stopped {number}");
     told.unwrap_or(String::new(alloc))
 }

@@ -30,7 +30,7 @@ use Rattle.vault_schema.proofs.Newest.{emptied, emptied_claims, later_made, late
 use Rattle.vault_schema.proofs.Newest.{no_tables, put_version_is}
 use Rattle.vault_schema.specs.Version2.Tables.{v2}
 use Rattle.vault_schema.specs.declared.version.TheConstants.{PUT_VERSION}
-use Rattle.vault_rows.specs.Calls.{IsWithin}
+use Rattle.vault_cards.specs.Calls.{IsWithin}
 use Rattle.vault_schema.specs.Making.{IsRowless, IsBegun, IsReady, empties}
 use Rattle.vault_schema.specs.Schema.{newest_schema}
 use Rattle.vault_core.specs.Lives.{lives_in}
@@ -167,7 +167,7 @@ pub version_put : {R E : Type 0} (result : Result R E) {Begun : Database → Typ
     → (HasCleanDisk new → OnOk result (IsTrue old.in_transaction
     → (count : ℕ) × ExecutesInside 0 PUT_VERSION.now [] old new (Ok count)))
     → Reached Begun old newest_schema (length newest_schema.tables) → HasCleanDisk new
-    → OnOk result ((base : Database) → Begun base → IsWithin new base (lookups_of empty_vault))
+    → OnOk result ((base : Database) → Begun base → IsWithin newest new base (lookups_of empty_vault))
 version_put result {old = old} {new = new} steps ran before clean =
     on_ok result (ran clean) (λ ran base b.
     let ready = before (omega (arith, steps.clean, clean)) base b in

@@ -1,12 +1,12 @@
 //! The schema of a vault's tables.
-ghost use Rattle.std.specs.Prelude.{◌≡◌, ◌≤◌, ◌↔◌, IsTrue, Err, false, OnOk};
+ghost use Rattle.std.specs.Prelude.{◌≡◌, ◌↔◌, IsTrue, Err, false, OnOk};
 ghost use Rattle.sqlite.specs.Held.{state};
 ghost use Rattle.sqlite.specs.State.{HasCleanDisk};
-ghost use Rattle.sqlite.specs.View.{doubt};
 ghost use Rattle.sql_maps.specs.Schema.{no_schema};
-ghost use Rattle.sql_maps.specs.States.{Steps};
+ghost use Rattle.sql_maps.specs.Transactions.{KeepsDoubts, Proceeds};
+ghost use Rattle.vault_schema.specs.Versions.{newest};
 ghost use Rattle.vault_core.specs.Vault.{empty_vault};
-ghost use Rattle.vault_rows.specs.Calls.{IsWithin};
+ghost use Rattle.vault_cards.specs.Calls.{IsWithin};
 ghost use Rattle.vault_schema.specs.Holds.{Holds, LeavesFirst};
 ghost use Rattle.vault_schema.specs.Making.{IsRowless, IsBegun, IsReady};
 ghost use Rattle.vault_schema.specs.Version1.Tables.{v1 as first_schema};
@@ -37,8 +37,7 @@ fn is_blank(schema: &Schema) -> bool
 
 /// Makes the tables of schema 1, inside a transaction.
 fn create_first<S: Alter>(tx: &mut Transaction<'_, S>) -> Result<(), Error>
-    ensures same_reference { tx.new.conn.ghost_name ≡ tx.old.conn.ghost_name }
-    ensures steps { Steps (state S.Store tx.old.conn.now) (state S.Store tx.new.conn.now) }
+    ensures goes_on { Proceeds S.Store tx.old tx.new }
     ensures done { HasCleanDisk (state S.Store tx.new.conn.now)
         → OnOk result ((base : _) → IsBegun (state S.Store tx.old.conn.now) base
         → IsRowless first_schema 6 (state S.Store tx.new.conn.now) base) }
@@ -55,8 +54,7 @@ fn create_first<S: Alter>(tx: &mut Transaction<'_, S>) -> Result<(), Error>
 
 /// Makes the tables that schema 2 has besides, inside a transaction.
 fn create_second<S: Alter>(tx: &mut Transaction<'_, S>) -> Result<(), Error>
-    ensures same_reference { tx.new.conn.ghost_name ≡ tx.old.conn.ghost_name }
-    ensures steps { Steps (state S.Store tx.old.conn.now) (state S.Store tx.new.conn.now) }
+    ensures goes_on { Proceeds S.Store tx.old tx.new }
     ensures done { HasCleanDisk (state S.Store tx.new.conn.now)
         → OnOk result ((base : _) → IsRowless first_schema 6 (state S.Store tx.old.conn.now) base
         → IsRowless second_schema 8 (state S.Store tx.new.conn.now) base) }
@@ -68,11 +66,10 @@ fn create_second<S: Alter>(tx: &mut Transaction<'_, S>) -> Result<(), Error>
 
 /// Makes the tables that later schemas have besides and writes the version, inside a transaction.
 fn create_last<S: Alter>(tx: &mut Transaction<'_, S>) -> Result<(), Error>
-    ensures same_reference { tx.new.conn.ghost_name ≡ tx.old.conn.ghost_name }
-    ensures steps { Steps (state S.Store tx.old.conn.now) (state S.Store tx.new.conn.now) }
+    ensures goes_on { Proceeds S.Store tx.old tx.new }
     ensures done { HasCleanDisk (state S.Store tx.new.conn.now)
         → OnOk result ((base : _) → IsRowless second_schema 8 (state S.Store tx.old.conn.now) base
-        → IsWithin (state S.Store tx.new.conn.now) base (lookups_of empty_vault)) }
+        → IsWithin newest (state S.Store tx.new.conn.now) base (lookups_of empty_vault)) }
 {
     for text in CREATE_LATER {
         step(tx, text, &[])?;
@@ -82,11 +79,10 @@ fn create_last<S: Alter>(tx: &mut Transaction<'_, S>) -> Result<(), Error>
 
 /// Makes all tables and writes the version, inside a transaction.
 fn create_tables<S: Alter>(tx: &mut Transaction<'_, S>) -> Result<(), Error>
-    ensures same_reference { tx.new.conn.ghost_name ≡ tx.old.conn.ghost_name }
-    ensures steps { Steps (state S.Store tx.old.conn.now) (state S.Store tx.new.conn.now) }
+    ensures goes_on { Proceeds S.Store tx.old tx.new }
     ensures done { HasCleanDisk (state S.Store tx.new.conn.now)
         → OnOk result ((base : _) → IsBegun (state S.Store tx.old.conn.now) base
-        → IsWithin (state S.Store tx.new.conn.now) base (lookups_of empty_vault)) }
+        → IsWithin newest (state S.Store tx.new.conn.now) base (lookups_of empty_vault)) }
 {
     create_first(tx)?;
     create_second(tx)?;
@@ -97,7 +93,7 @@ fn create_tables<S: Alter>(tx: &mut Transaction<'_, S>) -> Result<(), Error>
 fn create_all<S: Alter>(conn: &mut Connection<S>) -> Result<(), Error>
     requires idle { conn.old.in_transaction ≡ false }
     ensures idle { conn.new.in_transaction ≡ false }
-    ensures clean { doubt (state S.Store conn.old).is_clean ≤ doubt (state S.Store conn.new).is_clean }
+    ensures clean { KeepsDoubts S.Store conn.old conn.new }
     ensures done { HasCleanDisk (state S.Store conn.new)
         → OnOk result (IsReady (state S.Store conn.old) → (state S.Store conn.old).now.schema ≡ no_schema
         → Holds (state S.Store conn.new) empty_vault) }
@@ -115,7 +111,7 @@ fn create_all<S: Alter>(conn: &mut Connection<S>) -> Result<(), Error>
 pub fn make_schema<S: Alter>(conn: &mut Connection<S>) -> Result<(), SchemaFault>
     requires idle { conn.old.in_transaction ≡ false }
     ensures idle { conn.new.in_transaction ≡ false }
-    ensures clean { doubt (state S.Store conn.old).is_clean ≤ doubt (state S.Store conn.new).is_clean }
+    ensures clean { KeepsDoubts S.Store conn.old conn.new }
     ensures blank { OnOk result ((state S.Store conn.old).now.schema ≡ no_schema) }
     ensures done { HasCleanDisk (state S.Store conn.new)
         → OnOk result (IsReady (state S.Store conn.old) → Holds (state S.Store conn.new) empty_vault) }

@@ -1,8 +1,8 @@
 //! Lists of dead tokens.
 ghost use Rattle.std.specs.Prelude.{◌≡◌, IfOk, map, min, take};
-ghost use Rattle.sqlite.specs.Held.{state};
 ghost use Rattle.sqlite.specs.Order.{column};
 ghost use Rattle.sqlite.specs.declared.types.Value.TheVariants.{Text};
+ghost use Rattle.sql_maps.specs.Transactions.{Between};
 ghost use Rattle.vault_core.specs.Dead.{dead_tokens};
 ghost use Rattle.vault_core.specs.Window.{moment_at};
 ghost use Rattle.vault_core.specs.declared.limit.TheConstants.{MOST_TOKENS};
@@ -11,9 +11,9 @@ ghost use Rattle.vault_rows.specs.Shown.{text_column};
 ghost use Rattle.vault_sql.specs.Places.{IsPast};
 
 use crate::place::{Place, start_of};
+use sql_stored::fault::StoreFault;
 use sqlite::{Alter, Connection, Row};
 use std::alloc::{AllocError, Global};
-use vault_cards::fault::StoreFault;
 use vault_core::moment::Moment;
 use vault_core::name::MerchantId;
 use vault_pan::token::Token;
@@ -31,9 +31,9 @@ pub(crate) fn dead_from<S: Alter>(
     now: Moment,
     limit: usize,
 ) -> Result<(Moment, Vec<Row>), StoreFault>
-    ensures { Tells result (state S.Store conn.old) (state S.Store conn.new)
+    ensures { Between S.Store conn.old conn.new (Tells result
         (λ V found. IsPast place.now V → (found.0 ≡ moment_at V m.now now)
-        × (found.1.items ≡ map text_column (take (min MOST_TOKENS limit) (dead_tokens V m.now now)))) }
+        × (found.1.items ≡ map text_column (take (min MOST_TOKENS limit) (dead_tokens V m.now now))))) }
 {
     let at = moment(conn, m, now)?;
     let rows = dead(conn, m, at, start_of(place, m, at), limit)?;

@@ -1,22 +1,23 @@
 //! All that one command changes, in one transaction.
-ghost use Rattle.std.specs.Prelude.{◌≡◌, ◌≤◌, ◌↔◌, IsTrue, false, OnOk};
+ghost use Rattle.std.specs.Prelude.{◌≡◌, ◌↔◌, IsTrue, false, OnOk};
 ghost use Rattle.sqlite.specs.Held.{state};
 ghost use Rattle.vault_core.specs.Changes.{Fit, plus};
 ghost use Rattle.vault_core.specs.Keys.{right_cmp};
 ghost use Rattle.vault_core.specs.Sound.{Sound};
 ghost use Rattle.vault_core.specs.Vault.{Vault};
 ghost use Rattle.sqlite.specs.State.{HasCleanDisk};
-ghost use Rattle.sqlite.specs.View.{doubt};
 ghost use Rattle.sql_maps.specs.Rows.{put};
-ghost use Rattle.vault_rows.specs.Calls.{Makes};
+ghost use Rattle.sql_maps.specs.Transactions.{Inside, KeepsDoubts};
+ghost use Rattle.vault_schema.specs.Versions.{newest};
+ghost use Rattle.vault_cards.specs.Calls.{Makes};
 ghost use Rattle.vault_schema.specs.Holds.{Holds, LeavesEither};
 ghost use Rattle.vault_sql.specs.Storable.{AreStorable, IsStorableEntry, IsStorableLives};
 ghost use Rattle.vault_rows.specs.Written.{HasRoom, put_entry as put_entry_lem};
 ghost use Rattle.vault_rows.specs.Written.{put_lives, put_record as put_record_lem, put_right};
 ghost use Rattle.vault_rows.specs.Written.{raise as raise_lem};
 
+use sql_stored::fault::StoreFault;
 use sqlite::{Alter, Connection, Error, Transaction};
-use vault_cards::fault::StoreFault;
 use vault_cards::parameters::GREATEST;
 use vault_cards::pointing::{add_entry, put_entry};
 use vault_cards::text::{caller_text, merchant_text};
@@ -63,9 +64,8 @@ fn write_lives<S: Alter>(
     lives: &Option<(MerchantId, Lives)>,
 ) -> Result<(), StoreFault>
     requires { IsStorableLives lives.now }
-    ensures same_reference { tx.new.conn.ghost_name ≡ tx.old.conn.ghost_name }
-    ensures done { Makes result (state S.Store tx.old.conn.now) (state S.Store tx.new.conn.now)
-        (λ _. Unit {0}) (λ h. record h { merchants = put_lives h.merchants lives.now }) }
+    ensures { Inside S.Store tx.old tx.new (Makes newest result
+        (λ _. Unit {0}) (λ h. record h { merchants = put_lives h.merchants lives.now })) }
 {
     match lives {
         Some((m, x)) => set_lives(tx, merchant_text(m), x),
@@ -79,10 +79,9 @@ fn write_count<S: Alter>(
     lives: &Option<(MerchantId, Lives)>,
     count: Option<Count>,
 ) -> Result<(), Error>
-    ensures same_reference { tx.new.conn.ghost_name ≡ tx.old.conn.ghost_name }
-    ensures done { Makes result (state S.Store tx.old.conn.now) (state S.Store tx.new.conn.now)
+    ensures { Inside S.Store tx.old tx.new (Makes newest result
         (λ h. HasRoom h.counts lives.now count)
-        (λ h. record h { counts = raise_lem h.counts lives.now count }) }
+        (λ h. record h { counts = raise_lem h.counts lives.now count })) }
 {
     let Some((m, _)) = lives else {
         return Ok(());
@@ -100,9 +99,8 @@ fn write_entry<S: Alter>(
     count: Option<Count>,
 ) -> Result<(), StoreFault>
     requires { IsStorableEntry change.now }
-    ensures same_reference { tx.new.conn.ghost_name ≡ tx.old.conn.ghost_name }
-    ensures done { Makes result (state S.Store tx.old.conn.now) (state S.Store tx.new.conn.now)
-        (λ _. Unit {0}) (λ h. record h { entries = put_entry_lem h.entries change.now }) }
+    ensures { Inside S.Store tx.old tx.new (Makes newest result
+        (λ _. Unit {0}) (λ h. record h { entries = put_entry_lem h.entries change.now })) }
 {
     match change {
         Some((m, token, entry)) => match count {
@@ -118,9 +116,8 @@ fn write_record<S: Alter>(
     tx: &mut Transaction<'_, S>,
     change: &Option<(Caller, RequestNo, Record)>,
 ) -> Result<(), Error>
-    ensures same_reference { tx.new.conn.ghost_name ≡ tx.old.conn.ghost_name }
-    ensures done { Makes result (state S.Store tx.old.conn.now) (state S.Store tx.new.conn.now)
-        (λ _. Unit {0}) (λ h. record h { records = put_record_lem h.records change.now }) }
+    ensures { Inside S.Store tx.old tx.new (Makes newest result
+        (λ _. Unit {0}) (λ h. record h { records = put_record_lem h.records change.now })) }
 {
     match change {
         Some((caller, request, answered)) => {
@@ -138,10 +135,9 @@ fn set_right<S: Alter>(
     right: Right,
     row: Option<GrantRow>,
 ) -> Result<(), Error>
-    ensures same_reference { tx.new.conn.ghost_name ≡ tx.old.conn.ghost_name }
-    ensures done { Makes result (state S.Store tx.old.conn.now) (state S.Store tx.new.conn.now)
+    ensures { Inside S.Store tx.old tx.new (Makes newest result
         (λ _. Unit {0})
-        (λ h. record h { rights = put right_cmp h.rights (caller.now, (m.now, right)) row }) }
+        (λ h. record h { rights = put right_cmp h.rights (caller.now, (m.now, right)) row })) }
 {
     match row {
         Some(row) => give(tx, caller_text(caller), merchant_text(m), right, row),
@@ -154,9 +150,8 @@ fn write_right<S: Alter>(
     tx: &mut Transaction<'_, S>,
     change: &Option<(Caller, MerchantId, Right, Option<GrantRow>)>,
 ) -> Result<(), Error>
-    ensures same_reference { tx.new.conn.ghost_name ≡ tx.old.conn.ghost_name }
-    ensures done { Makes result (state S.Store tx.old.conn.now) (state S.Store tx.new.conn.now)
-        (λ _. Unit {0}) (λ h. record h { rights = put_right h.rights change.now }) }
+    ensures { Inside S.Store tx.old tx.new (Makes newest result
+        (λ _. Unit {0}) (λ h. record h { rights = put_right h.rights change.now })) }
 {
     match change {
         Some((caller, m, right, row)) => set_right(tx, caller, m, *right, *row),
@@ -167,13 +162,12 @@ fn write_right<S: Alter>(
 /// Writes what changes of a merchant and its entries.
 fn write_merchant<S: Alter>(tx: &mut Transaction<'_, S>, ch: &Changes) -> Result<(), StoreFault>
     requires { AreStorable ch.now }
-    ensures same_reference { tx.new.conn.ghost_name ≡ tx.old.conn.ghost_name }
-    ensures done { Makes result (state S.Store tx.old.conn.now) (state S.Store tx.new.conn.now)
+    ensures { Inside S.Store tx.old tx.new (Makes newest result
         (λ h. HasRoom h.counts ch.now.lives ch.now.count) (λ h. record h {
           merchants = put_lives h.merchants ch.now.lives;
           counts = raise_lem h.counts ch.now.lives ch.now.count;
           entries = put_entry_lem h.entries ch.now.entry;
-        }) }
+        })) }
 {
     write_lives(tx, &ch.lives)?;
     write_count(tx, &ch.lives, ch.count)?;
@@ -182,10 +176,9 @@ fn write_merchant<S: Alter>(tx: &mut Transaction<'_, S>, ch: &Changes) -> Result
 
 /// Writes what changes of a caller's records and rights.
 fn write_caller<S: Alter>(tx: &mut Transaction<'_, S>, ch: &Changes) -> Result<(), Error>
-    ensures same_reference { tx.new.conn.ghost_name ≡ tx.old.conn.ghost_name }
-    ensures done { Makes result (state S.Store tx.old.conn.now) (state S.Store tx.new.conn.now)
+    ensures { Inside S.Store tx.old tx.new (Makes newest result
         (λ _. Unit {0}) (λ h. record h
-        { records = put_record_lem h.records ch.now.recorded; rights = put_right h.rights ch.now.right }) }
+        { records = put_record_lem h.records ch.now.recorded; rights = put_right h.rights ch.now.right })) }
 {
     write_record(tx, &ch.recorded)?;
     write_right(tx, &ch.right)
@@ -196,7 +189,7 @@ pub(crate) fn write<S: Alter>(conn: &mut Connection<S>, ch: &Changes) -> Result<
     requires storable { AreStorable ch.now }
     requires idle { conn.old.in_transaction ≡ false }
     ensures idle { conn.new.in_transaction ≡ false }
-    ensures clean { doubt (state S.Store conn.old).is_clean ≤ doubt (state S.Store conn.new).is_clean }
+    ensures clean { KeepsDoubts S.Store conn.old conn.new }
     ensures done { HasCleanDisk (state S.Store conn.new)
         → OnOk result ((V : Vault) → Holds (state S.Store conn.old) V → Sound V → Fit V ch.now
         → Holds (state S.Store conn.new) (plus V ch.now)) }
@@ -206,5 +199,5 @@ pub(crate) fn write<S: Alter>(conn: &mut Connection<S>, ch: &Changes) -> Result<
     let mut tx = conn.transaction();
     write_merchant(&mut tx, ch)?;
     write_caller(&mut tx, ch)?;
-    tx.commit().map_err(|_| StoreFault)
+    tx.commit().map_err(|_| StoreFault::Store)
 }

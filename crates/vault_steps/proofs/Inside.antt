@@ -1,10 +1,15 @@
 -- What is inside a transaction, said of the tables, and one statement further there.
-use Rattle.std.proofs.Common.{◌≡◌, ◌++◌, ℕ, List, [], ◌∷◌, Ok, IsTrue, subst}
+use Rattle.std.proofs.Common.{◌≡◌, ◌∙◌, ◌++◌, ℕ, List, [], ◌∷◌, Ok, Result, IsTrue, arith, subst}
 use Rattle.sqlite.specs.Change.{created, indexed}
 use Rattle.sqlite.specs.Effect.{Database}
 use Rattle.sqlite.specs.Schema.{Schema}
-use Rattle.sqlite.specs.State.{State, ExecutesInside}
+use Rattle.sqlite.specs.Held.{state}
+use Rattle.sqlite.specs.State.{State, ExecutesInside, HasCleanDisk}
 use Rattle.sqlite.specs.Table.{Table}
+use Rattle.sqlite.specs.declared.transaction.Transaction.{Transaction}
+use Rattle.sqlite_trees.specs.declared.store.Store.{Ghosts}
+use Rattle.sql_maps.proofs.Calls.{on_ok, steps_then}
+use Rattle.sql_maps.specs.Transactions.{LeadsTo, RunsText}
 use Rattle.sqlite_schema.specs.declared.schema.Index.{Index}
 use Rattle.sql_maps.specs.States.{Claim, IsEmpty, Steps, Within}
 use Rattle.sql_maps.specs.Texts.{MakesIndex, MakesTable}
@@ -67,3 +72,28 @@ index_in {s} {next} {claims} {base} {old} {new} {sql} made it run =
     subst (λ x. Within x claims base new) made
     (makes_index s claims base old new run.within.free run.within.committed run.within.stands.schema
     run.within.stands.rows sql run.count run.ran run.limit _ _ _ it)
+
+-- four texts, one after the other, lead where what they did leads
+pub four_texts : {S R E F : Type 0} {g : Ghosts S} {a b c d e : Transaction S} {p q r s : List ℕ} {x y z : R}
+    {last : Result R F} {From To : Lookups → Database → State → Type 0}
+    → RunsText g a b (let it : Result R E = Ok x in it) p [] → RunsText g b c
+    (let it : Result R E = Ok y in it) q []
+    → RunsText g c d (let it : Result R E = Ok z in it) r [] → RunsText g d e last s []
+    → ((h : Lookups) (base : Database) → From h base (state g a.conn.now)
+    → Steps (state g a.conn.now) (state g b.conn.now) → Steps (state g b.conn.now) (state g c.conn.now)
+    → Steps (state g c.conn.now) (state g d.conn.now) → Steps (state g d.conn.now) (state g e.conn.now)
+    → Did p (state g a.conn.now) (state g b.conn.now) → Did q (state g b.conn.now) (state g c.conn.now)
+    → Did r (state g c.conn.now) (state g d.conn.now) → Did s (state g d.conn.now) (state g e.conn.now)
+    → To h base (state g e.conn.now)) → LeadsTo g a e last From To
+four_texts {g = g} {b = b} {c = c} {d = d} {last = last} one two three four lead = record {
+  same_reference =
+      four.same_reference ∙ three.same_reference ∙ two.same_reference ∙ one.same_reference;
+  steps = steps_then one.steps (steps_then two.steps (steps_then three.steps four.steps));
+  done = λ clean.
+      let third : HasCleanDisk (state g d.conn.now) = omega (arith, four.steps.clean, clean) in
+      let second : HasCleanDisk (state g c.conn.now) = omega (arith, three.steps.clean, third) in
+      let first : HasCleanDisk (state g b.conn.now) = omega (arith, two.steps.clean, second) in
+      on_ok last (four.ran clean) (λ did base h from.
+      lead h base from one.steps two.steps three.steps four.steps (one.ran first) (two.ran second)
+      (three.ran third) did);
+}

@@ -1,8 +1,5 @@
 //! The step that replaces the table of rights.
-ghost use Rattle.std.specs.Prelude.{◌≡◌, OnOk};
-ghost use Rattle.sqlite.specs.Held.{state};
-ghost use Rattle.sqlite.specs.State.{HasCleanDisk};
-ghost use Rattle.sql_maps.specs.States.{Steps};
+ghost use Rattle.sql_maps.specs.Transactions.{LeadsTo};
 ghost use Rattle.vault_schema.specs.Versions.{WithinOf};
 
 use sql_maps::run::step;
@@ -12,11 +9,7 @@ use vault_schema::version::Version;
 
 /// From schema 3 to schema 4, inside a transaction: rights may end, and those that are there don't.
 pub(crate) fn add_ends<S: Alter>(tx: &mut Transaction<'_, S>) -> Result<(), Error>
-    ensures same_reference { tx.new.conn.ghost_name ≡ tx.old.conn.ghost_name }
-    ensures steps { Steps (state S.Store tx.old.conn.now) (state S.Store tx.new.conn.now) }
-    ensures done { HasCleanDisk (state S.Store tx.new.conn.now) → OnOk result ((base : _) (h : _)
-        → WithinOf Version.Three h base (state S.Store tx.old.conn.now)
-        → WithinOf Version.Four h base (state S.Store tx.new.conn.now)) }
+    ensures { LeadsTo S.Store tx.old tx.new result (WithinOf Version.Three) (WithinOf Version.Four) }
 {
     step(tx, v4::CREATE_RIGHTS, &[])?;
     step(tx, v4::COPY_RIGHTS, &[])?;

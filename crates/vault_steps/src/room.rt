@@ -1,8 +1,6 @@
 //! Room for schema 2: its tables are made, and the entries of schema 1 go.
-ghost use Rattle.std.specs.Prelude.{◌≡◌, OnOk};
-ghost use Rattle.sqlite.specs.Held.{state};
-ghost use Rattle.sqlite.specs.State.{HasCleanDisk};
-ghost use Rattle.sql_maps.specs.States.{Steps, Within};
+ghost use Rattle.sql_maps.specs.States.{Within};
+ghost use Rattle.sql_maps.specs.Transactions.{LeadsTo};
 ghost use Rattle.vault_cards.specs.Calls.{IsWithin};
 ghost use Rattle.vault_schema.specs.Version2.Tables.{v2};
 ghost use Rattle.vault_schema.specs.Versions.{WithinOf};
@@ -22,11 +20,7 @@ const DROP_ENTRIES: &str = "DELETE FROM entries WHERE rowid <= ?1";
 
 /// Makes the tables that come with schema 2.
 fn make_tables<S: Alter>(tx: &mut Transaction<'_, S>) -> Result<(), Error>
-    ensures same_reference { tx.new.conn.ghost_name ≡ tx.old.conn.ghost_name }
-    ensures steps { Steps (state S.Store tx.old.conn.now) (state S.Store tx.new.conn.now) }
-    ensures done { HasCleanDisk (state S.Store tx.new.conn.now) → OnOk result ((base : _) (h : _)
-        → WithinOf Version.One h base (state S.Store tx.old.conn.now)
-        → Within v2 (tables_made h) base (state S.Store tx.new.conn.now)) }
+    ensures { LeadsTo S.Store tx.old tx.new result (WithinOf Version.One) (λ h. Within v2 (tables_made h)) }
 {
     step(tx, CREATE_CARDS, &[])?;
     step(tx, CREATE_ENTRIES, &[])?;
@@ -36,11 +30,9 @@ fn make_tables<S: Alter>(tx: &mut Transaction<'_, S>) -> Result<(), Error>
 /// Takes so many pieces of the entries away, those with the first rowids first: the database keeps the rows
 /// of a statement in memory until it ends. An entry has its place as its rowid, where none ever went.
 fn drop_entries<S: Alter>(tx: &mut Transaction<'_, S>, pieces: usize) -> Result<(), Error>
-    ensures same_reference { tx.new.conn.ghost_name ≡ tx.old.conn.ghost_name }
-    ensures steps { Steps (state S.Store tx.old.conn.now) (state S.Store tx.new.conn.now) }
-    ensures done { HasCleanDisk (state S.Store tx.new.conn.now) → OnOk result ((base : _) (h : _)
-        → Within v2 (entries_going h) base (state S.Store tx.old.conn.now)
-        → Within v2 (entries_going h) base (state S.Store tx.new.conn.now)) }
+    ensures { LeadsTo S.Store tx.old tx.new result
+        (λ h. Within v2 (entries_going h))
+        (λ h. Within v2 (entries_going h)) }
 {
     for piece in 0..pieces {
         let last = i64::try_from((piece + 1).saturating_mul(PIECE)).unwrap_or(i64::MAX);
@@ -51,11 +43,9 @@ fn drop_entries<S: Alter>(tx: &mut Transaction<'_, S>, pieces: usize) -> Result<
 
 /// Makes the tables that come with schema 2, takes the entries away, in so many pieces, and says the version.
 pub(crate) fn make_room<S: Alter>(tx: &mut Transaction<'_, S>, pieces: usize) -> Result<(), Error>
-    ensures same_reference { tx.new.conn.ghost_name ≡ tx.old.conn.ghost_name }
-    ensures steps { Steps (state S.Store tx.old.conn.now) (state S.Store tx.new.conn.now) }
-    ensures done { HasCleanDisk (state S.Store tx.new.conn.now) → OnOk result ((base : _) (h : _)
-        → WithinOf Version.One h base (state S.Store tx.old.conn.now)
-        → IsWithin Version.Two (state S.Store tx.new.conn.now) base (without_entries h)) }
+    ensures { LeadsTo S.Store tx.old tx.new result
+        (WithinOf Version.One)
+        (λ h base st. IsWithin Version.Two st base (without_entries h)) }
 {
     make_tables(tx)?;
     drop_entries(tx, pieces)?;

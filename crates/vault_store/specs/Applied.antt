@@ -1,5 +1,7 @@
 -- What a command leaves of a vault over tables.
 use Rattle.std.specs.Prelude.{◌≡◌, ℕ, Bool, true, false, Result, Ok, Err}
+use Rattle.vault_refusal.specs.declared.refusal.Refusal.{Refusal}
+use Rattle.vault_refusal.specs.declared.refusal.Refusal.TheVariants as refusal
 use Rattle.vault_core.specs.Sound.{Sound}
 use Rattle.vault_core.specs.Vault.{Vault as Content}
 use Rattle.vault_store.specs.declared.tables.TablesFault.{TablesFault}
@@ -44,11 +46,11 @@ FailsBy (Err Memory) before now = now ≡ before
 FailsBy (Err Store) before now = now ≡ true
 FailsBy (Err Reopen) before now = now ≡ before
 
--- the numbers of the faults
-abbrev pub fault_number : Fault → ℕ
-fault_number Memory = 20
-fault_number Store = 21
-fault_number Reopen = 22
+-- the refusal that a fault is
+abbrev pub refusal_of : Fault → Refusal
+refusal_of Memory = refusal.CommandMemory
+refusal_of Store = refusal.CommandStore
+refusal_of Reopen = refusal.Reopen
 
 -- over tables that are never refused memory for what adds nothing it isn't refused, and over tables
 -- that never fail it doesn't fail

@@ -5,6 +5,7 @@ pub mod HeldEntries
 pub mod Index
 pub mod Left
 pub mod Listed
+pub mod LookUps
 pub mod Live
 pub mod Reads
 pub mod Rows

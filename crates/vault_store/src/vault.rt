@@ -1,6 +1,7 @@
 //! The vault: commands that are decided, and written before they are answered.
 ghost use Rattle.std.specs.Prelude.{◌≡◌, ◌↔◌, ◌||◌, false, true, Err, IfOk, take};
 ghost use Rattle.std.specs.FinMap as map;
+ghost use Rattle.vault_store.specs.LookUps.{Lists};
 ghost use Rattle.vault_core.specs.Dead.{dead_tokens};
 ghost use Rattle.vault_core.specs.Proper.{HasLivesInRange};
 ghost use Rattle.vault_core.specs.Sound.{Sound};
@@ -20,6 +21,7 @@ use vault_core::moment::Moment;
 use vault_core::name::MerchantId;
 use vault_core::reply::Reply;
 use vault_pan::token::Token;
+use vault_refusal::refusal::Refusal;
 
 /// Why a command wasn't answered.
 #[derive(Clone, Copy, Debug, PartialEq, Eq)]
@@ -33,16 +35,16 @@ pub enum Fault {
 }
 
 impl Fault {
-    ghost use Rattle.vault_store.specs.Applied.{fault_number};
+    ghost use Rattle.vault_store.specs.Applied.{refusal_of};
 
-    /// The number of the fault: 20, 21 or 22.
-    pub fn number(self) -> u8
-        ensures { result ≡ fault_number self }
+    /// Its refusal: 20, 21 or 22.
+    pub fn refusal(self) -> Refusal
+        ensures { result ≡ refusal_of self }
     {
         match self {
-            Fault::Memory => 20,
-            Fault::Store => 21,
-            Fault::Reopen => 22,
+            Fault::Memory => Refusal::CommandMemory,
+            Fault::Store => Refusal::CommandStore,
+            Fault::Reopen => Refusal::Reopen,
         }
     }
 }
@@ -106,20 +108,8 @@ impl<T: Tables> Vault<T> {
     /// The first `limit` tokens of a merchant that are dead at the later of its moment and `now`, in
     /// order of their texts. Nothing changes.
     pub fn dead(&mut self, m: MerchantId, now: Moment, limit: usize) -> Result<Vec<Token>, Fault>
-        ensures honest { T.is_honest (tables_of self.new) → T.is_honest (tables_of self.old) }
-        ensures told { T.is_honest (tables_of self.new)
-            → IfOk result (λ tokens. (V : Content) → Contains T.holds self.old V
-            → (tokens.items ≡ take limit (dead_tokens V m now)) × Contains T.holds self.new V) }
-        ensures memory { result ≡ Err Fault.Memory → (V : Content) → Contains T.holds self.old V
-            → Contains T.holds self.new V }
-        ensures reopen { (result ≡ Err Fault.Reopen) ↔ (is_broken self.old ≡ true) }
-        ensures unchanged { result ≡ Err Fault.Reopen → tables_of self.new ≡ tables_of self.old }
-        ensures broken { is_broken self.new ≡ breaks result }
-        ensures crash { T.is_honest (tables_of self.new) → (V : Content) → Contains T.holds self.old V
-            → LeavesBy result (T.leaves (tables_of self.new)) V V }
-        ensures failing { FailsBy result (T.has_failed (tables_of self.old))
-            (T.has_failed (tables_of self.new)) }
-        ensures sturdy { T.may_fail ≡ false → ¬ (result ≡ Err Fault.Store) }
+        ensures { Lists T.Tables self.old self.new result
+            (λ V tokens. tokens.items ≡ take limit (dead_tokens V m now)) }
     {
         if self.broken {
             Err(Fault::Reopen)
@@ -133,20 +123,7 @@ impl<T: Tables> Vault<T> {
 
     /// All rights with their ends, by caller, merchant and the right's number. Nothing changes.
     pub fn rights(&mut self) -> Result<Vec<RightRow>, Fault>
-        ensures honest { T.is_honest (tables_of self.new) → T.is_honest (tables_of self.old) }
-        ensures told { T.is_honest (tables_of self.new)
-            → IfOk result (λ found. (V : Content) → Contains T.holds self.old V
-            → (found.items ≡ map.entries V.rights) × Contains T.holds self.new V) }
-        ensures memory { result ≡ Err Fault.Memory → (V : Content) → Contains T.holds self.old V
-            → Contains T.holds self.new V }
-        ensures reopen { (result ≡ Err Fault.Reopen) ↔ (is_broken self.old ≡ true) }
-        ensures unchanged { result ≡ Err Fault.Reopen → tables_of self.new ≡ tables_of self.old }
-        ensures broken { is_broken self.new ≡ breaks result }
-        ensures crash { T.is_honest (tables_of self.new) → (V : Content) → Contains T.holds self.old V
-            → LeavesBy result (T.leaves (tables_of self.new)) V V }
-        ensures failing { FailsBy result (T.has_failed (tables_of self.old))
-            (T.has_failed (tables_of self.new)) }
-        ensures sturdy { T.may_fail ≡ false → ¬ (result ≡ Err Fault.Store) }
+        ensures { Lists T.Tables self.old self.new result (λ V found. found.items ≡ map.entries V.rights) }
     {
         if self.broken {
             Err(Fault::Reopen)
@@ -160,20 +137,7 @@ impl<T: Tables> Vault<T> {
 
     /// Each merchant with its row, in order of the names. Nothing changes.
     pub fn merchants(&mut self) -> Result<Vec<NamedRow>, Fault>
-        ensures honest { T.is_honest (tables_of self.new) → T.is_honest (tables_of self.old) }
-        ensures told { T.is_honest (tables_of self.new)
-            → IfOk result (λ found. (V : Content) → Contains T.holds self.old V
-            → (found.items ≡ merchant_rows V) × Contains T.holds self.new V) }
-        ensures memory { result ≡ Err Fault.Memory → (V : Content) → Contains T.holds self.old V
-            → Contains T.holds self.new V }
-        ensures reopen { (result ≡ Err Fault.Reopen) ↔ (is_broken self.old ≡ true) }
-        ensures unchanged { result ≡ Err Fault.Reopen → tables_of self.new ≡ tables_of self.old }
-        ensures broken { is_broken self.new ≡ breaks result }
-        ensures crash { T.is_honest (tables_of self.new) → (V : Content) → Contains T.holds self.old V
-            → LeavesBy result (T.leaves (tables_of self.new)) V V }
-        ensures failing { FailsBy result (T.has_failed (tables_of self.old))
-            (T.has_failed (tables_of self.new)) }
-        ensures sturdy { T.may_fail ≡ false → ¬ (result ≡ Err Fault.Store) }
+        ensures { Lists T.Tables self.old self.new result (λ V found. found.items ≡ merchant_rows V) }
     {
         if self.broken {
             Err(Fault::Reopen)

@@ -1,18 +1,18 @@
 //! The rows of the tables that one command needs.
-ghost use Rattle.std.specs.Prelude.{◌≡◌, IfOk, option_map};
+ghost use Rattle.std.specs.Prelude.{◌≡◌, option_map};
 ghost use Rattle.std.specs.Option.{option_map_or};
+ghost use Rattle.vault_store.specs.LookUps.{LooksUp};
 ghost use Rattle.vault_core.specs.Draw.{chosen_token};
 ghost use Rattle.vault_core.specs.Repeats.{current, record_with_entry, reusable as reusable_lem};
-ghost use Rattle.vault_core.specs.Sound.{Sound};
 ghost use Rattle.vault_core.specs.Vault.{Vault, entitled};
 ghost use Rattle.vault_core.specs.Window.{IsWindow, ShowsRequest, ShowsToken, moment_at};
-ghost use Rattle.vault_store.specs.Reads.{FailsWith, IsAllowed, Keeps};
 ghost use Rattle.vault_store.specs.Rows.{row_moment};
 
 use crate::tables::{Tables, TablesFault};
 use vault_core::command::{Command, TokenCommand, TokenRequest};
 use vault_core::moment::Moment;
 use vault_core::name::{Caller, MerchantId};
+use vault_core::parts::Parts;
 use vault_core::right::Right;
 use vault_core::row::{Entry, MerchantRow, Record};
 use vault_core::usage::Use;
@@ -22,16 +22,10 @@ use vault_pan::token::Token;
 
 /// The window of a command: what the tables hold at the places that it needs.
 pub fn window<T: Tables>(tables: &mut T, c: &Command) -> Result<Window, TablesFault>
-    ensures honest { T.is_honest tables.new → T.is_honest tables.old }
-    ensures told { T.is_honest tables.new
-        → IfOk result (λ found. (V : Vault) → T.holds tables.old V → Sound V → IsWindow V c.now found) }
-    ensures kept { Keeps result (T.holds tables.old) (T.holds tables.new) }
-    ensures crash { T.is_honest tables.new → (V : Vault) → T.holds tables.old V → T.leaves tables.new V V }
-    ensures failing { FailsWith result (T.has_failed tables.old) (T.has_failed tables.new) }
-    ensures allowed { IsAllowed T.may_refuse T.may_fail result }
+    ensures { LooksUp T.Tables tables.old tables.new result (λ V found. IsWindow V c.now found) }
 {
-    match *c {
-        Command::SetMerchant { merchant, .. } => {
+    match Parts::of(c) {
+        Parts::SetMerchant(merchant, _) => {
             let row = tables.merchant(merchant)?;
             let merchants = tables.merchants()?;
             Ok(Window {
@@ -40,24 +34,19 @@ pub fn window<T: Tables>(tables: &mut T, c: &Command) -> Result<Window, TablesFa
                 ..Window::empty()
             })
         }
-        Command::Grant { merchant, .. } | Command::Withdraw { merchant, .. } => {
+        Parts::Grant(_, merchant, ..) | Parts::Withdraw(_, merchant, ..) => {
             let row = tables.merchant(merchant)?;
             Ok(Window {
                 merchant: row,
                 ..Window::empty()
             })
         }
-        Command::Tokenize { .. } => {
-            let Some(asked) = c.token_request() else {
-                unreachable!()
-            };
-            request_window(tables, &asked)
-        }
-        Command::Audit {
-            caller,
-            merchant,
-            now,
-        } => {
+        Parts::Tokenize(asked) => request_window(tables, &asked),
+        Parts::Detokenize(asked)
+        | Parts::View(asked)
+        | Parts::Revoke(asked)
+        | Parts::Purge(asked) => token_window(tables, &asked),
+        Parts::Audit(caller, merchant, now) => {
             let row = tables.merchant(merchant)?;
             let at = moment_of(&row, now);
             let right = is_entitled(tables, caller, merchant, Right::Audit, at)?;
@@ -67,25 +56,12 @@ pub fn window<T: Tables>(tables: &mut T, c: &Command) -> Result<Window, TablesFa
                 ..Window::empty()
             })
         }
-        _ => {
-            let Some(asked) = c.token_command() else {
-                unreachable!()
-            };
-            token_window(tables, &asked)
-        }
     }
 }
 
 /// The window of a command on a token.
 fn token_window<T: Tables>(tables: &mut T, asked: &TokenCommand) -> Result<Window, TablesFault>
-    ensures honest { T.is_honest tables.new → T.is_honest tables.old }
-    ensures told { T.is_honest tables.new
-        → IfOk result
-        (λ found. (V : Vault) → T.holds tables.old V → Sound V → ShowsToken V asked.now found) }
-    ensures kept { Keeps result (T.holds tables.old) (T.holds tables.new) }
-    ensures crash { T.is_honest tables.new → (V : Vault) → T.holds tables.old V → T.leaves tables.new V V }
-    ensures failing { FailsWith result (T.has_failed tables.old) (T.has_failed tables.new) }
-    ensures allowed { IsAllowed T.may_refuse T.may_fail result }
+    ensures { LooksUp T.Tables tables.old tables.new result (λ V found. ShowsToken V asked.now found) }
 {
     let merchant = tables.merchant(asked.merchant)?;
     let at = moment_of(&merchant, asked.moment);
@@ -101,14 +77,7 @@ fn token_window<T: Tables>(tables: &mut T, asked: &TokenCommand) -> Result<Windo
 
 /// The window of a Tokenize.
 fn request_window<T: Tables>(tables: &mut T, asked: &TokenRequest) -> Result<Window, TablesFault>
-    ensures honest { T.is_honest tables.new → T.is_honest tables.old }
-    ensures told { T.is_honest tables.new
-        → IfOk result
-        (λ found. (V : Vault) → T.holds tables.old V → Sound V → ShowsRequest V asked.now found) }
-    ensures kept { Keeps result (T.holds tables.old) (T.holds tables.new) }
-    ensures crash { T.is_honest tables.new → (V : Vault) → T.holds tables.old V → T.leaves tables.new V V }
-    ensures failing { FailsWith result (T.has_failed tables.old) (T.has_failed tables.new) }
-    ensures allowed { IsAllowed T.may_refuse T.may_fail result }
+    ensures { LooksUp T.Tables tables.old tables.new result (λ V found. ShowsRequest V asked.now found) }
 {
     let merchant = tables.merchant(asked.merchant)?;
     let at = moment_of(&merchant, asked.moment);
@@ -144,14 +113,8 @@ fn is_entitled<T: Tables>(
     right: Right,
     at: Moment,
 ) -> Result<bool, TablesFault>
-    ensures honest { T.is_honest tables.new → T.is_honest tables.old }
-    ensures told { T.is_honest tables.new
-        → IfOk result (λ found. (V : Vault) → T.holds tables.old V → Sound V
-        → found ≡ entitled V caller merchant right at) }
-    ensures kept { Keeps result (T.holds tables.old) (T.holds tables.new) }
-    ensures crash { T.is_honest tables.new → (V : Vault) → T.holds tables.old V → T.leaves tables.new V V }
-    ensures failing { FailsWith result (T.has_failed tables.old) (T.has_failed tables.new) }
-    ensures allowed { IsAllowed T.may_refuse T.may_fail result }
+    ensures { LooksUp T.Tables tables.old tables.new result
+        (λ V found. found ≡ entitled V caller merchant right at) }
 {
     match tables.right(caller, merchant, right)? {
         Some(grant) => Ok(grant.lasts(at)),
@@ -164,14 +127,8 @@ fn recorded_entry<T: Tables>(
     tables: &mut T,
     asked: &TokenRequest,
 ) -> Result<Option<(Record, Entry)>, TablesFault>
-    ensures honest { T.is_honest tables.new → T.is_honest tables.old }
-    ensures told { T.is_honest tables.new
-        → IfOk result (λ found. (V : Vault) → T.holds tables.old V → Sound V
-        → found ≡ record_with_entry V asked.now.caller asked.now.request) }
-    ensures kept { Keeps result (T.holds tables.old) (T.holds tables.new) }
-    ensures crash { T.is_honest tables.new → (V : Vault) → T.holds tables.old V → T.leaves tables.new V V }
-    ensures failing { FailsWith result (T.has_failed tables.old) (T.has_failed tables.new) }
-    ensures allowed { IsAllowed T.may_refuse T.may_fail result }
+    ensures { LooksUp T.Tables tables.old tables.new result
+        (λ V found. found ≡ record_with_entry V asked.now.caller asked.now.request) }
 {
     let Some(earlier) = tables.recorded(asked.caller, asked.request)? else {
         return Ok(None);
@@ -188,15 +145,9 @@ fn reusable<T: Tables>(
     asked: &TokenRequest,
     at: Moment,
 ) -> Result<Option<(Token, Entry)>, TablesFault>
-    ensures honest { T.is_honest tables.new → T.is_honest tables.old }
-    ensures told { T.is_honest tables.new
-        → IfOk result
-        (λ found. (V : Vault) → T.holds tables.old V → Sound V → moment_at V asked.now.merchant at ≡ at
+    ensures { LooksUp T.Tables tables.old tables.new result
+        (λ V found. moment_at V asked.now.merchant at ≡ at
         → found ≡ reusable_lem asked.now.usage (current V asked.now.merchant asked.now.pan at)) }
-    ensures kept { Keeps result (T.holds tables.old) (T.holds tables.new) }
-    ensures crash { T.is_honest tables.new → (V : Vault) → T.holds tables.old V → T.leaves tables.new V V }
-    ensures failing { FailsWith result (T.has_failed tables.old) (T.has_failed tables.new) }
-    ensures allowed { IsAllowed T.may_refuse T.may_fail result }
 {
     match asked.usage {
         Use::Single => Ok(None),
@@ -214,14 +165,8 @@ fn reusable<T: Tables>(
 
 /// The first candidate of the draw that fails the check and that the merchant never had.
 fn first_good<T: Tables>(tables: &mut T, asked: &TokenRequest) -> Result<Option<Token>, TablesFault>
-    ensures honest { T.is_honest tables.new → T.is_honest tables.old }
-    ensures told { T.is_honest tables.new
-        → IfOk result (λ found. (V : Vault) → T.holds tables.old V → Sound V
-        → found ≡ chosen_token V asked.now.merchant asked.now.pan asked.now.digits) }
-    ensures kept { Keeps result (T.holds tables.old) (T.holds tables.new) }
-    ensures crash { T.is_honest tables.new → (V : Vault) → T.holds tables.old V → T.leaves tables.new V V }
-    ensures failing { FailsWith result (T.has_failed tables.old) (T.has_failed tables.new) }
-    ensures allowed { IsAllowed T.may_refuse T.may_fail result }
+    ensures { LooksUp T.Tables tables.old tables.new result
+        (λ V found. found ≡ chosen_token V asked.now.merchant asked.now.pan asked.now.digits) }
 {
     for k in 0..20 {
         if let Some(token) = candidate(&asked.digits, k, &asked.pan) {

@@ -1,12 +1,13 @@
 //! The table of merchants: how long their tokens live, how many digits their masks show, and their moment.
 pub mod old;
 
-ghost use Rattle.std.specs.Prelude.{◌≡◌, ◌<◌, ◌^◌, Some, IfOk, OnOk};
+ghost use Rattle.std.specs.Prelude.{◌≡◌, ◌<◌, ◌^◌, Some, IfOk};
 ghost use Rattle.sqlite.specs.Effect.{Database};
 ghost use Rattle.sqlite.specs.Held.{state};
 ghost use Rattle.sqlite.specs.State.{HasCleanDisk};
 ghost use Rattle.sql_maps.specs.Rows.{put as put_at};
-ghost use Rattle.sql_maps.specs.States.{Reads, Stands, Steps, Within};
+ghost use Rattle.sql_maps.specs.States.{Reads, Stands, Within};
+ghost use Rattle.sql_maps.specs.Transactions.{Rewrites, Proceeds};
 ghost use Rattle.vault_core.specs.Keys.{bytes_cmp};
 ghost use Rattle.vault_schema.specs.Schema.{newest_schema};
 ghost use Rattle.vault_schema.specs.Stands.{newest_claims};
@@ -14,7 +15,7 @@ ghost use Rattle.vault_schema.specs.Versions.{Tables};
 
 use crate::columns::{lead_in, moment_in};
 use sql_stored::columns::Columns;
-use sql_stored::fault::ReadFault;
+use sql_stored::fault::StoreFault;
 use sql_stored::keyed::{self, Finds, Puts, Stored};
 use sql_stored::raws::Raw;
 use sql_stored::whole::Whole;
@@ -50,7 +51,7 @@ impl Raw for Merchants {
 
     ghost values = { merchant_values };
 
-    fn read(row: &Row) -> Result<RawMerchant, ReadFault> {
+    fn read(row: &Row) -> Result<RawMerchant, StoreFault> {
         let mut columns = Columns::of(row);
         let raw = RawMerchant {
             rowid: columns.next()?,
@@ -131,7 +132,7 @@ impl Finds for Merchants {
         FIND_LIVES
     }
 
-    fn value_of(row: &Row) -> Result<Lives, ReadFault> {
+    fn value_of(row: &Row) -> Result<Lives, StoreFault> {
         let single_life: u64 = row.get(0)?;
         let multi_life: u64 = row.get(1)?;
         let moment = moment_in(row, 2)?;
@@ -163,7 +164,7 @@ impl Puts for Merchants {
 }
 
 /// The lives of a merchant.
-pub fn find<S: Alter>(conn: &mut Connection<S>, m: &str) -> Result<Option<Lives>, ReadFault>
+pub fn find<S: Alter>(conn: &mut Connection<S>, m: &str) -> Result<Option<Lives>, StoreFault>
     ensures reads { Reads newest_schema result (state S.Store conn.old) (state S.Store conn.new) }
     ensures told { HasCleanDisk (state S.Store conn.new) → IfOk result (λ found. (t : Tables)
         → Stands newest_schema (newest_claims t) (state S.Store conn.old).now
@@ -173,9 +174,8 @@ pub fn find<S: Alter>(conn: &mut Connection<S>, m: &str) -> Result<Option<Lives>
 }
 
 /// The lives of a merchant, inside a transaction.
-pub fn find_in<S: Alter>(tx: &mut Transaction<'_, S>, m: &str) -> Result<Option<Lives>, ReadFault>
-    ensures same_reference { tx.new.conn.ghost_name ≡ tx.old.conn.ghost_name }
-    ensures steps { Steps (state S.Store tx.old.conn.now) (state S.Store tx.new.conn.now) }
+pub fn find_in<S: Alter>(tx: &mut Transaction<'_, S>, m: &str) -> Result<Option<Lives>, StoreFault>
+    ensures goes_on { Proceeds S.Store tx.old tx.new }
     ensures told { HasCleanDisk (state S.Store tx.new.conn.now) → IfOk result (λ found. (base : Database)
         (t : Tables) → Within newest_schema (newest_claims t) base (state S.Store tx.old.conn.now)
         → (found ≡ t.merchants m.now)
@@ -188,13 +188,8 @@ pub fn find_in<S: Alter>(tx: &mut Transaction<'_, S>, m: &str) -> Result<Option<
 pub fn put<S: Alter>(tx: &mut Transaction<'_, S>, m: &str, x: &Lives) -> Result<(), Error>
     requires single { x.now.single_life < 2 ^ 63 }
     requires multi { x.now.multi_life < 2 ^ 63 }
-    ensures same_reference { tx.new.conn.ghost_name ≡ tx.old.conn.ghost_name }
-    ensures steps { Steps (state S.Store tx.old.conn.now) (state S.Store tx.new.conn.now) }
-    ensures done { HasCleanDisk (state S.Store tx.new.conn.now) → OnOk result ((base : Database) (t : Tables)
-        → Within newest_schema (newest_claims t) base (state S.Store tx.old.conn.now)
-        → Within newest_schema (newest_claims
-        (record t { merchants = put_at bytes_cmp t.merchants m.now (Some x.now) })) base
-        (state S.Store tx.new.conn.now)) }
+    ensures { Rewrites S.Store tx.old tx.new newest_schema newest_claims result
+        (λ t. record t { merchants = put_at bytes_cmp t.merchants m.now (Some x.now) }) }
 {
     let moment = x.moment.seconds();
     let lead = x.lead.digits();

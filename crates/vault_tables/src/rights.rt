@@ -1,12 +1,12 @@
 //! The table of rights: what a caller may do at a merchant, and until when.
 pub mod old;
 
-ghost use Rattle.std.specs.Prelude.{◌≡◌, None, Some, IfOk, OnOk};
-ghost use Rattle.sqlite.specs.Effect.{Database};
+ghost use Rattle.std.specs.Prelude.{◌≡◌, None, Some, IfOk};
 ghost use Rattle.sqlite.specs.Held.{state};
 ghost use Rattle.sqlite.specs.State.{HasCleanDisk};
 ghost use Rattle.sql_maps.specs.Rows.{put};
-ghost use Rattle.sql_maps.specs.States.{Reads, Stands, Steps, Within};
+ghost use Rattle.sql_maps.specs.States.{Reads, Stands};
+ghost use Rattle.sql_maps.specs.Transactions.{Rewrites};
 ghost use Rattle.vault_core.specs.Keys.{right_cmp};
 ghost use Rattle.vault_schema.specs.Schema.{newest_schema};
 ghost use Rattle.vault_schema.specs.Stands.{newest_claims};
@@ -14,7 +14,7 @@ ghost use Rattle.vault_schema.specs.Versions.{Tables};
 
 use crate::columns::{moment_or_null_in, moment_value};
 use sql_stored::columns::Columns;
-use sql_stored::fault::ReadFault;
+use sql_stored::fault::StoreFault;
 use sql_stored::keyed::{self, Finds, Puts, Stored, Takes};
 use sql_stored::raws::Raw;
 use sql_stored::whole::Whole;
@@ -52,7 +52,7 @@ impl Raw for Rights {
 
     ghost values = { right_values };
 
-    fn read(row: &Row) -> Result<RawRight, ReadFault> {
+    fn read(row: &Row) -> Result<RawRight, StoreFault> {
         let mut columns = Columns::of(row);
         let raw = RawRight {
             rowid: columns.next()?,
@@ -136,7 +136,7 @@ impl Finds for Rights {
         FIND_RIGHT
     }
 
-    fn value_of(row: &Row) -> Result<GrantRow, ReadFault> {
+    fn value_of(row: &Row) -> Result<GrantRow, StoreFault> {
         let ends = moment_or_null_in(row, 0)?;
         Ok(GrantRow { ends })
     }
@@ -178,7 +178,7 @@ pub fn find<S: Alter>(
     caller: &str,
     m: &str,
     right: Right,
-) -> Result<Option<GrantRow>, ReadFault>
+) -> Result<Option<GrantRow>, StoreFault>
     ensures reads { Reads newest_schema result (state S.Store conn.old) (state S.Store conn.new) }
     ensures told { HasCleanDisk (state S.Store conn.new) → IfOk result (λ found. (t : Tables)
         → Stands newest_schema (newest_claims t) (state S.Store conn.old).now
@@ -196,13 +196,8 @@ pub fn give<S: Alter>(
     right: Right,
     row: GrantRow,
 ) -> Result<(), Error>
-    ensures same_reference { tx.new.conn.ghost_name ≡ tx.old.conn.ghost_name }
-    ensures steps { Steps (state S.Store tx.old.conn.now) (state S.Store tx.new.conn.now) }
-    ensures done { HasCleanDisk (state S.Store tx.new.conn.now) → OnOk result ((base : Database) (t : Tables)
-        → Within newest_schema (newest_claims t) base (state S.Store tx.old.conn.now)
-        → Within newest_schema (newest_claims
-        (record t { rights = put right_cmp t.rights (caller.now, (m.now, right)) (Some row) })) base
-        (state S.Store tx.new.conn.now)) }
+    ensures { Rewrites S.Store tx.old tx.new newest_schema newest_claims result
+        (λ t. record t { rights = put right_cmp t.rights (caller.now, (m.now, right)) (Some row) }) }
 {
     let what = right.number();
     keyed::put::<S, Rights>(
@@ -223,13 +218,8 @@ pub fn take<S: Alter>(
     m: &str,
     right: Right,
 ) -> Result<(), Error>
-    ensures same_reference { tx.new.conn.ghost_name ≡ tx.old.conn.ghost_name }
-    ensures steps { Steps (state S.Store tx.old.conn.now) (state S.Store tx.new.conn.now) }
-    ensures done { HasCleanDisk (state S.Store tx.new.conn.now) → OnOk result ((base : Database) (t : Tables)
-        → Within newest_schema (newest_claims t) base (state S.Store tx.old.conn.now)
-        → Within newest_schema (newest_claims
-        (record t { rights = put right_cmp t.rights (caller.now, (m.now, right)) None })) base
-        (state S.Store tx.new.conn.now)) }
+    ensures { Rewrites S.Store tx.old tx.new newest_schema newest_claims result
+        (λ t. record t { rights = put right_cmp t.rights (caller.now, (m.now, right)) None }) }
 {
     let what = right.number();
     keyed::take::<S, Rights>(tx, params![caller, m, what as i64])

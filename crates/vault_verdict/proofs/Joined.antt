@@ -21,8 +21,8 @@ use Rattle.vault_verdict.specs.Raw.{record_values}
 use Rattle.sql_stored.specs.Reading.{AreTable, IsAny}
 use Rattle.vault_verdict.specs.Reading.{AreEntriesIn, AreTaken}
 use Rattle.vault_verdict.specs.Taken.{EntriesTaken, RecordsTaken}
-use Rattle.sql_stored.specs.declared.fault.ReadFault.{ReadFault}
-use Rattle.sql_stored.specs.declared.fault.ReadFault.TheVariants.{Memory, Store}
+use Rattle.sql_stored.specs.declared.fault.StoreFault.{StoreFault}
+use Rattle.sql_stored.specs.declared.fault.StoreFault.TheVariants.{Memory, Store}
 use Rattle.vault_verdict.specs.declared.replaced.OldEntry.{OldEntry}
 use Rattle.vault_schema.proofs.Behind.{behind, indexes_behind, schema_is}
 
@@ -36,7 +36,7 @@ none_if (Err e) P failed = tt
 none_if (Ok x) P failed = absurd (true≢false (sym failed))
 
 -- where only memory fails, the database doesn't
-pub never_store : {R : Type 0} (P : Type 0) (r : Result R ReadFault) → IfErr r (λ e. e ≡ Memory)
+pub never_store : {R : Type 0} (P : Type 0) (r : Result R StoreFault) → IfErr r (λ e. e ≡ Memory)
     → IfErr r (λ e. e ≡ Store → P)
 never_store P (Err e) memory = λ store. absurd (let clash = sym memory ∙ store in cc)
 never_store P (Ok x) memory = tt
@@ -119,7 +119,7 @@ failed_both g {s = s} second {a = a} (inr same) failed =
 
 -- entries that were taken, and records behind them
 pub taken_both : (v : Version) (db now : Database) (olders : List OldEntry) (start mid : Entries)
-    (begun : Records) (r : Result Records ReadFault) (entries : List RawEntry)
+    (begun : Records) (r : Result Records StoreFault) (entries : List RawEntry)
     → EntriesTaken start mid entries → AreEntriesIn v db olders entries → begun.entries ≡ mid
     → HasRecords begun [] → now ≡ db
     → IfOk r (λ it. (raws : List RawRecord) × RecordsTaken begun it raws

@@ -8,8 +8,8 @@ use Rattle.vault_verdict.specs.Faults.{IsJudged, failure}
 use Rattle.vault_verdict.specs.Reading.{IsQuietWhere}
 use Rattle.vault_verdict.specs.declared.fault.OpenFault.{OpenFault}
 use Rattle.vault_verdict.specs.declared.fault.OpenFault.TheVariants.{WrongSchema, Damaged, Memory, Store}
-use Rattle.sql_stored.specs.declared.fault.ReadFault.{ReadFault}
-use Rattle.sql_stored.specs.declared.fault.ReadFault.TheVariants as read
+use Rattle.sql_stored.specs.declared.fault.StoreFault.{StoreFault}
+use Rattle.sql_stored.specs.declared.fault.StoreFault.TheVariants as read
 
 pub if_ok : {A E : Type 0} {P Q : A → Type 0} (r : Result A E) → ((a : A) → P a → Q a) → IfOk r P → IfOk r Q
 if_ok (Ok a) f h = f a h
@@ -48,19 +48,19 @@ pub one_fault : {A : Type 0} (r : Result A OpenFault) (e f : OpenFault) → r �
 one_fault r e f a b = let same = sym a ∙ b in cc
 
 -- a reading that failed says nothing of the schema or the rows
-pub undamaged : (fault : ReadFault) (rule : ℕ) → failure fault ≢ Damaged rule
+pub undamaged : (fault : StoreFault) (rule : ℕ) → failure fault ≢ Damaged rule
 undamaged read.Memory rule e = cc
 undamaged read.Store rule e = cc
 
-pub unversioned : (fault : ReadFault) (n : ℤ) → failure fault ≢ WrongSchema n
+pub unversioned : (fault : StoreFault) (n : ℤ) → failure fault ≢ WrongSchema n
 unversioned read.Memory n e = cc
 unversioned read.Store n e = cc
 
-pub unjudged : (fault : ReadFault) → IsJudged (failure fault) → ⊥
+pub unjudged : (fault : StoreFault) → IsJudged (failure fault) → ⊥
 unjudged read.Memory e = e
 unjudged read.Store e = e
 
-pub unread : (fault : ReadFault) → failure fault ≡ Store → fault ≡ read.Store
+pub unread : (fault : StoreFault) → failure fault ≡ Store → fault ≡ read.Store
 unread read.Memory e = absurd cc
 unread read.Store e = refl
 
@@ -85,14 +85,14 @@ quiet_where result old new is reads = record {
 }
 
 -- a reading's fault that `?` passes on says the same of it
-pub passed_on : {A P : Type 0} (r : Result A OpenFault) (fault : ReadFault)
+pub passed_on : {A P : Type 0} (r : Result A OpenFault) (fault : StoreFault)
     → IsErrAnd r (λ e. e ≡ failure fault)
     → (fault ≡ read.Store → P) → IfErr r (λ e. e ≡ Store → P)
 passed_on (Ok a) fault same none = tt
 passed_on (Err e) fault same none = λ store. none (unread fault (sym same ∙ store))
 
 -- a fault that `?` passes on says the same of it
-pub passed : {A P : Type 0} (r : Result A ReadFault) (fault : ReadFault) → IsErrAnd r (λ e. e ≡ fault)
+pub passed : {A P : Type 0} (r : Result A StoreFault) (fault : StoreFault) → IsErrAnd r (λ e. e ≡ fault)
     → (fault ≡ read.Store → P) → IfErr r (λ e. e ≡ read.Store → P)
 passed (Ok a) fault same none = tt
 passed (Err e) fault same none = λ store. none (sym same ∙ store)
@@ -104,7 +104,7 @@ passed_as P (Ok a) fault same p = tt
 passed_as P (Err e) fault same p = subst P (sym same) p
 
 -- rows that weren't read are judged by nothing
-pub failed_read : {A P : Type 0} (r : Result A OpenFault) (fault : ReadFault)
+pub failed_read : {A P : Type 0} (r : Result A OpenFault) (fault : StoreFault)
     → IsErrAnd r (λ e. e ≡ failure fault) → (fault ≡ read.Store → P)
     → IsErrAnd r (λ e. (IsJudged e → ⊥) × (e ≡ Store → P))
 failed_read (Ok a) fault same none = absurd same

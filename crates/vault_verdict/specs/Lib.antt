@@ -6,7 +6,9 @@ pub mod Names
 pub mod Opened
 pub mod Raw
 pub mod ReadAs
+pub mod ReadIn
 pub mod Reading
+pub mod Refusals
 pub mod Scans
 pub mod Sizes
 pub mod Taken

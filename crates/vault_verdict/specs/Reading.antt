@@ -21,8 +21,8 @@ use Rattle.vault_verdict.specs.declared.behind.Behind.{Behind}
 use Rattle.vault_verdict.specs.declared.first.First.{First}
 use Rattle.vault_verdict.specs.declared.read.WithCards.{WithCards}
 use Rattle.sql_stored.specs.Reading.{AreLonger, AreTable, IsAny, IsUnread}
-use Rattle.sql_stored.specs.declared.fault.ReadFault.{ReadFault}
-use Rattle.sql_stored.specs.declared.fault.ReadFault.TheVariants.{Store}
+use Rattle.sql_stored.specs.declared.fault.StoreFault.{StoreFault}
+use Rattle.sql_stored.specs.declared.fault.StoreFault.TheVariants.{Store}
 use Rattle.vault_rules.specs.declared.rows.RawCard.{RawCard}
 use Rattle.vault_rules.specs.Held.{HoldCards}
 use Rattle.vault_rules.specs.Seen.{HasEntries, HasRecords}
@@ -122,7 +122,7 @@ module _ {S : Type 0} (g : Ghosts S) where
       Either (has_cards v) (IsUnreadCards db new) (IsUnread g v1.READ_ENTRIES.now old_entry_values db new)
 
   -- the cards of a version are taken, with the entries of schema 1, and nothing else is done
-  pub record ReadsCards (v : Version) (start : Index) (result : Result WithCards ReadFault)
+  pub record ReadsCards (v : Version) (start : Index) (result : Result WithCards StoreFault)
       (old new : Held S) : Type 0 where
     pub reads : Reads (schema_of v) result (state g old) (state g new)
     pub told : HasCleanDisk (state g new) → (state g old).now.schema ≡ schema_of v
@@ -133,7 +133,7 @@ module _ {S : Type 0} (g : Ghosts S) where
 
   -- the entries of a version are taken, one after the other: those of schema 1 without the database
   pub record TakesEntries (v : Version) (olders : List OldEntry) (start : Entries)
-      (result : Result Entries ReadFault) (old new : Held S) : Type 0 where
+      (result : Result Entries StoreFault) (old new : Held S) : Type 0 where
     pub reads : Reads (schema_of v) result (state g old) (state g new) ⊎ (new ≡ old)
     pub told : HasCleanDisk (state g new) → (state g old).now.schema ≡ schema_of v
         → IfOk result (λ it. (raws : List RawEntry) × EntriesTaken start it raws

@@ -3,6 +3,7 @@ ghost use Rattle.std.specs.Prelude.{◌≡◌, IfErr, IfOk, List};
 ghost use Rattle.sqlite.specs.Held.{state};
 ghost use Rattle.sqlite.specs.State.{HasCleanDisk};
 ghost use Rattle.sql_maps.specs.States.{Reads};
+ghost use Rattle.vault_verdict.specs.ReadIn.{ReadsIn};
 ghost use Rattle.vault_verdict.specs.Reading.{AreBehind, AreTaken, IsUnreadOne};
 ghost use Rattle.vault_schema.specs.Versions.{schema_of};
 ghost use Rattle.vault_rules.specs.declared.rows.RawEntry.{RawEntry as EntryRow};
@@ -10,7 +11,7 @@ ghost use Rattle.vault_rules.specs.declared.rows.RawRecord.{RawRecord as RecordR
 
 use crate::read;
 use crate::replaced::OldEntry;
-use sql_stored::fault::ReadFault;
+use sql_stored::fault::StoreFault;
 use sqlite::{Alter, Connection};
 use std::alloc::Global;
 use vault_rules::entries::Entries;
@@ -35,16 +36,11 @@ fn taken<'a, S: Alter>(
     version: Version,
     olders: &[OldEntry],
     start: Entries<'a>,
-) -> Result<Records<'a>, ReadFault>
-    ensures told { HasCleanDisk (state S.Store conn.new)
-        → (state S.Store conn.old).now.schema ≡ schema_of version
-        → IfOk result (λ it. (entries : List EntryRow) × (records : List RecordRow)
-        × AreTaken version (state S.Store conn.old).now olders.now start.entry it entries records) }
-    ensures refused { HasCleanDisk (state S.Store conn.new)
-        → (state S.Store conn.old).now.schema ≡ schema_of version
-        → IfErr result (λ e. e ≡ ReadFault.Store
-        → IsUnreadOne S.Store version (state S.Store conn.old).now conn.new) }
-    ensures reads { Reads (schema_of version) result (state S.Store conn.old) (state S.Store conn.new) }
+) -> Result<Records<'a>, StoreFault>
+    ensures { ReadsIn S.Store version conn.old conn.new result
+        (λ db it. (entries : List EntryRow) × (records : List RecordRow)
+        × AreTaken version db olders.now start.entry it entries records)
+        (IsUnreadOne S.Store version) }
 {
     let entries = read::entries(alloc, conn, version, olders, start)?;
     read::records(conn, Records::new(entries))
@@ -57,14 +53,14 @@ pub(crate) fn read_behind<'a, S: Alter>(
     version: Version,
     olders: &[OldEntry],
     index: Index<'a>,
-) -> Result<Behind<'a>, ReadFault>
+) -> Result<Behind<'a>, StoreFault>
     ensures told { HasCleanDisk (state S.Store conn.new)
         → (state S.Store conn.old).now.schema ≡ schema_of version
         → IfOk result (λ it. (entries : List EntryRow) × (records : List RecordRow)
         × AreBehind version (state S.Store conn.old).now olders.now index.entry it entries records) }
     ensures refused { HasCleanDisk (state S.Store conn.new)
         → (state S.Store conn.old).now.schema ≡ schema_of version
-        → IfErr result (λ e. e ≡ ReadFault.Store
+        → IfErr result (λ e. e ≡ StoreFault.Store
         → IsUnreadOne S.Store version (state S.Store conn.old).now conn.new) }
     ensures reads { Reads (schema_of version) result (state S.Store conn.old) (state S.Store conn.new) }
 {

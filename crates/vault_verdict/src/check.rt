@@ -1,17 +1,19 @@
 //! The whole check of a file.
-ghost use Rattle.std.specs.Prelude.{◌≡◌, ◌⊎◌, ℤ, ℕ, pos, Err, IfOk, IfErr, IsErrAnd, OnOk};
+ghost use Rattle.std.specs.Prelude.{◌≡◌, ◌⊎◌, pos, Err, IfOk, IfErr, IsErrAnd, OnOk};
 ghost use Rattle.sqlite.specs.Held.{state};
-ghost use Rattle.sqlite.specs.State.{HasCleanDisk, IsUnchanged};
+ghost use Rattle.sqlite.specs.State.{HasCleanDisk};
 ghost use Rattle.vault_core.specs.Vault.{empty_vault};
-ghost use Rattle.vault_verdict.specs.Faults.{IsJudged};
-ghost use Rattle.vault_verdict.specs.Names.{IsForeign, IsMixed, vault_names};
-ghost use Rattle.vault_verdict.specs.Opened.{IsFit, IsLeastBroken, IsNoDamage, IsNoRefusal, IsSoundOf};
+ghost use Rattle.vault_verdict.specs.Names.{IsForeign};
+ghost use Rattle.vault_verdict.specs.Opened.{IsFit, IsNoDamage, IsSoundOf};
 ghost use Rattle.vault_verdict.specs.Opened.{IsWrong};
-ghost use Rattle.vault_verdict.specs.Reading.{IsFull, IsOurs, IsQuietWhere, IsUnreadFile};
+ghost use Rattle.vault_verdict.specs.Reading.{IsFull};
 ghost use Rattle.vault_verdict.specs.Sizes.{sizes_of};
 ghost use Rattle.sql_maps.specs.Schema.{no_schema};
+ghost use Rattle.vault_schema.specs.Versions.{newest};
+ghost use Rattle.vault_verdict.specs.Refusals.{IsLeastWhereFull, IsStillVersioned, IsUntouched, LeavesSeen};
+ghost use Rattle.vault_verdict.specs.Refusals.{RowsBreak, SparesFit, TellsOther, TellsUnread, WhereMixed};
+ghost use Rattle.vault_verdict.specs.Refusals.{WhereStrange};
 ghost use Rattle.vault_schema.specs.Versioned.{HasVersion};
-ghost use Rattle.vault_schema.specs.Schema.{newest_schema};
 
 use crate::fault::OpenFault;
 use crate::names::{Holder, holder_in};
@@ -36,35 +38,19 @@ pub fn check<S: Alter>(alloc: Global, conn: &mut Connection<S>) -> Result<Sizes,
         → IfOk result (λ sizes. IsFull (state S.Store conn.old).now
         → ((state S.Store conn.old).now.schema ≡ no_schema) × (sizes ≡ sizes_of empty_vault)
         ⊎ IsSoundOf (state S.Store conn.old).now sizes) }
-    ensures damaged { HasCleanDisk (state S.Store conn.new) → IfErr result (λ e. (rule : ℕ)
-        → e ≡ OpenFault.Damaged rule
-        → IsFull (state S.Store conn.old).now → IsLeastBroken (state S.Store conn.old).now rule) }
-    ensures wrong { HasCleanDisk (state S.Store conn.new) → IfErr result (λ e. (n : ℤ)
-        → e ≡ OpenFault.WrongSchema n
-        → IsWrong (state S.Store conn.old).now n) }
-    ensures unread { HasCleanDisk (state S.Store conn.new) → IfErr result (λ e. e ≡ OpenFault.Store
-        → IsOurs (state S.Store conn.old).now
-        → IsUnreadFile S.Store (state S.Store conn.old).now conn.new) }
-    ensures never { HasCleanDisk (state S.Store conn.new)
-        → IfErr result (λ e. IsFit (state S.Store conn.old).now → IsNoRefusal e) }
-    ensures mixed { IsForeign (state S.Store conn.old).now.schema
-        → ¬ HasVersion (state S.Store conn.old).now.schema
-        → IsMixed (state S.Store conn.old).now.schema vault_names
-        → result ≡ Err (OpenFault.WrongSchema (pos 0)) }
-    ensures strange { IsForeign (state S.Store conn.old).now.schema
-        → ¬ HasVersion (state S.Store conn.old).now.schema
-        → ¬ IsMixed (state S.Store conn.old).now.schema vault_names
-        → result ≡ Err OpenFault.Store }
-    ensures kept { HasCleanDisk (state S.Store conn.new)
-        → OnOk result ((state S.Store conn.old).now.schema ≡ newest_schema
-        → IsUnchanged (state S.Store conn.old) (state S.Store conn.new)) }
+    ensures damaged { RowsBreak S.Store conn.old conn.new result IsLeastWhereFull }
+    ensures wrong { TellsOther S.Store conn.old conn.new result IsWrong }
+    ensures unread { TellsUnread S.Store conn.old conn.new result }
+    ensures never { SparesFit S.Store conn.old conn.new result IsFit }
+    ensures mixed { WhereMixed (state S.Store conn.old).now
+        (result ≡ Err (OpenFault.WrongSchema (pos 0))) }
+    ensures strange { WhereStrange (state S.Store conn.old).now (result ≡ Err OpenFault.Store) }
+    ensures kept { IsUntouched S.Store newest conn.old conn.new result }
     ensures foreign { IsForeign (state S.Store conn.old).now.schema → IsErrAnd result IsNoDamage }
-    ensures sees { HasCleanDisk (state S.Store conn.new) → IfErr result (λ e. IsJudged e
-        → HasVersion (state S.Store conn.old).now.schema
-        → IsUnchanged (state S.Store conn.old) (state S.Store conn.new)) }
+    ensures sees { LeavesSeen S.Store conn.old conn.new result
+        (HasVersion (state S.Store conn.old).now.schema) }
     ensures untouched { ¬ HasVersion (state S.Store conn.old).now.schema → conn.new ≡ conn.old }
-    ensures quiet { IsQuietWhere (HasVersion (state S.Store conn.old).now.schema) (state S.Store conn.old)
-        (state S.Store conn.new) }
+    ensures quiet { IsStillVersioned S.Store conn.old conn.new }
 {
     match holder_in(conn.schema()) {
         Holder::Nobody => Ok(Sizes::NONE),

@@ -1,9 +1,10 @@
 //! Why a file isn't opened.
 ghost use Rattle.std.specs.Prelude.{◌≡◌};
-ghost use Rattle.vault_verdict.specs.Faults.{number_of};
+ghost use Rattle.vault_verdict.specs.Faults.{refusal_of};
 
-use sql_stored::fault::ReadFault;
+use sql_stored::fault::StoreFault;
 use std::alloc::AllocError;
+use vault_refusal::refusal::Refusal;
 
 /// Why no vault is opened.
 #[derive(Clone, Copy, Debug, PartialEq, Eq)]
@@ -20,15 +21,15 @@ pub enum OpenFault {
 }
 
 impl OpenFault {
-    /// The number of the refusal.
-    pub fn number(&self) -> u8
-        ensures { result ≡ number_of self.now }
+    /// Its refusal: 30 to 33.
+    pub fn refusal(&self) -> Refusal
+        ensures { result ≡ refusal_of self.now }
     {
         match self {
-            OpenFault::WrongSchema(_) => 30,
-            OpenFault::Damaged(_) => 31,
-            OpenFault::Memory => 32,
-            OpenFault::Store => 33,
+            OpenFault::WrongSchema(_) => Refusal::WrongSchema,
+            OpenFault::Damaged(_) => Refusal::Damaged,
+            OpenFault::Memory => Refusal::OpenMemory,
+            OpenFault::Store => Refusal::OpenStore,
         }
     }
 }
@@ -44,16 +45,16 @@ impl From<AllocError> for OpenFault {
     }
 }
 
-impl From<ReadFault> for OpenFault {
+impl From<StoreFault> for OpenFault {
     ghost use Rattle.std.specs.Prelude.{◌≡◌};
     ghost use Rattle.vault_verdict.specs.Faults.{failure};
 
     ghost from_gives = { λ read fault. fault ≡ failure read };
 
-    fn from(read: ReadFault) -> OpenFault {
+    fn from(read: StoreFault) -> OpenFault {
         match read {
-            ReadFault::Memory => OpenFault::Memory,
-            ReadFault::Store => OpenFault::Store,
+            StoreFault::Memory => OpenFault::Memory,
+            StoreFault::Store => OpenFault::Store,
         }
     }
 }

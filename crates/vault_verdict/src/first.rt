@@ -7,7 +7,7 @@ ghost use Rattle.vault_verdict.specs.Reading.{AreFirst, IsUnreadOne};
 ghost use Rattle.vault_schema.specs.Versions.{schema_of};
 
 use crate::read;
-use sql_stored::fault::ReadFault;
+use sql_stored::fault::StoreFault;
 use sqlite::{Alter, Connection};
 use std::alloc::Global;
 use vault_rules::rows::{RawCount, RawMerchant};
@@ -25,13 +25,13 @@ pub(crate) fn read_first<S: Alter>(
     alloc: Global,
     conn: &mut Connection<S>,
     version: Version,
-) -> Result<First, ReadFault>
+) -> Result<First, StoreFault>
     ensures told { HasCleanDisk (state S.Store conn.new)
         → (state S.Store conn.old).now.schema ≡ schema_of version
         → IfOk result (λ it. AreFirst version (state S.Store conn.old).now it) }
     ensures refused { HasCleanDisk (state S.Store conn.new)
         → (state S.Store conn.old).now.schema ≡ schema_of version
-        → IfErr result (λ e. e ≡ ReadFault.Store
+        → IfErr result (λ e. e ≡ StoreFault.Store
         → IsUnreadOne S.Store version (state S.Store conn.old).now conn.new) }
     ensures reads { Reads (schema_of version) result (state S.Store conn.old) (state S.Store conn.new) }
 {

@@ -1,5 +1,6 @@
 //! Whether rows are those of a sound vault.
-ghost use Rattle.std.specs.Prelude.{◌≡◌, ◌≢◌, ℤ, IfErr};
+ghost use Rattle.std.specs.Prelude.{◌≡◌};
+ghost use Rattle.vault_verdict.specs.Refusals.{TellsNoVersion};
 ghost use Rattle.vault_verdict.specs.Judging.{IsVerdictOf};
 ghost use Rattle.vault_verdict.specs.Versions.{is_other, other_than, other_version};
 ghost use Rattle.vault_verdict.specs.Taken.{HasJudged};
@@ -48,7 +49,7 @@ pub(crate) fn other_version(versions: &[RawVersion]) -> Option<i64>
 /// The sizes of rows that keep each rule; 31 names the least that they break.
 pub(crate) fn judge(versions: &[RawVersion], behind: &Behind) -> Result<Sizes, OpenFault>
     ensures verdict { (rows : Rows) → HasJudged rows versions.now behind.now → IsVerdictOf rows result }
-    ensures versioned { IfErr result (λ e. (n : ℤ) → e ≢ OpenFault.WrongSchema n) }
+    ensures versioned { TellsNoVersion result }
 {
     let records = &behind.records;
     if let Some(rule) = least_broken(versions, behind.replaced, records, &behind.rights) {

@@ -8,7 +8,7 @@ ghost use Rattle.vault_rules.specs.declared.rows.RawCard.{RawCard as CardRow};
 ghost use Rattle.vault_rules.specs.declared.rows.RawEntry.{RawEntry as EntryRow};
 
 use crate::replaced::OldEntry;
-use sql_stored::fault::ReadFault;
+use sql_stored::fault::StoreFault;
 use std::alloc::{AllocError, Global};
 use vault_rules::entries::Entries;
 use vault_rules::index::Index;
@@ -45,10 +45,10 @@ pub(crate) fn entries<'a>(
     alloc: Global,
     olders: &[OldEntry],
     start: Entries<'a>,
-) -> Result<Entries<'a>, ReadFault>
+) -> Result<Entries<'a>, StoreFault>
     ensures made { IfOk result (λ it. (raws : List EntryRow) × EntriesTaken start.entry it raws
         × (map as_entry olders.now ≡ map entry_values raws)) }
-    ensures memory { IfErr result (λ e. e ≡ ReadFault.Memory) }
+    ensures memory { IfErr result (λ e. e ≡ StoreFault.Memory) }
 {
     let mut entries = start;
     for older in olders {
@@ -78,10 +78,10 @@ pub(crate) fn cards<'a>(
     alloc: Global,
     olders: &[OldEntry],
     start: Index<'a>,
-) -> Result<Index<'a>, ReadFault>
+) -> Result<Index<'a>, StoreFault>
     ensures made { IfOk result (λ it. (raws : List CardRow) × CardsTaken start.entry it raws
         × (filter_map as_card olders.now ≡ map card_values raws)) }
-    ensures memory { IfErr result (λ e. e ≡ ReadFault.Memory) }
+    ensures memory { IfErr result (λ e. e ≡ StoreFault.Memory) }
 {
     let mut index = start;
     for older in olders {

@@ -5,7 +5,7 @@ ghost use Rattle.vault_verdict.specs.Raw.{version_values};
 ghost use Rattle.vault_verdict.specs.Scans.{card_scan, count_scan, entry_scan, record_scan};
 
 use sql_stored::columns::Columns;
-use sql_stored::fault::ReadFault;
+use sql_stored::fault::StoreFault;
 use sql_stored::raws::Raw;
 use sql_stored::whole::Whole;
 use sqlite::Row;
@@ -21,7 +21,7 @@ impl Raw for VersionRows {
 
     ghost values = { version_values };
 
-    fn read(row: &Row) -> Result<RawVersion, ReadFault> {
+    fn read(row: &Row) -> Result<RawVersion, StoreFault> {
         let mut columns = Columns::of(row);
         let raw = RawVersion {
             id: columns.next()?,
@@ -40,7 +40,7 @@ impl Raw for CountRows {
 
     ghost values = { count_values };
 
-    fn read(row: &Row) -> Result<RawCount, ReadFault> {
+    fn read(row: &Row) -> Result<RawCount, StoreFault> {
         let mut columns = Columns::of(row);
         let raw = RawCount {
             rowid: columns.next()?,
@@ -73,7 +73,7 @@ impl Raw for CardRows {
 
     ghost values = { card_values };
 
-    fn read(row: &Row) -> Result<RawCard, ReadFault> {
+    fn read(row: &Row) -> Result<RawCard, StoreFault> {
         let mut columns = Columns::of(row);
         let raw = RawCard {
             id: columns.next()?,
@@ -106,7 +106,7 @@ impl Raw for EntryRows {
 
     ghost values = { entry_values };
 
-    fn read(row: &Row) -> Result<RawEntry, ReadFault> {
+    fn read(row: &Row) -> Result<RawEntry, StoreFault> {
         let mut columns = Columns::of(row);
         let raw = RawEntry {
             rowid: columns.next()?,
@@ -143,7 +143,7 @@ impl Raw for RecordRows {
 
     ghost values = { record_values };
 
-    fn read(row: &Row) -> Result<RawRecord, ReadFault> {
+    fn read(row: &Row) -> Result<RawRecord, StoreFault> {
         let mut columns = Columns::of(row);
         let raw = RawRecord {
             rowid: columns.next()?,

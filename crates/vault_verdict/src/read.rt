@@ -8,6 +8,8 @@ ghost use Rattle.sqlite.specs.Table.{Table};
 ghost use Rattle.sqlite_schema.specs.declared.schema.Index.{Index as SqlIndex};
 ghost use Rattle.sql_maps.specs.Schema.{grown};
 ghost use Rattle.sql_maps.specs.States.{Reads};
+ghost use Rattle.vault_verdict.specs.Refusals.{IsStillVersioned};
+ghost use Rattle.vault_verdict.specs.ReadIn.{ReadsIn};
 ghost use Rattle.sql_stored.specs.Reading.{AreTable, IsAny, IsUnread, ReadsTable, TakesTable};
 ghost use Rattle.vault_rules.specs.declared.rows.RawCard.{RawCard as CardRow};
 ghost use Rattle.vault_schema.specs.Layers.{is_from};
@@ -25,14 +27,14 @@ ghost use Rattle.vault_verdict.specs.Raw.{version_values};
 ghost use Rattle.vault_verdict.specs.ReadAs.{AreMerchantsFull, AreRightsFull, IsUnreadReplaced};
 ghost use Rattle.vault_verdict.specs.ReadAs.{left_in as left_spec, merchants_in, merchants_text};
 ghost use Rattle.vault_verdict.specs.ReadAs.{replaced_in, rights_in, rights_text};
-ghost use Rattle.vault_verdict.specs.Reading.{AreOldCards, AreOldFull, IsQuietWhere, IsUnreadCards};
+ghost use Rattle.vault_verdict.specs.Reading.{AreOldCards, AreOldFull, IsUnreadCards};
 ghost use Rattle.vault_verdict.specs.Reading.{ReadsCards, TakesEntries};
 ghost use Rattle.vault_verdict.specs.Taken.{CardsTaken, RecordsTaken};
 
 use crate::made;
 use crate::raws::{CardRows, CountRows, EntryRows, RecordRows, VersionRows};
 use crate::replaced::OldEntry;
-use sql_stored::fault::ReadFault;
+use sql_stored::fault::StoreFault;
 use sql_stored::left::any_left;
 use sql_stored::raws::shown;
 use sql_stored::whole::{read_all, take_all};
@@ -53,7 +55,7 @@ use vault_tables::rights::old::OldRights;
 pub fn version_rows<S: Alter>(
     alloc: Global,
     conn: &mut Connection<S>,
-) -> Result<Vec<RawVersion>, ReadFault>
+) -> Result<Vec<RawVersion>, StoreFault>
     ensures told { HasCleanDisk (state S.Store conn.new) → HasVersion (state S.Store conn.old).now.schema
         → IfOk result (λ raws. AreVersions (state S.Store conn.old).now.trees raws.items) }
     ensures live { HasCleanDisk (state S.Store conn.new) → HasVersion (state S.Store conn.old).now.schema
@@ -61,10 +63,9 @@ pub fn version_rows<S: Alter>(
     ensures kept { HasCleanDisk (state S.Store conn.new) → HasVersion (state S.Store conn.old).now.schema
         → OnOk result (IsUnchanged (state S.Store conn.old) (state S.Store conn.new)) }
     ensures refused { HasCleanDisk (state S.Store conn.new) → HasVersion (state S.Store conn.old).now.schema
-        → IfErr result (λ e. e ≡ ReadFault.Store
+        → IfErr result (λ e. e ≡ StoreFault.Store
         → IsUnread S.Store READ_VERSIONS.now version_values (state S.Store conn.old).now conn.new) }
-    ensures quiet { IsQuietWhere (HasVersion (state S.Store conn.old).now.schema) (state S.Store conn.old)
-        (state S.Store conn.new) }
+    ensures quiet { IsStillVersioned S.Store conn.old conn.new }
 {
     shown::<S, VersionRows>(alloc, conn, READ_VERSIONS)
 }
@@ -74,7 +75,7 @@ pub(crate) fn merchants<S: Alter>(
     alloc: Global,
     conn: &mut Connection<S>,
     version: Version,
-) -> Result<Vec<RawMerchant>, ReadFault>
+) -> Result<Vec<RawMerchant>, StoreFault>
     ensures { ReadsTable S.Store (merchants_text version) merchant_values (schema_of version)
         (AreMerchantsFull version) (merchants_in version) merchant_values (λ raw. raw.rowid) result conn.old
         conn.new }
@@ -90,7 +91,7 @@ pub(crate) fn merchants<S: Alter>(
 pub(crate) fn counts<S: Alter>(
     alloc: Global,
     conn: &mut Connection<S>,
-) -> Result<Vec<RawCount>, ReadFault>
+) -> Result<Vec<RawCount>, StoreFault>
     ensures { (v : Version) → ReadsTable S.Store READ_COUNTS.now count_values (schema_of v) IsAny (λ t. t 3)
         count_values (λ raw. raw.rowid) result conn.old conn.new }
 {
@@ -101,7 +102,7 @@ pub(crate) fn counts<S: Alter>(
 pub(crate) fn records<'a, S: Alter>(
     conn: &mut Connection<S>,
     start: Records<'a>,
-) -> Result<Records<'a>, ReadFault>
+) -> Result<Records<'a>, StoreFault>
     ensures { (v : Version) → TakesTable S.Store READ_RECORDS.now record_values (schema_of v)
         (RecordsTaken start.entry) IsAny (λ t. t 8) record_values (λ raw. raw.rowid) result conn.old
         conn.new }
@@ -114,7 +115,7 @@ pub(crate) fn rights<S: Alter>(
     alloc: Global,
     conn: &mut Connection<S>,
     version: Version,
-) -> Result<Vec<RawRight>, ReadFault>
+) -> Result<Vec<RawRight>, StoreFault>
     ensures { ReadsTable S.Store (rights_text version) right_values (schema_of version)
         (AreRightsFull version) (rights_in version) right_values (λ raw. raw.rowid) result conn.old conn.new }
 {
@@ -129,7 +130,7 @@ pub(crate) fn rights<S: Alter>(
 fn old_entries<S: Alter>(
     alloc: Global,
     conn: &mut Connection<S>,
-) -> Result<Vec<OldEntry>, ReadFault>
+) -> Result<Vec<OldEntry>, StoreFault>
     ensures { ReadsTable S.Store READ_ENTRIES.now old_entry_values v1 AreOldFull (λ t. t 5)
         old_entry_values (λ raw. raw.rowid) result conn.old conn.new }
 {
@@ -148,13 +149,13 @@ fn first_cards<'a, S: Alter>(
     alloc: Global,
     conn: &mut Connection<S>,
     start: Index<'a>,
-) -> Result<WithCards<'a>, ReadFault>
+) -> Result<WithCards<'a>, StoreFault>
     ensures reads { Reads v1 result (state S.Store conn.old) (state S.Store conn.new) }
     ensures told { HasCleanDisk (state S.Store conn.new) → (state S.Store conn.old).now.schema ≡ v1
         → IfOk result (λ it. (raws : List CardRow) × CardsTaken start.entry it.index raws
         × AreOldCards (state S.Store conn.old).now it.olders.items raws) }
     ensures refused { HasCleanDisk (state S.Store conn.new) → (state S.Store conn.old).now.schema ≡ v1
-        → IfErr result (λ e. e ≡ ReadFault.Store → IsUnread S.Store READ_ENTRIES.now old_entry_values
+        → IfErr result (λ e. e ≡ StoreFault.Store → IsUnread S.Store READ_ENTRIES.now old_entry_values
         (state S.Store conn.old).now conn.new) }
 {
     let olders = old_entries(alloc, conn)?;
@@ -167,7 +168,7 @@ fn later_cards<'a, S: Alter>(
     alloc: Global,
     conn: &mut Connection<S>,
     start: Index<'a>,
-) -> Result<WithCards<'a>, ReadFault>
+) -> Result<WithCards<'a>, StoreFault>
     ensures reads { (others : List Table) (indexes : List SqlIndex) → Reads (grown v2 others indexes) result
         (state S.Store conn.old) (state S.Store conn.new) }
     ensures told { (others : List Table) (indexes : List SqlIndex) → HasCleanDisk (state S.Store conn.new)
@@ -176,7 +177,7 @@ fn later_cards<'a, S: Alter>(
         × AreTable IsAny (λ t. t 12) card_row (λ c. c.id) (state S.Store conn.old).now raws) }
     ensures refused { (others : List Table) (indexes : List SqlIndex) → HasCleanDisk (state S.Store conn.new)
         → (state S.Store conn.old).now.schema ≡ grown v2 others indexes
-        → IfErr result (λ e. e ≡ ReadFault.Store
+        → IfErr result (λ e. e ≡ StoreFault.Store
         → IsUnreadCards S.Store (state S.Store conn.old).now conn.new) }
 {
     let index = take_all::<S, CardRows, _>(conn, start)?;
@@ -192,7 +193,7 @@ pub(crate) fn cards<'a, S: Alter>(
     conn: &mut Connection<S>,
     version: Version,
     start: Index<'a>,
-) -> Result<WithCards<'a>, ReadFault>
+) -> Result<WithCards<'a>, StoreFault>
     ensures { ReadsCards S.Store version start.entry result conn.old conn.new }
 {
     if version.is_from(Version::Two) {
@@ -209,7 +210,7 @@ pub(crate) fn entries<'a, S: Alter>(
     version: Version,
     olders: &[OldEntry],
     start: Entries<'a>,
-) -> Result<Entries<'a>, ReadFault>
+) -> Result<Entries<'a>, StoreFault>
     ensures { TakesEntries S.Store version olders.now start.entry result conn.old conn.new }
 {
     if version.is_from(Version::Two) {
@@ -244,15 +245,9 @@ pub(crate) fn replaced<S: Alter>(
     alloc: Global,
     conn: &mut Connection<S>,
     version: Version,
-) -> Result<u64, ReadFault>
-    ensures reads { Reads (schema_of version) result (state S.Store conn.old) (state S.Store conn.new) }
-    ensures told { HasCleanDisk (state S.Store conn.new)
-        → (state S.Store conn.old).now.schema ≡ schema_of version
-        → IfOk result (λ n. n ≡ replaced_in version (state S.Store conn.old).now.trees) }
-    ensures refused { HasCleanDisk (state S.Store conn.new)
-        → (state S.Store conn.old).now.schema ≡ schema_of version
-        → IfErr result (λ e. e ≡ ReadFault.Store
-        → IsUnreadReplaced S.Store (state S.Store conn.old).now conn.new) }
+) -> Result<u64, StoreFault>
+    ensures { ReadsIn S.Store version conn.old conn.new result
+        (λ db n. n ≡ replaced_in version db.trees) (IsUnreadReplaced S.Store) }
 {
     let entries = any_left::<S, OldEntry>(alloc, conn)?;
     let merchants = any_left::<S, OldMerchants>(alloc, conn)?;

@@ -4,7 +4,7 @@ ghost use Rattle.vault_verdict.specs.Raw.{old_entry_values};
 ghost use Rattle.vault_verdict.specs.Scans.{entry_id_scan, old_entry_scan};
 
 use sql_stored::columns::Columns;
-use sql_stored::fault::ReadFault;
+use sql_stored::fault::StoreFault;
 use sql_stored::left::Left;
 use sql_stored::raws::Raw;
 use sql_stored::text::RowText;
@@ -32,7 +32,7 @@ impl Raw for OldEntry {
 
     ghost values = { old_entry_values };
 
-    fn read(row: &Row) -> Result<OldEntry, ReadFault> {
+    fn read(row: &Row) -> Result<OldEntry, StoreFault> {
         let mut columns = Columns::of(row);
         let raw = OldEntry {
             rowid: columns.next()?,

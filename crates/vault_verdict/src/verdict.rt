@@ -1,18 +1,20 @@
 //! Whether a file's rows are those of a sound vault.
-ghost use Rattle.std.specs.Prelude.{◌≡◌, ◌≢◌, ℤ, ℕ, List, [], IfOk, IfErr, OnOk};
+ghost use Rattle.std.specs.Prelude.{◌≡◌, ℤ, List, [], IfOk, IfErr, OnOk};
 ghost use Rattle.sqlite.specs.Held.{state};
-ghost use Rattle.sqlite.specs.State.{HasCleanDisk, IsUnchanged};
-ghost use Rattle.vault_verdict.specs.Faults.{IsJudged};
-ghost use Rattle.vault_verdict.specs.Opened.{AreOldersIn, IsBrokenIn, IsLeastBroken, IsOtherVersion};
-ghost use Rattle.vault_verdict.specs.Opened.{IsSoundIn, IsSoundOf, IsVersionIn};
+ghost use Rattle.sqlite.specs.State.{HasCleanDisk};
+ghost use Rattle.vault_verdict.specs.Refusals.{IsBrokenWhereFull, IsOtherIn, IsStill, IsUntouched};
+ghost use Rattle.vault_verdict.specs.Refusals.{LeavesSeen, RowsBreak, TellsNoVersion, TellsOther};
+ghost use Rattle.vault_verdict.specs.Refusals.{TellsUnread};
+ghost use Rattle.vault_verdict.specs.Opened.{AreOldersIn, IsOtherVersion};
+ghost use Rattle.vault_verdict.specs.Opened.{IsSoundIn, IsSoundOf};
 ghost use Rattle.vault_verdict.specs.ReadAs.{IsFullIn};
-ghost use Rattle.vault_verdict.specs.Reading.{IsOurs, IsQuiet, IsQuietWhere, IsUnreadFile};
+ghost use Rattle.vault_verdict.specs.Reading.{IsOurs, IsQuiet};
 ghost use Rattle.vault_verdict.specs.Reading.{IsUnreadIn};
 ghost use Rattle.vault_verdict.specs.Judging.{Judges, JudgesAll};
 ghost use Rattle.vault_rules.specs.Held.{HoldCards};
 ghost use Rattle.vault_rules.specs.declared.rows.RawCard.{RawCard as CardRow};
 ghost use Rattle.vault_schema.specs.Schema.{newest_schema};
-ghost use Rattle.vault_schema.specs.Versions.{schema_of};
+ghost use Rattle.vault_schema.specs.Versions.{newest, schema_of};
 
 use crate::behind::read_behind;
 use crate::fault::OpenFault;
@@ -48,9 +50,8 @@ fn judge_behind<'a, S: Alter>(
         → (cards : List CardRow) → HoldCards index.entry.merchants.now index.entry.cards cards
         → Judges S.Store version versions.now index.entry.merchants.now index.entry.counts.now olders.now
         cards result conn.old conn.new }
-    ensures versioned { IfErr result (λ e. (n : ℤ) → e ≢ OpenFault.WrongSchema n) }
-    ensures quiet { IsQuietWhere ((state S.Store conn.old).now.schema ≡ schema_of version)
-        (state S.Store conn.old) (state S.Store conn.new) }
+    ensures versioned { TellsNoVersion result }
+    ensures quiet { IsStill S.Store version conn.old conn.new }
 {
     let behind = read_behind(alloc, conn, version, olders, index)?;
     judge(versions, &behind)
@@ -69,9 +70,8 @@ fn judge_cards<'a, S: Alter>(
         → HoldCards index.entry.merchants.now index.entry.cards []
         → JudgesAll S.Store version versions.now index.entry.merchants.now index.entry.counts.now result
         conn.old conn.new }
-    ensures versioned { IfErr result (λ e. (n : ℤ) → e ≢ OpenFault.WrongSchema n) }
-    ensures quiet { IsQuietWhere ((state S.Store conn.old).now.schema ≡ schema_of version)
-        (state S.Store conn.old) (state S.Store conn.new) }
+    ensures versioned { TellsNoVersion result }
+    ensures quiet { IsStill S.Store version conn.old conn.new }
 {
     let WithCards { olders, index } = read::cards(alloc, conn, version, index)?;
     let sizes = judge_behind(alloc, conn, version, versions, &olders, index)?;
@@ -90,9 +90,8 @@ fn judge_first<S: Alter>(
         → (state S.Store conn.old).now.schema ≡ schema_of version
         → JudgesAll S.Store version versions.now first.now.merchants.items first.now.counts.items result
         conn.old conn.new }
-    ensures versioned { IfErr result (λ e. (n : ℤ) → e ≢ OpenFault.WrongSchema n) }
-    ensures quiet { IsQuietWhere ((state S.Store conn.old).now.schema ≡ schema_of version)
-        (state S.Store conn.old) (state S.Store conn.new) }
+    ensures versioned { TellsNoVersion result }
+    ensures quiet { IsStill S.Store version conn.old conn.new }
 {
     let index = Index::of(alloc, &first.merchants, &first.counts)?;
     judge_cards(alloc, conn, version, versions, index)
@@ -111,24 +110,17 @@ pub fn verdict<S: Alter>(
     ensures olders { HasCleanDisk (state S.Store conn.new)
         → IfOk result (λ it. IsFullIn version (state S.Store conn.old).now
         → AreOldersIn version (state S.Store conn.old).now.trees it.olders.items) }
-    ensures kept { HasCleanDisk (state S.Store conn.new)
-        → OnOk result ((state S.Store conn.old).now.schema ≡ schema_of version
-        → IsUnchanged (state S.Store conn.old) (state S.Store conn.new)) }
-    ensures damaged { HasCleanDisk (state S.Store conn.new) → IfErr result (λ e. (rule : ℕ)
-        → e ≡ OpenFault.Damaged rule → IsFullIn version (state S.Store conn.old).now
-        → IsBrokenIn version (state S.Store conn.old).now rule) }
-    ensures versioned { HasCleanDisk (state S.Store conn.new) → IfErr result (λ e. (n : ℤ)
-        → e ≡ OpenFault.WrongSchema n
-        → (state S.Store conn.old).now.schema ≡ schema_of version
-        → IsVersionIn version (state S.Store conn.old).now n) }
+    ensures kept { IsUntouched S.Store version conn.old conn.new result }
+    ensures damaged { RowsBreak S.Store conn.old conn.new result
+        (IsBrokenWhereFull version) }
+    ensures versioned { TellsOther S.Store conn.old conn.new result
+        (IsOtherIn version) }
     ensures unread { HasCleanDisk (state S.Store conn.new) → IfErr result (λ e. e ≡ OpenFault.Store
         → IsFullIn version (state S.Store conn.old).now
         → IsUnreadIn S.Store version (state S.Store conn.old).now conn.new) }
-    ensures sees { HasCleanDisk (state S.Store conn.new) → IfErr result (λ e. IsJudged e
-        → (state S.Store conn.old).now.schema ≡ schema_of version
-        → IsUnchanged (state S.Store conn.old) (state S.Store conn.new)) }
-    ensures quiet { IsQuietWhere ((state S.Store conn.old).now.schema ≡ schema_of version)
-        (state S.Store conn.old) (state S.Store conn.new) }
+    ensures sees { LeavesSeen S.Store conn.old conn.new result
+        ((state S.Store conn.old).now.schema ≡ schema_of version) }
+    ensures quiet { IsStill S.Store version conn.old conn.new }
 {
     let versions = version_rows(alloc, conn)?;
     if let Some(other) = other_in(&versions, version) {
@@ -143,22 +135,16 @@ pub fn newest_verdict<S: Alter>(alloc: Global, conn: &mut Connection<S>) -> Resu
     ensures sound { HasCleanDisk (state S.Store conn.new)
         → IfOk result
         (λ sizes. IsOurs (state S.Store conn.old).now → IsSoundOf (state S.Store conn.old).now sizes) }
-    ensures kept { HasCleanDisk (state S.Store conn.new)
-        → OnOk result ((state S.Store conn.old).now.schema ≡ newest_schema
-        → IsUnchanged (state S.Store conn.old) (state S.Store conn.new)) }
-    ensures damaged { HasCleanDisk (state S.Store conn.new)
-        → IfErr result (λ e. (rule : ℕ) → e ≡ OpenFault.Damaged rule → IsOurs (state S.Store conn.old).now
-        → IsLeastBroken (state S.Store conn.old).now rule) }
+    ensures kept { IsUntouched S.Store newest conn.old conn.new result }
+    ensures damaged { RowsBreak S.Store conn.old conn.new result
+        (IsBrokenWhereFull newest) }
     ensures versioned { HasCleanDisk (state S.Store conn.new) → IfErr result (λ e. (n : ℤ)
         → e ≡ OpenFault.WrongSchema n
         → (state S.Store conn.old).now.schema ≡ newest_schema
         → IsOtherVersion (state S.Store conn.old).now n) }
-    ensures unread { HasCleanDisk (state S.Store conn.new) → IfErr result (λ e. e ≡ OpenFault.Store
-        → IsOurs (state S.Store conn.old).now
-        → IsUnreadFile S.Store (state S.Store conn.old).now conn.new) }
-    ensures sees { HasCleanDisk (state S.Store conn.new) → IfErr result (λ e. IsJudged e
-        → (state S.Store conn.old).now.schema ≡ newest_schema
-        → IsUnchanged (state S.Store conn.old) (state S.Store conn.new)) }
+    ensures unread { TellsUnread S.Store conn.old conn.new result }
+    ensures sees { LeavesSeen S.Store conn.old conn.new result
+        ((state S.Store conn.old).now.schema ≡ newest_schema) }
     ensures quiet { IsQuiet (state S.Store conn.old) (state S.Store conn.new) }
 {
     match verdict(alloc, conn, NEWEST) {

@@ -2,9 +2,9 @@
 ghost use Rattle.std.specs.Prelude.{◌≡◌, ℤ, None, Some};
 ghost use Rattle.sqlite.specs.Held.{state};
 ghost use Rattle.sqlite.specs.State.{HasCleanDisk, IsUnchanged};
+ghost use Rattle.vault_verdict.specs.Refusals.{IsStillVersioned};
 ghost use Rattle.vault_verdict.specs.Faults.{IsJudged};
 ghost use Rattle.vault_verdict.specs.Opened.{IsNoDamage, TellsVersion};
-ghost use Rattle.vault_verdict.specs.Reading.{IsQuietWhere};
 ghost use Rattle.vault_verdict.specs.Versions.{other_version};
 ghost use Rattle.vault_schema.specs.Versioned.{HasVersion};
 
@@ -40,8 +40,7 @@ pub fn version_or<S: Alter>(
     ensures undamaged { IsNoDamage refusal → IsNoDamage result }
     ensures sees { HasCleanDisk (state S.Store conn.new) → HasVersion (state S.Store conn.old).now.schema
         → IsJudged result → IsUnchanged (state S.Store conn.old) (state S.Store conn.new) }
-    ensures quiet { IsQuietWhere (HasVersion (state S.Store conn.old).now.schema) (state S.Store conn.old)
-        (state S.Store conn.new) }
+    ensures quiet { IsStillVersioned S.Store conn.old conn.new }
 {
     if !has_version(conn.schema()) {
         return refusal;

@@ -2,9 +2,9 @@
 use Rattle.std.specs.Prelude.{◌≡◌, ◌≢◌, None, false}
 use Rattle.vault_core.specs.Name.{IsName}
 use Rattle.vault_core.specs.Scalar.{IsLife}
-use Rattle.vault_http.specs.declared.fault.ServeFault.{ServeFault}
-use Rattle.vault_http.specs.declared.fault.ServeFault.TheVariants as service
-use Rattle.vault_live.specs.Live.{Turns}
+use Rattle.vault_engine.specs.declared.stop.Stop.{Stop as ServeFault}
+use Rattle.vault_engine.specs.declared.stop.Stop.TheVariants as service
+use Rattle.vault_listen.specs.Live.{Turns}
 use Rattle.vault_words.specs.declared.commands.trial.TrialJob.{TrialJob}
 use Rattle.vault_jobs.specs.Causes.{IsCauseOf}
 use Rattle.vault_jobs.specs.Moments.{IsMomentOf}

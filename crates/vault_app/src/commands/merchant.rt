@@ -9,10 +9,10 @@ ghost use Rattle.vault_app.specs.Values.{AreValues};
 use crate::ending::Ending;
 use vault_core::command::Command;
 use vault_core::name::MerchantId;
-use vault_core::refusal::BAD_NAME;
 use vault_jobs::clock::moment;
 use vault_jobs::task::Task;
-use vault_live::time::Timekeeper;
+use vault_listen::time::Timekeeper;
+use vault_refusal::refusal::Refusal;
 use vault_words::commands::merchant::MerchantJob;
 
 /// A merchant is set. Refused by 4 where the name is none, and when it is done by 18 where there are as many
@@ -26,7 +26,7 @@ pub(crate) fn task<K: Timekeeper>(time: &K, job: &MerchantJob<'_>) -> Result<Tas
     ensures proper { IfOk result AreValues }
 {
     let Ok(merchant) = MerchantId::read(job.name.as_bytes()) else {
-        return Err(Ending::Refused(BAD_NAME));
+        return Err(Ending::Refused(Refusal::BadName.number()));
     };
     let now = match moment(time, job.now) {
         Ok(now) => now,

@@ -11,12 +11,11 @@ use crate::ending::Ending;
 use crate::typed::fixed_moment;
 use vault_core::command::Command;
 use vault_core::name::{Caller, MerchantId};
-use vault_core::refusal::BAD_NAME;
 use vault_core::right::Right;
 use vault_jobs::clock::moment;
 use vault_jobs::task::Task;
-use vault_live::time::Timekeeper;
-use vault_rights::fault::UNKNOWN_RIGHT;
+use vault_listen::time::Timekeeper;
+use vault_refusal::refusal::Refusal;
 use vault_words::commands::rights::{GrantJob, RightJob};
 
 /// Whose right at which merchant.
@@ -35,13 +34,13 @@ fn read(job: &RightJob<'_>) -> Result<Entitlement, u8>
         × (job.entry.now.right.now ≡ right_word asked.right)) }
 {
     let Ok(caller) = Caller::read(job.caller.as_bytes()) else {
-        return Err(BAD_NAME);
+        return Err(Refusal::BadName.number());
     };
     let Ok(merchant) = MerchantId::read(job.merchant.as_bytes()) else {
-        return Err(BAD_NAME);
+        return Err(Refusal::BadName.number());
     };
     let Some(right) = Right::read(job.right.as_bytes()) else {
-        return Err(UNKNOWN_RIGHT);
+        return Err(Refusal::UnknownRight.number());
     };
     Ok(Entitlement {
         caller,

@@ -16,7 +16,7 @@ use vault_jobs::clock::moment;
 use vault_jobs::show::Shown;
 use vault_jobs::stop::{Stop, Unread};
 use vault_jobs::task::Task;
-use vault_live::time::Timekeeper;
+use vault_listen::time::Timekeeper;
 use vault_rights::fault::RightsFault;
 use vault_rights::read::read_rights;
 use vault_words::commands::rights_file::RightsFileJob;
@@ -49,7 +49,7 @@ pub(crate) fn read<P: Paths>(
     match read_rights(rt.alloc(), &text) {
         Ok(rows) => Ok(rows),
         Err(RightsFault::Memory) => Err(Ending::Stopped(Stop::Rights(Unread::Memory))),
-        Err(fault) => Err(Ending::Refused(fault.number())),
+        Err(fault) => Err(Ending::Refused(fault.refusal().number())),
     }
 }
 

@@ -12,7 +12,7 @@ use crate::ending::Ending;
 use vault_file::paths::Paths;
 use vault_jobs::clock::moment;
 use vault_jobs::task::{Listed, Task};
-use vault_live::time::Timekeeper;
+use vault_listen::time::Timekeeper;
 use vault_words::commands::serve::ServeJob;
 
 /// More connections than any service lives to see: it goes on until it is ended.

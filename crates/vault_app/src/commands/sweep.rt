@@ -9,7 +9,7 @@ use crate::asker::asker_of;
 use crate::ending::Ending;
 use vault_jobs::clock::{Giver, moment};
 use vault_jobs::task::Task;
-use vault_live::time::Timekeeper;
+use vault_listen::time::Timekeeper;
 use vault_words::commands::sweep::SweepJob;
 
 /// The card numbers of a merchant's dead tokens are purged. Refused by 4 where a name is none, and when it is

@@ -11,11 +11,11 @@ ghost use Rattle.vault_app.specs.Commands.Trial.{IsTrialOf, TrialEnds};
 use crate::ending::Ending;
 use std::io::{Read, Write};
 use vault_core::name::{Caller, MerchantId};
-use vault_core::refusal::BAD_NAME;
 use vault_jobs::clock::moment;
 use vault_jobs::stop::Stop;
 use vault_jobs::trial::{Trial, serve_trial};
-use vault_live::time::Timekeeper;
+use vault_listen::time::Timekeeper;
+use vault_refusal::refusal::Refusal;
 use vault_wire::watched::Watched;
 use vault_words::commands::trial::TrialJob;
 
@@ -27,10 +27,10 @@ pub(crate) fn plan<K: Timekeeper>(time: &K, job: &TrialJob<'_>) -> Result<Trial,
     ensures life { IfOk result (λ trial. IsLife trial.life) }
 {
     let Ok(caller) = Caller::read(job.caller.as_bytes()) else {
-        return Err(Ending::Refused(BAD_NAME));
+        return Err(Ending::Refused(Refusal::BadName.number()));
     };
     let Ok(merchant) = MerchantId::read(job.merchant.as_bytes()) else {
-        return Err(Ending::Refused(BAD_NAME));
+        return Err(Ending::Refused(Refusal::BadName.number()));
     };
     let made = match moment(time, job.now) {
         Ok(made) => made,

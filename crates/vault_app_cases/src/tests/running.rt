@@ -7,7 +7,7 @@ use vault_app::run::run;
 use vault_file::host::HostPaths;
 use vault_listen::network::Loopback;
 use vault_listen::peer::Limits;
-use vault_live::time::ClockTime;
+use vault_listen::time::ClockTime;
 use vault_wire::watched::Watched;
 
 /// The answer to the worked message.

@@ -2,7 +2,7 @@
 use super::running::{ASKED, FIRST_TOKEN, HAS_LOG, Ran, Step, words_of};
 use vault_listen::network::Loopback;
 use vault_listen::peer::Limits;
-use vault_live::time::ClockTime;
+use vault_listen::time::ClockTime;
 use vault_promise::kept::KeptFiles;
 use vault_promise::twice::twice;
 use vault_wire::watched::Watched;

@@ -1,5 +1,6 @@
 //! The parts that the answers to several commands have.
 ghost use Rattle.std.specs.Prelude.{◌≡◌};
+ghost use Rattle.vault_refusal.specs.Refusal.{number_of};
 ghost use Rattle.vault_core.specs.Changes.{no_changes, moved_lives};
 
 use crate::changes::Changes;
@@ -7,12 +8,13 @@ use crate::moment::Moment;
 use crate::name::MerchantId;
 use crate::reply::Reply;
 use crate::row::{Lives, MerchantRow};
+use vault_refusal::refusal::Refusal;
 
 /// A refusal, which changes nothing.
-pub fn refused(number: u8) -> (Reply, Changes)
-    ensures { result ≡ (Reply.Refused number, no_changes) }
+pub fn refused(refusal: Refusal) -> (Reply, Changes)
+    ensures { result ≡ (Reply.Refused (number_of refusal), no_changes) }
 {
-    (Reply::Refused(number), Changes::none())
+    (Reply::Refused(refusal.number()), Changes::none())
 }
 
 /// The merchant's moment moves.

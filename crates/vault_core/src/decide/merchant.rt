@@ -9,11 +9,11 @@ use crate::decide::answer::{moved, refused};
 use crate::limit::MOST_MERCHANTS;
 use crate::moment::Moment;
 use crate::name::{Caller, MerchantId};
-use crate::refusal::{NO_MERCHANT, TOO_MANY_MERCHANTS};
 use crate::reply::Reply;
 use crate::right::Right;
 use crate::row::{GrantRow, Lives};
 use crate::window::Window;
+use vault_refusal::refusal::Refusal;
 
 /// A merchant is set to these, whose moment is the one handed in.
 pub fn set_merchant(w: &Window, merchant: MerchantId, handed: Lives) -> (Reply, Changes)
@@ -26,7 +26,7 @@ pub fn set_merchant(w: &Window, merchant: MerchantId, handed: Lives) -> (Reply, 
         Some(row) => row.moment.later(handed.moment),
         None => {
             if w.merchants >= MOST_MERCHANTS {
-                return refused(TOO_MANY_MERCHANTS);
+                return refused(Refusal::TooManyMerchants);
             }
             handed.moment
         }
@@ -54,7 +54,7 @@ pub fn grant(
     ensures refusals { RefusesQuietly (Command.Grant caller merchant right until now) result.0 result.1 }
 {
     let Some(row) = w.merchant else {
-        return refused(NO_MERCHANT);
+        return refused(Refusal::NoMerchant);
     };
     (
         Reply::Done,
@@ -78,7 +78,7 @@ pub fn withdraw(
     ensures refusals { RefusesQuietly (Command.Withdraw caller merchant right now) result.0 result.1 }
 {
     let Some(row) = w.merchant else {
-        return refused(NO_MERCHANT);
+        return refused(Refusal::NoMerchant);
     };
     (
         Reply::Done,

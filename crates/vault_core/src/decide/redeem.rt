@@ -1,5 +1,6 @@
 //! Tokens that are brought back to their card numbers.
 ghost use Rattle.std.specs.Prelude.{◌≡◌, true};
+ghost use Rattle.vault_refusal.specs.Refusal.{number_of};
 ghost use Rattle.vault_core.specs.Changes.{Decides, RefusesBy, RefusesQuietly, YieldsAt};
 ghost use Rattle.vault_core.specs.Named.{command_by, denies};
 ghost use Rattle.vault_core.specs.Redeem.{denial, gift, redemption};
@@ -11,11 +12,11 @@ use crate::decide::answer::{moved, refused};
 use crate::limit::MOST_COUNT;
 use crate::moment::Moment;
 use crate::name::MerchantId;
-use crate::refusal::{EXPIRED, FULL, NO_MERCHANT, NO_RIGHT, NO_TOKEN, PURGED, REVOKED};
 use crate::reply::{Reply, State};
 use crate::row::{Entry, EntryState, MerchantRow};
 use crate::window::Window;
 use vault_pan::pan::Pan;
+use vault_refusal::refusal::Refusal;
 
 /// A card number is asked for.
 pub fn detokenize(w: &Window, asked: &TokenCommand) -> (Reply, Changes)
@@ -23,13 +24,13 @@ pub fn detokenize(w: &Window, asked: &TokenCommand) -> (Reply, Changes)
     ensures refusals { RefusesQuietly (command_by Command.Detokenize asked.now) result.0 result.1 }
 {
     let Some(row) = w.merchant else {
-        return refused(NO_MERCHANT);
+        return refused(Refusal::NoMerchant);
     };
     if !w.right {
-        return denied(asked.merchant, &row, asked.moment, NO_RIGHT);
+        return denied(asked.merchant, &row, asked.moment, Refusal::NoRight);
     }
     match w.named {
-        None => denied(asked.merchant, &row, asked.moment, NO_TOKEN),
+        None => denied(asked.merchant, &row, asked.moment, Refusal::NoToken),
         Some(entry) => redeemed(asked.merchant, &row, asked.moment, &entry),
     }
 }
@@ -42,12 +43,12 @@ fn redeemed(merchant: MerchantId, row: &MerchantRow, now: Moment, entry: &Entry)
 {
     let (number, state) = match entry.state(row.moment.later(now)) {
         EntryState::Kept { number, state } => (number, state),
-        EntryState::Purged => return denied(merchant, row, now, PURGED),
+        EntryState::Purged => return denied(merchant, row, now, Refusal::Purged),
     };
     match state {
         State::Live => given(merchant, row, now, number),
-        State::Revoked => denied(merchant, row, now, REVOKED),
-        State::Expired => denied(merchant, row, now, EXPIRED),
+        State::Revoked => denied(merchant, row, now, Refusal::Revoked),
+        State::Expired => denied(merchant, row, now, Refusal::Expired),
     }
 }
 
@@ -57,7 +58,7 @@ fn given(merchant: MerchantId, row: &MerchantRow, now: Moment, number: Pan) -> (
     ensures denials { RefusesBy denies merchant result.0 result.1 }
 {
     if row.given == MOST_COUNT {
-        return refused(FULL);
+        return refused(Refusal::Full);
     }
     let changes = Changes {
         lives: Some(moved(merchant, row, now)),
@@ -68,18 +69,19 @@ fn given(merchant: MerchantId, row: &MerchantRow, now: Moment, number: Pan) -> (
 }
 
 /// A number is denied and that is counted, or refused where no more can be counted.
-fn denied(merchant: MerchantId, row: &MerchantRow, now: Moment, reason: u8) -> (Reply, Changes)
-    requires { denies reason ≡ true }
-    ensures yields { YieldsAt merchant row.now (λ V known. denial V merchant now known reason) result }
+fn denied(merchant: MerchantId, row: &MerchantRow, now: Moment, reason: Refusal) -> (Reply, Changes)
+    requires { denies (number_of reason) ≡ true }
+    ensures yields { YieldsAt merchant row.now
+        (λ V known. denial V merchant now known (number_of reason)) result }
     ensures denials { RefusesBy denies merchant result.0 result.1 }
 {
     if row.denied == MOST_COUNT {
-        return refused(FULL);
+        return refused(Refusal::Full);
     }
     let changes = Changes {
         lives: Some(moved(merchant, row, now)),
         count: Some(Count::Denied),
         ..Changes::none()
     };
-    (Reply::Refused(reason), changes)
+    (Reply::Refused(reason.number()), changes)
 }

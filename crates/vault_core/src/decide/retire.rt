@@ -5,10 +5,10 @@ ghost use Rattle.vault_core.specs.Named.{command_by};
 use crate::changes::Changes;
 use crate::command::{Command, TokenCommand};
 use crate::decide::answer::{moved, refused};
-use crate::refusal::{NO_MERCHANT, NO_RIGHT, NO_TOKEN, PURGED, STILL_LIVE};
 use crate::reply::{Reply, State};
 use crate::row::{Entry, EntryState};
 use crate::window::Window;
+use vault_refusal::refusal::Refusal;
 
 /// A token's life is ended.
 pub fn revoke(w: &Window, asked: &TokenCommand) -> (Reply, Changes)
@@ -16,17 +16,17 @@ pub fn revoke(w: &Window, asked: &TokenCommand) -> (Reply, Changes)
     ensures refusals { RefusesQuietly (command_by Command.Revoke asked.now) result.0 result.1 }
 {
     let Some(row) = w.merchant else {
-        return refused(NO_MERCHANT);
+        return refused(Refusal::NoMerchant);
     };
     if !w.right {
-        return refused(NO_RIGHT);
+        return refused(Refusal::NoRight);
     }
     let Some(entry) = w.named else {
-        return refused(NO_TOKEN);
+        return refused(Refusal::NoToken);
     };
     let at = row.moment.later(asked.moment);
     if let EntryState::Purged = entry.state(at) {
-        return refused(PURGED);
+        return refused(Refusal::Purged);
     }
     let retired = Entry {
         revoked: Some(entry.revoked.unwrap_or(at)),
@@ -46,13 +46,13 @@ pub fn purge(w: &Window, asked: &TokenCommand) -> (Reply, Changes)
     ensures refusals { RefusesQuietly (command_by Command.Purge asked.now) result.0 result.1 }
 {
     let Some(row) = w.merchant else {
-        return refused(NO_MERCHANT);
+        return refused(Refusal::NoMerchant);
     };
     if !w.right {
-        return refused(NO_RIGHT);
+        return refused(Refusal::NoRight);
     }
     let Some(entry) = w.named else {
-        return refused(NO_TOKEN);
+        return refused(Refusal::NoToken);
     };
     let changes = Changes {
         lives: Some(moved(asked.merchant, &row, asked.moment)),
@@ -63,7 +63,7 @@ pub fn purge(w: &Window, asked: &TokenCommand) -> (Reply, Changes)
         EntryState::Purged => return (Reply::Done, changes),
     };
     if let State::Live = state {
-        return refused(STILL_LIVE);
+        return refused(Refusal::StillLive);
     }
     let purged = Entry {
         number: None,

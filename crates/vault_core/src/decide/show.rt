@@ -8,11 +8,11 @@ use crate::command::{Command, TokenCommand};
 use crate::decide::answer::refused;
 use crate::moment::Moment;
 use crate::name::{Caller, MerchantId};
-use crate::refusal::{NO_MERCHANT, NO_RIGHT, NO_TOKEN, PURGED};
 use crate::reply::Reply;
 use crate::row::EntryState;
 use crate::window::Window;
 use vault_pan::mask::mask;
+use vault_refusal::refusal::Refusal;
 
 /// A token is asked about.
 pub fn view(w: &Window, asked: &TokenCommand) -> (Reply, Changes)
@@ -21,17 +21,17 @@ pub fn view(w: &Window, asked: &TokenCommand) -> (Reply, Changes)
     ensures silent { result.1 ≡ no_changes }
 {
     let Some(row) = w.merchant else {
-        return refused(NO_MERCHANT);
+        return refused(Refusal::NoMerchant);
     };
     if !w.right {
-        return refused(NO_RIGHT);
+        return refused(Refusal::NoRight);
     }
     let Some(entry) = w.named else {
-        return refused(NO_TOKEN);
+        return refused(Refusal::NoToken);
     };
     let (number, state) = match entry.state(row.moment.later(asked.moment)) {
         EntryState::Kept { number, state } => (number, state),
-        EntryState::Purged => return refused(PURGED),
+        EntryState::Purged => return refused(Refusal::Purged),
     };
     let reply = Reply::Shown {
         masked: mask(&number, row.lead),
@@ -50,10 +50,10 @@ pub fn audit(w: &Window, caller: Caller, merchant: MerchantId, now: Moment) -> (
     ensures silent { result.1 ≡ no_changes }
 {
     let Some(row) = w.merchant else {
-        return refused(NO_MERCHANT);
+        return refused(Refusal::NoMerchant);
     };
     if !w.right {
-        return refused(NO_RIGHT);
+        return refused(Refusal::NoRight);
     }
     let counts = Reply::Counts {
         made: row.made,

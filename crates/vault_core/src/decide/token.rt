@@ -11,12 +11,12 @@ use crate::changes::{Changes, Count};
 use crate::command::TokenRequest;
 use crate::decide::answer::{moved, refused};
 use crate::limit::MOST_TOKENS;
-use crate::refusal::{FULL, NO_CANDIDATE, NO_MERCHANT, NO_RIGHT, NUMBER_REUSED, WRONG_USE};
 use crate::reply::Reply;
 use crate::row::{Entry, MerchantRow, Record};
 use crate::usage::Use;
 use crate::window::Window;
 use vault_pan::token::Token;
+use vault_refusal::refusal::Refusal;
 
 /// A token is asked for.
 pub fn tokenize(w: &Window, asked: &TokenRequest) -> (Reply, Changes)
@@ -26,7 +26,7 @@ pub fn tokenize(w: &Window, asked: &TokenRequest) -> (Reply, Changes)
 {
     if let Some((earlier, entry)) = w.recorded {
         if !is_repeat(asked, &earlier, &entry) {
-            return refused(NUMBER_REUSED);
+            return refused(Refusal::NumberReused);
         }
         let reply = Reply::Token {
             token: earlier.token,
@@ -35,7 +35,7 @@ pub fn tokenize(w: &Window, asked: &TokenRequest) -> (Reply, Changes)
         return (reply, Changes::none());
     }
     let Some(row) = w.merchant else {
-        return refused(NO_MERCHANT);
+        return refused(Refusal::NoMerchant);
     };
     new_request(w, asked, &row)
 }
@@ -59,20 +59,20 @@ fn new_request(w: &Window, asked: &TokenRequest, row: &MerchantRow) -> (Reply, C
     ensures refusals { RefusesQuietly (command_of asked.now) result.0 result.1 }
 {
     if !w.right {
-        return refused(NO_RIGHT);
+        return refused(Refusal::NoRight);
     }
     let life = life_of(row, asked.usage);
     if life == 0 {
-        return refused(WRONG_USE);
+        return refused(Refusal::WrongUse);
     }
     if let Some((token, entry)) = w.current {
         return again(asked, row, token, &entry);
     }
     if row.made == MOST_TOKENS {
-        return refused(FULL);
+        return refused(Refusal::Full);
     }
     let Some(token) = w.candidate else {
-        return refused(NO_CANDIDATE);
+        return refused(Refusal::NoCandidate);
     };
     let birth = row.moment.later(asked.moment);
     let entry = Entry {

@@ -16,26 +16,26 @@ name |till 1| = BadName BadName";
 pub const REQUESTS: &str = "request |1| = 1
 request |10| = 10
 request |9223372036854775807| = 9223372036854775807
-request || = BadRequestNumber
-request |0| = BadRequestNumber
-request |01| = BadRequestNumber
-request |+1| = BadRequestNumber
-request |1a| = BadRequestNumber
-request | 1| = BadRequestNumber
-request |9223372036854775808| = BadRequestNumber
-request |9999999999999999999| = BadRequestNumber
-request |10000000000000000000| = BadRequestNumber";
+request || = refused 5
+request |0| = refused 5
+request |01| = refused 5
+request |+1| = refused 5
+request |1a| = refused 5
+request | 1| = refused 5
+request |9223372036854775808| = refused 5
+request |9999999999999999999| = refused 5
+request |10000000000000000000| = refused 5";
 
 /// The last moment ends the year 9999.
 pub const MOMENTS: &str = "moment 253402300799 = 253402300799
-moment 253402300800 = BadMoment
+moment 253402300800 = refused 6
 later 0 253402300799 = 253402300799
 later 253402300799 0 = 253402300799";
 
 /// Uses and rights have their words and numbers.
 pub const WORDS: &str = "use |single| = Single single 1
 use |multi| = Multi multi 2
-use |Single| = BadUse
+use |Single| = refused 19
 right |tokenize| = Tokenize 1
 right |detokenize| = Detokenize 2
 right |view| = View 3

@@ -39,7 +39,7 @@ pub enum Step<'a> {
 
 /// A refusal in words.
 fn refusal(alloc: Global, fault: OpenFault) -> String {
-    let number = fault.number();
+    let number = fault.refusal().number();
     let told = match fault {
         OpenFault::WrongSchema(version) => format!(in alloc; "{number} {version}"),
         OpenFault::Damaged(rule) => format!(in alloc; "{number} {rule}"),

@@ -7,7 +7,7 @@ use vault_jobs::clock::Giver;
 use vault_jobs::task::{Outcome, Task, do_task};
 use vault_listen::network::Loopback;
 use vault_listen::peer::Limits;
-use vault_live::time::ClockTime;
+use vault_listen::time::ClockTime;
 use vault_script::case::wrong;
 use vault_store::memory::MemTables;
 use vault_store::vault::Vault;

@@ -1,112 +1,77 @@
-//! Clocks of the tests' own.
+//! A clock of the tests' own.
 use std::cell::Cell;
 use std::io;
 use std::io::{Error, ErrorKind};
 use std::rt::Clock;
 use std::time::Duration;
 
-/// A clock that stands at a number of seconds, and can't be read so many times before. No time passes by it.
-#[derive(Drop)]
-pub struct StandingClock {
-    seconds: u64,
-    unread: Cell<u64>,
-}
-
-impl StandingClock {
-    /// A clock that can be read at once.
-    pub fn at(seconds: u64) -> StandingClock {
-        StandingClock {
-            seconds,
-            unread: Cell::new(0),
-        }
-    }
-
-    /// A clock that can't be read so many times.
-    pub fn unread(seconds: u64, times: u64) -> StandingClock {
-        StandingClock {
-            seconds,
-            unread: Cell::new(times),
-        }
-    }
-}
-
-impl Clock for StandingClock {
-    fn monotonic(&self) -> io::Result<Duration> {
-        Ok(Duration::from_secs(self.seconds))
-    }
-
-    fn since_1970(&self) -> io::Result<Duration> {
-        let unread = self.unread.get();
-        if unread > 0 {
-            self.unread.set(unread - 1);
-            return Err(Error::from(ErrorKind::Other));
-        }
-        Ok(Duration::from_secs(self.seconds))
-    }
-}
-
-/// A clock that stands at 1000, and by which so many seconds pass each time that it is asked how many did.
-#[derive(Drop)]
-pub struct StepClock {
-    step: u64,
-    passed: Cell<u64>,
-}
-
-impl StepClock {
-    /// A clock by which so many seconds pass at a time.
-    pub fn of(step: u64) -> StepClock {
-        StepClock {
-            step,
-            passed: Cell::new(0),
-        }
-    }
-}
-
-impl Clock for StepClock {
-    fn monotonic(&self) -> io::Result<Duration> {
-        self.passed.set(self.passed.get().saturating_add(self.step));
-        Ok(Duration::from_secs(self.passed.get()))
-    }
-
-    fn since_1970(&self) -> io::Result<Duration> {
-        Ok(Duration::from_secs(1000))
-    }
-}
-
 /// A clock that somebody sets: it tells these seconds one after the other, and the last from then on, each
-/// beside how many have passed by a clock that nobody sets. Where there is none it can't be read.
+/// beside how many have passed by a clock that nobody sets. Where it tells none it stands, and where it has
+/// no second it can't be read. All tests are by this clock, so that a service is compiled for one.
 #[derive(Drop)]
-pub struct SetClock<'a> {
+pub struct TestClock<'a> {
     told: &'a [(Option<u64>, u64)],
+    stands: Option<u64>,
+    step: u64,
     next: Cell<usize>,
     passed: Cell<u64>,
+    stepped: Cell<u64>,
 }
 
-impl<'a> SetClock<'a> {
-    /// A clock that tells these.
-    pub fn telling(told: &'a [(Option<u64>, u64)]) -> SetClock<'a> {
-        SetClock {
+impl<'a> TestClock<'a> {
+    fn new(told: &'a [(Option<u64>, u64)], stands: Option<u64>, step: u64) -> TestClock<'a> {
+        TestClock {
             told,
+            stands,
+            step,
             next: Cell::new(0),
             passed: Cell::new(0),
+            stepped: Cell::new(0),
         }
+    }
+
+    /// A clock that tells these.
+    pub fn telling(told: &'a [(Option<u64>, u64)]) -> TestClock<'a> {
+        TestClock::new(told, None, 0)
+    }
+
+    /// A clock that stands at a number of seconds, and by which no time passes.
+    pub fn at(seconds: u64) -> TestClock<'a> {
+        TestClock::new(&[], Some(seconds), 0)
+    }
+
+    /// A clock that can't be read.
+    pub fn unread() -> TestClock<'a> {
+        TestClock::new(&[], None, 0)
+    }
+
+    /// A clock that stands at 1000, and by which so many seconds pass each time that it is asked how many
+    /// did.
+    pub fn stepping(step: u64) -> TestClock<'a> {
+        TestClock::new(&[], Some(1000), step)
     }
 }
 
-impl<'a> Clock for SetClock<'a> {
+impl<'a> Clock for TestClock<'a> {
     fn monotonic(&self) -> io::Result<Duration> {
-        Ok(Duration::from_secs(self.passed.get()))
+        self.stepped
+            .set(self.stepped.get().saturating_add(self.step));
+        let passed = self.passed.get().saturating_add(self.stepped.get());
+        Ok(Duration::from_secs(passed))
     }
 
     fn since_1970(&self) -> io::Result<Duration> {
         let next = self.next.get();
-        let Some((second, passed)) = self.told.get(next).or(self.told.last()) else {
-            return Err(Error::from(ErrorKind::Other));
+        let second = match self.told.get(next).or(self.told.last()) {
+            Some((second, passed)) => {
+                self.next.set(next.saturating_add(1));
+                self.passed.set(*passed);
+                *second
+            }
+            None => self.stands,
         };
-        self.next.set(next.saturating_add(1));
-        self.passed.set(*passed);
         match second {
-            Some(second) => Ok(Duration::from_secs(*second)),
+            Some(second) => Ok(Duration::from_secs(second)),
             None => Err(Error::from(ErrorKind::Other)),
         }
     }

@@ -1,12 +1,12 @@
 //! A source over clocks and generators of the tests' own.
-use super::clocks::{SetClock, StandingClock};
+use super::clocks::TestClock;
 use rand::SeedableRng;
 use rand::rngs::StdRng;
 use std::alloc::Global;
 use vault_core::moment::Moment;
 use vault_core::source::Source;
-use vault_live::live::LiveSource;
-use vault_live::time::{ClockTime, Timekeeper};
+use vault_listen::live::LiveSource;
+use vault_listen::time::{ClockTime, Timekeeper};
 use vault_pan::draw::{Digits, candidate};
 use vault_pan::pan::Pan;
 use vault_pan::token::Token;
@@ -29,14 +29,14 @@ fn gives_two<S: Source>(source: &mut S) -> bool {
 
 #[test]
 fn it_gives_the_clocks_second_so_many_times(rt: HostRuntime) {
-    let clock = StandingClock::at(1000);
+    let clock = TestClock::at(1000);
     let time = ClockTime::new(&clock);
     let mut source = LiveSource::new(rt.alloc(), &time, StdRng::seed_from_u64(7), 2);
     assert!(rt; gives_two(&mut source));
 }
 
 /// Whether a source over this clock gives no pair and says so.
-fn gives_none(alloc: Global, clock: &StandingClock) -> bool {
+fn gives_none(alloc: Global, clock: &TestClock<'_>) -> bool {
     let time = ClockTime::new(clock);
     let mut source = LiveSource::new(alloc, &time, StdRng::seed_from_u64(7), 2);
     next_of(&mut source).is_none() && source.refused()
@@ -44,15 +44,15 @@ fn gives_none(alloc: Global, clock: &StandingClock) -> bool {
 
 #[test]
 fn a_clock_outside_the_moments_gives_no_pair(rt: HostRuntime) {
-    assert!(rt; gives_none(rt.alloc(), &StandingClock::unread(1000, 9)));
-    assert!(rt; gives_none(rt.alloc(), &StandingClock::at(253402300800)));
-    assert!(rt; !gives_none(rt.alloc(), &StandingClock::at(253402300799)));
+    assert!(rt; gives_none(rt.alloc(), &TestClock::unread()));
+    assert!(rt; gives_none(rt.alloc(), &TestClock::at(253402300800)));
+    assert!(rt; !gives_none(rt.alloc(), &TestClock::at(253402300799)));
 }
 
 /// The second pair of a source with this moment and with digits that are all this one, where there are some.
 fn given(
     alloc: Global,
-    clock: &StandingClock,
+    clock: &TestClock<'_>,
     seconds: Option<u64>,
     digit: Option<u8>,
 ) -> Option<(u64, Option<Token>)> {
@@ -68,8 +68,8 @@ fn given(
 /// Whether what is fixed stands in the second pair, and what isn't is the clock's and the generator's.
 fn is_fixed(alloc: Global) -> bool {
     let token = Token::read(b"0000000000001111").ok();
-    let clock = StandingClock::at(1000);
-    let unread = StandingClock::unread(1000, 9);
+    let clock = TestClock::at(1000);
+    let unread = TestClock::unread();
     given(alloc, &clock, Some(7), Some(0)) == Some((7, token))
         && given(alloc, &clock, None, Some(0)) == Some((1000, token))
         && given(alloc, &unread, Some(7), None).is_some_and(|pair| pair.0 == 7 && pair.1 != token)
@@ -94,7 +94,7 @@ const BEYOND: [&[(Option<u64>, u64)]; 2] = [
 
 /// What is told by a clock that tells these: a moment, whether it has jumped, and a moment again.
 fn asked(told: &[(Option<u64>, u64)]) -> (Option<u64>, bool, Option<u64>) {
-    let clock = SetClock::telling(told);
+    let clock = TestClock::telling(told);
     let time = ClockTime::new(&clock);
     let first = time.moment(0).map(|moment| moment.seconds());
     let jumped = time.has_jumped();

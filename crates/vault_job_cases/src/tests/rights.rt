@@ -6,7 +6,7 @@ use vault_core::right::Right;
 use vault_jobs::task::{Outcome, Task, do_task};
 use vault_listen::network::Loopback;
 use vault_listen::peer::Limits;
-use vault_live::time::ClockTime;
+use vault_listen::time::ClockTime;
 use vault_rights::fault::RightsFault;
 use vault_rights::read::read_rights;
 use vault_script::case::wrong;
@@ -168,7 +168,7 @@ fn nothing_is_named(rt: HostRuntime) {
 fn is_refused(alloc: Global, text: &[u8], number: u8) -> bool {
     match read_rights(alloc, text) {
         Ok(_) => false,
-        Err(fault) => fault.number() == number,
+        Err(fault) => fault.refusal().number() == number,
     }
 }
 
@@ -228,6 +228,16 @@ fn first_fault_of_the_items_is_answered(rt: HostRuntime) {
 /// Bytes that are no UTF-8 are no document.
 #[test]
 fn text_is_utf8(rt: HostRuntime) {
-    assert!(rt; is_refused(rt.alloc(), b"# \xFF\n", RightsFault::NotToml.number()));
-    assert!(rt; RightsFault::NotToml.number() == 70 && RightsFault::Memory.number() == 74);
+    assert!(rt;
+        is_refused(
+            rt.alloc(),
+            b"# \xFF\n",
+            RightsFault::NotToml.refusal().number()
+        )
+    );
+    let numbers = (
+        RightsFault::NotToml.refusal().number(),
+        RightsFault::Memory.refusal().number(),
+    );
+    assert!(rt; numbers == (70, 74));
 }

@@ -3,21 +3,20 @@ mod ends;
 mod fakes;
 mod peers;
 
-use super::clocks::StandingClock;
-use fakes::Lent;
+use super::clocks::TestClock;
+use fakes::{Lent, TestListener};
 use rand::SeedableRng;
 use rand::rngs::StdRng;
 use std::alloc::Global;
 use std::io;
 use std::io::{Write, read_to_string};
-use std::net::{Net, OpenListener, Shutdown, TcpListener, TcpStream};
-use std::os::fd::AsRawFd;
+use std::net::{Net, Shutdown, TcpListener, TcpStream};
 use std::time::Duration;
 use vault_listen::fault::ListenFault;
 use vault_listen::peer::{LONGEST, Limits, PATIENCE};
 use vault_listen::service::serve_on;
 use vault_listen::tcp::TcpPeers;
-use vault_live::time::ClockTime;
+use vault_listen::time::ClockTime;
 use vault_script::case::wrong;
 use vault_store::memory::MemTables;
 use vault_store::tables::Tables;
@@ -82,22 +81,35 @@ fn is_told(alloc: Global, peer: TcpStream, wanted: &str) -> bool {
     }
 }
 
-/// Serves so many connections by a clock, where a message or an answer may take 200 milliseconds.
-fn serve_by<L: OpenListener<Stream = TcpStream> + AsRawFd + Drop, T: Tables>(
+/// Serves so many connections by a clock, within these limits. It has no clause, so that no caller's proof
+/// carries those of a service.
+fn serve_within<T: Tables>(
     alloc: Global,
-    listener: L,
+    listener: &TestListener<'_>,
     connections: u64,
-    clock: &StandingClock,
+    clock: &TestClock<'_>,
+    limits: Limits,
     vault: &mut Vault<T>,
 ) -> Result<(), ListenFault> {
     let mut generator = StdRng::seed_from_u64(7);
+    let time = ClockTime::new(clock);
+    let mut peers = TcpPeers::new(alloc, Lent::new(listener), clock, limits);
+    serve_on(alloc, &time, &mut generator, &mut peers, connections, vault)
+}
+
+/// Serves so many connections by a clock, where a message or an answer may take 200 milliseconds.
+fn serve_by<T: Tables>(
+    alloc: Global,
+    listener: &TestListener<'_>,
+    connections: u64,
+    clock: &TestClock<'_>,
+    vault: &mut Vault<T>,
+) -> Result<(), ListenFault> {
     let limits = Limits {
         turn: Duration::from_millis(200),
         connection: Duration::from_secs(60),
     };
-    let time = ClockTime::new(clock);
-    let mut peers = TcpPeers::new(alloc, listener, clock, limits);
-    serve_on(alloc, &time, &mut generator, &mut peers, connections, vault)
+    serve_within(alloc, listener, connections, clock, limits, vault)
 }
 
 /// Whether so many connections of the shop are served to their end at the moment 1000.
@@ -105,9 +117,9 @@ fn is_served(alloc: Global, listener: &TcpListener, connections: u64) -> bool {
     let mut vault = shop(alloc);
     serve_by(
         alloc,
-        Lent::new(listener),
+        &TestListener::new(listener),
         connections,
-        &StandingClock::at(1000),
+        &TestClock::at(1000),
         &mut vault,
     ) == Ok(())
 }
@@ -119,20 +131,13 @@ fn is_answered<H: Net<Listener = TcpListener, Stream = TcpStream> + AllocGlobal>
     let listener = listen(rt)?;
     let asked = peer(rt, &listener, ASKED.as_bytes())?;
     let mut vault = shop(rt.alloc());
-    let mut generator = StdRng::seed_from_u64(7);
-    let clock = StandingClock::at(1000);
-    let mut peers = TcpPeers::new(
+    let (lent, clock) = (TestListener::new(&listener), TestClock::at(1000));
+    let ended = serve_within(
         rt.alloc(),
-        Lent::new(&listener),
+        &lent,
+        1,
         &clock,
         Limits::of_service(),
-    );
-    let ended = serve_on(
-        rt.alloc(),
-        &ClockTime::new(&clock),
-        &mut generator,
-        &mut peers,
-        1,
         &mut vault,
     );
     let are_limits = PATIENCE == 5 && LONGEST == 60;
@@ -178,9 +183,9 @@ fn draw_their_own<H: Net<Listener = TcpListener, Stream = TcpStream> + AllocGlob
     let mut vault = shop(rt.alloc());
     let ended = serve_by(
         rt.alloc(),
-        Lent::new(&listener),
+        &TestListener::new(&listener),
         2,
-        &StandingClock::at(2000),
+        &TestClock::at(2000),
         &mut vault,
     );
     let first = read_to_string(rt.alloc(), first)?;

@@ -6,8 +6,8 @@ use vault_core::moment::Moment;
 use vault_core::name::{Caller, MerchantId};
 use vault_jobs::pipe::pipe;
 use vault_jobs::trial::{Trial, trial_vault};
-use vault_live::live::LiveSource;
-use vault_live::time::ClockTime;
+use vault_listen::live::LiveSource;
+use vault_listen::time::ClockTime;
 use vault_wire::watched::Watched;
 
 /// The messages that ask for so many tokens of one number, each with a request number of its own; and then

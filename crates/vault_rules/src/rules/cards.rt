@@ -1,7 +1,7 @@
 //! The rule of card rows, and of the entries that point at them.
 ghost use Rattle.std.specs.Prelude.{◌≡◌, ◌&&◌, List, is_some, true};
 ghost use Rattle.std.specs.List.{list_all};
-ghost use Rattle.vault_rules.specs.Found.{IsFoundIn};
+ghost use Rattle.vault_rules.specs.Found.{WhereFound};
 ghost use Rattle.vault_rules.specs.Held.{seen_card};
 ghost use Rattle.vault_rules.specs.Kept.{is_used};
 ghost use Rattle.vault_rules.specs.Lookups.{card_of};
@@ -9,7 +9,6 @@ ghost use Rattle.vault_rules.specs.Rules as rules;
 ghost use Rattle.vault_rules.specs.Seen.{HasEntries};
 ghost use Rattle.vault_rules.specs.declared.rows.RawCard.{RawCard as CardRow};
 ghost use Rattle.vault_rules.specs.declared.rows.RawEntry.{RawEntry as EntryRow};
-ghost use Rattle.vault_rules.specs.declared.rows.RawMerchant.{RawMerchant as MerchantRow};
 
 use crate::card_rows::Card;
 use crate::entries::Entries;
@@ -49,8 +48,8 @@ fn is_card(entries: &Entries, c: &Card) -> bool
 
 /// Whether an entry's card, unless it is purged, is a card row of its merchant, which exists.
 pub(crate) fn has_card(found: &Found) -> bool
-    ensures { (merchants : List MerchantRow) (cards : List CardRow) → IsFoundIn merchants cards found.now
-        → is_some found.now.merchant ≡ true → result ≡ rules.has_card cards found.now.entry.now }
+    ensures { WhereFound found.now (λ merchants cards.
+        is_some found.now.merchant ≡ true → result ≡ rules.has_card cards found.now.entry.now) }
 {
     match &found.card {
         Some(card) => match card.merchant {

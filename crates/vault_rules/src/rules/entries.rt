@@ -1,7 +1,7 @@
 //! The rules of entries, of one after the other.
 ghost use Rattle.std.specs.Prelude.{◌≡◌, pos, ◌+ℤ◌, ◌&&◌, true, List, [], ◌∷◌, ◌++◌};
 ghost use Rattle.std.specs.Option.{option_map_or};
-ghost use Rattle.vault_rules.specs.Found.{IsFoundIn};
+ghost use Rattle.vault_rules.specs.Found.{IsFoundIn, WhereFound};
 ghost use Rattle.vault_rules.specs.Rules as rules;
 ghost use Rattle.vault_rules.specs.declared.rows.RawCard.{RawCard as CardRow};
 ghost use Rattle.vault_rules.specs.declared.rows.RawEntry.{RawEntry as EntryRow};
@@ -63,16 +63,16 @@ impl EntryRules {
 
 /// Whether an entry's merchant exists and its token is one.
 fn has_token(found: &Found) -> bool
-    ensures { (merchants : List MerchantRow) (cards : List CardRow) → IsFoundIn merchants cards found.now
-        → result ≡ rules.has_token merchants found.now.entry.now }
+    ensures { WhereFound found.now (λ merchants cards.
+        result ≡ rules.has_token merchants found.now.entry.now) }
 {
     found.merchant.is_some() && is_token(found.entry.token.as_bytes())
 }
 
 /// Whether an entry's number, where there is one, is a card number that its token fits.
 fn has_number(found: &Found) -> bool
-    ensures { (merchants : List MerchantRow) (cards : List CardRow) → IsFoundIn merchants cards found.now
-        → result ≡ rules.has_number cards found.now.entry.now }
+    ensures { WhereFound found.now (λ merchants cards.
+        result ≡ rules.has_number cards found.now.entry.now) }
 {
     match &found.card {
         Some(card) => {
@@ -85,8 +85,8 @@ fn has_number(found: &Found) -> bool
 
 /// Whether an entry keeps rule 7 at its merchant's moment.
 fn is_timed_there(found: &Found) -> bool
-    ensures { (merchants : List MerchantRow) (cards : List CardRow) → IsFoundIn merchants cards found.now
-        → result ≡ rules.at_moments merchants rules.is_timed found.now.entry.now }
+    ensures { WhereFound found.now (λ merchants cards.
+        result ≡ rules.at_moments merchants rules.is_timed found.now.entry.now) }
 {
     match found.merchant {
         Some(merchant) => is_timed(merchant.moment, found.entry),
@@ -132,8 +132,8 @@ fn is_revoked_in_time(moment: i64, e: &RawEntry) -> bool
 
 /// Whether an entry keeps rule 8 at its merchant's moment.
 fn is_kept_there(found: &Found) -> bool
-    ensures { (merchants : List MerchantRow) (cards : List CardRow) → IsFoundIn merchants cards found.now
-        → result ≡ rules.at_moments merchants rules.is_kept found.now.entry.now }
+    ensures { WhereFound found.now (λ merchants cards.
+        result ≡ rules.at_moments merchants rules.is_kept found.now.entry.now) }
 {
     let e = found.entry;
     match found.merchant {

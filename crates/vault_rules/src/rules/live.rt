@@ -1,6 +1,6 @@
 //! The rule of live multi-use entries.
 ghost use Rattle.std.specs.Prelude.{◌≡◌, List, [], ◌∷◌, ◌++◌, OnOk, option_map, true};
-ghost use Rattle.vault_rules.specs.Found.{IsFoundIn};
+ghost use Rattle.vault_rules.specs.Found.{IsFoundIn, WhereFound};
 ghost use Rattle.vault_rules.specs.Index.{seen_key};
 ghost use Rattle.vault_rules.specs.Packed.{key_number};
 ghost use Rattle.vault_rules.specs.Rules as rules;
@@ -58,10 +58,10 @@ impl<'a> Live<'a> {
 /// The number and the merchant of a multi-use entry that is live at its merchant's moment, where the number
 /// is a card number.
 fn live_key<'a>(found: &Found<'a, '_>) -> Option<(u128, &'a str)>
-    ensures { (merchants : List MerchantRow) (cards : List CardRow) → IsFoundIn merchants cards found.now
-        → rules.has_number cards found.now.entry.now ≡ true
+    ensures { WhereFound found.now (λ merchants cards.
+        rules.has_number cards found.now.entry.now ≡ true
         → option_map seen_key result
-        ≡ option_map key_number (rules.live_key merchants cards found.now.entry.now) }
+        ≡ option_map key_number (rules.live_key merchants cards found.now.entry.now)) }
 {
     let merchant = found.merchant?;
     let Some(card) = &found.card else {

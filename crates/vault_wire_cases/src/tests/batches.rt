@@ -4,8 +4,8 @@ mod scripts;
 mod streams;
 mod stuck;
 
+use super::fakes::{TestReader, TestWriter};
 use std::alloc::{AllocError, Global};
-use std::io::{Read, Write};
 use vault_batch::batch::batch;
 use vault_batch::counts::Counts;
 use vault_batch::fault::BatchFault;
@@ -87,10 +87,10 @@ fn source(now: u64, digit: u8, pairs: u64) -> Option<FixedSource> {
 }
 
 /// Runs a batch of `till-1` at `shop1`.
-fn run<R: Read + Drop, W: Write + Drop, T: Tables>(
+fn run<T: Tables>(
     alloc: Global,
-    reader: R,
-    writer: W,
+    reader: TestReader<'_>,
+    writer: TestWriter<'_>,
     vault: &mut Vault<T>,
     source: FixedSource,
 ) -> Ended {
@@ -112,12 +112,7 @@ fn run<R: Read + Drop, W: Write + Drop, T: Tables>(
 }
 
 /// Runs a batch at a shop of its own, at 1000 with digits 0.
-fn run_new<R: Read + Drop, W: Write + Drop>(
-    alloc: Global,
-    reader: R,
-    writer: W,
-    pairs: u64,
-) -> Ended {
+fn run_new(alloc: Global, reader: TestReader<'_>, writer: TestWriter<'_>, pairs: u64) -> Ended {
     let mut vault = vault_of(alloc, OPENED)?;
     let source = source(1000, 0, pairs)?;
     run(alloc, reader, writer, &mut vault, source)
@@ -126,7 +121,8 @@ fn run_new<R: Read + Drop, W: Write + Drop>(
 /// Whether a batch at a shop of its own ends so, and gives these lines.
 fn ends(alloc: Global, asked: &[u8], wanted: Told, lines: &str) -> bool {
     let mut output = Vec::new(alloc);
-    let ended = run_new(alloc, asked, &mut output, 100);
+    let (reader, writer) = (TestReader::Bytes(asked), TestWriter::Whole(&mut output));
+    let ended = run_new(alloc, reader, writer, 100);
     is_told(ended, wanted) && output.as_slice() == lines.as_bytes()
 }
 

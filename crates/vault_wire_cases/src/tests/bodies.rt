@@ -7,7 +7,7 @@ use vault_pan::lead::Lead;
 use vault_pan::mask::mask;
 use vault_pan::pan::Pan;
 use vault_pan::token::Token;
-use vault_routes::body::{BodyFault, TokenBody};
+use vault_routes::body::TokenBody;
 use vault_routes::reply::body_of;
 use vault_routes::status::status_of;
 
@@ -15,8 +15,10 @@ use vault_routes::status::status_of;
 fn is_read(alloc: Global) -> bool {
     let bytes = b"{\"number\":\"4111111111111111\",\"use\":\"single\"}";
     match TokenBody::read(alloc, bytes) {
-        Ok(body) => body.number.as_str() == "4111111111111111" && body.usage.as_str() == "single",
-        Err(_) => false,
+        Ok(Some(body)) => {
+            body.number.as_str() == "4111111111111111" && body.usage.as_str() == "single"
+        }
+        Ok(None) | Err(_) => false,
     }
 }
 
@@ -37,7 +39,7 @@ const REFUSED: [&[u8]; 6] = [
 
 /// Whether these bytes ask for no token.
 fn is_refused(alloc: Global, bytes: &[u8]) -> bool {
-    matches!(TokenBody::read(alloc, bytes), Err(BodyFault::NotAsked))
+    matches!(TokenBody::read(alloc, bytes), Ok(None))
 }
 
 #[test]

@@ -6,8 +6,8 @@ mod scripts;
 mod streams;
 mod worked;
 
+use super::fakes::{TestReader, TestWriter};
 use std::alloc::{AllocError, Global};
-use std::io::{Read, Write};
 use vault_core::moment::Moment;
 use vault_core::source::FixedSource;
 use vault_http::fault::ServeFault;
@@ -52,10 +52,10 @@ fn source(now: u64, digit: u8, pairs: u64) -> Option<FixedSource> {
 }
 
 /// Serves a connection to its end.
-fn connect<R: Read + Drop, W: Write + Drop>(
+fn connect(
     alloc: Global,
-    reader: R,
-    writer: W,
+    reader: TestReader<'_>,
+    writer: TestWriter<'_>,
     vault: &mut Vault<MemTables>,
     source: FixedSource,
 ) -> Result<Served, ServeFault> {
@@ -66,10 +66,10 @@ fn connect<R: Read + Drop, W: Write + Drop>(
 }
 
 /// Serves a connection to a shop of its own, at 1000 with digits 0, by so many pairs.
-fn connect_new<R: Read + Drop, W: Write + Drop>(
+fn connect_new(
     alloc: Global,
-    reader: R,
-    writer: W,
+    reader: TestReader<'_>,
+    writer: TestWriter<'_>,
     pairs: u64,
 ) -> Option<Result<Served, ServeFault>> {
     let mut vault = shop(alloc)?;
@@ -86,7 +86,8 @@ fn ends(
     answered: &str,
 ) -> bool {
     let mut output = Vec::new(alloc);
-    let ended = connect_new(alloc, asked, &mut output, 1000);
+    let (reader, writer) = (TestReader::Bytes(asked), TestWriter::Whole(&mut output));
+    let ended = connect_new(alloc, reader, writer, 1000);
     ended == Some(Ok(Served { messages, fault })) && output.as_slice() == answered.as_bytes()
 }
 

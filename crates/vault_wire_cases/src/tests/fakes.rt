@@ -1,4 +1,5 @@
-//! Readers that give a little at a time, writers that take a little, and either that fails.
+//! Readers that give a little at a time, writers that take a little, and either that fails. All connections
+//! and batches of the tests are over one reader and one writer, so that each is compiled once.
 use std::cell::Cell;
 use std::io;
 use std::io::{Error, ErrorKind, Read, Write};
@@ -132,5 +133,54 @@ impl<'a> Write for CountingWriter<'a> {
 
     fn flush(&mut self) -> io::Result<()> {
         Ok(())
+    }
+}
+
+/// What a connection or a batch reads.
+#[derive(Drop)]
+pub enum TestReader<'a> {
+    /// These bytes, as many as are asked for.
+    Bytes(&'a [u8]),
+    Slow(SlowReader<'a>),
+    Pieces(PieceReader<'a>),
+}
+
+impl<'a> Read for TestReader<'a> {
+    fn read(&mut self, buf: &mut [u8]) -> io::Result<usize> {
+        match self {
+            TestReader::Bytes(bytes) => bytes.read(buf),
+            TestReader::Slow(reader) => reader.read(buf),
+            TestReader::Pieces(reader) => reader.read(buf),
+        }
+    }
+}
+
+/// What a connection or a batch writes to.
+#[derive(Drop)]
+pub enum TestWriter<'a> {
+    /// It takes all bytes.
+    Whole(&'a mut Vec<u8>),
+    Slow(SlowWriter<'a>),
+    Counting(CountingWriter<'a>),
+}
+
+impl<'a> Write for TestWriter<'a> {
+    fn write(&mut self, buf: &[u8]) -> io::Result<usize> {
+        match self {
+            TestWriter::Whole(out) => {
+                out.extend_from_slice(buf)?;
+                Ok(buf.len())
+            }
+            TestWriter::Slow(writer) => writer.write(buf),
+            TestWriter::Counting(writer) => writer.write(buf),
+        }
+    }
+
+    fn flush(&mut self) -> io::Result<()> {
+        match self {
+            TestWriter::Whole(_) => Ok(()),
+            TestWriter::Slow(writer) => writer.flush(),
+            TestWriter::Counting(writer) => writer.flush(),
+        }
     }
 }

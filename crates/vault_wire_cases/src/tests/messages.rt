@@ -27,7 +27,7 @@ fn fault_of(alloc: Global, bytes: &[u8]) -> u8 {
     match first_message(alloc, bytes) {
         Ok(Some(_)) => 0,
         Ok(None) => OPEN,
-        Err(fault) => fault.number(),
+        Err(fault) => fault.refusal().number(),
     }
 }
 
@@ -235,7 +235,8 @@ fn is_written(alloc: Global, fault: WireFault, line: &str) -> bool {
 fn a_fault_has_a_number_and_a_line(rt: HostRuntime) {
     let fault = WireFault::BodyTooLarge;
     assert!(rt;
-        fault.number() == 54 && is_written(rt.alloc(), fault, "a body has 4096 bytes at most")
+        fault.refusal().number() == 54
+            && is_written(rt.alloc(), fault, "a body has 4096 bytes at most")
     );
 }
 

@@ -19,11 +19,23 @@ fn asked(alloc: Global, bytes: &[u8]) -> Option<Result<Command, HttpFault>> {
     Some(command_of(alloc, &routes, &message, now, digits))
 }
 
-/// Whether a message is refused by this number and allows these methods; 0 and none where it has a command.
+/// The methods of the place that the first message in bytes names.
+fn methods(alloc: Global, bytes: &[u8]) -> Option<&'static str> {
+    let routes = Routes::new(alloc).ok()?;
+    let message = first_message(alloc, bytes).ok()??;
+    let route = routes.find(message.target())?;
+    Some(route.place.methods())
+}
+
+/// Whether a message is refused by this number, and with 57 its place has these methods; 0 and none where it
+/// has a command.
 fn is_told(alloc: Global, bytes: &[u8], number: u8, allow: Option<&str>) -> bool {
     match asked(alloc, bytes) {
         Some(Ok(_)) => number == 0 && allow.is_none(),
-        Some(Err(fault)) => fault.number() == number && fault.allow() == allow,
+        Some(Err(refused)) if number == 57 => {
+            refused.number() == number && methods(alloc, bytes) == allow
+        }
+        Some(Err(refused)) => refused.number() == number && allow.is_none(),
         None => false,
     }
 }

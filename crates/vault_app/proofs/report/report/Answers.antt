@@ -1,6 +1,7 @@
-use Rattle.std.proofs.Common.{ℕ, List, ◌++◌, append-nil, codes, refl, subst}
+use Rattle.std.proofs.Common.{ℕ, List, ◌++◌, ◌∙◌, ap, append-nil, codes, refl, subst}
 use Rattle.vault_wire.specs.Watching.{inner_of, is_stopped}
 use Rattle.vault_app.specs.Ending.{stop_line}
+use Rattle.vault_refusal.specs.Refusal.{number_of}
 use Rattle.vault_jobs.specs.Told.{Tells}
 use Rattle.vault_app.proofs.report.report.Goals as goal
 
@@ -11,7 +12,7 @@ returns-in-Stopped-clause-said g c =
     rw c.in-Stopped.is (
       refl,
       subst (λ (n : ℕ). Tells old new c.tell_numbered-in-Stopped.new.writer.stopped (stop_line n))
-          c.number.ensures c.tell_numbered-in-Stopped.ensures,
+          (c.number.ensures ∙ ap number_of c.refusal.ensures) c.tell_numbered-in-Stopped.ensures,
     )
 
 pub returns-in-BadWords-clause-said : goal.returns-in-BadWords-clause-said

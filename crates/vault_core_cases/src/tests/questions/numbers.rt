@@ -5,9 +5,9 @@ use vault_pan::lead::Lead;
 use vault_pan::luhn::passes;
 use vault_pan::mask::mask;
 use vault_pan::pan::{Pan, PanFault};
-use vault_pan::refusal::{BAD_CHECK, BAD_NUMBER, BAD_TOKEN};
 use vault_pan::short::Short;
 use vault_pan::token::{BadToken, Token};
+use vault_refusal::refusal::Refusal;
 use vault_script::command::{token, word};
 
 /// The text of a line that stands in `|`.
@@ -161,17 +161,17 @@ fn printed_told(alloc: Global, line: &str) -> Option<String> {
 fn fault_told(alloc: Global, line: &str) -> Option<String> {
     match word(line, 1)? {
         "number" => {
-            let (fault, listed) = (PanFault::BadNumber, BAD_NUMBER);
-            let number = fault.number();
+            let (fault, listed) = (PanFault::BadNumber, Refusal::BadNumber as u8);
+            let number = fault.refusal().number();
             format!(in alloc; "{number} {listed} {fault}").ok()
         }
         "check" => {
-            let (fault, listed) = (PanFault::BadCheck, BAD_CHECK);
-            let number = fault.number();
+            let (fault, listed) = (PanFault::BadCheck, Refusal::BadCheck as u8);
+            let number = fault.refusal().number();
             format!(in alloc; "{number} {listed} {fault}").ok()
         }
         _ => {
-            let (number, listed) = (BadToken.number(), BAD_TOKEN);
+            let (number, listed) = (BadToken.refusal().number(), Refusal::BadToken as u8);
             format!(in alloc; "{number} {listed} {BadToken}").ok()
         }
     }

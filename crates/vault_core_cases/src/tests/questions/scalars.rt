@@ -3,14 +3,15 @@
 use super::numbers::{quoted, yes_or_no};
 use std::alloc::Global;
 use vault_core::changes::Count;
-use vault_core::moment::{BadMoment, Moment};
-use vault_core::name::{BadName, Caller, MerchantId};
+use vault_core::moment::Moment;
+use vault_core::name::{Caller, MerchantId};
 use vault_core::reply::State;
-use vault_core::request::{BadRequestNumber, RequestNo};
+use vault_core::request::RequestNo;
 use vault_core::right::Right;
 use vault_core::source::{FixedSource, Source, SourceFault};
-use vault_core::usage::{BadUse, Use};
+use vault_core::usage::Use;
 use vault_pan::draw::{DRAWN_DIGITS, Digits};
+use vault_refusal::refusal::Refusal;
 use vault_script::command::{asked, moment, number, word};
 use vault_store::vault::Fault;
 
@@ -23,16 +24,22 @@ fn name_told(read: Option<&[u8]>, text: &str) -> &'static str {
     }
 }
 
+/// A refusal, by its number.
+fn refusal_told(alloc: Global, refused: Refusal) -> Option<String> {
+    let number = refused.number();
+    format!(in alloc; "refused {number}").ok()
+}
+
 /// `name |TEXT|`: how it is read as a caller's and as a merchant's.
 fn names_told(alloc: Global, line: &str) -> Option<String> {
     let name = quoted(line)?;
     let caller = match Caller::read(name.as_bytes()) {
         Ok(caller) => name_told(Some(caller.bytes()), name),
-        Err(BadName) => name_told(None, name),
+        Err(_) => name_told(None, name),
     };
     let merchant = match MerchantId::read(name.as_bytes()) {
         Ok(merchant) => name_told(Some(merchant.bytes()), name),
-        Err(BadName) => name_told(None, name),
+        Err(_) => name_told(None, name),
     };
     format!(in alloc; "{caller} {merchant}").ok()
 }
@@ -44,7 +51,7 @@ fn request_told(alloc: Global, line: &str) -> Option<String> {
             let number = request.get();
             format!(in alloc; "{number}").ok()
         }
-        Err(BadRequestNumber) => String::from_str(alloc, "BadRequestNumber").ok(),
+        Err(refused) => refusal_told(alloc, refused),
     }
 }
 
@@ -55,7 +62,7 @@ fn moment_told(alloc: Global, line: &str) -> Option<String> {
             let seconds = moment.seconds();
             format!(in alloc; "{seconds}").ok()
         }
-        Err(BadMoment) => String::from_str(alloc, "BadMoment").ok(),
+        Err(refused) => refusal_told(alloc, refused),
     }
 }
 
@@ -72,7 +79,7 @@ fn use_told(alloc: Global, line: &str) -> Option<String> {
             let (word, number) = (usage.word(), usage.number());
             format!(in alloc; "{usage:?} {word} {number}").ok()
         }
-        Err(BadUse) => String::from_str(alloc, "BadUse").ok(),
+        Err(refused) => refusal_told(alloc, refused),
     }
 }
 
@@ -103,13 +110,9 @@ pub fn are_numbered() -> bool {
         && Count::Made.number() == 1
         && Count::Given.number() == 2
         && Count::Denied.number() == 3
-        && BadName.number() == 4
-        && BadRequestNumber.number() == 5
-        && BadMoment.number() == 6
-        && BadUse.number() == 19
-        && Fault::Memory.number() == 20
-        && Fault::Store.number() == 21
-        && Fault::Reopen.number() == 22
+        && Fault::Memory.refusal().number() == 20
+        && Fault::Store.refusal().number() == 21
+        && Fault::Reopen.refusal().number() == 22
 }
 
 /// `proper COMMAND`: whether its lives are in range.

@@ -22,7 +22,7 @@ pub returns-in-Err-default-Some-clause-damaged : goal.returns-in-Err-default-Som
 returns-in-Err-default-Some-clause-damaged g c image holds clean =
     let was : HasCleanDisk (file_state c.in-Err-default-Some.conn) =
     omega (arith, c.close_moved-in-Err-default-Some.ensures.clean, clean) in
-    (rw c.in-Err-default-Some.field-0-1-is at c.in-Err-default-Some.ensures.damaged) image holds was
+    ((rw c.in-Err-default-Some.field-0-1-is at c.in-Err-default-Some.ensures.tells) image holds was).damaged
 
 pub returns-in-Err-default-Some-clause-never : goal.returns-in-Err-default-Some-clause-never
 returns-in-Err-default-Some-clause-never g c image holds clean =
@@ -56,11 +56,7 @@ pub returns-in-Err-default-Some-clause-tells : goal.returns-in-Err-default-Some-
 returns-in-Err-default-Some-clause-tells g c image holds clean =
     let was : HasCleanDisk (file_state c.in-Err-default-Some.conn) =
     omega (arith, c.close_moved-in-Err-default-Some.ensures.clean, clean) in
-    record {
-      damaged =
-          (rw c.in-Err-default-Some.field-0-1-is at c.in-Err-default-Some.ensures.damaged) image holds was;
-      wrong = (rw c.in-Err-default-Some.field-0-1-is at c.in-Err-default-Some.ensures.wrong) image holds was;
-    }
+    (rw c.in-Err-default-Some.field-0-1-is at c.in-Err-default-Some.ensures.tells) image holds was
 
 pub returns-in-Err-default-Some-clause-left : goal.returns-in-Err-default-Some-clause-left
 returns-in-Err-default-Some-clause-left g c image holds =

@@ -25,11 +25,7 @@ pub returns-in-Err-default-Some-clause-tells : goal.returns-in-Err-default-Some-
 returns-in-Err-default-Some-clause-tells g c image holds clean =
     let was : HasCleanDisk (file_state c.in-Err-default-Some.conn) =
     omega (arith, c.close_moved.ensures.clean, clean) in
-    record {
-      damaged =
-          (rw c.in-Err-default-Some.field-0-1-is at c.in-Err-default-Some.ensures.damaged) image holds was;
-      wrong = (rw c.in-Err-default-Some.field-0-1-is at c.in-Err-default-Some.ensures.wrong) image holds was;
-    }
+    (rw c.in-Err-default-Some.field-0-1-is at c.in-Err-default-Some.ensures.tells) image holds was
 
 pub returns-in-Err-default-Some-clause-left : goal.returns-in-Err-default-Some-clause-left
 returns-in-Err-default-Some-clause-left g c image holds =

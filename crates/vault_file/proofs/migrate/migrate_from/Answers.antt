@@ -11,8 +11,9 @@ use Rattle.vault_verdict.specs.declared.fault.OpenFault.TheVariants.{WrongSchema
 pub returns-in-Ok-clause-moved : goal.returns-in-Ok-clause-moved
 returns-in-Ok-clause-moved g c image holds =
     moves_from image c.in-Some.conn c.migrate_all.new.conn (c.in-Some.ensures.opened image holds)
-    c.in-Some.ensures.unlimited c.migrate_all.ensures.clean
-    c.in-Ok.ensures.moved c.in-Ok.ensures.blank c.in-Ok.ensures.sound (c.in-Some.ensures.either image holds)
+    c.in-Some.ensures.unlimited c.migrate_all.ensures.migrates.clean
+    c.in-Ok.ensures.migrates.moved c.in-Ok.ensures.migrates.blank c.in-Ok.ensures.migrates.sound
+    (c.in-Some.ensures.either image holds)
     (c.in-Some.ensures.first image holds) c.in-Ok.ensures.known c.in-Ok.ensures.stood
 
 pub returns-in-Ok-clause-no_path : goal.returns-in-Ok-clause-no_path
@@ -21,68 +22,71 @@ returns-in-Ok-clause-no_path g c none = there c.in-Some.conn (c.in-Some.ensures.
 pub returns-in-Err-clause-no_path : goal.returns-in-Err-clause-no_path
 returns-in-Err-clause-no_path g c none = absurd (there c.in-Some.conn (c.in-Some.ensures.no_path none))
 
-pub returns-in-Err-clause-damaged : goal.returns-in-Err-clause-damaged
-returns-in-Err-clause-damaged g c image holds clean rule same = (
-  (file_state c.in-Some.conn).now,
-  found_in image c.in-Some.conn (c.in-Some.ensures.opened image holds)
-      (was_clean image c.in-Some.conn c.migrate_all.new.conn (c.in-Some.ensures.opened image holds)
-      c.in-Some.ensures.unlimited c.migrate_all.ensures.clean clean),
-  c.in-Err.ensures.damaged clean rule (same_fault c.in-Err.fault (Damaged rule) same),
-)
-
-pub returns-in-Err-clause-wrong : goal.returns-in-Err-clause-wrong
-returns-in-Err-clause-wrong g c image holds clean n same = (
-  (file_state c.in-Some.conn).now,
-  found_in image c.in-Some.conn (c.in-Some.ensures.opened image holds)
-      (was_clean image c.in-Some.conn c.migrate_all.new.conn (c.in-Some.ensures.opened image holds)
-      c.in-Some.ensures.unlimited c.migrate_all.ensures.clean clean),
-  c.in-Err.ensures.wrong clean n (same_fault c.in-Err.fault (WrongSchema n) same),
-)
+pub returns-in-Err-clause-tells : goal.returns-in-Err-clause-tells
+returns-in-Err-clause-tells g c image holds clean = record {
+  damaged = λ rule same. (
+    (file_state c.in-Some.conn).now,
+    found_in image c.in-Some.conn (c.in-Some.ensures.opened image holds)
+        (was_clean image c.in-Some.conn c.migrate_all.new.conn (c.in-Some.ensures.opened image holds)
+        c.in-Some.ensures.unlimited c.migrate_all.ensures.migrates.clean clean),
+    c.in-Err.ensures.migrates.damaged clean rule (same_fault c.in-Err.fault (Damaged rule) same),
+  );
+  wrong = λ n same. (
+    (file_state c.in-Some.conn).now,
+    found_in image c.in-Some.conn (c.in-Some.ensures.opened image holds)
+        (was_clean image c.in-Some.conn c.migrate_all.new.conn (c.in-Some.ensures.opened image holds)
+        c.in-Some.ensures.unlimited c.migrate_all.ensures.migrates.clean clean),
+    c.in-Err.ensures.migrates.wrong clean n (same_fault c.in-Err.fault (WrongSchema n) same),
+  );
+}
 
 pub returns-in-Err-clause-never_in : goal.returns-in-Err-clause-never_in
 returns-in-Err-clause-never_in g c image holds =
     never_in image c.in-Some.conn c.migrate_all.new.conn (c.in-Some.ensures.opened image holds)
-    c.in-Some.ensures.unlimited c.migrate_all.ensures.clean c.in-Err.fault c.in-Err.ensures.never
+    c.in-Some.ensures.unlimited c.migrate_all.ensures.migrates.clean c.in-Err.fault
+    c.in-Err.ensures.migrates.never
 
 pub returns-in-Err-clause-never : goal.returns-in-Err-clause-never
 returns-in-Err-clause-never g c image holds clean =
     spares image c.in-Some.conn
     (c.in-Some.ensures.opened image holds) (c.in-Some.ensures.again image holds)
     c.migrate_all.new.conn c.in-Err.fault
-    (λ clean fit. c.in-Err.ensures.never clean (movable (file_state c.in-Some.conn).now fit))
-    (λ some. c.migrate_all.ensures.clean) clean (c.in-Some.ensures.either image holds)
+    (λ clean fit. c.in-Err.ensures.migrates.never clean (movable (file_state c.in-Some.conn).now fit))
+    (λ some. c.migrate_all.ensures.migrates.clean) clean (c.in-Some.ensures.either image holds)
     (c.in-Some.ensures.first image holds)
 
 pub returns-in-Err-clause-never_some : goal.returns-in-Err-clause-never_some
 returns-in-Err-clause-never_some g c image holds =
     never_some image c.in-Some.conn c.migrate_all.new.conn (c.in-Some.ensures.opened image holds)
-    c.in-Some.ensures.unlimited c.migrate_all.ensures.clean c.in-Err.fault c.in-Err.ensures.never
+    c.in-Some.ensures.unlimited c.migrate_all.ensures.migrates.clean c.in-Err.fault
+    c.in-Err.ensures.migrates.never
 
 pub returns-in-Err-clause-left : goal.returns-in-Err-clause-left
 returns-in-Err-clause-left g c image holds =
     leaves_from image c.in-Some.conn c.migrate_all.new.conn (c.in-Some.ensures.opened image holds)
     c.in-Some.ensures.unlimited (λ clean. (c.migrate_all.ensures.crash clean).found)
-    c.migrate_all.ensures.clean (λ clean. (c.migrate_all.ensures.crash clean).older)
+    c.migrate_all.ensures.migrates.clean (λ clean. (c.migrate_all.ensures.crash clean).older)
     (c.in-Some.ensures.again image holds) (c.in-Some.ensures.either image holds)
     (c.in-Some.ensures.first image holds)
 
 pub returns-in-Err-clause-left_old : goal.returns-in-Err-clause-left_old
 returns-in-Err-clause-left_old g c image holds =
     leaves_old image c.in-Some.conn c.migrate_all.new.conn (c.in-Some.ensures.opened image holds)
-    c.in-Some.ensures.unlimited c.migrate_all.ensures.clean c.in-Err.fault
-    (λ clean. (c.migrate_all.ensures.crash clean).older) c.in-Err.ensures.stays
+    c.in-Some.ensures.unlimited c.migrate_all.ensures.migrates.clean c.in-Err.fault
+    (λ clean. (c.migrate_all.ensures.crash clean).older) c.in-Err.ensures.migrates.stays
 
 pub returns-in-Err-clause-same : goal.returns-in-Err-clause-same
 returns-in-Err-clause-same g c image holds other =
     leaves_whole image c.in-Some.conn c.migrate_all.new.conn (c.in-Some.ensures.opened image holds)
-    c.settled.ensures c.migrate_all.ensures.clean
-    (λ clean. c.in-Err.ensures.unwritten clean (λ same. other (ap (λ fault. Fault fault) same)))
+    c.settled.ensures c.migrate_all.ensures.migrates.clean
+    (λ clean. c.in-Err.ensures.migrates.unwritten clean (λ same. other (ap (λ fault. Fault fault) same)))
 
 pub returns-in-Err-clause-same_unmoved : goal.returns-in-Err-clause-same_unmoved
 returns-in-Err-clause-same_unmoved g c image holds some none =
     let opened = c.in-Some.ensures.opened image holds in
     leaves_whole image c.in-Some.conn c.migrate_all.new.conn opened c.settled.ensures
-    c.migrate_all.ensures.clean
-    (λ clean. c.in-Err.ensures.unmoved clean
-    (none_older image c.in-Some.conn opened none (omega (arith, c.migrate_all.ensures.clean, clean)))
-    (some_there image c.in-Some.conn opened some (omega (arith, c.migrate_all.ensures.clean, clean))))
+    c.migrate_all.ensures.migrates.clean
+    (λ clean. c.in-Err.ensures.migrates.unmoved clean
+    (none_older image c.in-Some.conn opened none (omega (arith, c.migrate_all.ensures.migrates.clean, clean)))
+    (some_there image c.in-Some.conn opened some
+    (omega (arith, c.migrate_all.ensures.migrates.clean, clean))))

@@ -20,25 +20,25 @@ returns-in-Ok-clause-no_path g c none = there c.in-Some.conn (c.in-Some.ensures.
 pub returns-in-Err-clause-no_path : goal.returns-in-Err-clause-no_path
 returns-in-Err-clause-no_path g c none = absurd (there c.in-Some.conn (c.in-Some.ensures.no_path none))
 
-pub returns-in-Err-clause-damaged : goal.returns-in-Err-clause-damaged
-returns-in-Err-clause-damaged g c image holds clean rule same = (
-  (file_state c.in-Some.conn).now,
-  found_damaged image c.in-Some.conn
-      (c.in-Some.ensures.opened image holds) (c.in-Some.ensures.again image holds)
-      c.in-Err.refusal.1 c.in-Err.refusal.0
-      c.in-Err.ensures.never (λ some. (c.in-Err.ensures.quiet some).clean) clean rule same,
-  c.in-Err.ensures.damaged clean rule (same_fault c.in-Err.refusal.0 (Damaged rule) same),
-)
-
-pub returns-in-Err-clause-wrong : goal.returns-in-Err-clause-wrong
-returns-in-Err-clause-wrong g c image holds clean n same = (
-  (file_state c.in-Some.conn).now,
-  found_wrong image c.in-Some.conn
-      (c.in-Some.ensures.opened image holds) (c.in-Some.ensures.again image holds)
-      c.in-Err.refusal.1 c.in-Err.refusal.0
-      c.in-Err.ensures.never (λ some. (c.in-Err.ensures.quiet some).clean) clean n same,
-  c.in-Err.ensures.wrong clean n (same_fault c.in-Err.refusal.0 (WrongSchema n) same),
-)
+pub returns-in-Err-clause-tells : goal.returns-in-Err-clause-tells
+returns-in-Err-clause-tells g c image holds clean = record {
+  damaged = λ rule same. (
+    (file_state c.in-Some.conn).now,
+    found_damaged image c.in-Some.conn
+        (c.in-Some.ensures.opened image holds) (c.in-Some.ensures.again image holds)
+        c.in-Err.refusal.1 c.in-Err.refusal.0
+        c.in-Err.ensures.never (λ some. (c.in-Err.ensures.quiet some).clean) clean rule same,
+    c.in-Err.ensures.damaged clean rule (same_fault c.in-Err.refusal.0 (Damaged rule) same),
+  );
+  wrong = λ n same. (
+    (file_state c.in-Some.conn).now,
+    found_wrong image c.in-Some.conn
+        (c.in-Some.ensures.opened image holds) (c.in-Some.ensures.again image holds)
+        c.in-Err.refusal.1 c.in-Err.refusal.0
+        c.in-Err.ensures.never (λ some. (c.in-Err.ensures.quiet some).clean) clean n same,
+    c.in-Err.ensures.wrong clean n (same_fault c.in-Err.refusal.0 (WrongSchema n) same),
+  );
+}
 
 pub returns-in-Err-clause-never : goal.returns-in-Err-clause-never
 returns-in-Err-clause-never g c image holds clean =

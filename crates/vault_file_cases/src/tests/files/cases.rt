@@ -221,7 +221,7 @@ fn is_told(
     detail: Option<i64>,
     words: &str,
 ) -> bool {
-    fault.number() == number
+    fault.refusal().number() == number
         && fault.detail() == detail
         && refusal(rt.alloc(), fault).as_str() == words
 }

@@ -1,5 +1,4 @@
-use Rattle.std.proofs.Common.{[], ◌∷◌, sym, subst}
-use Rattle.vault_http.specs.Passing.{Stops, passing}
+use Rattle.vault_http.specs.Passing.{passing}
 use Rattle.vault_http.proofs.Answering.{answered_of, stops_of}
 use Rattle.vault_http.proofs.answer.answer_one.Goals as goal
 
@@ -16,5 +15,4 @@ returns-in-Err-clause-ends g c =
     let w = passing g.S.Source.given c.args.source.now c.ask.new.source g.W.Write.contents c.args.writer.now
     c.ask.new.writer g.T.Tables.is_honest g.T.Tables.holds g.T.Tables.leaves c.args.vault.now
     c.ask.new.vault in
-    subst (λ e. Stops e w (c.args.message.now ∷ [])) (sym c.from.ensures)
-    (stops_of w c.args.message.now c.in-Err.stop c.in-Err.ensures.stopped)
+    stops_of w c.args.message.now c.in-Err.stop c.in-Err.ensures.stopped

@@ -45,12 +45,12 @@ loop-message-preserved g c =
           c.answer_one.new.source
           g.W.Write.contents c.args.writer.now c.loop-message.writer c.answer_one.new.writer
           g.T.Tables.is_honest g.T.Tables.holds g.T.Tables.leaves c.args.vault.now c.loop-message.vault
-          c.answer_one.new.vault c.answer_one.ensures.honest (take i c.args.messages.now)
+          c.answer_one.new.vault c.answer_one.ensures.trusted.honest (take i c.args.messages.now)
           (c.message-item.result ∷ []) inv.answered c.in-Ok.ensures.ends);
       counted = omega (arith, inv.counted, c.in-Ok.ensures.counted);
       later = g.met.S.Source.transitive _ _ _ inv.later c.answer_one.ensures.later;
       told = c.in-Ok.ensures.told ∙ inv.told;
-      honest = λ h. inv.honest (c.answer_one.ensures.honest h);
+      honest = λ h. inv.honest (c.answer_one.ensures.trusted.honest h);
     }
 
 pub returns-then-closes-clause-ends : goal.returns-then-closes-clause-ends
@@ -67,7 +67,7 @@ returns-then-closes-clause-ends g c =
     c.answer_one.new.source
     g.W.Write.contents c.args.writer.now c.loop-message.writer c.answer_one.new.writer
     g.T.Tables.is_honest g.T.Tables.holds g.T.Tables.leaves c.args.vault.now c.loop-message.vault
-    c.answer_one.new.vault c.answer_one.ensures.honest (take i c.args.messages.now)
+    c.answer_one.new.vault c.answer_one.ensures.trusted.honest (take i c.args.messages.now)
     (c.message-item.result ∷ []) inv.answered c.in-Ok.ensures.ends)
 
 pub returns-then-closes-clause-counted : goal.returns-then-closes-clause-counted
@@ -97,7 +97,7 @@ returns-in-Err-clause-ends g c =
     let stops = stops_then g.S.Source.given c.args.source.now c.loop-message.source c.answer_one.new.source
     g.W.Write.contents c.args.writer.now c.loop-message.writer c.answer_one.new.writer
     g.T.Tables.is_honest g.T.Tables.holds g.T.Tables.leaves c.args.vault.now c.loop-message.vault
-    c.answer_one.new.vault c.answer_one.ensures.honest (take i ps) (d ∷ []) inv.answered e
+    c.answer_one.new.vault c.answer_one.ensures.trusted.honest (take i ps) (d ∷ []) inv.answered e
     c.in-Err.ensures.ends in
     let longer =
     stops_longer e w (take i ps ++ d ∷ []) more (not_read e _ _ _ _ _ _ c.in-Err.ensures.told) stops in

@@ -13,11 +13,13 @@ use Rattle.vault_http.specs.declared.served.Served.{Served}
 use Rattle.vault_http.proofs.Answering.{all_nothing}
 use Rattle.vault_http.proofs.Bytes.{appends_nothing, consumes_both, consumes_keeps, consumes_none}
 use Rattle.vault_http.proofs.Bytes.{consumes_nothing}
+use Rattle.vault_http.proofs.Counting.{serves_all, serves_part}
 use Rattle.vault_http.proofs.Closing.{has_close-shown, shown_count, up_to_close-none, up_to_close-shown}
+use Rattle.vault_http.proofs.Fed.{fed_of}
 use Rattle.vault_http.proofs.Following.{all_then, stops_then}
 use Rattle.vault_http.proofs.Serving.{before_of, begins_more, begins_of, falls, reads_by, served_fault}
 use Rattle.vault_http.proofs.Serving.{served_plain, stopped_fault, stopped_of}
-use Rattle.vault_http.proofs.Telling.{beside_reader, beside_writer, not_read, tells_as}
+use Rattle.vault_http.proofs.Telling.{after_read, beside_reader, beside_writer, not_read, tells_as}
 use Rattle.vault_http.proofs.serve.serve_by.Goals as goal
 
 pub pieces-init : goal.pieces-init
@@ -40,22 +42,22 @@ pieces-init g c =
       honest = λ h. h;
     }
 
-pub returns-in_default-clause-stopped : goal.returns-in_default-clause-stopped
-returns-in_default-clause-stopped g c =
+pub returns-in_default-clause-serves : goal.returns-in_default-clause-serves
+returns-in_default-clause-serves g c =
     let inv = c.pieces.invariant in
     let w = passing g.S.Source.given c.args.source.now c.pieces.source g.W.Write.contents c.args.writer.now
     c.pieces.writer g.T.Tables.is_honest g.T.Tables.holds g.T.Tables.leaves c.args.vault.now
     c.pieces.vault in
-    record {
+    serves_part _ _ w _ (record {
       bytes = inv.bytes;
       messages = inv.messages;
       read = consumes_keeps _ _ _ inv.bytes inv.read c.in_default.ensures.bytes;
       reads = reads_by c.pieces.intake inv.bytes inv.messages None inv.calm inv.reading;
       stops = subst (AllAnswered w) (sym (up_to_close-none (shown inv.messages) inv.open_till)) inv.answered;
-    }
+    })
 
-pub returns-then-count-eq0-clause-served : goal.returns-then-count-eq0-clause-served
-returns-then-count-eq0-clause-served g c =
+pub returns-then-count-eq0-clause-serves : goal.returns-then-count-eq0-clause-serves
+returns-then-count-eq0-clause-serves g c =
     let inv = c.pieces.invariant in
     let w = passing g.S.Source.given c.args.source.now c.pieces.source g.W.Write.contents c.args.writer.now
     c.pieces.writer g.T.Tables.is_honest g.T.Tables.holds g.T.Tables.leaves c.args.vault.now
@@ -65,23 +67,23 @@ returns-then-count-eq0-clause-served g c =
     let none = up_to_close-none (shown inv.messages) inv.open_till in
     let many : length (up_to_close (shown inv.messages)) ≡ length inv.messages =
     ap length none ∙ length-map inv.messages parts_of in
-    served_plain _ _ w inv.bytes inv.messages
+    serves_all _ _ _ _ (served_plain _ _ w inv.bytes inv.messages
     (consumes_none _ _ _ inv.bytes c.read.new.buf c.in-Ok.count inv.read c.if-count-eq0.true r.0) None
     (record { messages = c.left-pairs.result - c.left.result; fault = None })
     (reads_by c.pieces.intake inv.bytes inv.messages None inv.calm inv.reading)
     (subst (AllAnswered w) (sym none) inv.answered)
     (omega (arith, inv.counted, c.left-pairs.ensures, c.left.ensures, many)) refl (rw inv.open_till refl)
-    (λ open_till no_fault. r.1 c.if-count-eq0.true room)
+    (λ open_till no_fault. r.1 c.if-count-eq0.true room))
 
-pub returns-in_default-feed-clause-stopped : goal.returns-in_default-feed-clause-stopped
-returns-in_default-feed-clause-stopped g c =
+pub returns-in_default-feed-clause-serves : goal.returns-in_default-feed-clause-serves
+returns-in_default-feed-clause-serves g c =
     let inv = c.pieces.invariant in
     let w = passing g.S.Source.given c.args.source.now c.pieces.source g.W.Write.contents c.args.writer.now
     c.pieces.writer g.T.Tables.is_honest g.T.Tables.holds g.T.Tables.leaves c.args.vault.now
     c.pieces.vault in
     let piece = take c.in-Ok.count c.read.new.buf in
     let reads = reads_by c.pieces.intake inv.bytes inv.messages None inv.calm inv.reading in
-    record {
+    serves_part _ _ w _ (record {
       bytes = inv.bytes ++ piece;
       messages = inv.messages;
       read = consumes_both _ _ _ inv.bytes piece inv.read c.in-Ok.ensures.bytes.0;
@@ -90,62 +92,54 @@ returns-in_default-feed-clause-stopped g c =
           inl
           (before_of w _ (subst (AllAnswered w) (sym (up_to_close-none (shown inv.messages) inv.open_till))
           inv.answered));
-    }
+    })
 
-pub returns-in-Ok-true-clause-served : goal.returns-in-Ok-true-clause-served
-returns-in-Ok-true-clause-served g c =
+pub returns-in-Ok-true-clause-serves : goal.returns-in-Ok-true-clause-serves
+returns-in-Ok-true-clause-serves g c =
     let inv = c.pieces.invariant in
     let piece = take c.in-Ok.count c.read.new.buf in
     let fed = c.in-Ok-feed.ensures.reads in
     let bytes = inv.bytes ++ piece in
     let ms = inv.messages ++ fed.0 in
-    let read = consumes_both _ _ _ inv.bytes piece inv.read c.in-Ok.ensures.bytes.0 in
-    let reading = fed.2 inv.bytes inv.messages inv.reading in
-    let is = c.deref.ensures.value ∙ fed.1 in
     let ps = c.deref.result.now in
-    let whole = up_to_close-shown inv.messages fed.0 ps is inv.open_till in
-    let closing = has_close-shown inv.messages fed.0 ps is inv.open_till in
+    let more = fed_of _ _ _ _ inv.bytes piece inv.messages fed.0 ps inv.read c.in-Ok.ensures.bytes.0
+    (fed.2 inv.bytes inv.messages inv.reading) (c.deref.ensures.value ∙ fed.1) inv.open_till in
     let w = passing g.S.Source.given c.args.source.now c.answer_all.new.source g.W.Write.contents
     c.args.writer.now c.answer_all.new.writer g.T.Tables.is_honest g.T.Tables.holds g.T.Tables.leaves
     c.args.vault.now c.answer_all.new.vault in
     let all =
-    subst (AllAnswered w) (sym whole) (all_then g.S.Source.given c.args.source.now c.pieces.source
+    subst (AllAnswered w) (sym more.whole) (all_then g.S.Source.given c.args.source.now c.pieces.source
     c.answer_all.new.source g.W.Write.contents
     c.args.writer.now c.pieces.writer c.answer_all.new.writer g.T.Tables.is_honest g.T.Tables.holds
-    g.T.Tables.leaves c.args.vault.now c.pieces.vault c.answer_all.new.vault c.answer_all.ensures.honest
+    g.T.Tables.leaves c.args.vault.now c.pieces.vault c.answer_all.new.vault
+    c.answer_all.ensures.trusted.honest
     (shown inv.messages) (up_to_close c.deref.result.now) inv.answered
     c.in-Ok-true.ensures.ends) in
     let closed : has_close (shown ms) ≡ true =
-    closing ∙ sym c.in-Ok-true.ensures.closes ∙ c.in-Ok-true.field-0-test in
-    let many : length (up_to_close (shown ms)) ≡ length inv.messages + length (up_to_close ps) =
-    ap length whole ∙ length-append (shown inv.messages) (up_to_close ps)
-    ∙ ap (λ n. n + length (up_to_close ps)) (length-map inv.messages parts_of) in
-    served_plain _ _ w bytes ms read c.feed.new.self.fault
+    more.closing ∙ sym c.in-Ok-true.ensures.closes ∙ c.in-Ok-true.field-0-test in
+    serves_all _ _ _ _ (served_plain _ _ w bytes ms more.read c.feed.new.self.fault
     (record { messages = c.left-pairs.result - c.left-in-Ok-true.result; fault = None })
-    (reads_by c.feed.new.self bytes ms c.feed.new.self.fault refl reading) all
+    (reads_by c.feed.new.self bytes ms c.feed.new.self.fault refl more.reading) all
     (omega (
       arith,
       inv.counted,
       c.in-Ok-true.ensures.counted,
       c.left-pairs.ensures,
       c.left-in-Ok-true.ensures,
-      many,
+      more.many,
     ))
-    refl (rw closed refl) (λ open_till _. absurd (cc))
+    refl (rw closed refl) (λ open_till _. absurd (cc)))
 
-pub returns-in-Err-clause-stopped : goal.returns-in-Err-clause-stopped
-returns-in-Err-clause-stopped g c =
+pub returns-in-Err-clause-serves : goal.returns-in-Err-clause-serves
+returns-in-Err-clause-serves g c =
     let inv = c.pieces.invariant in
     let piece = take c.in-Ok.count c.read.new.buf in
     let fed = c.in-Ok-feed.ensures.reads in
     let bytes = inv.bytes ++ piece in
     let ms = inv.messages ++ fed.0 in
-    let read = consumes_both _ _ _ inv.bytes piece inv.read c.in-Ok.ensures.bytes.0 in
-    let reading = fed.2 inv.bytes inv.messages inv.reading in
-    let is = c.deref.ensures.value ∙ fed.1 in
     let ps = c.deref.result.now in
-    let whole = up_to_close-shown inv.messages fed.0 ps is inv.open_till in
-    let closing = has_close-shown inv.messages fed.0 ps is inv.open_till in
+    let more = fed_of _ _ _ _ inv.bytes piece inv.messages fed.0 ps inv.read c.in-Ok.ensures.bytes.0
+    (fed.2 inv.bytes inv.messages inv.reading) (c.deref.ensures.value ∙ fed.1) inv.open_till in
     let w = passing g.S.Source.given c.args.source.now c.answer_all.new.source g.W.Write.contents
     c.args.writer.now c.answer_all.new.writer g.T.Tables.is_honest g.T.Tables.holds g.T.Tables.leaves
     c.args.vault.now c.answer_all.new.vault in
@@ -153,76 +147,73 @@ returns-in-Err-clause-stopped g c =
     let stops = stops_then g.S.Source.given c.args.source.now c.pieces.source c.answer_all.new.source
     g.W.Write.contents c.args.writer.now c.pieces.writer c.answer_all.new.writer g.T.Tables.is_honest
     g.T.Tables.holds g.T.Tables.leaves c.args.vault.now c.pieces.vault c.answer_all.new.vault
-    c.answer_all.ensures.honest (shown inv.messages) (up_to_close c.deref.result.now) inv.answered
+    c.answer_all.ensures.trusted.honest (shown inv.messages) (up_to_close c.deref.result.now) inv.answered
     e c.in-Err.ensures.ends in
-    stopped_of _ _ w bytes ms read e c.feed.new.self.fault (not_read e _ _ _ _ _ _ c.in-Err.ensures.told)
-    (reads_by c.feed.new.self bytes ms c.feed.new.self.fault refl reading) (rw whole stops)
+    serves_part _ _ _ _ (stopped_of _ _ w bytes ms more.read e c.feed.new.self.fault
+    (not_read e _ _ _ _ _ _ c.in-Err.ensures.told)
+    (reads_by c.feed.new.self bytes ms c.feed.new.self.fault refl more.reading) (rw more.whole stops))
 
-pub returns-in-Err-refuse-clause-stopped : goal.returns-in-Err-refuse-clause-stopped
-returns-in-Err-refuse-clause-stopped g c =
+pub returns-in-Err-refuse-clause-serves : goal.returns-in-Err-refuse-clause-serves
+returns-in-Err-refuse-clause-serves g c =
     let inv = c.pieces.invariant in
     let piece = take c.in-Ok.count c.read.new.buf in
     let fed = c.in-Ok-feed.ensures.reads in
     let bytes = inv.bytes ++ piece in
     let ms = inv.messages ++ fed.0 in
-    let read = consumes_both _ _ _ inv.bytes piece inv.read c.in-Ok.ensures.bytes.0 in
-    let reading = fed.2 inv.bytes inv.messages inv.reading in
-    let is = c.deref.ensures.value ∙ fed.1 in
     let ps = c.deref.result.now in
-    let whole = up_to_close-shown inv.messages fed.0 ps is inv.open_till in
-    let closing = has_close-shown inv.messages fed.0 ps is inv.open_till in
+    let more = fed_of _ _ _ _ inv.bytes piece inv.messages fed.0 ps inv.read c.in-Ok.ensures.bytes.0
+    (fed.2 inv.bytes inv.messages inv.reading) (c.deref.ensures.value ∙ fed.1) inv.open_till in
     let w = passing g.S.Source.given c.args.source.now c.answer_all.new.source g.W.Write.contents
     c.args.writer.now c.answer_all.new.writer g.T.Tables.is_honest g.T.Tables.holds g.T.Tables.leaves
     c.args.vault.now c.answer_all.new.vault in
     let none : has_close (shown ms) ≡ false =
-    closing ∙ sym c.in-Ok-false.ensures.closes ∙ c.in-Ok-false.field-0-test in
-    let all = subst (AllAnswered w) (sym whole ∙ up_to_close-none (shown ms) none)
+    more.closing ∙ sym c.in-Ok-false.ensures.closes ∙ c.in-Ok-false.field-0-test in
+    let all = subst (AllAnswered w) (sym more.whole ∙ up_to_close-none (shown ms) none)
     (all_then g.S.Source.given c.args.source.now c.pieces.source c.answer_all.new.source
     g.W.Write.contents
     c.args.writer.now c.pieces.writer c.answer_all.new.writer g.T.Tables.is_honest g.T.Tables.holds
-    g.T.Tables.leaves c.args.vault.now c.pieces.vault c.answer_all.new.vault c.answer_all.ensures.honest
+    g.T.Tables.leaves c.args.vault.now c.pieces.vault c.answer_all.new.vault
+    c.answer_all.ensures.trusted.honest
     (shown inv.messages) (up_to_close c.deref.result.now) inv.answered c.in-Ok-false.ensures.ends) in
-    let many : length (up_to_close ps) ≡ length fed.0 =
-    shown_count inv.messages fed.0 ps is inv.open_till none in
+    let many : length (up_to_close ps) ≡ length fed.0 = more.count none in
     let fault = sym c.in-Ok-feed.ensures.fault ∙ c.in-Some.is in
-    stopped_fault g.S.Source.given c.args.source.now c.answer_all.new.source g.W.Write.contents
+    serves_part _ _ _ _ (stopped_fault g.S.Source.given c.args.source.now c.answer_all.new.source
+    g.W.Write.contents
     c.args.writer.now c.answer_all.new.writer c.refuse.new.writer g.T.Tables.is_honest g.T.Tables.holds
-    g.T.Tables.leaves c.args.vault.now c.answer_all.new.vault _ _ bytes ms c.in-Some.fault read
-    (reads_by c.feed.new.self bytes ms (Some c.in-Some.fault) fault reading) none all
-    c.in-Err-refuse.stop c.in-Err-refuse.ensures.ends
+    g.T.Tables.leaves c.args.vault.now c.answer_all.new.vault _ _ bytes ms c.in-Some.fault more.read
+    (reads_by c.feed.new.self bytes ms (Some c.in-Some.fault) fault more.reading) none all
+    c.in-Err-refuse.stop c.in-Err-refuse.ensures.ends)
 
-pub returns-in-Some-clause-served : goal.returns-in-Some-clause-served
-returns-in-Some-clause-served g c =
+pub returns-in-Some-clause-serves : goal.returns-in-Some-clause-serves
+returns-in-Some-clause-serves g c =
     let inv = c.pieces.invariant in
     let piece = take c.in-Ok.count c.read.new.buf in
     let fed = c.in-Ok-feed.ensures.reads in
     let bytes = inv.bytes ++ piece in
     let ms = inv.messages ++ fed.0 in
-    let read = consumes_both _ _ _ inv.bytes piece inv.read c.in-Ok.ensures.bytes.0 in
-    let reading = fed.2 inv.bytes inv.messages inv.reading in
-    let is = c.deref.ensures.value ∙ fed.1 in
     let ps = c.deref.result.now in
-    let whole = up_to_close-shown inv.messages fed.0 ps is inv.open_till in
-    let closing = has_close-shown inv.messages fed.0 ps is inv.open_till in
+    let more = fed_of _ _ _ _ inv.bytes piece inv.messages fed.0 ps inv.read c.in-Ok.ensures.bytes.0
+    (fed.2 inv.bytes inv.messages inv.reading) (c.deref.ensures.value ∙ fed.1) inv.open_till in
     let w = passing g.S.Source.given c.args.source.now c.answer_all.new.source g.W.Write.contents
     c.args.writer.now c.answer_all.new.writer g.T.Tables.is_honest g.T.Tables.holds g.T.Tables.leaves
     c.args.vault.now c.answer_all.new.vault in
     let none : has_close (shown ms) ≡ false =
-    closing ∙ sym c.in-Ok-false.ensures.closes ∙ c.in-Ok-false.field-0-test in
-    let all = subst (AllAnswered w) (sym whole ∙ up_to_close-none (shown ms) none)
+    more.closing ∙ sym c.in-Ok-false.ensures.closes ∙ c.in-Ok-false.field-0-test in
+    let all = subst (AllAnswered w) (sym more.whole ∙ up_to_close-none (shown ms) none)
     (all_then g.S.Source.given c.args.source.now c.pieces.source c.answer_all.new.source
     g.W.Write.contents
     c.args.writer.now c.pieces.writer c.answer_all.new.writer g.T.Tables.is_honest g.T.Tables.holds
-    g.T.Tables.leaves c.args.vault.now c.pieces.vault c.answer_all.new.vault c.answer_all.ensures.honest
+    g.T.Tables.leaves c.args.vault.now c.pieces.vault c.answer_all.new.vault
+    c.answer_all.ensures.trusted.honest
     (shown inv.messages) (up_to_close c.deref.result.now) inv.answered c.in-Ok-false.ensures.ends) in
-    let many : length (up_to_close ps) ≡ length fed.0 =
-    shown_count inv.messages fed.0 ps is inv.open_till none in
+    let many : length (up_to_close ps) ≡ length fed.0 = more.count none in
     let fault = sym c.in-Ok-feed.ensures.fault ∙ c.in-Some.is in
     let count : length ms ≡ length inv.messages + length fed.0 = length-append inv.messages fed.0 in
-    served_fault g.S.Source.given c.args.source.now c.answer_all.new.source g.W.Write.contents
+    serves_all _ _ _ _ (served_fault g.S.Source.given c.args.source.now c.answer_all.new.source
+    g.W.Write.contents
     c.args.writer.now c.answer_all.new.writer c.refuse.new.writer g.T.Tables.is_honest g.T.Tables.holds
-    g.T.Tables.leaves c.args.vault.now c.answer_all.new.vault _ _ bytes ms c.in-Some.fault read
-    (reads_by c.feed.new.self bytes ms (Some c.in-Some.fault) fault reading) none all
+    g.T.Tables.leaves c.args.vault.now c.answer_all.new.vault _ _ bytes ms c.in-Some.fault more.read
+    (reads_by c.feed.new.self bytes ms (Some c.in-Some.fault) fault more.reading) none all
     (record { messages = c.left-pairs.result - c.left-in-Some.result; fault = Some c.in-Some.fault })
     (omega (
       arith,
@@ -233,7 +224,7 @@ returns-in-Some-clause-served g c =
       many,
       count,
     ))
-    refl c.in_default-refuse.ensures.ends
+    refl c.in_default-refuse.ensures.ends)
 
 pub pieces-smaller : goal.pieces-smaller
 pieces-smaller g c =
@@ -242,22 +233,18 @@ pieces-smaller g c =
     let fed = c.in-Ok-feed.ensures.reads in
     let bytes = inv.bytes ++ piece in
     let ms = inv.messages ++ fed.0 in
-    let read = consumes_both _ _ _ inv.bytes piece inv.read c.in-Ok.ensures.bytes.0 in
-    let reading = fed.2 inv.bytes inv.messages inv.reading in
-    let is = c.deref.ensures.value ∙ fed.1 in
     let ps = c.deref.result.now in
-    let whole = up_to_close-shown inv.messages fed.0 ps is inv.open_till in
-    let closing = has_close-shown inv.messages fed.0 ps is inv.open_till in
+    let more = fed_of _ _ _ _ inv.bytes piece inv.messages fed.0 ps inv.read c.in-Ok.ensures.bytes.0
+    (fed.2 inv.bytes inv.messages inv.reading) (c.deref.ensures.value ∙ fed.1) inv.open_till in
     let none : has_close (shown ms) ≡ false =
-    closing ∙ sym c.in-Ok-false.ensures.closes ∙ c.in-Ok-false.field-0-test in
-    let many : length (up_to_close ps) ≡ length fed.0 =
-    shown_count inv.messages fed.0 ps is inv.open_till none in
+    more.closing ∙ sym c.in-Ok-false.ensures.closes ∙ c.in-Ok-false.field-0-test in
+    let many : length (up_to_close ps) ≡ length fed.0 = more.count none in
     let room : 0 < length c.read.new.buf = omega (arith, c.read.auto.buf, inv.room) in
     let taken = length-take c.in-Ok.count c.read.new.buf in
     let some : 0 < length piece = omega (arith, c.if-count-eq0.false, room, taken) in
     falls fed.0 c.pieces.intake c.feed.new.self inv.bytes piece inv.messages
     (g.S.Source.count_left c.pieces.source) (g.S.Source.count_left c.answer_all.new.source)
-    inv.calm (sym c.in-Ok-feed.ensures.fault ∙ c.in_default-fault.is) inv.reading reading some
+    inv.calm (sym c.in-Ok-feed.ensures.fault ∙ c.in_default-fault.is) inv.reading more.reading some
     (c.in-Ok-false.ensures.counted ∙ ap (λ n. g.S.Source.count_left c.answer_all.new.source + n) many)
 
 pub pieces-preserved : goal.pieces-preserved
@@ -267,27 +254,23 @@ pieces-preserved g c =
     let fed = c.in-Ok-feed.ensures.reads in
     let bytes = inv.bytes ++ piece in
     let ms = inv.messages ++ fed.0 in
-    let read = consumes_both _ _ _ inv.bytes piece inv.read c.in-Ok.ensures.bytes.0 in
-    let reading = fed.2 inv.bytes inv.messages inv.reading in
-    let is = c.deref.ensures.value ∙ fed.1 in
     let ps = c.deref.result.now in
-    let whole = up_to_close-shown inv.messages fed.0 ps is inv.open_till in
-    let closing = has_close-shown inv.messages fed.0 ps is inv.open_till in
+    let more = fed_of _ _ _ _ inv.bytes piece inv.messages fed.0 ps inv.read c.in-Ok.ensures.bytes.0
+    (fed.2 inv.bytes inv.messages inv.reading) (c.deref.ensures.value ∙ fed.1) inv.open_till in
     let w = passing g.S.Source.given c.args.source.now c.answer_all.new.source g.W.Write.contents
     c.args.writer.now c.answer_all.new.writer g.T.Tables.is_honest g.T.Tables.holds g.T.Tables.leaves
     c.args.vault.now c.answer_all.new.vault in
     let none : has_close (shown ms) ≡ false =
-    closing ∙ sym c.in-Ok-false.ensures.closes ∙ c.in-Ok-false.field-0-test in
-    let all = subst (AllAnswered w) (sym whole ∙ up_to_close-none (shown ms) none)
+    more.closing ∙ sym c.in-Ok-false.ensures.closes ∙ c.in-Ok-false.field-0-test in
+    let all = subst (AllAnswered w) (sym more.whole ∙ up_to_close-none (shown ms) none)
     (all_then g.S.Source.given c.args.source.now c.pieces.source c.answer_all.new.source
     g.W.Write.contents
     c.args.writer.now c.pieces.writer c.answer_all.new.writer g.T.Tables.is_honest g.T.Tables.holds
-    g.T.Tables.leaves c.args.vault.now c.pieces.vault c.answer_all.new.vault c.answer_all.ensures.honest
+    g.T.Tables.leaves c.args.vault.now c.pieces.vault c.answer_all.new.vault
+    c.answer_all.ensures.trusted.honest
     (shown inv.messages) (up_to_close c.deref.result.now) inv.answered c.in-Ok-false.ensures.ends) in
-    let many : length (up_to_close ps) ≡ length fed.0 =
-    shown_count inv.messages fed.0 ps is inv.open_till none in
-    let went = ap (λ b. failures (g.S.Source.has_refused c.pieces.source) b (is_stopped c.pieces.writer)
-    (is_broken c.pieces.vault)) (c.in-Ok.ensures.flag ∙ sym c.in-Ok.ensures.ok) ∙ inv.told in
+    let many : length (up_to_close ps) ≡ length fed.0 = more.count none in
+    let went = after_read _ _ _ _ _ _ (c.in-Ok.ensures.flag ∙ sym c.in-Ok.ensures.ok) inv.told in
     let all_told =
     beside_reader Bool (Ok false) (is_stopped c.read.new.self) _ _ _ _ _ _ c.in-Ok-false.ensures.told
     ∙ went in
@@ -296,15 +279,15 @@ pieces-preserved g c =
       calm = sym c.in-Ok-feed.ensures.fault ∙ c.in_default-fault.is;
       bytes = bytes;
       messages = ms;
-      read = read;
-      reading = reading;
+      read = more.read;
+      reading = more.reading;
       open_till = none;
       answered = all;
       counted =
           omega (arith, inv.counted, c.in-Ok-false.ensures.counted, many, length-append inv.messages fed.0);
       later = g.met.S.Source.transitive _ _ _ inv.later c.answer_all.ensures.later;
       told = all_told;
-      honest = λ h. inv.honest (c.answer_all.ensures.honest h);
+      honest = λ h. inv.honest (c.answer_all.ensures.trusted.honest h);
     }
 
 pub returns-in_default-clause-told : goal.returns-in_default-clause-told
@@ -316,49 +299,34 @@ returns-in_default-clause-told g c =
 
 pub returns-then-count-eq0-clause-told : goal.returns-then-count-eq0-clause-told
 returns-then-count-eq0-clause-told g c =
-    let s = g.S.Source.has_refused c.pieces.source in
-    let w = is_stopped c.pieces.writer in
-    let v = is_broken c.pieces.vault in
-    let went = ap (λ b. failures s b w v) (c.in-Ok.ensures.flag ∙ sym c.in-Ok.ensures.ok)
-    ∙ c.pieces.invariant.told in
+    let went =
+    after_read _ _ _ _ _ _ (c.in-Ok.ensures.flag ∙ sym c.in-Ok.ensures.ok) c.pieces.invariant.told in
     went
 
 pub returns-in_default-feed-clause-told : goal.returns-in_default-feed-clause-told
 returns-in_default-feed-clause-told g c =
-    let s = g.S.Source.has_refused c.pieces.source in
-    let w = is_stopped c.pieces.writer in
-    let v = is_broken c.pieces.vault in
-    let went = ap (λ b. failures s b w v) (c.in-Ok.ensures.flag ∙ sym c.in-Ok.ensures.ok)
-    ∙ c.pieces.invariant.told in
+    let went =
+    after_read _ _ _ _ _ _ (c.in-Ok.ensures.flag ∙ sym c.in-Ok.ensures.ok) c.pieces.invariant.told in
     went
 
 pub returns-in-Ok-true-clause-told : goal.returns-in-Ok-true-clause-told
 returns-in-Ok-true-clause-told g c =
-    let s = g.S.Source.has_refused c.pieces.source in
-    let w = is_stopped c.pieces.writer in
-    let v = is_broken c.pieces.vault in
-    let went = ap (λ b. failures s b w v) (c.in-Ok.ensures.flag ∙ sym c.in-Ok.ensures.ok)
-    ∙ c.pieces.invariant.told in
+    let went =
+    after_read _ _ _ _ _ _ (c.in-Ok.ensures.flag ∙ sym c.in-Ok.ensures.ok) c.pieces.invariant.told in
     beside_reader Bool (Ok true) (is_stopped c.read.new.self) _ _ _ _ _ _ c.in-Ok-true.ensures.told ∙ went
 
 pub returns-in-Err-clause-told : goal.returns-in-Err-clause-told
 returns-in-Err-clause-told g c =
-    let s = g.S.Source.has_refused c.pieces.source in
-    let w = is_stopped c.pieces.writer in
-    let v = is_broken c.pieces.vault in
-    let went = ap (λ b. failures s b w v) (c.in-Ok.ensures.flag ∙ sym c.in-Ok.ensures.ok)
-    ∙ c.pieces.invariant.told in
+    let went =
+    after_read _ _ _ _ _ _ (c.in-Ok.ensures.flag ∙ sym c.in-Ok.ensures.ok) c.pieces.invariant.told in
     tells_as Bool Served c.in-Err.fault _ _ _ went
     (beside_reader Bool (Err c.in-Err.fault) (is_stopped c.read.new.self) _ _ _ _ _ _
     c.in-Err.ensures.told)
 
 pub returns-in-Err-refuse-clause-told : goal.returns-in-Err-refuse-clause-told
 returns-in-Err-refuse-clause-told g c =
-    let s = g.S.Source.has_refused c.pieces.source in
-    let w = is_stopped c.pieces.writer in
-    let v = is_broken c.pieces.vault in
-    let went = ap (λ b. failures s b w v) (c.in-Ok.ensures.flag ∙ sym c.in-Ok.ensures.ok)
-    ∙ c.pieces.invariant.told in
+    let went =
+    after_read _ _ _ _ _ _ (c.in-Ok.ensures.flag ∙ sym c.in-Ok.ensures.ok) c.pieces.invariant.told in
     let all =
     beside_reader Bool (Ok false) (is_stopped c.read.new.self) _ _ _ _ _ _ c.in-Ok-false.ensures.told
     ∙ went in
@@ -369,11 +337,8 @@ returns-in-Err-refuse-clause-told g c =
 
 pub returns-in-Some-clause-told : goal.returns-in-Some-clause-told
 returns-in-Some-clause-told g c =
-    let s = g.S.Source.has_refused c.pieces.source in
-    let w = is_stopped c.pieces.writer in
-    let v = is_broken c.pieces.vault in
-    let went = ap (λ b. failures s b w v) (c.in-Ok.ensures.flag ∙ sym c.in-Ok.ensures.ok)
-    ∙ c.pieces.invariant.told in
+    let went =
+    after_read _ _ _ _ _ _ (c.in-Ok.ensures.flag ∙ sym c.in-Ok.ensures.ok) c.pieces.invariant.told in
     let all =
     beside_reader Bool (Ok false) (is_stopped c.read.new.self) _ _ _ _ _ _ c.in-Ok-false.ensures.told
     ∙ went in

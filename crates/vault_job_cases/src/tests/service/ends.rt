@@ -1,18 +1,13 @@
 //! What ends the service, and what ends one connection alone.
-use super::fakes::{Failing, Lent, Stuck};
-use super::{ANSWERED, ASKED, is_told, listen, peer, serve_by, shop};
-use crate::tests::clocks::{SetClock, StandingClock};
-use rand::SeedableRng;
-use rand::rngs::StdRng;
+use super::fakes::{Stuck, TestListener};
+use super::{ANSWERED, ASKED, is_told, listen, peer, serve_by, serve_within, shop};
+use crate::tests::clocks::TestClock;
 use std::alloc::Global;
 use std::io;
 use std::io::ErrorKind;
 use std::net::{Net, TcpListener, TcpStream};
 use vault_listen::fault::ListenFault;
 use vault_listen::peer::Limits;
-use vault_listen::service::serve_on;
-use vault_listen::tcp::TcpPeers;
-use vault_live::time::ClockTime;
 use vault_store::vault::Vault;
 
 /// Connections that are lost before they are accepted.
@@ -30,23 +25,11 @@ fn count_as_ones<H: Net<Listener = TcpListener, Stream = TcpStream> + AllocGloba
 ) -> io::Result<bool> {
     let listener = listen(rt)?;
     let asked = peer(rt, &listener, ASKED.as_bytes())?;
-    let failing = Failing::new(&listener, &LOST);
+    let failing = TestListener::failing(&listener, &LOST);
     let mut vault = shop(rt.alloc());
-    let all_lost = serve_by(
-        rt.alloc(),
-        Lent::new(&failing),
-        5,
-        &StandingClock::at(1000),
-        &mut vault,
-    ) == Ok(());
+    let all_lost = serve_by(rt.alloc(), &failing, 5, &TestClock::at(1000), &mut vault) == Ok(());
     let accepts = failing.accepts();
-    let served = serve_by(
-        rt.alloc(),
-        Lent::new(&failing),
-        1,
-        &StandingClock::at(1000),
-        &mut vault,
-    ) == Ok(());
+    let served = serve_by(rt.alloc(), &failing, 1, &TestClock::at(1000), &mut vault) == Ok(());
     Ok(all_lost && accepts == 5 && served && is_told(rt.alloc(), asked, ANSWERED))
 }
 
@@ -58,15 +41,9 @@ fn a_connection_that_is_lost_before_it_is_accepted_counts_as_one(rt: HostRuntime
 /// Whether the service ends with 80 where its second accept fails so.
 fn ends_with_80(alloc: Global, listener: &TcpListener, kind: ErrorKind) -> bool {
     let kinds = [ErrorKind::ConnectionAborted, kind];
-    let failing = Failing::new(listener, &kinds);
+    let failing = TestListener::failing(listener, &kinds);
     let mut vault = shop(alloc);
-    let ended = serve_by(
-        alloc,
-        Lent::new(&failing),
-        9,
-        &StandingClock::at(1000),
-        &mut vault,
-    );
+    let ended = serve_by(alloc, &failing, 9, &TestClock::at(1000), &mut vault);
     ended == Err(ListenFault::Accept) && failing.accepts() == 2
 }
 
@@ -81,7 +58,9 @@ fn a_listener_that_fails_ends_the_service_with_80(rt: HostRuntime) {
     ] {
         assert!(rt; ends_with_80(rt.alloc(), &listener, kind), "{kind:?}");
     }
-    assert!(rt; ListenFault::Accept.number() == 80 && ListenFault::Store.number() == 63);
+    assert!(rt;
+        ListenFault::Accept.refusal().number() == 80 && ListenFault::Store.refusal().number() == 63
+    );
 }
 
 /// Whether a store that fails ends the service with 63: what was answered before went out, and no further
@@ -96,15 +75,9 @@ fn ends_with_63<H: Net<Listener = TcpListener, Stream = TcpStream> + AllocGlobal
     let twice = format!(in alloc; "{ASKED}{request}")?;
     let stuck = peer(rt, &listener, twice.as_bytes())?;
     let after = peer(rt, &listener, ASKED.as_bytes())?;
-    let failing = Failing::new(&listener, &[]);
+    let failing = TestListener::new(&listener);
     let mut vault = Vault::new(Stuck::new(shop(alloc).into_tables()));
-    let ended = serve_by(
-        alloc,
-        Lent::new(&failing),
-        9,
-        &StandingClock::at(1000),
-        &mut vault,
-    );
+    let ended = serve_by(alloc, &failing, 9, &TestClock::at(1000), &mut vault);
     let is_stopped = ended == Err(ListenFault::Store) && vault.broken() && failing.accepts() == 2;
     drop(after);
     Ok(is_stopped && is_told(alloc, repeat, ANSWERED) && is_told(alloc, stuck, ANSWERED))
@@ -127,18 +100,15 @@ fn ended_at<H: Net<Listener = TcpListener, Stream = TcpStream> + AllocGlobal>(
     let listener = listen(rt)?;
     let before = peer(rt, &listener, ASKED.as_bytes())?;
     let after = peer(rt, &listener, ASKED.as_bytes())?;
-    let failing = Failing::new(&listener, &[]);
+    let failing = TestListener::new(&listener);
     let mut vault = shop(rt.alloc());
-    let mut generator = StdRng::seed_from_u64(7);
-    let clock = SetClock::telling(told);
-    let lent = Lent::new(&failing);
-    let mut peers = TcpPeers::new(rt.alloc(), lent, &clock, Limits::of_service());
-    let ended = serve_on(
+    let clock = TestClock::telling(told);
+    let ended = serve_within(
         rt.alloc(),
-        &ClockTime::new(&clock),
-        &mut generator,
-        &mut peers,
+        &failing,
         2,
+        &clock,
+        Limits::of_service(),
         &mut vault,
     );
     let is_second_told = match second {
@@ -188,7 +158,7 @@ fn a_clock_that_jumps_ends_the_service_with_60(rt: HostRuntime) {
     }
     let told = [(Some(1000), 0), (Some(1000), 0), (Some(1301), 0)];
     assert!(rt; ends_with_60(&rt, &told, ANSWERED));
-    assert!(rt; ListenFault::Source.number() == 60);
+    assert!(rt; ListenFault::Source.refusal().number() == 60);
 }
 
 #[test]
@@ -213,15 +183,9 @@ fn a_clock_that_cant_be_read_at_the_start_ends_the_service_with_60(rt: HostRunti
 
 /// Whether a service of no connections accepts none.
 fn accepts_none(alloc: Global, listener: &TcpListener) -> bool {
-    let failing = Failing::new(listener, &[]);
+    let failing = TestListener::new(listener);
     let mut vault = shop(alloc);
-    serve_by(
-        alloc,
-        Lent::new(&failing),
-        0,
-        &StandingClock::at(1000),
-        &mut vault,
-    ) == Ok(())
+    serve_by(alloc, &failing, 0, &TestClock::at(1000), &mut vault) == Ok(())
         && failing.accepts() == 0
 }
 

@@ -19,47 +19,27 @@ use vault_pan::token::Token;
 use vault_store::memory::MemTables;
 use vault_store::tables::{RightRow, Tables, TablesFault};
 
-/// A listener that is lent.
-#[derive(Drop)]
-pub(super) struct Lent<'a, L> {
-    listener: &'a L,
-}
-
-impl<'a, L> Lent<'a, L> {
-    pub(super) fn new(listener: &'a L) -> Lent<'a, L> {
-        Lent { listener }
-    }
-}
-
-impl<'a, L: OpenListener<Stream = TcpStream>> OpenListener for Lent<'a, L> {
-    type Stream = TcpStream;
-
-    fn accept(&self) -> io::Result<(TcpStream, SocketAddr)> {
-        self.listener.accept()
-    }
-}
-
-impl<'a, L: AsRawFd> AsRawFd for Lent<'a, L> {
-    fn as_raw_fd(&self) -> RawFd {
-        self.listener.as_raw_fd()
-    }
-}
-
 /// A listener whose first accepts fail with these kinds, and that counts its accepts.
 #[derive(Drop)]
-pub(super) struct Failing<'a> {
+pub(super) struct TestListener<'a> {
     listener: &'a TcpListener,
     kinds: &'a [ErrorKind],
     accepts: Cell<usize>,
 }
 
-impl<'a> Failing<'a> {
-    pub(super) fn new(listener: &'a TcpListener, kinds: &'a [ErrorKind]) -> Failing<'a> {
-        Failing {
+impl<'a> TestListener<'a> {
+    /// A listener whose first accepts fail so.
+    pub(super) fn failing(listener: &'a TcpListener, kinds: &'a [ErrorKind]) -> TestListener<'a> {
+        TestListener {
             listener,
             kinds,
             accepts: Cell::new(0),
         }
+    }
+
+    /// A listener that fails of itself alone.
+    pub(super) fn new(listener: &'a TcpListener) -> TestListener<'a> {
+        TestListener::failing(listener, &[])
     }
 
     /// How often it was asked for a connection.
@@ -68,22 +48,34 @@ impl<'a> Failing<'a> {
     }
 }
 
-impl<'a> OpenListener for Failing<'a> {
+/// A listener that is lent. All services of the tests are over this one, so that they are compiled once.
+#[derive(Drop)]
+pub(super) struct Lent<'a> {
+    lent: &'a TestListener<'a>,
+}
+
+impl<'a> Lent<'a> {
+    pub(super) fn new(lent: &'a TestListener<'a>) -> Lent<'a> {
+        Lent { lent }
+    }
+}
+
+impl<'a> OpenListener for Lent<'a> {
     type Stream = TcpStream;
 
     fn accept(&self) -> io::Result<(TcpStream, SocketAddr)> {
-        let before = self.accepts.get();
-        self.accepts.set(before.saturating_add(1));
-        match self.kinds.get(before) {
+        let before = self.lent.accepts.get();
+        self.lent.accepts.set(before.saturating_add(1));
+        match self.lent.kinds.get(before) {
             Some(kind) => Err(Error::from(*kind)),
-            None => self.listener.accept(),
+            None => self.lent.listener.accept(),
         }
     }
 }
 
-impl<'a> AsRawFd for Failing<'a> {
+impl<'a> AsRawFd for Lent<'a> {
     fn as_raw_fd(&self) -> RawFd {
-        self.listener.as_raw_fd()
+        self.lent.listener.as_raw_fd()
     }
 }
 

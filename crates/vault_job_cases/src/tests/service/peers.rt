@@ -1,9 +1,7 @@
 //! Peers that are silent, cut short, gone or in the way: the service goes on to the next one.
-use super::fakes::Lent;
-use super::{ANSWERED, ASKED, is_served, is_told, listen, open_peer, peer, shop};
-use crate::tests::clocks::{StandingClock, StepClock};
-use rand::SeedableRng;
-use rand::rngs::StdRng;
+use super::fakes::TestListener;
+use super::{ANSWERED, ASKED, is_served, is_told, listen, open_peer, peer, serve_within, shop};
+use crate::tests::clocks::TestClock;
 use std::alloc::{AllocError, Global};
 use std::io;
 use std::io::{Read, Write, read_to_string};
@@ -13,9 +11,6 @@ use std::rc::Rc;
 use std::time::{Clock, Duration};
 use vault_listen::linger::discard;
 use vault_listen::peer::{Limits, PATIENCE, Peer, PeerReader, PeerWriter};
-use vault_listen::service::serve_on;
-use vault_listen::tcp::TcpPeers;
-use vault_live::time::ClockTime;
 
 /// Whether peers that go away end their own connection alone.
 fn go_away<H: Net<Listener = TcpListener, Stream = TcpStream> + AllocGlobal>(
@@ -49,22 +44,13 @@ fn time_of_both<H: Net<Listener = TcpListener, Stream = TcpStream> + AllocGlobal
     let idle = open_peer(rt, &listener, sent)?;
     let next = peer(rt, &listener, ASKED.as_bytes())?;
     let mut vault = shop(rt.alloc());
-    let mut generator = StdRng::seed_from_u64(7);
     let limits = Limits {
         turn: Duration::from_secs(1),
         connection: Duration::from_secs(60),
     };
-    let clock = StandingClock::at(1000);
-    let mut peers = TcpPeers::new(rt.alloc(), Lent::new(&listener), &clock, limits);
+    let (lent, clock) = (TestListener::new(&listener), TestClock::at(1000));
     let begun = rt.monotonic()?;
-    let ended = serve_on(
-        rt.alloc(),
-        &ClockTime::new(&clock),
-        &mut generator,
-        &mut peers,
-        2,
-        &mut vault,
-    );
+    let ended = serve_within(rt.alloc(), &lent, 2, &clock, limits, &mut vault);
     let took = rt.monotonic()?.saturating_sub(begun);
     let are_told = is_told(rt.alloc(), next, ANSWERED) && is_told(rt.alloc(), idle, wanted);
     Ok((ended == Ok(()) && are_told).then_some(took))
@@ -104,7 +90,7 @@ fn are_limited<H: Net<Listener = TcpListener, Stream = TcpStream> + AllocGlobal>
     let listener = listen(rt)?;
     let _other = open_peer(rt, &listener, b"a")?;
     let (stream, _) = listener.accept()?;
-    let clock = StandingClock::at(1000);
+    let clock = TestClock::at(1000);
     let peer = Peer::new(stream, &clock, Limits::of_service(), listener.as_raw_fd())?;
     let Ok(peer) = Rc::new(rt.alloc(), peer) else {
         return Ok(false);
@@ -135,17 +121,8 @@ fn ends_alone<H: Net<Listener = TcpListener, Stream = TcpStream> + AllocGlobal>(
     let listener = listen(rt)?;
     let asked = peer(rt, &listener, b"")?;
     let mut vault = shop(rt.alloc());
-    let mut generator = StdRng::seed_from_u64(7);
-    let clock = StandingClock::at(1000);
-    let mut peers = TcpPeers::new(rt.alloc(), Lent::new(&listener), &clock, NO_TIME);
-    let ended = serve_on(
-        rt.alloc(),
-        &ClockTime::new(&clock),
-        &mut generator,
-        &mut peers,
-        1,
-        &mut vault,
-    );
+    let (lent, clock) = (TestListener::new(&listener), TestClock::at(1000));
+    let ended = serve_within(rt.alloc(), &lent, 1, &clock, NO_TIME, &mut vault);
     Ok(ended == Ok(()) && is_told(rt.alloc(), asked, ""))
 }
 
@@ -175,20 +152,13 @@ fn are_answered<H: Net<Listener = TcpListener, Stream = TcpStream> + AllocGlobal
     let asked = peer(rt, &listener, asked.as_bytes())?;
     let wanted = repeated(rt.alloc(), "", ANSWERED, answers)?;
     let mut vault = shop(rt.alloc());
-    let mut generator = StdRng::seed_from_u64(7);
-    let clock = StepClock::of(step);
-    let mut peers = TcpPeers::new(
+    let (lent, clock) = (TestListener::new(&listener), TestClock::stepping(step));
+    let ended = serve_within(
         rt.alloc(),
-        Lent::new(&listener),
+        &lent,
+        1,
         &clock,
         Limits::of_service(),
-    );
-    let ended = serve_on(
-        rt.alloc(),
-        &ClockTime::new(&clock),
-        &mut generator,
-        &mut peers,
-        1,
         &mut vault,
     );
     Ok(ended == Ok(()) && is_told_so(rt.alloc(), asked, wanted.as_str()))

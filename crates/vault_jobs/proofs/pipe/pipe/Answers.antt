@@ -11,7 +11,8 @@ returns-in-Ok-flush-clause-served g c =
     let w : Passage = passing g.S.Source.given c.args.source.now c.serve.new.source g.W.Write.contents
     c.args.output.now c.serve.new.writer g.T.Tables.is_honest g.T.Tables.holds g.T.Tables.leaves
     c.args.vault.now c.serve.new.vault in
-    (c.in-Ok.field-0, flushed left rest gone w c.in-Ok.field-0 c.in-Ok.ensures.served c.flush.ensures.bytes)
+    let all = flushed left rest gone w c.in-Ok.field-0 c.in-Ok.ensures.serves.served c.flush.ensures.bytes in
+    (c.in-Ok.field-0, all)
 
 pub returns-in-Err-flush-clause-stopped : goal.returns-in-Err-flush-clause-stopped
 returns-in-Err-flush-clause-stopped g c =
@@ -21,5 +22,5 @@ returns-in-Err-flush-clause-stopped g c =
     let w : Passage = passing g.S.Source.given c.args.source.now c.serve.new.source g.W.Write.contents
     c.args.output.now c.serve.new.writer g.T.Tables.is_honest g.T.Tables.holds g.T.Tables.leaves
     c.args.vault.now c.serve.new.vault in
-    let all = flushed left rest gone w c.in-Ok.field-0 c.in-Ok.ensures.served c.flush.ensures.bytes in
+    let all = flushed left rest gone w c.in-Ok.field-0 c.in-Ok.ensures.serves.served c.flush.ensures.bytes in
     inr (refl, (c.in-Ok.field-0, all))

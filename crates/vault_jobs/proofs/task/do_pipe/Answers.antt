@@ -1,5 +1,5 @@
 use Rattle.std.proofs.Common.{inr}
-use Rattle.vault_live.specs.Live.{pairs_of}
+use Rattle.vault_listen.specs.Live.{pairs_of}
 use Rattle.vault_http.specs.Passing.{Passage, passing}
 use Rattle.vault_jobs.proofs.Along.{along_of}
 use Rattle.vault_jobs.proofs.Stops.{few_pairs, fixed_pairs}

@@ -1,5 +1,5 @@
 use Rattle.std.proofs.Common.{◌⊎◌}
-use Rattle.vault_live.specs.Live.{pairs_of}
+use Rattle.vault_listen.specs.Live.{pairs_of}
 use Rattle.vault_store.specs.Held.{IsHeld}
 use Rattle.vault_http.specs.Passing.{Passage, passing}
 use Rattle.vault_jobs.specs.Piped.{IsPiped, StopsPiping}

@@ -3,8 +3,8 @@ use Rattle.std.specs.Prelude.{IfErr, IfOk, MatchResult}
 use Rattle.vault_http.specs.Exchanges.{Pair}
 use Rattle.vault_http.specs.Passing.{passing}
 use Rattle.vault_http.specs.Served.{IsServed, IsStopped}
-use Rattle.vault_live.specs.Live.{AreGiven, pairs_of}
-use Rattle.vault_live.proofs.Turns.{none_given}
+use Rattle.vault_listen.specs.Live.{AreGiven, pairs_of}
+use Rattle.vault_listen.proofs.Turns.{none_given}
 use Rattle.vault_listen.proofs.connection.serve_connection.Goals as goal
 
 either_way : {X E : Type 0} (r : Result X E) (P : X → Type 0) (Q : E → Type 0) → IfOk r P → IfErr r Q
@@ -34,5 +34,6 @@ returns-clause-answered g c =
           (λ given. MatchResult c.serve_by.result (IsServed left rest (w given))
           (IsStopped left rest (w given)))
           gave
-          (either_way c.serve_by.result _ _ c.serve_by.ensures.served c.serve_by.ensures.stopped),
+          (either_way c.serve_by.result _ _ c.serve_by.ensures.serves.served
+          c.serve_by.ensures.serves.stopped),
     )

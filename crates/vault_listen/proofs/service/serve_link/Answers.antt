@@ -22,7 +22,7 @@ returns-then-store_failed-clause-served g c =
           x c.args.vault.now e.new.vault
           c.new-reader.result.stopped c.new-writer.result.stopped e.ensures.told.0 e.ensures.answered.0
           e.ensures.answered.1 e.ensures.answered.2 e.ensures.answered.3 c.new-reader.ensures.fresh
-          c.new-writer.ensures.fresh e.ensures.told.1 e.ensures.honest,
+          c.new-writer.ensures.fresh e.ensures.told.1 e.ensures.trusted.honest,
       record {
         gave = ap remaining c.new-reader.ensures.inner;
         took = ap contents c.new-writer.ensures.inner;
@@ -50,7 +50,7 @@ returns-clause-served g c =
           x c.args.vault.now e.new.vault
           c.new-reader.result.stopped c.new-writer.result.stopped e.ensures.told.0 e.ensures.answered.0
           e.ensures.answered.1 e.ensures.answered.2 e.ensures.answered.3 c.new-reader.ensures.fresh
-          c.new-writer.ensures.fresh e.ensures.told.1 e.ensures.honest,
+          c.new-writer.ensures.fresh e.ensures.told.1 e.ensures.trusted.honest,
       record {
         gave = ap remaining c.new-reader.ensures.inner;
         took = ap contents c.new-writer.ensures.inner;

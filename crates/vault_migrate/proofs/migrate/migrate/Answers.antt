@@ -1,17 +1,16 @@
-use Rattle.std.proofs.Common.{◌≡◌, ◌∙◌, ap, inl, subst, sym}
+use Rattle.std.proofs.Common.{refl, ◌≡◌, ◌∙◌, ap, inl, subst, sym}
 use Rattle.sqlite.specs.Held.{state}
-use Rattle.vault_migrate.proofs.Moving.{broken_else, broken_in, each_err, held_newest, is_newest, left_newest}
-use Rattle.vault_migrate.proofs.Moving.{movable_else, movable_in, never_blank, older_found, older_schema}
-use Rattle.vault_migrate.proofs.Moving.{version_else, version_in}
+use Rattle.vault_migrate.proofs.Migrating.{migrates_else, migrates_older}
+use Rattle.vault_migrate.proofs.Moving.{held_newest, is_newest, left_newest}
+use Rattle.vault_migrate.proofs.Moving.{older_found}
 use Rattle.vault_migrate.proofs.migrate.migrate.Given.{Over}
 use Rattle.vault_migrate.proofs.migrate.migrate.Goals as goal
-use Rattle.vault_migrate.specs.Moved.{HoldsSoundIn, IsNoOlder, IsOlder, LeavesIn, LeavesStep}
-use Rattle.vault_schema.proofs.Newest.{held_in_newest, one_version}
+use Rattle.vault_migrate.specs.Moved.{IsNoOlder, IsOlder, LeavesStep}
+use Rattle.vault_schema.proofs.Newest.{one_version}
 use Rattle.vault_schema.specs.Holds.{AreIn, HoldsIn}
 use Rattle.vault_schema.specs.Versions.{next_of, number_of, schema_of}
 use Rattle.vault_schema.specs.declared.version.Version.{Version}
-use Rattle.vault_verdict.proofs.Results.{if_err, if_ok, if_so, on_ok}
-use Rattle.vault_verdict.specs.ReadAs.{IsFullIn}
+use Rattle.vault_verdict.proofs.Results.{if_ok}
 
 -- ---- an older version
 
@@ -32,39 +31,6 @@ pub returns-in-Some-clause-made : goal.returns-in-Some-clause-made
 returns-in-Some-clause-made g c = if_ok c.move_up.result (λ n is none.
     absurd (none c.in-Some.version (older g c) (found g c))) c.move_up.ensures.next
 
-pub returns-in-Some-clause-moved : goal.returns-in-Some-clause-moved
-returns-in-Some-clause-moved g c clean = if_so c.move_up.result (λ moved v V h.
-    let one = one_version c.in-Some.version v (sym (found g c) ∙ h.is.schema) in
-    subst (λ (x : Version). HoldsIn (next_of x) V (state g.S.Store c.move_up.new.conn)) one (moved V
-    (subst (λ (x : Version). HoldsIn x V (state g.S.Store c.args.conn.now)) (sym one) h)))
-    (c.move_up.ensures.moved clean)
-
-pub returns-in-Some-clause-whole : goal.returns-in-Some-clause-whole
-returns-in-Some-clause-whole g c clean = if_so c.move_up.result (λ whole v V h.
-    let one = one_version c.in-Some.version v (sym (found g c) ∙ h.is.schema) in
-    subst (λ (x : Version). LeavesIn (next_of x) V (state g.S.Store c.move_up.new.conn)) one (whole V
-    (subst (λ (x : Version). HoldsIn x V (state g.S.Store c.args.conn.now)) (sym one) h)))
-    (c.move_up.ensures.whole clean)
-
-pub returns-in-Some-clause-sound : goal.returns-in-Some-clause-sound
-returns-in-Some-clause-sound g c clean = if_so c.move_up.result (λ sound v was full.
-    let one = one_version c.in-Some.version v (sym (found g c) ∙ full.schema) in
-    subst (λ (x : Version). HoldsSoundIn (next_of x) (state g.S.Store c.move_up.new.conn)) one (sound
-    (subst (λ (x : Version). IsFullIn x (state g.S.Store c.args.conn.now).now) (sym one) full)))
-    (c.move_up.ensures.sound clean)
-
-pub returns-in-Some-clause-same : goal.returns-in-Some-clause-same
-returns-in-Some-clause-same g c clean =
-    on_ok c.move_up.result (λ is. absurd (older_schema c.in-Some.version (older g c) (sym (found g c) ∙ is)))
-
-pub returns-in-Some-clause-blank : goal.returns-in-Some-clause-blank
-returns-in-Some-clause-blank g c clean =
-    on_ok c.move_up.result (λ ready none. absurd (never_blank c.in-Some.version (sym (found g c) ∙ none)))
-
-pub returns-in-Some-clause-checked : goal.returns-in-Some-clause-checked
-returns-in-Some-clause-checked g c clean =
-    on_ok c.move_up.result (λ none. absurd (none c.in-Some.version (older g c) (found g c)))
-
 pub returns-in-Some-clause-crash : goal.returns-in-Some-clause-crash
 returns-in-Some-clause-crash g c clean = record {
   older = λ v V h.
@@ -76,37 +42,10 @@ returns-in-Some-clause-crash g c clean = record {
       (found g c) (older g c);
 }
 
-pub returns-in-Some-clause-stays : goal.returns-in-Some-clause-stays
-returns-in-Some-clause-stays g c clean = if_err c.move_up.result (λ e stays other v V h.
-    let one = one_version c.in-Some.version v (sym (found g c) ∙ h.is.schema) in
-    subst (λ (x : Version). LeavesIn x V (state g.S.Store c.move_up.new.conn)) one (stays other V
-    (subst (λ (x : Version). HoldsIn x V (state g.S.Store c.args.conn.now)) (sym one) h)))
-    (c.move_up.ensures.stays clean)
-
-pub returns-in-Some-clause-damaged : goal.returns-in-Some-clause-damaged
-returns-in-Some-clause-damaged g c clean =
-    broken_in c.in-Some.version (older g c) (state g.S.Store c.args.conn.now).now (found g c) c.move_up.result
-    (c.move_up.ensures.damaged clean)
-
-pub returns-in-Some-clause-wrong : goal.returns-in-Some-clause-wrong
-returns-in-Some-clause-wrong g c clean =
-    version_in c.in-Some.version (older g c) (state g.S.Store c.args.conn.now).now
-    (found g c) c.move_up.result
-    (c.move_up.ensures.wrong clean)
-
-pub returns-in-Some-clause-never : goal.returns-in-Some-clause-never
-returns-in-Some-clause-never g c clean =
-    movable_in c.in-Some.version (older g c) (state g.S.Store c.args.conn.now).now
-    (found g c) c.move_up.result
-    (c.move_up.ensures.damaged clean) (c.move_up.ensures.wrong clean)
-
-pub returns-in-Some-clause-unwritten : goal.returns-in-Some-clause-unwritten
-returns-in-Some-clause-unwritten g c clean =
-    if_err c.move_up.result (λ e less other. less other (found g c)) (c.move_up.ensures.unwritten clean)
-
-pub returns-in-Some-clause-unmoved : goal.returns-in-Some-clause-unmoved
-returns-in-Some-clause-unmoved g c clean =
-    each_err c.move_up.result (λ e none. absurd (none c.in-Some.version (older g c) (found g c)))
+pub returns-in-Some-clause-migrates : goal.returns-in-Some-clause-migrates
+returns-in-Some-clause-migrates g c =
+    migrates_older next_of c.in-Some.version (older g c) (found g c)
+    (assumption c.move_up.ensures)
 
 -- ---- no older version
 
@@ -123,30 +62,6 @@ pub returns-in-None-clause-made : goal.returns-in-None-clause-made
 returns-in-None-clause-made g c =
     if_ok c.make_or_check.result (λ n is none. is) c.make_or_check.ensures.newest
 
-pub returns-in-None-clause-moved : goal.returns-in-None-clause-moved
-returns-in-None-clause-moved g c clean = if_so c.make_or_check.result (λ kept v V h.
-    let old = state g.S.Store c.args.conn.now in
-    let new = state g.S.Store c.make_or_check.new.conn in
-    let it = held_newest old (none_older g c) v V h in
-    subst (λ (x : Version). HoldsIn (next_of x) V new) (sym it.0) (held_in_newest V new (kept V it.1)))
-    (c.make_or_check.ensures.kept clean)
-
-pub returns-in-None-clause-whole : goal.returns-in-None-clause-whole
-returns-in-None-clause-whole g c clean = on_ok c.make_or_check.result (λ v V h.
-    let old = state g.S.Store c.args.conn.now in
-    let new = state g.S.Store c.make_or_check.new.conn in
-    let it = held_newest old (none_older g c) v V h in
-    subst (λ (x : Version). LeavesIn (next_of x) V new) (sym it.0)
-    (left_newest V new ((c.make_or_check.ensures.left clean).held V it.1)))
-
-pub returns-in-None-clause-sound : goal.returns-in-None-clause-sound
-returns-in-None-clause-sound g c clean =
-    on_ok c.make_or_check.result (λ v was full. absurd (none_older g c v was full.schema))
-
-pub returns-in-None-clause-checked : goal.returns-in-None-clause-checked
-returns-in-None-clause-checked g c clean =
-    if_so c.make_or_check.result (λ it none. it) (c.make_or_check.ensures.checked clean)
-
 pub returns-in-None-clause-crash : goal.returns-in-None-clause-crash
 returns-in-None-clause-crash g c clean =
     let new = state g.S.Store c.make_or_check.new.conn in
@@ -159,28 +74,7 @@ returns-in-None-clause-crash g c clean =
       found = found;
     }
 
-pub returns-in-None-clause-stays : goal.returns-in-None-clause-stays
-returns-in-None-clause-stays g c clean = each_err c.make_or_check.result (λ e other v V h.
-    let new = state g.S.Store c.make_or_check.new.conn in
-    let it = held_newest (state g.S.Store c.args.conn.now) (none_older g c) v V h in
-    subst (λ (x : Version). LeavesIn x V new) (sym it.0)
-    (left_newest V new ((c.make_or_check.ensures.left clean).held V it.1)))
-
-pub returns-in-None-clause-damaged : goal.returns-in-None-clause-damaged
-returns-in-None-clause-damaged g c clean =
-    broken_else (state g.S.Store c.args.conn.now).now (none_older g c) c.make_or_check.result
-    (c.make_or_check.ensures.damaged clean)
-
-pub returns-in-None-clause-wrong : goal.returns-in-None-clause-wrong
-returns-in-None-clause-wrong g c clean =
-    version_else (state g.S.Store c.args.conn.now).now (none_older g c) c.make_or_check.result
-    (c.make_or_check.ensures.wrong clean)
-
-pub returns-in-None-clause-never : goal.returns-in-None-clause-never
-returns-in-None-clause-never g c clean =
-    movable_else (state g.S.Store c.args.conn.now).now (none_older g c) c.make_or_check.result
-    (c.make_or_check.ensures.never clean)
-
-pub returns-in-None-clause-unmoved : goal.returns-in-None-clause-unmoved
-returns-in-None-clause-unmoved g c clean =
-    if_err c.make_or_check.result (λ e less none. less) (c.make_or_check.ensures.unmade clean)
+pub returns-in-None-clause-migrates : goal.returns-in-None-clause-migrates
+returns-in-None-clause-migrates g c =
+    migrates_else next_of refl (none_older g c)
+    (assumption c.make_or_check.ensures)

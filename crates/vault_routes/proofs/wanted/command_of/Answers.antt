@@ -3,7 +3,7 @@ use Rattle.vault_pan.specs.CardText.{IsToken}
 use Rattle.vault_routes.specs.Route.{route_of, target_of}
 use Rattle.vault_routes.specs.Table.{action_at}
 use Rattle.vault_routes.specs.Wanted.{Wants, WantsAction, command_for, command_on}
-use Rattle.vault_routes.specs.declared.fault.HttpFault.TheVariants as fault
+use Rattle.vault_refusal.specs.declared.refusal.Refusal.TheVariants as refusal
 use Rattle.vault_routes.specs.declared.table.Action.TheVariants as action
 use Rattle.vault_routes.proofs.WantedLemmas.{asker_read, asker_refused, order_read, order_refused, refused_by}
 use Rattle.vault_routes.proofs.WantedLemmas.{wants_of}
@@ -62,7 +62,7 @@ returns-in_err-token-in-OnToken-clause-wanted c =
     ∙ ap Some c.in-OnToken.is in
     refused_by (Wants c.args.message.now c.args.now c.args.digits)
     c.from_residual-in_err-token-in-OnToken.result
-    (fault.Token c.in_err-token-in-OnToken.field-0.0) c.from_residual-in_err-token-in-OnToken.ensures.1
+    refusal.BadToken c.from_residual-in_err-token-in-OnToken.ensures.1
     (λ _. wants_of c.args.message.now c.args.now c.args.digits target asked _ found takes
     (asker_read c.args.message.now target.merchant c.args.now
     (WantsAction asked target c.args.message.now c.args.digits) c.in_ok-asker.asker _

@@ -3,15 +3,21 @@ use Rattle.vault_rows.proofs.Calls.{told_inside}
 use Rattle.vault_rows.proofs.Lookups.{no_lives, same_lives}
 use Rattle.vault_rows.proofs.merchants.has_lives.Goals as goal
 
-pub returns-in-Some-clause-told : goal.returns-in-Some-clause-told
-returns-in-Some-clause-told g c =
-    told_inside (λ t found. found ≡ t.merchants c.args.m.now) c.in_ok-found.ensures.steps
-    c.in_ok-found.ensures.told (λ t is.
-    same_lives (t.merchants c.args.m.now) _ c.args.x.now c.are_same.result c.are_same.ensures
-    (sym c.in-Some.is ∙ is))
+pub returns-in-Some : goal.returns-in-Some
+returns-in-Some g c = record {
+  same_reference = cc;
+  done =
+      told_inside (λ t found. found ≡ t.merchants c.args.m.now) c.in_ok-found.ensures.goes_on.steps
+      c.in_ok-found.ensures.told (λ t is.
+      same_lives (t.merchants c.args.m.now) _ c.args.x.now c.are_same.result c.are_same.ensures
+      (sym c.in-Some.is ∙ is));
+}
 
-pub returns-in-None-clause-told : goal.returns-in-None-clause-told
-returns-in-None-clause-told g c =
-    told_inside (λ t found. found ≡ t.merchants c.args.m.now) c.in_ok-found.ensures.steps
-    c.in_ok-found.ensures.told (λ t is.
-    no_lives (t.merchants c.args.m.now) c.args.x.now (sym c.in-None.is ∙ is))
+pub returns-in-None : goal.returns-in-None
+returns-in-None g c = record {
+  same_reference = cc;
+  done =
+      told_inside (λ t found. found ≡ t.merchants c.args.m.now) c.in_ok-found.ensures.goes_on.steps
+      c.in_ok-found.ensures.told (λ t is.
+      no_lives (t.merchants c.args.m.now) c.args.x.now (sym c.in-None.is ∙ is));
+}

@@ -4,10 +4,11 @@ use Rattle.sqlite.specs.State.{HasCleanDisk}
 use Rattle.sql_maps.specs.Schema.{no_schema}
 use Rattle.sql_maps.proofs.Calls.{on_ok}
 use Rattle.vault_core.specs.Vault.{empty_vault}
-use Rattle.vault_rows.specs.Calls.{IsWithin}
+use Rattle.vault_cards.specs.Calls.{IsWithin}
 use Rattle.vault_schema.specs.Holds.{Holds}
 use Rattle.vault_schema.specs.Making.{IsBegun, IsReady}
 use Rattle.vault_schema.specs.Stands.{lookups_of}
+use Rattle.vault_schema.specs.Stands.{newest}
 use Rattle.vault_rows.proofs.Calls.{held_after, ours}
 use Rattle.vault_sql.proofs.Making.{begun_blank}
 use Rattle.vault_sql.proofs.schema.create_all.Given.{Over}
@@ -16,7 +17,8 @@ use Rattle.vault_sql.proofs.schema.create_all.Goals as goal
 -- before the commit all tables were made
 made : (g : Over) (c : goal.After-conn-2-1 g) → HasCleanDisk (state g.S.Store c.commit.new.self.0)
     → IsReady (state g.S.Store c.args.conn.now) → (state g.S.Store c.args.conn.now).now.schema ≡ no_schema
-    → IsWithin (state g.S.Store c.create_tables.new.tx.conn.now) (state g.S.Store c.args.conn.now).committed
+    → IsWithin newest (state g.S.Store c.create_tables.new.tx.conn.now)
+    (state g.S.Store c.args.conn.now).committed
     (lookups_of empty_vault)
 made g c late is blank =
     let old = state g.S.Store c.args.conn.now in
@@ -48,7 +50,7 @@ returns-clause-crash g c clean is blank db left =
     elim (c.commit.ensures.survives.crash late db was) [
       | inl before ↦
           let at_first : (state g.S.Store c.args.conn.now).may_leave db = rw c.transaction-tx.ensures.begun at
-          (c.in_ok-create_tables.ensures.steps.left middle db before) in
+          (c.in_ok-create_tables.ensures.goes_on.steps.left middle db before) in
           inl (g.met.S.Store.settled c.args.conn.now.store db is.is_open at_first)
       | inr wrote ↦ inr (ours empty_vault (made g c late is blank) db wrote)
     ]

@@ -8,9 +8,9 @@ use Rattle.vault_sql.proofs.schema.create_tables.Goals as goal
 pub returns-clause-done : goal.returns-clause-done
 returns-clause-done g c clean =
     let second : HasCleanDisk (state g.S.Store c.create_second.new.tx.conn.now) =
-    omega (arith, c.create_last.ensures.steps.clean, clean) in
+    omega (arith, c.create_last.ensures.goes_on.steps.clean, clean) in
     let first : HasCleanDisk (state g.S.Store c.create_first.new.tx.conn.now) =
-    omega (arith, c.in_ok-create_second.ensures.steps.clean, second) in
+    omega (arith, c.in_ok-create_second.ensures.goes_on.steps.clean, second) in
     on_ok c.create_last.result (c.create_last.ensures.done clean) (λ last base begun.
     last base (c.in_ok-create_second.ensures.done second base
     (c.in_ok-create_first.ensures.done first base begun)))

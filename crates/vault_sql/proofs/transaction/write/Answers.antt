@@ -6,11 +6,12 @@ use Rattle.vault_core.specs.Changes.{Fit, plus}
 use Rattle.vault_core.specs.Sound.{Sound}
 use Rattle.vault_core.specs.Vault.{Vault}
 use Rattle.vault_schema.specs.Versions.{Lookups}
-use Rattle.vault_rows.specs.Calls.{IsWithin}
+use Rattle.vault_cards.specs.Calls.{IsWithin}
 use Rattle.vault_schema.specs.Holds.{Holds, LeavesEither}
 use Rattle.vault_schema.specs.Stands.{lookups_of}
 use Rattle.vault_rows.proofs.Calls.{begun_over, held_after, ours}
 use Rattle.vault_schema.specs.Left.{last_commit}
+use Rattle.vault_schema.specs.Stands.{newest}
 use Rattle.vault_sql.proofs.WrittenPlus.{has_room, written_plus}
 use Rattle.vault_sql.proofs.transaction.write.Given.{Over}
 use Rattle.vault_sql.proofs.transaction.write.Goals as goal
@@ -18,17 +19,20 @@ use Rattle.vault_sql.proofs.transaction.write.Goals as goal
 -- before the commit all changes were written
 ready : (g : Over) (c : goal.After-map_err g) → HasCleanDisk (state g.S.Store c.commit.new.self.0)
     → (V : Vault) → Holds (state g.S.Store c.args.conn.now) V → Sound V → Fit V c.args.ch.now
-    → IsWithin (state g.S.Store c.write_caller.new.tx.conn.now) (state g.S.Store c.args.conn.now).committed
+    → IsWithin newest (state g.S.Store c.write_caller.new.tx.conn.now)
+    (state g.S.Store c.args.conn.now).committed
     (lookups_of (plus V c.args.ch.now))
 ready g c late V h sound fit =
     let old = state g.S.Store c.args.conn.now in
-    let first : IsWithin (state g.S.Store c.transaction-tx.result.conn.now) old.committed (lookups_of V) =
+    let first : IsWithin newest (state g.S.Store c.transaction-tx.result.conn.now) old.committed
+    (lookups_of V) =
     rw c.transaction-tx.ensures.begun (begun_over old V h) in
     let third : HasCleanDisk (state g.S.Store c.write_caller.new.tx.conn.now) =
     omega (arith, c.commit.ensures.survives.clean) in
     let second : HasCleanDisk (state g.S.Store c.write_merchant.new.tx.conn.now) =
     omega (arith, c.in_ok-write_caller.ensures.done.steps.clean) in
-    subst (λ (after : Lookups). IsWithin (state g.S.Store c.write_caller.new.tx.conn.now) old.committed after)
+    subst (λ (after : Lookups). IsWithin newest
+    (state g.S.Store c.write_caller.new.tx.conn.now) old.committed after)
     (written_plus V c.args.ch.now fit)
     (c.in_ok-write_caller.ensures.done.done third old.committed _
     (c.in_ok-write_merchant.ensures.done.done second old.committed (lookups_of V) first

@@ -1,8 +1,11 @@
-use Rattle.vault_rows.proofs.Calls.{makes_then}
+use Rattle.vault_cards.proofs.Calls.{makes_then}
 use Rattle.vault_sql.proofs.transaction.write_merchant.Goals as goal
 
-pub returns-clause-done : goal.returns-clause-done
-returns-clause-done g c =
-    makes_then
-    (makes_then c.in_ok-write_lives.ensures.done c.in_ok-write_count.ensures.done (λ h room. tt)
-    (λ h room. room)) c.write_entry.ensures.done (λ h room. room) (λ h room. tt)
+pub returns : goal.returns
+returns g c = record {
+  same_reference = cc;
+  done =
+      makes_then
+      (makes_then c.in_ok-write_lives.ensures.done c.in_ok-write_count.ensures.done (λ h room. tt)
+      (λ h room. room)) c.write_entry.ensures.done (λ h room. room) (λ h room. tt);
+}

@@ -1,5 +1,7 @@
 use Rattle.vault_sql.proofs.transaction.write_record.Goals as goal
 
-pub returns-in-Some-clause-done : goal.returns-in-Some-clause-done
-returns-in-Some-clause-done g c =
-    rw (c.in-Some.is) (rw (c.caller_text.ensures, c.get.ensures.value) at c.add_record.ensures.done)
+pub returns-in-Some : goal.returns-in-Some
+returns-in-Some g c = record {
+  same_reference = cc;
+  done = rw (c.in-Some.is) (rw (c.caller_text.ensures, c.get.ensures.value) at c.add_record.ensures.done);
+}

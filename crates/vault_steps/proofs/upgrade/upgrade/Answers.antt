@@ -21,7 +21,7 @@ ready g c late h held are =
     rw c.transaction-tx.ensures.begun (begun c.args.from h old held) in
     let before : HasCleanDisk (state g.S.Store c.step_from.new.tx.conn.now) =
     omega (arith, c.commit.ensures.survives.clean) in
-    c.in_ok-step_from.ensures.done before old.committed h first are
+    c.in_ok-step_from.ensures.done before old.committed h (first, are)
 
 pub returns-clause-done : goal.returns-clause-done
 returns-clause-done g c clean =

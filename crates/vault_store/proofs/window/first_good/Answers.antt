@@ -20,17 +20,26 @@ some_is : (o : Option Entry) → is_some o ≡ true → (e : Entry) × (o ≡ So
 some_is None h = cc
 some_is (Some e) h = (e, refl)
 
-pub returns-then-is_none-clause-told : goal.returns-then-is_none-clause-told
-returns-then-is_none-clause-told g c honest V held sound =
-    let a = c.args.asked.now in
+pub returns-then-is_none : goal.returns-then-is_none
+returns-then-is_none g c =
     let inv = c.loop-k.invariant in
-    let token = c.in-Some.ensures in
-    let new : entry_at V a.merchant c.in-Some.token ≡ None =
-    sym (c.in_ok-entry.ensures.told honest V (inv.kept V held) sound)
-    ∙ none_is c.in_ok-entry.field-0 (c.is_none.ensures ∙ ap not c.if-is_none.true) in
-    let good = chosen_from-good V a.merchant a.pan a.digits c.loop-k.k c.loop-k-test.true
-    (ap passes_check (sym token.0) ∙ token.1) (ap (entry_at V a.merchant) (sym token.0) ∙ new) in
-    ap Some token.0 ∙ sym (inv.passed (c.in_ok-entry.ensures.honest honest) V held sound ∙ good)
+    let read = c.in_ok-entry.ensures in
+    record {
+      honest = λ honest. inv.honest (read.honest honest);
+      told = λ honest V held sound.
+          let a = c.args.asked.now in
+          let token = c.in-Some.ensures in
+          let new : entry_at V a.merchant c.in-Some.token ≡ None =
+          sym (read.told honest V (inv.kept V held) sound)
+          ∙ none_is c.in_ok-entry.field-0 (c.is_none.ensures ∙ ap not c.if-is_none.true) in
+          let good = chosen_from-good V a.merchant a.pan a.digits c.loop-k.k c.loop-k-test.true
+          (ap passes_check (sym token.0) ∙ token.1) (ap (entry_at V a.merchant) (sym token.0) ∙ new) in
+          ap Some token.0 ∙ sym (inv.passed (read.honest honest) V held sound ∙ good);
+      kept = λ V held. read.kept V (inv.kept V held);
+      crash = λ honest V held. read.crash honest V (inv.kept V held);
+      failing = read.failing ∙ inv.failing;
+      allowed = tt;
+    }
 
 pub loop-k-preserved : goal.loop-k-preserved
 loop-k-preserved g c =
@@ -67,10 +76,18 @@ loop-k-preserved g c =
           }
     ]
 
-pub returns-clause-told : goal.returns-clause-told
-returns-clause-told g c honest V held sound =
+pub returns : goal.returns
+returns g c =
     let inv = c.loop-k.invariant in
-    let last : c.loop-k.k ≡ 20 = omega (arith, c.loop-k.auto.k-end, c.loop-k-test.false) in
-    sym (inv.passed honest V held sound
-    ∙ ap (chosen_from V c.args.asked.now.merchant c.args.asked.now.pan c.args.asked.now.digits) last
-    ∙ chosen_from-none V _ _ _)
+    record {
+      honest = inv.honest;
+      told = λ honest V held sound.
+          let last : c.loop-k.k ≡ 20 = omega (arith, c.loop-k.auto.k-end, c.loop-k-test.false) in
+          sym (inv.passed honest V held sound
+          ∙ ap (chosen_from V c.args.asked.now.merchant c.args.asked.now.pan c.args.asked.now.digits) last
+          ∙ chosen_from-none V _ _ _);
+      kept = inv.kept;
+      crash = λ honest V held. g.met.T.Tables.settled c.loop-k.tables V (inv.kept V held) honest;
+      failing = inv.failing;
+      allowed = tt;
+    }

@@ -3,9 +3,13 @@ use Rattle.sql_maps.proofs.Calls.{on_ok, small}
 use Rattle.vault_tables.proofs.Bounds.{number_bound, small_right}
 use Rattle.vault_tables.proofs.rights.give.Goals as goal
 
-pub returns-clause-done : goal.returns-clause-done
-returns-clause-done g c clean =
-    on_ok c.put.result (c.put.ensures.done clean) (λ did base t w.
-    did base t (c.args.caller.now, (c.args.m.now, c.args.right)) c.args.row w
-    (rw (c.to_sql.ensures, c.to_sql-2.ensures, c.to_sql-3.ensures, c.moment_value.ensures)
-    (rw (c.number-what.ensures, small _ (small_right c.args.right), number_bound c.args.row.ends) refl)))
+pub returns : goal.returns
+returns g c = record {
+  same_reference = c.put.ensures.goes_on.same_reference;
+  steps = c.put.ensures.goes_on.steps;
+  done = λ clean.
+      on_ok c.put.result (c.put.ensures.done clean) (λ did base t w.
+      did base t (c.args.caller.now, (c.args.m.now, c.args.right)) c.args.row w
+      (rw (c.to_sql.ensures, c.to_sql-2.ensures, c.to_sql-3.ensures, c.moment_value.ensures)
+      (rw (c.number-what.ensures, small _ (small_right c.args.right), number_bound c.args.row.ends) refl)));
+}

@@ -1,6 +1,7 @@
 //! Rows that are refused by their number, and records at which a batch stops.
 use super::stuck::Stuck;
 use super::{OPENED, Told, ends, is_told, lines_of, run, source, vault_of};
+use crate::tests::fakes::{TestReader, TestWriter};
 use std::alloc::{AllocError, Global};
 use vault_batch::fault::BatchFault;
 use vault_store::vault::Vault;
@@ -79,7 +80,7 @@ fn what_has_no_header_is_left_alone(rt: HostRuntime) {
             "{asked}"
         );
     }
-    assert!(rt; BatchFault::BadHeader.number() == 40);
+    assert!(rt; BatchFault::BadHeader.refusal().number() == 40);
 }
 
 /// A row, and a record after it that has more than three fields or fewer.
@@ -103,7 +104,7 @@ fn a_record_without_three_fields_stops_a_batch(rt: HostRuntime) {
             "{asked}"
         );
     }
-    assert!(rt; BatchFault::BadRecord.number() == 44);
+    assert!(rt; BatchFault::BadRecord.refusal().number() == 44);
 }
 
 /// A row that asks for nothing, and two that ask for a token.
@@ -116,7 +117,8 @@ fn is_stopped(alloc: Global, vault: &mut Vault<Stuck>) -> bool {
         return false;
     };
     let mut output = Vec::new(alloc);
-    let ended = run(alloc, THREE, &mut output, vault, source);
+    let (reader, writer) = (TestReader::Bytes(THREE), TestWriter::Whole(&mut output));
+    let ended = run(alloc, reader, writer, vault, source);
     let lines = b"request,answer,detail\n0,refused,5\n";
     is_told(ended, Told::Stopped(BatchFault::Store, 2))
         && output.as_slice() == lines.as_slice()
@@ -135,6 +137,6 @@ fn is_stuck(alloc: Global) -> bool {
 #[test]
 fn a_store_that_fails_stops_a_batch(rt: HostRuntime) {
     assert!(rt; is_stuck(rt.alloc()));
-    assert!(rt; BatchFault::Store.number() == 43);
-    assert!(rt; BatchFault::Memory.number() == 45);
+    assert!(rt; BatchFault::Store.refusal().number() == 43);
+    assert!(rt; BatchFault::Memory.refusal().number() == 45);
 }

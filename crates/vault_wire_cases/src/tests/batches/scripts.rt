@@ -1,5 +1,6 @@
 //! Batches that are answered whole: worked rows, the forms of lines, and batches that follow one another.
 use super::{ANSWERED, ASKED, OPENED, Told, ends, is_told, run, run_new, source, vault_of};
+use crate::tests::fakes::{TestReader, TestWriter};
 use std::alloc::{AllocError, Global};
 use vault_batch::fault::BatchFault;
 use vault_store::memory::MemTables;
@@ -20,7 +21,9 @@ fn is_done(alloc: Global, vault: &mut Vault<MemTables>, step: &Step) -> bool {
         return false;
     };
     let mut output = Vec::new(alloc);
-    let ended = run(alloc, asked.as_bytes(), &mut output, vault, source);
+    let reader = TestReader::Bytes(asked.as_bytes());
+    let writer = TestWriter::Whole(&mut output);
+    let ended = run(alloc, reader, writer, vault, source);
     is_told(ended, wanted) && output.as_slice() == lines.as_bytes()
 }
 
@@ -112,7 +115,7 @@ const SOURCES: [Step; 3] = [
 #[test]
 fn a_source_that_gives_no_pair_stops_a_batch(rt: HostRuntime) {
     assert!(rt; are_done(&rt, OPENED, SOURCES.as_slice()));
-    assert!(rt; BatchFault::Source.number() == 46);
+    assert!(rt; BatchFault::Source.refusal().number() == 46);
 }
 
 /// Two rows in the forms that lines may have.
@@ -170,7 +173,8 @@ fn are_thousand(alloc: Global) -> bool {
         return false;
     };
     let mut output = Vec::new(alloc);
-    let ended = run_new(alloc, asked.as_bytes(), &mut output, 1000);
+    let reader = TestReader::Bytes(asked.as_bytes());
+    let ended = run_new(alloc, reader, TestWriter::Whole(&mut output), 1000);
     is_told(ended, Told::Counted(1000, 0)) && output.len() == 24022
 }
 

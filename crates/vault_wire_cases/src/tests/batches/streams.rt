@@ -1,6 +1,8 @@
 //! Readers that give a little at a time, writers that take a little, and either that fails.
 use super::{ANSWERED, ASKED, Ended, Told, is_told, run_new};
-use crate::tests::fakes::{CountingWriter, PieceReader, SlowReader, SlowWriter, WriteFailure};
+use crate::tests::fakes::{
+    CountingWriter, PieceReader, SlowReader, SlowWriter, TestReader, TestWriter, WriteFailure,
+};
 use std::alloc::Global;
 use std::cell::Cell;
 use vault_batch::fault::BatchFault;
@@ -8,18 +10,18 @@ use vault_batch::fault::BatchFault;
 /// The worked rows over a slow reader and a slow writer that fail at these calls.
 fn run_slow(alloc: Global, bad: (usize, usize), output: &mut Vec<u8>) -> Ended {
     let (reads, writes) = (Cell::new(0), Cell::new(0));
-    let reader = SlowReader {
+    let reader = TestReader::Slow(SlowReader {
         bytes: ASKED.as_bytes(),
         size: 1,
         calls: &reads,
         bad: bad.0,
-    };
-    let writer = SlowWriter {
+    });
+    let writer = TestWriter::Slow(SlowWriter {
         out: output,
         calls: &writes,
         bad: bad.1,
         failure: WriteFailure::Broken,
-    };
+    });
     run_new(alloc, reader, writer, 100)
 }
 
@@ -58,7 +60,7 @@ fn a_reader_that_fails_ends_a_batch_with_41(rt: HostRuntime) {
     for bad in 1..200 {
         assert!(rt; is_ended_by_its_reader(rt.alloc(), bad), "at call {bad}");
     }
-    assert!(rt; BatchFault::Read.number() == 41);
+    assert!(rt; BatchFault::Read.refusal().number() == 41);
 }
 
 /// Whether a writer that fails at its call `bad` ends the batch with 42, up to the last byte.
@@ -76,7 +78,7 @@ fn a_writer_that_fails_ends_a_batch_with_42(rt: HostRuntime) {
     for bad in 1..200 {
         assert!(rt; is_ended_by_its_writer(rt.alloc(), bad), "at call {bad}");
     }
-    assert!(rt; BatchFault::Write.number() == 42);
+    assert!(rt; BatchFault::Write.refusal().number() == 42);
 }
 
 /// The worked rows, each with its line.
@@ -92,14 +94,15 @@ const PIECES: [(&str, &str); 6] = [
 /// Whether each read finds the lines of all rows before it out.
 fn is_prompt(alloc: Global) -> bool {
     let (out, late) = (Cell::new(0), Cell::new(0));
-    let reader = PieceReader {
+    let reader = TestReader::Pieces(PieceReader {
         rest: b"",
         pieces: PIECES.as_slice(),
         due: 0,
         out: &out,
         late: &late,
-    };
-    let ended = run_new(alloc, reader, CountingWriter { out: &out }, 100);
+    });
+    let writer = TestWriter::Counting(CountingWriter { out: &out });
+    let ended = run_new(alloc, reader, writer, 100);
     is_told(ended, Told::Counted(2, 3)) && late.get() == 0 && out.get() == ANSWERED.len()
 }
 

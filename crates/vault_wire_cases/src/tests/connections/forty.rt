@@ -1,7 +1,7 @@
 //! The forty requests over ordered maps: in lumps of each size, by a reader that fails at each call, and by a
 //! writer that does.
 use super::shop;
-use crate::tests::fakes::{SlowReader, SlowWriter, WriteFailure};
+use crate::tests::fakes::{SlowReader, SlowWriter, TestReader, TestWriter, WriteFailure};
 use std::alloc::Global;
 use std::cell::Cell;
 use vault_http::fault::ServeFault;
@@ -33,18 +33,18 @@ fn sent(
     out: &mut Vec<u8>,
 ) -> Option<Result<Served, ServeFault>> {
     let (reads, writes) = (Cell::new(0), Cell::new(0));
-    let mut reader = Watched::new(SlowReader {
+    let mut reader = Watched::new(TestReader::Slow(SlowReader {
         bytes: asked.as_bytes(),
         size: sending.size,
         calls: &reads,
         bad: sending.bad_read,
-    });
-    let mut writer = Watched::new(SlowWriter {
+    }));
+    let mut writer = Watched::new(TestWriter::Slow(SlowWriter {
         out,
         calls: &writes,
         bad: sending.bad_write,
         failure: WriteFailure::Broken,
-    });
+    }));
     let mut vault = shop(alloc)?;
     let mut source = Pairs::new(alloc);
     Some(serve(alloc, &mut reader, &mut writer, &mut vault, &mut source))

@@ -13,7 +13,7 @@ fn is_refused(alloc: Global, asked: &[u8], status: &str, fields: &str, number: u
 
 /// Whether bytes are answered by this fault alone, and the connection closes.
 fn is_fault(alloc: Global, asked: &[u8], status: &str, fault: WireFault) -> bool {
-    match refusal(alloc, status, CLOSING, fault.number()) {
+    match refusal(alloc, status, CLOSING, fault.refusal().number()) {
         Ok(answered) => ends(alloc, asked, 0, Some(fault), answered.as_str()),
         Err(_) => false,
     }

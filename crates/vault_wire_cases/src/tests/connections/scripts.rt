@@ -2,6 +2,7 @@
 //! many times the message comes, the message, the status line of each answer, and its body. After `vault` a
 //! line is a command of the vault itself, and its answer.
 use super::{ASKED, answer, connect, message, repeated, shop, source};
+use crate::tests::fakes::{TestReader, TestWriter};
 use std::alloc::{AllocError, Global};
 use vault_http::served::Served;
 use vault_script::case::wrong;
@@ -58,7 +59,9 @@ fn answers(alloc: Global, vault: &mut Vault<MemTables>, line: &str) -> Option<bo
     let answered = repeated(alloc, one.as_str(), step.times).ok()?;
     let source = source(step.now, step.digit, 1000)?;
     let mut output = Vec::new(alloc);
-    let ended = connect(alloc, bytes.as_bytes(), &mut output, vault, source);
+    let reader = TestReader::Bytes(bytes.as_bytes());
+    let writer = TestWriter::Whole(&mut output);
+    let ended = connect(alloc, reader, writer, vault, source);
     let served = Served {
         messages: step.times,
         fault: None,

@@ -1,9 +1,11 @@
 //! Readers that give a little at a time, writers that take a little, and either that fails.
 use super::{ANSWERED, ASKED, connect_new, repeated};
-use crate::tests::fakes::{CountingWriter, PieceReader, SlowReader, SlowWriter, WriteFailure};
+use crate::tests::fakes::{
+    CountingWriter, PieceReader, SlowReader, SlowWriter, TestReader, TestWriter, WriteFailure,
+};
 use std::alloc::Global;
 use std::cell::Cell;
-use vault_http::fault::ServeFault;
+use vault_http::fault::{ServeFault, refusal_of};
 use vault_http::served::Served;
 
 /// How a connection ended.
@@ -18,18 +20,18 @@ const WHOLE: Ended = Some(Ok(Served {
 /// A connection to a shop of its own, over a slow reader and a slow writer that fail at these calls.
 fn connect_slow(alloc: Global, bytes: &[u8], bad: (usize, usize), output: &mut Vec<u8>) -> Ended {
     let (reads, writes) = (Cell::new(0), Cell::new(0));
-    let reader = SlowReader {
+    let reader = TestReader::Slow(SlowReader {
         bytes,
         size: 1,
         calls: &reads,
         bad: bad.0,
-    };
-    let writer = SlowWriter {
+    });
+    let writer = TestWriter::Slow(SlowWriter {
         out: output,
         calls: &writes,
         bad: bad.1,
         failure: WriteFailure::Broken,
-    };
+    });
     connect_new(alloc, reader, writer, 1000)
 }
 
@@ -74,7 +76,7 @@ fn a_reader_that_fails_ends_the_connection_with_61(rt: HostRuntime) {
     for bad in 1..400 {
         assert!(rt; is_ended_by_its_reader(rt.alloc(), bad), "at call {bad}");
     }
-    assert!(rt; ServeFault::Read.number() == 61);
+    assert!(rt; refusal_of(ServeFault::Read).number() == 61);
 }
 
 /// Whether a writer that fails at its call `bad` ends the connection with 62, up to the last byte.
@@ -91,7 +93,7 @@ fn a_writer_that_fails_ends_the_connection_with_62(rt: HostRuntime) {
     for bad in 1..400 {
         assert!(rt; is_ended_by_its_writer(rt.alloc(), bad), "at call {bad}");
     }
-    assert!(rt; ServeFault::Write.number() == 62);
+    assert!(rt; refusal_of(ServeFault::Write).number() == 62);
 }
 
 /// The worked message five times, each with its answer.
@@ -100,14 +102,15 @@ const PIECES: [(&str, &str); 5] = [(ASKED, ANSWERED); 5];
 /// Whether each read finds the answers to all messages before it out.
 fn is_prompt(alloc: Global) -> bool {
     let (out, late) = (Cell::new(0), Cell::new(0));
-    let reader = PieceReader {
+    let reader = TestReader::Pieces(PieceReader {
         rest: b"",
         pieces: PIECES.as_slice(),
         due: 0,
         out: &out,
         late: &late,
-    };
-    let ended = connect_new(alloc, reader, CountingWriter { out: &out }, 1000);
+    });
+    let writer = TestWriter::Counting(CountingWriter { out: &out });
+    let ended = connect_new(alloc, reader, writer, 1000);
     let served = Served {
         messages: 5,
         fault: None,

@@ -1,7 +1,8 @@
 //! The worked message: alone, again, cut short, and as often as a source gives pairs.
 use super::{ANSWERED, ASKED, CLOSING, answer, connect_new, ends, repeated};
+use crate::tests::fakes::{TestReader, TestWriter};
 use std::alloc::Global;
-use vault_http::fault::ServeFault;
+use vault_http::fault::{ServeFault, refusal_of};
 use vault_http::served::Served;
 
 #[test]
@@ -65,14 +66,15 @@ fn is_ended_by_its_source(alloc: Global) -> bool {
         return false;
     };
     let mut output = Vec::new(alloc);
-    let ended = connect_new(alloc, asked.as_bytes(), &mut output, 1);
+    let reader = TestReader::Bytes(asked.as_bytes());
+    let ended = connect_new(alloc, reader, TestWriter::Whole(&mut output), 1);
     ended == Some(Err(ServeFault::Source)) && output.as_slice() == ANSWERED.as_bytes()
 }
 
 #[test]
 fn a_source_that_gives_no_pair_ends_the_connection(rt: HostRuntime) {
     assert!(rt; is_ended_by_its_source(rt.alloc()));
-    assert!(rt; ServeFault::Source.number() == 60);
+    assert!(rt; refusal_of(ServeFault::Source).number() == 60);
 }
 
 /// Whether so many messages end so, where the source gives 1000 pairs.
@@ -81,7 +83,8 @@ fn are_ended(alloc: Global, count: u64, ended: Result<Served, ServeFault>) -> bo
         return false;
     };
     let mut output = Vec::new(alloc);
-    connect_new(alloc, asked.as_bytes(), &mut output, 1000) == Some(ended)
+    let reader = TestReader::Bytes(asked.as_bytes());
+    connect_new(alloc, reader, TestWriter::Whole(&mut output), 1000) == Some(ended)
 }
 
 /// A thousand messages are answered, and no fault.

@@ -1,0 +1,7 @@
+//! A new file: an empty database of one small page, whole or not there at all. And the log beside a file.
+
+pub mod lock;
+pub mod log;
+pub mod make;
+mod names;
+pub mod page;

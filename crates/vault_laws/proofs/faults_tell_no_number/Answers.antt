@@ -1,5 +1,0 @@
-use Rattle.vault_laws.proofs.Telling.{faults_tell}
-use Rattle.vault_laws.proofs.faults_tell_no_number.Goals as goal
-
-pub returns : goal.returns
-returns c = faults_tell

@@ -1,5 +1,0 @@
-use Rattle.vault_laws.proofs.Asking.{only_due_out}
-use Rattle.vault_laws.proofs.only_due_goes_out.Goals as goal
-
-pub returns : goal.returns
-returns c = only_due_out

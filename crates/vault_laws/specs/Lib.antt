@@ -1,4 +1,0 @@
-pub mod Agreement
-pub mod Apart
-pub mod Giving
-pub mod Service

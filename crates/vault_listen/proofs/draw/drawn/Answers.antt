@@ -1,0 +1,10 @@
+use Rattle.std.proofs.Common.{◌≡◌, true, false, length, arith}
+use Rattle.vault_listen.proofs.draw.drawn.Goals as goal
+
+pub unreachable-requires : goal.unreachable-requires
+unreachable-requires g c =
+    let long : length c.loop-place.value-items ≡ 300 = c.loop-place-test.array_long in
+    let drawn : false ≡ true =
+    c.in-None.ensures.some.1
+    (long, λ k d lt. c.loop-place.invariant k d (omega (arith, lt, long, c.loop-place-test.false))) in
+    absurd (cc)

@@ -1,0 +1,5 @@
+use Rattle.vault_promise.proofs.Wanting.{wants_one}
+use Rattle.vault_promise.proofs.laws.wants_agree.Goals as goal
+
+pub returns : goal.returns
+returns c = wants_one

@@ -1,0 +1,7 @@
+//! The refusals of the whole product: their numbers, statuses and words.
+
+#![tactic(auto)]
+
+pub mod refusal;
+pub mod told;
+pub mod words;

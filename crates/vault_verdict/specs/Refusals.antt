@@ -1,0 +1,96 @@
+-- What a refusal says beside its number, and what it leaves.
+use Rattle.std.specs.Prelude.{◌≡◌, ◌≢◌, ℕ, ℤ, Result, IfErr, OnOk}
+use Rattle.sqlite.specs.Effect.{Database}
+use Rattle.sqlite.specs.Held.{Held, state}
+use Rattle.sqlite.specs.State.{HasCleanDisk, IsUnchanged}
+use Rattle.sqlite_trees.specs.declared.store.Store.{Ghosts}
+use Rattle.sql_maps.specs.States.{LeavesNoMore}
+use Rattle.vault_schema.specs.Versioned.{HasVersion}
+use Rattle.vault_schema.specs.Versions.{schema_of}
+use Rattle.vault_schema.specs.declared.version.Version.{Version}
+use Rattle.vault_verdict.specs.Faults.{IsJudged}
+use Rattle.vault_verdict.specs.Names.{IsForeign, IsMixed, vault_names}
+use Rattle.vault_verdict.specs.Opened.{IsBrokenIn, IsLeastBroken, IsNoRefusal, IsVersionIn}
+use Rattle.vault_verdict.specs.ReadAs.{IsFullIn}
+use Rattle.vault_verdict.specs.Reading.{IsFull, IsOurs, IsQuietWhere, IsUnreadFile}
+use Rattle.vault_verdict.specs.declared.fault.OpenFault.{OpenFault}
+use Rattle.vault_verdict.specs.declared.fault.OpenFault.TheVariants.{Damaged, Store, WrongSchema}
+
+-- ---- what is so of a database
+
+-- where no row lacks its last column, the rows break this rule of the version and none below it
+abbrev pub IsBrokenWhereFull : Version → Database → ℕ → Type 0
+IsBrokenWhereFull v db rule = IsFullIn v db → IsBrokenIn v db rule
+
+-- so in the newest version, whatever the schema is
+abbrev pub IsLeastWhereFull : Database → ℕ → Type 0
+IsLeastWhereFull db rule = IsFull db → IsLeastBroken db rule
+
+-- in the schema of the version another one is told
+abbrev pub IsOtherIn : Version → Database → ℤ → Type 0
+IsOtherIn v db n = db.schema ≡ schema_of v → IsVersionIn v db n
+
+-- this is so of a database without a version in which some of a vault's names are, and not all, or not alone
+abbrev pub WhereMixed : Database → Type 0 → Type 0
+WhereMixed db Is = IsForeign db.schema → ¬ HasVersion db.schema → IsMixed db.schema vault_names → Is
+
+-- and this of one in which all of them are, in another order or form, or none
+abbrev pub WhereStrange : Database → Type 0 → Type 0
+WhereStrange db Is = IsForeign db.schema → ¬ HasVersion db.schema → ¬ IsMixed db.schema vault_names → Is
+
+-- ---- what a call says and leaves
+
+-- it isn't refused by 30
+abbrev pub TellsNoVersion : {R : Type 0} → Result R OpenFault → Type 0
+TellsNoVersion result = IfErr result (λ e. (n : ℤ) → e ≢ WrongSchema n)
+
+module _ {S : Type 0} (g : Ghosts S) where
+  -- the call is quiet in the schema of the version
+  abbrev pub IsStill : Version → Held S → Held S → Type 0
+  IsStill v old new = IsQuietWhere ((state g old).now.schema ≡ schema_of v) (state g old) (state g new)
+
+  -- and so where the database has a version, whichever
+  abbrev pub IsStillVersioned : Held S → Held S → Type 0
+  IsStillVersioned old new = IsQuietWhere (HasVersion (state g old).now.schema) (state g old) (state g new)
+
+  -- with Ok nothing changed in the schema of the version
+  abbrev pub IsUntouched : {R : Type 0} → Version → Held S → Held S → Result R OpenFault → Type 0
+  IsUntouched v old new result =
+      HasCleanDisk (state g new) → OnOk result ((state g old).now.schema ≡ schema_of v
+      → IsUnchanged (state g old) (state g new))
+
+  -- 31 says a rule of which this is so
+  abbrev pub RowsBreak : {R : Type 0} → Held S → Held S → Result R OpenFault → (Database → ℕ → Type 0)
+      → Type 0
+  RowsBreak old new result Is =
+      HasCleanDisk (state g new) → IfErr result
+      (λ e. (rule : ℕ) → e ≡ Damaged rule → Is (state g old).now rule)
+
+  -- 30 says a version of which this is so
+  abbrev pub TellsOther : {R : Type 0} → Held S → Held S → Result R OpenFault → (Database → ℤ → Type 0)
+      → Type 0
+  TellsOther old new result Is =
+      HasCleanDisk (state g new) → IfErr result (λ e. (n : ℤ) → e ≡ WrongSchema n → Is (state g old).now n)
+
+  -- neither comes to such a database
+  abbrev pub SparesFit : {R : Type 0} → Held S → Held S → Result R OpenFault → (Database → Type 0) → Type 0
+  SparesFit old new result IsFit =
+      HasCleanDisk (state g new) → IfErr result (λ e. IsFit (state g old).now → IsNoRefusal e)
+
+  -- 33 comes to a database in the newest schema, with full rows, only where a table isn't read
+  abbrev pub TellsUnread : {R : Type 0} → Held S → Held S → Result R OpenFault → Type 0
+  TellsUnread old new result =
+      HasCleanDisk (state g new)
+      → IfErr result (λ e. e ≡ Store → IsOurs (state g old).now → IsUnreadFile g (state g old).now new)
+
+  -- after 30 and 31 the connection sees what it saw, where this is so
+  abbrev pub LeavesSeen : {R : Type 0} → Held S → Held S → Result R OpenFault → Type 0 → Type 0
+  LeavesSeen old new result Where =
+      HasCleanDisk (state g new)
+      → IfErr result (λ e. IsJudged e → Where → IsUnchanged (state g old) (state g new))
+
+  -- a refusal by any number but 33 writes nothing
+  abbrev pub WritesNothing : {R : Type 0} → Held S → Held S → Result R OpenFault → Type 0
+  WritesNothing old new result =
+      HasCleanDisk (state g new)
+      → IfErr result (λ e. e ≢ Store → LeavesNoMore (state g old) (state g new))
