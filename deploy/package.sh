@@ -34,12 +34,15 @@ place 644 "$here/vault.1" /usr/share/man/man1/vault.1
 gzip -9n "$root/usr/share/man/man1/vault.1"
 place 644 "$here/vault.bash-completion" /usr/share/bash-completion/completions/vault
 doc=/usr/share/doc/vault
-for page in OPERATING.md SCALE.md API.md REFUSALS.md PROVED.md MODEL.md TRIALS.md DECISIONS.md \
-    openapi.yaml; do
+for page in OPERATING.md SCALE.md API.md REFUSALS.md PROVED.md MODEL.md DEFINITIONS.md TRIALS.md LIMITS.md \
+    DECISIONS.md openapi.yaml; do
     place 644 "$top/docs/$page" "$doc/$page"
 done
 for picture in "$top"/docs/office-*.png; do
     place 644 "$picture" "$doc/${picture##*/}"
+done
+for picture in "$top"/docs/pictures/*.svg; do
+    place 644 "$picture" "$doc/pictures/${picture##*/}"
 done
 place 644 "$top/SECURITY.md" "$doc/SECURITY.md"
 place 644 "$top/CHANGELOG.md" "$doc/CHANGELOG.md"

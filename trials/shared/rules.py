@@ -1,5 +1,5 @@
 """The rules of the vault in short, of what a command is answered and what it changes. They are written from
-docs/MODEL.md, and share nothing with the program. A vault is a table of rows by their keys:
+the words of the definitions in specs/, and share nothing with the program. A vault is a table of rows by their keys:
 
 ("merchant", name): Merchant                ("entry", merchant, token): Entry
 ("record", caller, request): Record         ("right", caller, merchant, right): its end in a tuple, or None

@@ -17,7 +17,8 @@ use Rattle.vault_http.specs.Exchanges.{AskFirst, Exchange, Pair}
 abbrev IsOne : {X : Type 0} → (Wanted X → Type 0) → Type 0
 IsOne {X} goes = (r s : Wanted X) → goes r → goes s → r ≡ s
 
-must_one : {X : Type 0} (P : Type 0) (n : Refusal) (goes : Wanted X → Type 0) → IsOne goes → IsOne (Must P n goes)
+must_one : {X : Type 0} (P : Type 0) (n : Refusal) (goes : Wanted X → Type 0) → IsOne goes
+    → IsOne (Must P n goes)
 must_one P n goes one r s (inl (p, a)) (inl (q, b)) = one r s a b
 must_one P n goes one r s (inl (p, a)) (inr (never, b)) = absurd (never p)
 must_one P n goes one r s (inr (never, a)) (inl (q, b)) = absurd (never q)

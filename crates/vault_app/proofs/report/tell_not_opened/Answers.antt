@@ -12,7 +12,8 @@ returns-in-None g c =
     let new = g.E.Write.contents c.tell_numbered.new.writer.inner in
     let none = sym c.detail.ensures ∙ c.in-None.is in
     subst (λ (line : List ℕ). Tells old new c.tell_numbered.new.writer.stopped line)
-    (without_detail c.args.fault.now c.number.result (c.number.ensures ∙ ap number_of c.refusal.ensures) none) c.tell_numbered.ensures
+    (without_detail c.args.fault.now c.number.result (c.number.ensures ∙ ap number_of c.refusal.ensures) none)
+    c.tell_numbered.ensures
 
 pub returns-in-Some : goal.returns-in-Some
 returns-in-Some g c =

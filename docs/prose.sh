@@ -1,0 +1,57 @@
+#!/bin/sh
+# How long the pages are, and how hard to read: words, the words of the longest sentence, and the longest cell of
+# a table. A page that has a limit of words has sentences of at most 40 words, and cells of at most 40.
+set -eu
+cd "$(dirname "$0")/.."
+
+# The pages that have a limit, each with its words.
+limits='bench/README.md 1500
+bench/RUNS.md 2500
+docs/ARCHITECTURE.md 1200
+docs/CONTRIBUTING.md 900
+docs/DECISIONS.md 2500
+docs/LIMITS.md 1500
+docs/MODEL.md 1500
+docs/PROVED.md 1200'
+
+# Words, the longest sentence and the longest cell of a page. Code between fences isn't prose.
+measured() {
+    awk '
+        function counted(text,    words) { gsub(/\[|\]\([^)]*\)|[`*|]/, " ", text); return split(text, words, " ") }
+        function longest_in(text,    parts, n, i, size) {
+            n = split(text, parts, /[.:;?!]( |$)/)
+            for (i = 1; i <= n; i++) { size = counted(parts[i]); if (size > longest) longest = size }
+        }
+        /^```/ { fenced = !fenced; next }
+        fenced { next }
+        { total += NF }
+        /^\|[-|]*$/ || /^$/ { next }
+        /^\|/ {
+            n = split($0, cells, "|")
+            for (i = 2; i < n; i++) { size = counted(cells[i]); if (size > widest) widest = size }
+            next
+        }
+        { longest_in($0) }
+        END { printf "%d %d %d\n", total, longest, widest }
+    ' "$1"
+}
+
+passed=0
+failed=0
+for page in README.md docs/*.md bench/*.md trials/README.md; do
+    [ "$page" = docs/DEFINITIONS.md ] && continue
+    sizes=$(measured "$page")
+    words=${sizes%% *}
+    rest=${sizes#* }
+    most=$(printf '%s\n' "$limits" | sed -n "s#^$page ##p")
+    printf '%-24s %6d words, sentence %3d, cell %3d\n' "$page" "$words" "${rest% *}" "${rest#* }"
+    [ -n "$most" ] || continue
+    if [ "$words" -le "$most" ] && [ "${rest% *}" -le 40 ] && [ "${rest#* }" -le 40 ]; then
+        passed=$((passed + 1))
+    else
+        echo "$page is over a limit: $most words, 40 a sentence, 40 a cell"
+        failed=$((failed + 1))
+    fi
+done
+echo "$passed passed, $failed failed"
+[ "$failed" -eq 0 ]
