@@ -3,11 +3,7 @@
 # N is how many rows the batch has, and ROUNDS how often each side is timed.
 set -eu
 here=$(cd "$(dirname "$0")" && pwd)
-program=${1:-$here/../crates/vault_cli/out/vault_cli}
-if [ ! -x "$program" ]; then
-    echo "no program at $program: sh build.sh builds it, and its path may be given" >&2
-    exit 1
-fi
+. "$here/../examples/shared/program.sh"
 if ! command -v python3 > /dev/null; then
     echo "python3 is missing" >&2
     exit 1

@@ -28,6 +28,7 @@ import cards  # noqa: E402, without leaving a folder of its bytecode here
 import figures  # noqa: E402
 import same  # noqa: E402
 import settings  # noqa: E402
+from shared import schemas  # noqa: E402, which settings lets Python find
 from sides import assert_sound, timed, told  # noqa: E402
 
 MIB = 1048576
@@ -42,30 +43,9 @@ COLUMNS = (
     + ("Vault, MiB", "Bytes a token", "Python, MiB")
 )
 
-TABLES = """
-CREATE TABLE vault (id INTEGER PRIMARY KEY, version INTEGER NOT NULL) STRICT;
-CREATE TABLE merchants (name TEXT NOT NULL PRIMARY KEY, single_life INTEGER NOT NULL, \
-multi_life INTEGER NOT NULL, moment INTEGER NOT NULL) STRICT;
-CREATE TABLE counts (merchant TEXT NOT NULL, kind INTEGER NOT NULL, total INTEGER NOT NULL, \
-PRIMARY KEY (merchant, kind)) STRICT;
-CREATE TABLE entries (merchant TEXT NOT NULL, token TEXT NOT NULL, number TEXT, \
-usage INTEGER NOT NULL, birth INTEGER NOT NULL, expires INTEGER NOT NULL, revoked INTEGER, \
-PRIMARY KEY (merchant, token)) STRICT;
-CREATE INDEX entries_number ON entries (merchant, number);
-CREATE TABLE records (caller TEXT NOT NULL, request INTEGER NOT NULL, merchant TEXT NOT NULL, \
-token TEXT NOT NULL, usage INTEGER NOT NULL, PRIMARY KEY (caller, request)) STRICT;
-CREATE TABLE rights (caller TEXT NOT NULL, merchant TEXT NOT NULL, what INTEGER NOT NULL, \
-PRIMARY KEY (caller, merchant, what)) STRICT;
+MADE = """
 INSERT INTO vault VALUES (1, 1);
 INSERT INTO merchants VALUES ('shop1', 60, 60, 1000);
-"""
-CARDS = """
-CREATE TABLE cards2 (id INTEGER PRIMARY KEY, merchant TEXT NOT NULL, number TEXT NOT NULL, \
-uses INTEGER NOT NULL, UNIQUE (merchant, number)) STRICT;
-CREATE TABLE entries2 (merchant TEXT NOT NULL, token TEXT NOT NULL, card INTEGER, \
-usage INTEGER NOT NULL, birth INTEGER NOT NULL, expires INTEGER NOT NULL, revoked INTEGER, \
-PRIMARY KEY (merchant, token)) STRICT;
-CREATE INDEX entries2_card ON entries2 (merchant, card);
 """
 # How many entries go by one statement.
 PIECE = 500
@@ -75,15 +55,11 @@ DELETE FROM entries;
 UPDATE vault SET version = 2 WHERE id = 1;
 """
 LEADS = """
-CREATE TABLE merchants3 (name TEXT NOT NULL PRIMARY KEY, single_life INTEGER NOT NULL, \
-multi_life INTEGER NOT NULL, moment INTEGER NOT NULL, lead_digits INTEGER NOT NULL) STRICT;
 INSERT INTO merchants3 SELECT name, single_life, multi_life, moment, 6 FROM merchants;
 DELETE FROM merchants;
 UPDATE vault SET version = 3 WHERE id = 1;
 """
 ENDS = """
-CREATE TABLE rights4 (caller TEXT NOT NULL, merchant TEXT NOT NULL, what INTEGER NOT NULL, \
-ends INTEGER, PRIMARY KEY (caller, merchant, what)) STRICT;
 INSERT INTO rights4 SELECT caller, merchant, what, NULL FROM rights;
 DELETE FROM rights;
 UPDATE vault SET version = 4 WHERE id = 1;
@@ -98,7 +74,7 @@ def make_file(path, many):
     half of them multi-use and all live."""
     conn = sqlite3.connect(path, isolation_level=None)
     conn.execute(f"PRAGMA page_size = {PAGE}")
-    conn.executescript(TABLES)
+    conn.executescript(schemas.FIRST + MADE)
     conn.execute("BEGIN")
     conn.execute("INSERT INTO counts VALUES ('shop1', 1, ?1)", (many,))
     for place in range(1, many + 1):
@@ -118,7 +94,7 @@ def run(conn, statements):
 
 def make_room(conn, many):
     """The tables of schema 2, and the old entries away in pieces."""
-    run(conn, CARDS)
+    run(conn, schemas.CARDS)
     for last in range(PIECE, many + PIECE, PIECE):
         conn.execute(PIECES, (last,))
     run(conn, EMPTY)
@@ -152,8 +128,8 @@ def move(path):
     assert conn.execute("PRAGMA integrity_check").fetchall() == [("ok",)]
     checked = time.perf_counter() - start
     move_entries(conn, conn.execute(READ).fetchall())
-    step(conn, LEADS)
-    step(conn, ENDS)
+    step(conn, schemas.LEADS + LEADS)
+    step(conn, schemas.ENDS + ENDS)
     conn.close()
     spent = time.perf_counter() - start
     print(spent, checked, resource.getrusage(resource.RUSAGE_SELF).ru_maxrss)

@@ -5,6 +5,8 @@ import pathlib
 import sys
 
 HERE = pathlib.Path(__file__).resolve().parent
+# The timings share modules with the trials.
+sys.path.append(str(HERE.parent / "trials"))
 BUILT = HERE.parent / "crates" / "vault_cli" / "out" / "vault_cli"
 
 

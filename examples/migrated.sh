@@ -35,8 +35,7 @@ END
 
 # Statements of SQL over a copy of that file, and what moving it says then.
 changed() {
-    rm -f changed.db changed.db-*
-    cp shops.db changed.db
+    copy shops.db changed.db
     sqlite3 changed.db "$1"
     told "$program" migrate changed.db
 }
@@ -134,8 +133,7 @@ DELETE FROM merchants;
 UPDATE vault SET version = 3;
 END
 for version in 2 3; do
-    rm -f vault.db vault.db-*
-    cp "shops$version.db" vault.db
+    copy "shops$version.db" vault.db
     step "a file of schema $version isn't opened" "vault: file not opened 30 $version (3)" \
         "$(checked vault.db)"
     step "it moves" 'schema 4 (0)' "$(told "$program" migrate vault.db)"
@@ -164,8 +162,7 @@ INSERT INTO entries SELECT 'shop1', printf('%012d1111', i), '4111111111111111', 
 WHERE (6 + i % 10 + i / 10 % 10 * 2 / 10 + i / 10 % 10 * 2 % 10 + i / 100 % 10 + i / 1000 * 2) % 10 <> 0 LIMIT 2000;
 END
 for wait in 0.05 0.1 0.2 0.4 0.8; do
-    rm -f killed.db killed.db-*
-    cp large.db killed.db
+    copy large.db killed.db
     "$program" migrate killed.db > /dev/null 2>&1 &
     sleep "$wait"
     kill -9 $! 2> /dev/null || true

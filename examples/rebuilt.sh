@@ -7,8 +7,7 @@ need sqlite3
 
 # Statements of SQL over a backup of the shop's file, and what the check says of it then.
 changed() {
-    rm -f changed.db changed.db-*
-    cp backup.db changed.db
+    copy backup.db changed.db
     sqlite3 changed.db "$1"
     checked changed.db
 }

@@ -2,11 +2,8 @@
 # Every trial in full, one after the other, and a table of their figures. sh trials/all.sh PROGRAM
 set -eu
 here=$(cd "$(dirname "$0")" && pwd)
-program=${1:-$here/../crates/vault_cli/out/vault_cli}
-case $program in
-/*) ;;
-*) program=$PWD/$program ;;
-esac
+. "$here/../examples/shared/program.sh"
+. "$here/shared/counted.sh"
 folder=$(mktemp -d)
 trap 'rm -rf "$folder"' EXIT
 trap 'exit 1' HUP INT TERM
@@ -23,7 +20,7 @@ try() {
     { sh "$here/$script" "$program" "$@" 2>&1 && echo 0 >&3 || echo $? >&3; } 3> "$folder/status" |
         tee "$folder/log"
     spent=$(($(date +%s) - start))
-    closing=$(tail -n 1 "$folder/log" | sed -n 's/^\([0-9][0-9]*\) passed, \([0-9][0-9]*\) failed$/\1 \2/p')
+    closing=$(counted_in "$folder/log")
     good=${closing%% *}
     bad=${closing##* }
     if [ "$(cat "$folder/status")" -ne 0 ] && [ "${bad:-0}" -eq 0 ]; then

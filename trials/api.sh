@@ -4,15 +4,6 @@
 # examples/ where they aren't answered. sh trials/api.sh [PROGRAM]
 set -eu
 . "$(dirname "$0")/shared/begin.sh"
-. "$here/shared/need.sh"
-
-# Says which Python knows both modules.
-python_with_modules() {
-    for one in python3 /usr/bin/python3; do
-        "$one" -c 'import yaml, jsonschema' 2> /dev/null && echo "$one" && return 0
-    done
-    return 1
-}
 
 perl_with_modules() {
     perl -MOpenAPI::Client -MIO::Socket::SSL -e 1 2> /dev/null
@@ -27,7 +18,7 @@ passes() {
     $test
 }
 
-python=$(passes python_with_modules python3-yaml python3-jsonschema) ||
+python=$(passes "python_with yaml,jsonschema" python3-yaml python3-jsonschema) ||
     leave_out "yaml or jsonschema of Python"
 parts=
 if passes perl_with_modules libopenapi-client-perl libio-socket-ssl-perl; then

@@ -3,7 +3,6 @@
 # that is stopped, or whose vault is, goes on. sh trials/batch.sh [PROGRAM]
 set -eu
 . "$(dirname "$0")/shared/begin.sh"
-. "$here/shared/need.sh"
-need haproxy haproxy || leave_out haproxy
-need openssl openssl || leave_out openssl
+wants haproxy
+wants openssl
 python3 -m batch "$program" "$here/.."

@@ -3,6 +3,7 @@
 # [all] [--seed S]; all takes each call, and else some are chosen.
 set -eu
 . "$(dirname "$0")/shared/begin.sh"
+. "$here/shared/counted.sh"
 log=$folder/log
 mkdir "$folder/small"
 
@@ -11,7 +12,7 @@ passed=0
 failed=0
 part() {
     { "$@" 2>&1 || true; } | tee "$log" | sed '$d'
-    counted=$(tail -n 1 "$log" | sed -n 's/^\([0-9][0-9]*\) passed, \([0-9][0-9]*\) failed$/\1 \2/p')
+    counted=$(counted_in "$log")
     if [ -z "$counted" ]; then
         tail -n 1 "$log"
         counted='0 1'
@@ -36,11 +37,7 @@ may_mount() {
     done
 }
 
-if ! command -v cc > /dev/null; then
-    echo "cc is missing: 'apt-get install gcc' or 'apk add gcc musl-dev' does it"
-    echo "0 passed, 1 failed"
-    exit 1
-fi
+must_have cc 'gcc libc6-dev' build-base
 cc -O2 -shared -fPIC -o "$folder/failing.so" "$here/shim/disk.c" -ldl
 part python3 -m disk "$program" "$folder/failing.so" "$@"
 how=$(may_mount)

@@ -3,7 +3,6 @@
 # killed and started again; and the clients of examples/. sh trials/front.sh [PROGRAM]
 set -eu
 . "$(dirname "$0")/shared/begin.sh"
-. "$here/shared/need.sh"
-need nginx nginx-light || leave_out nginx
-need openssl openssl || leave_out openssl
+wants nginx nginx-light
+wants openssl
 python3 -m front "$program" "$here/.."

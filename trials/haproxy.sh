@@ -3,7 +3,6 @@
 # it, what is logged, and vaults that are away, which are a wait and no error. sh trials/haproxy.sh [PROGRAM]
 set -eu
 . "$(dirname "$0")/shared/begin.sh"
-. "$here/shared/need.sh"
-need haproxy haproxy || leave_out haproxy
-need openssl openssl || leave_out openssl
+wants haproxy
+wants openssl
 python3 -m haproxy "$program" "$here/.."

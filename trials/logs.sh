@@ -3,11 +3,10 @@
 # long as they have to be, and who brought back numbers. By root. sh trials/logs.sh [PROGRAM]
 set -eu
 . "$(dirname "$0")/shared/begin.sh"
-. "$here/shared/need.sh"
-[ "$(id -u)" = 0 ] || leave_out "root, whose files are turned,"
-need haproxy haproxy || leave_out haproxy
-need nginx nginx-light || leave_out nginx
-need openssl openssl || leave_out openssl
-need logrotate logrotate || leave_out logrotate
-need rsyslogd rsyslog || leave_out rsyslogd
+wants_root "whose files are turned"
+wants haproxy
+wants nginx nginx-light
+wants openssl
+wants logrotate
+wants rsyslogd rsyslog
 python3 -m logs "$program" "$here/.."

@@ -8,10 +8,6 @@
 set -eu
 . "$(dirname "$0")/shared/begin.sh"
 export SECONDS_EACH="${SECONDS_EACH:-120}"
-if ! command -v cc > /dev/null; then
-    echo "cc is missing: 'apt-get install gcc libc6-dev' or 'apk add build-base' does it"
-    echo "0 passed, 1 failed"
-    exit 1
-fi
+must_have cc 'gcc libc6-dev' build-base
 cc -std=c11 -O2 -Wall -Wextra -shared -fPIC -o "$folder/preloaded.so" "$here/shim/memory.c" -ldl
 python3 -m memory "$program" "$folder/preloaded.so" "$@"

@@ -6,13 +6,12 @@ set -eu
 screens=
 [ "${2:-}" != --screens ] || screens=$(cd "$3" && pwd)
 . "$(dirname "$0")/shared/begin.sh"
-. "$here/shared/need.sh"
-[ "$(id -u)" = 0 ] || leave_out "root, whose browser has policies of its own,"
-need chromium chromium || leave_out chromium
-need chromedriver chromium-driver || leave_out chromedriver
-need certutil libnss3-tools || leave_out certutil
-need unshare util-linux || leave_out unshare
-need haproxy haproxy || leave_out haproxy
-need nginx nginx-light || leave_out nginx
-need openssl openssl || leave_out openssl
+wants_root "whose browser has policies of its own"
+wants chromium
+wants chromedriver chromium-driver
+wants certutil libnss3-tools
+wants unshare util-linux
+wants haproxy
+wants nginx nginx-light
+wants openssl
 python3 -m office "$program" "$here/.." "$screens"

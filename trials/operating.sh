@@ -4,8 +4,7 @@
 # sh trials/operating.sh [PROGRAM]
 set -eu
 . "$(dirname "$0")/shared/begin.sh"
-. "$here/shared/need.sh"
-[ "$(id -u)" = 0 ] || leave_out "root, who boots a machine,"
-need debootstrap debootstrap || leave_out debootstrap
-need systemd-nspawn systemd-container || leave_out systemd-nspawn
+wants_root "who boots a machine"
+wants debootstrap
+wants systemd-nspawn systemd-container
 python3 -m operating "$program" "$here/.."

@@ -3,7 +3,6 @@
 # where that is allowed. sh trials/package.sh [PROGRAM]
 set -eu
 . "$(dirname "$0")/shared/begin.sh"
-. "$here/shared/need.sh"
 passed=0
 failed=0
 

@@ -3,7 +3,6 @@
 # long the log of a batch and that of a sweep grow. sh trials/sizes.sh [PROGRAM]
 set -eu
 . "$(dirname "$0")/shared/begin.sh"
-. "$here/shared/need.sh"
 has_allocator=
 if need jeprof libjemalloc-dev; then has_allocator=yes; fi
 python3 -m sizes "$program" $has_allocator

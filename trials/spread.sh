@@ -3,9 +3,8 @@
 # were answered; bench/spread.sh in short. sh trials/spread.sh [PROGRAM]
 set -eu
 . "$(dirname "$0")/shared/begin.sh"
-. "$here/shared/need.sh"
-need haproxy haproxy || leave_out haproxy
-need openssl openssl || leave_out openssl
+wants haproxy
+wants openssl
 PYTHONPATH=$here:$here/../bench
 LASTING=2
 export PYTHONPATH LASTING

@@ -1,16 +1,7 @@
 # Steps that a script takes with the program, one line each. The scripts of examples/ read it; they are called
-# with the program as their first argument; left out, it is where `rt run` and the gate leave it.
+# with the program as their first argument.
 here=$(cd "$(dirname "$0")" && pwd)
-program=${1:-$here/../crates/vault_cli/out/vault_cli}
-case $program in
-/*) ;;
-*) program=$PWD/$program ;;
-esac
-if [ ! -x "$program" ]; then
-    echo "no program at $program: sh build.sh builds it, and its path may be given"
-    echo "0 passed, 1 failed"
-    exit 1
-fi
+. "$here/shared/program.sh"
 
 passed=0
 failed=0
@@ -55,6 +46,12 @@ checked() {
     "$program" check "$1" > told.out 2> told.err || code=$?
     said=$(cat told.out told.err | sed '/^vault: the file has a log, /d' | tr '\n' '|')
     echo "${said%|} ($code)"
+}
+
+# Copies a file without a log, in place of another one and its log.
+copy() {
+    rm -f "$2" "$2"-*
+    cp "$1" "$2"
 }
 
 # Waits for a tenth of a second.

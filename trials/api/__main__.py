@@ -12,8 +12,9 @@ from api.description import Description, errors_of, refusals_of
 from api.generated import Generated
 from front import certificates
 from front.raw import received
-from front.services import Front, Vault
-from shared.runs import must, run
+from front.services import REST, Front, two_vaults
+from shared.runs import run
+from shared.shop import BACK, TILL, made
 from shared.tally import Tally, unlike
 
 
@@ -54,11 +55,7 @@ def asked(program, *words, request):
 
 def answers(tally, program, description):
     """Each status of the service, with its body."""
-    must(program, "merchant", "a.db", "shop1", 86400, 0)
-    for caller, right in (("till-1", "tokenize"), *(("back", it) for it in ("detokenize", "view", "revoke"))):
-        must(program, "grant", "a.db", caller, "shop1", right)
-    for right in ("purge", "audit"):
-        must(program, "grant", "a.db", "back", "shop1", right)
+    made(program, "a.db", 86400, 0, TILL | BACK)
     seen, token = set(), None
     for request in by_a_till():
         status, body = compared(tally, description, request, asked(program, "a.db", request=request))
@@ -99,16 +96,6 @@ def by_the_pages(tally, description, docs):
     tally.judge("the front's are those of API.md", "" if said == listed else f"{sorted(said ^ listed)}")
 
 
-@contextlib.contextmanager
-def front_by(configuration, *vaults):
-    """The port of a front before the vaults."""
-    front = Front(configuration, *vaults)
-    try:
-        yield front.port
-    finally:
-        front.end()
-
-
 def at_a_port(tally, description, client, examples, port):
     """What comes through a front, what it answers itself, and the clients of examples/."""
     slow = refusals.slow(port)
@@ -127,17 +114,15 @@ def behind_a_front(tally, program, repository, description, client):
     configuration = f"{repository}/deploy/nginx.conf"
     certificates.make()
     certificates.untaken()
-    with contextlib.ExitStack() as ending:
-        vaults = Vault(program, shop.SHOP, "till-1"), Vault(program, "shop2", "till-2")
-        for vault in vaults:
-            ending.callback(vault.kill)
-        shop.grant(program, vaults[0])
+    with two_vaults(program) as vaults:
+        vaults[0].give(REST)
         examples = Examples(tally, program, repository, vaults[0])
-        with front_by(configuration, *vaults) as port:
-            at_a_port(tally, description, client, examples, port)
-        with contextlib.chdir(refusals.hurried(configuration)), front_by("shipped.conf", *vaults) as port:
-            refusals.too_many(tally, description, port)
-            hurried(tally, examples, port)
+        with contextlib.closing(Front(configuration, *vaults)) as front:
+            at_a_port(tally, description, client, examples, front.port)
+        with contextlib.chdir(refusals.hurried(configuration)):
+            with contextlib.closing(Front("shipped.conf", *vaults)) as front:
+                refusals.too_many(tally, description, front.port)
+                hurried(tally, examples, front.port)
 
 
 def main(program, repository, *parts):

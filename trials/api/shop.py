@@ -1,18 +1,9 @@
 """The shop behind a front, and a walk through it by the client that is made of the description."""
 
 from api.asked import NUMBER
-from shared.runs import must
 from shared.tally import unlike
 
 SHOP = "shop1"
-
-
-def grant(program, vault):
-    """The rights that the front's trial doesn't give its back office."""
-    vault.kill()
-    for right in ("view", "revoke", "purge"):
-        must(program, "grant", vault.file, "back", SHOP, right)
-    vault.start()
 
 
 def order(request, number=NUMBER):

@@ -1,32 +1,16 @@
 """The files that are damaged: made by the program, at fixed moments and with fixed digits."""
 
-import shutil
-
 from damage import rows
-from shared import messages
+from shared import messages, shop
 from shared.runs import must
 
 # Card numbers that pass the check.
 NUMBERS = ("4111111111111111", "5555555555554444", "378282246310005", "4222222222222", "6304000000000000000")
 
 
-def log_of(file):
-    """The log beside a file."""
-    return file.with_name(file.name + "-wal")
-
-
-def copy(file, to):
-    """Copies a file and its log, where it has one."""
-    shutil.copyfile(file, to)
-    log_of(to).unlink(missing_ok=True)
-    if log_of(file).exists():
-        shutil.copyfile(log_of(file), log_of(to))
-
-
 def make_small(program, file):
     """A vault with one merchant, one right, and a card number under a single-use and a multi-use token."""
-    must(program, "merchant", "--now", 1000, file, "shop1", 60, 100)
-    must(program, "grant", "--now", 1000, file, "till-1", "shop1", "tokenize")
+    shop.made(program, file, 60, 100, shop.TILL, now=1000)
     for digit, request, use in ((0, 7, "single"), (1, 8, "multi")):
         asked = messages.token_asked(request, messages.order(use=use))
         must(program, "pipe", "--now", 1000, "--digits", digit, file, given=asked)
@@ -42,13 +26,9 @@ def orders():
 def make_large(program, file, digits):
     """A vault with two merchants and some rights, of which some end. Of its tokens two are revoked and one is
     purged; a number was given, and another one denied."""
-    must(program, "merchant", "--now", 1000, file, "shop1", 600, 1000)
-    must(program, "merchant", "--now", 1000, "--lead", 8, file, "shop2", 60, 0)
-    for right in ("detokenize", "view", "revoke", "purge", "audit"):
-        must(program, "grant", "--now", 1000, file, "back", "shop1", right)
-        must(program, "grant", "--now", 1000, "--until", 5000, file, "back", "shop2", right)
-    must(program, "grant", "--now", 1000, file, "till-1", "shop1", "tokenize")
-    must(program, "grant", "--now", 1000, file, "till-1", "shop2", "tokenize")
+    shop.made(program, file, 600, 1000, shop.TILL | shop.BACK, now=1000)
+    shop.made(program, file, 60, 0, shop.TILL, "shop2", now=1000, lead=8)
+    shop.granted(program, file, shop.BACK, "shop2", now=1000, until=5000)
     given = must(program, "pipe", "--now", 1010, "--digits", digits, file, given=b"".join(orders())).out
     tokens = [answer.body.split(b'"')[5].decode() for answer in messages.answers_in(given)]
     tail = [messages.asked("POST", f"/v1/merchants/shop1/tokens/{token}/revoke") for token in tokens[:2]]

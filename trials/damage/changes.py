@@ -1,7 +1,9 @@
 """The table of changed files: SQL over a vault, each rule broken once or more, and what `check` says."""
 
 from damage import base, rows, rules
+from shared.files import copied
 from shared.runs import run, side_by_side
+from shared.schemas import FOREIGN
 
 FIRST = "'0000000000001111'"
 SECOND = "'1111111111111111'"
@@ -74,7 +76,7 @@ CHANGES = (
     ("sound 1 2 2", "DELETE FROM rights4"),
     ("30 5", "UPDATE vault SET version = 5"),
     ("30 0", "DROP TABLE records"),
-    ("30 0", "CREATE TABLE notes (line TEXT)"),
+    ("30 0", FOREIGN),
     ("30 5", "UPDATE vault SET version = 5; DROP TABLE records"),
     ("33", "VACUUM"),
 )
@@ -105,12 +107,12 @@ def try_all(program, folder, tally):
     def tried(numbered):
         place, (wanted, change) = numbered
         file = folder / f"changed{place}.db"
-        base.copy(made, file)
+        copied(made, file)
         rows.change(file, *change.split("; "))
         return fault_of(program, file, wanted)
 
     for (wanted, change), fault in zip(CHANGES, side_by_side(tried, enumerate(CHANGES))):
         tally.judge(change, fault, f"{wanted.rsplit(' 1 ')[0]} as it should")
     other = folder / "other.db"
-    rows.change(other, "CREATE TABLE notes (line TEXT)")
+    rows.change(other, FOREIGN)
     tally.judge("another program's file", fault_of(program, other, "33"), "33 as it should")

@@ -2,6 +2,7 @@
 
 from damage import base, judged, pages, rows
 from shared import messages
+from shared.files import copied, log_of, removed
 from shared.runs import must, side_by_side
 
 
@@ -13,7 +14,7 @@ def try_damages(whole, folder, tally, name, damages, place_one):
         try:
             return whole.judge(file)
         finally:
-            judged.removed(file)
+            removed(file)
 
     damages = list(damages)
     for damage, (fault, reading) in zip(damages, side_by_side(tried, enumerate(damages))):
@@ -43,10 +44,9 @@ def earlier_rows(program, folder, file, asked, digits):
     """The rows of a file after each of some messages, from none on."""
     found = []
     for many in range(len(asked) + 1):
-        copied = folder / "earlier.db"
-        base.copy(file, copied)
-        must(program, "pipe", "--now", 1000, "--digits", digits, copied, given=b"".join(asked[:many]))
-        found.append(rows.read(copied))
+        earlier = copied(file, folder / "earlier.db")
+        must(program, "pipe", "--now", 1000, "--digits", digits, earlier, given=b"".join(asked[:many]))
+        found.append(rows.read(earlier))
     return found
 
 
@@ -58,9 +58,9 @@ def try_log(program, folder, tally, chosen, every):
     asked = [messages.token_asked(20 + place, messages.order(use="single")) for place in range(6)]
     earlier = earlier_rows(program, folder, file, asked, digits)
     must(program, "pipe", "--now", 1000, "--digits", digits, file, given=b"".join(asked))
-    text, log = file.read_bytes(), base.log_of(file).read_bytes()
+    text, log = file.read_bytes(), log_of(file).read_bytes()
     kept = folder / "logged-kept.db"
-    base.copy(file, kept)
+    copied(file, kept)
     size = int.from_bytes(text[16:18], "big") + 24
     whole = judged.Whole(program, kept, b"".join(asked), earlier[:-1])
     damages = pages.log_damages(log, size, chosen, every)

@@ -3,7 +3,8 @@ rows are those from before, or the reading is told that lets it say so."""
 
 import re
 
-from damage import base, rows, rules
+from damage import rows, rules
+from shared.files import log_of
 from shared.runs import run
 
 REFUSED = re.compile(r"file not opened (30 -?[0-9]+|31 (?:[1-9]|1[0-5])|33|34)")
@@ -91,11 +92,5 @@ def placed(folder, place, text, log=b""):
     file = folder / f"damaged{place}.db"
     file.write_bytes(text)
     if log:
-        base.log_of(file).write_bytes(log)
+        log_of(file).write_bytes(log)
     return file
-
-
-def removed(file):
-    """Removes a file with all that stands beside it."""
-    for beside in file.parent.glob(file.name + "*"):
-        beside.unlink()

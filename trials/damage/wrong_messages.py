@@ -3,9 +3,9 @@ just can."""
 
 import re
 
-from damage import base
-from shared import messages, service
-from shared.runs import must, run, side_by_side
+from shared import messages, service, shop
+from shared.files import copied
+from shared.runs import run, side_by_side
 
 BODY = messages.order()
 TARGET = "/v1/merchants/shop1/tokens"
@@ -146,13 +146,12 @@ def fault_of(program, file, sent, wanted):
 def try_all(program, folder, tally):
     """Sends each message of the table to a service of its own."""
     empty = folder / "empty.db"
-    must(program, "merchant", empty, "shop1", 86400, 31536000)
-    must(program, "grant", empty, "till-1", "shop1", "tokenize")
+    shop.made(program, empty, 86400, 31536000, shop.TILL)
 
     def tried(numbered):
         place, (_, sent, wanted) = numbered
         file = folder / f"message{place}.db"
-        base.copy(empty, file)
+        copied(empty, file)
         return fault_of(program, file, sent, wanted)
 
     for (name, _, wanted), fault in zip(TABLE, side_by_side(tried, enumerate(TABLE))):

@@ -1,18 +1,17 @@
 """The files that jobs begin with: small ones of each schema, and one whose log is about to be copied back."""
 
 import random
-import shutil
 
-from shared import rows
+from shared import rows, shop
 from shared.commands import row
+from shared.files import copied, log_of
 from shared.known import Known
 from shared.rules import Command, Entry, Record, fits, passes
 from shared.runs import must
 
 NOW = 1_700_000_000
 NUMBER = "4111111111111111"
-LIVES = (3600, 86400, 6)
-RIGHTS_OF_BACK = ("detokenize", "view", "revoke", "purge", "audit")
+LIVES = (3600, 86400)
 HEADER = "request,number,use\n"
 # A log is copied back long before so many batches.
 MOST_BATCHES = 80
@@ -26,26 +25,14 @@ class Ground:
 
     def copy(self, path):
         """A copy of it, and what is known of that."""
-        for suffix in ("", "-wal"):
-            other = path.with_name(path.name + suffix)
-            other.unlink(missing_ok=True)
-            source = self.path.with_name(self.path.name + suffix)
-            if source.exists():
-                shutil.copy(source, other)
+        copied(self.path, path)
         return Known(self.found)
-
-
-def furnished(program, path):
-    """A file with a merchant, and rights of a caller that may ask for tokens and of one that may all else."""
-    must(program, "merchant", "--now", NOW, path, "shop1", *LIVES[:2])
-    for caller, right in (("till-1", "tokenize"), *(("back", it) for it in RIGHTS_OF_BACK)):
-        must(program, "grant", "--now", NOW, path, caller, "shop1", right)
 
 
 def small(program, folder):
     """Thirteen tokens, twelve of which are for single use, and a log that is still there."""
     path = folder / "small.db"
-    furnished(program, path)
+    shop.made(program, path, *LIVES, shop.TILL | shop.BACK, now=NOW)
     asked = [Command("tokenize", "till-1", "shop1", "", it, NUMBER, 1 + it % 2) for it in range(1, 25)]
     given = HEADER + "".join(map(row, asked))
     must(program, "batch", "--now", NOW, path, "till-1", "shop1", given=given.encode())
@@ -55,13 +42,13 @@ def small(program, folder):
 def long(program, folder, ground):
     """A file whose log is nearly as long as it may be: a batch goes on until it was copied back once, and the
     file before that is kept."""
-    path, log = folder / "long.db", folder / "long.db-wal"
+    path = folder / "long.db"
     ground.copy(path)
+    log = log_of(path)
     kept, request = folder / "kept.db", 1000
     for _ in range(MOST_BATCHES):
         size = log.stat().st_size
-        for suffix in ("", "-wal"):
-            shutil.copy(f"{path}{suffix}", f"{kept}{suffix}")
+        copied(path, kept)
         asked = [Command("tokenize", "till-1", "shop1", "", request + it, NUMBER) for it in range(50)]
         request += 50
         before = path.stat().st_mtime_ns

@@ -5,10 +5,10 @@ import socket
 import subprocess
 from typing import NamedTuple
 
-from disk.grounds import HEADER, NOW, NUMBER, RIGHTS_OF_BACK, Ground
+from disk.grounds import HEADER, NOW, Ground
 from shared.cards import completed
-from shared.commands import message, row, whole_answers
-from shared.rules import RIGHTS, Command, refused
+from shared.commands import line_answer, message, row, whole_answers
+from shared.rules import RIGHTS, Command
 from shared.runs import SECONDS, Ran, run
 
 LONG = "batch with a long log"
@@ -39,14 +39,6 @@ def read_answers(job, out):
     if job.answers == "lines":
         return [line_answer(line) for line in out.split(b"\n")[1:-1]]
     return [None] * len(job.commands) if out.decode() == job.answers else []
-
-
-def line_answer(line):
-    """The answer that a line of a batch says."""
-    _, answer, detail = line.decode().split(",")
-    if answer == "refused":
-        return refused(int(detail))
-    return 200, {"expires": int(detail), "token": answer}
 
 
 def run_job(program, job, path, more=None):
@@ -153,7 +145,7 @@ def all_jobs(small, long, older, folder):
     lives = Command("merchant", "", "shop1", lives=(60, 60, 8))
     set_it = ("merchant", "--now", NOW + 1, "--lead", 8)
     grant = Command("grant", "c1", "shop1", given="audit", ends=NOW + 60)
-    withdraw = Command("withdraw", "back", "shop1", given=RIGHTS_OF_BACK[0])
+    withdraw = Command("withdraw", "back", "shop1", given="detokenize")
     serve = ("serve", "--connections", len(commands))
     sizes = " ".join(str(sum(key[0] == it for key in small.found)) for it in ("merchant", "entry", "record"))
     yield single("made", None, set_it, ("shop1", 60, 60), lives)

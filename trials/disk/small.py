@@ -6,10 +6,10 @@ import random
 import sys
 import time
 
-from disk.jobs import HEADER, line_answer
+from disk.grounds import HEADER
 from shared import messages, rows
 from shared.cards import completed, hidden
-from shared.commands import message, reply, row, whole_answers
+from shared.commands import line_answer, message, reply, row, whole_answers
 from shared.known import Known
 from shared.rules import DONE, Command
 from shared.runs import run

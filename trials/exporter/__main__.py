@@ -1,5 +1,6 @@
 """The whole trial: python3 -m exporter PROGRAM REPOSITORY PYTHON"""
 
+import contextlib
 import json
 import os
 import re
@@ -9,10 +10,9 @@ import urllib.request
 
 from front import certificates
 from front.clients import NUMBER, Client
-from front.services import Vault
+from front.services import two_vaults
 from haproxy.services import Front
 from shared import lines
-from shared.runs import must
 from shared.tally import Tally, unlike
 
 SETTINGS = """front = "https://localhost:{port}"
@@ -149,22 +149,15 @@ def main(program, repository, python):
     alerts(tally, repository)
     certificates.make()
     certificates.by_script("caller", ".", "watch")
-    vaults = Vault(program, "shop1", "till-1"), Vault(program, "shop2", "till-2")
-    for vault, merchant in zip(vaults, ("shop1", "shop2"), strict=True):
-        vault.kill()
-        must(program, "grant", vault.file, "watch", merchant, "audit")
-        vault.start()
-    front = Front(repository, *vaults)
-    try:
-        with Exporter(python, repository, front.port) as exporter:
-            counted(tally, exporter, front.port)
-            no_more(tally, front.port)
-            away(tally, exporter, vaults[0])
-        without(tally, python, repository, front.port)
-    finally:
-        front.end()
+    with two_vaults(program) as vaults:
         for vault in vaults:
-            vault.kill()
+            vault.give({"watch": ("audit",)})
+        with contextlib.closing(Front(repository, *vaults)) as front:
+            with Exporter(python, repository, front.port) as exporter:
+                counted(tally, exporter, front.port)
+                no_more(tally, front.port)
+                away(tally, exporter, vaults[0])
+            without(tally, python, repository, front.port)
     asked = {json.loads(it)["asked"] for it in lines.read("front.log") if '"caller":"watch"' in it}
     tally.judge("it stands in the front's log", "" if "audit" in asked else f"{asked}")
     tally.end()

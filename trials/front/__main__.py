@@ -1,29 +1,17 @@
 """The whole trial: python3 -m front PROGRAM REPOSITORY"""
 
+import contextlib
 import json
 import ssl
 import subprocess
 import sys
 
-from front import certificates, forged, guards, subjects
+from front import both, certificates, guards
 from front.clients import NUMBER, Client
 from front.load import MESSAGES, Load
-from front.services import Front, Vault
+from front.services import Front, two_vaults
 from shared.runs import run
 from shared.tally import Tally, unlike
-
-
-def one_token(tally, port):
-    """A token over TLS, the same again, and its number for who is entitled; answers the token."""
-    till, back = Client(port, "till-1"), Client(port, "back")
-    first = till.token("shop1", 100001)
-    tally.judge("a token over TLS", unlike(first.status, 200))
-    tally.judge("again, with its number", unlike(till.token("shop1", 100001).body, first.body))
-    token = first.json()["token"]
-    target = f"/v1/merchants/shop1/tokens/{token}/number"
-    tally.judge("its number", unlike(back.ask("POST", target).json(), {"number": NUMBER}))
-    tally.judge("not for a till", unlike(till.ask("POST", target).status, 403))
-    return token
 
 
 def strangers(tally, port):
@@ -57,10 +45,7 @@ def refused_by_the_front(tally, port):
 
 def by_merchant(tally, port, program, vaults):
     """Two vaults: each has the tokens of its own merchant alone."""
-    other = Client(port, "till-2")
-    tally.judge("a token of the other shop", unlike(other.token("shop2", 1).status, 200))
-    made = Client(port, "back").ask("GET", "/v1/merchants/shop2/audit").json()["made"]
-    tally.judge("the other shop has made one", unlike(made, 1))
+    both.by_merchant(tally, port)
     for vault in vaults:
         vault.kill()
     sound = [run(program, "check", vault.file).out for vault in vaults]
@@ -74,15 +59,8 @@ def under_load(tally, port, vault):
     """32 clients, 2,000 messages, and a vault that is killed among them."""
     load = Load(port)
     load.run(vault, 3)
-    tally.judge("no client's connection failed", "; ".join(load.faults[:3]))
-    answered = sum(token is not None for token in load.tokens.values())
-    tally.judge("each message was answered", unlike(answered, MESSAGES))
-    tally.judge("by 200 once", unlike(load.statuses.count(200), MESSAGES))
+    both.loaded(tally, port, load)
     tally.judge("and by 503 else", unlike(set(load.statuses) - {200, 503}, set()))
-    tally.judge("each by a token of its own", unlike(len(set(load.tokens.values())), MESSAGES))
-    till = Client(port, "till-1")
-    lost = [it for it, token in load.tokens.items() if till.token("shop1", it).json().get("token") != token]
-    tally.judge("every answer that came is found again", f"{len(lost)} lost: {lost[:5]}" if lost else "")
     print(f"{load.statuses.count(503)} requests were answered 503 while the vault was away")
 
 
@@ -129,37 +107,30 @@ def examples(tally, port, program, repository, vault):
     tally.judge("the number is brought back", unlike(back, "a number of 16 digits\n"))
 
 
+def guarded(tally, front):
+    """What the front lets through, and what it doesn't."""
+    port = front.port
+    token = both.one_token(tally, port)
+    strangers(tally, port)
+    refused_by_the_front(tally, port)
+    both.forgeries(tally, front, token)
+    guards.bodies(tally, port)
+    guards.numbers(tally, port, token)
+
+
 def main(program, repository):
     tally = Tally()
     certificates.make()
-    first, second = Vault(program, "shop1", "till-1"), Vault(program, "shop2", "till-2")
-    front = Front(f"{repository}/deploy/nginx.conf", first, second)
-    port = front.port
-    try:
-        token = one_token(tally, port)
-        strangers(tally, port)
-        subjects.judge(tally, port)
-        subjects.revoked(tally, port, front)
-        subjects.renewed(tally, port, front)
-        refused_by_the_front(tally, port)
-        forged.judge(tally, port)
-        forged.by_other_ways(tally, port, token)
-        forged.too_large(tally, port)
-        forged.of_numbers(tally, port)
-        guards.typed_wrong(tally, port)
-        guards.bodies(tally, port)
-        guards.by_browsers(tally, port)
-        guards.numbers(tally, port, token)
-        away(tally, port, first)
-        under_load(tally, port, first)
-        examples(tally, port, program, repository, first)
-        guards.page(tally, port)
-        guards.logged(tally, "vault-error.log")
-        by_merchant(tally, port, program, (first, second))
-    finally:
-        front.end()
-        for vault in (first, second):
-            vault.kill()
+    with two_vaults(program) as vaults:
+        first, second = vaults
+        with contextlib.closing(Front(f"{repository}/deploy/nginx.conf", first, second)) as front:
+            guarded(tally, front)
+            away(tally, front.port, first)
+            under_load(tally, front.port, first)
+            examples(tally, front.port, program, repository, first)
+            guards.page(tally, front.port)
+            guards.logged(tally, "vault-error.log")
+            by_merchant(tally, front.port, program, vaults)
     tally.end()
 
 

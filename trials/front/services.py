@@ -1,5 +1,6 @@
 """The two vaults and the front before them."""
 
+import contextlib
 import os
 import re
 import shutil
@@ -8,8 +9,10 @@ import socket
 import subprocess
 import time
 
-from shared.runs import must
+from shared import shop
 
+# What a back office may do elsewhere, and not at these vaults.
+REST = {"back": ("view", "revoke", "purge")}
 LISTENING = re.compile(rb"listening ([0-9]+)\n")
 
 
@@ -25,10 +28,14 @@ class Vault:
     def __init__(self, program, merchant, till):
         self.program, self.merchant, self.file, self.port = program, merchant, f"{merchant}.db", free_port()
         self.listed = []
-        must(program, "merchant", self.file, merchant, 86400, 0)
-        must(program, "grant", self.file, till, merchant, "tokenize")
-        for right in ("detokenize", "audit"):
-            must(program, "grant", self.file, "back", merchant, right)
+        rights = {till: ("tokenize",), "back": ("detokenize", "audit")}
+        shop.made(program, self.file, 86400, 0, rights, merchant)
+        self.start()
+
+    def give(self, rights):
+        """Gives callers rights while it is away."""
+        self.kill()
+        shop.granted(self.program, self.file, rights, self.merchant)
         self.start()
 
     def start(self):
@@ -59,7 +66,50 @@ class Vault:
         self.process.stdout.close()
 
 
-class Front:
+@contextlib.contextmanager
+def two_vaults(program):
+    """A vault for each of two shops; both are over at the end of a `with`."""
+    vaults = Vault(program, "shop1", "till-1"), Vault(program, "shop2", "till-2")
+    try:
+        yield vaults
+    finally:
+        for vault in vaults:
+            vault.kill()
+
+
+class Reloaded:
+    """A front whose process has others that answer; by a signal it takes its files anew, with new ones."""
+
+    again = signal.SIGHUP
+
+    def workers(self):
+        """The processes that answer just now."""
+        with open(f"/proc/{self.process.pid}/task/{self.process.pid}/children") as file:
+            return set(file.read().split())
+
+    def has_taken(self, before):
+        """Whether the processes from before are over, and others answer."""
+        now = self.workers()
+        return now and not now & before
+
+    def take(self, **files):
+        """Gives it other files, as `take(revoked="revoked.pem")`, and reloads it."""
+        for name, path in files.items():
+            shutil.copy(path, f"front-files/{name}.pem")
+        before = self.workers()
+        self.process.send_signal(self.again)
+        for _ in range(200):
+            time.sleep(0.05)
+            if self.has_taken(before):
+                return
+        raise SystemExit("the front didn't reload\n0 passed, 1 failed")
+
+    def close(self):
+        """The same as `end`, for a `with`."""
+        self.end()
+
+
+class Front(Reloaded):
     """nginx by the file that an installation starts from, with this machine's ports and folders."""
 
     def __init__(self, configuration, first, second):
@@ -100,25 +150,6 @@ class Front:
                 time.sleep(0.05)
         self.process.kill()
         raise SystemExit(f"the front didn't start: {self.process.stderr.read()}\n0 passed, 1 failed")
-
-    def workers(self):
-        """The processes that answer just now."""
-        with open(f"/proc/{self.process.pid}/task/{self.process.pid}/children") as file:
-            return set(file.read().split())
-
-    def take(self, **files):
-        """Gives it other files, as `take(revoked="revoked.pem")`, and reloads it; its old processes are over
-        then."""
-        for name, path in files.items():
-            shutil.copy(path, f"front-files/{name}.pem")
-        before = self.workers()
-        self.process.send_signal(signal.SIGHUP)
-        for _ in range(200):
-            time.sleep(0.05)
-            now = self.workers()
-            if now and not now & before:
-                return
-        raise SystemExit("the front didn't reload\n0 passed, 1 failed")
 
     def end(self):
         self.process.terminate()

@@ -6,10 +6,10 @@ import sys
 import threading
 import time
 
-from front import certificates, forged, guards, subjects
+from front import both, certificates, guards
 from front.clients import NUMBER, Client
 from front.raw import answer, message
-from front.services import Vault
+from front.services import two_vaults
 from haproxy import kept, waits
 from haproxy.services import Front
 from shared.tally import Tally, unlike
@@ -19,16 +19,9 @@ TOKENS = "/v1/merchants/shop1/tokens"
 
 
 def one_token(tally, port):
-    """A token over TLS, the same again, and its number for who is entitled; answers the token."""
-    till, back = Client(port, "till-1"), Client(port, "back")
-    first = till.token("shop1", 100001)
-    tally.judge("a token over TLS", unlike(first.status, 200))
-    tally.judge("again, with its number", unlike(till.token("shop1", 100001).body, first.body))
-    token = first.json()["token"]
-    target = f"{TOKENS}/{token}/number"
-    tally.judge("its number", unlike(back.ask("POST", target).json(), {"number": NUMBER}))
-    tally.judge("not for a till", unlike(till.ask("POST", target).status, 403))
-    kept = back.ask("GET", AUDIT).fields.get("Cache-Control")
+    """A token over TLS, and what may be kept of an answer; answers the token."""
+    token = both.one_token(tally, port)
+    kept = Client(port, "back").ask("GET", AUDIT).fields.get("Cache-Control")
     tally.judge("no answer is kept", unlike(kept, "no-store"))
     return token
 
@@ -107,14 +100,6 @@ def figures(tally, front):
     tally.judge("it listens here alone", "" if all(" 127.0.0.1:" in it for it in bound) else f"{bound}")
 
 
-def by_merchant(tally, port):
-    """Two vaults: each has the tokens of its own merchant alone."""
-    other = Client(port, "till-2")
-    tally.judge("a token of the other shop", unlike(other.token("shop2", 1).status, 200))
-    made = Client(port, "back").ask("GET", "/v1/merchants/shop2/audit").json()
-    tally.judge("the other shop has made one", unlike(made.get("made"), 1))
-
-
 def guarded(tally, front):
     """What the front lets through, and what it doesn't."""
     port, late = front.port, []
@@ -122,18 +107,10 @@ def guarded(tally, front):
     waiting.start()
     token = one_token(tally, port)
     strangers(tally, port)
-    subjects.judge(tally, port)
-    subjects.revoked(tally, port, front)
-    subjects.renewed(tally, port, front)
     refused_by_the_front(tally, port)
-    forged.judge(tally, port)
-    forged.by_other_ways(tally, port, token)
-    forged.too_large(tally, port)
-    forged.of_numbers(tally, port)
-    guards.typed_wrong(tally, port)
-    guards.by_browsers(tally, port)
+    both.forgeries(tally, front, token)
     numbers(tally, port, token)
-    by_merchant(tally, port)
+    both.by_merchant(tally, port)
     guards.page(tally, port)
     waiting.join()
     tally.judge("half a request is told in time", unlike(json.loads(late[0].body), {"front": 408}))
@@ -147,8 +124,8 @@ def at_a_front(repository, vaults, *changes):
 def main(program, repository):
     tally = Tally()
     certificates.make()
-    vaults = first, _ = Vault(program, "shop1", "till-1"), Vault(program, "shop2", "till-2")
-    try:
+    with two_vaults(program) as vaults:
+        first, _ = vaults
         with at_a_front(repository, vaults) as front:
             guarded(tally, front)
             waits.stopped(tally, front.port, first)
@@ -167,9 +144,6 @@ def main(program, repository):
             waits.relisted(tally, front.port, first)
         kept.judge(tally, first)
         guards.logged(tally, "haproxy.err")
-    finally:
-        for vault in vaults:
-            vault.kill()
     tally.end()
 
 

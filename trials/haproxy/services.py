@@ -9,7 +9,7 @@ import subprocess
 import time
 import urllib.request
 
-from front.services import free_port
+from front.services import Reloaded, free_port
 
 # the log is a file here, and a socket of syslog where it is installed
 TO_FILE = (("log /dev/log local0", "log stdout format raw local0"),)
@@ -41,8 +41,10 @@ def backends(vaults):
     return "\n".join(parts)
 
 
-class Front:
+class Front(Reloaded):
     """The master and its worker; what they log stands in front.log, and their alarms in haproxy.err."""
+
+    again = signal.SIGUSR2
 
     def __init__(self, repository, vault, *others, pairs=(), log="front.log"):
         self.port, self.figures = free_port(), free_port()
@@ -88,33 +90,17 @@ class Front:
         self.end()
         raise SystemExit(f"the front didn't start: {open('haproxy.err').read()}\n0 passed, 1 failed")
 
-    def workers(self):
-        """The processes that answer just now."""
-        with open(f"/proc/{self.process.pid}/task/{self.process.pid}/children") as file:
-            return set(file.read().split())
-
-    def take(self, **files):
-        """Gives it other files, as `take(revoked="revoked.pem")`, and reloads it; a new process answers
-        then."""
-        for name, path in files.items():
-            shutil.copy(path, f"front-files/{name}.pem")
-        before = self.workers()
-        self.process.send_signal(signal.SIGUSR2)
-        for _ in range(200):
-            time.sleep(0.05)
-            if self.workers() - before:
-                time.sleep(0.5)
-                return
-        raise SystemExit("the front didn't reload\n0 passed, 1 failed")
+    def has_taken(self, before):
+        """Whether a new process answers."""
+        if not self.workers() - before:
+            return False
+        time.sleep(0.5)
+        return True
 
     def numbers(self):
         """What its exporter says."""
         with urllib.request.urlopen(f"http://127.0.0.1:{self.figures}/metrics", timeout=10) as answer:
             return answer.read().decode()
-
-    def close(self):
-        """The same as `end`, for a `with`."""
-        self.end()
 
     def end(self):
         self.process.terminate()

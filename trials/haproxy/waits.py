@@ -3,6 +3,7 @@
 import threading
 import time
 
+from front import both
 from front.clients import Client
 from front.load import MESSAGES, Load
 from shared.tally import unlike
@@ -40,16 +41,9 @@ def under_load(tally, port, vault):
     begun = time.monotonic()
     load.run(vault, 3)
     spent = time.monotonic() - begun
-    tally.judge("no client's connection failed", "; ".join(load.faults[:3]))
-    answered = sum(token is not None for token in load.tokens.values())
-    tally.judge("each message was answered", unlike(answered, MESSAGES))
-    tally.judge("by 200 once", unlike(load.statuses.count(200), MESSAGES))
-    tally.judge("each by a token of its own", unlike(len(set(load.tokens.values())), MESSAGES))
+    both.loaded(tally, port, load)
     others = [it for it in load.statuses if it != 200]
     tally.judge("and by an error of the front else", unlike(set(others) - {502, 503}, set()))
-    till = Client(port, "till-1")
-    lost = [it for it, token in load.tokens.items() if till.token("shop1", it).json().get("token") != token]
-    tally.judge("every answer that came is found again", f"{len(lost)} lost: {lost[:5]}" if lost else "")
     print(f"{MESSAGES} messages over three kills took {spent:.1f} s, with {len(others)} errors: {others[:5]}")
 
 

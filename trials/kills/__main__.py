@@ -12,6 +12,7 @@ from kills.aims import Aims
 from kills.judged import Judge
 from kills.shop import Shop
 from kills.stopped import Stopped
+from shared.files import removed
 from shared.runs import must
 from shared.tally import Tally
 
@@ -32,7 +33,7 @@ def opening(program, folder):
         begun = time.monotonic()
         must(program, "check", folder / "opened.db")
         spent.append(time.monotonic() - begun)
-    files.remove(folder / "opened.db")
+    removed(folder / "opened.db")
     return min(spent)
 
 
@@ -51,7 +52,7 @@ class Trial:
     def new_shop(self):
         """A new shop after some kills, or after a fault."""
         if self.shop:
-            files.remove(self.shop.path)
+            removed(self.shop.path)
         self.shop = Shop(self.program, self.folder / "shop.db", self.random)
         self.shop.furnish()
         self.left = self.random.randrange(8, 17)

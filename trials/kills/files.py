@@ -1,15 +1,9 @@
 """Files that are killed while they move to the newest schema, and while they are made."""
 
-from kills.asked import Run
 from kills.jobs import killed_job
 from shared import rows
+from shared.files import removed
 from shared.runs import run as run_whole
-
-
-def remove(path):
-    """Removes a vault's file and its log."""
-    for name in (path, path.with_name(path.name + "-wal")):
-        name.unlink(missing_ok=True)
 
 
 def migrate(shop, aims):
@@ -17,7 +11,7 @@ def migrate(shop, aims):
     version = shop.random.choice((1, 1, 2, 3))
     _, found = rows.read(shop.path)
     found = rows.lowered(found, version)
-    remove(shop.path)
+    removed(shop.path)
     rows.write(shop.path, found, version)
     shop.known.reset(found)
     run = killed_job(shop, aims, "migrate", ("migrate", shop.path), b"schema 4\n")
@@ -46,7 +40,7 @@ def made(shop, aims):
     left = path.with_name("made.db-new").exists()
     run.figure = f"made: {there}{', made.db-new is left' if left else ''}"
     run.faults += judge_made(shop.program, path, run.ended)
-    remove(path)
+    removed(path)
     return run
 
 

@@ -3,8 +3,8 @@
 from kills.asked import Run
 from kills.shop import clock
 from kills.stopped import Stopped
-from shared.commands import row
-from shared.rules import DONE, RIGHTS, Command, refused
+from shared.commands import line_answer, row
+from shared.rules import DONE, RIGHTS, Command
 from shared.runs import run as run_whole
 
 HEADER, FIRST_LINE = "request,number,use\n", b"request,answer,detail"
@@ -12,12 +12,10 @@ HEADER, FIRST_LINE = "request,number,use\n", b"request,answer,detail"
 
 def line_reply(command, line):
     """What a line of a batch says, as an answer; a line of another request says nothing."""
-    request, answer, detail = line.decode().split(",")
+    request = line.decode().split(",")[0]
     if request != str(command.request):
         return 0, {"request": request}
-    if answer == "refused":
-        return refused(int(detail))
-    return 200, {"expires": int(detail), "token": answer}
+    return line_answer(line)
 
 
 def take_lines(shop, run, commands, text, moments):

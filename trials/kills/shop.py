@@ -8,6 +8,7 @@ from shared import cards, rows
 from shared.known import Known
 from shared.rules import DONE, MULTI, RIGHTS, SINGLE, Command, state
 from shared.runs import must
+from shared.shop import made
 
 MERCHANTS = {"shop1": (3600, 86400, 6), "shop2": (4, 15, 8)}
 CALLERS = ("till-1", "till-2")
@@ -33,7 +34,7 @@ class Shop:
         """Sets the merchants, and gives the rights that messages need."""
         now = clock()
         for name, (single, multi, lead) in MERCHANTS.items():
-            must(self.program, "merchant", "--now", now, "--lead", lead, self.path, name, single, multi)
+            made(self.program, self.path, single, multi, {}, name, now, lead)
             self.done(Command("merchant", "", name, lives=(single, multi, lead)), now)
         text, rights = "", {caller: ["tokenize"] for caller in CALLERS} | {"back": list(RIGHTS)[1:]}
         for caller, words in rights.items():

@@ -12,20 +12,14 @@ import time
 from front import certificates, forged, guards
 from front.clients import Client
 from front.services import Front as Nginx
-from front.services import Vault
+from front.services import two_vaults
 from haproxy.services import Front
 from logs.turned import Syslog, configured, turn
 from shared import lines
+from shared.runs import until
 from shared.tally import Tally, unlike
 
 TOKENS = "/v1/merchants/shop1/tokens"
-
-
-def until(holds, seconds=10):
-    """Waits until something holds, at most so long."""
-    end = time.monotonic() + seconds
-    while not holds() and time.monotonic() < end:
-        time.sleep(0.05)
 
 
 def asked(port, token):
@@ -156,14 +150,10 @@ def without_numbers(tally):
 def main(program, repository):
     tally = Tally()
     certificates.make()
-    vaults = Vault(program, "shop1", "till-1"), Vault(program, "shop2", "till-2")
     configured(repository)
-    try:
+    with two_vaults(program) as vaults:
         token = by_haproxy(tally, repository, vaults)
         by_nginx(tally, repository, vaults, token)
-    finally:
-        for vault in vaults:
-            vault.kill()
     without_numbers(tally)
     asked_for(tally, repository)
     kept(tally)

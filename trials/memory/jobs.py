@@ -5,8 +5,9 @@ import re
 import sqlite3
 from dataclasses import dataclass, field
 
-from shared import messages
+from shared import messages, schemas
 from shared.runs import must
+from shared.shop import granted
 
 NOW = ("--now", 1000)
 FIXED = (*NOW, "--digits", 7)
@@ -15,21 +16,8 @@ AT_TOKEN = "/v1/merchants/shop1/tokens/7777777777771111"
 # What a job on a file may say where memory is refused before the file is open.
 OPENING = ("file not opened 32", "file not opened 33", "file not opened 34", "stopped 20")
 
-SCHEMA_1 = (
-    "CREATE TABLE vault (id INTEGER PRIMARY KEY, version INTEGER NOT NULL) STRICT",
-    "CREATE TABLE merchants (name TEXT NOT NULL PRIMARY KEY, single_life INTEGER NOT NULL,"
-    " multi_life INTEGER NOT NULL, moment INTEGER NOT NULL) STRICT",
-    "CREATE TABLE counts (merchant TEXT NOT NULL, kind INTEGER NOT NULL,"
-    " total INTEGER NOT NULL, PRIMARY KEY (merchant, kind)) STRICT",
-    "CREATE TABLE entries (merchant TEXT NOT NULL, token TEXT NOT NULL, number TEXT,"
-    " usage INTEGER NOT NULL, birth INTEGER NOT NULL, expires INTEGER NOT NULL, revoked INTEGER,"
-    " PRIMARY KEY (merchant, token)) STRICT",
-    "CREATE INDEX entries_number ON entries (merchant, number)",
-    "CREATE TABLE records (caller TEXT NOT NULL, request INTEGER NOT NULL,"
-    " merchant TEXT NOT NULL, token TEXT NOT NULL, usage INTEGER NOT NULL,"
-    " PRIMARY KEY (caller, request)) STRICT",
-    "CREATE TABLE rights (caller TEXT NOT NULL, merchant TEXT NOT NULL, what INTEGER NOT NULL,"
-    " PRIMARY KEY (caller, merchant, what)) STRICT",
+# The rows of the file that jobs begin with, in tables of schema 1.
+ROWS = (
     "INSERT INTO vault VALUES (1, 1)",
     "INSERT INTO merchants VALUES ('shop1', 60, 0, 1000)",
     "INSERT INTO counts VALUES ('shop1', 1, 3)",
@@ -119,13 +107,13 @@ def make_bases(program, folder):
     """The files that jobs begin with: one of schema 1, and that file moved and with a merchant's rights."""
     old = folder / "old.db"
     conn = sqlite3.connect(old, isolation_level=None)
-    for statement in SCHEMA_1:
+    conn.executescript(schemas.tables(1))
+    for statement in ROWS:
         conn.execute(statement)
     conn.close()
     (folder / "moved.db").write_bytes(old.read_bytes())
     must(program, "migrate", folder / "moved.db")
-    for right in ("view", "detokenize"):
-        must(program, "grant", *NOW, folder / "moved.db", "till-1", "shop1", right)
+    granted(program, folder / "moved.db", {"till-1": ("view", "detokenize")}, now=1000)
     (folder / "rights.toml").write_text(RIGHTS)
 
 

@@ -1,11 +1,11 @@
 """One run of a job with one request refused, and what is wrong with it."""
 
 import os
-import shutil
 import subprocess
 
 from memory import jobs
 from shared import messages
+from shared.files import copied, removed
 from shared.runs import SECONDS, Ran, run
 
 
@@ -18,19 +18,12 @@ class Trial:
         self.wanted = job.parts(self.plain.out)
         removed(file)
 
-    def copied(self, name):
-        """A copy of the file that the job begins with."""
-        to = self.folder / name
-        for end in ("", "-wal"):
-            beside = self.folder / (self.job.base + end)
-            if self.job.base and beside.exists():
-                shutil.copyfile(beside, to.with_name(to.name + end))
-        return to
-
     def refuse(self, at):
         """Runs the job with its `at`-th request refused: how it ended, how many requests there were or None
         where one was refused and the program ended without a word, and its file."""
-        file = self.copied(f"{self.job.name}{at}.db")
+        file = self.folder / f"{self.job.name}{at}.db"
+        if self.job.base:
+            copied(self.folder / self.job.base, file)
         reader, writer = os.pipe()
         environment = {
             **os.environ, "LD_PRELOAD": str(self.library), "REFUSE_AT": str(at), "REFUSE_TOLD": str(writer),
@@ -102,9 +95,3 @@ class Trial:
         if not ran.is_like(self.plain):
             return f"again with all memory: {ran}, and not {self.plain}"
         return self.unsound(file) if self.job.name == "migrate" else ""
-
-
-def removed(file):
-    """Removes a file with its log."""
-    for beside in file.parent.glob(file.name + "*"):
-        beside.unlink()

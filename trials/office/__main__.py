@@ -4,14 +4,13 @@ import re
 import sys
 
 from front import certificates
+from front.services import REST, two_vaults
 from front.services import Front as Nginx
-from front.services import Vault
 from haproxy.services import Front
 from office import walk
 from office.browser import Browser, prepare
 from shared import lines
 from shared.masked import MaskedTally
-from shared.runs import must
 from shared.tally import unlike
 
 
@@ -71,18 +70,11 @@ def main(program, repository, screens=""):
     tally = MaskedTally()
     words(tally, repository)
     certificates.make()
-    vaults = Vault(program, "shop1", "till-1"), Vault(program, "shop2", "till-2")
-    try:
-        vaults[0].kill()
-        for right in ("view", "revoke", "purge"):
-            must(program, "grant", vaults[0].file, "back", "shop1", right)
-        vaults[0].start()
+    with two_vaults(program) as vaults:
+        vaults[0].give(REST)
         home = prepare("back")
         tokens = behind_haproxy(tally, repository, home, vaults, screens)
         behind_nginx(tally, repository, home, vaults, tokens[0])
-    finally:
-        for vault in vaults:
-            vault.kill()
     tally.end()
 
 

@@ -134,12 +134,3 @@ class Browser:
     def picture(self, path):
         with open(path, "wb") as file:
             file.write(base64.b64decode(self.ask("GET", "/screenshot")))
-
-    def until(self, holds, seconds=10):
-        """Waits until something holds, at most so long; whether it does."""
-        end = time.monotonic() + seconds
-        while not holds():
-            if time.monotonic() > end:
-                return False
-            time.sleep(0.1)
-        return True

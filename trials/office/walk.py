@@ -9,6 +9,7 @@ import time
 
 from front.clients import NUMBER, Client
 from shared import lines
+from shared.runs import until
 from shared.tally import unlike
 
 GROUPED = "4111 1111 1111 1111"
@@ -23,7 +24,7 @@ class Walk:
 
     def sees(self, name, identity, wanted, seconds=10):
         """An element says something within so many seconds."""
-        fits = self.browser.until(lambda: wanted in self.browser.text(identity), seconds)
+        fits = until(lambda: wanted in self.browser.text(identity), seconds)
         self.tally.judge(name, "" if fits else f"{identity} says {self.browser.text(identity)!r}")
 
     def looks(self, merchant, token):
@@ -63,9 +64,9 @@ def number_shown(walk):
     walk.sees("the number", "digits", GROUPED)
     begun = time.monotonic()
     walk.pictured("number")
-    walk.browser.until(lambda: time.monotonic() - begun > SHOWN - 4, SHOWN)
+    until(lambda: time.monotonic() - begun > SHOWN - 4, SHOWN)
     walk.sees("it is there for a while", "digits", GROUPED, 0)
-    walk.browser.until(lambda: not walk.browser.text("digits"), SHOWN)
+    until(lambda: not walk.browser.text("digits"), SHOWN)
     spent = time.monotonic() - begun
     walk.tally.judge("it is gone in time", "" if SHOWN - 2 < spent < SHOWN + 2 else f"after {spent:.1f} s")
     absent(walk, "and nowhere in the page")
@@ -205,7 +206,7 @@ def by_another_site(walk):
         "const it = document.createElement('iframe'); it.onload = () => done(''); document.body.append(it)"
     )
     walk.browser.run(f"const done = arguments[0]; {framed}; it.src = 'https://localhost:{walk.port}/'")
-    walk.browser.until(lambda: len(lines.read("front.log")) >= before + 3, 5)
+    until(lambda: len(lines.read("front.log")) >= before + 3, 5)
     last = [json.loads(it) for it in lines.read("front.log")[before:]]
     asked = {it["status"] for it in last if it["asked"] == "audit"}
     walk.tally.judge("another site's page is refused", unlike(asked, {403}))

@@ -3,7 +3,8 @@
 import os
 import signal
 import subprocess
-import time
+
+from shared.runs import until
 
 SUITE = "bookworm"
 # What a machine has before anything is typed.
@@ -21,16 +22,6 @@ def must(*words):
     if ran.returncode != 0:
         raise SystemExit(f"{words[0]}: {(ran.stdout + ran.stderr)[-500:]}\n0 passed, 1 failed")
     return ran.stdout
-
-
-def until(seconds, holds):
-    """Waits until something holds, at most so long; whether it does."""
-    end = time.monotonic() + seconds
-    while not holds():
-        if time.monotonic() > end:
-            return False
-        time.sleep(0.05)
-    return True
 
 
 def mirrors():
@@ -60,7 +51,7 @@ class Machine:
             stderr=self.console,
         )
         self.children = f"/proc/{self.process.pid}/task/{self.process.pid}/children"
-        if not until(180, self.is_up):
+        if not until(self.is_up, 180):
             raise SystemExit(f"no machine came up: {open('console').read()[-500:]}\n0 passed, 1 failed")
         home = {"HOME": "/root", "PATH": "/usr/sbin:/usr/bin:/sbin:/bin", "DEBIAN_FRONTEND": "noninteractive"}
         self.shell = subprocess.Popen(
@@ -106,6 +97,6 @@ class Machine:
         self.shell.stdin.write(f"failed=0; . {at} < /dev/null > {at}.out 2>&1; echo $failed > {at}.ended\n")
         self.shell.stdin.flush()
         ended = f"{self.folder}{at}.ended"
-        done = until(seconds, lambda: os.path.exists(ended) and os.path.getsize(ended))
+        done = until(lambda: os.path.exists(ended) and os.path.getsize(ended), seconds)
         told = open(f"{self.folder}{at}.out", errors="replace").read()
         return done and open(ended).read() == "0\n", told if done else f"no end in {seconds} s: {told}"

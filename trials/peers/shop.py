@@ -6,7 +6,7 @@ import socket
 import subprocess
 import time
 
-from shared.runs import must
+from shared import shop
 
 NUMBER = "4111111111111111"
 # The bytes of a short segment.
@@ -15,8 +15,7 @@ SEGMENT = 536
 
 def made(program, file, life=86400):
     """A vault with a shop whose till may ask for tokens, which live so many seconds."""
-    must(program, "merchant", file, "shop1", life, 0)
-    must(program, "grant", file, "till-1", "shop1", "tokenize")
+    shop.made(program, file, life, 0, shop.TILL)
 
 
 def asked(request):

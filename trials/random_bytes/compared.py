@@ -8,6 +8,7 @@ from random_bytes import cuttings, grounds
 from random_bytes.streams import Maker
 from reader.answers import Due, hidden
 from shared import messages, service
+from shared.files import removed
 from shared.runs import Ran, run
 
 
@@ -78,7 +79,7 @@ def piped(stream, name, cut):
     words = [ground.program, "pipe", "--now", grounds.NOW, "--digits", ground.digits, file]
     ran = cuttings.piped(words, cut(random.Random(stream.seed), stream.text))
     checked = run(ground.program, "check", file) if name == "in one piece" else Ran(0, b"", b"")
-    grounds.removed(file)
+    removed(file)
     fault = fault_of(ran, stream.due)
     sizes = tuple(map(len, (stream.after.merchants, stream.after.entries, stream.after.records)))
     if not fault and checked.out and checked.out != b"sound %d %d %d\n" % sizes:
@@ -99,7 +100,7 @@ def served(stream):
         with open_service.connect() as peer:
             came = service.send(peer, pieces, 0.001)
         ended = open_service.ended()
-    grounds.removed(file)
+    removed(file)
     if ended.status != 0:
         return f"the service: {ended}"
     try:

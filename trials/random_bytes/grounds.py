@@ -3,10 +3,10 @@ the same commands."""
 
 import copy
 import random
-import shutil
 
 from reader import answers, vault
-from shared import messages
+from shared import messages, shop
+from shared.files import copied
 from shared.runs import must
 
 # The moment of all streams in a pipe, and the moments of the commands before.
@@ -58,11 +58,10 @@ class Ground:
 
     def set_merchants(self):
         for name, single, multi, lead, moment in MERCHANTS:
-            must(self.program, "merchant", "--now", moment, "--lead", lead, self.file, name, single, multi)
+            shop.made(self.program, self.file, single, multi, {}, name, moment, lead)
             self.vault.merchants[name] = vault.Merchant({"single": single, "multi": multi}, lead, moment)
         for caller, name, right, end in RIGHTS:
-            until = () if end is None else ("--until", end)
-            must(self.program, "grant", "--now", EARLY, *until, self.file, caller, name, right)
+            shop.granted(self.program, self.file, {caller: (right,)}, name, EARLY, end)
             self.vault.rights[caller, name, right] = end
 
     def make_tokens(self):
@@ -87,19 +86,9 @@ class Ground:
 
     def copied(self, name):
         """A copy of the file with its log."""
-        to = self.folder / name
-        for end in ("", "-wal"):
-            if (beside := self.file.with_name(self.file.name + end)).exists():
-                shutil.copyfile(beside, to.with_name(to.name + end))
-        return to
+        return copied(self.file, self.folder / name)
 
     def expected(self, text, now=NOW, draw=None):
         """What the reader says to the bytes of a stream, and its vault after them."""
         after = copy.deepcopy(self.vault)
         return answers.dialogue(after, text, now, draw or answers.drawn(self.digits)), after
-
-
-def removed(file):
-    """Removes a file with its log."""
-    for beside in file.parent.glob(file.name + "*"):
-        beside.unlink()

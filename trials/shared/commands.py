@@ -3,7 +3,7 @@
 import json
 
 from shared import messages
-from shared.rules import USES
+from shared.rules import USES, refused
 
 TARGETS = {
     "detokenize": ("POST", "/tokens/{token}/number"),
@@ -44,3 +44,11 @@ def whole_answers(text):
 def row(command):
     """The row of a batch that asks for a command."""
     return f"{command.request},{command.number},{USES[command.use]}\n"
+
+
+def line_answer(line):
+    """The answer that a line of a batch says."""
+    _, answer, detail = line.decode().split(",")
+    if answer == "refused":
+        return refused(int(detail))
+    return 200, {"expires": int(detail), "token": answer}

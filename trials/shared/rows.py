@@ -2,40 +2,14 @@
 """
 
 import pathlib
-import shutil
 import sqlite3
 import tempfile
 
+from shared.files import copied
 from shared.rules import Entry, Merchant, Record
+from shared.schemas import tables
 
 MADE, GIVEN, DENIED = 1, 2, 3
-TABLES = """
-CREATE TABLE vault (id INTEGER PRIMARY KEY, version INTEGER NOT NULL) STRICT;
-CREATE TABLE merchants (name TEXT NOT NULL PRIMARY KEY, single_life INTEGER NOT NULL, \
-multi_life INTEGER NOT NULL, moment INTEGER NOT NULL) STRICT;
-CREATE TABLE counts (merchant TEXT NOT NULL, kind INTEGER NOT NULL, total INTEGER NOT NULL, \
-PRIMARY KEY (merchant, kind)) STRICT;
-CREATE TABLE entries (merchant TEXT NOT NULL, token TEXT NOT NULL, number TEXT, \
-usage INTEGER NOT NULL, birth INTEGER NOT NULL, expires INTEGER NOT NULL, revoked INTEGER, \
-PRIMARY KEY (merchant, token)) STRICT;
-CREATE INDEX entries_number ON entries (merchant, number);
-CREATE TABLE records (caller TEXT NOT NULL, request INTEGER NOT NULL, merchant TEXT NOT NULL, \
-token TEXT NOT NULL, usage INTEGER NOT NULL, PRIMARY KEY (caller, request)) STRICT;
-CREATE TABLE rights (caller TEXT NOT NULL, merchant TEXT NOT NULL, what INTEGER NOT NULL, \
-PRIMARY KEY (caller, merchant, what)) STRICT;
-"""
-CARDS = """
-CREATE TABLE cards2 (id INTEGER PRIMARY KEY, merchant TEXT NOT NULL, number TEXT NOT NULL, \
-uses INTEGER NOT NULL, UNIQUE (merchant, number)) STRICT;
-CREATE TABLE entries2 (merchant TEXT NOT NULL, token TEXT NOT NULL, card INTEGER, \
-usage INTEGER NOT NULL, birth INTEGER NOT NULL, expires INTEGER NOT NULL, revoked INTEGER, \
-PRIMARY KEY (merchant, token)) STRICT;
-CREATE INDEX entries2_card ON entries2 (merchant, card);
-"""
-LEADS = """
-CREATE TABLE merchants3 (name TEXT NOT NULL PRIMARY KEY, single_life INTEGER NOT NULL, \
-multi_life INTEGER NOT NULL, moment INTEGER NOT NULL, lead_digits INTEGER NOT NULL) STRICT;
-"""
 
 
 class Unsound(Exception):
@@ -46,11 +20,7 @@ def read(path):
     """The version of a vault's file, and its rows by their keys; version 0 and none where it has no table. A
     copy is read, of the file and its log, so that the file stays as it is."""
     with tempfile.TemporaryDirectory() as name:
-        copy = pathlib.Path(name) / "copy.db"
-        shutil.copy(path, copy)
-        if pathlib.Path(f"{path}-wal").exists():
-            shutil.copy(f"{path}-wal", f"{copy}-wal")
-        conn = sqlite3.connect(copy)
+        conn = sqlite3.connect(copied(pathlib.Path(path), pathlib.Path(name) / "copy.db"))
         try:
             return read_rows(conn)
         finally:
@@ -120,7 +90,7 @@ def write(path, rows, version):
     """Makes a file of schema 1, 2 or 3 with these rows, as a program of that schema did."""
     conn = sqlite3.connect(path, isolation_level=None)
     conn.execute("PRAGMA page_size = 1024")
-    conn.executescript(TABLES + (CARDS if version > 1 else "") + (LEADS if version > 2 else ""))
+    conn.executescript(tables(version))
     conn.execute("BEGIN")
     conn.execute("INSERT INTO vault VALUES (1, ?)", (version,))
     for key, row in sorted(rows.items()):

@@ -3,6 +3,7 @@
 import concurrent.futures
 import os
 import subprocess
+import time
 from typing import NamedTuple
 
 # No run of a trial takes a tenth of this, also where the machine has much other work.
@@ -59,6 +60,16 @@ def must(program, *words, given=b""):
     if ran.status != 0:
         raise SystemExit(f"{words[0]}: {ran}\n0 passed, 1 failed")
     return ran
+
+
+def until(holds, seconds=10):
+    """Waits until something holds, at most so long; whether it does."""
+    end = time.monotonic() + seconds
+    while not holds():
+        if time.monotonic() > end:
+            return False
+        time.sleep(0.05)
+    return True
 
 
 def side_by_side(work, items):

@@ -1,8 +1,8 @@
 pub mod Answers
-pub mod Beside
 pub mod ById
 pub mod ByKey
 pub mod Calls
+pub mod ConstantColumns
 pub mod Copies
 pub mod Determined
 pub mod Full
@@ -13,11 +13,11 @@ pub mod Keys
 pub mod Limited
 pub mod Making
 pub mod Moves
-pub mod Parts
 pub mod Ordered
+pub mod Parts
 pub mod Plain
 pub mod Reading
-pub mod Rising
+pub mod RisingLists
 pub mod RowsById
 pub mod SoundById
 pub mod Statements

@@ -20,7 +20,7 @@ use Rattle.sqlite_rules.proofs.ProbeLemmas.{has_mapped, mapped_has}
 use Rattle.sqlite_rules.specs.Lists.{Has}
 use Rattle.sqlite_value.proofs.OrderLemmas.{then-Equal, value_cmp_total}
 use Rattle.sql_maps.proofs.Answers.{bare, has_permuted, passing, staged_are}
-use Rattle.sql_maps.proofs.Rising.{Rises, Untied, same_rising, sorted_rises, untied_permuted}
+use Rattle.sql_maps.proofs.RisingLists.{Rises, Untied, same_rising, sorted_rises, untied_permuted}
 use Rattle.sql_maps.specs.Rows.{IsApart}
 use Rattle.sql_maps.specs.Texts.{first_of}
 

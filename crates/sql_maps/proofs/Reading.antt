@@ -33,7 +33,7 @@ use Rattle.sql_maps.proofs.Full.{all_columns, shown_full, shown_long}
 use Rattle.sql_maps.proofs.HowMany.{as_many, counted}
 use Rattle.sqlite_value.proofs.OrderLemmas.{value_cmp_total}
 use Rattle.sql_maps.proofs.Limited.{alone, first_rows}
-use Rattle.sql_maps.proofs.Rising.{Rises}
+use Rattle.sql_maps.proofs.RisingLists.{Rises}
 use Rattle.sql_maps.proofs.Keys.{Keyed, coding, hits}
 use Rattle.sql_maps.proofs.Plain.{claim_at, claimed}
 

@@ -18,11 +18,15 @@ pub fn rows_of<S: Alter>(
     sql: &str,
     params: &[ValueRef<'_>],
 ) -> Result<Vec<Row>, Error>
+    // on an honest disk, Ok gives the rows that the query shows
     ensures told { HasCleanDisk (state S.Store conn.new)
         → IfOk result (λ rows. Shown sql.now (bound params.now) (state S.Store conn.old)
         (state S.Store conn.new) rows.items) }
+    // a plain query only reads: no doubt goes away, and in its schema, on an honest disk, nothing changes
+    // with Ok
     ensures reads { (s : _) → IsPlain (understood s sql.now)
         → Reads s result (state S.Store conn.old) (state S.Store conn.new) }
+    // with Ok, on an honest disk, the database that a plain query read in its schema was sound
     ensures sound { HasCleanDisk (state S.Store conn.new) → (s : _) → IsPlain (understood s sql.now)
         → (state S.Store conn.old).now.schema ≡ s → OnOk result (IsDatabase (state S.Store conn.old).now) }
 {
@@ -37,7 +41,10 @@ pub fn change<S: Alter>(
     sql: &str,
     params: &[ValueRef<'_>],
 ) -> Result<usize, Error>
+    // the transaction is over the same connection, and on an honest disk a crash leaves nothing new
     ensures goes_on { Proceeds S.Store tx.old tx.new }
+    // with Ok, on an honest disk, the statement ran in the open transaction, if one was open, and changed so
+    // many rows
     ensures ran { HasCleanDisk (state S.Store tx.new.conn.now)
         → IfOk result (λ count. IsTrue (state S.Store tx.old.conn.now).in_transaction
         → ExecutesInside 0 sql.now (bound params.now) (state S.Store tx.old.conn.now)
@@ -64,10 +71,13 @@ pub fn rows_in<S: Alter>(
     sql: &str,
     params: &[ValueRef<'_>],
 ) -> Result<Vec<Row>, Error>
+    // the transaction is over the same connection, and on an honest disk a crash leaves nothing new
     ensures goes_on { Proceeds S.Store tx.old tx.new }
+    // on an honest disk, Ok gives the rows that the query shows
     ensures told { HasCleanDisk (state S.Store tx.new.conn.now)
         → IfOk result (λ rows. Shown sql.now (bound params.now) (state S.Store tx.old.conn.now)
         (state S.Store tx.new.conn.now) rows.items) }
+    // with Ok, on an honest disk, a plain query changed nothing in its schema
     ensures kept { HasCleanDisk (state S.Store tx.new.conn.now) → (s : _) → IsPlain (understood s sql.now)
         → (state S.Store tx.old.conn.now).now.schema ≡ s
         → OnOk result (IsUnchanged (state S.Store tx.old.conn.now) (state S.Store tx.new.conn.now)) }

@@ -11,7 +11,7 @@ use Rattle.sqlite.specs.Term.{Term, col}
 use Rattle.sqlite.specs.Tree.{rowid}
 use Rattle.sqlite.specs.declared.types.Value.{Value}
 use Rattle.sqlite.specs.declared.types.Value.TheVariants.{Int}
-use Rattle.sql_maps.proofs.Beside.{constants, filled, shown_filled}
+use Rattle.sql_maps.proofs.ConstantColumns.{constants, filled, shown_filled}
 use Rattle.sql_maps.proofs.ById.{ById}
 use Rattle.sql_maps.proofs.Full.{shown_full}
 use Rattle.sql_maps.proofs.Grown.{still_here}

@@ -54,7 +54,10 @@ pub fn any_left<S: Alter, T: Left>(
     alloc: Global,
     conn: &mut Connection<S>,
 ) -> Result<u64, StoreFault>
+    // with Ok, it is 0 or 1
     ensures small { IfOk result (λ n. n ≤ 1) }
+    // in a schema with the table, on an honest disk, Ok is 1 exactly where it has rows, and Store comes only
+    // where unread
     ensures told { TellsScan S.Store T.left result conn.old conn.new }
 {
     let ids = shown::<S, RowId>(alloc, conn, T::ids_text())?;

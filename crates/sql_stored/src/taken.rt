@@ -22,8 +22,10 @@ pub trait Taker<R: Raw>: Sized + Drop {
 
     /// Takes the next row. Only memory can fail.
     fn take(&mut self, raw: R::Of) -> Result<(), AllocError>
+        // with Ok, this row is taken behind those taken before
         ensures taken { OnOk result ((start : Self) (raws : List R.Of) → took start self.old raws
             → took start self.new (raws ++ raw ∷ [])) }
+        // with Ok, there is less room than before
         ensures less { OnOk result (room self.new < room self.old) };
 }
 

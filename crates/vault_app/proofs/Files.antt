@@ -95,7 +95,7 @@ module _ {D : Type 0} {g : Ghosts D} (world : World) (path : List ℕ) (unread u
     refused_file None task why is there never tells stays same calm silent =
         (ap (λ f. NotOpened f) (is.1 refl), inl (there (is.1 refl)), calm, silent)
     refused_file (Some left) task why is there never tells stays same calm silent =
-        (record { never = never; tells = tells; stays = stays; same = same }, calm, silent)
+        (record { spared = never; tells = tells; stays = stays; same = same }, calm, silent)
 
     -- what a check comes to
     pub checked : (left : Option (FileStore D g)) (r : Result Sizes FileFault)

@@ -16,7 +16,7 @@ use Rattle.vault_file.specs.Found.{TellsFound}
 use Rattle.vault_file.specs.Paths.{Each}
 use Rattle.vault_file.specs.declared.fault.NotOpened.{NotOpened as FileFault}
 use Rattle.vault_file.specs.declared.fault.NotOpened.TheVariants as file
-use Rattle.vault_http.specs.Passing.{Passage}
+use Rattle.vault_engine.specs.Passing.{Passage}
 use Rattle.vault_listen.specs.Live.{Turns}
 use Rattle.vault_jobs.specs.Doing.{Does}
 use Rattle.vault_jobs.specs.Streams.{Streams}
@@ -73,7 +73,7 @@ module _ {D : Type 0} {g : Ghosts D} where
   -- refused for its schema or its rows, and what is refused so is told by what the files hold; what they kept
   -- they keep; and where there was a table, whatever is in them stays.
   pub record RefusesFile (Holding : Image → Type 0) (left : FileStore D g) (why : FileFault) : Type 0 where
-    pub never : Each Holding (λ image. IsClean (view left) → SparesStopped image why)
+    pub spared : Each Holding (λ image. IsClean (view left) → SparesStopped image why)
     pub tells : Each Holding (λ image. IsClean (view left) → TellsFound image why)
     pub stays : Each Holding (λ image. Stays image left)
     pub same : Each Holding (λ image. ¬ MayFindNone image → StaysWhole image left)

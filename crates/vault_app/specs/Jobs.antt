@@ -73,7 +73,7 @@ module _ {D : Type 0} {g : Ghosts D} where
   abbrev pub DoesJob : World → Option (FileStore D g) → Job → Ending → Type 0 → Type 0 → Streams → Type 0
   DoesJob world left job ending unread unsent s =
       ((p : Plan) × IsPlanOf world job p × IsProperPlan p × DoesPlan world left p ending unread unsent s)
-      ⊎ EndsBefore job ending × (left ≡ None) × unread × unsent
+      ⊎ EndsBefore world job ending × (left ≡ None) × unread × unsent
 
   -- what words do with them: the job that they ask for, or nothing
   abbrev pub Does : World → Option (FileStore D g) → List Text → Ending → Type 0 → Type 0 → Streams → Type 0

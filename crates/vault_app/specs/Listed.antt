@@ -20,6 +20,7 @@ pub record AreListedAt (world : World) (path : List ℕ) (it : Listed) : Type 0 
   pub moment : IsMoment it.now
   pub proper : AllProper (grants_at it.now it.rights.items)
 
--- there is no list, or no moment
-abbrev pub EndsUnlisted : Ending → Type 0
-EndsUnlisted ending = IsUnlisted ending ⊎ (ending ≡ Stopped (stop.Service service.Source))
+-- the file at the path gives no list, or there is no moment
+abbrev pub EndsUnlisted : World → List ℕ → Ending → Type 0
+EndsUnlisted world path ending = IsUnlisted (world.says path) ending
+    ⊎ (ending ≡ Stopped (stop.Service service.Source))

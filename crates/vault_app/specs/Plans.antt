@@ -1,5 +1,6 @@
 -- What a job comes to: a plan, or an ending before there is one.
 use Rattle.std.specs.Prelude.{◌≡◌, ◌⊎◌, List}
+use Rattle.std.specs.declared.io.ErrorKind.{ErrorKind}
 use Rattle.clap.specs.Words.{Text}
 use Rattle.vault_core.specs.Scalar.{IsLife}
 use Rattle.vault_engine.specs.declared.stop.Stop.TheVariants as service
@@ -8,7 +9,6 @@ use Rattle.vault_words.specs.declared.jobs.Job.TheVariants.{Trial, Merchant, Gra
 use Rattle.vault_words.specs.declared.jobs.Job.TheVariants.{Batch, Serve, Sweep, List as Listing, Check}
 use Rattle.vault_words.specs.declared.jobs.Job.TheVariants.{Migrate}
 use Rattle.vault_jobs.specs.declared.stop.Stop.TheVariants as stop
-use Rattle.vault_jobs.specs.declared.stop.Unread.{Unread}
 use Rattle.vault_jobs.specs.declared.task.Task.{Task}
 use Rattle.vault_app.specs.Asked.{AsksFor, Unasked}
 use Rattle.vault_app.specs.Commands.Batch.{batch_says}
@@ -65,16 +65,16 @@ IsProperPlan (plan.Check path) = Unit {0}
 IsProperPlan (plan.Migrate path) = Unit {0}
 IsProperPlan (plan.Do path t) = AreValues t
 
--- How a job ends without a plan: it is refused; its moment is the clock's, and there is none; or its list
--- isn't read.
-abbrev pub EndsBefore : Job → Ending → Type 0
-EndsBefore job ending = EndsSo (record no_ending {
-  refused = (saying job).refused;
+-- How a job ends without a plan in this world: it is refused; its moment is the clock's, and there is none;
+-- or its list isn't read.
+abbrev pub EndsBefore : World → Job → Ending → Type 0
+EndsBefore world job ending = EndsSo (record no_ending {
+  refused = (saying job).refused world;
   stopped = λ s. (s ≡ stop.Service service.Source) × (saying job).needs_moment
-      ⊎ ((why : Unread) × (s ≡ stop.Rights why)) × (saying job).has_list;
+      ⊎ ((why : ErrorKind) × (s ≡ stop.Rights why)) × (saying job).has_list;
 }) ending
 
 -- how the words end without a plan: as their job does, or as they ask for none
-abbrev pub EndsPlanless : List Text → Ending → Type 0 → Type 0
-EndsPlanless words ending unsent =
-    AsksFor words (λ job. EndsBefore job ending) × unsent ⊎ Unasked words ending (Unit {0}) unsent
+abbrev pub EndsPlanless : World → List Text → Ending → Type 0 → Type 0
+EndsPlanless world words ending unsent =
+    AsksFor words (λ job. EndsBefore world job ending) × unsent ⊎ Unasked words ending (Unit {0}) unsent

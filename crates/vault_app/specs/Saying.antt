@@ -39,12 +39,12 @@ path_of (OfCheck path) = Some path.now
 path_of (OfMove path) = Some path.now
 path_of (OfTask path Is) = Some path.now
 
--- What is said of a job: that its lives are lives; by which number it may be refused before there is a plan,
--- for a name, a right or a list; that it may be stopped for want of a moment; that its rights stand in a
--- list; and what it is for.
+-- What is said of a job: that its lives are lives; by which number it may be refused in a world before there
+-- is a plan, for a name, a right or the text of its list; that it may be stopped for want of a moment; that
+-- its rights stand in a list; and what it is for.
 pub record Saying : Type 1 where
   pub lives : Type 0
-  pub refused : ℕ → Type 0
+  pub refused : World → ℕ → Type 0
   pub needs_moment : Type 0
   pub has_list : Type 0
   pub purpose : Purpose
@@ -53,7 +53,7 @@ pub record Saying : Type 1 where
 abbrev pub quiet : Purpose → Saying
 quiet purpose = record {
   lives = Unit {0};
-  refused = λ n. ⊥;
+  refused = λ world n. ⊥;
   needs_moment = ⊥;
   has_list = ⊥;
   purpose = purpose;

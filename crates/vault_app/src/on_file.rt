@@ -42,6 +42,7 @@ fn cache_for(task: &Task) -> Cache {
 
 /// Whether a task only says what a vault holds.
 fn only_shows(task: &Task) -> bool
+    // with true, the task only says what a vault holds
     ensures { IsTrue result → IsShow task.now }
 {
     match task {
@@ -62,7 +63,10 @@ pub(crate) fn do_on_file<P: Paths, K: Timekeeper, N: Network, R: Read, W: Write>
     input: &mut Watched<R>,
     output: &mut Watched<W>,
 ) -> (Ending, Option<FileStore<P::Disk>>)
+    // the lives that the command of a `Change` sets, if any, are in range
     requires proper { IsProper task.now }
+    // by how it ends: what was done with the vault in the files, or why they weren't opened, and which files
+    // are left
     ensures does { let world : World =
         world_of (K.tells time.now) (P.holds paths) (P.lacks paths) (P.refuses paths) (P.says paths)
         (P.logs paths) in

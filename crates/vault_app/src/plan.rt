@@ -32,10 +32,13 @@ pub(crate) fn plan_of<'a, P: Paths, K: Timekeeper>(
     time: &K,
     asked: &Job<'a>,
 ) -> Result<Plan<'a>, Ending>
+    // the lives of the job are in range
     requires { HasLives asked.now }
+    // Ok is the plan of the job; Err is how the job may end without one
     ensures planned { let world : World = world_of (K.tells time.now) (P.holds paths.now) (P.lacks paths.now)
         (P.refuses paths.now) (P.says paths.now) (P.logs paths.now) in
-        MatchResult result (IsPlanOf world asked.now) (EndsBefore asked.now) }
+        MatchResult result (IsPlanOf world asked.now) (EndsBefore world asked.now) }
+    // with Ok, the parts of the plan's task are values of their types, or the life of its trial is in range
     ensures proper { IfOk result IsProperPlan }
 {
     match asked {

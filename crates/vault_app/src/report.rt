@@ -70,7 +70,10 @@ pub(crate) fn report<W: Write, E: Write>(
     output: &mut Watched<W>,
     errors: &mut Watched<E>,
 ) -> u8
+    // it is the ending's exit status
     ensures status { result ≡ status_of ending.now }
+    // the output says a version or a refusal, the errors any other obstacle or a log, unless the writer
+    // fails; all else stays
     ensures said { Says why.now ending.now (output.new ≡ output.old) (errors.new ≡ errors.old)
         (Tells (W.contents (inner_of output.old)) (W.contents (inner_of output.new))
         (is_stopped output.new))

@@ -45,14 +45,20 @@ fn planned<'a, P: Paths, K: Timekeeper, A: AsStr, W: Write>(
     words: &'a [A],
     output: &mut Watched<W>,
 ) -> Result<Plan<'a>, Ending>
+    // with Ok, nothing went out, and it is a plan of a job that the words ask for
     ensures planned { let world : World =
         world_of (K.tells time.now) (P.holds paths.now) (P.lacks paths.now) (P.refuses paths.now)
         (P.says paths.now) (P.logs paths.now) in
         IfOk result (λ plan. (output.new ≡ output.old)
         × AsksFor (map A.text words.now) (λ job. IsPlanOf world job plan)) }
+    // with Ok, the parts of the plan's task are values of their types, or the life of its trial is in range
     ensures proper { IfOk result IsProperPlan }
-    ensures planless { IfErr result
-        (λ ending. EndsPlanless (map A.text words.now) ending (output.new ≡ output.old)) }
+    // with Err, the words' job ends without a plan, the words ask for none, or memory was refused; only help
+    // is said
+    ensures planless { let world : World =
+        world_of (K.tells time.now) (P.holds paths.now) (P.lacks paths.now) (P.refuses paths.now)
+        (P.says paths.now) (P.logs paths.now) in
+        IfErr result (λ ending. EndsPlanless world (map A.text words.now) ending (output.new ≡ output.old)) }
 {
     match job(rt.alloc(), words) {
         Ok(asked) => plan_of(rt, paths, time, &asked),
@@ -76,7 +82,10 @@ fn carry_out<P: Paths, K: Timekeeper, N: Network, R: Read, W: Write>(
     input: &mut Watched<R>,
     output: &mut Watched<W>,
 ) -> (Ending, Option<FileStore<P::Disk>>)
+    // the parts of the plan's task are values of their types, or the life of its trial is in range
     requires { IsProperPlan plan }
+    // by how it ends: what the plan did with the files at its path, which are left, and what was read and
+    // sent
     ensures does { let world : World =
         world_of (K.tells time.now) (P.holds paths) (P.lacks paths) (P.refuses paths) (P.says paths)
         (P.logs paths) in
@@ -111,6 +120,7 @@ fn ended<P: Paths, K: Timekeeper, N: Network, A: AsStr, R: Read, W: Write>(
     input: &mut Watched<R>,
     output: &mut Watched<W>,
 ) -> (Ending, Option<FileStore<P::Disk>>)
+    // by how it ends: what the words' job did with its files, which are left, and what was read and sent
     ensures does { let world : World =
         world_of (K.tells time.now) (P.holds paths) (P.lacks paths) (P.refuses paths) (P.says paths)
         (P.logs paths) in
@@ -128,6 +138,7 @@ fn ended<P: Paths, K: Timekeeper, N: Network, A: AsStr, R: Read, W: Write>(
 
 /// Why words are bad, where a run ends so; nothing, where it ends otherwise.
 fn why_bad<A: AsStr>(alloc: Global, words: &[A], ending: &Ending) -> String
+    // it shows fewer than ten digits, too few for a card number
     ensures few { HasFewDigits (string_bytes result) }
 {
     match ending {
@@ -157,6 +168,8 @@ pub fn run<P: Paths, K: Timekeeper, N: Network, A: AsStr, R: Read, W: Write, E: 
     output: &mut Watched<W>,
     errors: &mut Watched<E>,
 ) -> (u8, Option<FileStore<P::Disk>>)
+    // the run did what the words ask, which gives its status, the files left, what was read and sent, and
+    // what it said then
     ensures does { let world : World =
         world_of (K.tells time.now) (P.holds paths) (P.lacks paths) (P.refuses paths) (P.says paths)
         (P.logs paths) in
@@ -165,15 +178,20 @@ pub fn run<P: Paths, K: Timekeeper, N: Network, A: AsStr, R: Read, W: Write, E: 
         × RunsAs R.remaining W.contents E.contents world result.1
         (map A.text words.now) result.0 links input.old input.new output.old told output.new errors.old
         errors.new }
+    // the status is 0, 1, 2, 3 or 4
     ensures status { (result.0 ≡ 0) ⊎ (result.0 ≡ 1) ⊎ (result.0 ≡ 2) ⊎ (result.0 ≡ 3) ⊎ (result.0 ≡ 4) }
+    // with status 1, nothing went out on the errors
     ensures silent { result.0 ≡ 1 → errors.new ≡ errors.old }
     // where nothing was refused, only a check says something on the errors
     ensures silent_done { result.0 ≡ 0 → (errors.new ≡ errors.old) ⊎ AsksFor (map A.text words.now) IsCheck
         × Tells (E.contents (inner_of errors.old)) (E.contents (inner_of errors.new))
         (is_stopped errors.new) log_line }
+    // with status 2 or 3, the input is unread
     ensures unread { (result.0 ≡ 2) ⊎ (result.0 ≡ 3) → input.new ≡ input.old }
+    // with status 1, the input is unread, unless the words ask for a batch
     ensures unread_refused { result.0 ≡ 1
         → (input.new ≡ input.old) ⊎ AsksFor (map A.text words.now) IsBatch }
+    // with status 2 or 3, nothing went out on the output
     ensures unsent { (result.0 ≡ 2) ⊎ (result.0 ≡ 3) → output.new ≡ output.old }
 {
     let (ending, left) = ended(rt, paths, time, network, words, input, output);
@@ -187,14 +205,19 @@ pub fn no_words<W: Write, E: Write>(
     output: &mut Watched<W>,
     errors: &mut Watched<E>,
 ) -> u8
+    // the status is 4 exactly where the error is want of memory
     ensures stopped { (result ≡ 4) ↔ (error_kind error.now ≡ ErrorKind.OutOfMemory) }
+    // the status is 2 exactly where the error isn't want of memory
     ensures bad_words { (result ≡ 2) ↔ (error_kind error.now ≢ ErrorKind.OutOfMemory) }
+    // with status 4, the errors say that it stopped by 20, unless the writer fails
     ensures says_stopped { result ≡ 4 → Tells
         (E.contents (inner_of errors.old)) (E.contents (inner_of errors.new))
         (is_stopped errors.new) (stop_line 20) }
+    // with status 2, the errors say that the words are bad, unless the writer fails
     ensures says_bad_words { result ≡ 2 → Tells
         (E.contents (inner_of errors.old)) (E.contents (inner_of errors.new))
         (is_stopped errors.new) bad_words_line }
+    // nothing went out on the output
     ensures unsent { output.new ≡ output.old }
 {
     let ending = match error.kind() {

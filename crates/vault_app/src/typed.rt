@@ -8,7 +8,9 @@ use vault_pan::draw::Digits;
 
 /// The moment, where one is fixed.
 pub(crate) fn fixed_moment(moment: Option<Moment>) -> Option<Moment>
+    // it is what is handed in
     ensures same { result ≡ moment }
+    // if there is one, it is a moment
     ensures moment { IfSome result IsMoment }
 {
     moment
@@ -16,7 +18,9 @@ pub(crate) fn fixed_moment(moment: Option<Moment>) -> Option<Moment>
 
 /// The digits, where they are fixed.
 pub(crate) fn fixed_digits(digits: Option<Digits>) -> Option<Digits>
+    // it is what is handed in
     ensures same { result ≡ digits }
+    // if there are some, they are a drawing
     ensures drawing { IfSome result IsDrawing }
 {
     digits

@@ -1,5 +1,5 @@
+pub mod BatchStops
 pub mod Fields
-pub mod Lining
-pub mod Replying
-pub mod Stopping
-pub mod Tracking
+pub mod ReaderProgress
+pub mod TokenCounts
+pub mod TokenReplies

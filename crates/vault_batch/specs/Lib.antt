@@ -1,7 +1,7 @@
 pub mod Asking
 pub mod Batched
-pub mod Beginning
 pub mod Faults
+pub mod Header
 pub mod Laws
 pub mod Lines
 pub mod Reading

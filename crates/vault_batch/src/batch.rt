@@ -7,7 +7,7 @@ ghost use Rattle.vault_store.specs.Applied.{is_broken, tables_of};
 ghost use Rattle.vault_wire.specs.Watching.{inner_of, is_stopped};
 ghost use Rattle.vault_core.specs.Keys.{Bytes};
 ghost use Rattle.vault_batch.specs.Faults.{Tells};
-ghost use Rattle.vault_batch.specs.Beginning.{Begins, SendsFirst};
+ghost use Rattle.vault_batch.specs.Header.{Begins, SendsFirst};
 ghost use Rattle.vault_batch.specs.Reading.{StandsAfter};
 ghost use Rattle.vault_batch.specs.Stops.{IsBatched, Stops};
 ghost use Rattle.vault_batch.specs.declared.asker.Asker.{Asker as Asking};
@@ -39,10 +39,14 @@ fn begin<R: Read, W: Write>(
     fields: &mut ByteRecord,
     writer: &mut Watched<W>,
 ) -> Result<(), BatchFault>
+    // at the start of the records, with Ok the header was read; BadHeader says that it isn't there; Store,
+    // BadRecord and Source never come
     ensures began { (known : Option Bytes) → StandsAfter known R.remaining [] records.old
         → Begins known R.remaining records.new result }
+    // with Ok the first line went out, with Write a beginning of it and not all, and else nothing
     ensures sent { SendsFirst (W.contents (inner_of writer.old)) (W.contents (inner_of writer.new)) result }
-    ensures told { Tells result
+    // Source, Write and Store tell that this one has failed; whether the others have stays as it was
+    ensures own_failure { Tells result
         (failures false false (is_stopped writer.old) false)
         (failures false false (is_stopped writer.new) false) }
 {
@@ -69,18 +73,26 @@ fn answer_rows<R: Read, W: Write, T: Tables, S: Source>(
     asker: &Asker,
     source: &mut S,
 ) -> Result<Counts, BatchFault>
+    // Ok counts the input's rows, where it is known; on an honest disk, all are answered and the vault after
+    // them is kept
     ensures batched { let w : Passage = passing S.given source.old source.new W.contents writer.old writer.new
         T.is_honest T.holds T.leaves vault.old vault.new in
         IfOk result (IsBatched (R.remaining (inner_of reader.old)) w asker.now) }
+    // the fault says at which row it stopped, and what went out and is kept then
     ensures stopped { let w : Passage = passing S.given source.old source.new W.contents writer.old writer.new
         T.is_honest T.holds T.leaves vault.old vault.new in
         IfErr result (Stops (R.remaining (inner_of reader.old)) w asker.now) }
-    ensures told { Tells result
+    // Source, Write and Store tell that this one has failed; whether the others have stays as it was
+    ensures own_failure { Tells result
         (failures (S.has_refused source.old) false (is_stopped writer.old) (is_broken vault.old))
         (failures (S.has_refused source.new) false (is_stopped writer.new) (is_broken vault.new)) }
+    // the source is the same, further on
     ensures later { S.precedes source.old source.new }
-    ensures sturdy { T.may_fail ≡ false → is_broken vault.old ≡ false → ¬ (result ≡ Err BatchFault.Store) }
-    ensures honest { T.is_honest (tables_of vault.new) → T.is_honest (tables_of vault.old) }
+    // tables that can't fail give an unbroken vault no Store fault
+    ensures infallible { T.may_fail ≡ false → is_broken vault.old ≡ false
+        → ¬ (result ≡ Err BatchFault.Store) }
+    // a disk that is honest after the call was so before it
+    ensures disk_honest { T.is_honest (tables_of vault.new) → T.is_honest (tables_of vault.old) }
 {
     let mut records = records_of(alloc, &mut *reader);
     let mut fields = ByteRecord::new(alloc);
@@ -108,8 +120,11 @@ fn answer_rows<R: Read, W: Write, T: Tables, S: Source>(
 
 /// Reads on to the end of the reader's bytes.
 fn at_end<R: Read>(reader: &mut Watched<R>) -> Result<(), BatchFault>
+    // with Ok, no byte of the input is left, where it is known
     ensures end { OnOk result (IsAtEnd (R.remaining (inner_of reader.new))) }
-    ensures calm { OnOk result (is_stopped reader.new ≡ false) }
+    // with Ok, the reader hasn't failed
+    ensures reader_ok { OnOk result (is_stopped reader.new ≡ false) }
+    // with Read the reader has failed; any other fault is Memory
     ensures only { IfErr result (λ e. ((e ≡ BatchFault.Read) × (is_stopped reader.new ≡ true))
         ⊎ (e ≡ BatchFault.Memory)) }
 {
@@ -148,23 +163,34 @@ pub fn batch<R: Read, W: Write, T: Tables, S: Source>(
     merchant: MerchantId,
     source: &mut S,
 ) -> Result<Counts, BatchFault>
+    // Ok counts the input's rows, where it is known; on an honest disk, all are answered and the vault after
+    // them is kept
     ensures batched { let w : Passage = passing S.given source.old source.new W.contents writer.old writer.new
         T.is_honest T.holds T.leaves vault.old vault.new in
         let who : Asking = record { caller = caller; merchant = merchant } in
         IfOk result (IsBatched (R.remaining (inner_of reader.old)) w who) }
+    // with Ok, no byte of the input is left, where it is known
     ensures end { OnOk result (IsAtEnd (R.remaining (inner_of reader.new))) }
-    ensures calm { OnOk result (is_stopped reader.new ≡ false) }
+    // with Ok, the reader hasn't failed
+    ensures reader_ok { OnOk result (is_stopped reader.new ≡ false) }
+    // the fault says at which row it stopped, and what went out and is kept then
     ensures stopped { let w : Passage = passing S.given source.old source.new W.contents writer.old writer.new
         T.is_honest T.holds T.leaves vault.old vault.new in
         let who : Asking = record { caller = caller; merchant = merchant } in
         IfErr result (Stops (R.remaining (inner_of reader.old)) w who) }
+    // with Read the reader has failed
     ensures read { result ≡ Err BatchFault.Read → is_stopped reader.new ≡ true }
-    ensures told { Tells result
+    // Source, Write and Store tell that this one has failed; whether the others have stays as it was
+    ensures own_failure { Tells result
         (failures (S.has_refused source.old) false (is_stopped writer.old) (is_broken vault.old))
         (failures (S.has_refused source.new) false (is_stopped writer.new) (is_broken vault.new)) }
+    // the source is the same, further on
     ensures later { S.precedes source.old source.new }
-    ensures sturdy { T.may_fail ≡ false → is_broken vault.old ≡ false → ¬ (result ≡ Err BatchFault.Store) }
-    ensures honest { T.is_honest (tables_of vault.new) → T.is_honest (tables_of vault.old) }
+    // tables that can't fail give an unbroken vault no Store fault
+    ensures infallible { T.may_fail ≡ false → is_broken vault.old ≡ false
+        → ¬ (result ≡ Err BatchFault.Store) }
+    // a disk that is honest after the call was so before it
+    ensures disk_honest { T.is_honest (tables_of vault.new) → T.is_honest (tables_of vault.old) }
 {
     let asker = Asker { caller, merchant };
     match answer_rows(alloc, reader, writer, vault, &asker, source) {

@@ -15,9 +15,13 @@ pub struct Counts {
 impl Counts {
     /// Of so many rows, of which so many have a token.
     pub(crate) fn new(rows: u64, tokens: u64) -> Counts
+        // no more have a token than there are rows
         requires { tokens ≤ rows }
+        // there are so many rows
         ensures rows { result.rows ≡ rows }
+        // so many have a token
         ensures tokens { result.tokens ≡ tokens }
+        // each row has a token or is refused
         ensures both { result.rows ≡ result.tokens + result.refused }
     {
         Counts {

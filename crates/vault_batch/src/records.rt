@@ -25,9 +25,12 @@ pub(crate) fn read_record<R: Read>(
     records: &mut Reader<R>,
     fields: &mut ByteRecord,
 ) -> Result<bool, BatchFault>
+    // with true, one more record came behind those before; with false, the known bytes have no more than
+    // those
     ensures next { (known : Option Bytes) (before : List Fields)
         → StandsAfter known R.remaining before records.old
         → IfOk result (StandsNext known R.remaining before (fields_of fields.new) records.new) }
+    // the fault is Read or Memory
     ensures only { IfErr result (λ e. (e ≡ BatchFault.Read) ⊎ (e ≡ BatchFault.Memory)) }
 {
     match records.read_byte_record(fields) {

@@ -25,7 +25,9 @@ pub(crate) struct Row<'a> {
 impl<'a> Row<'a> {
     /// The row of a record, which has three fields.
     pub(crate) fn of(fields: &'a ByteRecord) -> Option<Row<'a>>
+        // the row has the fields of the record
         ensures some { IfSome result (λ row. fields_of fields.now ≡ fields_in (row_of row)) }
+        // where there is none, the record hasn't three fields
         ensures none { IfNone result (length (fields_of fields.now) ≢ 3) }
     {
         if fields.len() != 3 {
@@ -42,7 +44,9 @@ impl<'a> Row<'a> {
     ///
     /// Refusals, the first that applies: 5 BadRequestNumber, 1 BadNumber, 2 BadCheck, 19 BadUse.
     pub(crate) fn command(self, asker: Asker, now: Moment, digits: Digits) -> Result<Command, u8>
+        // it is what the row asks for: a command, or the number of the first refusal that applies
         ensures wanted { Wants asker (row_of self.entry) (now, digits) result }
+        // the lives that its command sets, if any, are in range
         ensures proper { AreProper result }
     {
         let request = RequestNo::read(self.request).map_err(|refused| refused.number())?;

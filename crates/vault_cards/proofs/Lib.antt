@@ -1,7 +1,7 @@
 pub mod Calls
-pub mod Owing
+pub mod CardOfEntry
+pub mod CardUses
 pub mod Places
-pub mod Pointed
 pub mod Shown
 pub mod Statements
 pub mod WrittenEntry

@@ -25,7 +25,7 @@ use Rattle.vault_schema.specs.Versions.{Tables, claims_of, schema_of}
 use Rattle.vault_schema.specs.declared.v2.Card.{Card}
 use Rattle.vault_schema.specs.declared.v2.TheConstants.{FIND_CARD, FIND_ENTRY, FIND_USES}
 use Rattle.vault_schema.specs.declared.version.Version.{Version}
-use Rattle.vault_schema.proofs.Behind.{behind_two, cards_guarded, indexes_behind_two}
+use Rattle.vault_schema.proofs.TablesBehind.{behind_two, cards_guarded, indexes_behind_two}
 use Rattle.vault_schema.proofs.ByTable.{second_claims}
 use Rattle.vault_schema.proofs.Version2.Texts.{card_is, card_tests, entry_is, uses_is}
 use Rattle.vault_cards.specs.Cards.{ShowsCard, card_shown, uses_column}

@@ -15,7 +15,7 @@ use Rattle.vault_schema.specs.declared.v2.Card.{Card}
 use Rattle.vault_schema.specs.declared.v2.Pointing.{Pointing}
 use Rattle.vault_schema.specs.declared.v2.TheConstants.{ADD_ENTRY, PUT_ENTRY, ADD_CARD, SET_USES, DROP_CARD}
 use Rattle.vault_schema.specs.declared.version.Version.{Version}
-use Rattle.vault_schema.proofs.Behind.{behind_two, indexes_behind_two, plain_second}
+use Rattle.vault_schema.proofs.TablesBehind.{behind_two, indexes_behind_two, plain_second}
 use Rattle.vault_schema.proofs.Version2.Texts.{add_card_is, add_entry_is, drop_card_is, put_entry_is}
 use Rattle.vault_schema.proofs.Version2.Texts.{set_uses_is, uses_set}
 use Rattle.vault_cards.specs.Calls.{HasTables}

@@ -85,6 +85,7 @@ fn make_card<S: Alter>(
     m: &str,
     number: &str,
 ) -> Result<i64, StoreFault>
+    // where the number has no card, with Ok on an honest disk the card with this id came, used once
     ensures { Inside S.Store tx.old tx.new (TurnsInEach result
         (λ t. HasNoCard t.cards m.now number.now)
         (λ id t new. (t.cards id ≡ None)
@@ -104,6 +105,8 @@ pub(crate) fn use_card<S: Alter>(
     m: &str,
     number: &str,
 ) -> Result<i64, StoreFault>
+    // with Ok, on an honest disk, only cards change: the card with this id is the number's, and a use of it
+    // is owed
     ensures { Inside S.Store tx.old tx.new (TurnsInEach result
         (λ t. Unit {0}) (λ id t new. OwesUse t new id m.now number.now)) }
 {
@@ -116,6 +119,7 @@ pub(crate) fn use_card<S: Alter>(
 
 /// Takes one of so many uses from a card; the last one takes the card away.
 fn use_less<S: Alter>(tx: &mut Transaction<'_, S>, id: i64, uses: u64) -> Result<(), StoreFault>
+    // with Ok, on an honest disk, only cards change, and a use of the card that was owed is owed no more
     ensures { Inside S.Store tx.old tx.new (TurnsInEach result
         (λ t. (c : Card) × (t.cards id ≡ Some c) × (c.uses ≡ uses)) (λ it t new. OwesNothing t new id)) }
 {
@@ -132,6 +136,7 @@ fn use_less<S: Alter>(tx: &mut Transaction<'_, S>, id: i64, uses: u64) -> Result
 
 /// Uses a card once less; the last one takes the card away.
 pub(crate) fn leave_card<S: Alter>(tx: &mut Transaction<'_, S>, id: i64) -> Result<(), StoreFault>
+    // with Ok, on an honest disk, only cards change, and a use of the card that was owed is owed no more
     ensures { Inside S.Store tx.old tx.new (TurnsInEach result
         (λ t. Unit {0}) (λ it t new. OwesNothing t new id)) }
 {
@@ -151,6 +156,8 @@ pub(crate) fn use_number<S: Alter>(
     m: &str,
     number: &Option<Pan>,
 ) -> Result<Option<i64>, StoreFault>
+    // with Ok, on an honest disk, only cards change: the card given, if any, is the number's, and a use of it
+    // is owed
     ensures { Inside S.Store tx.old tx.new (TurnsInEach result
         (λ t. Unit {0}) (λ card t new. OwesNumber t new card m.now number.now)) }
 {
@@ -165,6 +172,8 @@ pub(crate) fn leave_number<S: Alter>(
     tx: &mut Transaction<'_, S>,
     card: Option<i64>,
 ) -> Result<(), StoreFault>
+    // with Ok, on an honest disk, only cards change, and a use of the card, if any, that was owed is owed no
+    // more
     ensures { Inside S.Store tx.old tx.new (TurnsInEach result
         (λ t. Unit {0}) (λ it t new. OwesNoMore t new card)) }
 {

@@ -19,9 +19,11 @@ use Rattle.vault_core.specs.declared.command.Command.{Command}
 use Rattle.vault_core.specs.declared.command.Command.TheVariants.{Grant, Withdraw, Tokenize}
 use Rattle.vault_core.specs.declared.command.Command.TheVariants.{Detokenize, View, Revoke, Purge, Audit}
 use Rattle.vault_core.specs.declared.right.Right.TheVariants as right
-use Rattle.vault_core.proofs.Alike.{Alike, alike-of_merchant, alike-on_token, alike-refused, alike-set}
-use Rattle.vault_core.proofs.Alike.{alike-grant, alike-withdraw, alike-denied, alike-redeemed, alike-shown}
-use Rattle.vault_core.proofs.Alike.{alike-retired, alike-purged, alike-counted}
+use Rattle.vault_core.proofs.AgreeingCommands.{Alike, alike-of_merchant, alike-on_token}
+use Rattle.vault_core.proofs.AgreeingCommands.{alike-refused, alike-set}
+use Rattle.vault_core.proofs.AgreeingCommands.{alike-grant, alike-withdraw, alike-denied}
+use Rattle.vault_core.proofs.AgreeingCommands.{alike-redeemed, alike-shown}
+use Rattle.vault_core.proofs.AgreeingCommands.{alike-retired, alike-purged, alike-counted}
 use Rattle.vault_core.proofs.Finds.{some_same}
 use Rattle.vault_core.proofs.Setting.{at_setting, if_setting}
 use Rattle.vault_core.proofs.TokenizeAlike.{alike-tokenize}

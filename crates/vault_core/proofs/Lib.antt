@@ -1,5 +1,6 @@
-pub mod Agree
-pub mod Alike
+pub mod AgreeingChanges
+pub mod AgreeingCommands
+pub mod AgreeingVaults
 pub mod Branches
 pub mod Counted
 pub mod CurrentLemmas
@@ -9,7 +10,6 @@ pub mod Empty
 pub mod Finds
 pub mod Isolated
 pub mod Kept
-pub mod LeftOut
 pub mod Maps
 pub mod Recorded
 pub mod Redeemed
@@ -21,7 +21,7 @@ pub mod SoundMoved
 pub mod SoundRedeem
 pub mod StaysSound
 pub mod Steps
-pub mod Together
+pub mod TokenYields
 pub mod TokenizeAlike
+pub mod UnacceptedCommands
 pub mod Walks
-pub mod Yielded

@@ -21,7 +21,7 @@ use Rattle.vault_core.specs.declared.command.TokenRequest.{TokenRequest}
 use Rattle.vault_core.specs.declared.reply.Reply.TheVariants.{Refused}
 use Rattle.vault_core.specs.declared.row.Lives.{Lives}
 use Rattle.vault_core.proofs.Setting.{if_setting}
-use Rattle.vault_core.proofs.Agree.{agree-refl, agree-sym, agree-trans}
+use Rattle.vault_core.proofs.AgreeingVaults.{agree-refl, agree-sym, agree-trans}
 use Rattle.vault_core.proofs.CurrentLemmas.{same-is}
 use Rattle.vault_core.proofs.Finds.{some_same}
 use Rattle.vault_core.proofs.Isolated.{alike, writer_of, AgreeForWriter, HaveSameRoom}

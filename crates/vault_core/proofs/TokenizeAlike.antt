@@ -19,11 +19,11 @@ use Rattle.vault_core.specs.declared.reply.Reply.TheVariants.{Token}
 use Rattle.vault_core.specs.declared.right.Right.TheVariants as right
 use Rattle.vault_core.specs.declared.row.Entry.{Entry}
 use Rattle.vault_core.specs.declared.row.Record.{Record}
-use Rattle.vault_core.proofs.Agree.{same-made, same-current, same-chosen}
-use Rattle.vault_core.proofs.Alike.{Alike, alike-unchanged, alike-refused, alike-of_merchant}
+use Rattle.vault_core.proofs.AgreeingVaults.{same-made, same-current, same-chosen}
+use Rattle.vault_core.proofs.AgreeingCommands.{Alike, alike-unchanged, alike-refused, alike-of_merchant}
 use Rattle.vault_core.proofs.Branches.{both_by_test, both_by_option}
 use Rattle.vault_core.proofs.CurrentLemmas.{same-is}
-use Rattle.vault_core.proofs.Together.{Together, and_then, set_row, set_entry, set_record}
+use Rattle.vault_core.proofs.AgreeingChanges.{Together, and_then, set_row, set_entry, set_record}
 
 module _ (V W : Vault) (a : TokenRequest) (agree : AgreeAt a.merchant V W) where
   abbrev Both : Outcome → Outcome → Type 0

@@ -149,7 +149,9 @@ impl Command {
 
     /// Whether the lives of a SetMerchant are at most the longest one; true of every other command.
     pub fn proper(&self) -> bool
+        // it is true exactly where the lives of a SetMerchant, if it is one, are in range
         ensures lives { IsTrue result ↔ HasLivesInRange self.now }
+        // it is true exactly where all parts of the command are values of their types
         ensures parts { IsTrue result ↔ IsProper self.now }
     {
         match Parts::of(self) {

@@ -29,9 +29,13 @@ use token::tokenize;
 /// by 7, 8, 13 and 17, an Audit by 7 and 8. The first that applies is answered.
 pub fn decide(w: &Window, c: &Command) -> (Reply, Changes)
     requires { HasLivesInRange c.now }
+    // of whatever sound vault the window is, the decision is the command's outcome
     ensures settles { Decides w.now c.now result }
+    // of whatever sound vault the window is, the changes fit it
     ensures fits { FitsVault w.now c.now result.1 }
+    // a refusal changes nothing, but that a denial is counted
     ensures refusals { RefusesQuietly c.now result.0 result.1 }
+    // a View, an Audit, and a Tokenize that the window shows to be recorded change nothing
     ensures silent { WritesNothing w.now c.now → result.1 ≡ no_changes }
 {
     settled(w, &Parts::of(c))
@@ -40,8 +44,11 @@ pub fn decide(w: &Window, c: &Command) -> (Reply, Changes)
 /// Each command in its own function.
 fn settled(w: &Window, parts: &Parts) -> (Reply, Changes)
     requires { HasLivesInRange (command_with parts.now) }
+    // of whatever sound vault the window is, the decision is the command's outcome
     ensures settles { Decides w.now (command_with parts.now) result }
+    // a refusal changes nothing, but that a denial is counted
     ensures refusals { RefusesQuietly (command_with parts.now) result.0 result.1 }
+    // a View, an Audit, and a Tokenize that the window shows to be recorded change nothing
     ensures silent { WritesNothing w.now (command_with parts.now) → result.1 ≡ no_changes }
 {
     match *parts {

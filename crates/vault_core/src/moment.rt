@@ -28,8 +28,11 @@ impl Model for Moment {
 impl Moment {
     /// The moment of a number of seconds since 1970; else 6 BadMoment.
     pub fn new(seconds: u64) -> Result<Moment, Refusal>
+        // a number is taken exactly where it is a moment
         ensures moment { IsOk result ↔ IsMoment seconds }
+        // the refusal is `BadMoment`
         ensures refused { IfErr result (λ refused. refused ≡ Refusal.BadMoment) }
+        // the moment is the number
         ensures value { IfOk result (λ m. m ≡ seconds) }
     {
         if seconds > LAST_MOMENT {
@@ -40,7 +43,9 @@ impl Moment {
 
     /// The seconds since 1970.
     pub fn seconds(self) -> u64
+        // the number is the moment's own
         ensures value { result ≡ self }
+        // a moment's number is in range
         ensures moment { IsMoment self }
     {
         self.seconds

@@ -47,7 +47,9 @@ impl Model for MerchantId {
 /// The bytes of a name.
 fn read_name(text: &[u8]) -> Result<Short<16>, Refusal>
     ensures name { IsOk result ↔ IsName text.now }
+    // the refusal is `BadName`
     ensures refused { IfErr result (λ refused. refused ≡ Refusal.BadName) }
+    // the name is the text
     ensures value { IfOk result (λ name. name ≡ text.now) }
 {
     let valid = text.iter().all(|b| b.is_ascii_lowercase() || b.is_ascii_digit() || *b == b'-');
@@ -63,7 +65,9 @@ impl Caller {
     /// Reads a name: 1 to 16 small letters, digits and hyphens; else 4 BadName.
     pub fn read(text: &[u8]) -> Result<Caller, Refusal>
         ensures name { IsOk result ↔ IsName text.now }
+        // the refusal is `BadName`
         ensures refused { IfErr result (λ refused. refused ≡ Refusal.BadName) }
+        // the name is the text
         ensures value { IfOk result (λ name. name ≡ text.now) }
     {
         let text = read_name(text)?;
@@ -72,6 +76,7 @@ impl Caller {
 
     /// The bytes of the name.
     pub fn bytes(&self) -> &[u8]
+        // the bytes are the name's own
         ensures value { result.now ≡ self.now }
         ensures name { IsName self.now }
     {
@@ -83,7 +88,9 @@ impl MerchantId {
     /// Reads a name: 1 to 16 small letters, digits and hyphens; else 4 BadName.
     pub fn read(text: &[u8]) -> Result<MerchantId, Refusal>
         ensures name { IsOk result ↔ IsName text.now }
+        // the refusal is `BadName`
         ensures refused { IfErr result (λ refused. refused ≡ Refusal.BadName) }
+        // the name is the text
         ensures value { IfOk result (λ name. name ≡ text.now) }
     {
         let text = read_name(text)?;
@@ -92,6 +99,7 @@ impl MerchantId {
 
     /// The bytes of the name.
     pub fn bytes(&self) -> &[u8]
+        // the bytes are the name's own
         ensures value { result.now ≡ self.now }
         ensures name { IsName self.now }
     {

@@ -28,8 +28,11 @@ pub enum Parts {
 impl Parts {
     /// Those of a command.
     pub fn of(c: &Command) -> Parts
+        // the command has these parts
         ensures command { command_with result ≡ c.now }
+        // the parts of a command on a token have its own right
         ensures right { AsksByRight result }
+        // where its lives are in range, all parts of the command are values of their types
         ensures typed { HasLivesInRange c.now → IsProper c.now }
     {
         let parts = match *c {

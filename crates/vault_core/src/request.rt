@@ -52,8 +52,11 @@ fn value_of(digits: &[u8]) -> u64
 impl RequestNo {
     /// Reads a request number: 1 to 19 digits without a leading zero; else 5 BadRequestNumber.
     pub fn read(text: &[u8]) -> Result<RequestNo, Refusal>
+        // a text is taken exactly where it is that of a request number
         ensures request { IsOk result ↔ IsRequestText text.now }
+        // the refusal is `BadRequestNumber`
         ensures refused { IfErr result (λ refused. refused ≡ Refusal.BadRequestNumber) }
+        // the number is what the digits say
         ensures value { IfOk result (λ r. r ≡ digits_value 10 text.now) }
     {
         if text.is_empty() || text.len() > 19 || text[0] == b'0' {
@@ -71,7 +74,9 @@ impl RequestNo {
 
     /// The number.
     pub fn get(self) -> u64
+        // the number is the request's own
         ensures value { result ≡ self }
+        // a request's number is in range
         ensures request { IsRequest self }
     {
         self.number

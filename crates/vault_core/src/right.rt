@@ -19,7 +19,9 @@ impl Right {
 
     /// Reads a right's word, its name in small letters.
     pub fn read(text: &[u8]) -> Option<Right>
+        // the text is the word of the right that is given
         ensures word { IfSome result (λ right. text.now ≡ right_word right) }
+        // where none is given, the text is no right's word
         ensures none { IfNone result ((right : Right) → ¬ (text.now ≡ right_word right)) }
     {
         if text == b"tokenize".as_slice() {

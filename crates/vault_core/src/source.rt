@@ -23,12 +23,19 @@ pub trait Source {
 
     /// The next pair.
     fn next(&mut self) -> Result<(Moment, Digits), SourceFault>
+        // with Ok, the pair stands behind those that were given before
         ensures gives { IfOk result (λ pair. given self.new ≡ given self.old ++ (pair.0, pair.1) ∷ []) }
+        // with Ok, one pair fewer is left
         ensures counts { OnOk result (count_left self.old ≡ count_left self.new + 1) }
+        // with Ok, whether it ever refused stays as it was
         ensures goes_on { OnOk result (has_refused self.new ≡ has_refused self.old) }
+        // with Err, no pair was given
         ensures keeps { OnErr result (given self.new ≡ given self.old) }
+        // after Err it has refused
         ensures refuses { OnErr result (has_refused self.new ≡ true) }
+        // where no pair is left, it is an Err
         ensures spent { count_left self.old ≡ 0 → IsErr result }
+        // the source is the same, further on
         ensures later { precedes self.old self.new };
 
     /// At most how many pairs it will give.
@@ -87,13 +94,21 @@ impl Source for FixedSource {
     ghost precedes = { SamePair };
 
     fn next(&mut self) -> Result<(Moment, Digits), SourceFault>
+        // with Ok, the pair stands behind those that were given before
         ensures gives { IfOk result (λ pair. pairs_of self.new ≡ pairs_of self.old ++ (pair.0, pair.1) ∷ []) }
+        // with Ok, one pair fewer is left
         ensures counts { OnOk result (self.old.left ≡ self.new.left + 1) }
+        // with Ok, whether it ever refused stays as it was
         ensures goes_on { OnOk result (self.new.refused ≡ self.old.refused) }
+        // with Err, no pair was given
         ensures keeps { OnErr result (pairs_of self.new ≡ pairs_of self.old) }
+        // after Err it has refused
         ensures refuses { OnErr result (self.new.refused ≡ true) }
+        // where no pair is left, it is an Err
         ensures spent { self.old.left ≡ 0 → IsErr result }
+        // the pair that it gives stays the same
         ensures later { SamePair self.old self.new }
+        // it gives its own pair, and refuses only where none is left
         ensures its_own { GivesItsOwn self.old self.new result }
     {
         if self.left == 0 {

@@ -19,8 +19,11 @@ impl Use {
 
     /// Reads `single` or `multi`; else 19 BadUse.
     pub fn read(text: &[u8]) -> Result<Use, Refusal>
+        // with Ok, the text is the word of the use
         ensures word { IfOk result (λ usage. text.now ≡ use_word usage) }
+        // the refusal is `BadUse`
         ensures refused { IfErr result (λ refused. refused ≡ Refusal.BadUse) }
+        // a text that is refused is no use's word
         ensures none { OnErr result ((usage : Use) → ¬ (text.now ≡ use_word usage)) }
     {
         if text == b"single".as_slice() {

@@ -34,7 +34,7 @@ module _ {X : Type 0} where
   pub texts-one : (k : Kind X) (V : Content) (x : Asked X) → texts k.text V (x ∷ []) ≡ text_at k.text V x
   texts-one k V x = append-nil (text_at k.text V x)
 
-  texts-append : (k : Kind X) (V : Content) (xs ys : List (Asked X))
+  pub texts-append : (k : Kind X) (V : Content) (xs ys : List (Asked X))
       → texts k.text V (xs ++ ys) ≡ texts k.text V xs ++ texts k.text (vault_after V xs) ys
   texts-append k V [] ys = ap (λ W. texts k.text W ys) (sym (vault_after-nil X V))
   texts-append k V (x ∷ xs) ys =

@@ -46,5 +46,5 @@ Tells (Err stop.Memory) old new = new ≡ old
 -- an honest disk was honest before, and tables that can't fail don't
 pub record Trusts {T X : Type 0} (is_honest : T → Type 0) (may_fail : Bool) (old new : Vault T)
     (r : Result X Stop) : Type 0 where
-  pub honest : is_honest (tables_of new) → is_honest (tables_of old)
-  pub sturdy : may_fail ≡ false → is_broken old ≡ false → ¬ (r ≡ Err stop.Store)
+  pub disk_honest : is_honest (tables_of new) → is_honest (tables_of old)
+  pub infallible : may_fail ≡ false → is_broken old ≡ false → ¬ (r ≡ Err stop.Store)

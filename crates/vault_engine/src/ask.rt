@@ -35,6 +35,7 @@ enum Outcome {
 
 /// Answers a command by the vault, after what it changes was written.
 fn apply<T: Tables>(vault: &mut Vault<T>, command: &Command) -> Result<Reply, Stop>
+    // the lives that the command sets, if any, are in range
     requires { HasLivesInRange command.now }
     // the reply is the vault's, and the vault after the command is held
     ensures answered { T.is_honest (tables_of vault.new) → IfOk result (λ reply. (V : Content)
@@ -47,10 +48,13 @@ fn apply<T: Tables>(vault: &mut Vault<T>, command: &Command) -> Result<Reply, St
     ensures store { result ≡ Err Stop.Store → T.is_honest (tables_of vault.new)
         → (V : Content) → Contains T.holds vault.old V
         → T.leaves (tables_of vault.new) V (after V command.now) }
+    // it stops by Memory or Store alone
     ensures only { IfErr result (λ e. (e ≡ Stop.Memory) ⊎ (e ≡ Stop.Store)) }
+    // the vault is broken exactly after Store
     ensures broken { (result ≡ Err Stop.Store) ↔ (is_broken vault.new ≡ true) }
-    // the one of the four that it stands on and that failed, and no other
-    ensures told { Tells result
+    // the stop's own one of source, reader, writer and vault has failed; whether the others have stays as it
+    // was
+    ensures own_failure { Tells result
         (failures false false false (is_broken vault.old))
         (failures false false false (is_broken vault.new)) }
     // an honest disk was honest before, and tables that can't fail don't
@@ -72,17 +76,24 @@ fn decide<U: Unit, T: Tables>(
     now: Moment,
     digits: Digits,
 ) -> Result<Outcome, Stop>
+    // with Ok, the unit asked for something with this pair and came to this; on an honest disk the vault
+    // after it is held
     ensures ok { IfOk result (λ outcome. Decided (kind (U.wants unit.now) U.text) (U.shown unit.now)
         (now, digits) outcome
         (T.is_honest (tables_of vault.new)) (Contains T.holds vault.old) (Contains T.holds vault.new)) }
+    // where memory was refused, the vault stays
     ensures memory { result ≡ Err Stop.Memory
         → (V : Content) → Contains T.holds vault.old V → Contains T.holds vault.new V }
+    // where the store failed, the unit asked for something, and on an honest disk a crash leaves the vault
+    // before or after it
     ensures store { result ≡ Err Stop.Store
         → Undecided (kind (U.wants unit.now) U.text) (U.shown unit.now) (now, digits)
         (T.is_honest (tables_of vault.new)) (Contains T.holds vault.old) (T.leaves (tables_of vault.new)) }
+    // it stops by Memory or Store alone
     ensures only { IfErr result (λ e. (e ≡ Stop.Memory) ⊎ (e ≡ Stop.Store)) }
-    // the one of the four that it stands on and that failed, and no other
-    ensures told { Tells result
+    // the stop's own one of source, reader, writer and vault has failed; whether the others have stays as it
+    // was
+    ensures own_failure { Tells result
         (failures false false false (is_broken vault.old))
         (failures false false false (is_broken vault.new)) }
     // an honest disk was honest before, and tables that can't fail don't
@@ -136,8 +147,9 @@ pub fn ask<U: Unit, W: Write, T: Tables, S: Source>(
     ensures stopped { let w : Passage = passing S.given source.old source.new W.contents writer.old writer.new
         T.is_honest T.holds T.leaves vault.old vault.new in
         IfErr result (StopsAt (kind (U.wants unit.now) U.text) w (U.shown unit.now)) }
-    // the one of the four that it stands on and that failed, and no other
-    ensures told { Tells result
+    // the stop's own one of source, reader, writer and vault has failed; whether the others have stays as it
+    // was
+    ensures own_failure { Tells result
         (failures (S.has_refused source.old) false (is_stopped writer.old) (is_broken vault.old))
         (failures (S.has_refused source.new) false (is_stopped writer.new) (is_broken vault.new)) }
     // one pair was taken

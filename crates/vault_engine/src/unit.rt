@@ -35,7 +35,9 @@ pub trait Unit {
         now: Moment,
         digits: Digits,
     ) -> Result<Result<Command, u8>, AllocError>
+        // with Ok, it is what the unit asks for with this pair
         ensures wanted { IfOk result (λ wanted. wants self.now (shown self.now) (now, digits) wanted) }
+        // with Ok, the lives that its command sets, if any, are in range
         ensures proper { IfOk result AreProper };
 
     /// The text that answers it by the reply to its command.

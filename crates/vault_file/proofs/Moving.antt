@@ -191,7 +191,7 @@ pub stays_old : {D : Type 0} {g : Ghosts D} (image : Image) (conn : Held (FileSt
 stays_old image conn left why old was some after never never_some spares = record {
   stays = λ clean other v V keeps. after clean v V (old.stays (was clean) other v V keeps);
   some = λ clean v V keeps. some clean V (old.some (was clean) v V keeps);
-  never = λ clean. never (was clean);
+  spared = λ clean. never (was clean);
   never_some = λ clean. never_some (was clean);
   spares = λ clean. spares (was clean);
 }

@@ -95,7 +95,7 @@ module _ {D : Type 0} {g : Ghosts D} where
     pub stays : IsClean (view left) → why ≢ Fault Store
         → (v : Version) (V : Vault) → KeepsIn v image V → ReopensIn v left V
     pub some : IsClean (view left) → (v : Version) (V : Vault) → KeepsIn v image V → ReopensSome left V
-    pub never : IsClean (view left)
+    pub spared : IsClean (view left)
         → (v : Version) (V : Vault) → Sound V → KeepsIn v image V → IsNoVerdict why
     pub never_some : IsClean (view left) → (V : Vault) → Sound V → KeepsSome image V → IsNoVerdict why
     pub spares : IsClean (view left) → SparesStopped image why

@@ -4,7 +4,7 @@ ghost use Rattle.sqlite.specs.Files.{file_state};
 ghost use Rattle.sqlite.specs.State.{HasCleanDisk};
 ghost use Rattle.sqlite.specs.View.{IsClean};
 ghost use Rattle.sqlite_store.specs.FileStore.{view};
-ghost use Rattle.vault_file.specs.Refused.{GivesBack, IsRefused};
+ghost use Rattle.vault_file.specs.Refused.{GivesBack, IsRefused, TellsWhereRefused, WhereRefused};
 ghost use Rattle.vault_core.specs.Sound.{Sound};
 ghost use Rattle.vault_core.specs.Vault.{Vault as Content, empty_vault};
 ghost use Rattle.vault_file.specs.Found.{ChecksAs, HoldsSuch, IsNoPath, IsVaultOf, LeavesWhole};
@@ -38,26 +38,38 @@ pub fn check_from<P: Paths>(
     (Sizes, Connection<FileStore<P::Disk>>),
     (NotOpened, Option<Connection<FileStore<P::Disk>>>),
 >
+    // words that name no file are refused by 34
     ensures no_path { IsNoPath path.now → IsRefused result }
+    // with Ok, on an honest disk, the bytes hold no table or a vault's alone, of these sizes where the rows
+    // are full
     ensures sizes { IfOk result (λ told. Each (P.holds paths path.now) (λ image.
         HasCleanDisk (file_state told.1) → HoldsSuch image (λ db. IsVaultOf db told.0))) }
+    // with Ok, on an honest disk, a sound vault that the bytes keep is held
     ensures kept { IfOk result (λ told. Each (P.holds paths path.now) (λ image.
         HasCleanDisk (file_state told.1)
         → (V : Content) → Sound V → Keeps image V → Holds (file_state told.1) V)) }
+    // with Ok and an honest disk, a crash leaves what was kept: a vault, one of two, or the empty one, made
+    // or not
     ensures left { IfOk result
         (λ told. Each (P.holds paths path.now) (λ image. LeavesFrom image told.1)) }
-    ensures left_refused { IfErr result
-        (λ e. IfSome e.1 (λ conn. Each (P.holds paths path.now) (λ image. LeavesFrom image conn))) }
+    // the same after a refusal that gives the connection back
+    ensures left_refused { WhereRefused result (P.holds paths path.now)
+        (λ image _ conn. LeavesFrom image conn) }
+    // 34, and no other refusal, gives nothing back
     ensures refused { GivesBack result }
+    // 34 comes only where an open of the files at the path may fail
     ensures refused_there { IfErr result (λ e. e.0 ≡ NotOpened.Refused → P.refuses paths path.now) }
-    ensures tells { IfErr result (λ e. IfSome e.1 (λ conn. Each (P.holds paths path.now) (λ image.
-        HasCleanDisk (file_state conn) → TellsFound image e.0))) }
-    ensures never { IfErr result (λ e. IfSome e.1 (λ conn. Each (P.holds paths path.now) (λ image.
-        HasCleanDisk (file_state conn) → SparesStopped image e.0))) }
+    // on an honest disk, 31 says the least rule that full rows break in the bytes, and 30 the version said
+    // there, or 0
+    ensures tells { TellsWhereRefused result (P.holds paths path.now) TellsFound }
+    // on an honest disk, whatever a stop left of sound vaults isn't refused by 30 or 31
+    ensures spared { TellsWhereRefused result (P.holds paths path.now) SparesStopped }
+    // with Ok, on an honest disk, a crash leaves what was found in the bytes, and nothing else
     ensures same { IfOk result
         (λ told. Each (P.holds paths path.now) (λ image. LeavesWhole image told.1)) }
-    ensures same_refused { IfErr result
-        (λ e. IfSome e.1 (λ conn. Each (P.holds paths path.now) (λ image. LeavesWhole image conn))) }
+    // the same after a refusal that gives the connection back
+    ensures same_refused { WhereRefused result (P.holds paths path.now)
+        (λ image _ conn. LeavesWhole image conn) }
 {
     let Some(mut conn) = paths.open(rt, path, Cache::Small) else {
         return Err((NotOpened::Refused, None));
@@ -85,21 +97,34 @@ pub fn check_file<P: Paths>(
     path: &str,
     paths: P,
 ) -> (Result<Sizes, NotOpened>, Option<FileStore<P::Disk>>)
+    // words that name no file are refused by 34
     ensures no_path { IsNoPath path.now → result.0 ≡ Err NotOpened.Refused }
+    // with Ok and no files, nothing has the name, and the sizes are those of the empty vault
     ensures empty { result.1 ≡ None
         → IfOk result.0 (λ sizes. (sizes ≡ sizes_of empty_vault) × P.lacks paths path.now) }
+    // 34, and no other refusal, gives no files
     ensures refused { IfErr result.0 (λ why. (result.1 ≡ None) ↔ (why ≡ NotOpened.Refused)) }
+    // 34 comes only where an open of the files at the path may fail
     ensures refused_there { result.0 ≡ Err NotOpened.Refused → P.refuses paths path.now }
+    // with Ok and files, on an honest disk, the sizes are the vault's, if its rows are full, and a sound one
+    // stays
     ensures sound { IfOk result.0 (λ sizes. IfSome result.1
         (λ left. Each (P.holds paths path.now) (λ image. ChecksAs image left sizes))) }
+    // on an honest disk, the files left keep what the bytes kept: a vault, one of two, or the empty one, made
+    // or not
     ensures left { IfSome result.1 (λ left. Each (P.holds paths path.now) (λ image. Stays image left)) }
+    // on an honest disk, 31 says the least rule that the rows in the bytes break, where they are full
     ensures damaged { IfErr result.0 (λ why. IfSome result.1 (λ left. Each (P.holds paths path.now)
         (λ image. IsClean (view left) → (rule : ℕ) → why ≡ NotOpened.Fault (OpenFault.Damaged rule)
         → HoldsSuch image (λ db. IsFull db → IsLeastBroken db rule)))) }
-    ensures never { IfErr result.0 (λ why. IfSome result.1 (λ left. Each (P.holds paths path.now)
+    // on an honest disk, whatever a stop left of sound vaults isn't refused by 30 or 31
+    ensures spared { IfErr result.0 (λ why. IfSome result.1 (λ left. Each (P.holds paths path.now)
         (λ image. IsClean (view left) → SparesStopped image why))) }
+    // on an honest disk, 31 says the least rule that full rows break in the bytes, and 30 the version said
+    // there, or 0
     ensures tells { IfErr result.0 (λ why. IfSome result.1 (λ left. Each (P.holds paths path.now)
         (λ image. IsClean (view left) → TellsFound image why))) }
+    // on an honest disk, whoever opens what a crash leaves of the files finds what was in the bytes
     ensures same { IfSome result.1
         (λ left. Each (P.holds paths path.now) (λ image. StaysWhole image left)) }
 {

@@ -1,10 +1,8 @@
 //! The file at a path moves to the newest schema.
 ghost use Rattle.std.specs.Prelude.{◌≡◌, ◌≢◌, ◌↔◌, None, Err, IfOk, IfErr, IfSome};
-ghost use Rattle.sqlite.specs.Files.{file_state};
-ghost use Rattle.sqlite.specs.State.{HasCleanDisk};
 ghost use Rattle.sqlite.specs.View.{IsClean};
 ghost use Rattle.sqlite_store.specs.FileStore.{view};
-ghost use Rattle.vault_file.specs.Refused.{GivesBack, IsRefused};
+ghost use Rattle.vault_file.specs.Refused.{GivesBack, IsRefused, TellsWhereRefused, WhereRefused};
 ghost use Rattle.vault_core.specs.Sound.{Sound};
 ghost use Rattle.vault_core.specs.Vault.{Vault as Content};
 ghost use Rattle.vault_file.specs.Found.{IsNoPath, IsNoVerdict, LeavesFrom, LeavesWhole};
@@ -37,32 +35,40 @@ pub fn migrate_from<P: Paths>(
     (i64, Connection<FileStore<P::Disk>>),
     (NotOpened, Option<Connection<FileStore<P::Disk>>>),
 >
+    // words that name no file are refused by 34
     ensures no_path { IsNoPath path.now → IsRefused result }
+    // Ok says the newest version
     ensures version { IfOk result (λ told. told.0 ≡ number_of newest) }
+    // with Ok, on an honest disk, a vault that the bytes kept in whatever version is held in the newest one
     ensures moved { IfOk result
         (λ told. Each (P.holds paths path.now) (λ image. MovesFrom image told.1)) }
+    // 34, and no other refusal, gives nothing back
     ensures refused { GivesBack result }
+    // 34 comes only where an open of the files at the path may fail
     ensures refused_there { IfErr result (λ e. e.0 ≡ NotOpened.Refused → P.refuses paths path.now) }
-    ensures tells { IfErr result (λ e. IfSome e.1 (λ conn. Each (P.holds paths path.now) (λ image.
-        HasCleanDisk (file_state conn) → TellsOld image e.0))) }
-    ensures never_in { IfErr result (λ e. IfSome e.1 (λ conn. Each (P.holds paths path.now) (λ image.
-        HasCleanDisk (file_state conn)
-        → (v : Version) (V : Content) → Sound V → KeepsIn v image V → IsNoVerdict e.0))) }
-    ensures never { IfErr result (λ e. IfSome e.1 (λ conn. Each (P.holds paths path.now) (λ image.
-        HasCleanDisk (file_state conn) → SparesStopped image e.0))) }
-    ensures never_some { IfErr result (λ e. IfSome e.1 (λ conn. Each (P.holds paths path.now) (λ image.
-        HasCleanDisk (file_state conn)
-        → (V : Content) → Sound V → KeepsSome image V → IsNoVerdict e.0))) }
-    ensures left { IfErr result
-        (λ e. IfSome e.1 (λ conn. Each (P.holds paths path.now) (λ image. LeavesFrom image conn))) }
-    ensures left_old { IfErr result
-        (λ e. IfSome e.1 (λ conn. Each (P.holds paths path.now) (λ image. LeavesOld image e.0 conn))) }
+    // on an honest disk, 31 says the least rule that full rows break in the bytes, and 30 the version said
+    // there, or 0
+    ensures tells { TellsWhereRefused result (P.holds paths path.now) TellsOld }
+    // on an honest disk, a sound vault that the bytes keep in one known version isn't refused by 30 or 31
+    ensures never_in { TellsWhereRefused result (P.holds paths path.now)
+        (λ image why. (v : Version) (V : Content) → Sound V → KeepsIn v image V → IsNoVerdict why) }
+    // on an honest disk, whatever a stop left of sound vaults isn't refused by 30 or 31
+    ensures spared { TellsWhereRefused result (P.holds paths path.now) SparesStopped }
+    // on an honest disk, a sound vault that the bytes keep in one version or another isn't refused by 30 or
+    // 31
+    ensures never_some { TellsWhereRefused result (P.holds paths path.now)
+        (λ image why. (V : Content) → Sound V → KeepsSome image V → IsNoVerdict why) }
+    // after a refusal on an honest disk, crashes leave what was kept: a vault, one of two, or the empty one,
+    // made or not
+    ensures left { WhereRefused result (P.holds paths path.now) (λ image _ conn. LeavesFrom image conn) }
+    // on an honest disk, a vault that the bytes kept in a version is left in it, and after 33 in some version
+    ensures left_old { WhereRefused result (P.holds paths path.now) LeavesOld }
     // A refusal by any number but 33 writes nothing.
-    ensures same { IfErr result (λ e. IfSome e.1 (λ conn. Each (P.holds paths path.now)
-        (λ image. e.0 ≢ NotOpened.Fault OpenFault.Store → LeavesWhole image conn))) }
+    ensures same { WhereRefused result (P.holds paths path.now)
+        (λ image why conn. why ≢ NotOpened.Fault OpenFault.Store → LeavesWhole image conn) }
     // Where there is a table, and no older version's tables are there, nor does 33.
-    ensures same_unmoved { IfErr result (λ e. IfSome e.1 (λ conn. Each (P.holds paths path.now)
-        (λ image. ¬ MayFindNone image → ¬ MayFindOlder image → LeavesWhole image conn))) }
+    ensures same_unmoved { WhereRefused result (P.holds paths path.now)
+        (λ image why conn. ¬ MayFindNone image → ¬ MayFindOlder image → LeavesWhole image conn) }
 {
     let Some(mut conn) = paths.open(rt, path, Cache::Moved) else {
         return Err((NotOpened::Refused, None));
@@ -81,16 +87,27 @@ pub fn migrate_file<P: Paths>(
     path: &str,
     paths: P,
 ) -> (Result<i64, NotOpened>, Option<FileStore<P::Disk>>)
+    // words that name no file are refused by 34
     ensures no_path { IsNoPath path.now → result.0 ≡ Err NotOpened.Refused }
+    // 34, and nothing else, gives no files
     ensures refused { (result.1 ≡ None) ↔ (result.0 ≡ Err NotOpened.Refused) }
+    // 34 comes only where an open of the files at the path may fail
     ensures refused_there { result.0 ≡ Err NotOpened.Refused → P.refuses paths path.now }
+    // Ok says the newest version
     ensures version { IfOk result.0 (λ version. version ≡ number_of newest) }
+    // with Ok, on an honest disk, a vault that the bytes kept in whatever version the files keep in the
+    // newest one
     ensures moved { IfOk result.0 (λ _. IfSome result.1
         (λ left. Each (P.holds paths path.now) (λ image. MovesAs image left))) }
+    // on an honest disk, after a refusal the files keep a vault in its version, and after 33 in some version
     ensures left { IfErr result.0 (λ why. IfSome result.1
         (λ left. Each (P.holds paths path.now) (λ image. StaysOld image left why))) }
+    // on an honest disk, 31 says the least rule that full rows break in the bytes, and 30 the version said
+    // there, or 0
     ensures tells { IfErr result.0 (λ why. IfSome result.1 (λ left. Each (P.holds paths path.now)
         (λ image. IsClean (view left) → TellsOld image why))) }
+    // on an honest disk, files that are refused keep what was kept: a vault, one of two, or the empty one,
+    // made or not
     ensures stays { IfErr result.0 (λ _. IfSome result.1
         (λ left. Each (P.holds paths path.now) (λ image. Stays image left))) }
     // A refusal by any number but 33 writes nothing.

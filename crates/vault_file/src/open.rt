@@ -1,10 +1,9 @@
 //! The vault in the file at a path is opened, and closed.
-ghost use Rattle.std.specs.Prelude.{◌≡◌, ◌≤◌, false, None, Err, IfOk, IfErr, IfSome};
+ghost use Rattle.std.specs.Prelude.{◌≡◌, ◌≤◌, false, None, Err, IfOk, IfErr};
 ghost use Rattle.sqlite.specs.Files.{file_state};
-ghost use Rattle.sqlite.specs.State.{HasCleanDisk};
 ghost use Rattle.sqlite.specs.View.{IsClean, doubt};
 ghost use Rattle.sqlite_store.specs.FileStore.{view};
-ghost use Rattle.vault_file.specs.Refused.{GivesBack, IsRefused};
+ghost use Rattle.vault_file.specs.Refused.{GivesBack, IsRefused, TellsWhereRefused, WhereRefused};
 ghost use Rattle.vault_core.specs.Vault.{Vault as Content};
 ghost use Rattle.vault_file.specs.Found.{IsNoPath, LeavesWhole, LeavesFrom, MayFindNone};
 ghost use Rattle.vault_file.specs.Found.{OpensFrom, SparesStopped, Stays, StaysWhole, TellsFound};
@@ -44,20 +43,29 @@ pub fn open_from<P: Paths>(
     paths: P,
     cache: Cache,
 ) -> Result<Vault<TablesAt<P>>, (NotOpened, Option<Connection<FileStore<P::Disk>>>)>
+    // words that name no file are refused by 34
     ensures no_path { IsNoPath path.now → IsRefused result }
+    // with Ok, the vault isn't broken, and its tables haven't failed and have no place
     ensures fresh { IfOk result (λ vault. (is_broken vault ≡ false) × AreFresh (tables_of vault)) }
+    // with Ok, on an honest disk, a sound vault that the bytes kept is held, or one of two, or the empty one
     ensures found { IfOk result (λ vault. Each (P.holds paths path.now)
         (λ image. OpensFrom image (tables_of vault).conn)) }
+    // 34, and no other refusal, gives nothing back
     ensures refused { GivesBack result }
+    // 34 comes only where an open of the files at the path may fail
     ensures refused_there { IfErr result (λ e. e.0 ≡ NotOpened.Refused → P.refuses paths path.now) }
-    ensures tells { IfErr result (λ e. IfSome e.1 (λ conn. Each (P.holds paths path.now) (λ image.
-        HasCleanDisk (file_state conn) → TellsFound image e.0))) }
-    ensures never { IfErr result (λ e. IfSome e.1 (λ conn. Each (P.holds paths path.now) (λ image.
-        HasCleanDisk (file_state conn) → SparesStopped image e.0))) }
-    ensures left { IfErr result
-        (λ e. IfSome e.1 (λ conn. Each (P.holds paths path.now) (λ image. LeavesFrom image conn))) }
-    ensures same { IfErr result (λ e. IfSome e.1 (λ conn. Each (P.holds paths path.now)
-        (λ image. ¬ MayFindNone image → LeavesWhole image conn))) }
+    // on an honest disk, 31 says the least rule that full rows break in the bytes, and 30 the version said
+    // there, or 0
+    ensures tells { TellsWhereRefused result (P.holds paths path.now) TellsFound }
+    // on an honest disk, whatever a stop left of sound vaults isn't refused by 30 or 31
+    ensures spared { TellsWhereRefused result (P.holds paths path.now) SparesStopped }
+    // after a refusal on an honest disk, crashes leave what was kept: a vault, one of two, or the empty one,
+    // made or not
+    ensures left { WhereRefused result (P.holds paths path.now) (λ image _ conn. LeavesFrom image conn) }
+    // after a refusal on an honest disk, a crash leaves what the bytes held, unless an open of them may find
+    // no table
+    ensures same { WhereRefused result (P.holds paths path.now)
+        (λ image why conn. ¬ MayFindNone image → LeavesWhole image conn) }
 {
     let Some(conn) = paths.open(rt, path, cache) else {
         return Err((NotOpened::Refused, None));
@@ -79,20 +87,31 @@ pub fn open_vault<P: Paths>(
     paths: P,
     cache: Cache,
 ) -> Result<Vault<TablesAt<P>>, (NotOpened, Option<FileStore<P::Disk>>)>
+    // words that name no file are refused by 34
     ensures no_path { IsNoPath path.now → IsRefused result }
+    // with Ok, the vault isn't broken, and its tables haven't failed and have no place
     ensures fresh { IfOk result (λ vault. (is_broken vault ≡ false) × AreFresh (tables_of vault)) }
+    // with Ok, on an honest disk, a sound vault that the bytes kept is held, or one of two, or the empty one
     ensures found { IfOk result (λ vault. Each (P.holds paths path.now)
         (λ image. OpensFrom image (tables_of vault).conn)) }
+    // 34, and no other refusal, gives nothing back
     ensures refused { GivesBack result }
+    // 34 comes only where an open of the files at the path may fail
     ensures refused_there { IfErr result (λ e. e.0 ≡ NotOpened.Refused → P.refuses paths path.now) }
-    ensures never { IfErr result (λ e. IfSome e.1 (λ left. Each (P.holds paths path.now)
-        (λ image. IsClean (view left) → SparesStopped image e.0))) }
-    ensures tells { IfErr result (λ e. IfSome e.1 (λ left. Each (P.holds paths path.now)
-        (λ image. IsClean (view left) → TellsFound image e.0))) }
-    ensures left { IfErr result
-        (λ e. IfSome e.1 (λ left. Each (P.holds paths path.now) (λ image. Stays image left))) }
-    ensures same { IfErr result (λ e. IfSome e.1 (λ left. Each (P.holds paths path.now)
-        (λ image. ¬ MayFindNone image → StaysWhole image left))) }
+    // on an honest disk, whatever a stop left of sound vaults isn't refused by 30 or 31
+    ensures spared { WhereRefused result (P.holds paths path.now)
+        (λ image why left. IsClean (view left) → SparesStopped image why) }
+    // on an honest disk, 31 says the least rule that full rows break in the bytes, and 30 the version said
+    // there, or 0
+    ensures tells { WhereRefused result (P.holds paths path.now)
+        (λ image why left. IsClean (view left) → TellsFound image why) }
+    // on an honest disk, files that are refused keep what was kept: a vault, one of two, or the empty one,
+    // made or not
+    ensures left { WhereRefused result (P.holds paths path.now) (λ image _ left. Stays image left) }
+    // after a refusal on an honest disk, an open after a crash finds what the bytes held, unless an open may
+    // find no table
+    ensures same { WhereRefused result (P.holds paths path.now)
+        (λ image why left. ¬ MayFindNone image → StaysWhole image left) }
 {
     match open_from(rt, path, paths, cache) {
         Ok(vault) => Ok(vault),
@@ -104,13 +123,20 @@ pub fn open_vault<P: Paths>(
 /// Ends a vault, and gives its files back. Whoever opens them after a stop finds the vault that was held, and
 /// after a write that failed the vault before it or the vault after it.
 pub fn close_files<D: Disk + Drop>(vault: Vault<SqlTables<FileStore<D>>>) -> FileStore<D>
+    // a disk that is honest after the call was so before it
     ensures clean { doubt (file_state (tables_of vault).conn).is_clean ≤ doubt (view result).is_clean }
+    // on an honest disk, the files that a crash leaves before the call keep the vault that was contained
     ensures before { IsClean (view result)
         → (V : Content) → Contains AreHeld vault V → Reopens (tables_of vault).conn.store V }
+    // on an honest disk, the files that a crash leaves after the call keep the vault that was contained
     ensures after { IsClean (view result) → (V : Content) → Contains AreHeld vault V → Reopens result V }
+    // on an honest disk, where a crash leaves one of two vaults, the files that it leaves before the call
+    // keep one of them
     ensures either { IsClean (view result) → (V W : Content)
         → LeavesEither (file_state (tables_of vault).conn) V W
         → ReopensEither (tables_of vault).conn.store V W }
+    // on an honest disk, where a crash leaves one of two vaults, the files that it leaves after the call keep
+    // one of them
     ensures either_after { IsClean (view result) → (V W : Content)
         → LeavesEither (file_state (tables_of vault).conn) V W → ReopensEither result V W }
 {

@@ -69,16 +69,26 @@ pub trait Paths: Drop {
         path: &str,
         cache: Cache,
     ) -> Option<Connection<FileStore<Self::Disk>>>
+        // words that name no file aren't opened
         ensures no_path { IsNoPath path.now → result ≡ None }
+        // where none is given, an open of the files at the path may fail
         ensures refused { result ≡ None → refuses self path.now }
+        // the connection is outside a transaction
         ensures idle { IfSome result (λ c. c.in_transaction ≡ false) }
+        // its statements may take any number of steps
         ensures unlimited { IfSome result (λ c. c.step_limit ≡ None) }
+        // on an honest disk, the connection was just opened over the bytes at the path, and found what they
+        // hold
         ensures opened { IfSome result (λ c. Each (holds self path.now)
             (λ image. HasCleanDisk (file_state c) → IsOpenOf image c)) }
+        // on an honest disk, a vault that the bytes keep is held
         ensures again { IfSome result (λ c. Each (holds self path.now) (λ image. HasCleanDisk (file_state c)
             → (V : Vault) → Keeps image V → Holds (file_state c) V)) }
+        // on an honest disk, where the bytes keep one of two vaults, one of them is held
         ensures either { IfSome result (λ c. Each (holds self path.now) (λ image. HasCleanDisk (file_state c)
             → (V W : Vault) → KeepsEither image V W → HoldsEither (file_state c) V W)) }
+        // on an honest disk, where the bytes keep no table or the empty vault, no table is seen or the empty
+        // vault is held
         ensures first { IfSome result (λ c. Each (holds self path.now) (λ image. HasCleanDisk (file_state c)
             → (before : Trees) → AreBlank before → KeepsFirst image before
             → HoldsFirst (file_state c) before)) };

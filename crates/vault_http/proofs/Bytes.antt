@@ -1,18 +1,7 @@
 -- Known bytes that are read and written piece by piece.
 use Rattle.std.proofs.Common.{◌≡◌, ℕ, List, [], ◌++◌, take, Option, Some, None, refl, sym, ap, ◌∙◌, subst}
 use Rattle.std.proofs.Common.{append_assoc, append-nil}
-use Rattle.std.specs.Io.KnownBytes.{Appends, Consumes, Keeps}
-
-pub appends_nothing : (a : Option (List ℕ)) → Appends a a []
-appends_nothing None = tt
-appends_nothing (Some a) = sym (append-nil a)
-
-pub appends_both : (a b c : Option (List ℕ)) (xs ys : List ℕ) → Appends a b xs → Appends b c ys
-    → Appends a c (xs ++ ys)
-appends_both None b c xs ys p q = tt
-appends_both (Some a) (Some b) None xs ys p q = q
-appends_both (Some a) (Some b) (Some c) xs ys p q = rw (q, p) (append_assoc a xs ys)
-appends_both (Some a) None c xs ys p q = absurd p
+use Rattle.std.specs.Io.KnownBytes.{Consumes, Keeps}
 
 pub consumes_nothing : (a : Option (List ℕ)) → Consumes a a []
 consumes_nothing None = tt

@@ -2,8 +2,8 @@
 use Rattle.std.proofs.Common.{ℕ, Option, List, Ok, Err}
 use Rattle.vault_core.proofs.Counted.{counts_follow}
 use Rattle.vault_engine.specs.declared.stop.Stop.{Stop as ServeFault}
-use Rattle.vault_http.specs.Exchanges.{commands_of, vault_after}
-use Rattle.vault_http.specs.Passing.{Passage}
+use Rattle.vault_engine.specs.Asking.{commands_of, vault_after}
+use Rattle.vault_engine.specs.Passing.{Passage}
 use Rattle.vault_http.specs.Served.{IsServed, IsStopped, Serves}
 use Rattle.vault_http.specs.declared.served.Served.{Served}
 

@@ -1,15 +1,15 @@
 -- A piece of the bytes of a connection, after others.
-use Rattle.std.proofs.Common.{◌≡◌, ℕ, ◌+◌, List, ◌++◌, length, Option, ap, ◌∙◌, false, length-append}
+use Rattle.std.proofs.Common.{◌≡◌, ℕ, ◌+◌, List, ◌++◌, length, map, Option, ap, ◌∙◌, false, length-append}
 use Rattle.std.proofs.lemmas.List.{length-map}
 use Rattle.std.specs.Io.KnownBytes.{Consumes}
 use Rattle.vault_wire.specs.Messages.{Request}
 use Rattle.vault_wire.specs.Parts.{Parts, parts_of}
-use Rattle.vault_wire.specs.Reading.{IsReading, Kept}
+use Rattle.vault_wire.specs.Reading.{IsReading, Kept, TakesIn}
 use Rattle.vault_http.specs.Exchanges.{has_close, shown, up_to_close}
 use Rattle.vault_http.proofs.Bytes.{consumes_both}
 use Rattle.vault_http.proofs.Closing.{has_close-shown, shown_count, up_to_close-shown}
 
--- the piece was read and fed, and completed the messages ns, whose parts are ps, after the messages ms
+-- the piece was read and fed, and completed messages ns, whose parts are ps, after the messages ms
 pub record Fed (left rest : Option (List ℕ)) (k : Kept) (bytes piece : List ℕ) (ms ns : List Request)
     (ps : List Parts) : Type 0 where
   pub read : Consumes left rest (bytes ++ piece)
@@ -19,19 +19,20 @@ pub record Fed (left rest : Option (List ℕ)) (k : Kept) (bytes piece : List �
   pub many : length (up_to_close (shown (ms ++ ns))) ≡ length ms + length (up_to_close ps)
   pub count : has_close (shown (ms ++ ns)) ≡ false → length (up_to_close ps) ≡ length ns
 
-pub fed_of : (left mid rest : Option (List ℕ)) (k : Kept) (bytes piece : List ℕ) (ms ns : List Request)
-    (ps : List Parts) → Consumes left mid bytes → Consumes mid rest piece
-    → IsReading k (bytes ++ piece) (ms ++ ns) → ps ≡ shown ns → has_close (shown ms) ≡ false
-    → Fed left rest k bytes piece ms ns ps
-fed_of left mid rest k bytes piece ms ns ps before now reading is open_till =
-    let all = up_to_close-shown ms ns ps is open_till in
+pub fed_of : (left mid rest : Option (List ℕ)) (j k : Kept) (bytes piece : List ℕ) (ms : List Request)
+    (ps qs : List Parts) → Consumes left mid bytes → Consumes mid rest piece → IsReading j bytes ms → ps ≡ qs
+    → has_close (shown ms) ≡ false
+    → (fed : (ns : List Request) × (qs ≡ map parts_of ns) × TakesIn j k piece ns)
+    → Fed left rest k bytes piece ms fed.0 ps
+fed_of left mid rest j k bytes piece ms ps qs before now reading is open_till (ns, same, takes) =
+    let all = up_to_close-shown ms ns ps (is ∙ same) open_till in
     record {
       read = consumes_both left mid rest bytes piece before now;
-      reading = reading;
+      reading = takes bytes ms reading;
       whole = all;
-      closing = has_close-shown ms ns ps is open_till;
+      closing = has_close-shown ms ns ps (is ∙ same) open_till;
       many =
           ap length all ∙ length-append (shown ms) (up_to_close ps)
           ∙ ap (λ n. n + length (up_to_close ps)) (length-map ms parts_of);
-      count = shown_count ms ns ps is open_till;
+      count = shown_count ms ns ps (is ∙ same) open_till;
     }

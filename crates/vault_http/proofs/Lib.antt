@@ -2,8 +2,6 @@ pub mod Answering
 pub mod Bytes
 pub mod Closing
 pub mod Counting
-pub mod Exchanging
 pub mod Fed
-pub mod Following
 pub mod Serving
 pub mod Telling

@@ -6,26 +6,26 @@ use Rattle.std.specs.List.{flat_map}
 use Rattle.std.specs.Io.KnownBytes.{Appends, Consumes, IsAtEnd}
 use Rattle.std.proofs.lemmas.List.{length-map}
 use Rattle.vault_core.specs.Vault.{Vault as Content}
-use Rattle.vault_store.specs.declared.vault.Vault.{Vault}
 use Rattle.vault_wire.specs.Messages.{Request, Reads, ReadsThen, print_message}
 use Rattle.vault_wire.specs.Parts.{Parts, parts_of}
 use Rattle.vault_wire.specs.Reading.{Kept, IsReading, ReadsTo}
-use Rattle.vault_wire.specs.Watching.{inner_of}
 use Rattle.vault_wire.specs.declared.fault.WireFault.{WireFault}
-use Rattle.vault_wire.specs.declared.watched.Watched.{Watched}
 use Rattle.vault_wire.proofs.OpenFacts.{open_short}
 use Rattle.vault_wire.proofs.ReadingFacts.{reads_of}
-use Rattle.vault_http.specs.Exchanges.{Pair, AskFirst, fault_text, has_close, last_text, shown}
-use Rattle.vault_http.specs.Exchanges.{texts, up_to_close, vault_after}
-use Rattle.vault_http.specs.Passing.{Passage, passing, AllAnswered, IsBefore, Keeps, Sends, StopsBefore}
-use Rattle.vault_http.specs.Passing.{Stops}
+use Rattle.vault_engine.specs.Answered.{units_of}
+use Rattle.vault_engine.specs.Asking.{Asked, texts, vault_after}
+use Rattle.vault_engine.specs.Passing.{Passage, IsBefore, Keeps, Sends}
+use Rattle.vault_engine.specs.Within.{AllAnswered, StopsWithin}
+use Rattle.vault_engine.proofs.Following.{appends_both}
+use Rattle.vault_engine.proofs.Within.{stops_after}
+use Rattle.vault_http.specs.Exchanges.{answer_for, fault_text, has_close, last_text, message_kind, shown}
+use Rattle.vault_http.specs.Exchanges.{up_to_close}
 use Rattle.vault_http.specs.Refusing.{IsRefused}
 use Rattle.vault_http.specs.Served.{Begins, IsServed, IsStopped}
 use Rattle.vault_http.specs.Served.{answered_fault}
 use Rattle.vault_engine.specs.declared.stop.Stop.{Stop as ServeFault}
 use Rattle.vault_engine.specs.declared.stop.Stop.TheVariants as fault
 use Rattle.vault_http.specs.declared.served.Served.{Served}
-use Rattle.vault_http.proofs.Bytes.{appends_both}
 use Rattle.vault_http.proofs.Closing.{up_to_close-none}
 
 -- bytes that are read in whole begin with their messages
@@ -83,50 +83,48 @@ falls (n ∷ ns) old new bytes piece ms before after calm still r s some counted
     let short = rest_short old bytes ms calm r in
     omega (arith, short, some, counted)
 
--- all are answered, and nothing was taken for the next one
-pub before_of : (w : Passage) (ps : List Parts) → AllAnswered w ps → StopsBefore w ps
-before_of w ps f = record {
-  pairs = f.pairs;
-  unused = [];
-  exchanges = f.exchanges;
-  one = omega arith;
-  taken = f.taken ∙ ap (λ es. w.given_old ++ es) (sym (append-nil f.pairs));
-  asked = f.asked;
-  answered = f.answered;
-}
+-- the same messages are answered
+pub all_as : (w : Passage) (ps qs : List Parts) → ps ≡ qs → AllAnswered message_kind [] w ps
+    → AllAnswered message_kind [] w qs
+all_as w ps qs same f = subst (AllAnswered message_kind [] w) same f
+
+pub stops_as : (w : Passage) (e : ServeFault) (ps qs : List Parts) → ps ≡ qs
+    → StopsWithin message_kind [] w ps e → StopsWithin message_kind [] w qs e
+stops_as w e ps qs same q = subst (λ rs. StopsWithin message_kind [] w rs e) same q
+
+-- as many as there are
+counted_by : (xs : List (Asked Parts)) (ps : List Parts) → units_of xs ≡ ps → length ps ≡ length xs
+counted_by xs ps whole = ap length (sym whole) ∙ length-map xs (λ (x : Asked Parts). x.unit)
 
 module _ (left_old left_new : Option (List ℕ)) (w : Passage) (bytes : List ℕ) (ms : List Request)
     (read : Consumes left_old left_new bytes) where
   -- a connection that was served, and of which no fault was answered
   pub served_plain : (e : Option WireFault) (served : Served) → Reads bytes ms e
-      → AllAnswered w (up_to_close (shown ms))
+      → AllAnswered message_kind [] w (up_to_close (shown ms))
       → served.messages ≡ length (up_to_close (shown ms)) → served.fault ≡ None → answered_fault ms e ≡ None
       → (has_close (shown ms) ≡ false → e ≡ None → IsAtEnd left_new) → IsServed left_old left_new w served
   served_plain e served reads f counted told none ended = record {
     bytes = bytes;
     messages = ms;
     fault = e;
-    pairs = f.pairs;
     exchanges = f.exchanges;
     read = read;
     reads = reads;
-    taken = f.taken;
-    asked = f.asked;
+    taken = f.done.taken;
+    asked = f.done.asked;
     whole = f.whole;
-    counted = counted ∙ sym f.whole;
+    counted = counted ∙ counted_by f.exchanges _ f.whole;
     told = told ∙ sym none;
     ended = ended;
     answered = λ V b.
-        let a = f.answered V b in
-        let same : texts V f.exchanges ≡ texts V f.exchanges ++ last_text served.fault =
-        sym (append-nil (texts V f.exchanges)) ∙ ap (λ e. texts V f.exchanges ++ last_text e)
-        (sym told) in
-        (subst (Sends w) same a.0, a.1);
+        let a = f.done.answered V b in
+        let out = texts answer_for V f.exchanges in
+        (subst (Sends w) (sym (append-nil out) ∙ ap (λ e. out ++ last_text e) (sym told)) a.0, a.1);
   }
 
   -- a stop among the messages that were read in whole
   pub stopped_of : (e : ServeFault) (f : Option WireFault) → (e ≡ fault.Read → ⊥) → Reads bytes ms f
-      → Stops e w (up_to_close (shown ms)) → IsStopped left_old left_new w e
+      → StopsWithin message_kind [] w (up_to_close (shown ms)) e → IsStopped left_old left_new w e
   stopped_of fault.Source f n reads s =
       (f, record { bytes = bytes; messages = ms; read = read; reads = reads; stops = s })
   stopped_of fault.Read f n reads s = absurd (n refl)
@@ -137,87 +135,59 @@ module _ (left_old left_new : Option (List ℕ)) (w : Passage) (bytes : List ℕ
   stopped_of fault.Memory f n reads s =
       record { bytes = bytes; messages = ms; read = read; begins = begins_of bytes ms f reads; stops = s }
 
-module _ {S W T : Type 0} (given : S → List Pair) (s0 s1 : S) (contents : W → Option (List ℕ))
-    (w0 w1 w2 : Watched W) (honest : T → Type 0) (holds : T → Content → Type 0) (leaves : T → Content
-    → Content → Type 0) (v0 v1 : Vault T)
-    (left_old left_new : Option (List ℕ)) (bytes : List ℕ) (ms : List Request) (e : WireFault)
-    (read : Consumes left_old left_new bytes) (reads : Reads bytes ms (Some e))
-    (open_till : has_close (shown ms) ≡ false)
-    (f : AllAnswered (passing given s0 s1 contents w0 w1 honest holds leaves v0 v1) (shown ms)) where
-  -- all messages are answered, and then some bytes are sent
-  sent_then : (more : List ℕ) → Appends (contents (inner_of w1)) (contents (inner_of w2)) more
-      → (V : Content) → IsBefore (passing given s0 s1 contents w0 w2 honest holds leaves v0 v1) V
-      → Sends (passing given s0 s1 contents w0 w2 honest holds leaves v0 v1) (texts V f.exchanges ++ more)
-      × Keeps (passing given s0 s1 contents w0 w2 honest holds leaves v0 v1) (vault_after V f.exchanges)
+-- all messages are answered, and then a fault of the bytes
+module _ (left_old left_new : Option (List ℕ)) (w : Passage) (out : Option (List ℕ)) (bytes : List ℕ)
+    (ms : List Request) (e : WireFault) (read : Consumes left_old left_new bytes)
+    (reads : Reads bytes ms (Some e)) (open_till : has_close (shown ms) ≡ false)
+    (f : AllAnswered message_kind [] w (shown ms)) where
+  sent_then : (more : List ℕ) → Appends w.sent_new out more → (V : Content) → IsBefore w V
+      → Appends w.sent_old out (texts answer_for V f.exchanges ++ more)
+      × Keeps w (vault_after V f.exchanges)
   sent_then more a = λ V b.
-      let q = f.answered V b in (
-        appends_both (contents (inner_of w0)) (contents (inner_of w1)) (contents (inner_of w2))
-            (texts V f.exchanges) more q.0 a,
-        q.1,
-      )
-
-  -- nothing was sent then
-  silent_then : contents (inner_of w2) ≡ contents (inner_of w1)
-      → AllAnswered (passing given s0 s1 contents w0 w2 honest holds leaves v0 v1) (shown ms)
-  silent_then same = record {
-    pairs = f.pairs;
-    exchanges = f.exchanges;
-    taken = f.taken;
-    asked = f.asked;
-    whole = f.whole;
-    answered = λ V b.
-        let q = f.answered V b in
-        (subst (λ out. Appends (contents (inner_of w0)) out (texts V f.exchanges)) (sym same) q.0, q.1);
-  }
+      let q = f.done.answered V b in
+      (appends_both _ _ _ (texts answer_for V f.exchanges) more q.0 a, q.1)
 
   -- the fault was answered
   pub served_fault : (served : Served) → served.messages ≡ length ms → served.fault ≡ Some e
-      → Appends (contents (inner_of w1)) (contents (inner_of w2)) (fault_text e)
-      → IsServed left_old left_new (passing given s0 s1 contents w0 w2 honest holds leaves v0 v1) served
-  served_fault served counted told out =
-      let all = up_to_close-none (shown ms) open_till in
-      let many : length (shown ms) ≡ length ms = length-map ms parts_of in
-      record {
-        bytes = bytes;
-        messages = ms;
-        fault = Some e;
-        pairs = f.pairs;
-        exchanges = f.exchanges;
-        read = read;
-        reads = reads;
-        taken = f.taken;
-        asked = subst (λ ps. AskFirst ps f.pairs f.exchanges) (sym all) f.asked;
-        whole = f.whole ∙ ap length (sym all);
-        counted = counted ∙ sym many ∙ sym f.whole;
-        told = rw open_till told;
-        ended = λ _ none. absurd (cc);
-        answered = λ V b.
-            let q = sent_then (fault_text e) out V b in (
-              subst (λ x. Sends (passing given s0 s1 contents w0 w2 honest holds leaves v0 v1)
-                  (texts V f.exchanges ++ last_text x)) (sym told) q.0,
-              q.1,
-            );
-      }
+      → Appends w.sent_new out (fault_text e)
+      → IsServed left_old left_new (record w { sent_new = out }) served
+  served_fault served counted told a = record {
+    bytes = bytes;
+    messages = ms;
+    fault = Some e;
+    exchanges = f.exchanges;
+    read = read;
+    reads = reads;
+    taken = f.done.taken;
+    asked = f.done.asked;
+    whole = f.whole ∙ sym (up_to_close-none (shown ms) open_till);
+    counted = counted ∙ sym (length-map ms parts_of) ∙ counted_by f.exchanges _ f.whole;
+    told = rw open_till told;
+    ended = λ _ none. absurd (cc);
+    answered = λ V b.
+        let q = sent_then (fault_text e) a V b in (
+          subst (λ x. Appends w.sent_old out (texts answer_for V f.exchanges ++ last_text x)) (sym told) q.0,
+          q.1,
+        );
+  }
 
   -- the fault was not answered
-  pub stopped_fault : (stop : ServeFault)
-      → IsRefused {X = Unit {0}} (contents (inner_of w1)) (contents (inner_of w2)) (fault_text e) (Err stop)
-      → IsStopped left_old left_new (passing given s0 s1 contents w0 w2 honest holds leaves v0 v1) stop
+  pub stopped_fault : (stop : ServeFault) → IsRefused {X = Unit {0}} w.sent_new out (fault_text e) (Err stop)
+      → IsStopped left_old left_new (record w { sent_new = out }) stop
   stopped_fault fault.Source r = absurd r
   stopped_fault fault.Read r = absurd r
   stopped_fault fault.Write r = inr (record {
     bytes = bytes;
     messages = ms;
     fault = e;
-    pairs = f.pairs;
     exchanges = f.exchanges;
     sent = r.0;
     read = read;
     reads = reads;
     open_till = open_till;
-    taken = f.taken;
-    asked = f.asked;
-    whole = f.whole ∙ length-map ms parts_of;
+    taken = f.done.taken;
+    asked = f.done.asked;
+    whole = f.whole;
     part = r.1;
     answered = sent_then (take r.0 (fault_text e)) r.2;
   })
@@ -227,7 +197,8 @@ module _ {S W T : Type 0} (given : S → List Pair) (s0 s1 : S) (contents : W �
     messages = ms;
     read = read;
     begins = begins_of bytes ms (Some e) reads;
-    stops =
-        inl (before_of _ _ (subst (AllAnswered (passing given s0 s1 contents w0 w2 honest holds leaves v0 v1))
-        (sym (up_to_close-none (shown ms) open_till)) (silent_then r)));
+    stops = stops_after message_kind (record w { sent_new = out }) [] _
+        (subst (AllAnswered message_kind [] (record w { sent_new = out }))
+        (sym (up_to_close-none (shown ms) open_till))
+        (subst (λ o. AllAnswered message_kind [] (record w { sent_new = o }) (shown ms)) (sym r) f));
   }

@@ -1,13 +1,10 @@
--- Messages that are asked one after the other, and the texts that answer them (RFC 9112, section 9.3).
-use Rattle.std.specs.Prelude.{◌≡◌, ℕ, ◌==◌, List, [], ◌∷◌, ◌++◌, map, Bool, true, Option, Some, None}
+-- Messages as a kind of what is asked, and the texts that answer them (RFC 9112, section 9.3).
+use Rattle.std.specs.Prelude.{ℕ, ◌==◌, List, [], ◌∷◌, map, Bool, true, Option, Some, None}
 use Rattle.std.specs.Prelude.{Ok, Err, if◌then◌else◌}
-use Rattle.std.specs.List.{flat_map, list_any}
-use Rattle.vault_core.specs.Runs.{run}
-use Rattle.vault_core.specs.Vault.{Vault as Content}
+use Rattle.std.specs.List.{list_any}
 use Rattle.vault_core.specs.declared.command.Command.{Command}
 use Rattle.vault_core.specs.declared.reply.Reply.{Reply}
 use Rattle.vault_engine.specs.Asking.{Kind, kind}
-pub use Rattle.vault_engine.specs.Asking.{Pair, commands_in, reply_to}
 use Rattle.vault_wire.specs.Answer.{answer_bytes}
 use Rattle.vault_refusal.specs.Refusal.{number_of}
 use Rattle.vault_wire.specs.Faults.{refusal_of}
@@ -19,31 +16,6 @@ use Rattle.vault_routes.specs.Status.{status_for, status_of}
 use Rattle.vault_routes.specs.Route.{methods_at}
 use Rattle.vault_routes.specs.Wanted.{Wanted, Wants}
 
--- a message by its parts, and what it asks for: a command, or the number of a refusal
-pub record Exchange : Type 0 where
-  pub parts : Parts
-  pub wanted : Wanted Command
-
--- the message is asked with this pair
-abbrev pub Asks : Parts → Pair → Exchange → Type 0
-Asks p pair x = (x.parts ≡ p) × Wants p pair.0 pair.1 x.wanted
-
--- the first of the messages are asked, each with its own pair
-abbrev pub AskFirst : List Parts → List Pair → List Exchange → Type 0
-AskFirst ps [] [] = Unit {0}
-AskFirst ps [] (x ∷ xs) = ⊥
-AskFirst ps (pair ∷ pairs) [] = ⊥
-AskFirst [] (pair ∷ pairs) (x ∷ xs) = ⊥
-AskFirst (p ∷ ps) (pair ∷ pairs) (x ∷ xs) = Asks p pair x × AskFirst ps pairs xs
-
--- the commands that are asked for
-abbrev pub commands_of : List Exchange → List Command
-commands_of xs = flat_map (λ x. commands_in x.wanted) xs
-
--- the vault that exchanges leave: the one after their commands
-unfoldable pub vault_after : Content → List Exchange → Content
-vault_after V xs = run (commands_of xs) V
-
 -- the methods that a message's target takes, which go with the refusal of another method
 abbrev pub methods_with : Parts → Wanted Command → Option (List ℕ)
 methods_with p (Ok c) = None
@@ -54,17 +26,8 @@ abbrev pub answer_for : Parts → Wanted Command → Reply → List ℕ
 answer_for p wanted r = answer_bytes (status_of r) (methods_with p wanted) (body_text r) (closes p)
 
 -- messages, and the texts that answer them
-abbrev pub messages : Kind Parts
-messages = kind (λ p pair. Wants p pair.0 pair.1) answer_for
-
--- the text that answers a message
-unfoldable pub text_at : Content → Exchange → List ℕ
-text_at V x = answer_for x.parts x.wanted (reply_to V x.wanted)
-
--- the texts that answer messages, each by the vault that those before it leave
-abbrev pub texts : Content → List Exchange → List ℕ
-texts V [] = []
-texts V (x ∷ xs) = text_at V x ++ texts (vault_after V (x ∷ [])) xs
+abbrev pub message_kind : Kind Parts
+message_kind = kind (λ p pair. Wants p pair.0 pair.1) answer_for
 
 -- the text that answers a fault of the bytes, after which the connection closes
 unfoldable pub fault_text : WireFault → List ℕ

@@ -1,5 +1,5 @@
 -- What a service does with the bytes of a connection.
-use Rattle.std.specs.Prelude.{◌≡◌, ℕ, ◌+◌, ◌<◌, ◌⊎◌, List, ◌++◌, length, take, All, false, Option}
+use Rattle.std.specs.Prelude.{◌≡◌, ℕ, ◌+◌, ◌<◌, ◌⊎◌, List, [], ◌++◌, length, take, All, false, Option}
 use Rattle.std.specs.Prelude.{Some, None, IfErr, IfOk, Result, if◌then◌else◌}
 use Rattle.std.specs.List.{flat_map}
 use Rattle.std.specs.Io.KnownBytes.{Consumes, IsAtEnd}
@@ -8,9 +8,13 @@ use Rattle.vault_core.specs.Vault.{Vault as Content}
 use Rattle.vault_core.specs.Yields.{answered_so, given_by, gives_number}
 use Rattle.vault_wire.specs.Messages.{Request, IsMessage, Reads, print_message}
 use Rattle.vault_wire.specs.declared.fault.WireFault.{WireFault}
-use Rattle.vault_http.specs.Exchanges.{Pair, Exchange, AskFirst, commands_of, fault_text, has_close}
-use Rattle.vault_http.specs.Exchanges.{last_text, shown, texts, up_to_close, vault_after}
-use Rattle.vault_http.specs.Passing.{Passage, IsBefore, Keeps, Sends, Stops, Takes}
+use Rattle.vault_wire.specs.Parts.{Parts}
+use Rattle.vault_engine.specs.Answered.{pairs_of, units_of}
+use Rattle.vault_engine.specs.Asking.{Asked, Asks, commands_of, texts, vault_after}
+use Rattle.vault_engine.specs.Passing.{Passage, IsBefore, Keeps, Sends, Takes}
+use Rattle.vault_engine.specs.Within.{StopsWithin}
+use Rattle.vault_http.specs.Exchanges.{answer_for, fault_text, has_close, last_text, message_kind, shown}
+use Rattle.vault_http.specs.Exchanges.{up_to_close}
 use Rattle.vault_engine.specs.declared.stop.Stop.{Stop as ServeFault}
 use Rattle.vault_engine.specs.declared.stop.Stop.TheVariants as fault
 use Rattle.vault_http.specs.declared.served.Served.{Served}
@@ -29,25 +33,24 @@ pub record IsServed (left_old left_new : Left) (w : Passage) (served : Served) :
   pub bytes : List ℕ
   pub messages : List Request
   pub fault : Option WireFault
-  pub pairs : List Pair
-  pub exchanges : List Exchange
+  pub exchanges : List (Asked Parts)
   pub read : Consumes left_old left_new bytes
   pub reads : Reads bytes messages fault
-  pub taken : Takes w pairs
-  pub asked : AskFirst (up_to_close (shown messages)) pairs exchanges
-  pub whole : length exchanges ≡ length (up_to_close (shown messages))
+  pub taken : Takes w (pairs_of exchanges)
+  pub asked : All (Asks message_kind) exchanges
+  pub whole : units_of exchanges ≡ up_to_close (shown messages)
   pub counted : served.messages ≡ length exchanges
   pub told : served.fault ≡ answered_fault messages fault
   pub ended : has_close (shown messages) ≡ false → fault ≡ None → IsAtEnd left_new
   pub answered : (V : Content) → IsBefore w V
-      → Sends w (texts V exchanges ++ last_text served.fault) × Keeps w (vault_after V exchanges)
+      → Sends w (texts answer_for V exchanges ++ last_text served.fault) × Keeps w (vault_after V exchanges)
 
 -- Exchanges were answered, and of each merchant its count of numbers given is the one before and one more for
 -- each of its numbers that went out in their texts.
 pub record IsCounted (w : Passage) (served : Served) : Type 0 where
-  pub exchanges : List Exchange
+  pub exchanges : List (Asked Parts)
   pub answered : (V : Content) → IsBefore w V
-      → Sends w (texts V exchanges ++ last_text served.fault) × Keeps w (vault_after V exchanges)
+      → Sends w (texts answer_for V exchanges ++ last_text served.fault) × Keeps w (vault_after V exchanges)
   pub given : (V : Content) (m : Bytes) → given_by (vault_after V exchanges) m
       ≡ given_by V m + answered_so (λ c. gives_number) m (commands_of exchanges) V
 
@@ -64,25 +67,25 @@ pub record StopsAmong (e : ServeFault) (left_old left_new : Left) (w : Passage)
   pub messages : List Request
   pub read : Consumes left_old left_new bytes
   pub reads : Reads bytes messages fault
-  pub stops : Stops e w (up_to_close (shown messages))
+  pub stops : StopsWithin message_kind [] w (up_to_close (shown messages)) e
 
 -- all messages are answered, and of the text that answers the fault after them only a beginning went out
 pub record StopsAtFault (left_old left_new : Left) (w : Passage) : Type 0 where
   pub bytes : List ℕ
   pub messages : List Request
   pub fault : WireFault
-  pub pairs : List Pair
-  pub exchanges : List Exchange
+  pub exchanges : List (Asked Parts)
   pub sent : ℕ
   pub read : Consumes left_old left_new bytes
   pub reads : Reads bytes messages (Some fault)
   pub open_till : has_close (shown messages) ≡ false
-  pub taken : Takes w pairs
-  pub asked : AskFirst (shown messages) pairs exchanges
-  pub whole : length exchanges ≡ length messages
+  pub taken : Takes w (pairs_of exchanges)
+  pub asked : All (Asks message_kind) exchanges
+  pub whole : units_of exchanges ≡ shown messages
   pub part : sent < length (fault_text fault)
   pub answered : (V : Content) → IsBefore w V
-      → Sends w (texts V exchanges ++ take sent (fault_text fault)) × Keeps w (vault_after V exchanges)
+      → Sends w (texts answer_for V exchanges ++ take sent (fault_text fault))
+      × Keeps w (vault_after V exchanges)
 
 -- the bytes that were read begin with messages, and memory was refused among them or after them
 pub record StopsForMemory (left_old left_new : Left) (w : Passage) : Type 0 where
@@ -90,7 +93,7 @@ pub record StopsForMemory (left_old left_new : Left) (w : Passage) : Type 0 wher
   pub messages : List Request
   pub read : Consumes left_old left_new bytes
   pub begins : Begins bytes messages
-  pub stops : Stops fault.Memory w (up_to_close (shown messages))
+  pub stops : StopsWithin message_kind [] w (up_to_close (shown messages)) fault.Memory
 
 -- where a service stopped, by its fault
 abbrev pub IsStopped : Left → Left → Passage → ServeFault → Type 0

@@ -1,7 +1,6 @@
 //! The service: messages that a reader has, answered to a writer by a vault.
 #![tactic(auto)]
 
-mod answer;
 pub mod fault;
 pub mod laws;
 pub mod serve;

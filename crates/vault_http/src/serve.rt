@@ -1,20 +1,22 @@
 //! The messages of a connection answered, all that a piece completed before the next piece is read.
-ghost use Rattle.std.specs.Prelude.{◌≡◌, ◌+◌, true, false, IfErr, IfOk, OnOk, MatchResult, length};
+ghost use Rattle.std.specs.Prelude.{◌≡◌, ◌+◌, [], true, false, IfErr, IfOk, OnOk, MatchResult, length};
 ghost use Rattle.vault_store.specs.Applied.{is_broken, tables_of};
 ghost use Rattle.vault_wire.specs.Watching.{inner_of, is_stopped};
-ghost use Rattle.vault_http.specs.Exchanges.{fault_text, has_close, up_to_close};
+ghost use Rattle.vault_http.specs.Exchanges.{fault_text, has_close, message_kind, up_to_close};
 ghost use Rattle.vault_http.specs.Faults.{Tells, failures};
-ghost use Rattle.vault_http.specs.Passing.{AllAnswered, Passage, Stops, passing};
+ghost use Rattle.vault_engine.specs.Passing.{Passage, passing};
 ghost use Rattle.vault_http.specs.Refusing.{IsRefused};
 ghost use Rattle.vault_http.specs.Served.{Serves};
 ghost use Rattle.vault_engine.specs.Stops.{Trusts};
+ghost use Rattle.vault_engine.specs.Within.{AllAnswered, StopsWithin};
 
-use crate::answer::answer_one;
 use crate::fault::ServeFault;
 use crate::served::Served;
+use crate::unit::AskedMessage;
 use std::alloc::{AllocError, Global};
 use std::io::{Read, Write};
 use vault_core::source::Source;
+use vault_engine::ask::ask;
 use vault_routes::reply::refusal_text;
 use vault_routes::route::Routes;
 use vault_routes::status::status_for;
@@ -39,22 +41,31 @@ fn answer_all<W: Write, T: Tables, S: Source>(
     vault: &mut Vault<T>,
     source: &mut S,
 ) -> Result<bool, ServeFault>
+    // on an honest disk, Ok answers all messages up to the first that closes; a stop says what went out and
+    // is kept
     ensures ends { let w : Passage = passing S.given source.old source.new W.contents writer.old writer.new
         T.is_honest T.holds T.leaves vault.old vault.new in
-        MatchResult result (λ _. AllAnswered w (up_to_close messages.now))
-        (λ e. Stops e w (up_to_close messages.now)) }
+        MatchResult result (λ _. AllAnswered message_kind [] w (up_to_close messages.now))
+        (StopsWithin message_kind [] w (up_to_close messages.now)) }
+    // with Ok, it says whether one of them closes
     ensures closes { IfOk result (λ closed. closed ≡ has_close messages.now) }
-    ensures told { Tells result
+    // the stop's own one of source, reader, writer and vault has failed; whether the others have stays as it
+    // was
+    ensures own_failure { Tells result
         (failures (S.has_refused source.old) false (is_stopped writer.old) (is_broken vault.old))
         (failures (S.has_refused source.new) false (is_stopped writer.new) (is_broken vault.new)) }
+    // with Ok, one pair was taken for each message up to the first that closes
     ensures counted { OnOk result (S.count_left source.old
         ≡ S.count_left source.new + length (up_to_close messages.now)) }
+    // the source is the same, further on
     ensures later { S.precedes source.old source.new }
+    // an honest disk was honest before, and tables that can't fail don't
     ensures trusted { Trusts T.is_honest T.may_fail vault.old vault.new result }
 {
     for message in messages {
-        match answer_one(alloc, routes, message, writer, vault, source) {
-            Ok(()) => {
+        let asked = AskedMessage { routes, message };
+        match ask(alloc, &asked, writer, vault, source) {
+            Ok(_) => {
                 if message.closes() {
                     return Ok(true);
                 }
@@ -81,9 +92,13 @@ fn refuse<W: Write>(
     fault: WireFault,
     writer: &mut Watched<W>,
 ) -> Result<(), ServeFault>
+    // with Ok the text went out, with Write a beginning of it and not all, with Memory nothing; no other stop
+    // comes
     ensures ends { IsRefused (W.contents (inner_of writer.old)) (W.contents (inner_of writer.new))
         (fault_text fault) result }
-    ensures told { Tells result
+    // the stop's own one of source, reader, writer and vault has failed; whether the others have stays as it
+    // was
+    ensures own_failure { Tells result
         (failures false false (is_stopped writer.old) false)
         (failures false false (is_stopped writer.new) false) }
 {
@@ -105,15 +120,21 @@ pub fn serve_by<R: Read, W: Write, T: Tables, S: Source>(
     vault: &mut Vault<T>,
     source: &mut S,
 ) -> Result<Served, ServeFault>
+    // on an honest disk, with Ok all is answered and each number that went out is counted; a stop says what
+    // is kept
     ensures serves { let w : Passage = passing S.given source.old source.new W.contents writer.old writer.new
         T.is_honest T.holds T.leaves vault.old vault.new in
         Serves (R.remaining (inner_of reader.old)) (R.remaining (inner_of reader.new)) w result }
-    ensures told { Tells result
+    // the stop's own one of source, reader, writer and vault has failed; whether the others have stays as it
+    // was
+    ensures own_failure { Tells result
         (failures (S.has_refused source.old) (is_stopped reader.old) (is_stopped writer.old)
         (is_broken vault.old))
         (failures (S.has_refused source.new) (is_stopped reader.new) (is_stopped writer.new)
         (is_broken vault.new)) }
+    // the source is the same, further on
     ensures later { S.precedes source.old source.new }
+    // an honest disk was honest before, and tables that can't fail don't
     ensures trusted { Trusts T.is_honest T.may_fail vault.old vault.new result }
 {
     let mut intake = Intake::new(alloc);
@@ -168,15 +189,21 @@ pub fn serve<R: Read, W: Write, T: Tables, S: Source>(
     vault: &mut Vault<T>,
     source: &mut S,
 ) -> Result<Served, ServeFault>
+    // on an honest disk, with Ok all is answered and each number that went out is counted; a stop says what
+    // is kept
     ensures serves { let w : Passage = passing S.given source.old source.new W.contents writer.old writer.new
         T.is_honest T.holds T.leaves vault.old vault.new in
         Serves (R.remaining (inner_of reader.old)) (R.remaining (inner_of reader.new)) w result }
-    ensures told { Tells result
+    // the stop's own one of source, reader, writer and vault has failed; whether the others have stays as it
+    // was
+    ensures own_failure { Tells result
         (failures (S.has_refused source.old) (is_stopped reader.old) (is_stopped writer.old)
         (is_broken vault.old))
         (failures (S.has_refused source.new) (is_stopped reader.new) (is_stopped writer.new)
         (is_broken vault.new)) }
+    // the source is the same, further on
     ensures later { S.precedes source.old source.new }
+    // an honest disk was honest before, and tables that can't fail don't
     ensures trusted { Trusts T.is_honest T.may_fail vault.old vault.new result }
 {
     let Ok(routes) = Routes::new(alloc) else {

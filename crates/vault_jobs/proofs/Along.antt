@@ -1,27 +1,31 @@
 -- A passage in which pairs were taken and bytes went out, as one of the vault alone along these.
-use Rattle.std.proofs.Common.{◌≡◌, ℕ, ◌≤◌, List, [], None, Option, length, subst}
-use Rattle.vault_http.specs.Exchanges.{Pair}
-use Rattle.vault_http.specs.Passing.{Passage}
-use Rattle.vault_listen.specs.Live.{AreGiven, Turns}
+use Rattle.std.proofs.Common.{◌≡◌, ℕ, List, [], Option, subst}
+use Rattle.vault_engine.specs.Asking.{Pair}
+use Rattle.vault_engine.specs.Passing.{Passage}
+use Rattle.vault_listen.specs.Live.{Continues, Fixes, Turns, pairs_of}
+use Rattle.vault_listen.specs.declared.live.LiveSource.{LiveSource}
 use Rattle.vault_jobs.specs.Doing.{Along}
 use Rattle.vault_jobs.specs.Streams.{Streams}
+use Rattle.vault_jobs.proofs.Stops.{few_pairs, fixed_pairs}
 
--- what is seen of the vault alone
-abbrev pub vault_part : Passage → Passage
-vault_part w = record w { given_old = []; given_new = []; sent_old = None; sent_new = None }
-
--- the source gave nothing before, and its pairs are as they are fixed
-pub along_of : (tells : Turns) (most : ℕ) (now : Option ℕ) (digits : Option (List ℕ)) (p : Passage)
-    (s : Streams) (P : Passage → Type 0) → p.given_old ≡ [] → length p.given_new ≤ most
-    → AreGiven tells now digits p.given_new
-    → P (record p { sent_old = s.sent_old; sent_new = s.sent_new })
-    → Along tells most now digits (vault_part p) s P
-along_of tells most now digits p s P fresh few fixed h = (
-  p.given_new,
-  few,
-  fixed,
-  subst (λ (given : List Pair). P (record p {
+-- a source that gave nothing before and goes on
+pub along_live : {K G : Type 0} (tells : K → Turns) (time : K) (old new : LiveSource K G) (most : ℕ)
+    (now : Option ℕ) (digits : Option (List ℕ)) (w : Passage) (s : Streams) (P : Passage → Type 0)
+    → pairs_of old ≡ [] → old.left ≡ most → Fixes old time now digits
+    → Continues tells old new
+    → P (record w {
+      given_old = pairs_of old;
+      given_new = pairs_of new;
+      sent_old = s.sent_old;
+      sent_new = s.sent_new;
+    }) → Along (tells time) most now digits w s P
+along_live tells time old new most now digits w s P fresh left fixes goes h = (
+  pairs_of new,
+  few_pairs tells old new most fresh left goes,
+  fixed_pairs tells old new time now digits fresh fixes goes,
+  subst (λ (given : List Pair). P (record w {
     given_old = given;
+    given_new = pairs_of new;
     sent_old = s.sent_old;
     sent_new = s.sent_new;
   })) fresh h,

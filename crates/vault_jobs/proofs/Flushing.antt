@@ -1,8 +1,9 @@
 -- Bytes that a flush keeps.
 use Rattle.std.proofs.Common.{ℕ, List, ◌++◌, Option, Some, None, ◌∙◌}
 use Rattle.std.specs.Io.KnownBytes.{Appends, Keeps}
-use Rattle.vault_http.specs.Exchanges.{last_text, texts}
-use Rattle.vault_http.specs.Passing.{Passage}
+use Rattle.vault_http.specs.Exchanges.{answer_for, last_text}
+use Rattle.vault_engine.specs.Asking.{texts}
+use Rattle.vault_engine.specs.Passing.{Passage}
 use Rattle.vault_http.specs.Served.{IsServed}
 use Rattle.vault_http.specs.declared.served.Served.{Served}
 use Rattle.vault_batch.specs.Batched.{lines}
@@ -27,7 +28,6 @@ flushed left_old left_new gone w served s kept = record {
   bytes = s.bytes;
   messages = s.messages;
   fault = s.fault;
-  pairs = s.pairs;
   exchanges = s.exchanges;
   read = s.read;
   reads = s.reads;
@@ -38,7 +38,7 @@ flushed left_old left_new gone w served s kept = record {
   told = s.told;
   ended = s.ended;
   answered = λ V before. (
-    kept_after w.sent_old w.sent_new gone (texts V s.exchanges ++ last_text served.fault)
+    kept_after w.sent_old w.sent_new gone (texts answer_for V s.exchanges ++ last_text served.fault)
         (s.answered V before).0
         kept,
     (s.answered V before).1,

@@ -15,7 +15,7 @@ use Rattle.vault_core.specs.declared.command.Command.TheVariants.{Grant}
 use Rattle.vault_core.specs.declared.reply.Reply.{Reply}
 use Rattle.vault_core.specs.declared.reply.Reply.TheVariants as answer
 use Rattle.vault_core.specs.declared.right.Right.{Right}
-use Rattle.vault_http.specs.Passing.{IsBefore, Passage}
+use Rattle.vault_engine.specs.Passing.{IsBefore, Passage}
 use Rattle.vault_listen.specs.Peers.{vault_passing}
 use Rattle.vault_rights.specs.Named.{Row}
 use Rattle.vault_store.specs.Applied.{Contains, tables_of}

@@ -4,7 +4,7 @@ use Rattle.std.specs.Prelude.{true}
 use Rattle.vault_core.specs.Runs.{run}
 use Rattle.vault_core.specs.Vault.{Vault as Content}
 use Rattle.vault_core.specs.declared.command.Command.{Command}
-use Rattle.vault_http.specs.Passing.{IsBefore, Passage}
+use Rattle.vault_engine.specs.Passing.{IsBefore, Passage}
 use Rattle.vault_listen.specs.Peers.{Link, vault_passing}
 use Rattle.vault_listen.specs.Live.{Turns}
 use Rattle.vault_rights.specs.Named.{Row}

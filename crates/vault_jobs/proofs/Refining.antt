@@ -4,13 +4,16 @@ use Rattle.std.proofs.Common.{◌≡◌, ℕ, List, [], Bool, Option, Some, None
 use Rattle.vault_core.specs.Vault.{Vault as Content}
 use Rattle.vault_core.specs.declared.command.Command.{Command}
 use Rattle.vault_wire.specs.Parts.{Parts}
-use Rattle.vault_http.specs.Passing.{AllAnswered, IsBefore, Keeps, Passage, Stops}
+use Rattle.vault_engine.specs.Answered.{Answered, AnsweredBefore, CutAt, SilentAt, UndecidedAt}
+use Rattle.vault_engine.specs.Asking.{Asked, Kind}
+use Rattle.vault_engine.specs.Within.{FirstOf, StopsWithin}
+use Rattle.vault_http.specs.Exchanges.{message_kind}
+use Rattle.vault_engine.specs.Passing.{IsBefore, Keeps, Passage}
 use Rattle.vault_http.specs.Served.{IsServed, IsStopped}
 use Rattle.vault_engine.specs.declared.stop.Stop.{Stop as ServeFault}
 use Rattle.vault_engine.specs.declared.stop.Stop.TheVariants as fault
 use Rattle.vault_http.specs.declared.served.Served.{Served}
-use Rattle.vault_batch.specs.Batched.{Answered}
-use Rattle.vault_batch.specs.Asking.{Asked}
+use Rattle.vault_batch.specs.Asking.{rows_by}
 use Rattle.vault_batch.specs.Stops as batch
 use Rattle.vault_batch.specs.declared.asker.Asker.{Asker}
 use Rattle.vault_batch.specs.declared.counts.Counts.{Counts}
@@ -50,6 +53,11 @@ use Rattle.vault_jobs.specs.declared.task.Task.{Task}
 use Rattle.vault_jobs.specs.declared.task.Task.TheVariants.{Change, Give, Settle, Sweep, Batch, Pipe, Serve}
 use Rattle.vault_jobs.specs.declared.task.Task.TheVariants.{Show}
 use Rattle.vault_jobs.specs.declared.task.Listed.{Listed}
+
+-- of the first units this is known too
+first_as : {X : Type 0} {us rest : List X} {K L : List (Asked X) → Type 0}
+    → ((xs : List (Asked X)) → K xs → L xs) → FirstOf us rest K → FirstOf us rest L
+first_as up s = record { exchanges = s.exchanges; whole = s.whole; known = up s.exchanges s.known }
 
 -- the passage over other things
 abbrev pub over : Type 0 → (Content → Type 0) → (Content → Type 0) → (Content → Content → Type 0)
@@ -122,67 +130,64 @@ module _ (H : Type 0) (O N : Content → Type 0) (L : Content → Content → Ty
   leaves tells n xs listen.Memory (none, h) = (none, all_kept tells [] h)
   leaves tells n xs listen.Accept (few, on, h) = (few, on, all_kept tells xs h)
 
-  all_answered : (ps : List Parts) → AllAnswered w ps → AllAnswered (over H O N L w) ps
-  all_answered ps s = record {
-    pairs = s.pairs;
-    exchanges = s.exchanges;
+  answered : {X : Type 0} (k : Kind X) (first : List ℕ) (xs : List (Asked X)) → Answered k first w xs
+      → Answered k first (over H O N L w) xs
+  answered k first xs s = record {
     taken = s.taken;
     asked = s.asked;
-    whole = s.whole;
     answered = λ V b. let it = s.answered V (was V b.0 b.1) in (it.0, kept b.0 _ it.1);
   }
 
-  stops : (e : ServeFault) (ps : List Parts) → Stops e w ps → Stops e (over H O N L w) ps
-  stops fault.Source ps s = record {
-    pairs = s.pairs;
-    exchanges = s.exchanges;
+  before_one : {X : Type 0} (k : Kind X) (first : List ℕ) (xs : List (Asked X))
+      → AnsweredBefore k first w xs → AnsweredBefore k first (over H O N L w) xs
+  before_one k first xs s = record {
+    unused = s.unused;
+    one = s.one;
     taken = s.taken;
     asked = s.asked;
-    more = s.more;
     answered = λ V b. let it = s.answered V (was V b.0 b.1) in (it.0, kept b.0 _ it.1);
   }
-  stops fault.Read ps s = all_answered ps s
-  stops fault.Write ps s = record {
-    pairs = s.pairs;
-    exchanges = s.exchanges;
-    cut = s.cut;
+
+  cut_one : {X : Type 0} (k : Kind X) (first : List ℕ) (x : Asked X) (xs : List (Asked X))
+      → CutAt k first w xs x → CutAt k first (over H O N L w) xs x
+  cut_one k first x xs s = record {
     sent = s.sent;
     taken = s.taken;
     asked = s.asked;
     answered = λ V b. let it = s.answered V (was V b.0 b.1) in (it.0, it.1, kept b.0 _ it.2);
   }
-  stops fault.Store ps s = record {
-    pairs = s.pairs;
-    exchanges = s.exchanges;
-    undecided = s.undecided;
+
+  undecided_one : {X : Type 0} (k : Kind X) (first : List ℕ) (x : Asked X) (xs : List (Asked X))
+      → UndecidedAt k first w xs x → UndecidedAt k first (over H O N L w) xs x
+  undecided_one k first x xs s = record {
     taken = s.taken;
     asked = s.asked;
     answered = λ V b. let it = s.answered V (was V b.0 b.1) in (it.0, torn b.0 _ _ it.1);
   }
-  stops fault.Memory ps (inl s) = inl (record {
-    pairs = s.pairs;
-    unused = s.unused;
-    exchanges = s.exchanges;
-    one = s.one;
+
+  silent_one : {X : Type 0} (k : Kind X) (first : List ℕ) (x : Asked X) (xs : List (Asked X))
+      → SilentAt k first w xs x → SilentAt k first (over H O N L w) xs x
+  silent_one k first x xs s = record {
     taken = s.taken;
     asked = s.asked;
     answered = λ V b. let it = s.answered V (was V b.0 b.1) in (it.0, kept b.0 _ it.1);
-  })
-  stops fault.Memory ps (inr s) = inr (record {
-    pairs = s.pairs;
-    exchanges = s.exchanges;
-    silent = s.silent;
-    taken = s.taken;
-    asked = s.asked;
-    answered = λ V b. let it = s.answered V (was V b.0 b.1) in (it.0, kept b.0 _ it.1);
-  })
+  }
+
+  stops : (e : ServeFault) (ps : List Parts) → StopsWithin message_kind [] w ps e
+      → StopsWithin message_kind [] (over H O N L w) ps e
+  stops fault.Source ps (next, rest, s) = (next, rest, first_as (answered message_kind []) s)
+  stops fault.Read ps s =
+      record { exchanges = s.exchanges; whole = s.whole; done = answered message_kind [] s.exchanges s.done }
+  stops fault.Write ps (x, rest, s) = (x, rest, first_as (cut_one message_kind [] x) s)
+  stops fault.Store ps (x, rest, s) = (x, rest, first_as (undecided_one message_kind [] x) s)
+  stops fault.Memory ps (inl (rest, s)) = inl (rest, first_as (before_one message_kind []) s)
+  stops fault.Memory ps (inr (x, rest, s)) = inr (x, rest, first_as (silent_one message_kind [] x) s)
 
   served : (old new : Known) (n : Served) → IsServed old new w n → IsServed old new (over H O N L w) n
   served old new n s = record {
     bytes = s.bytes;
     messages = s.messages;
     fault = s.fault;
-    pairs = s.pairs;
     exchanges = s.exchanges;
     read = s.read;
     reads = s.reads;
@@ -228,7 +233,6 @@ module _ (H : Type 0) (O N : Content → Type 0) (L : Content → Content → Ty
     bytes = s.bytes;
     messages = s.messages;
     fault = s.fault;
-    pairs = s.pairs;
     exchanges = s.exchanges;
     sent = s.sent;
     read = s.read;
@@ -266,20 +270,12 @@ module _ (H : Type 0) (O N : Content → Type 0) (L : Content → Content → Ty
   stops_piping old new e (inl s) = inl (stopped old new e s)
   stops_piping old new e (inr (is, s)) = inr (is, piped old new s)
 
-  answered : (who : Asker) (first : List ℕ) (xs : List Asked) → Answered who first w xs
-      → Answered who first (over H O N L w) xs
-  answered who first xs s = record {
-    taken = s.taken;
-    asked = s.asked;
-    answered = λ V b. let it = s.answered V (was V b.0 b.1) in (it.0, kept b.0 _ it.1);
-  }
-
   batched : (left : Known) (who : Asker) (counts : Counts) → batch.IsBatched left w who counts
       → batch.IsBatched left (over H O N L w) who counts
   batched left who counts s = record {
     rows = s.rows;
     records = s.records;
-    answered = answered who _ s.rows s.answered;
+    answered = answered (rows_by who) _ s.rows s.answered;
     counted = record {
       rows = s.counted.rows;
       both = s.counted.both;
@@ -292,69 +288,38 @@ module _ (H : Type 0) (O N : Content → Type 0) (L : Content → Content → Ty
   batch_stops left who row.BadHeader ((sent, (taken, same)), s) = ((sent, (taken, untouched same)), s)
   batch_stops left who row.Read (inl (sent, (taken, same))) = inl (sent, (taken, untouched same))
   batch_stops left who row.Read (inr s) =
-      inr (record { rows = s.rows; records = s.records; answered = answered who _ s.rows s.answered })
+      inr (record {
+        rows = s.rows;
+        records = s.records;
+        answered = answered (rows_by who) _ s.rows s.answered;
+      })
   batch_stops left who row.Write (inl s) = inl (record {
     sent = s.sent;
     part = s.part;
     went = s.went;
     unchanged = (s.unchanged.0, untouched s.unchanged.1);
   })
-  batch_stops left who row.Write (inr (rows, next, records, s)) = inr (
-    rows,
-    next,
-    records,
-    record {
-      sent = s.sent;
-      taken = s.taken;
-      asked = s.asked;
-      answered = λ V b. let it = s.answered V (was V b.0 b.1) in (it.0, it.1, kept b.0 _ it.2);
-    },
-  )
-  batch_stops left who row.Store (rows, next, records, s) = (
-    rows,
-    next,
-    records,
-    record {
-      taken = s.taken;
-      asked = s.asked;
-      answered = λ V b. let it = s.answered V (was V b.0 b.1) in (it.0, torn b.0 _ _ it.1);
-    },
-  )
+  batch_stops left who row.Write (inr (rows, next, records, s)) =
+      inr (rows, next, records, cut_one (rows_by who) _ next rows s)
+  batch_stops left who row.Store (rows, next, records, s) =
+      (rows, next, records, undecided_one (rows_by who) _ next rows s)
   batch_stops left who row.BadRecord s = record {
     rows = s.rows;
     bad = s.bad;
     records = s.records;
     wrong = s.wrong;
-    answered = answered who _ s.rows s.answered;
+    answered = answered (rows_by who) _ s.rows s.answered;
   }
   batch_stops left who row.Memory (inl (sent, (taken, same))) = inl (sent, (taken, untouched same))
-  batch_stops left who row.Memory (inr (inl (rows, records, s))) = inr (inl (
-    rows,
-    records,
-    record {
-      unused = s.unused;
-      one = s.one;
-      taken = s.taken;
-      asked = s.asked;
-      answered = λ V b. let it = s.answered V (was V b.0 b.1) in (it.0, kept b.0 _ it.1);
-    },
-  ))
+  batch_stops left who row.Memory (inr (inl (rows, records, s))) =
+      inr (inl (rows, records, before_one (rows_by who) _ rows s))
   batch_stops left who row.Memory (inr (inr (rows, next, records, s))) =
-      inr (inr (
-        rows,
-        next,
-        records,
-        record {
-          taken = s.taken;
-          asked = s.asked;
-          answered = λ V b. let it = s.answered V (was V b.0 b.1) in (it.0, kept b.0 _ it.1);
-        },
-      ))
+      inr (inr (rows, next, records, silent_one (rows_by who) _ next rows s))
   batch_stops left who row.Source s = record {
     rows = s.rows;
     next = s.next;
     records = s.records;
-    answered = answered who _ s.rows s.answered;
+    answered = answered (rows_by who) _ s.rows s.answered;
   }
 
   stops_batch : (left : Known) (who : Asker) (e : BatchFault) → StopsBatch left w who e

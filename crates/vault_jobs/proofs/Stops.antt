@@ -1,26 +1,31 @@
 -- A service as a trial, and a service that stopped as a beginning of one.
 use Rattle.std.proofs.Common.{◌≡◌, ℕ, ◌+◌, ◌≤◌, List, [], ◌∷◌, ◌++◌, length, take, Bool, true}
 use Rattle.std.proofs.Common.{false, cond, Option, Some, None, inl, inr, sym, ◌∙◌, ap, subst, refl}
-use Rattle.std.proofs.Common.{append-nil, arith}
+use Rattle.std.proofs.Common.{append-nil, append_assoc, arith}
 use Rattle.std.proofs.Math.Seq.{take-append-add, take-append_seam, take-length}
-use Rattle.std.proofs.lemmas.List.{length-map}
+use Rattle.std.proofs.lemmas.List.{map-append}
 use Rattle.std.proofs.Common.{Result, Ok, Err}
-use Rattle.std.specs.Prelude.{IfErr, OnErr, OnOk}
+use Rattle.std.proofs.lemmas.List.Elements.{All-nil}
+use Rattle.std.specs.Prelude.{All, IfErr, OnErr, OnOk}
 use Rattle.std.specs.Io.KnownBytes.{Appends, Consumes}
 use Rattle.vault_core.specs.Vault.{Vault as Content}
 use Rattle.vault_listen.specs.Live.{AreGiven, Continues, Fixes, Turns, pairs_of}
 use Rattle.vault_listen.proofs.Turns.{given_first, none_given}
 use Rattle.vault_listen.specs.declared.live.LiveSource.{LiveSource}
 use Rattle.vault_wire.specs.Messages.{Reads, Request}
-use Rattle.vault_wire.specs.Parts.{Parts, parts_of}
+use Rattle.vault_wire.specs.Parts.{Parts}
 use Rattle.vault_wire.specs.declared.fault.WireFault.{WireFault}
-use Rattle.vault_http.proofs.Bytes.{appends_nothing, consumes_nothing}
+use Rattle.vault_engine.proofs.Answering.{appends_nothing}
+use Rattle.vault_engine.proofs.Listing.{texts-more}
+use Rattle.vault_engine.specs.Answered as engine
+use Rattle.vault_http.proofs.Bytes.{consumes_nothing}
 use Rattle.vault_http.proofs.Closing.{up_to_close-none}
-use Rattle.vault_http.proofs.Exchanging.{texts-append}
 use Rattle.vault_http.proofs.Serving.{begins_of}
-use Rattle.vault_http.specs.Exchanges.{AskFirst, Exchange, Pair, fault_text, has_close, last_text, shown}
-use Rattle.vault_http.specs.Exchanges.{text_at, texts, up_to_close, vault_after}
-use Rattle.vault_http.specs.Passing.{IsBefore, Passage, Sends, Stops, Takes}
+use Rattle.vault_http.specs.Exchanges.{answer_for, message_kind, fault_text, has_close, last_text, shown}
+use Rattle.vault_engine.specs.Asking.{Asked, Asks, Pair, text_at, texts, vault_after}
+use Rattle.vault_http.specs.Exchanges.{up_to_close}
+use Rattle.vault_engine.specs.Passing.{IsBefore, Passage, Sends, Takes}
+use Rattle.vault_engine.specs.Within.{StopsWithin}
 use Rattle.vault_http.specs.Served.{Begins, IsServed, IsStopped, StopsAtFault, answered_fault}
 use Rattle.vault_engine.specs.declared.stop.Stop.{Stop as ServeFault}
 use Rattle.vault_http.specs.declared.served.Served.{Served}
@@ -33,29 +38,35 @@ use Rattle.vault_jobs.specs.Trial.{IsCut, IsLast, IsTrial}
 record Begun (tells : Turns) (w : Passage) (ps : List Parts) (V : Content) (now : Option ℕ)
     (digits : Option (List ℕ))
     : Type 0 where
-  pairs : List Pair
-  exchanges : List Exchange
+  exchanges : List (Asked Parts)
+  rest : List Parts
   count : ℕ
-  fixed : AreGiven tells now digits pairs
-  asked : AskFirst ps pairs exchanges
-  sent : Sends w (take count (texts V exchanges))
+  fixed : AreGiven tells now digits (engine.pairs_of exchanges)
+  asks : All (Asks message_kind) exchanges
+  first : ps ≡ engine.units_of exchanges ++ rest
+  sent : Sends w (take count (texts answer_for V exchanges))
 
 -- the texts before the last one, and of that one a part
-last_part : (V : Content) (xs : List Exchange) (x : Exchange) (n : ℕ)
-    → take (length (texts V xs) + n) (texts V (xs ++ x ∷ []))
-    ≡ texts V xs ++ take n (text_at (vault_after V xs) x)
+last_part : (V : Content) (xs : List (Asked Parts)) (x : Asked Parts) (n : ℕ)
+    → take (length (texts answer_for V xs) + n) (texts answer_for V (xs ++ x ∷ []))
+    ≡ texts answer_for V xs ++ take n (text_at answer_for (vault_after V xs) x)
 last_part V xs x n =
-    let text : List ℕ = text_at (vault_after V xs) x in
-    ap (λ ts. take (length (texts V xs) + n) ts) (texts-append V xs (x ∷ []))
-    ∙ take-append-add (texts V xs) (text ++ []) n
-    ∙ ap (λ ts. texts V xs ++ take n ts) (append-nil text)
+    ap (λ ts. take (length (texts answer_for V xs) + n) ts) (texts-more message_kind V xs x)
+    ∙ take-append-add (texts answer_for V xs) (text_at answer_for (vault_after V xs) x) n
 
 -- the texts before the last one
-but_last : (V : Content) (xs : List Exchange) (x : Exchange)
-    → take (length (texts V xs)) (texts V (xs ++ x ∷ [])) ≡ texts V xs
+but_last : (V : Content) (xs : List (Asked Parts)) (x : Asked Parts)
+    → take (length (texts answer_for V xs)) (texts answer_for V (xs ++ x ∷ [])) ≡ texts answer_for V xs
 but_last V xs x =
-    ap (λ ts. take (length (texts V xs)) ts) (texts-append V xs (x ∷ []))
-    ∙ take-append_seam (texts V xs) (text_at (vault_after V xs) x ++ [])
+    ap (λ ts. take (length (texts answer_for V xs)) ts) (texts-more message_kind V xs x)
+    ∙ take-append_seam (texts answer_for V xs) (text_at answer_for (vault_after V xs) x)
+
+-- the next one with those before it
+pub with_next : (ps rest : List Parts) (xs : List (Asked Parts)) (x : Asked Parts)
+    → ps ≡ engine.units_of xs ++ x.unit ∷ rest → ps ≡ engine.units_of (xs ++ x ∷ []) ++ rest
+with_next ps rest xs x same =
+    same ∙ sym (append_assoc (engine.units_of xs) (x.unit ∷ []) rest)
+    ∙ ap (λ us. us ++ rest) (sym (map-append (λ (y : Asked Parts). y.unit) xs (x ∷ [])))
 
 module _ (tells : Turns) (w : Passage) (V : Content) (now : Option ℕ) (digits : Option (List ℕ))
     (before : IsBefore w V)
@@ -65,68 +76,72 @@ module _ (tells : Turns) (w : Passage) (V : Content) (now : Option ℕ) (digits 
       subst (λ (ds : List Pair). AreGiven tells now digits ds) (taken ∙ ap (λ ds. ds ++ pairs) fresh) fits
 
   -- all texts went out
-  begun_whole : (ps : List Parts) (pairs : List Pair) (xs : List Exchange) → Takes w pairs
-      → AskFirst ps pairs xs
-      → Sends w (texts V xs) → Begun tells w ps V now digits
-  begun_whole ps pairs xs taken asked sent = record {
-    pairs = pairs;
+  begun_whole : (ps rest : List Parts) (xs : List (Asked Parts)) → ps ≡ engine.units_of xs ++ rest
+      → AreGiven tells now digits (engine.pairs_of xs) → All (Asks message_kind) xs
+      → Sends w (texts answer_for V xs) → Begun tells w ps V now digits
+  begun_whole ps rest xs first fixed asks sent = record {
     exchanges = xs;
-    count = length (texts V xs);
-    fixed = fixed_in pairs taken;
-    asked = asked;
-    sent = subst (λ t. Sends w t) (sym (take-length (texts V xs))) sent;
+    rest = rest;
+    count = length (texts answer_for V xs);
+    fixed = fixed;
+    asks = asks;
+    first = first;
+    sent = subst (λ t. Sends w t) (sym (take-length (texts answer_for V xs))) sent;
   }
 
-  -- all texts but the last one's went out
-  begun_last : (ps : List Parts) (pairs : List Pair) (xs : List Exchange) (x : Exchange) → Takes w pairs
-      → AskFirst ps pairs (xs ++ x ∷ []) → Sends w (texts V xs) → Begun tells w ps V now digits
-  begun_last ps pairs xs x taken asked sent = record {
-    pairs = pairs;
+  -- of the last one's text a part went out, or nothing
+  begun_last : (ps rest : List Parts) (xs : List (Asked Parts)) (x : Asked Parts) (count : ℕ)
+      → ps ≡ engine.units_of xs ++ x.unit ∷ rest
+      → Takes w (engine.pairs_of (xs ++ x ∷ [])) → All (Asks message_kind) (xs ++ x ∷ [])
+      → Sends w (take count (texts answer_for V (xs ++ x ∷ []))) → Begun tells w ps V now digits
+  begun_last ps rest xs x count first taken asks sent = record {
     exchanges = xs ++ x ∷ [];
-    count = length (texts V xs);
-    fixed = fixed_in pairs taken;
-    asked = asked;
-    sent = subst (λ t. Sends w t) (sym (but_last V xs x)) sent;
+    rest = rest;
+    count = count;
+    fixed = fixed_in _ taken;
+    asks = asks;
+    first = with_next ps rest xs x first;
+    sent = sent;
   }
 
-  begun : (e : ServeFault) (ps : List Parts) → Stops e w ps → Begun tells w ps V now digits
-  begun fault.Source ps s = begun_whole ps s.pairs s.exchanges s.taken s.asked (s.answered V before).0
-  begun fault.Read ps s = begun_whole ps s.pairs s.exchanges s.taken s.asked (s.answered V before).0
-  begun fault.Write ps s = record {
-    pairs = s.pairs;
-    exchanges = s.exchanges ++ s.cut ∷ [];
-    count = length (texts V s.exchanges) + s.sent;
-    fixed = fixed_in s.pairs s.taken;
-    asked = s.asked;
-    sent = subst (λ t. Sends w t) (sym (last_part V s.exchanges s.cut s.sent)) (s.answered V before).1;
-  }
-  begun fault.Store ps s =
-      begun_last ps s.pairs s.exchanges s.undecided s.taken s.asked (s.answered V before).0
-  begun fault.Memory ps (inl s) = record {
-    pairs = s.pairs;
-    exchanges = s.exchanges;
-    count = length (texts V s.exchanges);
-    fixed = given_first tells now digits s.pairs s.unused (fixed_in (s.pairs ++ s.unused) s.taken);
-    asked = s.asked;
-    sent = subst (λ t. Sends w t) (sym (take-length (texts V s.exchanges))) (s.answered V before).0;
-  }
-  begun fault.Memory ps (inr s) =
-      begun_last ps s.pairs s.exchanges s.silent s.taken s.asked (s.answered V before).0
+  begun : (e : ServeFault) (ps : List Parts) → StopsWithin message_kind [] w ps e
+      → Begun tells w ps V now digits
+  begun fault.Source ps (next, rest, s) =
+      begun_whole ps (next ∷ rest) s.exchanges s.whole (fixed_in _ s.known.taken) s.known.asked
+      (s.known.answered V before).0
+  begun fault.Read ps s =
+      begun_whole ps [] s.exchanges (sym s.whole ∙ sym (append-nil _)) (fixed_in _ s.done.taken) s.done.asked
+      (s.done.answered V before).0
+  begun fault.Write ps (x, rest, s) =
+      begun_last ps rest s.exchanges x (length (texts answer_for V s.exchanges) + s.known.sent) s.whole
+      s.known.taken s.known.asked
+      (subst (λ t. Sends w t) (sym (last_part V s.exchanges x s.known.sent)) (s.known.answered V before).1)
+  begun fault.Store ps (x, rest, s) =
+      begun_last ps rest s.exchanges x (length (texts answer_for V s.exchanges)) s.whole s.known.taken
+      s.known.asked
+      (subst (λ t. Sends w t) (sym (but_last V s.exchanges x)) (s.known.answered V before).0)
+  begun fault.Memory ps (inl (rest, s)) =
+      begun_whole ps rest s.exchanges s.whole
+      (given_first tells now digits (engine.pairs_of s.exchanges) s.known.unused (fixed_in _ s.known.taken))
+      s.known.asked (s.known.answered V before).0
+  begun fault.Memory ps (inr (x, rest, s)) =
+      begun_last ps rest s.exchanges x (length (texts answer_for V s.exchanges)) s.whole s.known.taken
+      s.known.asked
+      (subst (λ t. Sends w t) (sym (but_last V s.exchanges x)) (s.known.answered V before).0)
 
   -- a service to its end is a trial
   pub trial_of : (old new : Known) (served : Served) → IsServed old new w served
       → IsTrial tells old new w.sent_old w.sent_new V now digits
   trial_of old new served s =
-      let P : Option WireFault → Type 0 = λ e. Sends w (texts V s.exchanges ++ last_text e) in
+      let P : Option WireFault → Type 0 = λ e. Sends w (texts answer_for V s.exchanges ++ last_text e) in
       record {
         bytes = s.bytes;
         messages = s.messages;
         fault = s.fault;
-        pairs = s.pairs;
         exchanges = s.exchanges;
         read = s.read;
         reads = s.reads;
-        fixed = fixed_in s.pairs s.taken;
+        fixed = fixed_in _ s.taken;
         asked = s.asked;
         whole = s.whole;
         ended = s.ended;
@@ -140,16 +155,17 @@ module _ (tells : Turns) (w : Passage) (V : Content) (now : Option ℕ) (digits 
   cut_among old new bytes ms read begins b = record {
     bytes = bytes;
     messages = ms;
-    pairs = b.pairs;
     exchanges = b.exchanges;
+    rest = b.rest;
     last = None;
     count = b.count;
     read = read;
     begins = begins;
     fixed = b.fixed;
-    asked = b.asked;
+    asked = b.asks;
+    first = b.first;
     ends = tt;
-    sent = subst (λ t. Sends w (take b.count t)) (sym (append-nil (texts V b.exchanges))) b.sent;
+    sent = subst (λ t. Sends w (take b.count t)) (sym (append-nil (texts answer_for V b.exchanges))) b.sent;
   }
 
   cut_at_fault : (old new : Known) → StopsAtFault old new w
@@ -157,17 +173,18 @@ module _ (tells : Turns) (w : Passage) (V : Content) (now : Option ℕ) (digits 
   cut_at_fault old new s = record {
     bytes = s.bytes;
     messages = s.messages;
-    pairs = s.pairs;
     exchanges = s.exchanges;
+    rest = [];
     last = Some s.fault;
-    count = length (texts V s.exchanges) + s.sent;
+    count = length (texts answer_for V s.exchanges) + s.sent;
     read = s.read;
     begins = begins_of s.bytes s.messages (Some s.fault) s.reads;
-    fixed = fixed_in s.pairs s.taken;
-    asked = subst (λ ps. AskFirst ps s.pairs s.exchanges)
-        (sym (up_to_close-none (shown s.messages) s.open_till)) s.asked;
+    fixed = fixed_in _ s.taken;
+    asked = s.asked;
+    first = up_to_close-none (shown s.messages) s.open_till ∙ sym s.whole ∙ sym (append-nil _);
     ends = (s.reads, s.open_till, s.whole);
-    sent = subst (λ t. Sends w t) (sym (take-append-add (texts V s.exchanges) (fault_text s.fault) s.sent))
+    sent = subst (λ t. Sends w t)
+        (sym (take-append-add (texts answer_for V s.exchanges) (fault_text s.fault) s.sent))
         (s.answered V before).0;
   }
 
@@ -197,8 +214,8 @@ pub nothing_cut : (tells : Turns) (left sent : Known) (V : Content) (now : Optio
 nothing_cut tells left sent V now digits = record {
   bytes = [];
   messages = [];
-  pairs = [];
   exchanges = [];
+  rest = [];
   last = None;
   count = 0;
   read = consumes_nothing left;
@@ -208,22 +225,19 @@ nothing_cut tells left sent V now digits = record {
     each = λ k m below. let never : ⊥ = omega (arith, below) in absurd never;
   };
   fixed = none_given;
-  asked = tt;
+  asked = All-nil (Asks message_kind);
+  first = refl;
   ends = tt;
   sent = appends_nothing sent;
 }
 
 -- the fault is answered only where no message closes the connection
-ends_at : (bytes : List ℕ) (ms : List Request) (xs : List Exchange) (e : Option WireFault) (b : Bool)
-    → has_close (shown ms) ≡ b → Reads bytes ms e → length xs ≡ length (up_to_close (shown ms))
+ends_at : (bytes : List ℕ) (ms : List Request) (xs : List (Asked Parts)) (e : Option WireFault) (b : Bool)
+    → has_close (shown ms) ≡ b → Reads bytes ms e → engine.units_of xs ≡ up_to_close (shown ms)
     → IsLast bytes ms xs (cond b None e)
 ends_at bytes ms xs e true h reads whole = tt
 ends_at bytes ms xs None false h reads whole = tt
-ends_at bytes ms xs (Some e) false h reads whole = (
-  reads,
-  h,
-  whole ∙ ap (λ ps. length ps) (up_to_close-none (shown ms) h) ∙ length-map ms parts_of,
-)
+ends_at bytes ms xs (Some e) false h reads whole = (reads, h, whole ∙ up_to_close-none (shown ms) h)
 
 -- a trial is a beginning of itself
 pub cut_whole : (tells : Turns) (old new out gone : Known) (V : Content) (now : Option ℕ)
@@ -231,18 +245,19 @@ pub cut_whole : (tells : Turns) (old new out gone : Known) (V : Content) (now : 
     → IsTrial tells old new out gone V now digits → IsCut tells old new out gone V now digits
 cut_whole tells old new out gone V now digits t =
     let last : Option WireFault = answered_fault t.messages t.fault in
-    let all : List ℕ = texts V t.exchanges ++ last_text last in
+    let all : List ℕ = texts answer_for V t.exchanges ++ last_text last in
     record {
       bytes = t.bytes;
       messages = t.messages;
-      pairs = t.pairs;
       exchanges = t.exchanges;
+      rest = [];
       last = last;
       count = length all;
       read = t.read;
       begins = begins_of t.bytes t.messages t.fault t.reads;
       fixed = t.fixed;
       asked = t.asked;
+      first = sym t.whole ∙ sym (append-nil _);
       ends = ends_at t.bytes t.messages t.exchanges t.fault (has_close (shown t.messages)) refl t.reads
           t.whole;
       sent = subst (λ (ts : List ℕ). Appends out gone ts) (sym (take-length all)) t.sent;

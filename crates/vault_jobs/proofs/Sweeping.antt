@@ -19,7 +19,7 @@ use Rattle.vault_core.specs.declared.limit.TheConstants.{MOST_TOKENS}
 use Rattle.vault_core.specs.declared.row.Entry.{Entry}
 use Rattle.vault_core.specs.declared.reply.Reply.TheVariants as answer
 use Rattle.vault_batch.specs.declared.asker.Asker.{Asker}
-use Rattle.vault_http.specs.Passing.{IsBefore, Passage}
+use Rattle.vault_engine.specs.Passing.{IsBefore, Passage}
 use Rattle.vault_listen.specs.Peers.{vault_passing}
 use Rattle.vault_store.specs.declared.vault.Vault.{Vault}
 use Rattle.vault_store.specs.Applied.{Contains, breaks, is_broken, tables_of}

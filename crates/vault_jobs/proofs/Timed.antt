@@ -2,7 +2,7 @@
 use Rattle.std.proofs.Common.{◌≡◌, ℕ, Bool, false, Result, ◌∙◌, inl, sym}
 use Rattle.vault_core.specs.Vault.{Vault as Content}
 use Rattle.vault_batch.specs.declared.asker.Asker.{Asker}
-use Rattle.vault_http.specs.Passing.{IsBefore, Keeps, Passage}
+use Rattle.vault_engine.specs.Passing.{IsBefore, Keeps, Passage}
 use Rattle.vault_listen.specs.Peers.{vault_passing}
 use Rattle.vault_store.specs.Applied.{Contains, tables_of}
 use Rattle.vault_store.specs.declared.vault.Vault.{Vault}

@@ -1,6 +1,6 @@
 -- What is done with the rows of standard input.
 use Rattle.std.specs.Prelude.{◌≡◌, ◌≢◌, ◌⊎◌, List, [], ◌∷◌, ◌++◌, length}
-use Rattle.vault_http.specs.Passing.{Passage}
+use Rattle.vault_engine.specs.Passing.{Passage}
 use Rattle.vault_batch.specs.Rows.{BeginRecordsOf, Fields, Row, records_with}
 use Rattle.vault_batch.specs.Stops.{IsBatched, Stops}
 use Rattle.vault_batch.specs.declared.asker.Asker.{Asker}

@@ -1,5 +1,6 @@
 -- What stops a job.
 use Rattle.std.specs.Prelude.{◌≡◌, Bool, true}
+use Rattle.std.specs.declared.io.ErrorKind.TheVariants as kind
 use Rattle.vault_refusal.specs.declared.refusal.Refusal.{Refusal}
 use Rattle.vault_refusal.specs.declared.refusal.Refusal.TheVariants as refusal
 use Rattle.vault_store.specs.Applied as vault
@@ -15,7 +16,6 @@ use Rattle.vault_jobs.specs.Batched.{HasBadRecord}
 use Rattle.vault_jobs.specs.Streams.{Streams}
 use Rattle.vault_jobs.specs.declared.stop.Stop.{Stop}
 use Rattle.vault_jobs.specs.declared.stop.Stop.TheVariants.{Vault, Service, Listener, Rights, Batch}
-use Rattle.vault_jobs.specs.declared.stop.Unread.TheVariants as unread
 
 -- the refusal that stopped a job
 abbrev pub refusal_of : Stop → Refusal
@@ -23,8 +23,8 @@ refusal_of (Vault f) = vault.refusal_of f
 refusal_of (Service f) = service.refusal_of f
 refusal_of (Listener f) = listener.refusal_of f
 refusal_of (Batch f) = batch.refusal_of f
-refusal_of (Rights unread.Memory) = refusal.RightsMemory
-refusal_of (Rights unread.File) = refusal.Accept
+refusal_of (Rights kind.OutOfMemory) = refusal.RightsMemory
+refusal_of (Rights refused) = refusal.Accept
 
 -- a service is stopped by its reader only where that failed, and by its writer only where that failed
 abbrev pub IsCause : ServeFault → Bool → Bool → Type 0

@@ -6,8 +6,8 @@ use Rattle.vault_core.specs.Runs.{run}
 use Rattle.vault_core.specs.Vault.{Vault as Content}
 use Rattle.vault_core.specs.declared.command.Command.{Command}
 use Rattle.vault_listen.specs.Live.{AreGiven, Turns}
-use Rattle.vault_http.specs.Exchanges.{Pair}
-use Rattle.vault_http.specs.Passing.{IsBefore, Keeps, Passage}
+use Rattle.vault_engine.specs.Asking.{Pair}
+use Rattle.vault_engine.specs.Passing.{IsBefore, Keeps, Passage}
 use Rattle.vault_engine.specs.declared.stop.Stop.TheVariants as service
 use Rattle.vault_batch.specs.Stops.{IsBatched}
 use Rattle.vault_batch.specs.declared.asker.Asker.{Asker}

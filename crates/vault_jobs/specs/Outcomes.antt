@@ -1,12 +1,12 @@
 -- What holds by how a task ends.
 use Rattle.std.specs.Prelude.{ℕ, Result, Ok, Err}
+use Rattle.std.specs.declared.io.ErrorKind.{ErrorKind}
 use Rattle.vault_engine.specs.declared.stop.Stop.{Stop as ServeFault}
 use Rattle.vault_batch.specs.declared.fault.BatchFault.{BatchFault}
 use Rattle.vault_listen.specs.declared.fault.ListenFault.{ListenFault}
 use Rattle.vault_store.specs.declared.vault.Fault.{Fault}
 use Rattle.vault_jobs.specs.declared.stop.Stop.{Stop}
 use Rattle.vault_jobs.specs.declared.stop.Stop.TheVariants.{Vault, Service, Listener, Rights, Batch}
-use Rattle.vault_jobs.specs.declared.stop.Unread.{Unread}
 use Rattle.vault_jobs.specs.declared.task.Outcome.{Outcome}
 use Rattle.vault_jobs.specs.declared.task.Outcome.TheVariants.{Done, Refused, SomeRefused}
 
@@ -18,7 +18,7 @@ pub record Outcomes : Type 1 where
   pub vault : Fault → Type 0
   pub service : ServeFault → Type 0
   pub listener : ListenFault → Type 0
-  pub rights : Unread → Type 0
+  pub rights : ErrorKind → Type 0
   pub batch : BatchFault → Type 0
 
 -- none of them comes

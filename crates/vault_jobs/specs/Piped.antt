@@ -1,6 +1,6 @@
 -- What is done with the messages of standard input.
 use Rattle.std.specs.Prelude.{◌≡◌, ◌⊎◌}
-use Rattle.vault_http.specs.Passing.{Passage}
+use Rattle.vault_engine.specs.Passing.{Passage}
 use Rattle.vault_http.specs.Served.{IsServed, IsStopped}
 use Rattle.vault_engine.specs.declared.stop.Stop.{Stop as ServeFault}
 use Rattle.vault_engine.specs.declared.stop.Stop.TheVariants.{Write}

@@ -1,6 +1,6 @@
 -- The vault of a trial, and what a trial does with its input.
-use Rattle.std.specs.Prelude.{◌≡◌, ℕ, List, [], ◌∷◌, ◌++◌, length, map, take, false}
-use Rattle.std.specs.Prelude.{Option, Some, None}
+use Rattle.std.specs.Prelude.{◌≡◌, ℕ, List, [], ◌∷◌, ◌++◌, map, take, false}
+use Rattle.std.specs.Prelude.{All, Option, Some, None}
 use Rattle.std.specs.Io.KnownBytes.{Appends, Consumes, IsAtEnd}
 use Rattle.vault_core.specs.Lives.{setting, usual_lives}
 use Rattle.vault_core.specs.Table.{after}
@@ -13,7 +13,10 @@ use Rattle.vault_core.specs.declared.right.Right.TheVariants.{Revoke, Purge, Aud
 use Rattle.vault_listen.specs.Live.{AreGiven, Turns}
 use Rattle.vault_wire.specs.Messages.{Request, Reads}
 use Rattle.vault_wire.specs.declared.fault.WireFault.{WireFault}
-use Rattle.vault_http.specs.Exchanges.{AskFirst, Exchange, Pair, has_close, last_text, shown, texts}
+use Rattle.vault_wire.specs.Parts.{Parts}
+use Rattle.vault_http.specs.Exchanges.{answer_for, has_close, last_text, message_kind, shown}
+use Rattle.vault_engine.specs.Answered.{pairs_of, units_of}
+use Rattle.vault_engine.specs.Asking.{Asked, Asks, texts}
 use Rattle.vault_http.specs.Exchanges.{up_to_close}
 use Rattle.vault_http.specs.Served.{Begins, answered_fault}
 use Rattle.vault_jobs.specs.Streams.{Known}
@@ -51,22 +54,22 @@ pub record IsTrial (tells : Turns) (left_old left_new sent_old sent_new : Known)
   pub bytes : List ℕ
   pub messages : List Request
   pub fault : Option WireFault
-  pub pairs : List Pair
-  pub exchanges : List Exchange
+  pub exchanges : List (Asked Parts)
   pub read : Consumes left_old left_new bytes
   pub reads : Reads bytes messages fault
-  pub fixed : AreGiven tells now digits pairs
-  pub asked : AskFirst (up_to_close (shown messages)) pairs exchanges
-  pub whole : length exchanges ≡ length (up_to_close (shown messages))
+  pub fixed : AreGiven tells now digits (pairs_of exchanges)
+  pub asked : All (Asks message_kind) exchanges
+  pub whole : units_of exchanges ≡ up_to_close (shown messages)
   pub ended : has_close (shown messages) ≡ false → fault ≡ None → IsAtEnd left_new
-  pub sent : Appends sent_old sent_new (texts V exchanges ++ last_text (answered_fault messages fault))
+  pub sent : Appends sent_old sent_new
+      (texts answer_for V exchanges ++ last_text (answered_fault messages fault))
 
 -- a fault is answered last only where it comes after the messages and all of them are asked
-abbrev pub IsLast : List ℕ → List Request → List Exchange → Option WireFault → Type 0
+abbrev pub IsLast : List ℕ → List Request → List (Asked Parts) → Option WireFault → Type 0
 IsLast bytes messages exchanges None = Unit {0}
 IsLast bytes messages exchanges (Some e) =
     Reads bytes messages (Some e) × (has_close (shown messages) ≡ false)
-    × (length exchanges ≡ length messages)
+    × (units_of exchanges ≡ shown messages)
 
 -- The bytes that were read begin with messages. The first of them, up to the first that closes at most, are
 -- asked as in a trial, and of the texts that answer them, and the one that answers a fault after them, a
@@ -75,13 +78,14 @@ pub record IsCut (tells : Turns) (left_old left_new sent_old sent_new : Known) (
     (now : Option ℕ) (digits : Option (List ℕ)) : Type 0 where
   pub bytes : List ℕ
   pub messages : List Request
-  pub pairs : List Pair
-  pub exchanges : List Exchange
+  pub exchanges : List (Asked Parts)
+  pub rest : List Parts
   pub last : Option WireFault
   pub count : ℕ
   pub read : Consumes left_old left_new bytes
   pub begins : Begins bytes messages
-  pub fixed : AreGiven tells now digits pairs
-  pub asked : AskFirst (up_to_close (shown messages)) pairs exchanges
+  pub fixed : AreGiven tells now digits (pairs_of exchanges)
+  pub asked : All (Asks message_kind) exchanges
+  pub first : up_to_close (shown messages) ≡ units_of exchanges ++ rest
   pub ends : IsLast bytes messages exchanges last
-  pub sent : Appends sent_old sent_new (take count (texts V exchanges ++ last_text last))
+  pub sent : Appends sent_old sent_new (take count (texts answer_for V exchanges ++ last_text last))

@@ -3,7 +3,7 @@ ghost use Rattle.std.specs.Prelude.{◌≡◌, Err, IfErr, IfOk, Option, false, 
 ghost use Rattle.std.specs.Option.{option_map_or};
 ghost use Rattle.vault_core.specs.Vault.{Vault as Content};
 ghost use Rattle.vault_store.specs.Applied.{is_broken, tables_of};
-ghost use Rattle.vault_http.specs.Passing.{IsBefore, Keeps, Passage};
+ghost use Rattle.vault_engine.specs.Passing.{IsBefore, Keeps, Passage};
 ghost use Rattle.vault_listen.specs.Peers.{vault_passing};
 ghost use Rattle.vault_jobs.specs.Ahead.{is_far_ahead, is_merchant_ahead, moment_among};
 ghost use Rattle.vault_jobs.specs.Doing.{FailsToRead};
@@ -48,14 +48,21 @@ pub(crate) fn is_ahead<T: Tables>(
     merchant: MerchantId,
     now: Moment,
 ) -> Result<bool, Fault>
+    // the vault isn't broken
     requires { is_broken vault.old ≡ false }
+    // on an honest disk, Ok says it of each vault that was held, and that one is held still, after a crash
+    // too
     ensures told { let w : Passage = vault_passing T.is_honest T.holds T.leaves vault.old vault.new in
         IfOk result (λ ahead. (V : Content) → IsBefore w V
         → (ahead ≡ is_merchant_ahead V merchant now) × Keeps w V) }
+    // on an honest disk, Memory keeps a vault that was held, and Store breaks it, but a crash leaves it;
+    // Reopen never comes
     ensures failed { let w : Passage = vault_passing T.is_honest T.holds T.leaves vault.old vault.new in
         IfErr result (FailsToRead w (is_broken vault.new)) }
+    // the vault is broken after Store only
     ensures broken { is_broken vault.new ≡ true → result ≡ Err Fault.Store }
-    ensures honest { T.is_honest (tables_of vault.new) → T.is_honest (tables_of vault.old) }
+    // a disk that is honest after the call was so before it
+    ensures disk_honest { T.is_honest (tables_of vault.new) → T.is_honest (tables_of vault.old) }
 {
     match vault.merchants() {
         Ok(rows) => Ok(is_row_ahead(rows.as_slice(), merchant, now)),

@@ -12,10 +12,13 @@ use vault_wire::watched::Watched;
 
 /// Writes the line that answers a job, part by part, and hands it on. 62 Write: the writer failed.
 pub fn answer<W: Write>(output: &mut Watched<W>, parts: &[&str]) -> Result<(), ServeFault>
+    // with Ok, the parts stand, in their order, behind what the writer held, where that is known
     ensures answered { OnOk result (Appends
         (W.contents (inner_of output.old)) (W.contents (inner_of output.new))
         (flat_map (λ part. part.now) parts.now)) }
-    ensures handed_on { OnOk result (is_stopped output.new ≡ false) }
+    // with Ok, the writer hasn't failed
+    ensures writer_ok { OnOk result (is_stopped output.new ≡ false) }
+    // the fault is Write, and the writer has failed
     ensures failed { IfErr result (λ e. (e ≡ ServeFault.Write) × (is_stopped output.new ≡ true)) }
 {
     tell(output, parts);
@@ -27,11 +30,16 @@ pub fn answer<W: Write>(output: &mut Watched<W>, parts: &[&str]) -> Result<(), S
 
 /// Writes the text that answers a job, and hands it on. 62 Write: the writer failed.
 pub fn answer_text<W: Write>(output: &mut Watched<W>, text: &[u8]) -> Result<(), ServeFault>
+    // with Ok, the text stands behind what the writer held, where that is known
     ensures answered { OnOk result (Appends
         (W.contents (inner_of output.old)) (W.contents (inner_of output.new)) text.now) }
+    // with Err, a beginning of the text, perhaps all of it, stands behind what the writer held, where that is
+    // known
     ensures cut { OnErr result ((n : ℕ) × Appends
         (W.contents (inner_of output.old)) (W.contents (inner_of output.new)) (take n text.now)) }
-    ensures handed_on { OnOk result (is_stopped output.new ≡ false) }
+    // with Ok, the writer hasn't failed
+    ensures writer_ok { OnOk result (is_stopped output.new ≡ false) }
+    // the fault is Write, and the writer has failed
     ensures failed { IfErr result (λ e. (e ≡ ServeFault.Write) × (is_stopped output.new ≡ true)) }
 {
     if send(output, text).is_err() {

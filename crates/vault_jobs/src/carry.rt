@@ -1,7 +1,7 @@
 //! Commands carried out one after the other.
 ghost use Rattle.std.specs.Prelude.{◌≡◌, All, Err, false, true};
 ghost use Rattle.vault_store.specs.Applied.{is_broken, tables_of};
-ghost use Rattle.vault_http.specs.Passing.{Passage};
+ghost use Rattle.vault_engine.specs.Passing.{Passage};
 ghost use Rattle.vault_listen.specs.Peers.{vault_passing};
 ghost use Rattle.vault_jobs.specs.Carried.{IsCarriedOut};
 ghost use Rattle.vault_jobs.specs.Grants.{CarriesAll};
@@ -18,12 +18,17 @@ pub(crate) fn carry_all<T: Tables>(
     vault: &mut Vault<T>,
     commands: &[Command],
 ) -> Result<Verdict, Fault>
+    // every vault replies to each command by done or a refusal, and lives that it sets are in range
     requires carried { All IsCarriedOut commands.now }
     requires unbroken { is_broken vault.old ≡ false }
+    // on an honest disk, all commands before the first that isn't done are kept; with Store a crash leaves
+    // that one done or not
     ensures carried { let w : Passage = vault_passing T.is_honest T.holds T.leaves vault.old vault.new in
         CarriesAll commands.now w (is_broken vault.new) result }
+    // the vault is broken after Store only
     ensures broken { is_broken vault.new ≡ true → result ≡ Err Fault.Store }
-    ensures honest { T.is_honest (tables_of vault.new) → T.is_honest (tables_of vault.old) }
+    // a disk that is honest after the call was so before it
+    ensures disk_honest { T.is_honest (tables_of vault.new) → T.is_honest (tables_of vault.old) }
 {
     for command in commands {
         match change(vault, command) {

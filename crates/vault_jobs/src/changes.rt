@@ -144,7 +144,10 @@ pub(crate) fn changes_of(
     held: &[RightRow],
     now: Moment,
 ) -> Result<Changes, AllocError>
+    // with Ok, they give the rights of rows that aren't held with that end; with `exact`, they then withdraw
+    // rights that no row lists
     ensures commands { IfOk result (λ it. it.commands.items ≡ changes_at exact now rows.now held.now) }
+    // with Ok, it is the number of rows whose rights aren't held with that end
     ensures granted { IfOk result (λ it. it.granted ≡ length (missing_rows rows.now held.now)) }
 {
     let mut commands = Vec::new(alloc);

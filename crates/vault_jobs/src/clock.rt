@@ -30,8 +30,11 @@ impl Giver {
 
 /// The moment that the words fix, or else the one that is told. 60 Source: none is told.
 pub fn moment<K: Timekeeper>(time: &K, fixed: Option<Moment>) -> Result<Moment, Stop>
+    // with Ok, it is the moment that is fixed, and else one that was told
     ensures moment { IfOk result (IsMomentOf (K.tells time.now) fixed) }
+    // it stops by a service's Source
     ensures fault { IfErr result (λ stop. stop ≡ Stop.Service ServeFault.Source) }
+    // it stops only where no moment is fixed
     ensures needed { OnErr result (fixed ≡ None) }
 {
     let found = match fixed {

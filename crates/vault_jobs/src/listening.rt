@@ -2,7 +2,7 @@
 ghost use Rattle.std.specs.Prelude.{◌≡◌, ◌++◌, Err, List, None, Option, false};
 ghost use Rattle.vault_store.specs.Applied.{is_broken, tables_of};
 ghost use Rattle.vault_wire.specs.Watching.{inner_of, is_stopped};
-ghost use Rattle.vault_http.specs.Passing.{Passage};
+ghost use Rattle.vault_engine.specs.Passing.{Passage};
 ghost use Rattle.vault_listen.specs.Peers.{Event, Link, events_of, vault_passing};
 ghost use Rattle.vault_jobs.specs.Doing.{ServeEnds};
 ghost use Rattle.vault_jobs.specs.Tasks.{BreaksBy};
@@ -36,14 +36,19 @@ pub fn serve_at<K: Timekeeper, N: Network, W: Write, T: Tables>(
     vault: &mut Vault<T>,
     output: &mut Watched<W>,
 ) -> Result<Outcome, Stop>
+    // the vault isn't broken
     requires { is_broken vault.old ≡ false }
+    // it said its port and served the connections that the network tells of; or none came, and on an honest
+    // disk the vault stayed
     ensures does { let w : Passage = vault_passing T.is_honest T.holds T.leaves vault.old vault.new in
         (links : List (Option Link))
         × ((log : List Event) → N.tells network.old log → N.tells network.new (log ++ events_of links))
         × ServeEnds (K.tells time.now) port connections w result (output.new ≡ output.old)
         (W.contents (inner_of output.old)) (W.contents (inner_of output.new)) (is_stopped output.new) links }
+    // the vault is broken exactly where the store failed
     ensures breaks { BreaksBy (Task.Serve port connections None) result (is_broken vault.new) }
-    ensures honest { T.is_honest (tables_of vault.new) → T.is_honest (tables_of vault.old) }
+    // a disk that is honest after the call was so before it
+    ensures disk_honest { T.is_honest (tables_of vault.new) → T.is_honest (tables_of vault.old) }
 {
     let Ok(mut generator) = make_rng::<StdRng, _>(rt) else {
         return Err(Stop::Service(ServeFault::Source));

@@ -2,7 +2,7 @@
 ghost use Rattle.std.specs.Prelude.{◌≡◌, ◌⊎◌, All, Err, IfErr, IfOk, Ok, false, true};
 ghost use Rattle.vault_core.specs.Vault.{Vault as Content};
 ghost use Rattle.vault_store.specs.Applied.{is_broken, tables_of};
-ghost use Rattle.vault_http.specs.Passing.{IsBefore, Keeps, Passage};
+ghost use Rattle.vault_engine.specs.Passing.{IsBefore, Keeps, Passage};
 ghost use Rattle.vault_listen.specs.Peers.{vault_passing};
 ghost use Rattle.vault_jobs.specs.Carried.{IsCarriedOut};
 ghost use Rattle.vault_jobs.specs.Changes.{AreChangesOf};
@@ -30,15 +30,22 @@ pub(crate) fn changes_to<T: Tables>(
     rows: &[ListedRight],
     now: Moment,
 ) -> Result<Changes, Fault>
+    // the vault isn't broken
     requires { is_broken vault.old ≡ false }
+    // with Ok, on an honest disk, these are the changes of each vault that was held, and that one is kept
     ensures found { let w : Passage = vault_passing T.is_honest T.holds T.leaves vault.old vault.new in
         IfOk result (λ it. (V : Content) → IsBefore w V
         → AreChangesOf exact now rows.now V it × Keeps w V) }
+    // with Ok, every vault replies to each command by done or a refusal, and lives that it sets are in range
     ensures carried { IfOk result (λ it. All IsCarriedOut it.commands.items) }
+    // on an honest disk, Memory keeps a vault that was held, and Store breaks it, but a crash leaves it;
+    // Reopen never comes
     ensures failed { let w : Passage = vault_passing T.is_honest T.holds T.leaves vault.old vault.new in
         IfErr result (FailsToRead w (is_broken vault.new)) }
+    // the vault is broken after Store only
     ensures broken { is_broken vault.new ≡ true → result ≡ Err Fault.Store }
-    ensures honest { T.is_honest (tables_of vault.new) → T.is_honest (tables_of vault.old) }
+    // a disk that is honest after the call was so before it
+    ensures disk_honest { T.is_honest (tables_of vault.new) → T.is_honest (tables_of vault.old) }
 {
     let held = match vault.rights() {
         Ok(held) => held,
@@ -61,16 +68,24 @@ pub(crate) fn settle<T: Tables>(
     rows: &[ListedRight],
     now: Moment,
 ) -> Result<(Verdict, Changes), Fault>
+    // the vault isn't broken
     requires { is_broken vault.old ≡ false }
+    // with Ok, on an honest disk, these are the changes from each vault that was held to exactly these rights
     ensures changes { let w : Passage = vault_passing T.is_honest T.holds T.leaves vault.old vault.new in
         IfOk result (λ it. (V : Content) → IsBefore w V → AreChangesOf true now rows.now V it.1) }
+    // with Ok, on an honest disk, all changes are done up to one that is refused, and the vault that they
+    // leave is kept
     ensures carried { let w : Passage = vault_passing T.is_honest T.holds T.leaves vault.old vault.new in
         IfOk result (λ it. CarriesAll it.1.commands.items w (is_broken vault.new) (Ok it.0)) }
+    // on an honest disk, what was done is kept, and after Store a crash decides on the next; or the rights
+    // weren't read
     ensures failed { let w : Passage = vault_passing T.is_honest T.holds T.leaves vault.old vault.new in
         IfErr result (λ f. Settles now rows.now w (is_broken vault.new) (Err f)
         ⊎ FailsToRead w (is_broken vault.new) f) }
+    // the vault is broken after Store only
     ensures broken { is_broken vault.new ≡ true → result ≡ Err Fault.Store }
-    ensures honest { T.is_honest (tables_of vault.new) → T.is_honest (tables_of vault.old) }
+    // a disk that is honest after the call was so before it
+    ensures disk_honest { T.is_honest (tables_of vault.new) → T.is_honest (tables_of vault.old) }
 {
     let changes = match changes_to(alloc, vault, true, rows, now) {
         Ok(changes) => changes,
@@ -86,14 +101,20 @@ pub(crate) fn settle<T: Tables>(
 ///
 /// 20 Memory: memory was refused. 21 Store: the store failed.
 fn listing_of<T: Tables>(alloc: Global, vault: &mut Vault<T>, form: Form) -> Result<Vec<u8>, Fault>
+    // the vault isn't broken
     requires { is_broken vault.old ≡ false }
+    // with Ok, on an honest disk, this is the text of each vault that was held, and that one is kept
     ensures text { let w : Passage = vault_passing T.is_honest T.holds T.leaves vault.old vault.new in
         IfOk result (λ text. (V : Content) → IsBefore w V
         → (text.items ≡ shown_text (Shown.Listing form) V) × Keeps w V) }
+    // on an honest disk, Memory keeps a vault that was held, and Store breaks it, but a crash leaves it;
+    // Reopen never comes
     ensures failed { let w : Passage = vault_passing T.is_honest T.holds T.leaves vault.old vault.new in
         IfErr result (FailsToRead w (is_broken vault.new)) }
+    // the vault is broken after Store only
     ensures broken { is_broken vault.new ≡ true → result ≡ Err Fault.Store }
-    ensures honest { T.is_honest (tables_of vault.new) → T.is_honest (tables_of vault.old) }
+    // a disk that is honest after the call was so before it
+    ensures disk_honest { T.is_honest (tables_of vault.new) → T.is_honest (tables_of vault.old) }
 {
     let merchants = match vault.merchants() {
         Ok(merchants) => merchants,
@@ -119,14 +140,20 @@ fn difference_of<T: Tables>(
     rows: &Vec<ListedRight>,
     now: Moment,
 ) -> Result<Vec<u8>, Fault>
+    // the vault isn't broken
     requires { is_broken vault.old ≡ false }
+    // with Ok, on an honest disk, this is the text of each vault that was held, and that one is kept
     ensures text { let w : Passage = vault_passing T.is_honest T.holds T.leaves vault.old vault.new in
         IfOk result (λ text. (V : Content) → IsBefore w V
         → (text.items ≡ shown_text (Shown.Changes exact rows.now now) V) × Keeps w V) }
+    // on an honest disk, Memory keeps a vault that was held, and Store breaks it, but a crash leaves it;
+    // Reopen never comes
     ensures failed { let w : Passage = vault_passing T.is_honest T.holds T.leaves vault.old vault.new in
         IfErr result (FailsToRead w (is_broken vault.new)) }
+    // the vault is broken after Store only
     ensures broken { is_broken vault.new ≡ true → result ≡ Err Fault.Store }
-    ensures honest { T.is_honest (tables_of vault.new) → T.is_honest (tables_of vault.old) }
+    // a disk that is honest after the call was so before it
+    ensures disk_honest { T.is_honest (tables_of vault.new) → T.is_honest (tables_of vault.old) }
 {
     let changes = match changes_to(alloc, vault, exact, rows.as_slice(), now) {
         Ok(changes) => changes,
@@ -146,14 +173,20 @@ pub(crate) fn text_of<T: Tables>(
     vault: &mut Vault<T>,
     shown: &Shown,
 ) -> Result<Vec<u8>, Fault>
+    // the vault isn't broken
     requires { is_broken vault.old ≡ false }
+    // with Ok, on an honest disk, this is the text of each vault that was held, and that one is kept
     ensures text { let w : Passage = vault_passing T.is_honest T.holds T.leaves vault.old vault.new in
         IfOk result (λ text. (V : Content) → IsBefore w V
         → (text.items ≡ shown_text shown.now V) × Keeps w V) }
+    // on an honest disk, Memory keeps a vault that was held, and Store breaks it, but a crash leaves it;
+    // Reopen never comes
     ensures failed { let w : Passage = vault_passing T.is_honest T.holds T.leaves vault.old vault.new in
         IfErr result (FailsToRead w (is_broken vault.new)) }
+    // the vault is broken after Store only
     ensures broken { is_broken vault.new ≡ true → result ≡ Err Fault.Store }
-    ensures honest { T.is_honest (tables_of vault.new) → T.is_honest (tables_of vault.old) }
+    // a disk that is honest after the call was so before it
+    ensures disk_honest { T.is_honest (tables_of vault.new) → T.is_honest (tables_of vault.old) }
 {
     match shown {
         Shown::Listing(form) => listing_of(alloc, vault, *form),

@@ -27,7 +27,9 @@ fn pairs<'t, H: AllocGlobal + RandomSource, K: Timekeeper>(
     moment: Option<Moment>,
     digits: Option<Digits>,
 ) -> Option<LiveSource<'t, K, StdRng>>
+    // it gave no pair yet, gives so many, and never refused
     ensures fresh { IfSome result (λ s. IsFresh s times) }
+    // its time, and what is fixed of its pairs, are what is handed in
     ensures fixed { IfSome result (λ s. Fixes s time.now moment digits) }
 {
     let Ok(generator) = make_rng(rt) else {
@@ -45,8 +47,11 @@ pub fn source<'t, H: AllocGlobal + RandomSource, K: Timekeeper>(
     moment: Option<Moment>,
     digits: Option<Digits>,
 ) -> Result<LiveSource<'t, K, StdRng>, ServeFault>
+    // it gave no pair yet, gives 1000, and never refused
     ensures fresh { IfOk result (λ s. IsFresh s 1000) }
+    // its time, and what is fixed of its pairs, are what is handed in
     ensures fixed { IfOk result (λ s. Fixes s time.now moment digits) }
+    // the fault is Source
     ensures fault { IfErr result (λ e. e ≡ ServeFault.Source) }
 {
     match pairs(rt, time, MOST_MESSAGES, moment, digits) {
@@ -64,8 +69,11 @@ pub fn row_source<'t, H: AllocGlobal + RandomSource, K: Timekeeper>(
     moment: Option<Moment>,
     digits: Option<Digits>,
 ) -> Result<LiveSource<'t, K, StdRng>, BatchFault>
+    // it gave no pair yet, gives 100000, and never refused
     ensures fresh { IfOk result (λ s. IsFresh s 100000) }
+    // its time, and what is fixed of its pairs, are what is handed in
     ensures fixed { IfOk result (λ s. Fixes s time.now moment digits) }
+    // the fault is Source
     ensures fault { IfErr result (λ e. e ≡ BatchFault.Source) }
 {
     match pairs(rt, time, MOST_ROWS, moment, digits) {

@@ -1,20 +1,12 @@
 //! Why a job stops.
 ghost use Rattle.std.specs.Prelude.{◌≡◌};
 
+use std::io::ErrorKind;
 use vault_batch::fault::BatchFault;
 use vault_http::fault::{ServeFault, refusal_of};
 use vault_listen::fault::ListenFault;
 use vault_refusal::refusal::Refusal;
 use vault_store::vault::Fault;
-
-/// Why a rights file isn't read.
-#[derive(Clone, Copy, Debug, PartialEq, Eq, Drop)]
-pub enum Unread {
-    /// 74: memory was refused.
-    Memory,
-    /// 80: the host refuses the file.
-    File,
-}
 
 /// Why a job stopped.
 #[derive(Clone, Copy, Debug, PartialEq, Eq, Drop)]
@@ -26,8 +18,8 @@ pub enum Stop {
     Service(ServeFault),
     /// 60, 63, 64 or 80: connections weren't all served.
     Listener(ListenFault),
-    /// 74 or 80: the rights file wasn't read.
-    Rights(Unread),
+    /// The rights file wasn't read: 74 where memory was refused, 80 where the host refuses the file.
+    Rights(ErrorKind),
     /// 40 to 46: rows weren't all answered.
     Batch(BatchFault),
 }
@@ -44,8 +36,8 @@ impl Stop {
             Stop::Service(fault) => refusal_of(fault),
             Stop::Listener(fault) => fault.refusal(),
             Stop::Batch(fault) => fault.refusal(),
-            Stop::Rights(Unread::Memory) => Refusal::RightsMemory,
-            Stop::Rights(Unread::File) => Refusal::Accept,
+            Stop::Rights(ErrorKind::OutOfMemory) => Refusal::RightsMemory,
+            Stop::Rights(_) => Refusal::Accept,
         }
     }
 }

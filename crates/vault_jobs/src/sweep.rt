@@ -1,7 +1,7 @@
 //! The numbers of a merchant's dead tokens, purged one after the other.
 ghost use Rattle.std.specs.Prelude.{◌≡◌, Err, false, true};
 ghost use Rattle.vault_store.specs.Applied.{is_broken, tables_of};
-ghost use Rattle.vault_http.specs.Passing.{Passage};
+ghost use Rattle.vault_engine.specs.Passing.{Passage};
 ghost use Rattle.vault_listen.specs.Peers.{vault_passing};
 ghost use Rattle.vault_jobs.specs.Grants.{CarriesAll};
 ghost use Rattle.vault_jobs.specs.Sweeps.{Sweeps, purges_at};
@@ -39,11 +39,16 @@ fn purge_all<T: Tables>(
     now: Moment,
     tokens: &[Token],
 ) -> Result<Verdict, Fault>
+    // the vault isn't broken
     requires { is_broken vault.old ≡ false }
+    // on an honest disk, all purges before the first that isn't done are kept; with Store a crash leaves that
+    // one done or not
     ensures carried { let w : Passage = vault_passing T.is_honest T.holds T.leaves vault.old vault.new in
         CarriesAll (purges_at asker.now now tokens.now) w (is_broken vault.new) result }
+    // the vault is broken after Store only
     ensures broken { is_broken vault.new ≡ true → result ≡ Err Fault.Store }
-    ensures honest { T.is_honest (tables_of vault.new) → T.is_honest (tables_of vault.old) }
+    // a disk that is honest after the call was so before it
+    ensures disk_honest { T.is_honest (tables_of vault.new) → T.is_honest (tables_of vault.old) }
 {
     for token in tokens {
         let purge = Command::Purge {
@@ -66,11 +71,16 @@ fn purge_all<T: Tables>(
 ///
 /// 20 Memory: memory was refused. 21 Store: the store failed.
 pub fn sweep<T: Tables>(vault: &mut Vault<T>, asker: &Asker, now: Moment) -> Result<Swept, Fault>
+    // the vault isn't broken
     requires { is_broken vault.old ≡ false }
+    // on an honest disk, the numbers of all dead tokens are purged and counted, or those before a purge that
+    // was refused or failed
     ensures swept { let w : Passage = vault_passing T.is_honest T.holds T.leaves vault.old vault.new in
         Sweeps asker.now now w (is_broken vault.new) result }
+    // the vault is broken after Store only
     ensures broken { is_broken vault.new ≡ true → result ≡ Err Fault.Store }
-    ensures honest { T.is_honest (tables_of vault.new) → T.is_honest (tables_of vault.old) }
+    // a disk that is honest after the call was so before it
+    ensures disk_honest { T.is_honest (tables_of vault.new) → T.is_honest (tables_of vault.old) }
 {
     let mut count: u64 = 0;
     for _ in 0..MOST_PAGES {

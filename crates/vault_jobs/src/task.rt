@@ -2,7 +2,7 @@
 ghost use Rattle.std.specs.Prelude.{◌≡◌, ◌++◌, IfErr, List, Option, codes, false, length, true};
 ghost use Rattle.vault_core.specs.Proper.{HasLivesInRange};
 ghost use Rattle.vault_store.specs.Applied.{is_broken, tables_of};
-ghost use Rattle.vault_http.specs.Passing.{Passage};
+ghost use Rattle.vault_engine.specs.Passing.{Passage};
 ghost use Rattle.vault_listen.specs.Peers.{Event, Link, events_of, vault_passing};
 ghost use Rattle.vault_jobs.specs.Carried.{Carries};
 ghost use Rattle.vault_wire.specs.Watching.{inner_of, is_stopped};
@@ -91,14 +91,19 @@ fn do_change<W: Write, T: Tables>(
     command: &Command,
     output: &mut Watched<W>,
 ) -> Result<Outcome, Stop>
+    // the lives that the command sets, if any, are in range
     requires lives { HasLivesInRange command.now }
     requires unbroken { is_broken vault.old ≡ false }
+    // with Done the line `done` went out; with Done or Write, on an honest disk, the command is done; else
+    // nothing went out
     ensures does { let w : Passage = vault_passing T.is_honest T.holds T.leaves vault.old vault.new in
         CommandsEnd (Carries command.now w (is_broken vault.new)) (codes "done\n") result
         (output.new ≡ output.old) (W.contents (inner_of output.old)) (W.contents (inner_of output.new))
         (is_stopped output.new) }
+    // the vault is broken only where the store failed
     ensures breaks { is_broken vault.new ≡ true → FailsStore result }
-    ensures honest { T.is_honest (tables_of vault.new) → T.is_honest (tables_of vault.old) }
+    // a disk that is honest after the call was so before it
+    ensures disk_honest { T.is_honest (tables_of vault.new) → T.is_honest (tables_of vault.old) }
 {
     match change(vault, command) {
         Ok(Verdict::Done) => match answer(output, &["done\n"]) {
@@ -117,13 +122,18 @@ fn do_give<W: Write, T: Tables>(
     now: Moment,
     output: &mut Watched<W>,
 ) -> Result<Outcome, Stop>
+    // the vault isn't broken
     requires { is_broken vault.old ≡ false }
+    // with Done the line went out; with Done or Write, on an honest disk, all rights are given; else nothing
+    // went out
     ensures does { let w : Passage = vault_passing T.is_honest T.holds T.leaves vault.old vault.new in
         CommandsEnd (CarriesAll (grants_at now rights.now) w (is_broken vault.new))
         (granted_line (length rights.now)) result (output.new ≡ output.old)
         (W.contents (inner_of output.old)) (W.contents (inner_of output.new)) (is_stopped output.new) }
+    // the vault is broken only where the store failed
     ensures breaks { is_broken vault.new ≡ true → FailsStore result }
-    ensures honest { T.is_honest (tables_of vault.new) → T.is_honest (tables_of vault.old) }
+    // a disk that is honest after the call was so before it
+    ensures disk_honest { T.is_honest (tables_of vault.new) → T.is_honest (tables_of vault.old) }
 {
     match give_all(vault, rights, now) {
         Ok(Verdict::Done) => {
@@ -146,12 +156,17 @@ fn do_settle<W: Write, T: Tables>(
     now: Moment,
     output: &mut Watched<W>,
 ) -> Result<Outcome, Stop>
+    // the vault isn't broken
     requires { is_broken vault.old ≡ false }
+    // with Done the line went out; with Done or Write, on an honest disk, all changes are done; else nothing
+    // went out
     ensures does { let w : Passage = vault_passing T.is_honest T.holds T.leaves vault.old vault.new in
         SettleEnds now rows.now w (is_broken vault.new) result (output.new ≡ output.old)
         (W.contents (inner_of output.old)) (W.contents (inner_of output.new)) (is_stopped output.new) }
+    // the vault is broken only where the store failed
     ensures breaks { is_broken vault.new ≡ true → FailsStore result }
-    ensures honest { T.is_honest (tables_of vault.new) → T.is_honest (tables_of vault.old) }
+    // a disk that is honest after the call was so before it
+    ensures disk_honest { T.is_honest (tables_of vault.new) → T.is_honest (tables_of vault.old) }
 {
     match settle(alloc, vault, rows, now) {
         Ok((Verdict::Done, changes)) => {
@@ -180,12 +195,17 @@ fn do_show<W: Write, T: Tables>(
     shown: &Shown,
     output: &mut Watched<W>,
 ) -> Result<Outcome, Stop>
+    // the vault isn't broken
     requires { is_broken vault.old ≡ false }
+    // on an honest disk, the vault's text went out with Done, a beginning with Write, else nothing; a crash
+    // leaves the vault as before
     ensures does { let w : Passage = vault_passing T.is_honest T.holds T.leaves vault.old vault.new in
         ShowEnds (shown_text shown.now) w (is_broken vault.new) result (output.new ≡ output.old)
         (W.contents (inner_of output.old)) (W.contents (inner_of output.new)) (is_stopped output.new) }
+    // the vault is broken only where the store failed
     ensures breaks { is_broken vault.new ≡ true → FailsStore result }
-    ensures honest { T.is_honest (tables_of vault.new) → T.is_honest (tables_of vault.old) }
+    // a disk that is honest after the call was so before it
+    ensures disk_honest { T.is_honest (tables_of vault.new) → T.is_honest (tables_of vault.old) }
 {
     match text_of(alloc, vault, shown) {
         Ok(text) => match answer_text(output, text.as_slice()) {
@@ -207,15 +227,20 @@ fn do_serve<K: Timekeeper, N: Network, W: Write, T: Tables>(
     vault: &mut Vault<T>,
     output: &mut Watched<W>,
 ) -> Result<Outcome, Stop>
+    // the vault isn't broken
     requires { is_broken vault.old ≡ false }
+    // rights that are listed are settled before it listens, or no connection came; from the vault that they
+    // leave it ends as a service
     ensures does { let w : Passage = vault_passing T.is_honest T.holds T.leaves vault.old vault.new in
         (links : List (Option Link))
         × ((log : List Event) → N.tells network.old log → N.tells network.new (log ++ events_of links))
         × ListedServeEnds (K.tells time.now) port connections listed.now w (is_broken vault.new) result
         (output.new ≡ output.old) (W.contents (inner_of output.old)) (W.contents (inner_of output.new))
         (is_stopped output.new) links }
+    // the vault is broken only where the store failed, and there always, unless rights are listed
     ensures breaks { BreaksBy (Task.Serve port connections listed.now) result (is_broken vault.new) }
-    ensures honest { T.is_honest (tables_of vault.new) → T.is_honest (tables_of vault.old) }
+    // a disk that is honest after the call was so before it
+    ensures disk_honest { T.is_honest (tables_of vault.new) → T.is_honest (tables_of vault.old) }
 {
     let Some(listed) = listed else {
         return serve_at(rt, time, network, port, connections, vault, output);
@@ -234,12 +259,17 @@ fn do_purges<W: Write, T: Tables>(
     now: Moment,
     output: &mut Watched<W>,
 ) -> Result<Outcome, Stop>
+    // the vault isn't broken
     requires { is_broken vault.old ≡ false }
+    // with Done the line went out; with Done or Write, on an honest disk, all dead tokens' numbers are
+    // purged; else nothing went out
     ensures swept { let w : Passage = vault_passing T.is_honest T.holds T.leaves vault.old vault.new in
         SweepEnds asker now w (is_broken vault.new) result (output.new ≡ output.old)
         (W.contents (inner_of output.old)) (W.contents (inner_of output.new)) (is_stopped output.new) }
+    // the vault is broken only where the store failed
     ensures breaks { is_broken vault.new ≡ true → FailsStore result }
-    ensures honest { T.is_honest (tables_of vault.new) → T.is_honest (tables_of vault.old) }
+    // a disk that is honest after the call was so before it
+    ensures disk_honest { T.is_honest (tables_of vault.new) → T.is_honest (tables_of vault.old) }
 {
     match sweep(vault, &asker, now) {
         Ok(Swept::Purged(count)) => {
@@ -262,12 +292,17 @@ fn do_sweep<W: Write, T: Tables>(
     giver: Giver,
     output: &mut Watched<W>,
 ) -> Result<Outcome, Stop>
+    // the vault isn't broken
     requires { is_broken vault.old ≡ false }
+    // at the words' moment it sweeps; at the clock's, on an honest disk, only where the merchant's isn't far
+    // ahead
     ensures swept { let w : Passage = vault_passing T.is_honest T.holds T.leaves vault.old vault.new in
         TimedSweepEnds giver asker now w (is_broken vault.new) result (output.new ≡ output.old)
         (W.contents (inner_of output.old)) (W.contents (inner_of output.new)) (is_stopped output.new) }
+    // the vault is broken only where the store failed
     ensures breaks { is_broken vault.new ≡ true → FailsStore result }
-    ensures honest { T.is_honest (tables_of vault.new) → T.is_honest (tables_of vault.old) }
+    // a disk that is honest after the call was so before it
+    ensures disk_honest { T.is_honest (tables_of vault.new) → T.is_honest (tables_of vault.old) }
 {
     match giver {
         Giver::Words => do_purges(vault, asker, now, output),
@@ -290,16 +325,23 @@ fn do_batch<K: Timekeeper, R: Read, W: Write, T: Tables>(
     input: &mut Watched<R>,
     output: &mut Watched<W>,
 ) -> Result<Outcome, Stop>
+    // the vault isn't broken
     requires { is_broken vault.old ≡ false }
+    // the rows up to its end or stop are answered, each with the moment and digits that are fixed, else told
+    // and drawn
     ensures does { let w : Passage = vault_passing T.is_honest T.holds T.leaves vault.old vault.new in
         let s : Streams = streams R.remaining input.old input.new W.contents output.old output.new in
         BatchEnds (K.tells time.now) asker moment digits w result (input.new ≡ input.old)
         (output.new ≡ output.old) s }
+    // the reader or the writer stops it only where that failed, and the bytes of a batch only where they are
+    // none
     ensures caused { let s : Streams =
         streams R.remaining input.old input.new W.contents output.old output.new in
         IfErr result (λ stop. IsCauseOf stop s) }
+    // the vault is broken exactly where the store failed
     ensures breaks { BreaksBy (Task.Batch asker moment digits) result (is_broken vault.new) }
-    ensures honest { T.is_honest (tables_of vault.new) → T.is_honest (tables_of vault.old) }
+    // a disk that is honest after the call was so before it
+    ensures disk_honest { T.is_honest (tables_of vault.new) → T.is_honest (tables_of vault.old) }
 {
     let mut pairs = match row_source(rt, time, moment, digits) {
         Ok(pairs) => pairs,
@@ -322,16 +364,23 @@ fn do_pipe<K: Timekeeper, R: Read, W: Write, T: Tables>(
     input: &mut Watched<R>,
     output: &mut Watched<W>,
 ) -> Result<Outcome, Stop>
+    // the vault isn't broken
     requires { is_broken vault.old ≡ false }
+    // the messages up to its end or stop are answered, each with the moment and digits that are fixed, else
+    // told and drawn
     ensures does { let w : Passage = vault_passing T.is_honest T.holds T.leaves vault.old vault.new in
         let s : Streams = streams R.remaining input.old input.new W.contents output.old output.new in
         PipeEnds (K.tells time.now) moment digits w result (input.new ≡ input.old)
         (output.new ≡ output.old) s }
+    // the reader or the writer stops it only where that failed, and the bytes of a batch only where they are
+    // none
     ensures caused { let s : Streams =
         streams R.remaining input.old input.new W.contents output.old output.new in
         IfErr result (λ stop. IsCauseOf stop s) }
+    // the vault is broken exactly where the store failed
     ensures breaks { BreaksBy (Task.Pipe moment digits) result (is_broken vault.new) }
-    ensures honest { T.is_honest (tables_of vault.new) → T.is_honest (tables_of vault.old) }
+    // a disk that is honest after the call was so before it
+    ensures disk_honest { T.is_honest (tables_of vault.new) → T.is_honest (tables_of vault.old) }
 {
     let mut pairs = match source(rt, time, moment, digits) {
         Ok(pairs) => pairs,
@@ -353,15 +402,19 @@ pub fn do_task<K: Timekeeper, N: Network, R: Read, W: Write, T: Tables>(
     input: &mut Watched<R>,
     output: &mut Watched<W>,
 ) -> Result<Outcome, Stop>
+    // the lives that the command of a `Change` sets, if any, are in range
     requires proper { IsProper task.now }
     requires unbroken { is_broken vault.old ≡ false }
+    // by how it ends: what it did to the vault, what it read and sent, and which connections the network
+    // tells of
     ensures does { let w : Passage = vault_passing T.is_honest T.holds T.leaves vault.old vault.new in
         let s : Streams = streams R.remaining input.old input.new W.contents output.old output.new in
         (links : List (Option Link))
         × ((log : List Event) → N.tells network.old log → N.tells network.new (log ++ events_of links))
         × Does (K.tells time.now) task.now w (is_broken vault.new) result (input.new ≡ input.old)
         (output.new ≡ output.old) (with_links s links) }
-    ensures honest { T.is_honest (tables_of vault.new) → T.is_honest (tables_of vault.old) }
+    // a disk that is honest after the call was so before it
+    ensures disk_honest { T.is_honest (tables_of vault.new) → T.is_honest (tables_of vault.old) }
 {
     match *task {
         Task::Change(ref command) => do_change(vault, command, output),

@@ -10,6 +10,7 @@ use vault_wire::watched::Watched;
 
 /// Writes a line, part by part. A failure of the writer isn't told.
 pub fn tell<W: Write>(writer: &mut Watched<W>, parts: &[&str])
+    // the line went out; or a beginning of it and not all, and the writer has failed
     ensures { Tells (W.contents (inner_of writer.old)) (W.contents (inner_of writer.new))
         (is_stopped writer.new) (flat_map (λ part. part.now) parts.now) }
 {

@@ -44,8 +44,10 @@ pub struct Trial {
 /// Changes the vault by a command.
 #[tactic(auto, unfolding(crate::specs::Trial::left_by))]
 fn change(vault: &mut Vault<MemTables>, command: &Command) -> Result<(), AllocError>
+    // the lives that the command sets, if any, are in range
     requires lives { HasLivesInRange command.now }
     requires unbroken { is_broken vault.old ≡ false }
+    // with Ok, a vault that was held is held as the command leaves it
     ensures changed { OnOk result ((V : Content) → Contains IsHeld vault.old V
         → Contains IsHeld vault.new (left_by V command.now)) }
     ensures unbroken { is_broken vault.new ≡ false }
@@ -61,7 +63,9 @@ fn change(vault: &mut Vault<MemTables>, command: &Command) -> Result<(), AllocEr
 /// The vault of a trial: its merchant is set, with masks of six digits at the left, and its caller gets all
 /// rights for good.
 pub fn trial_vault(alloc: Global, trial: &Trial) -> Result<Vault<MemTables>, AllocError>
+    // the life of single-use tokens is in range
     requires { IsLife trial.now.life }
+    // with Ok, it holds the trial's vault
     ensures holds { IfOk result (λ vault. Contains IsHeld vault
         (trial_vault_lem trial.now.caller trial.now.merchant trial.now.life trial.now.made)) }
     ensures unbroken { IfOk result (λ vault. is_broken vault ≡ false) }
@@ -80,7 +84,9 @@ pub fn trial_vault(alloc: Global, trial: &Trial) -> Result<Vault<MemTables>, All
 
 /// Gives the caller of the trial a right at its merchant, for good.
 fn give(vault: &mut Vault<MemTables>, trial: &Trial, right: Right) -> Result<(), AllocError>
+    // the vault isn't broken
     requires { is_broken vault.old ≡ false }
+    // with Ok, a vault that was held is held as the grant leaves it
     ensures given { OnOk result ((V : Content) → Contains IsHeld vault.old V
         → Contains IsHeld vault.new
         (left_by V (Command.Grant trial.now.caller trial.now.merchant right None trial.now.made))) }
@@ -110,20 +116,28 @@ pub fn serve_trial<H: AllocGlobal + RandomSource, K: Timekeeper, R: Read, W: Wri
     input: &mut Watched<R>,
     output: &mut Watched<W>,
 ) -> Result<(), ServeFault>
+    // the life of single-use tokens is in range
     requires { IsLife trial.now.life }
+    // with Ok, the messages read up to the first that closes are answered by the trial's vault, and then a
+    // fault
     ensures served { OnOk result (IsTrial (K.tells time.now)
         (R.remaining (inner_of input.old)) (R.remaining (inner_of input.new))
         (W.contents (inner_of output.old)) (W.contents (inner_of output.new))
         (trial_vault_lem trial.now.caller trial.now.merchant trial.now.life trial.now.made)
         trial.now.moment trial.now.digits) }
-    ensures handed_on { OnOk result (is_stopped output.new ≡ false) }
+    // with Ok, the writer hasn't failed
+    ensures writer_ok { OnOk result (is_stopped output.new ≡ false) }
+    // with Err, what was read begins with messages, and a beginning of the texts that answer some of them
+    // went out
     ensures cut { OnErr result (IsCut (K.tells time.now)
         (R.remaining (inner_of input.old)) (R.remaining (inner_of input.new))
         (W.contents (inner_of output.old)) (W.contents (inner_of output.new))
         (trial_vault_lem trial.now.caller trial.now.merchant trial.now.life trial.now.made)
         trial.now.moment trial.now.digits) }
+    // Read comes only where the reader failed, and Write only where the writer did
     ensures stopped { IfErr result (λ e. IsCause e (is_stopped input.new) (is_stopped output.new)) }
-    ensures sturdy { ¬ (result ≡ Err ServeFault.Store) }
+    // it is never stopped by Store
+    ensures infallible { ¬ (result ≡ Err ServeFault.Store) }
 {
     let alloc = rt.alloc();
     let mut vault = trial_vault(alloc, trial)?;

@@ -5,10 +5,11 @@ use Rattle.std.specs.Prelude.{MatchResult, None, Option, Result, Ok, Err}
 use Rattle.vault_core.specs.Vault.{Vault as Content}
 use Rattle.vault_wire.specs.Parts.{Parts}
 use Rattle.vault_wire.specs.declared.fault.WireFault.{WireFault}
-use Rattle.vault_http.specs.Exchanges.{fault_text, last_text, shown, text_at, texts, up_to_close}
-use Rattle.vault_http.specs.Exchanges.{vault_after}
-use Rattle.vault_http.specs.Passing.{AllAnswered, IsBefore, Keeps, Passage, Sends, Stops, StopsAfter}
-use Rattle.vault_http.specs.Passing.{StopsAtSource, StopsAtWrite, StopsBefore}
+use Rattle.vault_engine.specs.Answered.{Answered, AnsweredBefore, CutAt, SilentAt, UndecidedAt}
+use Rattle.vault_engine.specs.Asking.{Asked, text_at, texts, vault_after}
+use Rattle.vault_engine.specs.Passing.{IsBefore, Keeps, Passage, Sends}
+use Rattle.vault_engine.specs.Within.{FirstOf, StopsWithin}
+use Rattle.vault_http.specs.Exchanges.{answer_for, fault_text, last_text, message_kind, shown, up_to_close}
 use Rattle.vault_http.specs.Served.{IsServed, IsStopped, StopsAmong, StopsAtFault}
 use Rattle.vault_engine.specs.declared.stop.Stop.{Stop as ServeFault}
 use Rattle.vault_engine.specs.declared.stop.Stop.TheVariants as fault
@@ -33,94 +34,88 @@ module _ (w : Passage) (V : Content) (b : IsBefore w V) where
   abbrev pub Settles : (Passage → Type 0) → Type 0
   Settles P = (M : Content) × Keeps w M × P (from w V M M)
 
-  all_answered : (ps : List Parts) → AllAnswered w ps → Settles (λ p. AllAnswered p ps)
-  all_answered ps q = let M = vault_after V q.exchanges in (
+  all_done : (xs : List (Asked Parts)) → Answered message_kind [] w xs
+      → Settles (λ p. Answered message_kind [] p xs)
+  all_done xs q = let M = vault_after V xs in (
     M,
     (q.answered V b).1,
     record {
-      pairs = q.pairs;
-      exchanges = q.exchanges;
       taken = q.taken;
       asked = q.asked;
-      whole = q.whole;
-      answered = at w V M M (λ A. Sends w (texts A q.exchanges) × Keeps (from w V M M)
-          (vault_after A q.exchanges)) ((q.answered V b).0, (refl, (refl, refl)));
-    },
-  )
-
-  at_source : (ps : List Parts) → StopsAtSource w ps → Settles (λ p. StopsAtSource p ps)
-  at_source ps q = let M = vault_after V q.exchanges in (
-    M,
-    (q.answered V b).1,
-    record {
-      pairs = q.pairs;
-      exchanges = q.exchanges;
-      taken = q.taken;
-      asked = q.asked;
-      more = q.more;
-      answered = at w V M M (λ A. Sends w (texts A q.exchanges) × Keeps (from w V M M)
-          (vault_after A q.exchanges)) ((q.answered V b).0, (refl, (refl, refl)));
-    },
-  )
-
-  at_write : (ps : List Parts) → StopsAtWrite w ps → Settles (λ p. StopsAtWrite p ps)
-  at_write ps q = let M = vault_after V (q.exchanges ++ q.cut ∷ []) in (
-    M,
-    (q.answered V b).2,
-    record {
-      pairs = q.pairs;
-      exchanges = q.exchanges;
-      cut = q.cut;
-      sent = q.sent;
-      taken = q.taken;
-      asked = q.asked;
-      answered = at w V M M (λ A. (q.sent < length (text_at (vault_after A q.exchanges) q.cut))
-          × Sends w (texts A q.exchanges ++ take q.sent (text_at (vault_after A q.exchanges) q.cut))
-          × Keeps (from w V M M) (vault_after A (q.exchanges ++ q.cut ∷ [])))
-          ((q.answered V b).0, (q.answered V b).1, (refl, (refl, refl)));
-    },
-  )
-
-  before_one : (ps : List Parts) → StopsBefore w ps → Settles (λ p. StopsBefore p ps)
-  before_one ps q = let M = vault_after V q.exchanges in (
-    M,
-    (q.answered V b).1,
-    record {
-      pairs = q.pairs;
-      unused = q.unused;
-      exchanges = q.exchanges;
-      one = q.one;
-      taken = q.taken;
-      asked = q.asked;
-      answered = at w V M M (λ A. Sends w (texts A q.exchanges) × Keeps (from w V M M)
-          (vault_after A q.exchanges)) ((q.answered V b).0, (refl, (refl, refl)));
-    },
-  )
-
-  after_one : (ps : List Parts) → StopsAfter w ps → Settles (λ p. StopsAfter p ps)
-  after_one ps q = let M = vault_after V (q.exchanges ++ q.silent ∷ []) in (
-    M,
-    (q.answered V b).1,
-    record {
-      pairs = q.pairs;
-      exchanges = q.exchanges;
-      silent = q.silent;
-      taken = q.taken;
-      asked = q.asked;
-      answered = at w V M M (λ A. Sends w (texts A q.exchanges)
-          × Keeps (from w V M M) (vault_after A (q.exchanges ++ q.silent ∷ [])))
+      answered = at w V M M (λ A. Sends w (texts answer_for A xs) × Keeps (from w V M M) (vault_after A xs))
           ((q.answered V b).0, (refl, (refl, refl)));
     },
   )
 
+  before_one : (xs : List (Asked Parts)) → AnsweredBefore message_kind [] w xs
+      → Settles (λ p. AnsweredBefore message_kind [] p xs)
+  before_one xs q = let M = vault_after V xs in (
+    M,
+    (q.answered V b).1,
+    record {
+      unused = q.unused;
+      one = q.one;
+      taken = q.taken;
+      asked = q.asked;
+      answered = at w V M M (λ A. Sends w (texts answer_for A xs) × Keeps (from w V M M) (vault_after A xs))
+          ((q.answered V b).0, (refl, (refl, refl)));
+    },
+  )
+
+  cut_one : (x : Asked Parts) (xs : List (Asked Parts)) → CutAt message_kind [] w xs x
+      → Settles (λ p. CutAt message_kind [] p xs x)
+  cut_one x xs q = let M = vault_after V (xs ++ x ∷ []) in (
+    M,
+    (q.answered V b).2,
+    record {
+      sent = q.sent;
+      taken = q.taken;
+      asked = q.asked;
+      answered = at w V M M (λ A. (q.sent < length (text_at answer_for (vault_after A xs) x))
+          × Sends w (texts answer_for A xs ++ take q.sent (text_at answer_for (vault_after A xs) x))
+          × Keeps (from w V M M) (vault_after A (xs ++ x ∷ [])))
+          ((q.answered V b).0, (q.answered V b).1, (refl, (refl, refl)));
+    },
+  )
+
+  silent_one : (x : Asked Parts) (xs : List (Asked Parts)) → SilentAt message_kind [] w xs x
+      → Settles (λ p. SilentAt message_kind [] p xs x)
+  silent_one x xs q = let M = vault_after V (xs ++ x ∷ []) in (
+    M,
+    (q.answered V b).1,
+    record {
+      taken = q.taken;
+      asked = q.asked;
+      answered = at w V M M (λ A. Sends w (texts answer_for A xs)
+          × Keeps (from w V M M) (vault_after A (xs ++ x ∷ []))) ((q.answered V b).0, (refl, (refl, refl)));
+    },
+  )
+
+  -- what is true of the first messages
+  of_first : (us rest : List Parts) (Known : Passage → List (Asked Parts) → Type 0)
+      → ((xs : List (Asked Parts)) → Known w xs → Settles (λ p. Known p xs)) → FirstOf us rest (Known w)
+      → Settles (λ p. FirstOf us rest (Known p))
+  of_first us rest Known settles q = let it = settles q.exchanges q.known in
+      (it.0, it.1, record { exchanges = q.exchanges; whole = q.whole; known = it.2 })
+
   -- but where the store fails
-  stops : (e : ServeFault) (ps : List Parts) → e ≢ fault.Store → Stops e w ps → Settles (λ p. Stops e p ps)
-  stops fault.Source ps n q = at_source ps q
-  stops fault.Read ps n q = all_answered ps q
-  stops fault.Write ps n q = at_write ps q
+  stops : (e : ServeFault) (ps : List Parts) → e ≢ fault.Store → StopsWithin message_kind [] w ps e
+      → Settles (λ p. StopsWithin message_kind [] p ps e)
+  stops fault.Source ps n (next, rest, q) =
+      let it = of_first ps (next ∷ rest) (λ p. Answered message_kind [] p) all_done q in
+      (it.0, it.1, (next, rest, it.2))
+  stops fault.Read ps n q = let it = all_done q.exchanges q.done in
+      (it.0, it.1, record { exchanges = q.exchanges; whole = q.whole; done = it.2 })
+  stops fault.Write ps n (x, rest, q) =
+      let it = of_first ps (x.unit ∷ rest) (λ p xs. CutAt message_kind [] p xs x) (cut_one x) q in
+      (it.0, it.1, (x, rest, it.2))
   stops fault.Store ps n q = absurd (n refl)
-  stops fault.Memory ps n (inl q) = let it = before_one ps q in (it.0, it.1, inl it.2)
-  stops fault.Memory ps n (inr q) = let it = after_one ps q in (it.0, it.1, inr it.2)
+  stops fault.Memory ps n (inl (rest, q)) =
+      let it = of_first ps rest (λ p. AnsweredBefore message_kind [] p) before_one q in
+      (it.0, it.1, inl (rest, it.2))
+  stops fault.Memory ps n (inr (x, rest, q)) =
+      let it = of_first ps (x.unit ∷ rest) (λ p xs. SilentAt message_kind [] p xs x) (silent_one x) q in
+      (it.0, it.1, inr (x, rest, it.2))
 
   among : (e : ServeFault) (old new : Option (List ℕ)) (f : Option WireFault) → e ≢ fault.Store
       → StopsAmong e old new w f → Settles (λ p. StopsAmong e old new p f)
@@ -144,7 +139,6 @@ module _ (w : Passage) (V : Content) (b : IsBefore w V) where
       bytes = q.bytes;
       messages = q.messages;
       fault = q.fault;
-      pairs = q.pairs;
       exchanges = q.exchanges;
       sent = q.sent;
       read = q.read;
@@ -154,7 +148,7 @@ module _ (w : Passage) (V : Content) (b : IsBefore w V) where
       asked = q.asked;
       whole = q.whole;
       part = q.part;
-      answered = at w V M M (λ A. Sends w (texts A q.exchanges ++ take q.sent (fault_text q.fault))
+      answered = at w V M M (λ A. Sends w (texts answer_for A q.exchanges ++ take q.sent (fault_text q.fault))
           × Keeps (from w V M M) (vault_after A q.exchanges)) ((q.answered V b).0, (refl, (refl, refl)));
     },
   )
@@ -190,7 +184,6 @@ module _ (w : Passage) (V : Content) (b : IsBefore w V) where
       bytes = q.bytes;
       messages = q.messages;
       fault = q.fault;
-      pairs = q.pairs;
       exchanges = q.exchanges;
       read = q.read;
       reads = q.reads;
@@ -200,7 +193,7 @@ module _ (w : Passage) (V : Content) (b : IsBefore w V) where
       counted = q.counted;
       told = q.told;
       ended = q.ended;
-      answered = at w V M M (λ A. Sends w (texts A q.exchanges ++ last_text s.fault)
+      answered = at w V M M (λ A. Sends w (texts answer_for A q.exchanges ++ last_text s.fault)
           × Keeps (from w V M M) (vault_after A q.exchanges)) ((q.answered V b).0, (refl, (refl, refl)));
     },
   )
@@ -215,12 +208,21 @@ module _ (w : Passage) (V : Content) (b : IsBefore w V) where
   undecided : (old new : Option (List ℕ)) → IsStopped old new w fault.Store
       → (M U : Content) × w.left_new M U × IsStopped old new (from w V M U) fault.Store
   undecided old new (f, q) =
-      let s = q.stops in
-      let M = vault_after V s.exchanges in
-      let U = vault_after V (s.exchanges ++ s.undecided ∷ []) in (
+      let x : Asked Parts = q.stops.0 in
+      let s = q.stops.2 in
+      let xs = s.exchanges in
+      let M = vault_after V xs in
+      let U = vault_after V (xs ++ x ∷ []) in
+      let known : UndecidedAt message_kind [] (from w V M U) xs x = record {
+        taken = s.known.taken;
+        asked = s.known.asked;
+        answered = at w V M U (λ A. Sends w (texts answer_for A xs)
+            × (from w V M U).left_new (vault_after A xs) (vault_after A (xs ++ x ∷ [])))
+            ((s.known.answered V b).0, (refl, refl));
+      } in (
         M,
         U,
-        (s.answered V b).1,
+        (s.known.answered V b).1,
         (
           f,
           record {
@@ -228,16 +230,7 @@ module _ (w : Passage) (V : Content) (b : IsBefore w V) where
             messages = q.messages;
             read = q.read;
             reads = q.reads;
-            stops = record {
-              pairs = s.pairs;
-              exchanges = s.exchanges;
-              undecided = s.undecided;
-              taken = s.taken;
-              asked = s.asked;
-              answered = at w V M U (λ A. Sends w (texts A s.exchanges) × (from w V M U).left_new
-                  (vault_after A s.exchanges) (vault_after A (s.exchanges ++ s.undecided ∷ [])))
-                  ((s.answered V b).0, (refl, refl));
-            };
+            stops = (x, q.stops.1, record { exchanges = xs; whole = s.whole; known = known });
           },
         ),
       )

@@ -5,7 +5,7 @@ use Rattle.std.specs.Prelude.{Bool, false, MatchResult}
 use Rattle.vault_core.specs.Vault.{Vault as Content}
 use Rattle.vault_store.specs.Applied.{is_broken, tables_of}
 use Rattle.vault_store.specs.declared.vault.Vault.{Vault}
-use Rattle.vault_http.specs.Exchanges.{Pair}
+use Rattle.vault_engine.specs.Asking.{Pair}
 use Rattle.vault_http.specs.Faults.{Tells, failures}
 use Rattle.vault_http.specs.Served.{IsServed, IsStopped}
 use Rattle.vault_engine.specs.declared.stop.Stop.{Stop as ServeFault}

@@ -4,9 +4,9 @@ use Rattle.std.specs.Prelude.{Some, None, Result, length, MatchResult}
 use Rattle.vault_core.specs.Vault.{Vault as Content}
 use Rattle.vault_store.specs.Applied.{Contains, is_broken, tables_of}
 use Rattle.vault_store.specs.declared.vault.Vault.{Vault}
-use Rattle.vault_http.specs.Exchanges.{Pair}
+use Rattle.vault_engine.specs.Asking.{Pair}
 use Rattle.vault_http.specs.Faults.{Tells, failures}
-use Rattle.vault_http.specs.Passing.{Passage}
+use Rattle.vault_engine.specs.Passing.{Passage}
 use Rattle.vault_http.specs.Served.{IsServed, IsStopped}
 use Rattle.vault_engine.specs.declared.stop.Stop.{Stop as ServeFault}
 use Rattle.vault_http.specs.declared.served.Served.{Served}

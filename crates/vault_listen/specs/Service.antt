@@ -2,8 +2,8 @@
 use Rattle.std.specs.Prelude.{◌≡◌, ◌≢◌, ℕ, ◌<◌, ◌≤◌, List, [], ◌∷◌, ◌++◌, length, All, Option, Some, None}
 use Rattle.std.specs.Prelude.{MatchResult, Result, Ok, Err}
 use Rattle.vault_core.specs.Vault.{Vault as Content}
-use Rattle.vault_http.specs.Exchanges.{Pair}
-use Rattle.vault_http.specs.Passing.{Passage, IsBefore, Keeps}
+use Rattle.vault_engine.specs.Asking.{Pair}
+use Rattle.vault_engine.specs.Passing.{Passage, IsBefore, Keeps}
 use Rattle.vault_http.specs.Served.{IsServed, IsStopped}
 use Rattle.vault_engine.specs.declared.stop.Stop.TheVariants as fault
 use Rattle.vault_listen.specs.Live.{AreGiven, Turns}

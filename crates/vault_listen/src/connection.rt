@@ -2,9 +2,9 @@
 ghost use Rattle.std.specs.Prelude.{◌≡◌, ◌≤◌, Bool, false, Err, List, [], MatchResult, None, length};
 ghost use Rattle.vault_store.specs.Applied.{is_broken, tables_of};
 ghost use Rattle.vault_wire.specs.Watching.{inner_of, is_stopped};
-ghost use Rattle.vault_http.specs.Exchanges.{Pair};
+ghost use Rattle.vault_engine.specs.Asking.{Pair};
 ghost use Rattle.vault_http.specs.Faults.{Tells, failures};
-ghost use Rattle.vault_http.specs.Passing.{Passage, passing};
+ghost use Rattle.vault_engine.specs.Passing.{Passage, passing};
 ghost use Rattle.vault_http.specs.Served.{IsServed, IsStopped};
 ghost use Rattle.vault_listen.specs.Live.{AreGiven};
 ghost use Rattle.vault_engine.specs.Stops.{Trusts};
@@ -42,6 +42,8 @@ pub fn serve_connection<K: Timekeeper, G: Rng, R: Read, W: Write, T: Tables>(
     writer: &mut Watched<W>,
     vault: &mut Vault<T>,
 ) -> Result<Served, ServeFault>
+    // with at most 1000 pairs, each a moment told for it alone and a drawing, the messages are served, or the
+    // service stopped
     ensures answered { (pairs : List Pair) × (length pairs ≤ 1000)
         × AreGiven (K.tells time.now) None None pairs
         × (let w : Passage = passing (λ ps. ps) [] pairs
@@ -49,9 +51,12 @@ pub fn serve_connection<K: Timekeeper, G: Rng, R: Read, W: Write, T: Tables>(
         MatchResult result
         (IsServed (R.remaining (inner_of reader.old)) (R.remaining (inner_of reader.new)) w)
         (IsStopped (R.remaining (inner_of reader.old)) (R.remaining (inner_of reader.new)) w)) }
-    ensures told { (refused : Bool) × Tells result
+    // the stop's own one of source, reader, writer and vault has failed; whether the others have stays as it
+    // was
+    ensures own_failure { (refused : Bool) × Tells result
         (failures false (is_stopped reader.old) (is_stopped writer.old) (is_broken vault.old))
         (failures refused (is_stopped reader.new) (is_stopped writer.new) (is_broken vault.new)) }
+    // an honest disk was honest before, and tables that can't fail don't
     ensures trusted { Trusts T.is_honest T.may_fail vault.old vault.new result }
 {
     let mut source = LiveSource::ending(alloc, time, generator, MESSAGES, end);

@@ -36,7 +36,7 @@ impl ListenFault {
 
 impl fmt::Display for ListenFault {
     ghost use Rattle.std.specs.Prelude.{Some};
-    ghost use Rattle.vault_refusal.specs.Words.{words_of};
+    ghost use Rattle.vault_refusal.specs.Refusal.{words_of};
     ghost use Rattle.vault_listen.specs.Faults.{refusal_of};
 
     ghost output = { λ fault. Some (words_of (refusal_of fault)) };

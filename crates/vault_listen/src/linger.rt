@@ -14,6 +14,7 @@ const PIECES: usize = 16;
 
 /// Reads and throws away at most 16 pieces, up to the end of the input or to the reader's first error.
 pub fn discard<R: Read>(reader: &mut R)
+    // what it takes of the reader, where that is known, is at most 65536 bytes
     ensures bounded { (bytes : List ℕ) × (length bytes ≤ 65536)
         × Consumes (R.remaining reader.old) (R.remaining reader.new) bytes }
 {

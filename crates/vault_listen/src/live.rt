@@ -31,7 +31,9 @@ impl<'t, K: Timekeeper, G: Rng> LiveSource<'t, K, G> {
 
     /// A source that gives this many pairs. It takes no memory yet.
     pub fn new(alloc: Global, time: &'t K, generator: G, times: u64) -> LiveSource<'t, K, G>
+        // it gave no pair yet, gives so many, and never refused
         ensures fresh { IsFresh result times }
+        // it has this time, and no moment and no digits are fixed
         ensures free { Fixes result time.now None None }
     {
         LiveSource::fixed(alloc, time, generator, times, None, None)
@@ -46,7 +48,9 @@ impl<'t, K: Timekeeper, G: Rng> LiveSource<'t, K, G> {
         moment: Option<Moment>,
         digits: Option<Digits>,
     ) -> LiveSource<'t, K, G>
+        // it gave no pair yet, gives so many, and never refused
         ensures fresh { IsFresh result times }
+        // its time, and what is fixed of its pairs, are what is handed in
         ensures fixed { Fixes result time.now moment digits }
     {
         LiveSource {
@@ -70,7 +74,9 @@ impl<'t, K: Timekeeper, G: Rng> LiveSource<'t, K, G> {
         times: u64,
         end: Option<Duration>,
     ) -> LiveSource<'t, K, G>
+        // it gave no pair yet, gives so many, and never refused
         ensures fresh { IsFresh result times }
+        // it has this time, and no moment and no digits are fixed
         ensures free { Fixes result time.now None None }
     {
         LiveSource {
@@ -98,7 +104,9 @@ impl<'t, K: Timekeeper, G: Rng> LiveSource<'t, K, G> {
 
     // The moment of the next pair.
     fn moment(&self) -> Option<Moment>
+        // where a moment is fixed, it is that one
         ensures fixed { (now : _) → self.now.moment ≡ Some now → result ≡ Some now }
+        // where none is fixed, a moment that is given was told at the turn numbered by the pairs given before
         ensures told { self.now.moment ≡ None
             → IfSome result (K.tells self.now.time.now (length (pairs_of self.now))) }
     {
@@ -110,7 +118,9 @@ impl<'t, K: Timekeeper, G: Rng> LiveSource<'t, K, G> {
 
     // The digits of the next pair.
     fn digits(&mut self) -> Digits
+        // where digits are fixed, they are those
         ensures fixed { (drawn : _) → self.old.digits ≡ Some drawn → result ≡ drawn }
+        // nothing changes but the generator
         ensures same { self.new ≡ record self.old { generator = self.new.generator } }
     {
         match self.digits {

@@ -25,14 +25,18 @@ pub trait Network {
     ///
     /// 80 Accept: the port can't be had.
     fn listen(&mut self, port: u16) -> Result<(Self::Peers, u16), ListenFault>
+        // with Ok, the port is the one that was asked for, unless that is 0
         ensures port { IfOk result (λ it. port ≢ 0 → it.1 ≡ port) }
+        // with Ok, what was told of the network is told of the peers
         ensures begins { IfOk result (λ it. (log : List Event) → tells self.old log
             → Self.Peers.tells it.0 log) }
+        // the fault is Accept, and what was told of the network stays told
         ensures fails { IfErr result (λ fault. (fault ≡ Accept)
             × ((log : List Event) → tells self.old log → tells self.new log)) };
 
     /// Ends the listening of these peers.
     fn end(&mut self, peers: Self::Peers)
+        // what was told of the peers is told of the network then
         ensures { (log : List Event) → Self.Peers.tells peers log → tells self.new log };
 }
 

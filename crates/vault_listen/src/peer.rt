@@ -137,6 +137,7 @@ impl<'c, C: Clock> Peer<'c, C> {
 
     /// Reads what it sends within this time.
     fn read_within(&self, wait: Duration, buf: &mut [u8]) -> io::Result<usize>
+        // with Ok, the count is at most the length of the buffer
         ensures { IfOk result (λ count. IsPrefixLen count buf.new) }
     {
         let mut stream = self.stream();
@@ -146,6 +147,7 @@ impl<'c, C: Clock> Peer<'c, C> {
 
     /// The same where it has begun no message: as at the end of its input, where another one waits.
     fn read_or_give_way(&self, wait: Duration, buf: &mut [u8]) -> io::Result<usize>
+        // with Ok, the count is at most the length of the buffer
         ensures { IfOk result (λ count. IsPrefixLen count buf.new) }
     {
         match end_of_quiet(self.stream.as_raw_fd(), self.door, wait) {

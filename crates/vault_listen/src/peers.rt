@@ -42,8 +42,10 @@ pub trait Peers {
     ///
     /// 80 Accept: none can be accepted.
     fn accept(&mut self) -> Result<Option<Accepted<Self::Reader, Self::Writer>>, ListenFault>
+        // with Ok, this connection, accepted or lost, stands behind what was told before
         ensures comes { IfOk result (λ it. (log : List Event) → tells self.old log
             → tells self.new (log ++ coming Self.Reader.remaining Self.Writer.contents it ∷ [])) }
+        // the fault is Accept, and what was told stays told
         ensures fails { IfErr result (λ fault. (fault ≡ Accept)
             × ((log : List Event) → tells self.old log → tells self.new log)) };
 
@@ -54,6 +56,7 @@ pub trait Peers {
         writer: Watched<Self::Writer>,
         ended: Result<Served, ServeFault>,
     )
+        // this close stands behind what was told before
         ensures { (log : List Event) → tells self.old log → tells self.new (log
             ++ Closed (Self.Reader.remaining (inner_of reader)) (Self.Writer.contents (inner_of writer))
             (is_stopped reader) (is_stopped writer) ended ∷ []) };

@@ -2,7 +2,7 @@
 ghost use Rattle.std.specs.Prelude.{◌≡◌, ◌≢◌, ◌↔◌, ◌++◌, List, Option, false, true, Err};
 ghost use Rattle.std.specs.Prelude.{IsTrue, MatchResult};
 ghost use Rattle.vault_store.specs.Applied.{is_broken, tables_of};
-ghost use Rattle.vault_http.specs.Passing.{Passage};
+ghost use Rattle.vault_engine.specs.Passing.{Passage};
 ghost use Rattle.vault_listen.specs.Peers.{AreLinks, Event, IsClosedBy, IsLink, Link, events_of};
 ghost use Rattle.vault_listen.specs.Peers.{vault_passing};
 ghost use Rattle.vault_listen.specs.Service.{Leaves};
@@ -44,13 +44,20 @@ fn serve_link<P: Peers, K: Timekeeper, G: Rng, T: Tables>(
     link: Accepted<P::Reader, P::Writer>,
     vault: &mut Vault<T>,
 ) -> Result<(), ListenFault>
+    // the connection is served by the vault, or stopped, and closed; it is an Err exactly where that ended by
+    // Store
     ensures served { (x : Link) × IsLink (K.tells time.now) T.is_honest T.holds T.leaves x vault.old vault.new
         × IsClosedBy P.Reader.remaining P.Writer.contents (P.tells peers.old) (P.tells peers.new) link x
         × MatchResult result (λ _. x.ended ≢ Err ServeFault.Store) (λ _. x.ended ≡ Err ServeFault.Store) }
+    // with Ok, whether the vault is broken stays as it was; with Err, the fault is Store and the vault is
+    // broken
     ensures store { MatchResult result (λ _. is_broken vault.new ≡ is_broken vault.old)
         (λ fault. (fault ≡ ListenFault.Store) × (is_broken vault.new ≡ true)) }
-    ensures sturdy { T.may_fail ≡ false → is_broken vault.old ≡ false → ¬ (result ≡ Err ListenFault.Store) }
-    ensures honest { T.is_honest (tables_of vault.new) → T.is_honest (tables_of vault.old) }
+    // tables that can't fail give an unbroken vault no Store fault
+    ensures infallible { T.may_fail ≡ false → is_broken vault.old ≡ false
+        → ¬ (result ≡ Err ListenFault.Store) }
+    // a disk that is honest after the call was so before it
+    ensures disk_honest { T.is_honest (tables_of vault.new) → T.is_honest (tables_of vault.old) }
 {
     let mut reader = Watched::new(link.reader);
     let mut writer = Watched::new(link.writer);
@@ -89,15 +96,23 @@ pub fn serve_on<P: Peers, K: Timekeeper, G: Rng, T: Tables>(
     connections: u64,
     vault: &mut Vault<T>,
 ) -> Result<(), ListenFault>
+    // the connections that the peers tell of are served one after the other, and leave of the vault what the
+    // result says
     ensures served { let w : Passage = vault_passing T.is_honest T.holds T.leaves vault.old vault.new in
         (xs : List (Option Link)) × Leaves (K.tells time.now) connections xs w result
         × AreLinks (K.tells time.now) T.is_honest T.holds T.leaves xs vault.old vault.new
         × ((log : List Event) → P.tells peers.old log → P.tells peers.new (log ++ events_of xs)) }
+    // after Store the vault is broken
     ensures store { result ≡ Err ListenFault.Store → is_broken vault.new ≡ true }
+    // after any other result, whether the vault is broken stays as it was
     ensures others { result ≢ Err ListenFault.Store → is_broken vault.new ≡ is_broken vault.old }
+    // after Memory the vault is as it was
     ensures memory { result ≡ Err ListenFault.Memory → vault.new ≡ vault.old }
-    ensures sturdy { T.may_fail ≡ false → is_broken vault.old ≡ false → ¬ (result ≡ Err ListenFault.Store) }
-    ensures honest { T.is_honest (tables_of vault.new) → T.is_honest (tables_of vault.old) }
+    // tables that can't fail give an unbroken vault no Store fault
+    ensures infallible { T.may_fail ≡ false → is_broken vault.old ≡ false
+        → ¬ (result ≡ Err ListenFault.Store) }
+    // a disk that is honest after the call was so before it
+    ensures disk_honest { T.is_honest (tables_of vault.new) → T.is_honest (tables_of vault.old) }
 {
     let Ok(routes) = Routes::new(alloc) else {
         return Err(ListenFault::Memory);

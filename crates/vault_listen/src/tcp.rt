@@ -88,6 +88,7 @@ impl<'c, L: OpenListener<Stream = TcpStream> + AsRawFd, C: Clock> TcpPeers<'c, L
         &mut self,
         stream: TcpStream,
     ) -> Option<Accepted<PeerReader<'c, C>, PeerWriter<'c, C>>>
+        // how many came stays as it was
         ensures { self.new.came ≡ self.old.came }
     {
         let door = self.listener.as_raw_fd();
@@ -143,6 +144,7 @@ impl<'c, L: OpenListener<Stream = TcpStream> + AsRawFd, C: Clock> Peers for TcpP
         writer: Watched<PeerWriter<'c, C>>,
         ended: Result<Served, ServeFault>,
     )
+        // with this close behind what was told, as many came
         ensures { (log : List Event) → came_in log ≡ self.old.came
             → came_in (log
             ++ Closed None None (is_stopped reader.entry) (is_stopped writer.entry) ended ∷ [])

@@ -21,6 +21,7 @@ pub trait Timekeeper {
     /// The time in Unix seconds, where it can be read, is a moment and hasn't jumped. `turn` counts the
     /// questions of one source from 0.
     fn moment(&self, turn: u64) -> Option<Moment>
+        // a moment that is given was told at this turn
         ensures { IfSome result (tells self.now turn) };
 
     /// How much time has passed, by a clock that nobody sets.

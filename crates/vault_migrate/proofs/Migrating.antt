@@ -1,48 +1,37 @@
 -- A migration, of what is in an older version and of all else.
-use Rattle.std.proofs.Common.{◌≡◌, ◌≢◌, ◌∙◌, ℤ, false, Result, IfErr, OnOk, subst, sym}
+use Rattle.std.proofs.Common.{◌≡◌, ◌∙◌, ℤ, false, Result, subst, sym}
 use Rattle.sqlite.specs.Held.{Held, state}
-use Rattle.sqlite.specs.State.{HasCleanDisk}
 use Rattle.sqlite_trees.specs.declared.store.Store.{Ghosts}
-use Rattle.sql_maps.specs.Schema.{no_schema}
-use Rattle.sql_maps.specs.States.{LeavesNoMore}
 use Rattle.sql_maps.specs.Transactions.{KeepsDoubts}
-use Rattle.vault_core.specs.Vault.{Vault, empty_vault}
 use Rattle.vault_migrate.proofs.Moving.{broken_else, broken_in, each_err, held_newest, left_newest}
 use Rattle.vault_migrate.proofs.Moving.{movable_else, movable_in, never_blank, older_schema}
 use Rattle.vault_migrate.proofs.Moving.{version_else, version_in}
-use Rattle.vault_migrate.specs.Migrated.{Migrates}
+use Rattle.vault_migrate.specs.Migrated.{ChecksFit, HoldsMoved, HoldsSoundMoved, KeepsHeld, LeavesMovedAlone}
+use Rattle.vault_migrate.specs.Migrated.{MakesBlank, Migrates, WritesNothingIn, WritesNothingWhereSome}
 use Rattle.vault_migrate.specs.Moved.{HoldsSoundIn, IsNoOlder, IsOlder, LeavesIn}
 use Rattle.vault_migrate.specs.Refused.{StaysIn}
 use Rattle.vault_schema.proofs.Newest.{held_in_newest, one_version}
-use Rattle.vault_schema.specs.Holds.{Holds, HoldsIn}
-use Rattle.vault_schema.specs.Making.{IsReady}
+use Rattle.vault_schema.specs.Holds.{HoldsIn}
 use Rattle.vault_schema.specs.Stands.{newest}
 use Rattle.vault_schema.specs.Versions.{schema_of}
 use Rattle.vault_schema.specs.declared.version.Version.{Version}
 use Rattle.vault_verdict.proofs.Results.{if_err, if_so, on_ok}
-use Rattle.vault_verdict.specs.Opened.{IsFit, IsWrong, LeavesFound}
+use Rattle.vault_verdict.specs.Opened.{IsFit, IsWrong}
 use Rattle.vault_verdict.specs.ReadAs.{IsFullIn}
-use Rattle.vault_verdict.specs.Reading.{IsFull}
 use Rattle.vault_verdict.specs.Refusals.{IsBrokenWhereFull, IsLeastWhereFull, IsOtherIn, IsUntouched}
-use Rattle.vault_verdict.specs.Refusals.{RowsBreak, SparesFit, TellsOther, WritesNothing}
+use Rattle.vault_verdict.specs.Refusals.{LeavesAsFound, RowsBreak, SparesFit, TellsOther, WritesNothing}
 use Rattle.vault_verdict.specs.declared.fault.OpenFault.{OpenFault}
-use Rattle.vault_verdict.specs.declared.fault.OpenFault.TheVariants.{Store}
 
 module _ {S : Type 0} (g : Ghosts S) (old new : Held S) (result : Result ℤ OpenFault) where
   -- what is in one older version is checked there, and moves to another
   pub record MovesOlder (v to : Version) : Type 0 where
     pub idle : new.in_transaction ≡ false
     pub clean : KeepsDoubts g old new
-    pub moved : HasCleanDisk (state g new)
-        → OnOk result ((V : Vault) → HoldsIn v V (state g old) → HoldsIn to V (state g new))
-    pub whole : HasCleanDisk (state g new)
-        → OnOk result ((V : Vault) → HoldsIn v V (state g old) → LeavesIn to V (state g new))
-    pub sound : HasCleanDisk (state g new)
-        → OnOk result (IsFullIn v (state g old).now → HoldsSoundIn to (state g new))
+    pub moved : HoldsMoved g v to old new result
+    pub whole : LeavesMovedAlone g v to old new result
+    pub sound : HoldsSoundMoved g v to old new result
     pub stays : StaysIn g v old new result
-    pub unwritten : HasCleanDisk (state g new)
-        → IfErr result (λ e. e ≢ Store → (state g old).now.schema ≡ schema_of v
-        → LeavesNoMore (state g old) (state g new))
+    pub unwritten : WritesNothingIn g v old new result
     pub damaged : RowsBreak g old new result (IsBrokenWhereFull v)
     pub wrong : TellsOther g old new result (IsOtherIn v)
 
@@ -50,21 +39,16 @@ module _ {S : Type 0} (g : Ghosts S) (old new : Held S) (result : Result ℤ Ope
   pub record MakesOrChecks : Type 0 where
     pub idle : new.in_transaction ≡ false
     pub clean : KeepsDoubts g old new
-    pub kept : HasCleanDisk (state g new)
-        → OnOk result ((V : Vault) → Holds (state g old) V → Holds (state g new) V)
+    pub kept : KeepsHeld g old new result
     pub same : IsUntouched g newest old new result
-    pub blank : HasCleanDisk (state g new) → OnOk result (IsReady (state g old)
-        → (state g old).now.schema ≡ no_schema → Holds (state g new) empty_vault)
-    pub checked : HasCleanDisk (state g new)
-        → OnOk result (IsFull (state g old).now → IsFit (state g old).now)
-    pub left : HasCleanDisk (state g new) → LeavesFound (state g old) (state g new)
+    pub blank : MakesBlank g old new result
+    pub checked : ChecksFit g old new result
+    pub left : LeavesAsFound g old new
     pub unwritten : WritesNothing g old new result
-    pub unmade : HasCleanDisk (state g new)
-        → IfErr result (λ e. ¬ ((state g old).now.schema ≡ no_schema)
-        → LeavesNoMore (state g old) (state g new))
+    pub unmade : WritesNothingWhereSome g old new result
     pub damaged : RowsBreak g old new result IsLeastWhereFull
     pub wrong : TellsOther g old new result IsWrong
-    pub never : SparesFit g old new result IsFit
+    pub spared : SparesFit g old new result IsFit
 
 module _ {S : Type 0} {g : Ghosts S} {old new : Held S} {result : Result ℤ OpenFault} where
   pub migrates_older : (to : Version → Version) (v : Version) → IsOlder v
@@ -96,7 +80,7 @@ module _ {S : Type 0} {g : Ghosts S} {old new : Held S} {result : Result ℤ Ope
     unmoved = λ clean. each_err result (λ e none. absurd (none v older is));
     damaged = λ clean. broken_in v older (state g old).now is result (it.damaged clean);
     wrong = λ clean. version_in v older (state g old).now is result (it.wrong clean);
-    never = λ clean. movable_in v older (state g old).now is result (it.damaged clean) (it.wrong clean);
+    spared = λ clean. movable_in v older (state g old).now is result (it.damaged clean) (it.wrong clean);
   }
 
   pub migrates_else : (to : Version → Version) → to newest ≡ newest → IsNoOlder (state g old).now
@@ -126,5 +110,5 @@ module _ {S : Type 0} {g : Ghosts S} {old new : Held S} {result : Result ℤ Ope
     unmoved = λ clean. if_err result (λ e less none. less) (it.unmade clean);
     damaged = λ clean. broken_else (state g old).now none result (it.damaged clean);
     wrong = λ clean. version_else (state g old).now none result (it.wrong clean);
-    never = λ clean. movable_else (state g old).now none result (it.never clean);
+    spared = λ clean. movable_else (state g old).now none result (it.spared clean);
   }

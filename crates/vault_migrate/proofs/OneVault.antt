@@ -7,13 +7,13 @@ use Rattle.sqlite.specs.Tree.{Trees}
 use Rattle.vault_core.specs.Keys.{Bytes}
 use Rattle.vault_core.specs.Vault.{Vault, Merchant, merchant_at}
 use Rattle.vault_core.specs.declared.right.Right.{Right}
-use Rattle.vault_verdict.proofs.Backs.{same_count}
+use Rattle.vault_verdict.proofs.Sources.{same_count}
 use Rattle.vault_schema.proofs.Version1.Codes as codes
 use Rattle.vault_schema.proofs.Version3 as three
 use Rattle.vault_schema.proofs.Version4 as four
 use Rattle.vault_schema.specs.Versions.{Stand}
 use Rattle.vault_schema.specs.declared.version.Version.{Version}
-use Rattle.vault_steps.proofs.OneStand.{one_stand}
+use Rattle.vault_steps.proofs.PartsByVersion.{one_stand}
 use Rattle.vault_core.specs.Lives.{lives_in}
 use Rattle.vault_schema.specs.Stands.{count_at, lookups_of}
 

@@ -12,6 +12,7 @@ use Rattle.vault_migrate.specs.Moved.{LeavesIn}
 use Rattle.vault_schema.specs.Holds.{Holds, HoldsIn}
 use Rattle.vault_schema.specs.Making.{IsReady}
 use Rattle.vault_schema.specs.Stands.{newest}
+use Rattle.vault_schema.specs.Versions.{schema_of}
 use Rattle.vault_schema.specs.declared.version.Version.{Version}
 use Rattle.vault_verdict.specs.Opened.{IsFit}
 use Rattle.vault_verdict.specs.ReadAs.{IsFullIn}
@@ -19,6 +20,49 @@ use Rattle.vault_verdict.specs.Reading.{IsFull}
 use Rattle.vault_verdict.specs.Refusals.{IsUntouched, RowsBreak, SparesFit, TellsOther, WritesNothing}
 use Rattle.vault_verdict.specs.declared.fault.OpenFault.{OpenFault}
 use Rattle.vault_verdict.specs.declared.fault.OpenFault.TheVariants.{Store}
+
+module _ {S : Type 0} (g : Ghosts S) {R : Type 0} where
+  -- with Ok a vault that was held in one version is held in the other
+  abbrev pub HoldsMoved : Version → Version → Held S → Held S → Result R OpenFault → Type 0
+  HoldsMoved v to old new result = HasCleanDisk (state g new)
+      → OnOk result ((V : Vault) → HoldsIn v V (state g old) → HoldsIn to V (state g new))
+
+  -- and a crash leaves it there alone
+  abbrev pub LeavesMovedAlone : Version → Version → Held S → Held S → Result R OpenFault → Type 0
+  LeavesMovedAlone v to old new result = HasCleanDisk (state g new)
+      → OnOk result ((V : Vault) → HoldsIn v V (state g old) → LeavesIn to V (state g new))
+
+  -- with Ok what had full rows in the one version is a sound vault in the other
+  abbrev pub HoldsSoundMoved : Version → Version → Held S → Held S → Result R OpenFault → Type 0
+  HoldsSoundMoved v to old new result = HasCleanDisk (state g new)
+      → OnOk result (IsFullIn v (state g old).now → HoldsSoundIn to (state g new))
+
+  -- a refusal by any number but 33 writes nothing in the schema of the version
+  abbrev pub WritesNothingIn : Version → Held S → Held S → Result R OpenFault → Type 0
+  WritesNothingIn v old new result = HasCleanDisk (state g new)
+      → IfErr result (λ e. e ≢ Store → (state g old).now.schema ≡ schema_of v
+      → LeavesNoMore (state g old) (state g new))
+
+  -- with Ok a vault that was held is held still
+  abbrev pub KeepsHeld : Held S → Held S → Result R OpenFault → Type 0
+  KeepsHeld old new result = HasCleanDisk (state g new)
+      → OnOk result ((V : Vault) → Holds (state g old) V → Holds (state g new) V)
+
+  -- with Ok the empty vault is made where there was no table
+  abbrev pub MakesBlank : Held S → Held S → Result R OpenFault → Type 0
+  MakesBlank old new result = HasCleanDisk (state g new) → OnOk result (IsReady (state g old)
+      → (state g old).now.schema ≡ no_schema → Holds (state g new) empty_vault)
+
+  -- with Ok what had full rows was a sound vault, or had no table
+  abbrev pub ChecksFit : Held S → Held S → Result R OpenFault → Type 0
+  ChecksFit old new result = HasCleanDisk (state g new)
+      → OnOk result (IsFull (state g old).now → IsFit (state g old).now)
+
+  -- a refusal writes nothing where there is a table
+  abbrev pub WritesNothingWhereSome : Held S → Held S → Result R OpenFault → Type 0
+  WritesNothingWhereSome old new result = HasCleanDisk (state g new)
+      → IfErr result (λ e. ¬ ((state g old).now.schema ≡ no_schema)
+      → LeavesNoMore (state g old) (state g new))
 
 -- a store is migrated, where `to` is the version that one in a version has then
 pub record Migrates {S : Type 0} (g : Ghosts S) (to : Version → Version) (old new : Held S)
@@ -38,8 +82,7 @@ pub record Migrates {S : Type 0} (g : Ghosts S) (to : Version → Version) (old 
   -- in the newest version nothing changes
   pub same : IsUntouched g newest old new result
   -- without a table the empty vault is made
-  pub blank : HasCleanDisk (state g new) → OnOk result (IsReady (state g old)
-      → (state g old).now.schema ≡ no_schema → Holds (state g new) empty_vault)
+  pub blank : MakesBlank g old new result
   -- what is in no older version was checked
   pub checked : HasCleanDisk (state g new)
       → OnOk result (IsNoOlder (state g old).now → IsFull (state g old).now → IsFit (state g old).now)
@@ -57,4 +100,4 @@ pub record Migrates {S : Type 0} (g : Ghosts S) (to : Version → Version) (old 
   -- 30 says the version that is told
   pub wrong : TellsOther g old new result FindsVersion
   -- neither comes to a sound vault in any version, or to a store without a table
-  pub never : SparesFit g old new result IsMovable
+  pub spared : SparesFit g old new result IsMovable

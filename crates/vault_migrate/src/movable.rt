@@ -25,8 +25,11 @@ use vault_verdict::verdict::{Judged, verdict};
 
 /// The older version whose schema this is.
 pub(crate) fn older_in(schema: &Schema) -> Option<Version>
+    // the version that is given is an older one
     ensures older { IfSome result (λ v. IsOlder v) }
+    // the schema is that of the version that is given
     ensures found { IfSome result (λ v. schema.now ≡ schema_of v) }
+    // where none is given, the schema is no older version's
     ensures none { IfNone result ((v : Version) → IsOlder v → ¬ (schema.now ≡ schema_of v)) }
 {
     match Version::of(schema) {
@@ -42,23 +45,34 @@ pub(crate) fn judged<S: Alter>(
     conn: &mut Connection<S>,
     version: Version,
 ) -> Result<Vec<Piece>, OpenFault>
+    // the end of each entry that is given fits an integer of the database
     ensures storable { IfOk result (λ xs. AreStorable xs.items) }
+    // on an honest disk, Ok gives the entries of a vault held in a version without cards; of another this
+    // says nothing
     ensures given { HasCleanDisk (state S.Store conn.new) → IfOk result (λ xs. (V : Vault)
         → HoldsIn version V (state S.Store conn.old) → AreFor version (joined xs.items) (lookups_of V)) }
+    // with Ok, on an honest disk, a vault that was held in the version is held in it still
     ensures held { HasCleanDisk (state S.Store conn.new) → OnOk result ((V : Vault)
         → HoldsIn version V (state S.Store conn.old) → HoldsIn version V (state S.Store conn.new)) }
+    // with Ok, on an honest disk, what has full rows in the version is a sound database
     ensures live { HasCleanDisk (state S.Store conn.new)
         → OnOk result (IsFullIn version (state S.Store conn.old).now
         → IsDatabase (state S.Store conn.old).now) }
+    // with Ok, on an honest disk, what had full rows in the version stood for a sound vault in it
     ensures sound { HasCleanDisk (state S.Store conn.new)
         → OnOk result (IsFullIn version (state S.Store conn.old).now
         → StandsSoundIn version (state S.Store conn.old).now) }
+    // with Ok, on an honest disk, nothing changed in the schema of the version
     ensures kept { IsUntouched S.Store version conn.old conn.new result }
+    // on an honest disk, 31 says the least rule that the rows break, where they are full and the version's
     ensures damaged { RowsBreak S.Store conn.old conn.new result
         (IsBrokenWhereFull version) }
+    // on an honest disk, 30 says the other version that is told, where the schema is this version's
     ensures versioned { TellsOther S.Store conn.old conn.new result
         (IsOtherIn version) }
-    ensures quiet { IsStill S.Store version conn.old conn.new }
+    // in the version's schema, on an honest disk, a crash leaves nothing new; no doubt goes away, and no
+    // transaction begins
+    ensures nothing_new { IsStill S.Store version conn.old conn.new }
 {
     let Judged { sizes: _, olders } = verdict(alloc, conn, version)?;
     Ok(typed_entries(alloc, olders)?)

@@ -1,5 +1,5 @@
 //! Old entries as the vault has them.
-ghost use Rattle.std.specs.Prelude.{◌≡◌, ◌≢◌, ◌<◌, ◌^◌, ◌↔◌, ◌++◌, ℕ, pos, drop, length, map};
+ghost use Rattle.std.specs.Prelude.{◌≡◌, ◌≢◌, ◌<◌, ◌^◌, ◌↔◌, ◌++◌, [], ◌∷◌, ℕ, pos, drop, length, map};
 ghost use Rattle.std.specs.Prelude.{IfErr, IfOk, IsOk, OnOk};
 ghost use Rattle.std.specs.List.{All};
 ghost use Rattle.vault_core.specs.Name.{IsName};
@@ -25,7 +25,9 @@ use vault_verdict::replaced::OldEntry;
 
 /// The name of a merchant.
 fn merchant_of(text: &str) -> Result<MerchantId, StoreFault>
+    // the merchant is the text
     ensures value { IfOk result (λ m. m ≡ text.now) }
+    // a text is refused exactly where it is no name
     ensures refused { IsOk result ↔ IsName text.now }
 {
     match MerchantId::read(text.as_bytes()) {
@@ -36,7 +38,9 @@ fn merchant_of(text: &str) -> Result<MerchantId, StoreFault>
 
 /// A token.
 fn token_of(text: &str) -> Result<Token, StoreFault>
+    // the token is the text
     ensures value { IfOk result (λ token. token ≡ text.now) }
+    // a text is refused exactly where it is no token
     ensures refused { IsOk result ↔ IsToken text.now }
 {
     match Token::read(text.as_bytes()) {
@@ -67,7 +71,9 @@ fn maybe_number_of(text: &Option<RowText>) -> Result<Option<Pan>, StoreFault>
 
 /// A use, by its number.
 fn usage_of(number: i64) -> Result<Use, StoreFault>
+    // the number is the use's
     ensures value { IfOk result (λ usage. number ≡ pos (use_number usage)) }
+    // only a number that is neither 1 nor 2 is refused
     ensures refused { IfErr result (λ e. (number ≢ pos 1) × (number ≢ pos 2)) }
 {
     match number {
@@ -79,8 +85,11 @@ fn usage_of(number: i64) -> Result<Use, StoreFault>
 
 /// A number of seconds.
 fn seconds_of(number: i64) -> Result<u64, StoreFault>
+    // the seconds are the number
     ensures value { IfOk result (λ seconds. number ≡ pos seconds) }
+    // they are below 2^63
     ensures small { IfOk result (λ seconds. seconds < 2 ^ 63) }
+    // only a number below 0 is refused
     ensures refused { IfErr result (λ e. (n : ℕ) → number ≢ pos n) }
 {
     if number < 0 {
@@ -91,7 +100,9 @@ fn seconds_of(number: i64) -> Result<u64, StoreFault>
 
 /// A moment.
 fn moment_of(number: i64) -> Result<Moment, StoreFault>
+    // the moment is the number
     ensures value { IfOk result (λ moment. number ≡ pos moment) }
+    // only a number below 0 or above 253402300799 is refused
     ensures refused { IfErr result (λ e. (n : ℕ) → number ≡ pos n → 253402300799 < n) }
 {
     match Moment::new(seconds_of(number)?) {
@@ -116,9 +127,13 @@ fn entry_of(
     number: Option<Pan>,
     revoked: Option<Moment>,
 ) -> Result<Entry, StoreFault>
+    // the number that is handed in is the old entry's
     requires number { maybe_text_value older.now.number ≡ text_or_null number }
+    // the moment that is handed in is that at which the old entry was revoked
     requires revoked { int_value older.now.revoked ≡ number_or_null revoked }
+    // the columns behind the token are the old entry's
     ensures columns { IfOk result (λ e. drop 3 (old_entry_values older.now) ≡ entry_columns e) }
+    // its end is below 2^63
     ensures small { IfOk result (λ e. e.expires < 2 ^ 63) }
 {
     let usage = usage_of(older.usage)?;
@@ -139,9 +154,13 @@ fn typed(
     number: Option<Pan>,
     revoked: Option<Moment>,
 ) -> Result<(MerchantId, Token, Entry), StoreFault>
+    // the number that is handed in is the old entry's
     requires number { maybe_text_value older.now.number ≡ text_or_null number }
+    // the moment that is handed in is that at which the old entry was revoked
     requires revoked { int_value older.now.revoked ≡ number_or_null revoked }
+    // the columns behind the rowid are the old entry's
     ensures row { IfOk result (λ x. old_columns older.now ≡ typed_columns x) }
+    // its end is below 2^63
     ensures small { IfOk result (λ x. x.2.expires < 2 ^ 63) }
 {
     let merchant = merchant_of(older.merchant.as_str())?;
@@ -150,23 +169,35 @@ fn typed(
     Ok((merchant, token, entry))
 }
 
+/// Puts one more behind a list. Only memory can fail.
+fn add<T: Drop>(list: &mut Vec<T>, one: T) -> Result<(), AllocError>
+    ensures { OnOk result (list.new.items ≡ list.old.items ++ one ∷ []) }
+{
+    list.push(one)?;
+    Ok(())
+}
+
 /// Old entries, each with its merchant and its token; one that can't be read so is refused.
 fn typed_piece(alloc: Global, olders: &[OldEntry]) -> Result<Piece, StoreFault>
+    // the entries are the old ones, in their order
     ensures rows { IfOk result (λ xs. map old_columns olders.now ≡ map typed_columns xs.items) }
+    // the end of each is below 2^63
     ensures storable { IfOk result (λ xs. All (λ x. x.2.expires < 2 ^ 63) xs.items) }
 {
     let mut piece = Vec::with_capacity(alloc, olders.len())?;
     for older in olders {
         let number = maybe_number_of(&older.number)?;
         let revoked = maybe_moment_of(older.revoked)?;
-        piece.push(typed(older, number, revoked)?)?;
+        add(&mut piece, typed(older, number, revoked)?)?;
     }
     Ok(piece)
 }
 
 /// Takes the last piece of old entries, and gives back the memory that they took.
 fn last_piece(left: &mut Vec<OldEntry>) -> Result<Vec<OldEntry>, AllocError>
+    // what there was is what is left, with the piece behind it
     ensures all { IfOk result (λ piece. left.old.items ≡ left.new.items ++ piece.items) }
+    // where there were any, fewer are left
     ensures less { OnOk result (0 < length left.old.items → length left.new.items < length left.old.items) }
 {
     let piece = left.split_off(left.len().saturating_sub(PIECE))?;
@@ -177,14 +208,16 @@ fn last_piece(left: &mut Vec<OldEntry>) -> Result<Vec<OldEntry>, AllocError>
 /// Old entries in pieces, each with its merchant and its token; one that can't be read so is refused. A piece
 /// of old entries goes as soon as it was read, so that no more is kept than either of the lists.
 pub(crate) fn typed_entries(alloc: Global, olders: Vec<OldEntry>) -> Result<Vec<Piece>, StoreFault>
+    // the entries are the old ones, in their order
     ensures rows { IfOk result (λ xs. map old_columns olders.items ≡ map typed_columns (joined xs.items)) }
+    // the end of each is below 2^63
     ensures storable { IfOk result (λ xs. AreStorable xs.items) }
 {
     let mut left = olders;
     let mut pieces = Vec::new(alloc);
     while !left.is_empty() {
         let piece = last_piece(&mut left)?;
-        pieces.push(typed_piece(alloc, piece.as_slice())?)?;
+        add(&mut pieces, typed_piece(alloc, piece.as_slice())?)?;
     }
     pieces.reverse();
     Ok(pieces)

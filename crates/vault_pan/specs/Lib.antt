@@ -3,5 +3,5 @@ pub mod Draw
 pub mod Luhn
 pub mod Mask
 pub mod Pan
-pub mod Short
+pub mod ShortTexts
 pub mod Shown

@@ -44,7 +44,9 @@ impl Model for Digits {
 impl Digits {
     /// The drawing of these values, where there are 300 of them, each below 10.
     pub fn new(values: &[u8]) -> Option<Digits>
+        // a drawing is given exactly for 300 values below 10
         ensures some { IsSome result ↔ IsDrawing values.now }
+        // it is of these values
         ensures value { IfSome result (λ digits. digits ≡ values.now) }
     {
         if values.len() != DRAWN_DIGITS {
@@ -60,7 +62,9 @@ impl Digits {
 
     /// The values, in order.
     pub fn values(&self) -> &[u8]
+        // these are the drawing's own values
         ensures value { result.now ≡ self.now }
+        // they are a drawing: 300 of them, each below 10
         ensures drawing { IsDrawing self.now }
     {
         &self.values
@@ -80,7 +84,9 @@ impl fmt::Debug for Digits {
 /// Candidate `k` for the token of `p`: the first digits of group `k`, then the last four of `p`.
 /// There is none where these digits pass the check, since then they could be a card number.
 pub fn candidate(d: &Digits, k: usize, p: &Pan) -> Option<Token>
+    // there are 20 groups
     requires { k < 20 }
+    // where there is none, these digits pass the check; a token is these digits, and they fail it
     ensures { MatchOption result
         (passes_check (candidate_digits d.now k p.now) ≡ true)
         (λ token. (token ≡ candidate_digits d.now k p.now) × (passes_check token ≡ false)) }
@@ -94,8 +100,11 @@ pub fn candidate(d: &Digits, k: usize, p: &Pan) -> Option<Token>
 
 /// The ASCII digits of candidate `k`, whether they pass the check or fail it.
 fn candidate_text(d: &Digits, k: usize, p: &Pan) -> Short<MOST_DIGITS>
+    // there are 20 groups
     requires { k < 20 }
+    // they are the digits of candidate `k`
     ensures value { result ≡ candidate_digits d.now k p.now }
+    // they are 10 to 19 digits
     ensures number { IsNumber result }
 {
     let number = p.digits();

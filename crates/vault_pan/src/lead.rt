@@ -22,7 +22,9 @@ impl Lead {
 
     /// The lead of so many digits.
     pub fn of(digits: u64) -> Option<Lead>
+        // the lead that is given is so many digits
         ensures found { IfSome result (λ lead. lead_digits lead ≡ digits) }
+        // with none, no lead is so many digits
         ensures none { IfNone result ((lead : Lead) → lead_digits lead ≢ digits) }
     {
         match digits {

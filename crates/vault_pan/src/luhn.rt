@@ -9,7 +9,9 @@ ghost use Rattle.vault_pan.specs.Luhn.{passes_check, worth_of};
 /// This is one pass from the left. The first digit stands at place `digits.len()` from the right,
 /// and from there on even and odd places take turns.
 pub fn passes(digits: &[u8]) -> bool
+    // they are ASCII digits
     requires { All IsAsciiDigit digits.now }
+    // it is true exactly where the sum over their places is a multiple of 10
     ensures { result ≡ passes_check digits.now }
 {
     let mut even = digits.len() % 2 == 0;
@@ -24,8 +26,11 @@ pub fn passes(digits: &[u8]) -> bool
 
 /// What a digit adds to the sum, at an even place or at an odd one.
 fn worth(digit: u8, even: bool) -> u8
+    // it is the value of a digit
     requires { digit < 10 }
+    // at an odd place it is the digit, at an even one its double, less 9 where that is above 9
     ensures value { result ≡ worth_of even digit }
+    // it is below 10
     ensures small { result < 10 }
 {
     if !even {

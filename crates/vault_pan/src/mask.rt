@@ -37,7 +37,9 @@ impl Model for Masked {
 impl Masked {
     /// The bytes.
     pub fn text(&self) -> &[u8]
+        // these are the mask's own bytes
         ensures value { result.now ≡ self.now }
+        // there are 10 to 19, each a digit or `*`, and four or more are `*`
         ensures masked { IsMasked self.now }
     {
         self.text.bytes()
@@ -78,7 +80,9 @@ impl fmt::Debug for Masked {
 
 /// How many digits of a card number of so many digits are shown at the front.
 fn front_of(lead: Lead, len: usize) -> usize
+    // the number has ten digits or more
     requires { 10 ≤ len }
+    // it is at most six of those before the last ten, or eight of those before the last eight
     ensures { result ≡ front_of lead len }
 {
     match lead {
@@ -90,7 +94,9 @@ fn front_of(lead: Lead, len: usize) -> usize
 /// The mask of a card number: its last four digits, and from the front at most six of those before the last
 /// ten, or at most eight of those before the last eight.
 pub fn mask(p: &Pan, lead: Lead) -> Masked
+    // it is the number, with `*` in place of each digit that isn't shown
     ensures masked { result ≡ mask_of lead p.now }
+    // it hides six digits or more, and four or more where the lead is eight
     ensures hides { least_hidden lead ≤ hidden result }
     ensures as_long { length result ≡ length p.now }
     ensures last_four { last_four result ≡ last_four p.now }

@@ -60,7 +60,9 @@ impl Pan {
 
     /// The ASCII digits, without separators.
     pub fn digits(&self) -> &[u8]
+        // these are the number's own digits
         ensures value { result.now ≡ self.now }
+        // they are 10 to 19 digits that pass the check
         ensures pan { IsPan self.now }
     {
         self.text.bytes()
@@ -76,8 +78,11 @@ impl Pan {
     /// How many digits there are.
     #[allow(clippy::len_without_is_empty)]
     pub fn len(&self) -> usize
+        // it is the number of the digits
         ensures count { result ≡ length self.now }
+        // it is 10 or more
         ensures least { 10 ≤ result }
+        // it is 19 or less
         ensures most { result ≤ 19 }
     {
         self.text.len()
@@ -132,7 +137,7 @@ impl From<PanFault> for Refusal {
 
 impl fmt::Display for PanFault {
     ghost use Rattle.std.specs.Prelude.{Some};
-    ghost use Rattle.vault_refusal.specs.Words.{words_of};
+    ghost use Rattle.vault_refusal.specs.Refusal.{words_of};
     ghost use Rattle.vault_pan.specs.Pan.{refusal_of};
 
     ghost output = { λ fault. Some (words_of (refusal_of fault)) };

@@ -22,7 +22,7 @@ pub struct Short<const N: usize> {
 impl<const N: usize> Model for Short<N> {
     ghost use Rattle.std.specs.Prelude.{◌≡◌, ℕ, ◌≤◌, List, length, take};
     ghost use Rattle.std.proofs.Common.{arith, sym, length-take-le};
-    ghost use Rattle.vault_pan.specs.Short.{padded};
+    ghost use Rattle.vault_pan.specs.ShortTexts.{padded};
 
     ghost Value = { List ℕ };
 
@@ -51,7 +51,9 @@ impl<const N: usize> Short<N> {
 
     /// How many bytes there are.
     pub fn len(&self) -> usize
+        // it is the number of the bytes
         ensures value { result ≡ length self.now }
+        // it is at most `N`
         ensures fits { result ≤ N }
     {
         self.len
@@ -59,6 +61,7 @@ impl<const N: usize> Short<N> {
 
     /// The bytes.
     pub fn bytes(&self) -> &[u8]
+        // these are the text's own bytes
         ensures value { result.now ≡ self.now }
     {
         &self.cells[..self.len]
@@ -66,7 +69,9 @@ impl<const N: usize> Short<N> {
 
     /// Appends a byte.
     pub fn push(&mut self, byte: u8)
+        // there is room for one more
         requires { length self.old < N }
+        // the byte stands behind those before
         ensures { self.new ≡ self.old ++ byte ∷ [] }
     {
         self.cells[self.len] = byte;
@@ -75,7 +80,9 @@ impl<const N: usize> Short<N> {
 
     /// Appends bytes.
     pub fn extend(&mut self, bytes: &[u8])
+        // there is room for them
         requires { length self.old + length bytes.now ≤ N }
+        // the bytes stand behind those before
         ensures { self.new ≡ self.old ++ bytes.now }
     {
         for byte in bytes {

@@ -15,7 +15,9 @@ fn has_digit(text: &[u8], i: usize) -> bool
 
 /// Whether a space or a hyphen between two digits stands at index `i`.
 fn separates(text: &[u8], i: usize) -> bool
+    // the index is within the text
     requires { i < length text.now }
+    // it is true exactly where one stands there with a digit on either side
     ensures { IsTrue result ↔ Separates text.now i }
 {
     (text[i] == b' ' || text[i] == b'-')
@@ -49,7 +51,9 @@ pub(crate) fn read_digits(text: &[u8]) -> Option<Short<MOST_DIGITS>>
 
 /// ASCII digits as a text.
 pub(crate) fn as_text(digits: &[u8]) -> &str
+    // they are ASCII digits
     requires { All IsAsciiDigit digits.now }
+    // the text has these bytes
     ensures { result.now ≡ digits.now }
 {
     let Ok(text) = str::from_utf8(digits) else {

@@ -54,7 +54,9 @@ impl Token {
 
     /// The token of digits that are one.
     pub(crate) fn of(digits: Short<MOST_DIGITS>) -> Token
+        // they are 10 to 19 digits that fail the check
         requires { IsToken digits }
+        // it is the token of these digits
         ensures { result ≡ digits }
     {
         Token { text: digits }
@@ -62,7 +64,9 @@ impl Token {
 
     /// The ASCII digits.
     pub fn digits(&self) -> &[u8]
+        // these are the token's own digits
         ensures value { result.now ≡ self.now }
+        // they are 10 to 19 digits that fail the check
         ensures token { IsToken self.now }
     {
         self.text.bytes()
@@ -133,7 +137,7 @@ impl From<BadToken> for Refusal {
 
 impl fmt::Display for BadToken {
     ghost use Rattle.std.specs.Prelude.{Some};
-    ghost use Rattle.vault_refusal.specs.Words.{words_of};
+    ghost use Rattle.vault_refusal.specs.Refusal.{words_of};
     ghost use Rattle.vault_refusal.specs.declared.refusal.Refusal.TheVariants as refusal;
 
     ghost output = { λ _. Some (words_of refusal.BadToken) };

@@ -8,21 +8,22 @@ use Rattle.vault_core.specs.Table.{reply}
 use Rattle.vault_core.specs.Vault.{Vault as Content}
 use Rattle.vault_core.specs.declared.command.Command.{Command}
 use Rattle.vault_core.specs.declared.reply.Reply.{Reply}
-use Rattle.vault_http.specs.Exchanges.{Exchange, commands_in, commands_of}
+use Rattle.vault_engine.specs.Asking.{Asked, commands_in, commands_of}
+use Rattle.vault_wire.specs.Parts.{Parts}
 use Rattle.vault_jobs.specs.declared.task.Task.{Task}
 use Rattle.vault_jobs.specs.declared.task.Task.TheVariants as task
 use Rattle.vault_app.specs.Asked.{AsksFor}
 use Rattle.vault_app.specs.Plans.{IsTaskOf}
 use Rattle.vault_app.specs.World.{anything}
 use Rattle.vault_promise.proofs.Piping.{as_run, commands-append}
-use Rattle.vault_promise.specs.Again.{DidNoPipe, IsRepliedIn, Piped, PipesAgree, RunsAnswerAgain}
+use Rattle.vault_promise.specs.Again.{DidNoPipe, Piped, PipesAgree, RunsAnswerAgain}
 use Rattle.vault_promise.specs.Runs.{Come, Run, Work}
-use Rattle.vault_promise.specs.Standing.{AnsweredIn, AnswersStand, Stand}
+use Rattle.vault_promise.specs.Standing.{AnsweredIn, AnswersStand, IsRepliedIn, Stand}
 use Rattle.vault_promise.specs.Told.{Tells}
 
 -- the commands that a run answered are those of messages of its input
 record ArePiped (r : Run) (W : Content) (cs : List Command) : Type 0 where
-  xs : List Exchange
+  xs : List (Asked Parts)
   are : cs ≡ commands_of xs
   piped : Piped r W xs
 
@@ -59,7 +60,7 @@ has_answer_of r W cs it x y (first, more, one, is, wanted, replied) = (
 -- the messages that a run answered, each of which is answered in the runs up to it
 record IsTold (s : Run) (Answered : Command → Reply → Type 0) : Type 0 where
   held : Content
-  asked : List Exchange
+  asked : List (Asked Parts)
   piped : Piped s held asked
   answered : (x : Command) (y : Reply) → IsRepliedIn held asked x y → Answered x y
 

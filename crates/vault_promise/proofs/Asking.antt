@@ -2,7 +2,8 @@
 use Rattle.std.proofs.Common.{◌≡◌, ℕ, Bool, true, false, cond, List, Some, None, Ok, Err, inl, inr, ◌⊎◌}
 use Rattle.std.proofs.Common.{refl, sym, ap, ◌∙◌, subst, true≢false}
 use Rattle.std.proofs.Common.{[], ◌∷◌, ◌++◌, suc, Contains, arith}
-use Rattle.std.specs.Prelude.{codes, option_map}
+use Rattle.std.specs.Prelude.{All, codes, map, option_map}
+use Rattle.std.proofs.lemmas.List.Elements.{All-head, All-tail}
 use Rattle.std.specs.Str.{bytes_eq}
 use Rattle.std.proofs.lemmas.Slice.Eq.{bytes_eq-Decides}
 use Rattle.vault_core.specs.Keys.{Bytes}
@@ -21,7 +22,9 @@ use Rattle.vault_routes.specs.declared.table.Place.{Place}
 use Rattle.vault_routes.specs.declared.table.Place.TheVariants as place
 use Rattle.vault_routes.specs.declared.table.TokenAction.{TokenAction}
 use Rattle.vault_routes.specs.declared.table.TokenAction.TheVariants as on
-use Rattle.vault_http.specs.Exchanges.{AskFirst, Asks, Exchange, Pair, reply_to, vault_after}
+use Rattle.vault_engine.specs.Answered.{pairs_of, units_of}
+use Rattle.vault_engine.specs.Asking.{Asked, Asks, reply_to, vault_after}
+use Rattle.vault_http.specs.Exchanges.{message_kind}
 use Rattle.vault_promise.specs.Giving.{AsksForNumber, EachIsDue, IsDue, OnlyDueGoesOut}
 use Rattle.vault_promise.proofs.Giving.{only_due}
 use Rattle.vault_promise.proofs.Telling.{texts_tell}
@@ -163,11 +166,11 @@ given_by V (Ok c) number e = (c, refl, e)
 given_by V (Err n) number e = absurd (cc)
 
 pub only_due_out : OnlyDueGoesOut
-only_due_out V p pair x number close asks is =
+only_due_out V x number close asks is =
     let given = given_by V x.wanted number ((texts_tell V x number close).0 is).0 in
     let due = only_due V given.0 number given.2 in
-    let asked = wants_number p pair.0 pair.1 x.wanted due.caller due.merchant due.token due.now
-    (given.1 ∙ ap Ok due.asks) asks.1 in
+    let asked = wants_number x.unit x.pair.0 x.pair.1 x.wanted due.caller due.merchant due.token due.now
+    (given.1 ∙ ap Ok due.asks) asks in
     record {
       caller = due.caller;
       merchant = due.merchant;
@@ -176,30 +179,24 @@ only_due_out V p pair x number close asks is =
       due = subst (λ at. IsDue V due.caller due.merchant due.token at number) (sym asked.1) due.due;
     }
 
-in_front : {X : Type 0} (x : X) (xs : List X) → Contains (x ∷ xs) x
-in_front x xs = (0, omega arith, refl)
+-- an item in the midst of a list, by what it is mapped to
+in_midst : {X Y : Type 0} (f : X → Y) (before later : List X) (x : X)
+    → Contains (map f (before ++ x ∷ later)) (f x)
+in_midst f [] later x = (0, omega arith, refl)
+in_midst f (y ∷ before) later x =
+    let rest = in_midst f before later x in (suc rest.0, omega (arith, rest.1), rest.2)
 
-in_rest : {X : Type 0} (y : X) (xs : List X) (x : X) → Contains xs x → Contains (y ∷ xs) x
-in_rest y xs x c = (suc c.0, omega (arith, c.1), c.2)
-
--- each of exchanges is one of the messages, asked with one of the pairs
-asked_at : (ps : List Parts) (pairs : List Pair) (before later : List Exchange) (x : Exchange)
-    → AskFirst ps pairs (before ++ x ∷ later)
-    → Contains ps x.parts × ((pair : Pair) × Contains pairs pair × Asks x.parts pair x)
-asked_at ps [] [] later x a = absurd a
-asked_at ps [] (y ∷ before) later x a = absurd a
-asked_at [] (pair ∷ pairs) [] later x a = absurd a
-asked_at [] (pair ∷ pairs) (y ∷ before) later x a = absurd a
-asked_at (p ∷ ps) (pair ∷ pairs) [] later x a = (
-  subst (λ q. Contains (p ∷ ps) q) (sym a.0.0) (in_front p ps),
-  (pair, in_front pair pairs, (refl, subst (λ q. Wants q pair.0 pair.1 x.wanted) (sym a.0.0) a.0.1)),
-)
-asked_at (p ∷ ps) (pair ∷ pairs) (y ∷ before) later x a =
-    let rest = asked_at ps pairs before later x a.1 in
-    (in_rest p ps x.parts rest.0, (rest.1.0, in_rest pair pairs rest.1.0 rest.1.1, rest.1.2))
+in_all : (P : Asked Parts → Type 0) (before later : List (Asked Parts)) (x : Asked Parts)
+    → All P (before ++ x ∷ later) → P x
+in_all P [] later x all = All-head P x later all
+in_all P (y ∷ before) later x all = in_all P before later x (All-tail P y (before ++ x ∷ later) all)
 
 pub each_due : EachIsDue
-each_due V ps pairs before later x number close asks is =
-    let at = asked_at ps pairs before later x asks in
-    let due = only_due_out (vault_after V before) x.parts at.1.0 x number close at.1.2 is in
-    (at.0, (at.1.0, at.1.1, due))
+each_due V xs before later x number close are asks is = (
+  subst (λ ys. Contains (units_of ys) x.unit) (sym are)
+      (in_midst (λ (y : Asked Parts). y.unit) before later x),
+  subst (λ ys. Contains (pairs_of ys) x.pair) (sym are)
+      (in_midst (λ (y : Asked Parts). y.pair) before later x),
+  only_due_out (vault_after V before) x number close
+      (in_all (Asks message_kind) before later x (subst (All (Asks message_kind)) are asks)) is,
+)

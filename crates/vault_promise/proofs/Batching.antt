@@ -2,9 +2,9 @@
 use Rattle.std.proofs.Common.{◌≡◌, ◌⊎◌, ℕ, ◌+◌, ◌<◌, List, [], ◌∷◌, ◌++◌, length, take, map, Option}
 use Rattle.std.proofs.Common.{None, Result, Ok, Err, inl, inr, refl, sym, ap, subst, ◌∙◌, append-nil}
 use Rattle.std.proofs.Common.{append_assoc}
-use Rattle.std.proofs.Math.Seq.{take-append-add, take-append_seam, take-length}
-use Rattle.std.proofs.lemmas.Grind.{flat_map-append}
-use Rattle.std.proofs.lemmas.List.Elements.{All-cons, All-head, All-nil, All-tail, All-take}
+use Rattle.std.proofs.Math.Seq.{take-append-add, take-length}
+use Rattle.std.proofs.lemmas.List.{map-append}
+use Rattle.std.proofs.lemmas.List.Elements.{All-nil}
 use Rattle.std.specs.Io.KnownBytes.{Appends}
 use Rattle.std.specs.Prelude.{All}
 use Rattle.std.specs.Str.Parse.{digits_value}
@@ -13,7 +13,7 @@ use Rattle.vault_batch.specs.Batched.{line_at, lines, rows_of}
 use Rattle.vault_batch.specs.Lines.{first_line}
 use Rattle.vault_engine.proofs.Listing.{texts-more, vault_after-nil}
 use Rattle.vault_engine.specs.Answered.{pairs_of}
-use Rattle.vault_engine.specs.Asking.{commands_of, vault_after}
+use Rattle.vault_engine.specs.Asking.{commands_of, vault_after, Pair, commands_in}
 use Rattle.vault_batch.specs.Rows.{BeginRecordsOf, Fields, Row, fields_in, header}
 use Rattle.vault_batch.specs.Rows.{records_with}
 use Rattle.vault_batch.specs.Stops.{IsBatched, Stops}
@@ -27,8 +27,7 @@ use Rattle.vault_core.specs.Runs.{run}
 use Rattle.vault_core.specs.Vault.{Vault as Content}
 use Rattle.vault_core.specs.declared.command.Command.{Command}
 use Rattle.vault_core.specs.declared.command.Command.TheVariants.{Tokenize}
-use Rattle.vault_http.specs.Exchanges.{Pair, commands_in}
-use Rattle.vault_http.specs.Passing.{IsBefore, Passage, Takes}
+use Rattle.vault_engine.specs.Passing.{IsBefore, Passage, Takes}
 use Rattle.vault_listen.specs.Live.{IsPairOf, Turns}
 use Rattle.vault_pan.specs.CardText.{digits_of}
 use Rattle.vault_routes.specs.Wanted.{Wanted}
@@ -39,8 +38,9 @@ use Rattle.vault_jobs.specs.declared.stop.Stop.TheVariants as stop
 use Rattle.vault_jobs.specs.declared.task.Outcome.{Outcome}
 use Rattle.vault_jobs.specs.declared.task.Outcome.TheVariants as outcome
 use Rattle.vault_jobs.specs.declared.task.Task.TheVariants as task
-use Rattle.vault_promise.proofs.Piping.{command_in, run_append, wanted_proper, wanted_run}
-use Rattle.vault_promise.proofs.Proper.{IsFine, fine_by, proper-append, proper-first, proper-last, refused}
+use Rattle.vault_promise.proofs.Piping.{as_run, command_in, commands_then, run_then, wanted_proper}
+use Rattle.vault_promise.proofs.Proper.{IsFine, all_first, asked_proper, fine_by, proper-first, proper-last}
+use Rattle.vault_promise.proofs.Proper.{refused}
 use Rattle.vault_promise.proofs.Working.{Works}
 use Rattle.vault_promise.specs.Runs.{perhaps}
 use Rattle.vault_promise.specs.Told.{CameIn, IsQuiet}
@@ -60,34 +60,6 @@ row_proper who row pair now digits w named at of (inl (request, inl (number, inr
     refused w _ is
 row_proper who row pair now digits w named at of (inl (request, inr (never, is))) = refused w _ is
 row_proper who row pair now digits w named at of (inr (never, is)) = refused w _ is
-
--- so the commands of rows
-rows_proper : (who : Asker) (now : Option ℕ) (digits : Option (List ℕ)) (xs : List Asked) → IsName who.caller
-    → IsName who.merchant → All (IsPairOf now digits) (pairs_of xs) → All (Asks who) xs
-    → AllProper (commands_of xs)
-rows_proper who now digits [] named at of asked = tt
-rows_proper who now digits (x ∷ xs) named at of asked =
-    proper-append (commands_in x.wanted) (commands_of xs)
-    (row_proper who x.unit x.pair now digits x.wanted named at
-    (All-head (IsPairOf now digits) x.pair (pairs_of xs) of) (All-head (Asks who) x xs asked))
-    (rows_proper who now digits xs named at (All-tail (IsPairOf now digits) x.pair (pairs_of xs) of)
-    (All-tail (Asks who) x xs asked))
-
-pub as_run : (V : Content) (xs : List Asked) → vault_after V xs ≡ run (commands_of xs) V
-unfolding vault_after
-as_run V xs = refl
-
-rows_then : (xs : List Asked) (x : Asked)
-    → commands_of (xs ++ x ∷ []) ≡ commands_of xs ++ commands_in x.wanted
-rows_then xs x =
-    flat_map-append (λ (y : Asked). commands_in y.wanted) xs (x ∷ [])
-    ∙ ap (λ cs. commands_of xs ++ cs) (append-nil (commands_in x.wanted))
-
-run_then : (V : Content) (xs : List Asked) (x : Asked)
-    → vault_after V (xs ++ x ∷ []) ≡ perhaps (run (commands_of xs) V) (command_in x.wanted)
-run_then V xs x =
-    as_run V (xs ++ x ∷ []) ∙ ap (λ cs. run cs V) (rows_then xs x)
-    ∙ run_append (commands_of xs) (commands_in x.wanted) V ∙ wanted_run x.wanted (run (commands_of xs) V)
 
 -- the records of rows, with none more
 has_rows : (s : Streams) (xs : List Asked) → CameIn s (records_with (rows_of xs))
@@ -147,10 +119,11 @@ module _ (who : Asker) (now : Option ℕ) (digits : Option (List ℕ)) (named : 
     fits : (ds : List Pair) → Takes (along w s pairs) ds → All (IsPairOf now digits) ds
     fits ds taken = subst (λ (es : List Pair). All (IsPairOf now digits) es) taken fixed
 
-    fits_first : (ds es : List Pair) → Takes (along w s pairs) (ds ++ es) → All (IsPairOf now digits) ds
-    fits_first ds es taken =
-        subst (λ (fs : List Pair). All (IsPairOf now digits) fs) (take-append_seam ds es)
-        (All-take (IsPairOf now digits) (length ds) (ds ++ es) (fits (ds ++ es) taken))
+    rows_proper : (xs : List Asked) → All (IsPairOf now digits) (pairs_of xs) → All (Asks who) xs
+        → AllProper (commands_of xs)
+    rows_proper =
+        asked_proper (rows_by who) now digits
+        (λ row pair w of. row_proper who row pair now digits w named at of)
 
     -- rows that are answered
     answered : (xs : List Asked)
@@ -160,7 +133,7 @@ module _ (who : Asker) (now : Option ℕ) (digits : Option (List ℕ)) (named : 
     answered xs records of asked went left = record {
       answered = commands_of xs;
       undecided = None;
-      proper = rows_proper who now digits xs named at of asked;
+      proper = rows_proper xs of asked;
       last_proper = tt;
       tells = (xs, asked, refl, record { records = records; fixed = of }, went);
       done = λ _. tt;
@@ -181,15 +154,6 @@ module _ (who : Asker) (now : Option ℕ) (digits : Option (List ℕ)) (named : 
         let all : first_line ++ lines V [] ≡ first_line = append-nil first_line in
         (n, subst (λ t. Appends s.sent_old s.sent_new (take n t)) (sym all) went)
 
-    -- the pairs of the rows before one
-    first_pairs : (xs : List Asked) (x : Asked) → All (IsPairOf now digits) (pairs_of (xs ++ x ∷ []))
-        → All (IsPairOf now digits) (pairs_of xs)
-    first_pairs [] x all = All-nil (IsPairOf now digits)
-    first_pairs (y ∷ ys) x all =
-        All-cons (IsPairOf now digits) y.pair (pairs_of ys)
-        (All-head (IsPairOf now digits) y.pair (pairs_of (ys ++ x ∷ [])) all)
-        (first_pairs ys x (All-tail (IsPairOf now digits) y.pair (pairs_of (ys ++ x ∷ [])) all))
-
     -- some rows are answered, and one more is undecided
     torn : (xs : List Asked) (x : Asked)
         → BeginRecordsOf s.left_old (records_with (rows_of xs) ++ fields_in x.unit ∷ [])
@@ -198,7 +162,7 @@ module _ (who : Asker) (now : Option ℕ) (digits : Option (List ℕ)) (named : 
         → w.left_new (vault_after V xs) (vault_after V (xs ++ x ∷ [])) → Goal
     torn xs x records of asked went left =
         let proper : AllProper (commands_of xs ++ commands_in x.wanted) =
-        subst AllProper (rows_then xs x) (rows_proper who now digits (xs ++ x ∷ []) named at of asked) in
+        subst AllProper (commands_then xs x) (rows_proper (xs ++ x ∷ []) of asked) in
         record {
           answered = commands_of xs;
           undecided = command_in x.wanted;
@@ -206,10 +170,15 @@ module _ (who : Asker) (now : Option ℕ) (digits : Option (List ℕ)) (named : 
           last_proper = wanted_proper x.wanted (proper-last (commands_of xs) (commands_in x.wanted) proper);
           tells = (
             xs,
-            subst (λ ys. All (Asks who) ys) (take-append_seam xs (x ∷ []))
-                (All-take (Asks who) (length xs) (xs ++ x ∷ []) asked),
+            all_first (Asks who) xs (x ∷ []) asked,
             refl,
-            record { records = inr (fields_in x.unit ∷ [], inr records); fixed = first_pairs xs x of },
+            record {
+              records = inr (fields_in x.unit ∷ [], inr records);
+              fixed =
+                  all_first (IsPairOf now digits) (pairs_of xs) (x.pair ∷ [])
+                  (subst (All (IsPairOf now digits))
+                  (map-append (λ (y : Asked). y.pair) xs (x ∷ [])) of);
+            },
             all_went xs went,
           );
           done = λ _. tt;
@@ -245,7 +214,8 @@ module _ (who : Asker) (now : Option ℕ) (digits : Option (List ℕ)) (named : 
     stopped fault.Memory (inl q) = none (quiet_went q.0) (q.1.1 V b).1
     stopped fault.Memory (inr (inl (rows, records, q))) =
         let it = q.answered V b in
-        answered rows (has_rows s rows (inr records)) (fits_first (pairs_of rows) q.unused q.taken) q.asked
+        answered rows (has_rows s rows (inr records))
+        (all_first (IsPairOf now digits) (pairs_of rows) q.unused (fits _ q.taken)) q.asked
         (all_went rows it.0) it.1.1
     stopped fault.Memory (inr (inr (rows, next, records, q))) =
         let it = q.answered V b in

@@ -14,8 +14,9 @@ use Rattle.vault_core.specs.Sound.{Sound}
 use Rattle.vault_core.specs.Vault.{Vault as Content}
 use Rattle.vault_core.specs.declared.command.Command.{Command}
 use Rattle.vault_file.specs.Found.{OpensFrom, Stays}
-use Rattle.vault_http.proofs.Bytes.{appends_nothing, consumes_nothing}
-use Rattle.vault_http.specs.Passing.{IsBefore, Passage}
+use Rattle.vault_engine.proofs.Answering.{appends_nothing}
+use Rattle.vault_http.proofs.Bytes.{consumes_nothing}
+use Rattle.vault_engine.specs.Passing.{IsBefore, Passage}
 use Rattle.sqlite.specs.Held.{Held}
 use Rattle.sqlite.specs.State.{HasCleanDisk}
 use Rattle.vault_core.specs.Proper.{IsProper}
@@ -40,8 +41,8 @@ use Rattle.vault_words.specs.Jobs.{IsAsked}
 use Rattle.vault_words.specs.declared.jobs.Job.{Job}
 use Rattle.vault_words.specs.declared.jobs.Job.TheVariants as job
 use Rattle.vault_app.specs.Jobs.{Does as DoesWords, DoesPlan, IsChecked, IsMoved}
-use Rattle.vault_app.specs.Commands.Serve.{IsServeOf, without_end}
-use Rattle.vault_app.specs.Plans.{IsPlanOf, IsProperPlan, IsTaskOf, saying}
+use Rattle.vault_app.specs.Commands.Serve.{IsRefusedAt, IsServeOf, without_end}
+use Rattle.vault_app.specs.Plans.{EndsBefore, IsPlanOf, IsProperPlan, IsTaskOf, saying}
 use Rattle.vault_app.specs.Saying.{IsBeside, IsPlanFor, IsTaskFor, OfCheck, OfMove, OfTask, OfTrial, Purpose}
 use Rattle.vault_app.specs.Saying.{path_of}
 use Rattle.vault_app.specs.Asked.{AsksFor, Unasked}
@@ -129,6 +130,22 @@ any_task world (job.Serve j) t is = any_serve j.port (unwrap_or j.connections wi
 any_task world (job.Sweep j) t (names, (who, now, caller, merchant, moment, same)) =
     (names, (who, now, caller, merchant, any_moment world.tells j.now now moment, same))
 any_task world job t is = is
+
+-- a refusal before there is a plan, of a text that was told, is one whatever may be told
+any_refusal : (world : World) (job : Job) (n : ℕ) → (saying job).refused world n
+    → (saying job).refused anything n
+any_refusal world (job.Rights j) n (text, fault, said, is, same, other) = (text, fault, tt, is, same, other)
+any_refusal world (job.Serve j) n h = any_at j.rights h
+  where
+    any_at : (o : Option (Bor (List ℕ))) → IsRefusedAt world o n → IsRefusedAt anything o n
+    any_at None h = h
+    any_at (Some path) (text, fault, said, is, same, other) = (text, fault, tt, is, same, other)
+any_refusal world job n h = h
+
+any_early : (world : World) (job : Job) (end : Ending) → EndsBefore world job end
+    → EndsBefore anything job end
+any_early world job (ending.Refused n) h = any_refusal world job n h
+any_early world job end h = h
 
 fits_for : (world : World) (it : Purpose) → ((t : Task) → IsTaskFor it world t → IsTaskFor it anything t)
     → (p : Plan) → IsPlanFor it world p → FitsFor it p
@@ -399,7 +416,7 @@ module _ {D : Type 0} {g : Ghosts D} (world : World) (image next : Image) where
   all left words end s unread unsent still quiet
       (inl (job, asked, inr (why, none, calm, silent))) at leaves =
       rests next (record { begins = image; words = words; ending = end; streams = s })
-      (inl (inl ((job, asked, why), quiet silent)))
+      (inl (inl ((job, asked, any_early world job end why), quiet silent)))
       (subst (λ l. Leaves image l next) none leaves)
   all left words end s unread unsent still quiet (inr (none, without)) at leaves =
       rests next (record { begins = image; words = words; ending = end; streams = s })

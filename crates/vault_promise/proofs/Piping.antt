@@ -9,9 +9,11 @@ use Rattle.vault_core.specs.Runs.{run}
 use Rattle.vault_core.specs.Vault.{Vault as Content}
 use Rattle.vault_core.specs.declared.command.Command.{Command}
 use Rattle.std.specs.Io.KnownBytes.{Appends, Consumes}
-use Rattle.vault_http.specs.Exchanges.{Exchange, commands_in, commands_of, last_text, texts, vault_after}
+use Rattle.vault_http.specs.Exchanges.{answer_for, last_text}
+use Rattle.vault_engine.specs.Asking.{Asked, commands_in, commands_of, texts, vault_after}
+use Rattle.vault_wire.specs.Parts.{Parts}
 use Rattle.vault_wire.specs.declared.fault.WireFault.{WireFault}
-use Rattle.vault_http.specs.Passing.{IsBefore, Passage}
+use Rattle.vault_engine.specs.Passing.{IsBefore, Passage}
 use Rattle.vault_listen.specs.Live.{Turns}
 use Rattle.vault_routes.specs.Wanted.{Wanted}
 use Rattle.vault_jobs.specs.Doing.{PipeEnds}
@@ -42,33 +44,34 @@ pub run_append : (cs ds : List Command) (V : Content) → run (cs ++ ds) V ≡ r
 run_append [] ds V = refl
 run_append (c ∷ cs) ds V = run_append cs ds _
 
-pub commands-append : (xs ys : List Exchange) → commands_of (xs ++ ys) ≡ commands_of xs ++ commands_of ys
-commands-append xs ys = flat_map-append (λ (x : Exchange). commands_in x.wanted) xs ys
+module _ {X : Type 0} where
+  pub commands-append : (xs ys : List (Asked X)) → commands_of (xs ++ ys) ≡ commands_of xs ++ commands_of ys
+  commands-append xs ys = flat_map-append (λ (x : Asked X). commands_in x.wanted) xs ys
 
--- the vault after exchanges is the one after their commands
-pub as_run : (V : Content) (xs : List Exchange) → vault_after V xs ≡ run (commands_of xs) V
-unfolding vault_after
-as_run V xs = refl
+  -- the vault after exchanges is the one after their commands
+  pub as_run : (V : Content) (xs : List (Asked X)) → vault_after V xs ≡ run (commands_of xs) V
+  unfolding vault_after
+  as_run V xs = refl
 
--- the commands of exchanges and of one more
-pub commands_then : (xs : List Exchange) (x : Exchange)
-    → commands_of (xs ++ x ∷ []) ≡ commands_of xs ++ commands_in x.wanted
-commands_then xs x =
-    commands-append xs (x ∷ []) ∙ ap (λ cs. commands_of xs ++ cs) (append-nil (commands_in x.wanted))
+  -- the commands of exchanges and of one more
+  pub commands_then : (xs : List (Asked X)) (x : Asked X)
+      → commands_of (xs ++ x ∷ []) ≡ commands_of xs ++ commands_in x.wanted
+  commands_then xs x =
+      commands-append xs (x ∷ []) ∙ ap (λ cs. commands_of xs ++ cs) (append-nil (commands_in x.wanted))
 
-pub run_then : (V : Content) (xs : List Exchange) (x : Exchange)
-    → vault_after V (xs ++ x ∷ []) ≡ perhaps (run (commands_of xs) V) (command_in x.wanted)
-run_then V xs x =
-    as_run V (xs ++ x ∷ []) ∙ ap (λ cs. run cs V) (commands_then xs x)
-    ∙ run_append (commands_of xs) (commands_in x.wanted) V ∙ wanted_run x.wanted (run (commands_of xs) V)
+  pub run_then : (V : Content) (xs : List (Asked X)) (x : Asked X)
+      → vault_after V (xs ++ x ∷ []) ≡ perhaps (run (commands_of xs) V) (command_in x.wanted)
+  run_then V xs x =
+      as_run V (xs ++ x ∷ []) ∙ ap (λ cs. run cs V) (commands_then xs x)
+      ∙ run_append (commands_of xs) (commands_in x.wanted) V ∙ wanted_run x.wanted (run (commands_of xs) V)
 
 module _ (now : Option ℕ) (digits : Option (List ℕ)) (w : Passage) (V : Content) (b : IsBefore w V)
     (s : Streams) (F : Type 0) where
-  answered : (xs us : List Exchange) → AreHeard now digits s xs → length us ≤ 1
+  answered : (xs us : List (Asked Parts)) → AreHeard now digits s xs → length us ≤ 1
       → AllProper (commands_of (xs ++ us))
       → w.left_new (vault_after V xs) (vault_after V (xs ++ us))
       → (e : Option WireFault) × (sent : ℕ)
-      × Appends s.sent_old s.sent_new (take sent (texts V xs ++ last_text e))
+      × Appends s.sent_old s.sent_new (take sent (texts answer_for V xs ++ last_text e))
       → Works w V (task.Pipe now digits) F s
   answered xs [] heard few proper left went = record {
     answered = commands_of xs;

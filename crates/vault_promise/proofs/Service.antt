@@ -1,9 +1,9 @@
 -- Two services of the same bytes, pairs and vault do the same.
 use Rattle.std.proofs.Common.{◌≡◌, List, ◌++◌, length, inl, inr, sym, ap, ◌∙◌, subst}
 use Rattle.std.proofs.lemmas.List.{append_cancel_left}
-use Rattle.vault_http.specs.Exchanges.{AskFirst, Pair, last_text, shown, texts, up_to_close}
-use Rattle.vault_http.specs.Exchanges.{vault_after}
-use Rattle.vault_http.specs.Passing.{Keeps, Passage, Sends, Takes}
+use Rattle.vault_http.specs.Exchanges.{answer_for, last_text}
+use Rattle.vault_engine.specs.Asking.{Pair, texts, vault_after}
+use Rattle.vault_engine.specs.Passing.{Keeps, Passage, Sends, Takes}
 use Rattle.vault_promise.specs.Agreement.{IsOfHead}
 use Rattle.vault_promise.specs.Service.{ServicesAgree}
 use Rattle.vault_promise.proofs.Streams.{alike}
@@ -20,30 +20,26 @@ services w w' bytes pairs V served served' given given' =
     let both = alike bytes one.bytes other.bytes given.left given'.left one.messages other.messages
     one.fault other.fault
     one.read other.read one.reads other.reads one.ended other.ended in
-    let asked : AskFirst (up_to_close (shown one.messages)) pairs one.exchanges =
-    subst (λ k. AskFirst (up_to_close (shown one.messages)) k one.exchanges)
-    (same_pairs w one.pairs pairs one.taken given.taken) one.asked in
-    let asked' : AskFirst (up_to_close (shown one.messages)) pairs other.exchanges =
-    subst (λ ps. AskFirst ps pairs other.exchanges) (sym both.0)
-    (subst (λ k. AskFirst (up_to_close (shown other.messages)) k other.exchanges)
-    (same_pairs w' other.pairs pairs other.taken given'.taken) other.asked) in
+    let units = one.whole ∙ both.0 ∙ sym other.whole in
+    let taken = same_pairs w _ pairs one.taken given.taken
+    ∙ sym (same_pairs w' _ pairs other.taken given'.taken) in
     let same : one.exchanges ≡ other.exchanges =
-    asked_one (up_to_close (shown one.messages)) pairs one.exchanges other.exchanges asked asked' in
+    asked_one one.exchanges other.exchanges one.asked other.asked units taken in
     let count : served.messages ≡ served'.messages =
     one.counted ∙ ap length same ∙ sym other.counted in
     let first = one.answered V given.before in
     let second = other.answered V given'.before in
     let kept' : Keeps w' (vault_after V one.exchanges) =
     subst (λ xs. Keeps w' (vault_after V xs)) (sym same) second.1 in
-    let sent' : Sends w' (texts V one.exchanges ++ last_text served'.fault) =
-    subst (λ xs. Sends w' (texts V xs ++ last_text served'.fault)) (sym same) second.0 in
+    let sent' : Sends w' (texts answer_for V one.exchanges ++ last_text served'.fault) =
+    subst (λ xs. Sends w' (texts answer_for V xs ++ last_text served'.fault)) (sym same) second.0 in
     elim both.1 [
       | inl equal ↦ (
           let fault : served.fault ≡ served'.fault = one.told ∙ equal ∙ sym other.told in
           inl (record {
-            out = texts V one.exchanges ++ last_text served.fault;
+            out = texts answer_for V one.exchanges ++ last_text served.fault;
             sent = first.0;
-            sent' = subst (λ f. Sends w' (texts V one.exchanges ++ last_text f)) (sym fault) sent';
+            sent' = subst (λ f. Sends w' (texts answer_for V one.exchanges ++ last_text f)) (sym fault) sent';
             told = λ i. record { messages = count i; fault = fault i };
             after = vault_after V one.exchanges;
             kept = first.1;
@@ -53,7 +49,7 @@ services w w' bytes pairs V served served' given given' =
       | inr two ↦ inr (
         two.0,
         record {
-          out = texts V one.exchanges;
+          out = texts answer_for V one.exchanges;
           sent = first.0;
           sent' = sent';
           messages = count;

@@ -6,8 +6,9 @@ use Rattle.vault_core.specs.Proper.{AllProper, IsProper}
 use Rattle.vault_core.specs.Runs.{run}
 use Rattle.vault_core.specs.Vault.{Vault as Content}
 use Rattle.vault_core.specs.declared.command.Command.{Command}
-use Rattle.vault_http.specs.Exchanges.{Exchange, commands_in, commands_of, vault_after}
-use Rattle.vault_http.specs.Passing.{IsBefore, Passage}
+use Rattle.vault_wire.specs.Parts.{Parts}
+use Rattle.vault_engine.specs.Asking.{Asked, commands_in, commands_of, vault_after}
+use Rattle.vault_engine.specs.Passing.{IsBefore, Passage}
 use Rattle.vault_http.specs.Served.{IsServed, IsStopped}
 use Rattle.vault_engine.specs.declared.stop.Stop.{Stop as ServeFault}
 use Rattle.vault_http.specs.declared.served.Served.{Served}
@@ -63,7 +64,7 @@ link_answers tells V W U x it = by_more a.undecided a.few a.proper (a.left V b)
     b : IsBefore (link_from V W U it.pairs x) V
     b = (tt, refl)
 
-    by_more : (us : List Exchange) → length us ≤ 1 → AllProper (commands_of (a.exchanges ++ us))
+    by_more : (us : List (Asked Parts)) → length us ≤ 1 → AllProper (commands_of (a.exchanges ++ us))
         → (vault_after V a.exchanges ≡ W) × (vault_after V (a.exchanges ++ us) ≡ U) → LinkAnswers V W U x
     by_more [] few proper left = record {
       answered = commands_of a.exchanges;

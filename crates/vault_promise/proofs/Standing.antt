@@ -13,24 +13,20 @@ use Rattle.vault_core.specs.declared.command.Command.{Command}
 use Rattle.vault_core.specs.declared.command.TokenRequest.{TokenRequest}
 use Rattle.vault_core.specs.declared.reply.Reply.{Reply}
 use Rattle.vault_core.specs.declared.reply.Reply.TheVariants.{Token}
-use Rattle.std.proofs.lemmas.Grind.{flat_map-append}
-use Rattle.vault_batch.specs.Asking.{Asked}
-use Rattle.vault_engine.specs.Asking as rows
-use Rattle.vault_http.specs.Exchanges.{commands_in, commands_of}
+use Rattle.vault_engine.specs.Asking.{Asked, commands_in, commands_of}
 use Rattle.vault_recover.specs.Histories.{Answered, IsHistory, Step, last}
 use Rattle.vault_listen.specs.Peers.{Link}
 use Rattle.vault_jobs.specs.Changes.{changes_at, rights_of}
 use Rattle.vault_jobs.specs.Streams.{Streams}
 use Rattle.vault_jobs.specs.declared.task.Task.{Task}
 use Rattle.vault_jobs.specs.declared.task.Task.TheVariants as task
-use Rattle.vault_promise.proofs.Batching.{as_run as rows_run}
 use Rattle.vault_promise.proofs.Coming.{answers_last, opening_last}
 use Rattle.vault_promise.proofs.Lasting.{last-append, parts}
 use Rattle.vault_promise.proofs.Piping.{as_run, commands-append, run_append}
 use Rattle.vault_promise.specs.Lasting.{HistoriesLast}
 use Rattle.vault_promise.specs.Runs.{Come, Run, RunsComeToHistories, answers, history, opening}
 use Rattle.vault_promise.specs.Standing.{AnsweredIn, Answers, AnswersStand, Stand, TellsStanding}
-use Rattle.vault_promise.specs.Standing.{LinksStand, TextsStand, TokensStand}
+use Rattle.vault_promise.specs.Standing.{IsRepliedIn, LinksStand, TextsStand, TokensStand}
 use Rattle.vault_promise.specs.Told.{AllAnswer, AreAnswered, Tells, streams_of}
 
 abbrev Steps : Type 0
@@ -117,7 +113,21 @@ module _ (lasting : HistoriesLast) (V : Content) (sound : Sound V) where
 abbrev AnswersIn : Content → List Command → Command → Reply → Type 0
 AnswersIn W cs x y = (first more : List Command) × (cs ≡ first ++ x ∷ more) × (reply (run first W) x ≡ y)
 
--- the texts of messages stand where the answers to their commands do
+-- what is replied to units stands where the answers to their commands do
+replies_stand : {X : Type 0} (W : Content) (cs : List Command) (xs : List (Asked X))
+    (Later : Command → Reply → Type 0) → TokensStand (AnswersIn W cs) Later → cs ≡ commands_of xs
+    → TokensStand (IsRepliedIn W xs) Later
+replies_stand W cs xs Later stand are =
+    λ a again token expires y (first, more, it, is, wanted, replied) same later.
+    stand a again token expires y (
+      commands_of first,
+      commands_of more,
+      are ∙ ap commands_of is ∙ commands-append first (it ∷ more)
+          ∙ ap (λ w. commands_of first ++ (commands_in w ++ commands_of more)) wanted,
+      subst (λ U. reply U (command_of a) ≡ Token token expires) (as_run W first) replied,
+    ) same later
+
+-- the texts of messages stand
 messages_stand : (now : Option ℕ) (digits : Option (List ℕ)) (W : Content) (cs : List Command) (s : Streams)
     (Later : Command → Reply → Type 0) → TokensStand (AnswersIn W cs) Later
     → (it : AreAnswered now digits W cs s) → TextsStand now digits W s Later
@@ -127,14 +137,7 @@ messages_stand now digits W cs s Later stand (xs, are, heard, (fault, sent, went
   fault = fault;
   sent = sent;
   went = went;
-  stand = λ a again token expires y (first, more, it, is, wanted, replied) same later.
-      stand a again token expires y (
-        commands_of first,
-        commands_of more,
-        are ∙ ap commands_of is ∙ commands-append first (it ∷ more)
-            ∙ ap (λ w. commands_of first ++ (commands_in w ++ commands_of more)) wanted,
-        subst (λ U. reply U (command_of a) ≡ Token token expires) (as_run W first) replied,
-      ) same later;
+  stand = replies_stand W cs xs Later stand are;
 }
 
 -- and so those of connections
@@ -171,14 +174,7 @@ texts_stand (task.Batch who now digits) W cs s Later stand (xs, asked, are, read
   read = read;
   sent = sent;
   went = went;
-  stand = λ a again token expires y (first, more, it, is, wanted, replied) same later.
-      stand a again token expires y (
-        rows.commands_of first,
-        rows.commands_of more,
-        are ∙ ap rows.commands_of is ∙ flat_map-append (λ (x : Asked). commands_in x.wanted) first (it ∷ more)
-            ∙ ap (λ w. rows.commands_of first ++ (commands_in w ++ rows.commands_of more)) wanted,
-        subst (λ U. reply U (command_of a) ≡ Token token expires) (rows_run W first) replied,
-      ) same later;
+  stand = replies_stand W cs xs Later stand are;
 }
 texts_stand (task.Pipe now digits) W cs s Later stand told = messages_stand now digits W cs s Later stand told
 texts_stand (task.Serve port connections None) W cs s Later stand told =

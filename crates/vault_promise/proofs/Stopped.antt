@@ -10,22 +10,25 @@ use Rattle.vault_core.specs.Vault.{Vault as Content}
 use Rattle.vault_wire.specs.Messages.{IsMessage, Request, print_message}
 use Rattle.vault_wire.specs.Parts.{Parts, closes, parts_of}
 use Rattle.vault_wire.specs.declared.fault.WireFault.{WireFault}
-use Rattle.vault_http.specs.Exchanges.{AskFirst, Exchange, Pair, fault_text, last_text, shown}
-use Rattle.vault_http.specs.Exchanges.{text_at, texts, up_to_close, vault_after}
-use Rattle.vault_http.specs.Passing.{IsBefore, Passage, Sends, Stops, Takes}
+use Rattle.vault_http.specs.Exchanges.{answer_for, fault_text, last_text, message_kind, shown, up_to_close}
+use Rattle.vault_engine.specs.Answered.{pairs_of, units_of}
+use Rattle.vault_engine.specs.Asking.{Asked, Asks, Pair, text_at, texts, vault_after}
+use Rattle.vault_engine.specs.Passing.{IsBefore, Passage, Sends, Takes}
+use Rattle.vault_engine.specs.Within.{StopsWithin}
 use Rattle.vault_http.specs.Served.{IsServed, IsStopped, StopsAtFault, StopsAmong}
 use Rattle.vault_engine.specs.declared.stop.Stop.{Stop as ServeFault}
 use Rattle.vault_engine.specs.declared.stop.Stop.TheVariants as stop
 use Rattle.vault_http.specs.declared.served.Served.{Served}
 use Rattle.vault_http.proofs.Closing.{up_to_close-none}
-use Rattle.vault_http.proofs.Exchanging.{asks_longer, texts-append}
+use Rattle.vault_engine.proofs.Listing.{texts-append, texts-more}
+use Rattle.vault_jobs.proofs.Stops.{with_next}
 use Rattle.vault_promise.specs.Agreement.{IsOfHead}
 use Rattle.vault_promise.specs.Service.{HasAmbiguousRest, SentBeginning, SentBeginningTillFault, Serves}
 use Rattle.vault_promise.specs.Service.{StoppedServicesAgree}
 use Rattle.vault_promise.proofs.Faults.{next_same}
 use Rattle.vault_promise.proofs.Service.{same_pairs}
 use Rattle.vault_promise.proofs.Streams.{alike}
-use Rattle.vault_promise.proofs.Wanting.{asked_one}
+use Rattle.vault_promise.proofs.Wanting.{same_asked}
 
 -- the one list is a beginning of the other
 abbrev Front : {X : Type 0} → List X → List X → Type 0
@@ -64,43 +67,46 @@ front_shown ms ns f =
     (rest.0, ap (λ ks. up_to_close (shown ks)) f.1 ∙ ap up_to_close (map-append parts_of ms f.0) ∙ rest.1)
 
 -- messages that are asked with the first pairs are the first exchanges
-asks_front : (ps : List Parts) (pairs more : List Pair) (ys xs : List Exchange) → AskFirst ps pairs ys
-    → AskFirst ps (pairs ++ more) xs → Front ys xs
-asks_front ps [] more [] xs a b = (xs, refl)
-asks_front ps [] more (y ∷ ys) xs a b = absurd a
-asks_front ps (pair ∷ pairs) more [] xs a b = absurd a
-asks_front [] (pair ∷ pairs) more (y ∷ ys) xs a b = absurd a
-asks_front (p ∷ ps) (pair ∷ pairs) more (y ∷ ys) [] a b = absurd b
-asks_front (p ∷ ps) (pair ∷ pairs) more (y ∷ ys) (x ∷ xs) a b =
-    let one = asked_one (p ∷ []) (pair ∷ []) (x ∷ []) (y ∷ []) (b.0, tt) (a.0, tt) in
-    let head : x ≡ y = (let same = one in cc) in
-    let rest = asks_front ps pairs more ys xs a.1 b.1 in
+asks_front : (ys xs : List (Asked Parts)) (r t : List Parts) (more : List Pair) → All (Asks message_kind) ys
+    → All (Asks message_kind) xs → units_of ys ++ r ≡ units_of xs ++ t → pairs_of xs ≡ pairs_of ys ++ more
+    → Front ys xs
+asks_front [] xs r t more a b units pairs = (xs, refl)
+asks_front (y ∷ ys) [] r t more a b units pairs = absurd (cc (pairs))
+asks_front (y ∷ ys) (x ∷ xs) r t more a b units pairs =
+    let head : x ≡ y =
+    same_asked x y (cc (units)) (cc (pairs)) (All-head (Asks message_kind) x xs b)
+    (All-head (Asks message_kind) y ys a) in
+    let rest = asks_front ys xs r t more (All-tail (Asks message_kind) y ys a)
+    (All-tail (Asks message_kind) x xs b) (cc (units)) (cc (pairs)) in
     (rest.0, ap₂ (λ k ks. k ∷ ks) head rest.1)
 
 -- the same of messages of which the one list begins with the other
-asks_fronts : (ps qs : List Parts) (pairs more : List Pair) (ys xs : List Exchange)
-    → Front ps qs ⊎ Front qs ps → AskFirst qs pairs ys → AskFirst ps (pairs ++ more) xs → Front ys xs
-asks_fronts ps qs pairs more ys xs (inl f) a b =
-    asks_front qs pairs more ys xs a
-    (subst (λ ks. AskFirst ks (pairs ++ more) xs) (sym f.1) (asks_longer ps f.0 (pairs ++ more) xs b))
-asks_fronts ps qs pairs more ys xs (inr f) a b =
-    asks_front ps pairs more ys xs
-    (subst (λ ks. AskFirst ks pairs ys) (sym f.1) (asks_longer qs f.0 pairs ys a)) b
+asks_fronts : (ps qs : List Parts) (ys xs : List (Asked Parts)) (r : List Parts) (more : List Pair)
+    → Front ps qs ⊎ Front qs ps → All (Asks message_kind) ys → All (Asks message_kind) xs
+    → qs ≡ units_of ys ++ r → units_of xs ≡ ps → pairs_of xs ≡ pairs_of ys ++ more → Front ys xs
+asks_fronts ps qs ys xs r more (inl f) a b some all pairs =
+    asks_front ys xs r f.0 more a b (sym some ∙ f.1 ∙ ap (λ t. t ++ f.0) (sym all)) pairs
+asks_fronts ps qs ys xs r more (inr f) a b some all pairs =
+    asks_front ys xs (r ++ f.0) [] more a b (sym (append_assoc (units_of ys) r f.0)
+    ∙ ap (λ t. t ++ f.0) (sym some) ∙ sym f.1 ∙ sym all ∙ sym (append-nil _)) pairs
 
 -- texts of the first exchanges come first
-front_texts : (V : Content) (ys xs : List Exchange) → Front ys xs → Front (texts V ys) (texts V xs)
-front_texts V ys xs f =
-    (texts (vault_after V ys) f.0, ap (texts V) f.1 ∙ texts-append V ys f.0)
+front_texts : (V : Content) (ys xs : List (Asked Parts)) → Front ys xs
+    → Front (texts answer_for V ys) (texts answer_for V xs)
+front_texts V ys xs f = (
+  texts answer_for (vault_after V ys) f.0,
+  ap (texts answer_for V) f.1 ∙ texts-append message_kind V ys f.0,
+)
 
 -- a beginning of the next text comes after the texts before it
-front_part : (V : Content) (ys : List Exchange) (x : Exchange) (n : ℕ)
-    → Front (texts V ys ++ take n (text_at (vault_after V ys) x)) (texts V (ys ++ x ∷ []))
+front_part : (V : Content) (ys : List (Asked Parts)) (x : Asked Parts) (n : ℕ)
+    → Front (texts answer_for V ys ++ take n (text_at answer_for (vault_after V ys) x))
+    (texts answer_for V (ys ++ x ∷ []))
 front_part V ys x n =
-    let t = text_at (vault_after V ys) x in (
+    let t = text_at answer_for (vault_after V ys) x in (
       drop n t,
-      texts-append V ys (x ∷ []) ∙ ap (λ s. texts V ys ++ s) (append-nil t)
-          ∙ ap (λ s. texts V ys ++ s) (sym (take-append-drop n t))
-          ∙ sym (append_assoc (texts V ys) (take n t) (drop n t)),
+      texts-more message_kind V ys x ∙ ap (λ s. texts answer_for V ys ++ s) (sym (take-append-drop n t))
+          ∙ sym (append_assoc (texts answer_for V ys) (take n t) (drop n t)),
     )
 
 -- the messages at the front of bytes that were taken
@@ -116,16 +122,12 @@ module _ (w w' : Passage) (bytes : List ℕ) (pairs more : List Pair) (V : Conte
   abbrev one : IsServed (Some bytes) given.left w served
   one = given.does
 
-  asked_all : AskFirst (up_to_close (shown one.messages)) (pairs ++ more) one.exchanges
-  asked_all = subst (λ k. AskFirst (up_to_close (shown one.messages)) k one.exchanges)
-      (same_pairs w one.pairs (pairs ++ more) one.taken given.taken) one.asked
-
   -- exchanges of messages at the front of the bytes, with some of the pairs, are the first
   first_ones : (ns : List Request) (later : List ℕ) → All IsMessage ns
-      → bytes ≡ flat_map print_message ns ++ later
-      → (some rest : List Pair) (ys : List Exchange) → pairs ≡ some ++ rest
-      → AskFirst (up_to_close (shown ns)) some ys → Front ys one.exchanges
-  first_ones ns later each whole some rest ys are asked =
+      → bytes ≡ flat_map print_message ns ++ later → (r : List Parts) (unused : List Pair)
+      (ys : List (Asked Parts)) → pairs ≡ pairs_of ys ++ unused
+      → up_to_close (shown ns) ≡ units_of ys ++ r → All (Asks message_kind) ys → Front ys one.exchanges
+  first_ones ns later each whole r unused ys are first asked =
       let mine = whole_of bytes one.bytes (flat_map print_message one.messages) one.reads.0 given.left
       one.read one.reads.1.whole in
       let both : Front (up_to_close (shown one.messages)) (up_to_close (shown ns))
@@ -134,16 +136,17 @@ module _ (w w' : Passage) (bytes : List ℕ) (pairs more : List Pair) (V : Conte
         | inl f ↦ inl (front_shown one.messages ns f)
         | inr f ↦ inr (front_shown ns one.messages f)
       ] in
-      asks_fronts (up_to_close (shown one.messages)) (up_to_close (shown ns)) some (rest ++ more) ys
-      one.exchanges both asked
-      (subst (λ k. AskFirst (up_to_close (shown one.messages)) k one.exchanges)
-      (ap (λ k. k ++ more) are ∙ append_assoc some rest more) asked_all)
+      asks_fronts (up_to_close (shown one.messages)) (up_to_close (shown ns)) ys one.exchanges r
+      (unused ++ more) both asked one.asked first one.whole
+      (same_pairs w _ (pairs ++ more) one.taken given.taken ∙ ap (λ k. k ++ more) are
+      ∙ append_assoc (pairs_of ys) unused more)
 
   -- what is a beginning of their texts is a beginning of all
-  began : (ys : List Exchange) (out : List ℕ) → Front ys one.exchanges → Front out (texts V ys) → Sends w' out
+  began : (ys : List (Asked Parts)) (out : List ℕ) → Front ys one.exchanges
+      → Front out (texts answer_for V ys) → Sends w' out
       → SentBeginning w w'
   began ys out first part sends =
-      let all = front_trans out (texts V ys) (texts V one.exchanges) part
+      let all = front_trans out (texts answer_for V ys) (texts answer_for V one.exchanges) part
       (front_texts V ys one.exchanges first) in
       record {
         out = out;
@@ -156,14 +159,14 @@ module _ (w w' : Passage) (bytes : List ℕ) (pairs more : List Pair) (V : Conte
   -- and so of a service that stopped, by the messages that it read, its pairs and its exchanges
   of_stop : Takes w' pairs → (b : List ℕ) (ns : List Request) (rest : List ℕ) (left : Option (List ℕ))
       → Consumes (Some bytes) left b → b ≡ flat_map print_message ns ++ rest → All IsMessage ns
-      → (some unused : List Pair) → Takes w' (some ++ unused)
-      → (ys : List Exchange) → AskFirst (up_to_close (shown ns)) some ys
-      → (out : List ℕ) → Front out (texts V ys) → Sends w' out → SentBeginning w w'
-  of_stop takes b ns rest left read is each some unused taken ys asked out part sends =
+      → (r : List Parts) (unused : List Pair) (ys : List (Asked Parts)) → Takes w' (pairs_of ys ++ unused)
+      → up_to_close (shown ns) ≡ units_of ys ++ r → All (Asks message_kind) ys
+      → (out : List ℕ) → Front out (texts answer_for V ys) → Sends w' out → SentBeginning w w'
+  of_stop takes b ns rest left read is each r unused ys taken first asked out part sends =
       let mine = whole_of bytes b (flat_map print_message ns) rest left read is in
       began ys out
-      (first_ones ns mine.0 each mine.1 some unused ys
-      (same_pairs w' pairs (some ++ unused) takes taken) asked)
+      (first_ones ns mine.0 each mine.1 r unused ys
+      (same_pairs w' pairs (pairs_of ys ++ unused) takes taken) first asked)
       part sends
 
   -- all pairs that were taken were used
@@ -176,31 +179,37 @@ module _ (w w' : Passage) (bytes : List ℕ) (pairs more : List Pair) (V : Conte
   -- a fault among the messages
   of_stops : (e : ServeFault) → Takes w' pairs → IsBefore w' V → (b : List ℕ) (ns : List Request)
       (rest : List ℕ) (left : Option (List ℕ)) → Consumes (Some bytes) left b
-      → b ≡ flat_map print_message ns ++ rest → All IsMessage ns → Stops e w' (up_to_close (shown ns))
-      → SentBeginning w w'
-  of_stops stop.Source takes before b ns rest left read is each s =
-      of_stop takes b ns rest left read is each s.pairs [] (used s.pairs s.taken) s.exchanges s.asked
-      (texts V s.exchanges) (all_of (texts V s.exchanges)) (s.answered V before).0
+      → b ≡ flat_map print_message ns ++ rest → All IsMessage ns
+      → StopsWithin message_kind [] w' (up_to_close (shown ns)) e → SentBeginning w w'
+  of_stops stop.Source takes before b ns rest left read is each (next, r, s) =
+      let xs = s.exchanges in
+      of_stop takes b ns rest left read is each (next ∷ r) [] xs (used _ s.known.taken) s.whole s.known.asked
+      (texts answer_for V xs) (all_of (texts answer_for V xs)) (s.known.answered V before).0
   of_stops stop.Read takes before b ns rest left read is each s =
-      of_stop takes b ns rest left read is each s.pairs [] (used s.pairs s.taken) s.exchanges s.asked
-      (texts V s.exchanges) (all_of (texts V s.exchanges)) (s.answered V before).0
-  of_stops stop.Write takes before b ns rest left read is each s =
-      of_stop takes b ns rest left read is each s.pairs [] (used s.pairs s.taken) (s.exchanges ++ s.cut ∷ [])
-      s.asked (texts V s.exchanges ++ take s.sent (text_at (vault_after V s.exchanges) s.cut))
-      (front_part V s.exchanges s.cut s.sent) (s.answered V before).1
-  of_stops stop.Store takes before b ns rest left read is each s =
-      of_stop takes b ns rest left read is each s.pairs [] (used s.pairs s.taken)
-      (s.exchanges ++ s.undecided ∷ []) s.asked (texts V s.exchanges)
-      (front_texts V s.exchanges (s.exchanges ++ s.undecided ∷ []) (s.undecided ∷ [], refl))
-      (s.answered V before).0
-  of_stops stop.Memory takes before b ns rest left read is each (inl s) =
-      of_stop takes b ns rest left read is each s.pairs s.unused s.taken s.exchanges s.asked
-      (texts V s.exchanges) (all_of (texts V s.exchanges)) (s.answered V before).0
-  of_stops stop.Memory takes before b ns rest left read is each (inr s) =
-      of_stop takes b ns rest left read is each s.pairs [] (used s.pairs s.taken)
-      (s.exchanges ++ s.silent ∷ []) s.asked (texts V s.exchanges)
-      (front_texts V s.exchanges (s.exchanges ++ s.silent ∷ []) (s.silent ∷ [], refl))
-      (s.answered V before).0
+      let xs = s.exchanges in
+      of_stop takes b ns rest left read is each [] [] xs (used _ s.done.taken)
+      (sym s.whole ∙ sym (append-nil _)) s.done.asked
+      (texts answer_for V xs) (all_of (texts answer_for V xs)) (s.done.answered V before).0
+  of_stops stop.Write takes before b ns rest left read is each (x, r, s) =
+      let xs = s.exchanges in
+      of_stop takes b ns rest left read is each r [] (xs ++ x ∷ []) (used _ s.known.taken)
+      (with_next _ r xs x s.whole) s.known.asked
+      (texts answer_for V xs ++ take s.known.sent (text_at answer_for (vault_after V xs) x))
+      (front_part V xs x s.known.sent) (s.known.answered V before).1
+  of_stops stop.Store takes before b ns rest left read is each (x, r, s) =
+      let xs = s.exchanges in
+      of_stop takes b ns rest left read is each r [] (xs ++ x ∷ []) (used _ s.known.taken)
+      (with_next _ r xs x s.whole) s.known.asked (texts answer_for V xs)
+      (front_texts V xs (xs ++ x ∷ []) (x ∷ [], refl)) (s.known.answered V before).0
+  of_stops stop.Memory takes before b ns rest left read is each (inl (r, s)) =
+      let xs = s.exchanges in
+      of_stop takes b ns rest left read is each r s.known.unused xs s.known.taken s.whole s.known.asked
+      (texts answer_for V xs) (all_of (texts answer_for V xs)) (s.known.answered V before).0
+  of_stops stop.Memory takes before b ns rest left read is each (inr (x, r, s)) =
+      let xs = s.exchanges in
+      of_stop takes b ns rest left read is each r [] (xs ++ x ∷ []) (used _ s.known.taken)
+      (with_next _ r xs x s.whole) s.known.asked (texts answer_for V xs)
+      (front_texts V xs (xs ++ x ∷ []) (x ∷ [], refl)) (s.known.answered V before).0
 
   of_among : (e : ServeFault) → Takes w' pairs → IsBefore w' V
       → (left : Option (List ℕ)) (f : Option WireFault) → StopsAmong e (Some bytes) left w' f
@@ -208,13 +217,13 @@ module _ (w w' : Passage) (bytes : List ℕ) (pairs more : List Pair) (V : Conte
   of_among e takes before left f s =
       of_stops e takes before s.bytes s.messages s.reads.0 left s.read s.reads.1.whole s.reads.1.each s.stops
 
-  no_more : (ys xs : List Exchange) → length xs ≡ length ys → Front ys xs → xs ≡ ys
+  no_more : (ys xs : List (Asked Parts)) → length xs ≡ length ys → Front ys xs → xs ≡ ys
   no_more ys xs same (later, is) =
       let none = (let sum = length-append ys later in let all = ap length is in
       let zero_more : length later ≡ 0 = omega (arith, same, sum, all) in zero_more) in
       is ∙ ap (λ t. ys ++ t) (empty later none) ∙ append-nil ys
     where
-      empty : (zs : List Exchange) → length zs ≡ 0 → zs ≡ []
+      empty : (zs : List (Asked Parts)) → length zs ≡ 0 → zs ≡ []
       empty [] none = refl
       empty (z ∷ zs) none = let never : ⊥ = omega (arith, none) in absurd never
 
@@ -230,30 +239,34 @@ module _ (w w' : Passage) (bytes : List ℕ) (pairs more : List Pair) (V : Conte
       let mine = whole_of bytes s.bytes (flat_map print_message s.messages) s.reads.0 left s.read
       s.reads.1.whole
       in
-      let first = first_ones s.messages mine.0 s.reads.1.each mine.1 s.pairs [] s.exchanges
-      (same_pairs w' pairs (s.pairs ++ []) takes (used s.pairs s.taken))
-      (subst (λ ps. AskFirst ps s.pairs s.exchanges) (sym all_asked) s.asked) in
+      let first = first_ones s.messages mine.0 s.reads.1.each mine.1 [] [] s.exchanges
+      (same_pairs w' pairs (pairs_of s.exchanges ++ []) takes (used _ s.taken))
+      (all_asked ∙ sym s.whole ∙ sym (append-nil _)) s.asked in
       let count : length one.exchanges ≡ length s.exchanges =
-      one.whole ∙ ap length both.0 ∙ ap length all_asked ∙ length-map s.messages parts_of ∙ sym s.whole in
+      sym (length-map one.exchanges (λ (x : Asked Parts). x.unit))
+      ∙ ap length (one.whole ∙ both.0 ∙ all_asked ∙ sym s.whole)
+      ∙ length-map s.exchanges (λ (x : Asked Parts). x.unit) in
       let same = no_more s.exchanges one.exchanges count first in
       let text = fault_text s.fault in
       let sends = (s.answered V before).0 in
-      let sent : Sends w (texts V s.exchanges ++ last_text served.fault) =
-      subst (λ xs. Sends w (texts V xs ++ last_text served.fault)) same (one.answered V given.before).0 in
+      let sent : Sends w (texts answer_for V s.exchanges ++ last_text served.fault) =
+      subst (λ xs. Sends w (texts answer_for V xs ++ last_text served.fault)) same
+      (one.answered V given.before).0 in
       elim both.1 [
         | inl equal ↦ inl (record {
-          out = texts V s.exchanges ++ take s.sent text;
+          out = texts answer_for V s.exchanges ++ take s.sent text;
           later = drop s.sent text;
           sent = subst (Sends w)
-              (ap (λ f. texts V s.exchanges ++ last_text f) (one.told ∙ equal ∙ is_answered)
-              ∙ ap (λ t. texts V s.exchanges ++ t) (sym (take-append-drop s.sent text))
-              ∙ sym (append_assoc (texts V s.exchanges) (take s.sent text) (drop s.sent text))) sent;
+              (ap (λ f. texts answer_for V s.exchanges ++ last_text f) (one.told ∙ equal ∙ is_answered)
+              ∙ ap (λ t. texts answer_for V s.exchanges ++ t) (sym (take-append-drop s.sent text))
+              ∙ sym (append_assoc (texts answer_for V s.exchanges) (take s.sent text) (drop s.sent text)))
+              sent;
           sent' = sends;
         })
         | inr two ↦ inr (
           two.0,
           record {
-            out = texts V s.exchanges;
+            out = texts answer_for V s.exchanges;
             other = s.fault;
             part = s.sent;
             sent = sent;

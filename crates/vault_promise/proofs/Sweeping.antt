@@ -26,7 +26,7 @@ use Rattle.vault_core.specs.declared.reply.Reply.{Reply}
 use Rattle.vault_core.specs.declared.reply.Reply.TheVariants as answer
 use Rattle.vault_core.specs.declared.row.Entry.{Entry}
 use Rattle.vault_batch.specs.declared.asker.Asker.{Asker}
-use Rattle.vault_http.specs.Passing.{IsBefore, Passage}
+use Rattle.vault_engine.specs.Passing.{IsBefore, Passage}
 use Rattle.vault_store.specs.declared.vault.Fault.TheVariants.{Memory, Store, Reopen}
 use Rattle.vault_jobs.proofs.Giving.{run_more}
 use Rattle.vault_jobs.proofs.Purging.{purged_first}

@@ -1,6 +1,6 @@
 -- A text that reads as an answer with a card number is the answer of such a reply.
 use Rattle.std.proofs.Common.{◌≡◌, ℕ, zero, suc, ◌+◌, ◌/◌, ◌%◌, ◌==◌, Bool, true}
-use Rattle.std.proofs.Common.{false, cond, List, [], ◌∷◌, ◌++◌}
+use Rattle.std.proofs.Common.{false, List, [], ◌∷◌, ◌++◌}
 use Rattle.std.proofs.Common.{length, not, nat_lt, Option, None, Ok, Err, refl, sym, ap, ap₂, ◌∙◌, arith}
 use Rattle.std.proofs.Common.{append_assoc, get_or, true≢false}
 use Rattle.std.specs.Prelude.{codes, decimal}
@@ -15,7 +15,7 @@ use Rattle.vault_core.specs.Table.{reply}
 use Rattle.vault_core.specs.Vault.{Vault as Content}
 use Rattle.vault_core.specs.declared.command.Command.{Command}
 use Rattle.vault_core.specs.declared.reply.Reply.{Reply}
-use Rattle.vault_core.specs.declared.reply.Reply.TheVariants.{Done, Token, Number, Shown, Counts, Refused}
+use Rattle.vault_core.specs.declared.reply.Reply.TheVariants.{Done, Token, Number, Counts, Refused}
 use Rattle.vault_core.proofs.Branches.{by_test}
 use Rattle.vault_wire.specs.Answer.{answer_bytes, close_line, crlf, kind_line, length_line, status_line}
 use Rattle.vault_refusal.specs.Refusal as refusal
@@ -28,7 +28,8 @@ use Rattle.vault_wire.specs.Parts.{Parts, closes}
 use Rattle.vault_routes.specs.Reply.{body_text, refusal_text}
 use Rattle.vault_routes.specs.Status.{status_for, status_of}
 use Rattle.vault_routes.specs.Wanted.{Wanted}
-use Rattle.vault_http.specs.Exchanges.{fault_text, methods_with, reply_to, text_at}
+use Rattle.vault_http.specs.Exchanges.{answer_for, fault_text, methods_with}
+use Rattle.vault_engine.specs.Asking.{Pair, reply_to, text_at}
 use Rattle.vault_promise.specs.Giving.{FaultsTellNoNumber, TextsTellNumbers, number_text}
 
 unlike : (a b : ℕ) → (a == b) ≡ false → a ≡ b → ⊥
@@ -146,26 +147,26 @@ tells (Refused n) number j k e =
     absurd ((refused_status n).apart None (refusal_text n) (body_text (Number number)) j k e)
 tells r number j k e = of_body r number j k e
 
-tells_wanted : (V : Content) (p : Parts) (w : Wanted Command) (number : Bytes) (close : Bool)
-    → text_at V (record { parts = p; wanted = w }) ≡ number_text number close
+tells_wanted : (V : Content) (p : Parts) (pair : Pair) (w : Wanted Command) (number : Bytes) (close : Bool)
+    → text_at answer_for V (record { unit = p; pair = pair; wanted = w }) ≡ number_text number close
     → (reply_to V w ≡ Number number) × (closes p ≡ close)
 unfolding text_at
-tells_wanted V p (Ok c) number close e = tells (reply V c) number (closes p) close e
-tells_wanted V p (Err n) number close e =
+tells_wanted V p pair (Ok c) number close e = tells (reply V c) number (closes p) close e
+tells_wanted V p pair (Err n) number close e =
     absurd ((refused_status n).apart (methods_with p (Err n)) (refusal_text n) (body_text (Number number))
     (closes p) close e)
 
-told_by : (V : Content) (p : Parts) (w : Wanted Command) (number : Bytes) (close : Bool)
+told_by : (V : Content) (p : Parts) (pair : Pair) (w : Wanted Command) (number : Bytes) (close : Bool)
     → (reply_to V w ≡ Number number) × (closes p ≡ close)
-    → text_at V (record { parts = p; wanted = w }) ≡ number_text number close
+    → text_at answer_for V (record { unit = p; pair = pair; wanted = w }) ≡ number_text number close
 unfolding text_at
-told_by V p (Ok c) number close (is, closing) =
+told_by V p pair (Ok c) number close (is, closing) =
     ap₂ (λ (r : Reply) (k : Bool). answer_bytes (status_of r) None (body_text r) k) is closing
-told_by V p (Err n) number close (is, closing) = absurd (cc)
+told_by V p pair (Err n) number close (is, closing) = absurd (cc)
 
 pub texts_tell : TextsTellNumbers
 texts_tell V x number close =
-    (tells_wanted V x.parts x.wanted number close, told_by V x.parts x.wanted number close)
+    (tells_wanted V x.unit x.pair x.wanted number close, told_by V x.unit x.pair x.wanted number close)
 
 pub faults_tell : FaultsTellNoNumber
 unfolding fault_text

@@ -1,5 +1,7 @@
 -- What a message wants is one thing.
 use Rattle.std.proofs.Common.{◌≡◌, ℕ, List, [], ◌∷◌, Some, Ok, inl, inr, ap₂, refl, sym, subst, ◌∙◌}
+use Rattle.std.specs.Prelude.{All}
+use Rattle.std.proofs.lemmas.List.Elements.{All-head, All-tail}
 use Rattle.vault_core.specs.Words.{use_word}
 use Rattle.vault_core.specs.declared.usage.Use.{Use}
 use Rattle.vault_core.specs.declared.usage.Use.TheVariants.{Single, Multi}
@@ -11,7 +13,9 @@ use Rattle.vault_routes.specs.Wanted.{Must, Wanted, Wants, WantsAction, WantsAsk
 use Rattle.vault_routes.specs.Wanted.{command_for}
 use Rattle.vault_routes.specs.declared.table.Action.{Action}
 use Rattle.vault_routes.specs.declared.table.Action.TheVariants as action
-use Rattle.vault_http.specs.Exchanges.{AskFirst, Exchange, Pair}
+use Rattle.vault_engine.specs.Answered.{pairs_of, units_of}
+use Rattle.vault_engine.specs.Asking.{Asked, Asks, Pair}
+use Rattle.vault_http.specs.Exchanges.{message_kind}
 
 -- a relation that says one thing at most
 abbrev IsOne : {X : Type 0} → (Wanted X → Type 0) → Type 0
@@ -74,19 +78,24 @@ wants_one p now drawn =
     with_one _ refusal.BadMethod _ (λ y z. some_one _ y z) (λ what.
     asker_one p _ now _ (λ a. action_one what target p drawn a)))
 
--- and so are the exchanges of messages with their pairs
-same_exchange : (x y : Exchange) → x.parts ≡ y.parts → x.wanted ≡ y.wanted → x ≡ y
-same_exchange x y p w = λ i. record { parts = p i; wanted = w i }
+-- and so is a message with its pair
+pub same_asked : (x y : Asked Parts) → x.unit ≡ y.unit → x.pair ≡ y.pair → Asks message_kind x
+    → Asks message_kind y → x ≡ y
+same_asked x y unit pair a b =
+    let moved : Wants y.unit y.pair.0 y.pair.1 x.wanted =
+    subst (λ u. Wants u y.pair.0 y.pair.1 x.wanted) unit
+    (subst (λ (q : Pair). Wants x.unit q.0 q.1 x.wanted) pair a) in
+    let wanted = wants_one y.unit y.pair.0 y.pair.1 x.wanted y.wanted moved b in
+    (λ i. record { unit = unit i; pair = pair i; wanted = wanted i })
 
-pub asked_one : (ps : List Parts) (pairs : List Pair) (xs ys : List Exchange) → AskFirst ps pairs xs
-    → AskFirst ps pairs ys → xs ≡ ys
-asked_one ps [] [] [] a b = refl
-asked_one ps [] [] (y ∷ ys) a b = absurd b
-asked_one ps [] (x ∷ xs) ys a b = absurd a
-asked_one ps (pair ∷ pairs) [] ys a b = absurd a
-asked_one [] (pair ∷ pairs) (x ∷ xs) ys a b = absurd a
-asked_one (p ∷ ps) (pair ∷ pairs) (x ∷ xs) [] a b = absurd b
-asked_one (p ∷ ps) (pair ∷ pairs) (x ∷ xs) (y ∷ ys) a b =
+pub asked_one : (xs ys : List (Asked Parts)) → All (Asks message_kind) xs → All (Asks message_kind) ys
+    → units_of xs ≡ units_of ys → pairs_of xs ≡ pairs_of ys → xs ≡ ys
+asked_one [] [] a b units pairs = refl
+asked_one [] (y ∷ ys) a b units pairs = absurd (cc (units))
+asked_one (x ∷ xs) [] a b units pairs = absurd (cc (units))
+asked_one (x ∷ xs) (y ∷ ys) a b units pairs =
     ap₂ (λ z zs. z ∷ zs)
-    (same_exchange x y (a.0.0 ∙ sym b.0.0) (wants_one p pair.0 pair.1 x.wanted y.wanted a.0.1 b.0.1))
-    (asked_one ps pairs xs ys a.1 b.1)
+    (same_asked x y (cc (units)) (cc (pairs)) (All-head (Asks message_kind) x xs a)
+    (All-head (Asks message_kind) y ys b))
+    (asked_one xs ys (All-tail (Asks message_kind) x xs a) (All-tail (Asks message_kind) y ys b) (cc (units))
+    (cc (pairs)))

@@ -1,13 +1,12 @@
 -- Two runs of `pipe`, of which the later one is asked again what the earlier one answered.
-use Rattle.std.specs.Prelude.{◌≡◌, ◌⊎◌, ℕ, List, ◌∷◌, ◌++◌, Ok, Option, None, take}
+use Rattle.std.specs.Prelude.{◌⊎◌, ℕ, List, ◌∷◌, ◌++◌, Option, None, take}
 use Rattle.std.specs.Io.KnownBytes.{Appends}
 use Rattle.sqlite_wal.specs.Recovery.{Image}
 use Rattle.vault_core.specs.Sound.{Sound}
-use Rattle.vault_core.specs.Table.{reply}
 use Rattle.vault_core.specs.Vault.{Vault as Content}
-use Rattle.vault_core.specs.declared.command.Command.{Command}
-use Rattle.vault_core.specs.declared.reply.Reply.{Reply}
-use Rattle.vault_http.specs.Exchanges.{Exchange, last_text, texts, vault_after}
+use Rattle.vault_http.specs.Exchanges.{answer_for, last_text}
+use Rattle.vault_wire.specs.Parts.{Parts}
+use Rattle.vault_engine.specs.Asking.{Asked, texts}
 use Rattle.vault_wire.specs.declared.fault.WireFault.{WireFault}
 use Rattle.vault_jobs.specs.declared.task.Task.{Task}
 use Rattle.vault_jobs.specs.declared.task.Task.TheVariants.{Pipe}
@@ -15,7 +14,7 @@ use Rattle.vault_app.specs.Asked.{AsksFor}
 use Rattle.vault_app.specs.Plans.{IsTaskOf}
 use Rattle.vault_app.specs.World.{anything}
 use Rattle.vault_promise.specs.Runs.{AreOf, Rests, Run, Runs, before}
-use Rattle.vault_promise.specs.Standing.{TokensStand}
+use Rattle.vault_promise.specs.Standing.{IsRepliedIn, TokensStand}
 use Rattle.vault_promise.specs.Told.{AreHeard}
 
 -- the task answers no messages of the input
@@ -29,26 +28,22 @@ DidNoPipe r = Rests r ⊎ (t : Task) × AsksFor r.words (λ job. IsTaskOf anythi
 
 -- The run answered these messages of its input, from this vault: what went out are the texts that answer
 -- them, up to some byte.
-pub record Piped (r : Run) (W : Content) (xs : List Exchange) : Type 0 where
+pub record Piped (r : Run) (W : Content) (xs : List (Asked Parts)) : Type 0 where
   pub now : Option ℕ
   pub digits : Option (List ℕ)
   pub heard : AreHeard now digits r.streams xs
   pub fault : Option WireFault
   pub sent : ℕ
-  pub went : Appends r.streams.sent_old r.streams.sent_new (take sent (texts W xs ++ last_text fault))
-
--- one of these messages asks for the command, and is answered so
-abbrev pub IsRepliedIn : Content → List Exchange → Command → Reply → Type 0
-IsRepliedIn W xs x y = (first more : List Exchange) × (it : Exchange) × (xs ≡ first ++ it ∷ more)
-    × (it.wanted ≡ Ok x) × (reply (vault_after W first) x ≡ y)
+  pub went : Appends r.streams.sent_old r.streams.sent_new
+      (take sent (texts answer_for W xs ++ last_text fault))
 
 -- Both answered messages. A request that the first answered a token, if it is asked again in the second, with
 -- whatever digits and at whatever moment, is answered that token.
 pub record PipesAlike (r s : Run) : Type 0 where
   pub held : Content
   pub held_again : Content
-  pub asked : List Exchange
-  pub asked_again : List Exchange
+  pub asked : List (Asked Parts)
+  pub asked_again : List (Asked Parts)
   pub piped : Piped r held asked
   pub piped_again : Piped s held_again asked_again
   pub tokens : TokensStand (IsRepliedIn held asked) (IsRepliedIn held_again asked_again)

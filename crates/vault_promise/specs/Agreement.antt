@@ -10,7 +10,9 @@ use Rattle.vault_wire.specs.Parts.{Parts}
 use Rattle.vault_wire.specs.declared.fault.WireFault.{WireFault}
 use Rattle.vault_wire.specs.declared.fault.WireFault.TheVariants as fault
 use Rattle.vault_routes.specs.Wanted.{Wanted, Wants}
-use Rattle.vault_http.specs.Exchanges.{AskFirst, Exchange, Pair, texts}
+use Rattle.vault_engine.specs.Answered.{pairs_of, units_of}
+use Rattle.vault_engine.specs.Asking.{Asked, Asks, texts}
+use Rattle.vault_http.specs.Exchanges.{answer_for, message_kind}
 
 -- no fault, or a fault of a head that isn't whole: 50 or 51
 abbrev pub IsOfHead : Option WireFault → Type 0
@@ -61,9 +63,8 @@ abbrev pub WantsAgree : Type 0
 WantsAgree = (p : Parts) (now : ℕ) (drawn : List ℕ) (one other : Wanted Command)
     → Wants p now drawn one → Wants p now drawn other → one ≡ other
 
--- the first of messages, asked with the same pairs, are the same exchanges; and so are the texts that answer
--- them
+-- messages that are asked with the same pairs are the same exchanges; and so are the texts that answer them
 abbrev pub ExchangesAgree : Type 0
-ExchangesAgree = (ps : List Parts) (pairs : List Pair) (xs ys : List Exchange)
-    → AskFirst ps pairs xs → AskFirst ps pairs ys
-    → (xs ≡ ys) × ((V : Content) → texts V xs ≡ texts V ys)
+ExchangesAgree = (xs ys : List (Asked Parts)) → All (Asks message_kind) xs → All (Asks message_kind) ys
+    → units_of xs ≡ units_of ys → pairs_of xs ≡ pairs_of ys
+    → (xs ≡ ys) × ((V : Content) → texts answer_for V xs ≡ texts answer_for V ys)

@@ -6,7 +6,9 @@ use Rattle.vault_core.specs.Named.{caller_of, merchant_of}
 use Rattle.vault_core.specs.Vault.{Vault as Content}
 use Rattle.vault_core.specs.declared.command.Command.{Command}
 use Rattle.vault_routes.specs.Wanted.{Wanted}
-use Rattle.vault_http.specs.Exchanges.{Exchange, texts}
+use Rattle.vault_wire.specs.Parts.{Parts}
+use Rattle.vault_engine.specs.Asking.{Asked, texts}
+use Rattle.vault_http.specs.Exchanges.{answer_for}
 
 -- what is wanted is a command of this caller at this merchant, or the message is refused
 abbrev pub IsBy : Bytes → Bytes → Wanted Command → Type 0
@@ -17,6 +19,6 @@ IsBy caller merchant (Err n) = Unit {0}
 -- caller at that merchant are answered by the same texts.
 abbrev pub TextsAreIsolated : Type 0
 TextsAreIsolated =
-    (V W : Content) (caller merchant : Bytes) (xs : List Exchange)
-    → All (λ (x : Exchange). IsBy caller merchant x.wanted) xs
-    → AgreeAt merchant V W → AgreeFor caller V W → texts V xs ≡ texts W xs
+    (V W : Content) (caller merchant : Bytes) (xs : List (Asked Parts))
+    → All (λ (x : Asked Parts). IsBy caller merchant x.wanted) xs
+    → AgreeAt merchant V W → AgreeFor caller V W → texts answer_for V xs ≡ texts answer_for W xs

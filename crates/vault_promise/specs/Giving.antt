@@ -1,5 +1,5 @@
 -- A card number goes to nobody but those that it is due to.
-use Rattle.std.specs.Prelude.{◌≡◌, ◌↔◌, ℕ, List, ◌∷◌, ◌++◌, Bool, true, Some, None, codes}
+use Rattle.std.specs.Prelude.{◌≡◌, ◌↔◌, ℕ, List, ◌∷◌, ◌++◌, All, Bool, true, Some, None, codes}
 use Rattle.std.specs.List.{Contains}
 use Rattle.vault_core.specs.Keys.{Bytes}
 use Rattle.vault_core.specs.Table.{reply}
@@ -17,8 +17,9 @@ use Rattle.vault_wire.specs.declared.fault.WireFault.{WireFault}
 use Rattle.vault_routes.specs.Reply.{body_text}
 use Rattle.vault_routes.specs.Route.{route_of}
 use Rattle.vault_routes.specs.declared.table.Place.TheVariants as place
-use Rattle.vault_http.specs.Exchanges.{AskFirst, Asks, Exchange, Pair, fault_text, reply_to, text_at}
-use Rattle.vault_http.specs.Exchanges.{vault_after}
+use Rattle.vault_http.specs.Exchanges.{answer_for, fault_text, message_kind}
+use Rattle.vault_engine.specs.Answered.{pairs_of, units_of}
+use Rattle.vault_engine.specs.Asking.{Asked, Asks, reply_to, text_at, vault_after}
 
 -- At a moment a card number is due to a caller that asks for the number of a merchant's token: its right to
 -- numbers there lasts, and the token is live and stands for that number.
@@ -52,9 +53,9 @@ number_text number close = answer_bytes 200 None (body_text (Number number)) clo
 -- number: no other reply's text reads as one.
 abbrev pub TextsTellNumbers : Type 0
 TextsTellNumbers =
-    (V : Content) (x : Exchange) (number : Bytes) (close : Bool)
-    → (text_at V x ≡ number_text number close)
-    ↔ ((reply_to V x.wanted ≡ Number number) × (closes x.parts ≡ close))
+    (V : Content) (x : Asked Parts) (number : Bytes) (close : Bool)
+    → (text_at answer_for V x ≡ number_text number close)
+    ↔ ((reply_to V x.wanted ≡ Number number) × (closes x.unit ≡ close))
 
 -- by its target, its method and its one caller field a message asks for the number of a token for a caller
 pub record AsksForNumber (p : Parts) (caller merchant token : Bytes) : Type 0 where
@@ -75,19 +76,20 @@ pub record IsAskedWhereDue (V : Content) (p : Parts) (now : ℕ) (number : Bytes
 -- number of a token, and the number is due to its caller at its moment.
 abbrev pub OnlyDueGoesOut : Type 0
 OnlyDueGoesOut =
-    (V : Content) (p : Parts) (pair : Pair) (x : Exchange) (number : Bytes) (close : Bool)
-    → Asks p pair x → text_at V x ≡ number_text number close → IsAskedWhereDue V p pair.0 number
+    (V : Content) (x : Asked Parts) (number : Bytes) (close : Bool)
+    → Asks message_kind x → text_at answer_for V x ≡ number_text number close
+    → IsAskedWhereDue V x.unit x.pair.0 number
 
 -- The same of messages that are asked one after the other: where the text that answers one reads so, it is
 -- one of the messages, asked with one of the pairs, and the number is due by the vault that those before it
 -- leave.
 abbrev pub EachIsDue : Type 0
 EachIsDue =
-    (V : Content) (ps : List Parts) (pairs : List Pair) (before later : List Exchange) (x : Exchange)
-    (number : Bytes) (close : Bool)
-    → AskFirst ps pairs (before ++ x ∷ later) → text_at (vault_after V before) x ≡ number_text number close
-    → Contains ps x.parts
-    × ((pair : Pair) × Contains pairs pair × IsAskedWhereDue (vault_after V before) x.parts pair.0 number)
+    (V : Content) (xs before later : List (Asked Parts)) (x : Asked Parts) (number : Bytes) (close : Bool)
+    → xs ≡ before ++ x ∷ later → All (Asks message_kind) xs
+    → text_at answer_for (vault_after V before) x ≡ number_text number close
+    → Contains (units_of xs) x.unit × Contains (pairs_of xs) x.pair
+    × IsAskedWhereDue (vault_after V before) x.unit x.pair.0 number
 
 -- the text that answers a fault of the bytes is never that of an answer with a card number
 abbrev pub FaultsTellNoNumber : Type 0

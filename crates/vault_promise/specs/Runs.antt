@@ -89,7 +89,7 @@ IsAside job = IsBeside (saying job).purpose
 -- A run rests: it ended without a plan, by a name, a right, a list, a moment or its words, or with help; or
 -- its file wasn't opened; and nothing went out but help. Or its words ask for a trial, a check or a move.
 abbrev pub Rests : Run → Type 0
-Rests r = EndsPlanless r.words r.ending (IsQuiet r.streams)
+Rests r = EndsPlanless anything r.words r.ending (IsQuiet r.streams)
     ⊎ ((why : FileFault) × (r.ending ≡ NotOpened why)) × IsQuiet r.streams
     ⊎ AsksFor r.words IsAside
 

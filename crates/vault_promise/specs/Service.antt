@@ -6,8 +6,9 @@ use Rattle.vault_store.specs.declared.vault.Vault.{Vault}
 use Rattle.vault_wire.specs.Messages.{IsMessage, Request, print_message}
 use Rattle.vault_wire.specs.declared.fault.WireFault.{WireFault}
 use Rattle.vault_wire.specs.declared.watched.Watched.{Watched}
-use Rattle.vault_http.specs.Exchanges.{Pair, fault_text, last_text}
-use Rattle.vault_http.specs.Passing.{IsBefore, Keeps, Passage, Sends, Takes, passing}
+use Rattle.vault_http.specs.Exchanges.{fault_text, last_text}
+use Rattle.vault_engine.specs.Asking.{Pair}
+use Rattle.vault_engine.specs.Passing.{IsBefore, Keeps, Passage, Sends, Takes, passing}
 use Rattle.vault_http.specs.Served.{IsServed, IsStopped}
 use Rattle.vault_engine.specs.declared.stop.Stop.{Stop as ServeFault}
 use Rattle.vault_http.specs.declared.served.Served.{Served}

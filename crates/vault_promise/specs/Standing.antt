@@ -13,12 +13,13 @@ use Rattle.vault_core.specs.declared.command.Command.{Command}
 use Rattle.vault_core.specs.declared.command.TokenRequest.{TokenRequest}
 use Rattle.vault_core.specs.declared.reply.Reply.{Reply}
 use Rattle.vault_core.specs.declared.reply.Reply.TheVariants.{Token}
-use Rattle.vault_batch.specs.Asking.{Asked}
+use Rattle.vault_batch.specs.Rows.{Row}
 use Rattle.vault_batch.specs.Batched.{lines}
 use Rattle.vault_batch.specs.Lines.{first_line}
-use Rattle.vault_engine.specs.Asking.{vault_after as vault_after_rows}
-use Rattle.vault_http.specs.Exchanges.{Exchange, last_text, texts, vault_after}
+use Rattle.vault_http.specs.Exchanges.{answer_for, last_text}
 use Rattle.vault_wire.specs.declared.fault.WireFault.{WireFault}
+use Rattle.vault_wire.specs.Parts.{Parts}
+use Rattle.vault_engine.specs.Asking.{Asked, texts, vault_after}
 use Rattle.vault_listen.specs.Peers.{Link}
 use Rattle.vault_jobs.specs.Changes.{changes_at, rights_of}
 use Rattle.vault_jobs.specs.Streams.{Streams}
@@ -47,30 +48,31 @@ TokensStand Answered Later = (a again : TokenRequest) (token : Bytes) (expires :
     → Answered (command_of a) (Token token expires) → IsSameRequest a again → Later (command_of again) y
     → y ≡ Token token expires
 
+-- one of these asks for the command, and is answered so
+abbrev pub IsRepliedIn : {X : Type 0} → Content → List (Asked X) → Command → Reply → Type 0
+IsRepliedIn W xs x y = (first more : List (Asked _)) × (it : Asked _) × (xs ≡ first ++ it ∷ more)
+    × (it.wanted ≡ Ok x) × (reply (vault_after W first) x ≡ y)
+
 -- What went out of messages stands. It is the texts that answer those that were read, up to some byte. If one
 -- of these texts answers a request a token, and a later run answers the request again, that answer is the
 -- token too.
 pub record TextsStand (now : Option ℕ) (digits : Option (List ℕ)) (W : Content) (s : Streams)
     (Later : Command → Reply → Type 0) : Type 0 where
-  pub exchanges : List Exchange
+  pub exchanges : List (Asked Parts)
   pub heard : AreHeard now digits s exchanges
   pub fault : Option WireFault
   pub sent : ℕ
-  pub went : Appends s.sent_old s.sent_new (take sent (texts W exchanges ++ last_text fault))
-  pub stand : TokensStand
-      (λ x y. (first more : List Exchange) × (it : Exchange) × (exchanges ≡ first ++ it ∷ more)
-      × (it.wanted ≡ Ok x) × (reply (vault_after W first) x ≡ y)) Later
+  pub went : Appends s.sent_old s.sent_new (take sent (texts answer_for W exchanges ++ last_text fault))
+  pub stand : TokensStand (IsRepliedIn W exchanges) Later
 
 -- and so what went out of rows: it is the lines that answer those that came in, up to some byte
 pub record LinesStand (now : Option ℕ) (digits : Option (List ℕ)) (W : Content) (s : Streams)
     (Later : Command → Reply → Type 0) : Type 0 where
-  pub rows : List Asked
+  pub rows : List (Asked Row)
   pub read : AreRead now digits s rows
   pub sent : ℕ
   pub went : Appends s.sent_old s.sent_new (take sent (first_line ++ lines W rows))
-  pub stand : TokensStand
-      (λ x y. (first more : List Asked) × (it : Asked) × (rows ≡ first ++ it ∷ more)
-      × (it.wanted ≡ Ok x) × (reply (vault_after_rows W first) x ≡ y)) Later
+  pub stand : TokensStand (IsRepliedIn W rows) Later
 
 -- and so the texts of each connection, from the vault that those before it leave
 abbrev pub LinksStand : Content → List (Option Link) → (Command → Reply → Type 0) → Type 0

@@ -8,7 +8,9 @@ use Rattle.vault_core.specs.Table.{reply}
 use Rattle.vault_core.specs.Vault.{Vault as Content}
 use Rattle.vault_core.specs.declared.command.Command.{Command}
 use Rattle.vault_core.specs.declared.reply.Reply.TheVariants.{Done}
-use Rattle.vault_http.specs.Exchanges.{AskFirst, Exchange, Pair, commands_of, last_text, shown, texts}
+use Rattle.vault_http.specs.Exchanges.{answer_for, last_text, message_kind, shown}
+use Rattle.vault_wire.specs.Parts.{Parts}
+use Rattle.vault_engine.specs.Asking.{commands_of, texts}
 use Rattle.vault_http.specs.Exchanges.{up_to_close}
 use Rattle.vault_http.specs.Served.{Begins}
 use Rattle.vault_listen.specs.Live.{IsPairOf}
@@ -17,8 +19,8 @@ use Rattle.vault_wire.specs.declared.fault.WireFault.{WireFault}
 use Rattle.vault_batch.specs.Asking.{Asked, Asks}
 use Rattle.vault_batch.specs.Batched.{lines, rows_of}
 use Rattle.vault_batch.specs.Lines.{first_line}
-use Rattle.vault_engine.specs.Answered.{pairs_of}
-use Rattle.vault_engine.specs.Asking as rows
+use Rattle.vault_engine.specs.Answered.{pairs_of, units_of}
+use Rattle.vault_engine.specs.Asking as engine
 use Rattle.vault_batch.specs.Rows.{AreRecordsOf, BeginRecordsOf, Fields, records_with}
 use Rattle.vault_listen.specs.Peers.{Link}
 use Rattle.vault_jobs.specs.Ahead.{MaySweep}
@@ -39,15 +41,16 @@ IsQuiet s = Appends s.sent_old s.sent_new []
 -- first that closes the connection, the first are asked in the exchanges, and one more at most that isn't
 -- answered; each with a pair of its own, which has this moment and these digits, where they are fixed.
 pub record AreHeard (now : Option ℕ) (digits : Option (List ℕ)) (s : Streams)
-    (exchanges : List Exchange) : Type 0 where
+    (exchanges : List (engine.Asked Parts)) : Type 0 where
   pub bytes : List ℕ
   pub messages : List Request
-  pub pairs : List Pair
-  pub more : List Exchange
+  pub more : List (engine.Asked Parts)
+  pub rest : List Parts
   pub read : Consumes s.left_old s.left_new bytes
   pub begins : Begins bytes messages
-  pub fixed : All (IsPairOf now digits) pairs
-  pub asked : AskFirst (up_to_close (shown messages)) pairs (exchanges ++ more)
+  pub fixed : All (IsPairOf now digits) (pairs_of (exchanges ++ more))
+  pub asked : All (engine.Asks message_kind) (exchanges ++ more)
+  pub first : up_to_close (shown messages) ≡ units_of (exchanges ++ more) ++ rest
   pub few : length more ≤ 1
 
 -- the records that came in are these, or begin with these
@@ -76,9 +79,10 @@ AllDone task V cs = Unit {0}
 -- Messages answered commands from the vault V: they were read, and what went out are the texts that answer
 -- them, or the first bytes of these and of the text that answers a fault.
 abbrev pub AreAnswered : Option ℕ → Option (List ℕ) → Content → List Command → Streams → Type 0
-AreAnswered now digits V cs s = (xs : List Exchange) × (cs ≡ commands_of xs) × AreHeard now digits s xs
+AreAnswered now digits V cs s = (xs : List (engine.Asked Parts)) × (cs ≡ commands_of xs)
+    × AreHeard now digits s xs
     × ((fault : Option WireFault) × (sent : ℕ)
-    × Appends s.sent_old s.sent_new (take sent (texts V xs ++ last_text fault)))
+    × Appends s.sent_old s.sent_new (take sent (texts answer_for V xs ++ last_text fault)))
 
 -- the streams of a connection: what its reader had to give and has left, what its writer had taken and has
 abbrev pub streams_of : Link → Streams
@@ -117,7 +121,7 @@ Tells (Sweep who now giver) V cs s = (tokens : List Bytes) × (cs ≡ purges_at 
     × AreSwept who now tokens V × (IsQuiet s ⊎ (left_dead who now tokens V ≡ []))
     × ((tokens ≡ []) × IsQuiet s ⊎ MaySweep giver V who.merchant now)
 Tells (Batch who now digits) V cs s = (asked : List Asked) × All (Asks who) asked
-    × (cs ≡ rows.commands_of asked) × AreRead now digits s asked
+    × (cs ≡ commands_of asked) × AreRead now digits s asked
     × ((sent : ℕ) × Appends s.sent_old s.sent_new (take sent (first_line ++ lines V asked)))
 Tells (Pipe now digits) V cs s = AreAnswered now digits V cs s
 Tells (Serve port connections None) V cs s = AllAnswer V s.links cs

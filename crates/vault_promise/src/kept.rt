@@ -27,7 +27,9 @@ pub struct KeptFiles {
 
 /// Ends a connection that found no table, and hands out its files, in which none is found.
 fn blank_files<D: Disk + Drop>(conn: Connection<FileStore<D>>) -> Option<FileStore<D>>
+    // on an honest disk, the connection is one that was opened
     requires { HasCleanDisk (file_state conn) → IsOpened conn }
+    // on an honest disk, whoever opens the files after a stop finds no table, or the empty vault
     ensures { IfSome result (λ left. IsClean (view left) → IsBlankLeft left) }
 {
     match holder_in(conn.schema()) {
@@ -38,7 +40,9 @@ fn blank_files<D: Disk + Drop>(conn: Connection<FileStore<D>>) -> Option<FileSto
 
 /// The files of a store: what a stop may leave of them it may leave of the store.
 pub(crate) fn files_of<D: Disk + Drop>(store: FileStore<D>) -> Files<D>
+    // where the disk is honest about the files, it was so about the store
     ensures clean { AreClean D.Disk result.log result.db → IsClean (view store) }
+    // on an honest disk, what a stop may leave of the files it may leave of the store
     ensures left { AreClean D.Disk result.log result.db → (next : Image)
         → outcomes D.Disk result.log result.db next → (files.state store).may_leave next }
 {
@@ -69,7 +73,9 @@ impl KeptFiles {
 
     /// What a stop leaves of the files: some bytes that may be left, after the same runs.
     pub fn stopped(self) -> KeptFiles
+        // the bytes are some that a stop may leave of the files
         ensures left { MayBeLeftIn (files_kept self) (bytes_in (files_kept result)) }
+        // runs that came up to what a stop may leave of the files came up to what one may leave of these
         ensures kept { (V : Vault) (rs : List Run) → HaveRun V rs (MayBeLeftIn (files_kept self))
             → HaveRun V rs (MayBeLeftIn (files_kept result)) }
     {

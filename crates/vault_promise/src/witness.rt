@@ -66,6 +66,8 @@ impl KeptFiles {
         output: &mut Watched<W>,
         errors: &mut Watched<E>,
     ) -> (u8, Option<KeptFiles>)
+        // where files are left, this call is a run from the bytes before, follows all runs before it, and
+        // agrees with each
         ensures follows { IfSome result.1 (λ kept. (r : Run) × (r.begins ≡ bytes_in (files_kept self))
             × IsCallOf ⟦<Memory as Disk>⟧ R.remaining W.contents E.contents (N.tells network.old)
             (N.tells network.new) (memory_world (K.tells time.now) (bytes_in (files_kept self)))
@@ -73,6 +75,8 @@ impl KeptFiles {
             (MayBeLeftIn (files_kept kept)) r
             × GoesOn (MayBeLeftIn (files_kept self)) r (MayBeLeftIn (files_kept kept))
             × AgreesWith (MayBeLeftIn (files_kept self)) r) }
+        // where files are left, some runs led to whatever a stop may leave of them, and what each answered
+        // stands in later ones
         ensures stands { IfSome result.1 (λ kept. StandsAfter (MayBeLeftIn (files_kept kept))) }
     {
         answers_stand::<MemoryPaths, K, R, W, E>();

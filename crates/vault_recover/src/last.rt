@@ -27,8 +27,11 @@ fn answered<S: Alter>(
     c: &Command,
 ) -> (Result<Reply, Fault>, Connection<S>)
     requires { HasLivesInRange c.now }
+    // on an honest disk, Ok gives the reply of a vault that was contained
     ensures answered { HasCleanDisk (state S.Store result.1)
         → IfOk result.0 (λ reply. (V : Content) → Contains AreHeld vault V → reply ≡ reply_lem V c.now) }
+    // where the disk is honest, a crash leaves the vault after the command with Ok, before it with Memory,
+    // and either with Store
     ensures crash { HasCleanDisk (state S.Store result.1) → (V : Content) → Contains AreHeld vault V
         → LeavesBy result.0 (LeavesEither (state S.Store result.1)) V (after_lem V c.now) }
 {
@@ -44,8 +47,11 @@ pub fn apply_last<D: Disk + Drop>(
     c: &Command,
 ) -> (Result<Reply, Fault>, FileStore<D>)
     requires { HasLivesInRange c.now }
+    // on an honest disk, Ok gives the reply of a vault that was contained
     ensures answered { IsClean (view result.1)
         → IfOk result.0 (λ reply. (V : Content) → Contains AreHeld vault V → reply ≡ reply_lem V c.now) }
+    // where the disk is honest, the files keep the vault after the command with Ok, before it with Memory,
+    // and either with Store
     ensures crash { IsClean (view result.1) → (V : Content) → Contains AreHeld vault V
         → LeavesBy result.0 (ReopensEither result.1) V (after_lem V c.now) }
 {

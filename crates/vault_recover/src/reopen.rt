@@ -31,16 +31,27 @@ use std::rt::HostRuntime;
 /// made the tables it is what was there, without a table, or the empty vault. What the tables say of the
 /// states that a crash may leave is here said of the bytes of the files.
 pub fn close<D: Disk + Drop>(conn: Connection<FileStore<D>>) -> FileStore<D>
+    // a disk that is honest after the call was so before it
     ensures clean { doubt (file_state conn).is_clean ≤ doubt (view result).is_clean }
+    // on an honest disk, the files that a crash leaves before the call keep the vault that was held
     ensures reopens { IsClean (view result) → (V : Vault) → Holds (file_state conn) V → Reopens conn.store V }
+    // on an honest disk, the files that a crash leaves after the call keep the vault that was held
     ensures after { IsClean (view result) → (V : Vault) → Holds (file_state conn) V → Reopens result V }
+    // on an honest disk, where a crash leaves one of two vaults, the files that it leaves before the call
+    // keep one of them
     ensures either { IsClean (view result)
         → (V W : Vault) → LeavesEither (file_state conn) V W → ReopensEither conn.store V W }
+    // on an honest disk, where a crash leaves one of two vaults, the files that it leaves after the call keep
+    // one of them
     ensures either_after { IsClean (view result)
         → (V W : Vault) → LeavesEither (file_state conn) V W → ReopensEither result V W }
+    // on an honest disk, where a crash leaves no table or the empty vault, the files before the call keep one
+    // of these
     ensures first { IsClean (view result)
         → (before : Trees) → AreBlank before → LeavesFirst (file_state conn) before
         → ReopensFirst conn.store before }
+    // on an honest disk, where a crash leaves no table or the empty vault, the files after the call keep one
+    // of these
     ensures first_after { IsClean (view result)
         → (before : Trees) → AreBlank before → LeavesFirst (file_state conn) before
         → ReopensFirst result before }
@@ -53,15 +64,23 @@ pub fn open_files<D: Disk + Drop>(
     alloc: Global,
     files: Files<D>,
 ) -> Option<Connection<FileStore<D>>>
+    // the connection is outside a transaction
     ensures idle { IfSome result (λ c. c.in_transaction ≡ false) }
+    // its statements may take any number of steps
     ensures unlimited { IfSome result (λ c. c.step_limit ≡ None) }
+    // on an honest disk, the connection was just opened over the bytes of the files, and found what they hold
     ensures opened { IfSome result (λ c. HasCleanDisk (file_state c) → IsOpenOf (image_of D.Disk files) c) }
+    // on an honest disk, a vault for which the committed rows stand is held
     ensures holds { IfSome result (λ c. HasCleanDisk (file_state c)
         → (V : Vault) → AreOurs (file_state c).committed.trees V → Holds (file_state c) V) }
+    // on an honest disk, a vault that the bytes keep is held
     ensures again { IfSome result (λ c. HasCleanDisk (file_state c)
         → (V : Vault) → Keeps (image_of D.Disk files) V → Holds (file_state c) V) }
+    // on an honest disk, where the bytes keep one of two vaults, one of them is held
     ensures either { IfSome result (λ c. HasCleanDisk (file_state c)
         → (V W : Vault) → KeepsEither (image_of D.Disk files) V W → HoldsEither (file_state c) V W) }
+    // on an honest disk, where the bytes keep no table or the empty vault, no table is seen or the empty
+    // vault is held
     ensures first { IfSome result (λ c. HasCleanDisk (file_state c)
         → (before : Trees) → AreBlank before → KeepsFirst (image_of D.Disk files) before
         → HoldsFirst (file_state c) before) }
@@ -82,7 +101,9 @@ fn connect<S: Start>(
     start: S,
     cache: Cache,
 ) -> Option<Connection<FileStore<FileFrom<S>>>>
+    // the connection is new
     ensures fresh { IfSome result IsNew }
+    // on an honest disk, the connection was just opened over the bytes of the files, and found what they hold
     ensures opened { IfSome result (λ c. HasCleanDisk (file_state c) → IsOpenOf (image_at S.Start) c) }
 {
     let Ok(options) = options_for(rt, path, cache) else {
@@ -109,15 +130,23 @@ pub fn open_path<S: Start>(
     start: S,
     cache: Cache,
 ) -> Option<Connection<FileStore<FileFrom<S>>>>
+    // the connection is outside a transaction
     ensures idle { IfSome result (λ c. c.in_transaction ≡ false) }
+    // its statements may take any number of steps
     ensures unlimited { IfSome result (λ c. c.step_limit ≡ None) }
+    // on an honest disk, the connection was just opened over the bytes of the files, and found what they hold
     ensures opened { IfSome result (λ c. HasCleanDisk (file_state c) → IsOpenOf (image_at S.Start) c) }
+    // on an honest disk, a vault for which the committed rows stand is held
     ensures holds { IfSome result (λ c. HasCleanDisk (file_state c)
         → (V : Vault) → AreOurs (file_state c).committed.trees V → Holds (file_state c) V) }
+    // on an honest disk, a vault that the bytes keep is held
     ensures again { IfSome result (λ c. HasCleanDisk (file_state c)
         → (V : Vault) → Keeps (image_at S.Start) V → Holds (file_state c) V) }
+    // on an honest disk, where the bytes keep one of two vaults, one of them is held
     ensures either { IfSome result (λ c. HasCleanDisk (file_state c)
         → (V W : Vault) → KeepsEither (image_at S.Start) V W → HoldsEither (file_state c) V W) }
+    // on an honest disk, where the bytes keep no table or the empty vault, no table is seen or the empty
+    // vault is held
     ensures first { IfSome result (λ c. HasCleanDisk (file_state c)
         → (before : Trees) → AreBlank before → KeepsFirst (image_at S.Start) before
         → HoldsFirst (file_state c) before) }

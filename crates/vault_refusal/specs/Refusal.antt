@@ -1,5 +1,5 @@
 -- The refusals: each has a number with one meaning in the whole product.
-use Rattle.std.specs.Prelude.{ℕ, ◌==◌, Bool, List, [], ◌∷◌, Option, Some, None}
+use Rattle.std.specs.Prelude.{ℕ, ◌==◌, Bool, List, [], ◌∷◌, Option, Some, None, codes}
 use Rattle.std.specs.List.{find}
 use Rattle.vault_refusal.specs.declared.refusal.Refusal.{Refusal}
 use Rattle.vault_refusal.specs.declared.refusal.Refusal.TheVariants as refusal
@@ -151,3 +151,63 @@ has_number n refused = number_of refused == n
 -- the one of these that has the number
 abbrev pub answered_by : ℕ → Option Refusal
 answered_by n = find (has_number n) answered
+
+-- what people are told of it
+abbrev pub words_of : Refusal → List ℕ
+words_of refusal.BadNumber = codes "not a card number"
+words_of refusal.BadCheck = codes "wrong check digit"
+words_of refusal.BadToken = codes "not a token"
+words_of refusal.BadName = codes "not a name"
+words_of refusal.BadRequestNumber = codes "not a request number"
+words_of refusal.BadMoment = codes "not a time"
+words_of refusal.NoMerchant = codes "no such merchant"
+words_of refusal.NoRight = codes "no right"
+words_of refusal.WrongUse = codes "the merchant offers no tokens of this use"
+words_of refusal.NumberReused = codes "the request number was used for something else"
+words_of refusal.Full = codes "the merchant is full"
+words_of refusal.NoCandidate = codes "no token was found among the candidates"
+words_of refusal.NoToken = codes "no such token"
+words_of refusal.Purged = codes "the card number is purged"
+words_of refusal.Revoked = codes "the token is revoked"
+words_of refusal.Expired = codes "the token has expired"
+words_of refusal.StillLive = codes "the token is still live"
+words_of refusal.TooManyMerchants = codes "there are too many merchants"
+words_of refusal.BadUse = codes "not a use"
+words_of refusal.CommandMemory = codes "memory was refused"
+words_of refusal.CommandStore = codes "the store failed"
+words_of refusal.Reopen = codes "the store failed before"
+words_of refusal.WrongSchema = codes "the file has another schema"
+words_of refusal.Damaged = codes "the rows break a rule"
+words_of refusal.OpenMemory = codes "memory was refused"
+words_of refusal.OpenStore = codes "the database failed"
+words_of refusal.FileRefused = codes "the file is refused"
+words_of refusal.BadHeader = codes "the batch has no header"
+words_of refusal.BatchRead = codes "the reader failed"
+words_of refusal.BatchWrite = codes "the writer failed"
+words_of refusal.BatchStore = codes "the store failed"
+words_of refusal.BadRecord = codes "a record hasn't three fields"
+words_of refusal.BatchMemory = codes "memory was refused"
+words_of refusal.BatchSource = codes "no time or digits for a row"
+words_of refusal.BadHead = codes "no request can begin with these bytes"
+words_of refusal.HeadTooLarge = codes "a head has 8192 bytes and 32 fields at most"
+words_of refusal.BadLength = codes "the length of the body isn't said by one number"
+words_of refusal.NoCoding = codes "a body with a transfer coding isn't taken"
+words_of refusal.BodyTooLarge = codes "a body has 4096 bytes at most"
+words_of refusal.WireMemory = codes "memory was refused"
+words_of refusal.NoRoute = codes "no such path"
+words_of refusal.BadMethod = codes "the path doesn't take this method"
+words_of refusal.BadFields = codes "a header field is missing or there twice"
+words_of refusal.BadBody = codes "the body isn't the JSON object that is asked for"
+words_of refusal.ServiceSource = codes "no time or digits for a message"
+words_of refusal.ServiceRead = codes "the reader failed"
+words_of refusal.ServiceWrite = codes "the writer failed"
+words_of refusal.ServiceStore = codes "the store failed"
+words_of refusal.ServiceMemory = codes "memory was refused"
+words_of refusal.NotToml = codes "not a TOML document"
+words_of refusal.UnknownRight = codes "not a right"
+words_of refusal.BadKey = codes "a key isn't a name"
+words_of refusal.WrongType = codes "a value of the wrong type"
+words_of refusal.RightsMemory = codes "memory was refused"
+words_of refusal.BadEnd = codes "not an end"
+words_of refusal.Accept = codes "listening or accepting was refused"
+words_of refusal.MomentAhead = codes "the merchant's time is far ahead of the clock"

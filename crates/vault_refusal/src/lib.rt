@@ -3,5 +3,3 @@
 #![tactic(auto)]
 
 pub mod refusal;
-pub mod told;
-pub mod words;

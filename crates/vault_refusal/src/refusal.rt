@@ -1,5 +1,11 @@
-//! The refusals of the whole product. Each has a number with one meaning.
-ghost use Rattle.std.specs.Prelude.{◌≡◌};
+//! The refusals of the whole product. Each has a number with one meaning, and is told by the status of a
+//! message's answer, by the exit status of a run, and by words.
+ghost use Rattle.std.specs.Prelude.{◌≡◌, option_map};
+ghost use Rattle.std.specs.List.{find};
+ghost use Rattle.vault_refusal.specs.Refusal.{answered_by, has_number, status_of};
+
+use std::error::Error;
+use std::fmt;
 
 /// Why something is refused, or has stopped. The number of each stands behind it.
 #[derive(Clone, Copy, Debug, Drop, PartialEq, Eq)]
@@ -121,7 +127,7 @@ pub enum Refusal {
 }
 
 impl Refusal {
-    ghost use Rattle.vault_refusal.specs.Refusal.{number_of};
+    ghost use Rattle.vault_refusal.specs.Refusal.{exit_of, number_of, status_of as status_lem, words_of};
 
     /// Its number.
     pub fn number(self) -> u8
@@ -129,4 +135,211 @@ impl Refusal {
     {
         self as u8
     }
+
+    /// The HTTP status of the answer to a message that it refuses.
+    pub fn status(self) -> u16
+        ensures { result ≡ status_lem self }
+    {
+        match self {
+            Refusal::BadNumber
+            | Refusal::BadCheck
+            | Refusal::BadToken
+            | Refusal::BadName
+            | Refusal::BadRequestNumber
+            | Refusal::BadUse
+            | Refusal::BadHead
+            | Refusal::BadLength
+            | Refusal::BadFields
+            | Refusal::BadBody => 400,
+            Refusal::NoRight => 403,
+            Refusal::NoMerchant | Refusal::NoToken | Refusal::NoRoute => 404,
+            Refusal::BadMethod => 405,
+            Refusal::NumberReused | Refusal::StillLive => 409,
+            Refusal::Purged | Refusal::Revoked | Refusal::Expired => 410,
+            Refusal::NoCoding => 411,
+            Refusal::BodyTooLarge => 413,
+            Refusal::WrongUse => 422,
+            Refusal::HeadTooLarge => 431,
+            Refusal::NoCandidate => 503,
+            _ => OTHER_STATUS,
+        }
+    }
+
+    /// The exit status of a run that it ends; nothing where it ends none.
+    pub fn exit(self) -> Option<u8>
+        ensures { result ≡ exit_of self }
+    {
+        match self {
+            Refusal::BadName
+            | Refusal::NoMerchant
+            | Refusal::NoRight
+            | Refusal::TooManyMerchants
+            | Refusal::NotToml
+            | Refusal::UnknownRight
+            | Refusal::BadKey
+            | Refusal::WrongType
+            | Refusal::BadEnd
+            | Refusal::MomentAhead => Some(1),
+            Refusal::WrongSchema
+            | Refusal::Damaged
+            | Refusal::OpenMemory
+            | Refusal::OpenStore
+            | Refusal::FileRefused => Some(3),
+            Refusal::CommandMemory
+            | Refusal::CommandStore
+            | Refusal::Reopen
+            | Refusal::BadHeader
+            | Refusal::BatchRead
+            | Refusal::BatchWrite
+            | Refusal::BatchStore
+            | Refusal::BadRecord
+            | Refusal::BatchMemory
+            | Refusal::BatchSource
+            | Refusal::ServiceSource
+            | Refusal::ServiceRead
+            | Refusal::ServiceWrite
+            | Refusal::ServiceStore
+            | Refusal::ServiceMemory
+            | Refusal::RightsMemory
+            | Refusal::Accept => Some(4),
+            _ => None,
+        }
+    }
+
+    /// Its words, which show no card number.
+    pub fn words(self) -> &'static str
+        ensures { result.now ≡ words_of self }
+    {
+        match self {
+            Refusal::BadNumber => "not a card number",
+            Refusal::BadCheck => "wrong check digit",
+            Refusal::BadToken => "not a token",
+            Refusal::BadName => "not a name",
+            Refusal::BadRequestNumber => "not a request number",
+            Refusal::BadMoment => "not a time",
+            Refusal::NoMerchant => "no such merchant",
+            Refusal::NoRight => "no right",
+            Refusal::WrongUse => "the merchant offers no tokens of this use",
+            Refusal::NumberReused => "the request number was used for something else",
+            Refusal::Full => "the merchant is full",
+            Refusal::NoCandidate => "no token was found among the candidates",
+            Refusal::NoToken => "no such token",
+            Refusal::Purged => "the card number is purged",
+            Refusal::Revoked => "the token is revoked",
+            Refusal::Expired => "the token has expired",
+            Refusal::StillLive => "the token is still live",
+            Refusal::TooManyMerchants => "there are too many merchants",
+            Refusal::BadUse => "not a use",
+            Refusal::CommandMemory => "memory was refused",
+            Refusal::CommandStore => "the store failed",
+            Refusal::Reopen => "the store failed before",
+            Refusal::WrongSchema => "the file has another schema",
+            Refusal::Damaged => "the rows break a rule",
+            Refusal::OpenMemory => "memory was refused",
+            Refusal::OpenStore => "the database failed",
+            Refusal::FileRefused => "the file is refused",
+            Refusal::BadHeader => "the batch has no header",
+            Refusal::BatchRead => "the reader failed",
+            Refusal::BatchWrite => "the writer failed",
+            Refusal::BatchStore => "the store failed",
+            Refusal::BadRecord => "a record hasn't three fields",
+            Refusal::BatchMemory => "memory was refused",
+            Refusal::BatchSource => "no time or digits for a row",
+            Refusal::BadHead => "no request can begin with these bytes",
+            Refusal::HeadTooLarge => "a head has 8192 bytes and 32 fields at most",
+            Refusal::BadLength => "the length of the body isn't said by one number",
+            Refusal::NoCoding => "a body with a transfer coding isn't taken",
+            Refusal::BodyTooLarge => "a body has 4096 bytes at most",
+            Refusal::WireMemory => "memory was refused",
+            Refusal::NoRoute => "no such path",
+            Refusal::BadMethod => "the path doesn't take this method",
+            Refusal::BadFields => "a header field is missing or there twice",
+            Refusal::BadBody => "the body isn't the JSON object that is asked for",
+            Refusal::ServiceSource => "no time or digits for a message",
+            Refusal::ServiceRead => "the reader failed",
+            Refusal::ServiceWrite => "the writer failed",
+            Refusal::ServiceStore => "the store failed",
+            Refusal::ServiceMemory => "memory was refused",
+            Refusal::NotToml => "not a TOML document",
+            Refusal::UnknownRight => "not a right",
+            Refusal::BadKey => "a key isn't a name",
+            Refusal::WrongType => "a value of the wrong type",
+            Refusal::RightsMemory => "memory was refused",
+            Refusal::BadEnd => "not an end",
+            Refusal::Accept => "listening or accepting was refused",
+            Refusal::MomentAhead => "the merchant's time is far ahead of the clock",
+        }
+    }
+}
+
+impl fmt::Display for Refusal {
+    ghost use Rattle.std.specs.Prelude.{Some};
+    ghost use Rattle.vault_refusal.specs.Refusal.{words_of};
+
+    ghost output = { λ refusal. Some (words_of refusal) };
+
+    fn fmt<W: fmt::Write>(&self, f: &mut fmt::Formatter<W>) -> fmt::Result {
+        let words = self.words();
+        write!(f, "{words}")
+    }
+}
+
+impl Error for Refusal {}
+
+/// The HTTP status of a number that no message is answered with.
+pub const OTHER_STATUS: u16 = 507;
+
+/// All that answer a message, in the order of their numbers.
+const ANSWERED: [Refusal; 27] = [
+    Refusal::BadNumber,
+    Refusal::BadCheck,
+    Refusal::BadToken,
+    Refusal::BadName,
+    Refusal::BadRequestNumber,
+    Refusal::NoMerchant,
+    Refusal::NoRight,
+    Refusal::WrongUse,
+    Refusal::NumberReused,
+    Refusal::Full,
+    Refusal::NoCandidate,
+    Refusal::NoToken,
+    Refusal::Purged,
+    Refusal::Revoked,
+    Refusal::Expired,
+    Refusal::StillLive,
+    Refusal::TooManyMerchants,
+    Refusal::BadUse,
+    Refusal::BadHead,
+    Refusal::HeadTooLarge,
+    Refusal::BadLength,
+    Refusal::NoCoding,
+    Refusal::BodyTooLarge,
+    Refusal::NoRoute,
+    Refusal::BadMethod,
+    Refusal::BadFields,
+    Refusal::BadBody,
+];
+
+/// Whether a refusal has the number.
+fn has_number(refusal: &Refusal, number: u8) -> bool
+    ensures { result ≡ has_number number refusal.now }
+{
+    refusal.number() == number
+}
+
+/// The status of the first of these that has the number.
+fn status_among(refusals: &[Refusal], number: u8) -> Option<u16>
+    ensures { result ≡ option_map status_of (find (has_number number) refusals.now) }
+{
+    refusals
+        .iter()
+        .find(|refusal| has_number(refusal, number))
+        .map(|refusal| refusal.status())
+}
+
+/// The HTTP status of the answer with the number of a refusal, where a message is answered with it.
+pub fn status_at(number: u8) -> Option<u16>
+    ensures { result ≡ option_map status_of (answered_by number) }
+{
+    status_among(&ANSWERED, number)
 }

@@ -1,7 +1,7 @@
 //! Why a rights file is refused.
 ghost use Rattle.std.specs.Prelude.{◌≡◌};
 
-use std::alloc::{AllocError, AllocFailed};
+use std::alloc::AllocError;
 use vault_refusal::refusal::Refusal;
 
 /// Why a rights file is refused.
@@ -47,17 +47,6 @@ impl From<AllocError> for RightsFault {
     ghost from_gives = { λ _ fault. fault ≡ Memory };
 
     fn from(_refused: AllocError) -> RightsFault {
-        RightsFault::Memory
-    }
-}
-
-impl<T: Drop> From<AllocFailed<T>> for RightsFault {
-    ghost use Rattle.std.specs.Prelude.{◌≡◌};
-    ghost use Rattle.vault_rights.specs.declared.fault.RightsFault.TheVariants.{Memory};
-
-    ghost from_gives = { λ _ fault. fault ≡ Memory };
-
-    fn from(_refused: AllocFailed<T>) -> RightsFault {
         RightsFault::Memory
     }
 }

@@ -10,7 +10,7 @@ ghost use Rattle.vault_rights.specs.Proper.{AreGrants};
 ghost use Rattle.vault_rights.specs.declared.fault.RightsFault.TheVariants.{Memory, BadEnd};
 
 use crate::fault::RightsFault;
-use std::alloc::Global;
+use std::alloc::{AllocError, Global};
 use toml::value::Array;
 use toml::{Table, Value};
 use vault_core::moment::Moment;
@@ -32,7 +32,9 @@ pub(crate) type Grant = (Right, Option<Moment>);
 
 /// The word and the end in a table of exactly the two.
 fn said_in(members: &Table) -> Option<(&str, i64)>
+    // the table is of exactly this word and this end
     ensures said { IfSome result (λ said. table_view members.now ≡ pair_of said.0.now said.1) }
+    // where nothing is given, the table isn't of exactly a word and an end
     ensures none { IfNone result ((word : Bytes) (end : ℤ) → ¬ (table_view members.now ≡ pair_of word end)) }
 {
     if members.len() != 2 {
@@ -45,7 +47,9 @@ fn said_in(members: &Table) -> Option<(&str, i64)>
 
 /// The word of an item, and its end where it has one.
 fn said_by(item: &Value) -> Option<(&str, Option<i64>)>
+    // the item says this word, and this end or none
     ensures said { IfSome result (λ said. view item.now ≡ item_of said.0.now said.1) }
+    // where nothing is given, the item is neither a text nor a table of a word and an end
     ensures none { IfNone result (IsOtherItem (view item.now)) }
 {
     if let Some(word) = item.as_str() {
@@ -57,8 +61,11 @@ fn said_by(item: &Value) -> Option<(&str, Option<i64>)>
 
 /// The moment of an end, where there is one.
 fn read_end(end: Option<i64>) -> Result<Option<Moment>, RightsFault>
+    // with Ok, the end is the moment that is given, or neither is there
     ensures until { IfOk result (λ until. end ≡ option_map pos until) }
+    // an end that is given is a moment
     ensures moment { IfOk result (λ until. IfSome until IsMoment) }
+    // the fault is `BadEnd`, and the end is no moment
     ensures fault { IfErr result (λ fault. (other : ℤ) × (end ≡ Some other)
         × ((moment : ℕ) → IsMoment moment → ¬ (other ≡ pos moment)) × (fault ≡ BadEnd)) }
 {
@@ -76,8 +83,11 @@ fn read_end(end: Option<i64>) -> Result<Option<Moment>, RightsFault>
 
 /// Reads an item of an array.
 fn read_grant(item: &Value) -> Result<Grant, RightsFault>
+    // with Ok, the item gives this right, up to this end or for good
     ensures grant { IfOk result (λ grant. view item.now ≡ grant_of grant.0 grant.1) }
+    // an end that is given is a moment
     ensures moment { IfOk result (λ grant. IfSome grant.1 IsMoment) }
+    // the fault is that of the item's shape, else of its word, else of its end
     ensures fault { IfErr result (IsItemFault (view item.now)) }
 {
     let Some((word, end)) = said_by(item) else {
@@ -92,14 +102,19 @@ fn read_grant(item: &Value) -> Result<Grant, RightsFault>
 
 /// Reads an array's items, in its order.
 pub(crate) fn read_grants(alloc: Global, items: &Array) -> Result<Vec<Grant>, RightsFault>
+    // with Ok, these are the grants of the items, in their order
     ensures grants { IfOk result (λ grants.
         array_view items.now ≡ items_of (map (λ grant. grant_of grant.0 grant.1) grants.items)) }
+    // with Ok, each item gives a right
     ensures proper { IfOk result (λ _. AreGrants (array_view items.now)) }
+    // the fault is want of memory, or that of the first item that gives no right
     ensures fault { IfErr result (λ fault. (fault ≡ Memory) ⊎ IsFirstItemFault (array_view items.now) fault) }
 {
     let mut grants = Vec::new(alloc);
     for item in items {
-        grants.push(read_grant(item)?)?;
+        grants
+            .push(read_grant(item)?)
+            .map_err(|_| RightsFault::Memory)?;
     }
     Ok(grants)
 }
@@ -116,7 +131,9 @@ fn later_end(latest: Option<Option<Moment>>, until: Option<Moment>) -> Option<Mo
 
 /// The latest end of the grants of a right, if one of them is of the right.
 fn latest_end(grants: &[Grant], right: Right) -> Option<Option<Moment>>
+    // the end that is given is the latest of the grants of the right
     ensures some { IfSome result (IsLatest (IsGranted grants.now right)) }
+    // where none is given, no grant is of the right
     ensures none { IfNone result ((until : _) → ¬ IsGranted grants.now right until) }
 {
     let mut latest = None;
@@ -135,11 +152,12 @@ pub(crate) fn push_rows(
     merchant: MerchantId,
     grants: &[Grant],
     rows: &mut Vec<(Caller, MerchantId, Right, Option<Moment>)>,
-) -> Result<(), RightsFault>
+) -> Result<(), AllocError>
+    // Ok adds, in order, a row of the caller and the merchant for each right that is granted, with its latest
+    // end
     ensures rows { IfOk result (λ _. IsExtendedBy
         (λ row. (row.0 ≡ caller) × (row.1 ≡ merchant) × IsLatest (IsGranted grants.now row.2) row.3)
         rows.old.items rows.new.items) }
-    ensures memory { IfErr result (λ fault. fault ≡ Memory) }
 {
     for right in RIGHTS {
         if let Some(until) = latest_end(grants, right) {

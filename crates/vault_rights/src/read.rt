@@ -24,10 +24,14 @@ fn read_merchant(
     value: &Value,
     rows: &mut Vec<(Caller, MerchantId, Right, Option<Moment>)>,
 ) -> Result<(), RightsFault>
+    // with Ok, the key is a name, and the value an array of items that give rights
     ensures proper { IfOk result (λ _. IsProperMerchant key.now (view value.now)) }
+    // Ok adds, in order, a row of the caller and the key for each right that the value gives, with its latest
+    // end
     ensures rows { IfOk result (λ _. IsExtendedBy
         (λ row. (row.0 ≡ caller) × (row.1 ≡ key.now) × HasRight (view value.now) row.2 row.3)
         rows.old.items rows.new.items) }
+    // the fault is want of memory, or that of the key, else of the value, else of its first faulty item
     ensures fault { IfErr result (λ fault.
         (fault ≡ Memory) ⊎ IsMerchantFault key.now (view value.now) fault) }
 {
@@ -50,10 +54,13 @@ fn read_merchants(
     members: &Table,
     rows: &mut Vec<(Caller, MerchantId, Right, Option<Moment>)>,
 ) -> Result<(), RightsFault>
+    // with Ok, each merchant is proper
     ensures proper { IfOk result (λ _. EachMember IsProperMerchant (table_view members.now)) }
+    // Ok adds, in order, the caller's rows of all rights that the table gives at its merchants
     ensures rows { IfOk result (λ _. IsExtendedBy
         (λ row. (row.0 ≡ caller) × HasMerchant (table_view members.now) row.1 row.2 row.3)
         rows.old.items rows.new.items) }
+    // the fault is want of memory, or that of the first faulty merchant
     ensures fault { IfErr result (λ fault.
         (fault ≡ Memory) ⊎ IsFirstFault IsProperMerchant IsMerchantFault (table_view members.now) fault) }
 {
@@ -70,10 +77,13 @@ fn read_caller(
     value: &Value,
     rows: &mut Vec<(Caller, MerchantId, Right, Option<Moment>)>,
 ) -> Result<(), RightsFault>
+    // with Ok, the key is a name, and the value a table of proper merchants
     ensures proper { IfOk result (λ _. IsProperCaller key.now (view value.now)) }
+    // Ok adds, in order, the key's rows of all rights that the value gives
     ensures rows { IfOk result (λ _. IsExtendedBy
         (λ row. (row.0 ≡ key.now) × GivesRight (view value.now) row.1 row.2 row.3)
         rows.old.items rows.new.items) }
+    // the fault is want of memory, or that of the key, else of the value, else of its first faulty merchant
     ensures fault { IfErr result (λ fault. (fault ≡ Memory) ⊎ IsCallerFault key.now (view value.now) fault) }
 {
     let Ok(caller) = Caller::read(key.as_bytes()) else {
@@ -93,9 +103,12 @@ fn read_callers(
     document: &Table,
     rows: &mut Vec<(Caller, MerchantId, Right, Option<Moment>)>,
 ) -> Result<(), RightsFault>
+    // with Ok, each caller is proper
     ensures proper { IfOk result (λ _. IsProper (table_view document.now)) }
+    // Ok adds, in order, the rows that the document names
     ensures rows { IfOk result (λ _.
         IsExtendedBy (Names (table_view document.now)) rows.old.items rows.new.items) }
+    // the fault is want of memory, or that of the document's first faulty caller
     ensures fault { IfErr result (λ fault.
         (fault ≡ Memory) ⊎ IsDocumentFault (table_view document.now) fault) }
 {
@@ -107,7 +120,9 @@ fn read_callers(
 
 /// The document of a text, in UTF-8.
 fn read_document(alloc: Global, text: &[u8]) -> Result<Table, RightsFault>
+    // with Ok, this is the document of the text
     ensures document { IfOk result (λ document. IsDocument text.now (table_view document)) }
+    // the fault is want of memory, or `NotToml`, and the text is no document
     ensures fault { IfErr result (λ fault.
         (fault ≡ Memory) ⊎ (((document : Members) → ¬ IsDocument text.now document) × (fault ≡ NotToml))) }
 {
@@ -136,8 +151,10 @@ pub fn read_rights(
     alloc: Global,
     text: &[u8],
 ) -> Result<Vec<(Caller, MerchantId, Right, Option<Moment>)>, RightsFault>
+    // with Ok, the text has a proper document, and the rows are those that it names, in order and each once
     ensures rights { IfOk result (λ rows. (document : Members) × IsDocument text.now document
         × IsProper document × IsListOf (Names document) rows.items) }
+    // the fault is want of memory, or `NotToml` of no document, or that of the document's first faulty caller
     ensures fault { IfErr result (IsFault text.now) }
 {
     let document = read_document(alloc, text)?;

@@ -17,6 +17,7 @@ pub struct TokenBody {
 
 // The JSON value of the bytes, where they are one.
 fn read_json(alloc: Global, bytes: &[u8]) -> Result<Option<Value>, AllocError>
+    // with Ok, it is the JSON value that the bytes are, or none where they are none
     ensures { IfOk result (λ value. json_in bytes.now ≡ option_map view value) }
 {
     match Value::from_slice(alloc, bytes) {
@@ -28,6 +29,8 @@ fn read_json(alloc: Global, bytes: &[u8]) -> Result<Option<Value>, AllocError>
 
 // The texts `number` and `use` of a value that asks for a token.
 fn asked_texts(value: &Value) -> Option<(&str, &str)>
+    // the texts of `number` and `use`, where the value is an object of just these two members, and both are
+    // texts
     ensures { option_map (λ t. (t.0.now, t.1.now)) result ≡ texts_of (view value.now) }
 {
     let members = value.as_object()?;

@@ -14,6 +14,7 @@ pub fn refusal_text(alloc: Global, number: u8) -> Result<Vec<u8>, AllocError>
 
 // The text with a member's text behind it, and what comes next.
 fn with(mut text: Vec<u8>, value: &[u8], next: &[u8]) -> Result<Vec<u8>, AllocError>
+    // with Ok, the value and what comes next stand behind the text
     ensures { IfOk result (λ v. v.items ≡ text.items ++ value.now ++ next.now) }
 {
     text.extend_from_slice(value)?;
@@ -23,6 +24,7 @@ fn with(mut text: Vec<u8>, value: &[u8], next: &[u8]) -> Result<Vec<u8>, AllocEr
 
 // The text with a number's digits behind it, and what comes next.
 fn numbered(alloc: Global, text: Vec<u8>, number: u64, next: &[u8]) -> Result<Vec<u8>, AllocError>
+    // with Ok, the number's digits and what comes next stand behind the text
     ensures { IfOk result (λ v. v.items ≡ text.items ++ decimal number ++ next.now) }
 {
     let digits = format!(in alloc; "{number}")?;
@@ -38,6 +40,7 @@ fn shown_text(
     expires: u64,
     state: &[u8],
 ) -> Result<Vec<u8>, AllocError>
+    // with Ok, it is the text of what a token stands for, of these parts
     ensures { IfOk result (λ v. v.items ≡ shown_lem masked.now usage.now birth expires state.now) }
 {
     let text = Vec::from_slice(alloc, b"{\"birth\":")?;
@@ -50,6 +53,7 @@ fn shown_text(
 
 // The text of a merchant's counts.
 fn counts_text(alloc: Global, made: u64, given: u64, denied: u64) -> Result<Vec<u8>, AllocError>
+    // with Ok, it is the text of these counts
     ensures { IfOk result (λ v. v.items ≡ body_text (Reply.Counts made given denied)) }
 {
     let text = format!(in alloc; "{{\"denied\":{denied},\"given\":{given},\"made\":{made}}}")?;

@@ -29,7 +29,9 @@ pub struct Routes {
 
 // Adds the template of a place.
 fn add(router: &mut Router<Place>, place: Place) -> Result<(), AllocError>
+    // the place's template reads well and conflicts with none of the router's
     requires { HasRoomFor place router.old }
+    // with Ok, the router has the place's template too
     ensures { OnOk result (router.new ≡ with_place router.old place) }
 {
     match router.insert(place.template(), place) {
@@ -75,5 +77,7 @@ impl Routes {
 
 /// What the templates say in the target's own bytes.
 pub fn names_its_target()
+    // a target names a place, a merchant and a token exactly where it is the place's template with these
+    // texts
     ensures { NamesItsTarget }
 {}

@@ -5,12 +5,15 @@ ghost use Rattle.vault_routes.specs.Status.{status_for as code_for, status_of as
 ghost use Rattle.vault_wire.specs.Status.{IsStatus};
 
 use vault_core::reply::Reply;
-use vault_refusal::told::{OTHER_STATUS, status_at};
+use vault_refusal::refusal::{OTHER_STATUS, status_at};
 
 /// The status of a refusal, by its number. A number that no message is answered with has 507.
 pub fn status_for(refusal: u8) -> u16
+    // it is the status of the refusal of this number, or that of a number that no message is answered with
     ensures code { result ≡ code_for refusal }
+    // the service answers with this status
     ensures status { IsStatus result }
+    // it is 405 exactly for 57
     ensures allow { (result ≡ 405) ↔ (refusal ≡ 57) }
 {
     status_at(refusal).unwrap_or(OTHER_STATUS)
@@ -18,8 +21,11 @@ pub fn status_for(refusal: u8) -> u16
 
 /// The status of a reply: 200 unless it is a refusal.
 pub fn status_of(reply: &Reply) -> u16
+    // it is 200, or the status of the refusal
     ensures code { result ≡ code_of reply.now }
+    // the service answers with this status
     ensures status { IsStatus result }
+    // it is 405 exactly for a refusal by 57
     ensures allow { (result ≡ 405) ↔ (reply.now ≡ Refused 57) }
 {
     match *reply {

@@ -37,6 +37,7 @@ pub enum Place {
 impl Place {
     // The template, with `{m}` for a merchant and `{t}` for a token.
     pub(crate) fn template(self) -> &'static str
+        // it is the place's template as `matchit` reads it
         ensures { result.now ≡ template_text self }
     {
         match self {

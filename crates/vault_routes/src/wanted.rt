@@ -37,6 +37,8 @@ struct Order {
 impl Asker {
     // Reads who asks of a message, at the merchant of this text.
     fn read(message: &Message, merchant: &str, now: Moment) -> Result<Asker, HttpFault>
+        // Ok is the asker that the message wants; a fault but want of memory is the first refusal that
+        // applies
         ensures wanted { IsWanted (WantsAsker message.now merchant.now now (λ a r. r ≡ Ok a)) result }
     {
         let Some(caller) = message.sole(b"x-vault-caller") else {
@@ -53,7 +55,9 @@ impl Asker {
 
     // The command that asks for a token.
     fn order(self, order: Order, digits: Digits) -> Command
+        // it is the command that asks for a token by this order
         ensures asks { result ≡ command_for self order digits }
+        // the lives that the command sets, if any, are in range
         ensures lives { HasLivesInRange result }
     {
         Command::Tokenize {
@@ -69,7 +73,9 @@ impl Asker {
 
     // The command that asks for this of a token.
     fn on(self, token: Token, action: TokenAction) -> Command
+        // it is the command that asks for this of the token
         ensures asks { result ≡ command_on action self token }
+        // the lives that the command sets, if any, are in range
         ensures lives { HasLivesInRange result }
     {
         let Asker {
@@ -109,6 +115,8 @@ impl Asker {
 impl Order {
     // Reads what a message asks for a token with.
     fn read(alloc: Global, message: &Message) -> Result<Order, HttpFault>
+        // Ok is the order that the message wants; a fault but want of memory is the first refusal that
+        // applies
         ensures wanted { IsWanted (WantsOrder message.now (λ o r. r ≡ Ok o)) result }
     {
         let Some(request) = message.sole(b"x-vault-request") else {
@@ -145,7 +153,9 @@ pub fn command_of(
     now: Moment,
     digits: Digits,
 ) -> Result<Command, HttpFault>
+    // Ok is the command that the message wants; a fault but want of memory is the first refusal that applies
     ensures wanted { IsWanted (Wants message.now now digits) result }
+    // with Ok, the lives that the command sets, if any, are in range
     ensures lives { IfOk result HasLivesInRange }
 {
     let Some(route) = routes.find(message.target()) else {

@@ -30,7 +30,7 @@ use Rattle.sqlite_sql.specs.declared.ops.UnaryOp.TheVariants.{Not}
 use Rattle.sqlite_value.proofs.OrderLemmas.{value_cmp-Int, value_cmp-Text, value_cmp_total}
 use Rattle.sql_maps.proofs.KeyTests.{equal_is, text_eq}
 use Rattle.sql_maps.proofs.Reading.{shown_first}
-use Rattle.sql_maps.proofs.Rising.{Rises}
+use Rattle.sql_maps.proofs.RisingLists.{Rises}
 use Rattle.sql_maps.specs.States.{Stands}
 use Rattle.vault_schema.proofs.Newest.{behind_second, indexes_behind_second, pointing_table}
 use Rattle.vault_core.proofs.CurrentLemmas.{get-entries_of}
@@ -51,7 +51,7 @@ use Rattle.vault_schema.specs.Version2.Rows.{id_or_null, pointing_row}
 use Rattle.vault_schema.specs.declared.v2.Card.{Card}
 use Rattle.vault_schema.specs.declared.v2.Pointing.{Pointing}
 use Rattle.vault_schema.specs.declared.v2.TheConstants.{FIND_DEAD}
-use Rattle.vault_rows.specs.Before.{HasNoDeadBefore}
+use Rattle.vault_rows.specs.DeadBefore.{HasNoDeadBefore}
 use Rattle.vault_rows.proofs.JoinedEntries.{entry_there, points_there}
 use Rattle.vault_schema.specs.Schema.{newest_schema}
 use Rattle.vault_rows.specs.Shown.{text_column}

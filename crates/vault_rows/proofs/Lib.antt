@@ -5,7 +5,7 @@ pub mod JoinedEntries
 pub mod Kept
 pub mod Listed
 pub mod Lookups
-pub mod Pointed
+pub mod PointingRow
 pub mod Raised
 pub mod ShownCards
 pub mod Statements

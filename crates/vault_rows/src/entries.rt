@@ -14,7 +14,7 @@ ghost use Rattle.vault_core.specs.Window.{moment_at};
 ghost use Rattle.vault_core.specs.declared.limit.TheConstants.{MOST_TOKENS};
 ghost use Rattle.vault_schema.specs.Version2.Joined.{number_of};
 ghost use Rattle.vault_schema.specs.Version2.Rows.{pointing_columns};
-ghost use Rattle.vault_rows.specs.Before.{HasNoDeadBefore};
+ghost use Rattle.vault_rows.specs.DeadBefore.{HasNoDeadBefore};
 ghost use Rattle.vault_rows.specs.Calls.{Tells, TellsTables};
 ghost use Rattle.vault_rows.specs.Cards.{HasCard};
 ghost use Rattle.vault_rows.specs.Shown.{ShowsPointing, text_column};
@@ -140,6 +140,7 @@ fn current_rows<S: Alter>(
     at: u64,
 ) -> Result<Vec<Row>, Error>
     requires { at < 2 ^ 63 }
+    // it is so of each sound vault whose number has this card, where the moment isn't before the merchant's
     ensures { Between S.Store conn.old conn.new (TellsTables result (λ t rows. (V : Vault) (pan : Bytes)
         → HasCard t V id m.now pan → Sound V → moment_at V m.now at ≡ at → rows.items
         ≡ one_of text_column (option_map (λ held. held.0) (current_lem V m.now pan at)))) }
@@ -156,6 +157,7 @@ fn current_of<S: Alter>(
     at: u64,
 ) -> Result<Option<Token>, StoreFault>
     requires { at < 2 ^ 63 }
+    // it is so of each sound vault whose number has this card, where the moment isn't before the merchant's
     ensures { Between S.Store conn.old conn.new (TellsTables result (λ t found.
         (V : Vault) (pan : Bytes) (id : ℤ) → column row.now 0 ≡ Int id
         → HasCard t V id m.now pan → Sound V → moment_at V m.now at ≡ at

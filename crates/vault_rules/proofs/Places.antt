@@ -18,7 +18,7 @@ use Rattle.vault_core.proofs.Finds.{some_same}
 use Rattle.std.proofs.lemmas.Bool.Decides.{nat_tests}
 use Rattle.vault_rules.proofs.Numbers.{below_from, below_is}
 use Rattle.vault_rules.proofs.Options.{mapped_is}
-use Rattle.vault_rules.specs.Rising.{are_rising}
+use Rattle.vault_rules.specs.RisingNumbers.{are_rising}
 
 pub position_step : {X : Type 0} (p : X → Bool) (x : X) (xs : List X)
     → position p (x ∷ xs) ≡ cond (p x) (Some 0) (option_map suc (position p xs))

@@ -4,7 +4,7 @@ use Rattle.std.proofs.Common.{List, [], ◌∷◌, ◌++◌}
 use Rattle.std.proofs.Common.{length, drop, get_or, is_some, Some, refl, sym, ap, arith}
 use Rattle.std.proofs.Math.Seq.{drop-cons}
 use Rattle.std.proofs.lemmas.Bool.{and_parts}
-use Rattle.vault_rules.proofs.RisingLemmas.{regroup, with_true}
+use Rattle.vault_rules.proofs.RisingNumbers.{regroup, with_true}
 use Rattle.std.specs.Prelude.{bytes_eq, string_bytes}
 use Rattle.std.specs.List.{list_all}
 use Rattle.vault_rules.specs.Lookups.{is_known, merchant_of}

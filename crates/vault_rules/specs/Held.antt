@@ -2,7 +2,7 @@
 use Rattle.std.specs.Prelude.{◌≡◌, List, map}
 use Rattle.std.specs.Option.{option_copied}
 use Rattle.vault_rules.specs.Kept.{KeptCard, kept_card}
-use Rattle.vault_rules.specs.Rising.{IsRisingOver}
+use Rattle.vault_rules.specs.RisingNumbers.{IsRisingOver}
 use Rattle.vault_rules.specs.declared.card_rows.Card.{Card}
 use Rattle.vault_rules.specs.declared.card_rows.Cards.{Cards}
 use Rattle.vault_rules.specs.declared.rows.RawCard.{RawCard}

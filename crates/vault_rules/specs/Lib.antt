@@ -7,7 +7,7 @@ pub mod Kept
 pub mod Lookups
 pub mod MerchantRows
 pub mod Packed
-pub mod Rising
+pub mod RisingNumbers
 pub mod Rules
 pub mod Seen
 pub mod Showing

@@ -9,7 +9,7 @@ use Rattle.vault_rules.specs.Index.{at_pair, at_text, has_pair}
 use Rattle.vault_rules.specs.Kept.{place_of}
 use Rattle.vault_rules.specs.Lookups.{entry_of, held_by, is_known, used_by}
 use Rattle.vault_rules.specs.Packed.{packed}
-use Rattle.vault_rules.specs.Rising.{IsRisingOver}
+use Rattle.vault_rules.specs.RisingNumbers.{IsRisingOver}
 use Rattle.vault_rules.specs.Rules.{alike, are_distinct, at_moments, has_card, has_number, has_token}
 use Rattle.vault_rules.specs.Rules.{is_kept, is_record, is_timed, live_key}
 use Rattle.vault_rules.specs.Texts.{is_pan, is_token}

@@ -6,7 +6,7 @@ ghost use Rattle.std.specs.Ordering.{int_eq};
 ghost use Rattle.vault_rules.specs.Kept as kept;
 ghost use Rattle.vault_rules.specs.Kept.{place_of};
 ghost use Rattle.vault_rules.specs.Lookups.{card_of, merchant_of};
-ghost use Rattle.vault_rules.specs.Rising.{are_rising};
+ghost use Rattle.vault_rules.specs.RisingNumbers.{are_rising};
 ghost use Rattle.vault_rules.specs.declared.rows.RawCard.{RawCard as CardRow};
 ghost use Rattle.vault_rules.specs.declared.rows.RawMerchant.{RawMerchant as MerchantRow};
 
@@ -54,6 +54,7 @@ fn first_of(kept: &[Card], id: i64) -> Option<usize>
 
 /// The place of the card of an id, where the ids rise.
 fn searched(kept: &[Card], id: i64) -> Option<usize>
+    // where the ids rise, it is the place of the first card of the id
     ensures { are_rising (map (λ c. c.id) kept.now) ≡ true
         → result ≡ position (λ c. int_eq c.id id) kept.now }
 {
@@ -86,7 +87,9 @@ impl<'a> Cards<'a> {
         merchant: Option<&'a RawMerchant>,
         card: &RawCard,
     ) -> Result<(), AllocError>
+        // with Ok, one more came
         ensures counted { OnOk result (length self.new.kept.items ≡ length self.old.kept.items + 1) }
+        // with Ok, where the merchant is the row's own, the rows that are kept are those before and this one
         ensures taken { OnOk result ((merchants : List MerchantRow) (raws : List CardRow)
             → option_copied merchant.entry ≡ merchant_of merchants (string_bytes card.now.merchant)
             → HoldCards merchants self.old raws → HoldCards merchants self.new (raws ++ card.now ∷ [])) }

@@ -36,7 +36,9 @@ impl<'a> Entries<'a> {
 
     /// None came yet.
     pub fn new(alloc: Global, index: Index<'a>) -> Entries<'a>
+        // it has the rows that are handed in
         ensures index { result.index ≡ index.entry }
+        // where the index holds these cards, no entries came behind them
         ensures none { (cards : List CardRow) → HoldCards index.entry.merchants.now index.entry.cards cards
             → HasEntries result cards [] }
     {
@@ -64,9 +66,13 @@ impl<'a> Entries<'a> {
 
     /// Takes the next entry. Only memory can fail.
     pub fn take(&mut self, entry: &RawEntry) -> Result<(), AllocError>
+        // the rows that it names stay as they were
         ensures index { self.new.index ≡ self.old.index }
+        // with Ok, one more came
         ensures counted { OnOk result (self.new.many ≡ self.old.many + 1) }
+        // with Ok, fewer than 2^64 came
         ensures few { OnOk result (self.new.many < 2 ^ 64) }
+        // with Ok, those before and this one came, behind the same cards
         ensures taken { OnOk result ((cards : List CardRow) (raws : List EntryRow)
             → HasEntries self.old cards raws → HasEntries self.new cards (raws ++ entry.now ∷ [])) }
     {
@@ -114,6 +120,7 @@ impl<'a> Entries<'a> {
 
     /// How many entries point at the card row of an id.
     pub(crate) fn used(&self, id: i64) -> usize
+        // of an id that has a card row, it is the number of entries that point at it
         ensures { (cards : List CardRow) (raws : List EntryRow) → HasEntries self.now cards raws
             → is_some (card_of cards id) ≡ true → result ≡ used_by raws id }
     {

@@ -39,8 +39,11 @@ impl<'a> Index<'a> {
         merchants: &'a [RawMerchant],
         counts: &'a [RawCount],
     ) -> Result<Index<'a>, AllocError>
+        // with Ok, it has these merchants
         ensures merchants { IfOk result (λ index. index.merchants.now ≡ merchants.now) }
+        // with Ok, it has these counts
         ensures counts { IfOk result (λ index. index.counts.now ≡ counts.now) }
+        // with Ok, it holds no card
         ensures cards { IfOk result (λ index. HoldCards merchants.now index.cards []) }
     {
         let by_name = merchants_by_name(alloc, merchants)?;
@@ -56,10 +59,14 @@ impl<'a> Index<'a> {
 
     /// Takes the next card row. Only memory can fail.
     pub fn take(&mut self, card: &RawCard) -> Result<(), AllocError>
+        // the merchants stay as they were
         ensures merchants { self.new.merchants ≡ self.old.merchants }
+        // the counts stay as they were
         ensures counts { self.new.counts ≡ self.old.counts }
+        // with Ok, one more card came
         ensures counted { OnOk result
             (length self.new.cards.kept.items ≡ length self.old.cards.kept.items + 1) }
+        // with Ok, the cards held are those before and this one
         ensures taken { OnOk result ((raws : List CardRow)
             → HoldCards self.old.merchants.now self.old.cards raws
             → HoldCards self.new.merchants.now self.new.cards (raws ++ card.now ∷ [])) }
@@ -91,6 +98,7 @@ impl<'a> Index<'a> {
 
     /// The merchant of a name.
     pub(crate) fn merchant(&self, name: &str) -> Option<&'a RawMerchant>
+        // it is the first merchant of the name
         ensures { option_copied result ≡ lookups.merchant_of self.now.merchants.now name.now }
     {
         self.by_name.get(name).copied()
@@ -105,6 +113,7 @@ impl<'a> Index<'a> {
 
     /// A merchant's count of tokens made.
     pub(crate) fn made(&self, merchant: &str) -> Option<&'a RawCount>
+        // it is the merchant's first count of tokens made
         ensures { option_copied result ≡ made_of self.now.counts.now merchant.now }
     {
         self.made.get(merchant).copied()
@@ -112,7 +121,9 @@ impl<'a> Index<'a> {
 
     /// An entry with its merchant and its card row.
     pub(crate) fn found<'b>(&self, entry: &'b RawEntry) -> Found<'a, 'b>
+        // it has this entry
         ensures entry { result.entry.now ≡ entry.now }
+        // it has the entry's first merchant and first card row, or none, of those that are held
         ensures found { (cards : List CardRow) → HoldCards self.now.merchants.now self.now.cards cards
             → IsFoundIn self.now.merchants.now cards result }
     {

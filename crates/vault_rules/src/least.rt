@@ -26,8 +26,10 @@ pub fn least_broken(
     records: &Records,
     rights: &[RawRight],
 ) -> Option<u8>
+    // where these are the rows, none means that they keep each rule
     ensures none { (rows : Rows) → HasRows rows versions.now replaced records.now rights.now
         → result ≡ None → (r : ℕ) → keeps rows r ≡ true }
+    // where these are the rows, they break the rule that is given, and none below it
     ensures some { (rows : Rows) → HasRows rows versions.now replaced records.now rights.now
         → (rule : ℕ) → result ≡ Some rule → IsLeastBroken rows rule }
 {
@@ -42,6 +44,7 @@ fn verdicts(
     records: &Records,
     rights: &[RawRight],
 ) -> [bool; RULES]
+    // where these are the rows, each verdict is so of its rule, as long as each before it is kept
     ensures { (rows : Rows) → HasRows rows versions.now replaced records.now rights.now
         → AreVerdicts rows result }
 {
@@ -69,8 +72,11 @@ fn verdicts(
 
 /// The number of the first rule that isn't kept.
 fn first_broken(kept: &[bool]) -> Option<u8>
+    // there are at most 255
     requires { length kept.now ≤ 255 }
+    // with none, each is kept
     ensures none { IfNone result ((place : ℕ) → slice_index_or kept.now place true ≡ true) }
+    // the one that is given isn't kept, and each before it is
     ensures some { IfSome result (IsFirstBroken kept.now) }
 {
     let mut rule = 0u8;

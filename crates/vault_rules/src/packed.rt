@@ -6,7 +6,9 @@ ghost use Rattle.vault_rules.specs.Texts.{is_number};
 /// The number that stands for a text of 10 to 19 digits: its digits from the last one to the first, behind
 /// a 1. No two texts have the same number.
 pub(crate) fn packed(digits: &[u8]) -> u128
+    // the text is 10 to 19 digits
     requires { is_number digits.now ≡ true }
+    // it is the digits from the last one to the first, behind a 1
     ensures { result ≡ packed_spec digits.now }
 {
     let mut number: u128 = 1;

@@ -25,7 +25,9 @@ impl<'a> Records<'a> {
 
     /// None came yet.
     pub fn new(entries: Entries<'a>) -> Records<'a>
+        // it has the entries that are handed in
         ensures entries { result.entries ≡ entries.entry }
+        // no record came
         ensures none { HasRecords result [] }
     {
         Records {
@@ -38,9 +40,13 @@ impl<'a> Records<'a> {
 
     /// Takes the next record. Only memory can fail.
     pub fn take(&mut self, record: &RawRecord) -> Result<(), AllocError>
+        // the entries stay as they were
         ensures entries { self.new.entries ≡ self.old.entries }
+        // with Ok, one more came
         ensures counted { OnOk result (self.new.many ≡ self.old.many + 1) }
+        // with Ok, fewer than 2^64 came
         ensures few { OnOk result (self.new.many < 2 ^ 64) }
+        // with Ok, those before and this one came
         ensures taken { OnOk result ((raws : List RecordRow) → HasRecords self.old raws
             → HasRecords self.new (raws ++ record.now ∷ [])) }
     {

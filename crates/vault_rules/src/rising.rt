@@ -9,7 +9,7 @@ pub struct Rising {
 }
 
 impl Rising {
-    ghost use Rattle.vault_rules.specs.Rising.{IsRisingOver};
+    ghost use Rattle.vault_rules.specs.RisingNumbers.{IsRisingOver};
 
     /// No number came yet.
     pub(crate) fn new() -> Rising

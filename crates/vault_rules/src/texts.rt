@@ -25,7 +25,9 @@ fn are_name_bytes(bytes: &[u8]) -> bool
 
 /// Whether a text is 10 to 19 digits.
 fn is_number(text: &[u8]) -> bool
+    // it is true exactly of 10 to 19 digits
     ensures value { result ≡ texts.is_number text.now }
+    // with true, each byte is a digit
     ensures digits { result ≡ true → All IsAsciiDigit text.now }
 {
     (LEAST_DIGITS..=MOST_DIGITS).contains(&text.len()) && are_digits(text)

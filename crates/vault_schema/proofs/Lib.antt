@@ -1,7 +1,7 @@
-pub mod Behind
 pub mod ByTable
 pub mod Layers
 pub mod Newest
+pub mod TablesBehind
 pub mod Values
 pub mod Version1
 pub mod Version2

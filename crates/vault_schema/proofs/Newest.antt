@@ -23,8 +23,8 @@ use Rattle.sql_maps.specs.States.{Claim, StandsIn}
 use Rattle.sql_maps.specs.Texts.{IsWrite, MakesTable, insert}
 use Rattle.vault_core.specs.Keys.{bytes_cmp, entry_cmp, record_cmp, right_cmp}
 use Rattle.vault_core.specs.Vault.{Vault}
-use Rattle.vault_schema.proofs.Behind.{behind, behind_four, behind_from, behind_two, indexes_behind}
-use Rattle.vault_schema.proofs.Behind.{indexes_behind_four, indexes_behind_from, indexes_behind_two}
+use Rattle.vault_schema.proofs.TablesBehind.{behind, behind_four, behind_from, behind_two, indexes_behind}
+use Rattle.vault_schema.proofs.TablesBehind.{indexes_behind_four, indexes_behind_from, indexes_behind_two}
 use Rattle.vault_schema.proofs.Version2.Codes as two
 use Rattle.vault_schema.proofs.Version3 as three
 use Rattle.vault_schema.proofs.Version4 as four

@@ -85,7 +85,9 @@ impl Version {
 
     /// The version whose schema this is.
     pub fn of(schema: &Schema) -> Option<Version>
+        // the schema is that of the version that is given
         ensures found { IfSome result (λ v. schema.now ≡ schema_of v) }
+        // where none is given, the schema is no version's
         ensures none { IfNone result ((v : _) → ¬ (schema.now ≡ schema_of v)) }
     {
         if is_v4(schema) {

@@ -1,6 +1,6 @@
 //! Cases: lines of questions to a vault, each with its answer.
 use crate::command::{asked, caller, merchant, moment, number, word};
-use crate::told::{fault_told, reply_told, text, tokens_told};
+use crate::told::{fault_told, reply_told, text, tokens_told, unlike};
 use std::alloc::Global;
 use vault_core::command::Command;
 use vault_core::moment::Moment;
@@ -9,6 +9,7 @@ use vault_core::reply::Reply;
 use vault_core::right::Right;
 use vault_core::row::Lives;
 use vault_pan::token::Token;
+use vault_store::memory::MemTables;
 use vault_store::tables::Tables;
 use vault_store::vault::{Fault, Vault};
 
@@ -94,10 +95,19 @@ pub fn wrong<T: Tables>(alloc: Global, vault: &mut Vault<T>, lines: &str) -> Str
     for line in lines.lines() {
         let (question, wanted) = line.split_once(" = ").unwrap_or((line, "an answer"));
         let told = answer_told(alloc, vault, question);
-        if told.as_str() != wanted {
-            let wrong = format!(in alloc; "{line}: {told}");
-            return wrong.unwrap_or(String::new(alloc));
+        if let Some(wrong) = unlike(alloc, line, told.as_str(), wanted) {
+            return wrong;
         }
     }
     text(alloc, "answered")
+}
+
+/// The vault in memory that answers lines so; none where it answers one otherwise.
+pub fn filled(alloc: Global, lines: &str) -> Option<Vault<MemTables>> {
+    let mut vault = Vault::new(MemTables::new(alloc));
+    if wrong(alloc, &mut vault, lines).as_str() == "answered" {
+        Some(vault)
+    } else {
+        None
+    }
 }

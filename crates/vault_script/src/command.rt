@@ -116,44 +116,38 @@ fn tokenize(line: &str) -> Option<Command> {
     })
 }
 
-/// `detokenize CALLER MERCHANT TOKEN NOW`.
-fn detokenize(line: &str) -> Option<Command> {
-    Some(Command::Detokenize {
-        caller: caller(line, 1)?,
-        merchant: merchant(line, 2)?,
-        token: token(line, 3)?,
-        now: moment(line, 4)?,
-    })
-}
-
-/// `view CALLER MERCHANT TOKEN NOW`.
-fn view(line: &str) -> Option<Command> {
-    Some(Command::View {
-        caller: caller(line, 1)?,
-        merchant: merchant(line, 2)?,
-        token: token(line, 3)?,
-        now: moment(line, 4)?,
-    })
-}
-
-/// `revoke CALLER MERCHANT TOKEN NOW`.
-fn revoke(line: &str) -> Option<Command> {
-    Some(Command::Revoke {
-        caller: caller(line, 1)?,
-        merchant: merchant(line, 2)?,
-        token: token(line, 3)?,
-        now: moment(line, 4)?,
-    })
-}
-
-/// `purge CALLER MERCHANT TOKEN NOW`.
-fn purge(line: &str) -> Option<Command> {
-    Some(Command::Purge {
-        caller: caller(line, 1)?,
-        merchant: merchant(line, 2)?,
-        token: token(line, 3)?,
-        now: moment(line, 4)?,
-    })
+/// `detokenize`, `view`, `revoke` or `purge CALLER MERCHANT TOKEN NOW`.
+fn on_token(line: &str) -> Option<Command> {
+    let (caller, merchant) = (caller(line, 1)?, merchant(line, 2)?);
+    let (token, now) = (token(line, 3)?, moment(line, 4)?);
+    let command = match word(line, 0)? {
+        "detokenize" => Command::Detokenize {
+            caller,
+            merchant,
+            token,
+            now,
+        },
+        "view" => Command::View {
+            caller,
+            merchant,
+            token,
+            now,
+        },
+        "revoke" => Command::Revoke {
+            caller,
+            merchant,
+            token,
+            now,
+        },
+        "purge" => Command::Purge {
+            caller,
+            merchant,
+            token,
+            now,
+        },
+        _ => return None,
+    };
+    Some(command)
 }
 
 /// `audit CALLER MERCHANT NOW`.
@@ -172,11 +166,7 @@ pub fn asked(line: &str) -> Option<Command> {
         "grant" => grant(line),
         "withdraw" => withdraw(line),
         "tokenize" => tokenize(line),
-        "detokenize" => detokenize(line),
-        "view" => view(line),
-        "revoke" => revoke(line),
-        "purge" => purge(line),
         "audit" => audit(line),
-        _ => None,
+        _ => on_token(line),
     }
 }

@@ -1,6 +1,7 @@
 //! A script of forty requests: a shop is set and six rights are given, then 33 messages come in eleven
 //! rounds, each with the next moment and the next digit. A round asks twice for a token of one card number by
 //! one request, and then for the number of the token that its digits make.
+use crate::worked::answer;
 use std::alloc::{AllocError, Global};
 use vault_core::moment::Moment;
 use vault_core::source::{Source, SourceFault};
@@ -45,28 +46,20 @@ fn asked(alloc: Global, round: Round) -> Result<String, AllocError> {
     format!(in alloc; "{once}{once}POST {place}/{token}/number {caller}\r\n")
 }
 
-/// An answer with this status line and this body.
-fn answer(alloc: Global, status: &str, body: &str) -> Result<String, AllocError> {
-    let size = body.len();
-    format!(in alloc;
-        "HTTP/1.1 {status}\r\nContent-Type: application/json\r\nContent-Length: {size}\r\n\r\n{body}"
-    )
-}
-
 /// The answers to a round.
 fn answered(alloc: Global, round: Round) -> Result<String, AllocError> {
     let (_, token, expires, is_given) = round;
     let once = match expires {
         Some(expires) => {
             let body = format!(in alloc; "{{\"expires\":{expires},\"token\":\"{token}\"}}")?;
-            answer(alloc, "200 OK", body.as_str())?
+            answer(alloc, "200 OK", "", body.as_str())?
         }
-        None => answer(alloc, "503 Service Unavailable", "{\"refused\":12}")?,
+        None => answer(alloc, "503 Service Unavailable", "", "{\"refused\":12}")?,
     };
     let number = if is_given {
-        answer(alloc, "200 OK", "{\"number\":\"4111111111111111\"}")?
+        answer(alloc, "200 OK", "", "{\"number\":\"4111111111111111\"}")?
     } else {
-        answer(alloc, "400 Bad Request", "{\"refused\":3}")?
+        answer(alloc, "400 Bad Request", "", "{\"refused\":3}")?
     };
     let (once, number) = (once.as_str(), number.as_str());
     format!(in alloc; "{once}{once}{number}")

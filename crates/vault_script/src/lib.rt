@@ -6,3 +6,4 @@ pub mod case;
 pub mod command;
 pub mod forty;
 pub mod told;
+pub mod worked;

@@ -9,6 +9,15 @@ pub fn text(alloc: Global, words: &str) -> String {
     String::from_str(alloc, words).unwrap_or(String::new(alloc))
 }
 
+/// What is wrong with a line that is told this; nothing, where this is wanted.
+pub fn unlike(alloc: Global, line: &str, told: &str, wanted: &str) -> Option<String> {
+    if told == wanted {
+        return None;
+    }
+    let wrong = format!(in alloc; "{line}: {told}");
+    Some(wrong.unwrap_or(String::new(alloc)))
+}
+
 /// A reply in words.
 pub fn reply_told(alloc: Global, reply: &Reply) -> String {
     let told = match reply {

@@ -19,7 +19,7 @@ use Rattle.vault_schema.specs.Holds.{Holds, LeavesEither}
 use Rattle.vault_schema.specs.Schema.{newest_schema}
 use Rattle.vault_rows.proofs.Calls as calls
 use Rattle.vault_rows.proofs.Dead.{first_dead}
-use Rattle.vault_rows.specs.Before.{HasNoDeadBefore}
+use Rattle.vault_rows.specs.DeadBefore.{HasNoDeadBefore}
 use Rattle.vault_sql.specs.Places.{HasNoNumber, IsPast, first_place}
 use Rattle.vault_sql.specs.declared.place.Place.{Place}
 

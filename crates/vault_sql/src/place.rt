@@ -3,7 +3,7 @@ ghost use Rattle.std.specs.Prelude.{◌≡◌, ◌↔◌, IsTrue, Some};
 ghost use Rattle.vault_core.specs.Changes.{plus};
 ghost use Rattle.vault_core.specs.Keys.{Bytes};
 ghost use Rattle.vault_core.specs.Vault.{Vault};
-ghost use Rattle.vault_rows.specs.Before.{HasNoDeadBefore};
+ghost use Rattle.vault_rows.specs.DeadBefore.{HasNoDeadBefore};
 ghost use Rattle.vault_sql.specs.Places.{HasNoNumber, IsPast, first_place};
 
 use vault_core::changes::Changes;
@@ -24,7 +24,9 @@ pub struct Place {
 /// where it is of this merchant and this moment, and else the empty one.
 #[tactic(auto, using(crate::proofs::Places::none_before))]
 pub(crate) fn start_of<'a>(place: &'a Option<Place>, m: &MerchantId, at: Moment) -> &'a str
+    // where no dead token comes before the place, none of the merchant's comes before this one at this moment
     ensures past { (V : Vault) → IsPast place.now V → HasNoDeadBefore V m.now at result.now }
+    // where the place is the merchant's and of this moment, its token is given
     ensures there { (token : Bytes)
         → place.now ≡ Some (record { merchant = m.now; moment = at; token = token }) → result.now ≡ token }
 {
@@ -61,7 +63,9 @@ fn has_no_number(change: &Option<(MerchantId, Token, Entry)>) -> bool
 /// The place that stands after changes: none, where an entry with a number is written.
 #[tactic(auto, using(crate::proofs::Places::still_past))]
 pub(crate) fn place_after(place: &Option<Place>, ch: &Changes) -> Option<Place>
+    // where no dead token comes before the place, none comes before the new one after the changes
     ensures past { (V : Vault) → IsPast place.now V → IsPast result (plus V ch.now) }
+    // where the changes write no entry with a number, the place stays
     ensures stays { HasNoNumber ch.now.entry → result ≡ place.now }
 {
     if has_no_number(&ch.entry) {

@@ -37,7 +37,10 @@ fn is_blank(schema: &Schema) -> bool
 
 /// Makes the tables of schema 1, inside a transaction.
 fn create_first<S: Alter>(tx: &mut Transaction<'_, S>) -> Result<(), Error>
+    // the transaction is over the same connection, and on an honest disk a crash leaves nothing new
     ensures goes_on { Proceeds S.Store tx.old tx.new }
+    // with Ok, on an honest disk, a transaction in a database without a table got the rowless tables of
+    // schema 1
     ensures done { HasCleanDisk (state S.Store tx.new.conn.now)
         → OnOk result ((base : _) → IsBegun (state S.Store tx.old.conn.now) base
         → IsRowless first_schema 6 (state S.Store tx.new.conn.now) base) }
@@ -54,7 +57,10 @@ fn create_first<S: Alter>(tx: &mut Transaction<'_, S>) -> Result<(), Error>
 
 /// Makes the tables that schema 2 has besides, inside a transaction.
 fn create_second<S: Alter>(tx: &mut Transaction<'_, S>) -> Result<(), Error>
+    // the transaction is over the same connection, and on an honest disk a crash leaves nothing new
     ensures goes_on { Proceeds S.Store tx.old tx.new }
+    // with Ok, on an honest disk, the rowless tables of schema 1 became those of schema 2, over the same last
+    // commit
     ensures done { HasCleanDisk (state S.Store tx.new.conn.now)
         → OnOk result ((base : _) → IsRowless first_schema 6 (state S.Store tx.old.conn.now) base
         → IsRowless second_schema 8 (state S.Store tx.new.conn.now) base) }
@@ -66,7 +72,10 @@ fn create_second<S: Alter>(tx: &mut Transaction<'_, S>) -> Result<(), Error>
 
 /// Makes the tables that later schemas have besides and writes the version, inside a transaction.
 fn create_last<S: Alter>(tx: &mut Transaction<'_, S>) -> Result<(), Error>
+    // the transaction is over the same connection, and on an honest disk a crash leaves nothing new
     ensures goes_on { Proceeds S.Store tx.old tx.new }
+    // with Ok, on an honest disk, the rowless tables of schema 2 became the newest, which stand for the empty
+    // vault
     ensures done { HasCleanDisk (state S.Store tx.new.conn.now)
         → OnOk result ((base : _) → IsRowless second_schema 8 (state S.Store tx.old.conn.now) base
         → IsWithin newest (state S.Store tx.new.conn.now) base (lookups_of empty_vault)) }
@@ -79,7 +88,10 @@ fn create_last<S: Alter>(tx: &mut Transaction<'_, S>) -> Result<(), Error>
 
 /// Makes all tables and writes the version, inside a transaction.
 fn create_tables<S: Alter>(tx: &mut Transaction<'_, S>) -> Result<(), Error>
+    // the transaction is over the same connection, and on an honest disk a crash leaves nothing new
     ensures goes_on { Proceeds S.Store tx.old tx.new }
+    // with Ok, on an honest disk, a transaction in a database without a table got tables that stand for the
+    // empty vault
     ensures done { HasCleanDisk (state S.Store tx.new.conn.now)
         → OnOk result ((base : _) → IsBegun (state S.Store tx.old.conn.now) base
         → IsWithin newest (state S.Store tx.new.conn.now) base (lookups_of empty_vault)) }
@@ -91,12 +103,18 @@ fn create_tables<S: Alter>(tx: &mut Transaction<'_, S>) -> Result<(), Error>
 
 /// Makes all tables of the empty vault in one transaction.
 fn create_all<S: Alter>(conn: &mut Connection<S>) -> Result<(), Error>
+    // the connection is outside a transaction
     requires idle { conn.old.in_transaction ≡ false }
+    // the connection is outside a transaction
     ensures idle { conn.new.in_transaction ≡ false }
+    // a disk that is honest after the call was so before it
     ensures clean { KeepsDoubts S.Store conn.old conn.new }
+    // with Ok, on an honest disk, where there was no table, a ready connection holds the empty vault
     ensures done { HasCleanDisk (state S.Store conn.new)
         → OnOk result (IsReady (state S.Store conn.old) → (state S.Store conn.old).now.schema ≡ no_schema
         → Holds (state S.Store conn.new) empty_vault) }
+    // on an honest disk, where there was no table, a crash leaves of a ready connection what was committed or
+    // the empty vault
     ensures crash { HasCleanDisk (state S.Store conn.new)
         → IsReady (state S.Store conn.old) → (state S.Store conn.old).now.schema ≡ no_schema
         → LeavesFirst (state S.Store conn.new) (state S.Store conn.old).committed.trees }
@@ -109,14 +127,22 @@ fn create_all<S: Alter>(conn: &mut Connection<S>) -> Result<(), Error>
 /// Makes the tables of the empty vault in a database that has no tables, indexes or views. What a crash
 /// leaves is the database as it was, or the empty vault.
 pub fn make_schema<S: Alter>(conn: &mut Connection<S>) -> Result<(), SchemaFault>
+    // the connection is outside a transaction
     requires idle { conn.old.in_transaction ≡ false }
+    // the connection is outside a transaction
     ensures idle { conn.new.in_transaction ≡ false }
+    // a disk that is honest after the call was so before it
     ensures clean { KeepsDoubts S.Store conn.old conn.new }
+    // with Ok, there was no table, index or view
     ensures blank { OnOk result ((state S.Store conn.old).now.schema ≡ no_schema) }
+    // with Ok, on an honest disk, a ready connection holds the empty vault
     ensures done { HasCleanDisk (state S.Store conn.new)
         → OnOk result (IsReady (state S.Store conn.old) → Holds (state S.Store conn.new) empty_vault) }
+    // `Taken` is answered exactly where there was a table, an index or a view
     ensures taken { (result ≡ Err SchemaFault.Taken) ↔ (¬ ((state S.Store conn.old).now.schema ≡ no_schema)) }
+    // after `Taken` the connection is as it was
     ensures unchanged { result ≡ Err SchemaFault.Taken → conn.new ≡ conn.old }
+    // on an honest disk, of a ready connection a crash leaves what was committed or the empty vault
     ensures crash { HasCleanDisk (state S.Store conn.new) → IsReady (state S.Store conn.old)
         → LeavesFirst (state S.Store conn.new) (state S.Store conn.old).committed.trees }
 {

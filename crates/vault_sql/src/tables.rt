@@ -40,6 +40,7 @@ impl<S: Alter> SqlTables<S> {
     pub fn on(alloc: Global, conn: Connection<S>) -> SqlTables<S>
         requires { conn.in_transaction ≡ false }
         ensures conn { result.conn ≡ conn }
+        // no call of the tables has failed, and they have no place
         ensures fresh { AreFresh result }
     {
         SqlTables {
@@ -65,8 +66,11 @@ impl<S: Alter> SqlTables<S> {
 
     /// A call of the database failed, so all from now on is failed.
     fn fail<T>(&mut self) -> Result<T, TablesFault>
+        // the fault is Store
         ensures told { result ≡ Err TablesFault.Store }
+        // the tables have failed
         ensures failed { self.new.failed ≡ true }
+        // the connection stays as it was
         ensures conn { self.new.conn ≡ self.old.conn }
     {
         self.failed = true;

@@ -63,6 +63,7 @@ fn write_lives<S: Alter>(
     tx: &mut Transaction<'_, S>,
     lives: &Option<(MerchantId, Lives)>,
 ) -> Result<(), StoreFault>
+    // the lives that change, if any, fit the columns
     requires { IsStorableLives lives.now }
     ensures { Inside S.Store tx.old tx.new (Makes newest result
         (λ _. Unit {0}) (λ h. record h { merchants = put_lives h.merchants lives.now })) }
@@ -98,6 +99,7 @@ fn write_entry<S: Alter>(
     change: &Option<(MerchantId, Token, Entry)>,
     count: Option<Count>,
 ) -> Result<(), StoreFault>
+    // the end of the entry that changes, if any, fits its column
     requires { IsStorableEntry change.now }
     ensures { Inside S.Store tx.old tx.new (Makes newest result
         (λ _. Unit {0}) (λ h. record h { entries = put_entry_lem h.entries change.now })) }
@@ -161,6 +163,7 @@ fn write_right<S: Alter>(
 
 /// Writes what changes of a merchant and its entries.
 fn write_merchant<S: Alter>(tx: &mut Transaction<'_, S>, ch: &Changes) -> Result<(), StoreFault>
+    // the numbers of the changes fit the columns
     requires { AreStorable ch.now }
     ensures { Inside S.Store tx.old tx.new (Makes newest result
         (λ h. HasRoom h.counts ch.now.lives ch.now.count) (λ h. record h {
@@ -186,13 +189,20 @@ fn write_caller<S: Alter>(tx: &mut Transaction<'_, S>, ch: &Changes) -> Result<(
 
 /// Makes the changes in one transaction, all of them or none.
 pub(crate) fn write<S: Alter>(conn: &mut Connection<S>, ch: &Changes) -> Result<(), StoreFault>
+    // the numbers of the changes fit the columns
     requires storable { AreStorable ch.now }
+    // the connection is outside a transaction
     requires idle { conn.old.in_transaction ≡ false }
+    // the connection is outside a transaction
     ensures idle { conn.new.in_transaction ≡ false }
+    // a disk that is honest after the call was so before it
     ensures clean { KeepsDoubts S.Store conn.old conn.new }
+    // with Ok, on an honest disk, a sound vault that was held and that the changes fit is held with them
     ensures done { HasCleanDisk (state S.Store conn.new)
         → OnOk result ((V : Vault) → Holds (state S.Store conn.old) V → Sound V → Fit V ch.now
         → Holds (state S.Store conn.new) (plus V ch.now)) }
+    // on an honest disk, a crash leaves a sound vault that was held and that the changes fit, without them or
+    // with them
     ensures crash { HasCleanDisk (state S.Store conn.new) → (V : Vault) → Holds (state S.Store conn.old) V
         → Sound V → Fit V ch.now → LeavesEither (state S.Store conn.new) V (plus V ch.now) }
 {

@@ -1,8 +1,8 @@
-pub mod Carding
+pub mod CardStep
 pub mod Climbing
 pub mod Entered
 pub mod Inside
 pub mod MerchantTables
-pub mod OneStand
+pub mod PartsByVersion
 pub mod Replacing
 pub mod RightTables

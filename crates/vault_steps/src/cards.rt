@@ -34,6 +34,7 @@ fn put_entries<S: Alter>(
 
 /// The same, piece by piece. The memory of each goes as soon as it is written.
 fn put_pieces<S: Alter>(tx: &mut Transaction<'_, S>, pieces: Vec<Piece>) -> Result<(), StoreFault>
+    // the end of each entry fits an integer of the database
     requires { AreStorable pieces.items }
     ensures { Inside S.Store tx.old tx.new (MakesInEach result
         (λ _. Unit {0}) (λ h. record h { entries = with_all (joined pieces.items) h.entries })) }
@@ -49,6 +50,7 @@ pub(crate) fn step_up<S: Alter>(
     tx: &mut Transaction<'_, S>,
     pieces: Vec<Piece>,
 ) -> Result<(), StoreFault>
+    // the end of each entry fits an integer of the database
     requires { AreStorable pieces.items }
     ensures { LeadsTo S.Store tx.old tx.new result
         (λ h base st. WithinOf Version.One h base st × AreEntriesOf (joined pieces.items) h)

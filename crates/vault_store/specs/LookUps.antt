@@ -16,7 +16,7 @@ module _ {T : Type 0} (g : Ghosts T) where
   pub record LooksUp {X : Type 0} (old new : T) (result : Result X TablesFault) (Is : Content → X → Type 0)
       : Type 0 where
     -- a disk that is honest after the call was so before it
-    pub honest : g.is_honest new → g.is_honest old
+    pub disk_honest : g.is_honest new → g.is_honest old
     pub told : g.is_honest new → IfOk result (λ found. (V : Content) → g.holds old V → Sound V → Is V found)
     -- unless the store failed, the tables hold what they held
     pub kept : Keeps result (g.holds old) (g.holds new)
@@ -29,7 +29,7 @@ module _ {T : Type 0} (g : Ghosts T) where
   pub record Lists {X : Type 0} (old new : Vault T) (result : Result X Fault) (Is : Content → X → Type 0)
       : Type 0 where
     -- a disk that is honest after the call was so before it
-    pub honest : g.is_honest (tables_of new) → g.is_honest (tables_of old)
+    pub disk_honest : g.is_honest (tables_of new) → g.is_honest (tables_of old)
     pub told : g.is_honest (tables_of new)
         → IfOk result (λ found. (V : Content) → Contains g.holds old V
         → Is V found × Contains g.holds new V)
@@ -44,4 +44,4 @@ module _ {T : Type 0} (g : Ghosts T) where
         → LeavesBy result (g.leaves (tables_of new)) V V
     pub failing : FailsBy result (g.has_failed (tables_of old)) (g.has_failed (tables_of new))
     -- tables that can't fail don't
-    pub sturdy : g.may_fail ≡ false → ¬ (result ≡ Err Store)
+    pub infallible : g.may_fail ≡ false → ¬ (result ≡ Err Store)

@@ -73,113 +73,178 @@ pub trait Tables {
 
     /// The row of a merchant.
     fn merchant(&mut self, m: MerchantId) -> Result<Option<MerchantRow>, TablesFault>
-        ensures honest { is_honest self.new → is_honest self.old }
+        // a disk that is honest after the call was so before it
+        ensures disk_honest { is_honest self.new → is_honest self.old }
+        // where the disk is honest, Ok gives the merchant's row of each sound vault that was held
         ensures told { is_honest self.new
             → IfOk result (λ found. (V : Vault) → holds self.old V → Sound V → found ≡ row_at V m) }
+        // with Ok and after want of memory, each vault that was held is held still
         ensures kept { Keeps result (holds self.old) (holds self.new) }
+        // where the disk is honest, a crash leaves each vault that was held as it was, and nothing else
         ensures crash { is_honest self.new → (V : Vault) → holds self.old V → leaves self.new V V }
+        // with a Store fault the tables have failed; with any other answer that stays as it was
         ensures failing { FailsWith result (has_failed self.old) (has_failed self.new) }
+        // tables that can't be refused memory aren't, and tables that can't fail don't
         ensures allowed { IsAllowed may_refuse may_fail result };
 
     /// How many merchants there are.
     fn merchants(&mut self) -> Result<u64, TablesFault>
-        ensures honest { is_honest self.new → is_honest self.old }
+        // a disk that is honest after the call was so before it
+        ensures disk_honest { is_honest self.new → is_honest self.old }
+        // where the disk is honest, Ok gives the count of the merchants of each sound vault that was held
         ensures told { is_honest self.new
             → IfOk result
             (λ found. (V : Vault) → holds self.old V → Sound V → found ≡ map.len V.merchants) }
+        // with Ok and after want of memory, each vault that was held is held still
         ensures kept { Keeps result (holds self.old) (holds self.new) }
+        // where the disk is honest, a crash leaves each vault that was held as it was, and nothing else
         ensures crash { is_honest self.new → (V : Vault) → holds self.old V → leaves self.new V V }
+        // with a Store fault the tables have failed; with any other answer that stays as it was
         ensures failing { FailsWith result (has_failed self.old) (has_failed self.new) }
+        // tables that can't be refused memory aren't, and tables that can't fail don't
         ensures allowed { IsAllowed may_refuse may_fail result };
 
     /// The right of a caller at a merchant, with its end.
     fn right(&mut self, c: Caller, m: MerchantId, r: Right) -> Result<Option<GrantRow>, TablesFault>
-        ensures honest { is_honest self.new → is_honest self.old }
+        // a disk that is honest after the call was so before it
+        ensures disk_honest { is_honest self.new → is_honest self.old }
+        // where the disk is honest, Ok gives the right, or none, as each sound vault that was held has it
         ensures told { is_honest self.new
             → IfOk result (λ found. (V : Vault) → holds self.old V → Sound V → found ≡ right_at V c m r) }
+        // with Ok and after want of memory, each vault that was held is held still
         ensures kept { Keeps result (holds self.old) (holds self.new) }
+        // where the disk is honest, a crash leaves each vault that was held as it was, and nothing else
         ensures crash { is_honest self.new → (V : Vault) → holds self.old V → leaves self.new V V }
+        // with a Store fault the tables have failed; with any other answer that stays as it was
         ensures failing { FailsWith result (has_failed self.old) (has_failed self.new) }
+        // tables that can't be refused memory aren't, and tables that can't fail don't
         ensures allowed { IsAllowed may_refuse may_fail result };
 
     /// The record of a caller's request.
     fn recorded(&mut self, c: Caller, n: RequestNo) -> Result<Option<Record>, TablesFault>
-        ensures honest { is_honest self.new → is_honest self.old }
+        // a disk that is honest after the call was so before it
+        ensures disk_honest { is_honest self.new → is_honest self.old }
+        // where the disk is honest, Ok gives the record, or none, as each sound vault that was held has it
         ensures told { is_honest self.new
             → IfOk result (λ found. (V : Vault) → holds self.old V → Sound V → found ≡ record_at V c n) }
+        // with Ok and after want of memory, each vault that was held is held still
         ensures kept { Keeps result (holds self.old) (holds self.new) }
+        // where the disk is honest, a crash leaves each vault that was held as it was, and nothing else
         ensures crash { is_honest self.new → (V : Vault) → holds self.old V → leaves self.new V V }
+        // with a Store fault the tables have failed; with any other answer that stays as it was
         ensures failing { FailsWith result (has_failed self.old) (has_failed self.new) }
+        // tables that can't be refused memory aren't, and tables that can't fail don't
         ensures allowed { IsAllowed may_refuse may_fail result };
 
     /// What a merchant's token stands for.
     fn entry(&mut self, m: MerchantId, t: Token) -> Result<Option<Entry>, TablesFault>
-        ensures honest { is_honest self.new → is_honest self.old }
+        // a disk that is honest after the call was so before it
+        ensures disk_honest { is_honest self.new → is_honest self.old }
+        // where the disk is honest, Ok gives the entry, or none, as each sound vault that was held has it
         ensures told { is_honest self.new
             → IfOk result (λ found. (V : Vault) → holds self.old V → Sound V → found ≡ entry_at V m t) }
+        // with Ok and after want of memory, each vault that was held is held still
         ensures kept { Keeps result (holds self.old) (holds self.new) }
+        // where the disk is honest, a crash leaves each vault that was held as it was, and nothing else
         ensures crash { is_honest self.new → (V : Vault) → holds self.old V → leaves self.new V V }
+        // with a Store fault the tables have failed; with any other answer that stays as it was
         ensures failing { FailsWith result (has_failed self.old) (has_failed self.new) }
+        // tables that can't be refused memory aren't, and tables that can't fail don't
         ensures allowed { IsAllowed may_refuse may_fail result };
 
     /// The multi-use token of a card number that is live at a moment, which isn't before the merchant's.
     fn current(&mut self, m: MerchantId, p: Pan, at: Moment) -> Result<Option<Token>, TablesFault>
-        ensures honest { is_honest self.new → is_honest self.old }
+        // a disk that is honest after the call was so before it
+        ensures disk_honest { is_honest self.new → is_honest self.old }
+        // where the disk is honest and the moment isn't before the merchant's, Ok gives this token of each
+        // sound vault that was held
         ensures told { is_honest self.new
             → IfOk result (λ found. (V : Vault) → holds self.old V → Sound V → moment_at V m at ≡ at
             → found ≡ option_map (λ held. held.0) (current V m p at)) }
+        // with Ok and after want of memory, each vault that was held is held still
         ensures kept { Keeps result (holds self.old) (holds self.new) }
+        // where the disk is honest, a crash leaves each vault that was held as it was, and nothing else
         ensures crash { is_honest self.new → (V : Vault) → holds self.old V → leaves self.new V V }
+        // with a Store fault the tables have failed; with any other answer that stays as it was
         ensures failing { FailsWith result (has_failed self.old) (has_failed self.new) }
+        // tables that can't be refused memory aren't, and tables that can't fail don't
         ensures allowed { IsAllowed may_refuse may_fail result };
 
     /// The first `limit` tokens of a merchant that are dead at the later of its moment and `now`, in
     /// order of their texts. They are listed, for which any tables may be refused memory.
     fn dead(&mut self, m: MerchantId, now: Moment, limit: usize) -> Result<Vec<Token>, TablesFault>
-        ensures honest { is_honest self.new → is_honest self.old }
+        // a disk that is honest after the call was so before it
+        ensures disk_honest { is_honest self.new → is_honest self.old }
+        // where the disk is honest, Ok gives these tokens of each sound vault that was held
         ensures told { is_honest self.new
             → IfOk result (λ tokens. (V : Vault) → holds self.old V → Sound V
             → tokens.items ≡ take limit (dead_tokens V m now)) }
+        // with Ok and after want of memory, each vault that was held is held still
         ensures kept { Keeps result (holds self.old) (holds self.new) }
+        // where the disk is honest, a crash leaves each vault that was held as it was, and nothing else
         ensures crash { is_honest self.new → (V : Vault) → holds self.old V → leaves self.new V V }
+        // with a Store fault the tables have failed; with any other answer that stays as it was
         ensures failing { FailsWith result (has_failed self.old) (has_failed self.new) }
-        ensures sturdy { may_fail ≡ false → ¬ (result ≡ Err TablesFault.Store) };
+        // tables that can't fail give no Store fault
+        ensures infallible { may_fail ≡ false → ¬ (result ≡ Err TablesFault.Store) };
 
     /// The names of all merchants, in order.
     fn names(&mut self) -> Result<Vec<MerchantId>, TablesFault>
-        ensures honest { is_honest self.new → is_honest self.old }
+        // a disk that is honest after the call was so before it
+        ensures disk_honest { is_honest self.new → is_honest self.old }
+        // where the disk is honest, Ok gives the names of the merchants of each sound vault that was held
         ensures told { is_honest self.new
             → IfOk result (λ found. (V : Vault) → holds self.old V → Sound V
             → found.items ≡ merchant_names V) }
+        // with Ok and after want of memory, each vault that was held is held still
         ensures kept { Keeps result (holds self.old) (holds self.new) }
+        // where the disk is honest, a crash leaves each vault that was held as it was, and nothing else
         ensures crash { is_honest self.new → (V : Vault) → holds self.old V → leaves self.new V V }
+        // with a Store fault the tables have failed; with any other answer that stays as it was
         ensures failing { FailsWith result (has_failed self.old) (has_failed self.new) }
-        ensures sturdy { may_fail ≡ false → ¬ (result ≡ Err TablesFault.Store) };
+        // tables that can't fail give no Store fault
+        ensures infallible { may_fail ≡ false → ¬ (result ≡ Err TablesFault.Store) };
 
     /// All rights with their ends, by caller, merchant and the right's number.
     fn rights(&mut self) -> Result<Vec<RightRow>, TablesFault>
-        ensures honest { is_honest self.new → is_honest self.old }
+        // a disk that is honest after the call was so before it
+        ensures disk_honest { is_honest self.new → is_honest self.old }
+        // where the disk is honest, Ok gives the rights of each sound vault that was held
         ensures told { is_honest self.new
             → IfOk result (λ found. (V : Vault) → holds self.old V → Sound V
             → found.items ≡ map.entries V.rights) }
+        // with Ok and after want of memory, each vault that was held is held still
         ensures kept { Keeps result (holds self.old) (holds self.new) }
+        // where the disk is honest, a crash leaves each vault that was held as it was, and nothing else
         ensures crash { is_honest self.new → (V : Vault) → holds self.old V → leaves self.new V V }
+        // with a Store fault the tables have failed; with any other answer that stays as it was
         ensures failing { FailsWith result (has_failed self.old) (has_failed self.new) }
-        ensures sturdy { may_fail ≡ false → ¬ (result ≡ Err TablesFault.Store) };
+        // tables that can't fail give no Store fault
+        ensures infallible { may_fail ≡ false → ¬ (result ≡ Err TablesFault.Store) };
 
     /// Makes the changes, all of them or none. Contracts ask that they fit the vault.
     fn write(&mut self, ch: &Changes) -> Result<(), TablesFault>
-        ensures honest { is_honest self.new → is_honest self.old }
+        // a disk that is honest after the call was so before it
+        ensures disk_honest { is_honest self.new → is_honest self.old }
+        // where the disk is honest, after Ok each sound vault that was held and that the changes fit is held
+        // with them
         ensures done { is_honest self.new
             → OnOk result
             ((V : Vault) → holds self.old V → Sound V → Fit V ch.now → holds self.new (plus V ch.now)) }
+        // after want of memory, each vault that was held is held still
         ensures kept { KeepsOnMemory result (holds self.old) (holds self.new) }
+        // where the changes fit a held vault and add nothing, tables that can't be refused memory aren't, and
+        // those that can't fail don't
         ensures allowed { (V : Vault) → holds self.old V → Fit V ch.now → AddsNothing V (plus V ch.now)
             → IsAllowed may_refuse may_fail result }
+        // where the disk is honest, a crash leaves a sound vault that was held and that the changes fit,
+        // without them or with them
         ensures crash { is_honest self.new → (V : Vault) → holds self.old V → Sound V → Fit V ch.now
             → leaves self.new V (plus V ch.now) }
+        // with a Store fault the tables have failed; with any other answer that stays as it was
         ensures failing { FailsWith result (has_failed self.old) (has_failed self.new) }
-        ensures sturdy { may_fail ≡ false → ¬ (result ≡ Err TablesFault.Store) };
+        // tables that can't fail give no Store fault
+        ensures infallible { may_fail ≡ false → ¬ (result ≡ Err TablesFault.Store) };
 
     // tables that hold a vault haven't failed
     ghost unfailed: { (t : Self) (V : Vault) → holds t V → has_failed t ≡ false };

@@ -63,7 +63,9 @@ impl<T: Tables> Vault<T> {
     /// The vault that tables hold. Nothing is promised of tables that hold no sound vault.
     pub fn new(tables: T) -> Vault<T>
         ensures tables { tables_of result ≡ tables }
+        // it isn't broken
         ensures fresh { is_broken result ≡ false }
+        // it contains each sound vault that the tables hold
         ensures contains { (V : Content) → T.holds tables V → Sound V → Contains T.holds result V }
     {
         Vault {
@@ -78,23 +80,36 @@ impl<T: Tables> Vault<T> {
     /// without an answer is `Undecided`.
     pub fn apply(&mut self, c: &Command) -> Result<Reply, Fault>
         requires { HasLivesInRange c.now }
-        ensures honest { T.is_honest (tables_of self.new) → T.is_honest (tables_of self.old) }
+        // a disk that is honest after the call was so before it
+        ensures disk_honest { T.is_honest (tables_of self.new) → T.is_honest (tables_of self.old) }
+        // where the disk is honest, Ok gives the reply of a vault that was contained, and the vault after the
+        // command is contained
         ensures answered { T.is_honest (tables_of self.new)
             → IfOk result (λ reply. (V : Content) → Contains T.holds self.old V
             → (reply ≡ reply_lem V c.now) × Contains T.holds self.new (after_lem V c.now)) }
+        // after want of memory, each vault that was contained is contained still
         ensures memory { result ≡ Err Fault.Memory → (V : Content) → Contains T.holds self.old V
             → Contains T.holds self.new V }
+        // a vault that is broken already answers Reopen, and no other does
         ensures reopen { (result ≡ Err Fault.Reopen) ↔ (is_broken self.old ≡ true) }
+        // with Reopen, the tables stay as they were
         ensures unchanged { result ≡ Err Fault.Reopen → tables_of self.new ≡ tables_of self.old }
+        // the vault is broken after Store and Reopen, and after no other answer
         ensures broken { is_broken self.new ≡ breaks result }
+        // where the disk is honest, a crash leaves the vault after the command with Ok, before it with
+        // Memory, and either with Store
         ensures crash { T.is_honest (tables_of self.new) → (V : Content) → Contains T.holds self.old V
             → LeavesBy result (T.leaves (tables_of self.new)) V (after_lem V c.now) }
+        // with a Store fault the tables have failed; with any other answer that stays as it was
         ensures failing { FailsBy result (T.has_failed (tables_of self.old))
             (T.has_failed (tables_of self.new)) }
+        // where the disk is honest, a command that adds nothing to an unbroken vault meets only faults that
+        // its tables can have
         ensures allowed { is_broken self.old ≡ false → T.is_honest (tables_of self.new)
             → (V : Content) → Contains T.holds self.old V → AddsNothing V (after_lem V c.now)
             → IsAllowedFault T.may_refuse T.may_fail result }
-        ensures sturdy { T.may_fail ≡ false → ¬ (result ≡ Err Fault.Store) }
+        // tables that can't fail give no Store fault
+        ensures infallible { T.may_fail ≡ false → ¬ (result ≡ Err Fault.Store) }
     {
         if self.broken {
             return Err(Fault::Reopen);
@@ -152,7 +167,9 @@ impl<T: Tables> Vault<T> {
     /// The fault of the vault by that of its tables. A Store fault breaks the vault.
     fn fault_of(&mut self, fault: TablesFault) -> Fault
         ensures fault { result ≡ tables_fault fault }
+        // a Store fault breaks the vault, and another leaves it as it was
         ensures broken { is_broken self.new ≡ (is_store fault || is_broken self.old) }
+        // the tables stay as they were
         ensures tables { tables_of self.new ≡ tables_of self.old }
     {
         match fault {
@@ -183,18 +200,27 @@ impl<T: Tables> Vault<T> {
 /// The answer to a command, after what it changes was written. What changes nothing writes nothing.
 fn answer<T: Tables>(tables: &mut T, c: &Command) -> Result<Reply, TablesFault>
     requires { HasLivesInRange c.now }
-    ensures honest { T.is_honest tables.new → T.is_honest tables.old }
+    // a disk that is honest after the call was so before it
+    ensures disk_honest { T.is_honest tables.new → T.is_honest tables.old }
+    // on an honest disk, Ok gives the reply of a held sound vault, and the vault after the command is held
+    // and sound
     ensures told { T.is_honest tables.new → IfOk result (λ reply. (V : Content)
         → T.holds tables.old V → Sound V
         → (reply ≡ reply_lem V c.now) × T.holds tables.new (after_lem V c.now) × Sound (after_lem V c.now)) }
+    // after want of memory, each vault that was held is held still
     ensures kept { KeepsOnMemory result (T.holds tables.old) (T.holds tables.new) }
+    // where the disk is honest, a crash leaves a sound vault that was held, before the command or after it
     ensures crash { T.is_honest tables.new → (V : Content) → T.holds tables.old V → Sound V
         → T.leaves tables.new V (after_lem V c.now) }
+    // with a Store fault the tables have failed; with any other answer that stays as it was
     ensures failing { FailsWith result (T.has_failed tables.old) (T.has_failed tables.new) }
+    // where the disk is honest, a command that adds nothing to a held sound vault meets only faults that the
+    // tables can have
     ensures allowed { T.is_honest tables.new → (V : Content) → T.holds tables.old V → Sound V
         → AddsNothing V (after_lem V c.now)
         → IsAllowed T.may_refuse T.may_fail result }
-    ensures sturdy { T.may_fail ≡ false → ¬ (result ≡ Err TablesFault.Store) }
+    // tables that can't fail give no Store fault
+    ensures infallible { T.may_fail ≡ false → ¬ (result ≡ Err TablesFault.Store) }
 {
     let seen = window(tables, c)?;
     let (reply, changes) = decide(&seen, c);

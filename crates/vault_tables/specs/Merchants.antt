@@ -3,7 +3,7 @@ use Rattle.std.specs.Prelude.{◌≡◌, pos, [], ◌∷◌, string_bytes}
 use Rattle.std.proofs.Common.{sym}
 use Rattle.sqlite.specs.Order.{Row, column}
 use Rattle.sqlite.specs.declared.types.Value.TheVariants.{Int, Text}
-use Rattle.sql_maps.proofs.Beside.{filled}
+use Rattle.sql_maps.proofs.ConstantColumns.{filled}
 use Rattle.sql_stored.specs.Keyed.{at_least}
 use Rattle.vault_pan.specs.Mask.{lead_digits}
 use Rattle.vault_rules.specs.declared.rows.RawMerchant.{RawMerchant}

@@ -3,7 +3,7 @@ use Rattle.std.specs.Prelude.{◌++◌, [], ◌∷◌, refl}
 use Rattle.sqlite_tied.specs.Compute.{everything}
 use Rattle.sqlite.specs.Listing.{understood}
 use Rattle.sqlite.specs.Term.{col}
-use Rattle.sql_maps.proofs.Beside.{constants}
+use Rattle.sql_maps.proofs.ConstantColumns.{constants}
 use Rattle.sql_maps.specs.Texts.{IsQuery, IsWrite, ordered_by, sorted_of}
 use Rattle.sql_stored.proofs.Scans.{columns_of, filled_scan, long_scan}
 use Rattle.sql_stored.specs.Keyed.{finding, putting, taking}

@@ -3,7 +3,7 @@ use Rattle.std.specs.Prelude.{◌≡◌, [], ◌∷◌, string_bytes}
 use Rattle.std.proofs.Common.{sym}
 use Rattle.sqlite.specs.Order.{Row, column}
 use Rattle.sqlite.specs.declared.types.Value.TheVariants.{Int, Null, Text}
-use Rattle.sql_maps.proofs.Beside.{filled}
+use Rattle.sql_maps.proofs.ConstantColumns.{filled}
 use Rattle.sql_stored.specs.Keyed.{at_least}
 use Rattle.sql_stored.specs.Values.{int_value}
 use Rattle.vault_core.specs.declared.row.GrantRow.{GrantRow}

@@ -165,7 +165,10 @@ impl Puts for Merchants {
 
 /// The lives of a merchant.
 pub fn find<S: Alter>(conn: &mut Connection<S>, m: &str) -> Result<Option<Lives>, StoreFault>
+    // it only reads: no doubt goes away, and in the newest schema, on an honest disk, nothing changes with Ok
     ensures reads { Reads newest_schema result (state S.Store conn.old) (state S.Store conn.new) }
+    // with Ok, on an honest disk, these are the merchant's lives, or none, in what the newest tables stand
+    // for
     ensures told { HasCleanDisk (state S.Store conn.new) → IfOk result (λ found. (t : Tables)
         → Stands newest_schema (newest_claims t) (state S.Store conn.old).now
         → found ≡ t.merchants m.now) }
@@ -175,7 +178,10 @@ pub fn find<S: Alter>(conn: &mut Connection<S>, m: &str) -> Result<Option<Lives>
 
 /// The lives of a merchant, inside a transaction.
 pub fn find_in<S: Alter>(tx: &mut Transaction<'_, S>, m: &str) -> Result<Option<Lives>, StoreFault>
+    // the transaction is over the same connection, and on an honest disk a crash leaves nothing new
     ensures goes_on { Proceeds S.Store tx.old tx.new }
+    // with Ok, on an honest disk, the newest tables stand for what they did, and these are the merchant's
+    // lives in it, or none
     ensures told { HasCleanDisk (state S.Store tx.new.conn.now) → IfOk result (λ found. (base : Database)
         (t : Tables) → Within newest_schema (newest_claims t) base (state S.Store tx.old.conn.now)
         → (found ≡ t.merchants m.now)
@@ -186,8 +192,11 @@ pub fn find_in<S: Alter>(tx: &mut Transaction<'_, S>, m: &str) -> Result<Option<
 
 /// Writes the lives, the moment and the lead of a merchant, whether or not it was there.
 pub fn put<S: Alter>(tx: &mut Transaction<'_, S>, m: &str, x: &Lives) -> Result<(), Error>
+    // the life of single-use tokens fits its column
     requires single { x.now.single_life < 2 ^ 63 }
+    // the life of multi-use tokens fits its column
     requires multi { x.now.multi_life < 2 ^ 63 }
+    // with Ok, on an honest disk, what the newest tables stand for changes by just these lives
     ensures { Rewrites S.Store tx.old tx.new newest_schema newest_claims result
         (λ t. record t { merchants = put_at bytes_cmp t.merchants m.now (Some x.now) }) }
 {

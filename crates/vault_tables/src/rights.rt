@@ -179,7 +179,10 @@ pub fn find<S: Alter>(
     m: &str,
     right: Right,
 ) -> Result<Option<GrantRow>, StoreFault>
+    // it only reads: no doubt goes away, and in the newest schema, on an honest disk, nothing changes with Ok
     ensures reads { Reads newest_schema result (state S.Store conn.old) (state S.Store conn.new) }
+    // with Ok, on an honest disk, this is the right with its end, or none, in what the newest tables stand
+    // for
     ensures told { HasCleanDisk (state S.Store conn.new) → IfOk result (λ found. (t : Tables)
         → Stands newest_schema (newest_claims t) (state S.Store conn.old).now
         → found ≡ t.rights (caller.now, (m.now, right))) }

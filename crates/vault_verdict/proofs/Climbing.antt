@@ -10,7 +10,7 @@ use Rattle.sqlite.specs.declared.types.Value.TheVariants.{Int}
 use Rattle.sqlite_rules.proofs.ListLemmas.{all_has, all_from}
 use Rattle.sqlite_rules.proofs.ProbeLemmas.{has_mapped, mapped_has}
 use Rattle.sqlite_rules.specs.Lists.{Has}
-use Rattle.vault_verdict.proofs.KeptApart.{has_kept}
+use Rattle.vault_verdict.proofs.ApartKeys.{has_kept}
 use Rattle.vault_verdict.specs.Made.{as_card}
 use Rattle.sql_stored.specs.Values.{row_text_value}
 use Rattle.vault_verdict.specs.declared.replaced.OldEntry.{OldEntry}

@@ -2,7 +2,7 @@
 use Rattle.std.proofs.Common.{◌≡◌, refl, subst, sym}
 use Rattle.sqlite.specs.Schema.{Schema}
 use Rattle.sql_maps.specs.Schema.{columns_to}
-use Rattle.vault_schema.proofs.Behind.{behind, has_version, indexes_behind}
+use Rattle.vault_schema.proofs.TablesBehind.{behind, has_version, indexes_behind}
 use Rattle.vault_schema.proofs.Layers.{free_in}
 use Rattle.vault_schema.specs.Version1.Tables as one
 use Rattle.vault_schema.specs.Versioned.{HasVersion}

@@ -24,7 +24,7 @@ use Rattle.vault_verdict.specs.Taken.{EntriesTaken, RecordsTaken}
 use Rattle.sql_stored.specs.declared.fault.StoreFault.{StoreFault}
 use Rattle.sql_stored.specs.declared.fault.StoreFault.TheVariants.{Memory, Store}
 use Rattle.vault_verdict.specs.declared.replaced.OldEntry.{OldEntry}
-use Rattle.vault_schema.proofs.Behind.{behind, indexes_behind, schema_is}
+use Rattle.vault_schema.proofs.TablesBehind.{behind, indexes_behind, schema_is}
 
 none_on : {R E : Type 0} (r : Result R E) (A : Type 0) → IsErr r → OnOk r A
 none_on (Err e) A failed = tt

@@ -13,12 +13,12 @@ use Rattle.vault_verdict.proofs.Full.{entries_full, full_of, merchants_full, rig
 use Rattle.vault_verdict.specs.ReadAs.{AreMerchantsFull, AreRightsFull}
 use Rattle.vault_verdict.proofs.InVersion.{has_version_in}
 use Rattle.vault_verdict.proofs.KeysIn.{apart_keys}
-use Rattle.vault_verdict.proofs.StandsShow.{keys_of, stands_shows, version_row}
-use Rattle.vault_verdict.proofs.TheyStand.{they_stand}
+use Rattle.vault_verdict.proofs.ShowByVersion.{keys_of, stands_shows, version_row}
+use Rattle.vault_verdict.proofs.StandByVersion.{they_stand}
 use Rattle.vault_verdict.proofs.Opening.{apart}
 use Rattle.vault_verdict.proofs.Permuted.{apart_permuted}
 use Rattle.vault_verdict.proofs.Climbing.{kept_shown_climb, own_rowid, shown_climb}
-use Rattle.vault_verdict.proofs.Rising.{climbs_apart, climbs_sorted, rows_climb}
+use Rattle.vault_verdict.proofs.RisingRowids.{climbs_apart, climbs_sorted, rows_climb}
 use Rattle.vault_verdict.specs.Apart.{AreApart, AreByRowid, AreEntriesApart, AreTablesApart}
 use Rattle.vault_verdict.specs.Made.{as_card, as_entry}
 use Rattle.vault_verdict.specs.Opened.{AreRaws, AreVersions, IsBrokenIn, IsFit, IsLeastBroken, IsNoRefusal}

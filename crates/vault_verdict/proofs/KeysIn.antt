@@ -2,10 +2,10 @@
 use Rattle.std.proofs.Common.{◌≡◌, true, false, List, map, refl, ◌∙◌}
 use Rattle.sqlite.specs.Effect.{Database, IsDatabase}
 use Rattle.sql_maps.specs.Rows.{IsApart}
-use Rattle.vault_schema.proofs.Behind.{entries_free}
-use Rattle.vault_schema.proofs.Behind.{behind, behind_two, indexes_behind}
-use Rattle.vault_schema.proofs.Behind.{indexes_behind_two, schema_is}
-use Rattle.vault_schema.proofs.Behind.{schema_first, schema_second}
+use Rattle.vault_schema.proofs.TablesBehind.{entries_free}
+use Rattle.vault_schema.proofs.TablesBehind.{behind, behind_two, indexes_behind}
+use Rattle.vault_schema.proofs.TablesBehind.{indexes_behind_two, schema_is}
+use Rattle.vault_schema.proofs.TablesBehind.{schema_first, schema_second}
 use Rattle.vault_schema.specs.Layers.{Either}
 use Rattle.vault_schema.specs.Version1.Tables.{v1}
 use Rattle.vault_schema.specs.Versions.{has_cards, schema_of}

@@ -11,7 +11,7 @@ use Rattle.sqlite.specs.declared.types.Value.TheVariants.{Int, Text}
 use Rattle.sqlite_rules.specs.Lists.{Has}
 use Rattle.sqlite_schema.specs.declared.schema.Index.{Index}
 use Rattle.sql_stored.specs.Reading.{any_left}
-use Rattle.sql_maps.proofs.Beside.{each_has, stand_narrow}
+use Rattle.sql_maps.proofs.ConstantColumns.{each_has, stand_narrow}
 use Rattle.sql_maps.proofs.Grown.{keyed_in_grown}
 use Rattle.sql_maps.specs.Rows.{IsApart}
 use Rattle.sql_maps.specs.Schema.{columns_to}
@@ -32,8 +32,9 @@ use Rattle.vault_rules.specs.Rules.{keeps}
 use Rattle.vault_rules.specs.Showing.{Shows}
 use Rattle.vault_rules.specs.VaultOf.{AreKeysApart, HasKeysApart, vault_of}
 use Rattle.vault_rules.specs.declared.rows.RawMerchant.{RawMerchant}
-use Rattle.vault_schema.proofs.Behind.{behind, behind_from, behind_three, indexes_behind, indexes_behind_from}
-use Rattle.vault_schema.proofs.Behind.{indexes_behind_three, schema_is, schema_third}
+use Rattle.vault_schema.proofs.TablesBehind.{behind, behind_from, behind_three}
+use Rattle.vault_schema.proofs.TablesBehind.{indexes_behind, indexes_behind_from}
+use Rattle.vault_schema.proofs.TablesBehind.{indexes_behind_three, schema_is, schema_third}
 use Rattle.vault_schema.proofs.ByTable.{AreHeld}
 use Rattle.vault_schema.proofs.Layers.{free_in}
 use Rattle.vault_schema.proofs.Newest as newest_tables

@@ -12,8 +12,8 @@ use Rattle.vault_core.specs.Keys.{Bytes}
 use Rattle.vault_core.specs.Numbers.{use_number}
 use Rattle.vault_core.specs.Vault.{Vault, entry_at}
 use Rattle.vault_core.specs.declared.row.Entry.{Entry}
-use Rattle.vault_verdict.proofs.Backs.{moment_as, moment_told}
-use Rattle.vault_verdict.proofs.FromStands.{ArePairs, AreThere}
+use Rattle.vault_verdict.proofs.Sources.{moment_as, moment_told}
+use Rattle.vault_verdict.proofs.ShowByTable.{ArePairs, AreThere}
 use Rattle.vault_verdict.proofs.InTree.{in_items, in_tree}
 use Rattle.vault_verdict.proofs.OldRows.{card_made, number_made, old_key, old_of, row_of}
 use Rattle.vault_verdict.proofs.Permuted.{apart_as}

@@ -30,7 +30,7 @@ use Rattle.vault_rules.specs.declared.rows.RawCard.{RawCard}
 use Rattle.vault_rules.specs.declared.rows.RawEntry.{RawEntry}
 use Rattle.vault_rules.specs.AllRows.{Rows}
 use Rattle.vault_schema.specs.Version2.Joined.{AreMany}
-use Rattle.vault_verdict.proofs.KeptApart.{apart_by, has_kept, kept_apart, kept_has, same_apart}
+use Rattle.vault_verdict.proofs.ApartKeys.{apart_by, has_kept, kept_apart, kept_has, same_apart}
 use Rattle.vault_verdict.specs.Made.{as_card, as_entry, own_card}
 use Rattle.vault_verdict.specs.ReadAs.{AreOlders}
 

@@ -6,7 +6,7 @@ use Rattle.std.specs.List.Sorted.{IsPermutation}
 use Rattle.sqlite.specs.Order.{Row, value_cmp}
 use Rattle.sqlite.specs.Tree.{rowid}
 use Rattle.sqlite_value.proofs.OrderLemmas.{value_cmp_total}
-use Rattle.sql_maps.proofs.Rising.{untied_permuted}
+use Rattle.sql_maps.proofs.RisingLists.{untied_permuted}
 use Rattle.sql_maps.specs.Rows.{IsApart}
 
 -- rows of the same rowids are apart where the others are

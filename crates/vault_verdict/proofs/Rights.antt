@@ -10,7 +10,7 @@ use Rattle.sqlite.specs.Tree.{Trees}
 use Rattle.sqlite.specs.declared.types.Value.TheVariants.{Int, Null, Text}
 use Rattle.sqlite_rules.specs.Lists.{Has}
 use Rattle.sqlite_schema.specs.declared.schema.Index.{Index}
-use Rattle.sql_maps.proofs.Beside.{each_has, stand_narrow}
+use Rattle.sql_maps.proofs.ConstantColumns.{each_has, stand_narrow}
 use Rattle.sql_maps.proofs.Grown.{keyed_in_grown}
 use Rattle.sql_maps.specs.Rows.{IsApart}
 use Rattle.sql_maps.specs.Schema.{columns_to}
@@ -29,8 +29,8 @@ use Rattle.vault_rules.specs.Rules.{keeps}
 use Rattle.vault_rules.specs.Showing.{Shows, ShowsRight}
 use Rattle.vault_rules.specs.VaultOf.{AreKeysApart, HasKeysApart, number_key, vault_of}
 use Rattle.vault_rules.specs.declared.rows.RawRight.{RawRight}
-use Rattle.vault_schema.proofs.Behind.{behind, behind_four, indexes_behind, indexes_behind_four}
-use Rattle.vault_schema.proofs.Behind.{schema_fourth, schema_is}
+use Rattle.vault_schema.proofs.TablesBehind.{behind, behind_four, indexes_behind, indexes_behind_four}
+use Rattle.vault_schema.proofs.TablesBehind.{schema_fourth, schema_is}
 use Rattle.vault_schema.proofs.ByTable.{AreHeld}
 use Rattle.vault_schema.proofs.Layers.{free_in, layers_after}
 use Rattle.vault_schema.proofs.Newest as newest_tables
@@ -47,7 +47,7 @@ use Rattle.vault_schema.specs.Versions.{schema_of, second_layers}
 use Rattle.vault_schema.specs.declared.version.Version.{Version}
 use Rattle.vault_schema.specs.declared.version.Version.TheVariants.{Four}
 use Rattle.vault_tables.specs.Rights.{endless, right_values}
-use Rattle.vault_verdict.proofs.Backs.{moment_as, moment_told}
+use Rattle.vault_verdict.proofs.Sources.{moment_as, moment_told}
 use Rattle.vault_verdict.proofs.Left.{AreGone, none_left}
 use Rattle.vault_verdict.proofs.Permuted.{apart_as}
 use Rattle.vault_verdict.proofs.Table.{Table, keys_apart, pair_of, stand_for}

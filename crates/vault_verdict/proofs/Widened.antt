@@ -8,7 +8,7 @@ use Rattle.sqlite.specs.declared.types.Value.{Value}
 use Rattle.sqlite_rules.proofs.ListLemmas.{all_from, all_has}
 use Rattle.sqlite_rules.proofs.ProbeLemmas.{has_mapped, mapped_has}
 use Rattle.sqlite_rules.specs.Lists.{Has}
-use Rattle.sql_maps.proofs.Beside.{beside}
+use Rattle.sql_maps.proofs.ConstantColumns.{beside}
 use Rattle.sql_maps.proofs.ByKey.{Coding}
 use Rattle.sql_maps.specs.Codes.{row_of}
 use Rattle.sql_maps.specs.Rows.{AreRowsOf, IsApart}

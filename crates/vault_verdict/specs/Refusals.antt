@@ -1,16 +1,19 @@
 -- What a refusal says beside its number, and what it leaves.
-use Rattle.std.specs.Prelude.{◌≡◌, ◌≢◌, ℕ, ℤ, Result, IfErr, OnOk}
+use Rattle.std.specs.Prelude.{◌≡◌, ◌≢◌, ◌≤◌, ℕ, ℤ, false, Result, IfErr, OnOk}
 use Rattle.sqlite.specs.Effect.{Database}
 use Rattle.sqlite.specs.Held.{Held, state}
 use Rattle.sqlite.specs.State.{HasCleanDisk, IsUnchanged}
+use Rattle.sqlite.specs.View.{doubt}
 use Rattle.sqlite_trees.specs.declared.store.Store.{Ghosts}
+use Rattle.sql_maps.specs.Schema.{no_schema}
 use Rattle.sql_maps.specs.States.{LeavesNoMore}
 use Rattle.vault_schema.specs.Versioned.{HasVersion}
 use Rattle.vault_schema.specs.Versions.{schema_of}
 use Rattle.vault_schema.specs.declared.version.Version.{Version}
 use Rattle.vault_verdict.specs.Faults.{IsJudged}
 use Rattle.vault_verdict.specs.Names.{IsForeign, IsMixed, vault_names}
-use Rattle.vault_verdict.specs.Opened.{IsBrokenIn, IsLeastBroken, IsNoRefusal, IsVersionIn}
+use Rattle.vault_verdict.specs.Opened.{IsBrokenIn, IsFit, IsLeastBroken, IsNoRefusal, IsVersionIn, IsWrong}
+use Rattle.vault_verdict.specs.Opened.{LeavesFound, Opens}
 use Rattle.vault_verdict.specs.ReadAs.{IsFullIn}
 use Rattle.vault_verdict.specs.Reading.{IsFull, IsOurs, IsQuietWhere, IsUnreadFile}
 use Rattle.vault_verdict.specs.declared.fault.OpenFault.{OpenFault}
@@ -88,6 +91,41 @@ module _ {S : Type 0} (g : Ghosts S) where
   LeavesSeen old new result Where =
       HasCleanDisk (state g new)
       → IfErr result (λ e. IsJudged e → Where → IsUnchanged (state g old) (state g new))
+
+  -- so where the database has a version, whichever
+  abbrev pub LeavesVersionSeen : {R : Type 0} → Held S → Held S → Result R OpenFault → Type 0
+  LeavesVersionSeen old new result = LeavesSeen old new result (HasVersion (state g old).now.schema)
+
+  -- with Ok the vault is open that was there, or the empty one
+  abbrev pub OpensAs : {R : Type 0} → Held S → Held S → Result R OpenFault → Type 0
+  OpensAs old new result = HasCleanDisk (state g new) → OnOk result (Opens (state g old) (state g new))
+
+  -- a crash leaves what was found
+  abbrev pub LeavesAsFound : Held S → Held S → Type 0
+  LeavesAsFound old new = HasCleanDisk (state g new) → LeavesFound (state g old) (state g new)
+
+  -- where there is a table, the call is quiet if the database has a version
+  abbrev pub IsStillWhereSome : Held S → Held S → Type 0
+  IsStillWhereSome old new = ¬ ((state g old).now.schema ≡ no_schema) → IsStillVersioned old new
+
+  -- A database is refused by this, and the connection goes on so. 31 says the least rule that full rows
+  -- break, 30 another version that is told, or 0; 33 comes to a database in the newest schema, with full
+  -- rows, only where a table isn't read; neither 30 nor 31 comes to a sound vault, or to a database without a
+  -- table.
+  pub record Refuses (old new : Held S) (why : OpenFault) : Type 0 where
+    pub damaged : HasCleanDisk (state g new) → (rule : ℕ) → why ≡ Damaged rule
+        → IsLeastWhereFull (state g old).now rule
+    pub wrong : HasCleanDisk (state g new) → (n : ℤ) → why ≡ WrongSchema n → IsWrong (state g old).now n
+    pub unread : HasCleanDisk (state g new) → why ≡ Store → IsOurs (state g old).now
+        → IsUnreadFile g (state g old).now new
+    pub spared : HasCleanDisk (state g new) → IsFit (state g old).now → IsNoRefusal why
+    pub left : LeavesAsFound old new
+    -- after 30 and 31 the connection sees what it saw, where the database has a version
+    pub unchanged : HasCleanDisk (state g new) → IsJudged why → HasVersion (state g old).now.schema
+        → IsUnchanged (state g old) (state g new)
+    pub nothing_new : IsStillWhereSome old new
+    pub clean : doubt (state g old).is_clean ≤ doubt (state g new).is_clean
+    pub idle : new.in_transaction ≡ false
 
   -- a refusal by any number but 33 writes nothing
   abbrev pub WritesNothing : {R : Type 0} → Held S → Held S → Result R OpenFault → Type 0

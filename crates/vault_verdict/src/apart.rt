@@ -43,8 +43,10 @@ fn all_of(told: [bool; 6]) -> bool
 /// Whether no rowid of a table comes twice, where the rows came in the order of their rowids; rows in another
 /// order may be told apart or not.
 pub(crate) fn are_apart(behind: &Behind) -> bool
+    // with true, no rowid comes twice in a table of the rows that were taken
     ensures apart { (rows : Rows) (versions : List VersionRow) → HasJudged rows versions behind.now
         → IsTrue result → AreApart rows }
+    // where the rows of each table ascend by their rowids and none comes twice, it is true
     ensures only { (rows : Rows) (versions : List VersionRow) → HasJudged rows versions behind.now
         → AreByRowid rows → AreApart rows → IsTrue result }
 {

@@ -54,14 +54,19 @@ pub(crate) fn read_behind<'a, S: Alter>(
     olders: &[OldEntry],
     index: Index<'a>,
 ) -> Result<Behind<'a>, StoreFault>
+    // in the version's schema, on an honest disk, Ok gives the version's rows behind the first ones, as they
+    // were taken
     ensures told { HasCleanDisk (state S.Store conn.new)
         → (state S.Store conn.old).now.schema ≡ schema_of version
         → IfOk result (λ it. (entries : List EntryRow) × (records : List RecordRow)
         × AreBehind version (state S.Store conn.old).now olders.now index.entry it entries records) }
+    // in the version's schema, on an honest disk, Store comes only where a table beside `vault` isn't read
     ensures refused { HasCleanDisk (state S.Store conn.new)
         → (state S.Store conn.old).now.schema ≡ schema_of version
         → IfErr result (λ e. e ≡ StoreFault.Store
         → IsUnreadOne S.Store version (state S.Store conn.old).now conn.new) }
+    // it only reads: no doubt goes away, and in the version's schema, on an honest disk, nothing changes with
+    // Ok
     ensures reads { Reads (schema_of version) result (state S.Store conn.old) (state S.Store conn.new) }
 {
     let records = taken(alloc, conn, version, olders, Entries::new(alloc, index))?;

@@ -26,13 +26,17 @@ pub(crate) fn read_first<S: Alter>(
     conn: &mut Connection<S>,
     version: Version,
 ) -> Result<First, StoreFault>
+    // in the version's schema, on an honest disk, Ok gives the version's merchants and counts
     ensures told { HasCleanDisk (state S.Store conn.new)
         → (state S.Store conn.old).now.schema ≡ schema_of version
         → IfOk result (λ it. AreFirst version (state S.Store conn.old).now it) }
+    // in the version's schema, on an honest disk, Store comes only where a table beside `vault` isn't read
     ensures refused { HasCleanDisk (state S.Store conn.new)
         → (state S.Store conn.old).now.schema ≡ schema_of version
         → IfErr result (λ e. e ≡ StoreFault.Store
         → IsUnreadOne S.Store version (state S.Store conn.old).now conn.new) }
+    // it only reads: no doubt goes away, and in the version's schema, on an honest disk, nothing changes with
+    // Ok
     ensures reads { Reads (schema_of version) result (state S.Store conn.old) (state S.Store conn.new) }
 {
     let merchants = read::merchants(alloc, conn, version)?;

@@ -48,7 +48,10 @@ pub(crate) fn other_version(versions: &[RawVersion]) -> Option<i64>
 
 /// The sizes of rows that keep each rule; 31 names the least that they break.
 pub(crate) fn judge(versions: &[RawVersion], behind: &Behind) -> Result<Sizes, OpenFault>
+    // this is the verdict on the rows that were taken: their sizes, or 31 with the least rule that they
+    // break, or 33
     ensures verdict { (rows : Rows) → HasJudged rows versions.now behind.now → IsVerdictOf rows result }
+    // it isn't refused by 30
     ensures versioned { TellsNoVersion result }
 {
     let records = &behind.records;

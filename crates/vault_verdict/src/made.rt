@@ -46,8 +46,10 @@ pub(crate) fn entries<'a>(
     olders: &[OldEntry],
     start: Entries<'a>,
 ) -> Result<Entries<'a>, StoreFault>
+    // Ok takes an entry for each old one, which is the old one as schema 2 has it
     ensures made { IfOk result (λ it. (raws : List EntryRow) × EntriesTaken start.entry it raws
         × (map as_entry olders.now ≡ map entry_values raws)) }
+    // it is refused only for want of memory
     ensures memory { IfErr result (λ e. e ≡ StoreFault.Memory) }
 {
     let mut entries = start;
@@ -79,8 +81,10 @@ pub(crate) fn cards<'a>(
     olders: &[OldEntry],
     start: Index<'a>,
 ) -> Result<Index<'a>, StoreFault>
+    // Ok takes a card for each old entry that has a number, as schema 2 has it
     ensures made { IfOk result (λ it. (raws : List CardRow) × CardsTaken start.entry it raws
         × (filter_map as_card olders.now ≡ map card_values raws)) }
+    // it is refused only for want of memory
     ensures memory { IfErr result (λ e. e ≡ StoreFault.Memory) }
 {
     let mut index = start;

@@ -56,16 +56,23 @@ pub fn version_rows<S: Alter>(
     alloc: Global,
     conn: &mut Connection<S>,
 ) -> Result<Vec<RawVersion>, StoreFault>
+    // where the schema has a version, on an honest disk, Ok gives the rows of `vault`, in some order
     ensures told { HasCleanDisk (state S.Store conn.new) → HasVersion (state S.Store conn.old).now.schema
         → IfOk result (λ raws. AreVersions (state S.Store conn.old).now.trees raws.items) }
+    // where the schema has a version, on an honest disk, Ok means that the database is sound
     ensures live { HasCleanDisk (state S.Store conn.new) → HasVersion (state S.Store conn.old).now.schema
         → OnOk result (IsDatabase (state S.Store conn.old).now) }
+    // where the schema has a version, on an honest disk, nothing changed with Ok
     ensures kept { HasCleanDisk (state S.Store conn.new) → HasVersion (state S.Store conn.old).now.schema
         → OnOk result (IsUnchanged (state S.Store conn.old) (state S.Store conn.new)) }
+    // where the schema has a version, on an honest disk, Store comes only where the rows of `vault` aren't
+    // read
     ensures refused { HasCleanDisk (state S.Store conn.new) → HasVersion (state S.Store conn.old).now.schema
         → IfErr result (λ e. e ≡ StoreFault.Store
         → IsUnread S.Store READ_VERSIONS.now version_values (state S.Store conn.old).now conn.new) }
-    ensures quiet { IsStillVersioned S.Store conn.old conn.new }
+    // in a schema with a version, on an honest disk, a crash leaves nothing new; no doubt goes away, and no
+    // transaction begins
+    ensures nothing_new { IsStillVersioned S.Store conn.old conn.new }
 {
     shown::<S, VersionRows>(alloc, conn, READ_VERSIONS)
 }
@@ -150,10 +157,13 @@ fn first_cards<'a, S: Alter>(
     conn: &mut Connection<S>,
     start: Index<'a>,
 ) -> Result<WithCards<'a>, StoreFault>
+    // it only reads: no doubt goes away, and in schema 1, on an honest disk, nothing changes with Ok
     ensures reads { Reads v1 result (state S.Store conn.old) (state S.Store conn.new) }
+    // in schema 1, on an honest disk, Ok gives the entries and has taken the cards of them
     ensures told { HasCleanDisk (state S.Store conn.new) → (state S.Store conn.old).now.schema ≡ v1
         → IfOk result (λ it. (raws : List CardRow) × CardsTaken start.entry it.index raws
         × AreOldCards (state S.Store conn.old).now it.olders.items raws) }
+    // in schema 1, on an honest disk, Store comes only where the entries aren't read
     ensures refused { HasCleanDisk (state S.Store conn.new) → (state S.Store conn.old).now.schema ≡ v1
         → IfErr result (λ e. e ≡ StoreFault.Store → IsUnread S.Store READ_ENTRIES.now old_entry_values
         (state S.Store conn.old).now conn.new) }
@@ -169,12 +179,17 @@ fn later_cards<'a, S: Alter>(
     conn: &mut Connection<S>,
     start: Index<'a>,
 ) -> Result<WithCards<'a>, StoreFault>
+    // it only reads: no doubt goes away, and in schema 2 or one grown from it, on an honest disk, nothing
+    // changes with Ok
     ensures reads { (others : List Table) (indexes : List SqlIndex) → Reads (grown v2 others indexes) result
         (state S.Store conn.old) (state S.Store conn.new) }
+    // in schema 2 or one grown from it, on an honest disk, Ok has taken the cards
     ensures told { (others : List Table) (indexes : List SqlIndex) → HasCleanDisk (state S.Store conn.new)
         → (state S.Store conn.old).now.schema ≡ grown v2 others indexes
         → IfOk result (λ it. (raws : List CardRow) × CardsTaken start.entry it.index raws
         × AreTable IsAny (λ t. t 12) card_row (λ c. c.id) (state S.Store conn.old).now raws) }
+    // in schema 2 or one grown from it, on an honest disk, Store comes only where cards or entries aren't
+    // read
     ensures refused { (others : List Table) (indexes : List SqlIndex) → HasCleanDisk (state S.Store conn.new)
         → (state S.Store conn.old).now.schema ≡ grown v2 others indexes
         → IfErr result (λ e. e ≡ StoreFault.Store

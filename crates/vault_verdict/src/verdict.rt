@@ -45,13 +45,18 @@ fn judge_behind<'a, S: Alter>(
     olders: &[OldEntry],
     index: Index<'a>,
 ) -> Result<Sizes, OpenFault>
+    // in the version's schema, on an honest disk, rows that weren't read aren't judged, and of all others
+    // this is the verdict
     ensures told { HasCleanDisk (state S.Store conn.new)
         → (state S.Store conn.old).now.schema ≡ schema_of version
         → (cards : List CardRow) → HoldCards index.entry.merchants.now index.entry.cards cards
         → Judges S.Store version versions.now index.entry.merchants.now index.entry.counts.now olders.now
         cards result conn.old conn.new }
+    // it isn't refused by 30
     ensures versioned { TellsNoVersion result }
-    ensures quiet { IsStill S.Store version conn.old conn.new }
+    // in the version's schema, on an honest disk, a crash leaves nothing new; no doubt goes away, and no
+    // transaction begins
+    ensures nothing_new { IsStill S.Store version conn.old conn.new }
 {
     let behind = read_behind(alloc, conn, version, olders, index)?;
     judge(versions, &behind)
@@ -65,13 +70,18 @@ fn judge_cards<'a, S: Alter>(
     versions: &[RawVersion],
     index: Index<'a>,
 ) -> Result<Judged, OpenFault>
+    // in the version's schema, on an honest disk, rows that weren't read aren't judged, and of all others
+    // this is the verdict
     ensures told { HasCleanDisk (state S.Store conn.new)
         → (state S.Store conn.old).now.schema ≡ schema_of version
         → HoldCards index.entry.merchants.now index.entry.cards []
         → JudgesAll S.Store version versions.now index.entry.merchants.now index.entry.counts.now result
         conn.old conn.new }
+    // it isn't refused by 30
     ensures versioned { TellsNoVersion result }
-    ensures quiet { IsStill S.Store version conn.old conn.new }
+    // in the version's schema, on an honest disk, a crash leaves nothing new; no doubt goes away, and no
+    // transaction begins
+    ensures nothing_new { IsStill S.Store version conn.old conn.new }
 {
     let WithCards { olders, index } = read::cards(alloc, conn, version, index)?;
     let sizes = judge_behind(alloc, conn, version, versions, &olders, index)?;
@@ -86,12 +96,17 @@ fn judge_first<S: Alter>(
     versions: &[RawVersion],
     first: &First,
 ) -> Result<Judged, OpenFault>
+    // in the version's schema, on an honest disk, rows that weren't read aren't judged, and of all others
+    // this is the verdict
     ensures told { HasCleanDisk (state S.Store conn.new)
         → (state S.Store conn.old).now.schema ≡ schema_of version
         → JudgesAll S.Store version versions.now first.now.merchants.items first.now.counts.items result
         conn.old conn.new }
+    // it isn't refused by 30
     ensures versioned { TellsNoVersion result }
-    ensures quiet { IsStill S.Store version conn.old conn.new }
+    // in the version's schema, on an honest disk, a crash leaves nothing new; no doubt goes away, and no
+    // transaction begins
+    ensures nothing_new { IsStill S.Store version conn.old conn.new }
 {
     let index = Index::of(alloc, &first.merchants, &first.counts)?;
     judge_cards(alloc, conn, version, versions, index)
@@ -104,23 +119,34 @@ pub fn verdict<S: Alter>(
     conn: &mut Connection<S>,
     version: Version,
 ) -> Result<Judged, OpenFault>
+    // with Ok, on an honest disk, full rows of the version stand for a sound vault of these sizes
     ensures sound { HasCleanDisk (state S.Store conn.new)
         → IfOk result (λ it. IsFullIn version (state S.Store conn.old).now
         → IsSoundIn version (state S.Store conn.old).now it.sizes) }
+    // with Ok, on an honest disk, where the version has no cards and full rows, these are its entries, in
+    // some order
     ensures olders { HasCleanDisk (state S.Store conn.new)
         → IfOk result (λ it. IsFullIn version (state S.Store conn.old).now
         → AreOldersIn version (state S.Store conn.old).now.trees it.olders.items) }
+    // with Ok, on an honest disk, nothing changed in the schema of the version
     ensures kept { IsUntouched S.Store version conn.old conn.new result }
+    // on an honest disk, 31 says the least rule that the rows break, where they are full and the version's
     ensures damaged { RowsBreak S.Store conn.old conn.new result
         (IsBrokenWhereFull version) }
+    // on an honest disk, 30 says the other version that is told, where the schema is this version's
     ensures versioned { TellsOther S.Store conn.old conn.new result
         (IsOtherIn version) }
+    // on an honest disk, 33 comes to full rows of the version only where a table isn't read or a rowid comes
+    // twice
     ensures unread { HasCleanDisk (state S.Store conn.new) → IfErr result (λ e. e ≡ OpenFault.Store
         → IsFullIn version (state S.Store conn.old).now
         → IsUnreadIn S.Store version (state S.Store conn.old).now conn.new) }
-    ensures sees { LeavesSeen S.Store conn.old conn.new result
+    // on an honest disk, after 30 and 31 the connection sees what it saw, where the schema is this version's
+    ensures unchanged { LeavesSeen S.Store conn.old conn.new result
         ((state S.Store conn.old).now.schema ≡ schema_of version) }
-    ensures quiet { IsStill S.Store version conn.old conn.new }
+    // in the version's schema, on an honest disk, a crash leaves nothing new; no doubt goes away, and no
+    // transaction begins
+    ensures nothing_new { IsStill S.Store version conn.old conn.new }
 {
     let versions = version_rows(alloc, conn)?;
     if let Some(other) = other_in(&versions, version) {
@@ -132,20 +158,30 @@ pub fn verdict<S: Alter>(
 
 /// The verdict over a file in the newest version.
 pub fn newest_verdict<S: Alter>(alloc: Global, conn: &mut Connection<S>) -> Result<Sizes, OpenFault>
+    // with Ok, on an honest disk, full rows in the newest schema stand for a sound vault of these sizes
     ensures sound { HasCleanDisk (state S.Store conn.new)
         → IfOk result
         (λ sizes. IsOurs (state S.Store conn.old).now → IsSoundOf (state S.Store conn.old).now sizes) }
+    // with Ok, on an honest disk, nothing changed in the newest schema
     ensures kept { IsUntouched S.Store newest conn.old conn.new result }
+    // on an honest disk, 31 says the least rule that the rows break, where they are full and the newest
+    // version's
     ensures damaged { RowsBreak S.Store conn.old conn.new result
         (IsBrokenWhereFull newest) }
+    // on an honest disk, in the newest schema, 30 says the other version that the database tells
     ensures versioned { HasCleanDisk (state S.Store conn.new) → IfErr result (λ e. (n : ℤ)
         → e ≡ OpenFault.WrongSchema n
         → (state S.Store conn.old).now.schema ≡ newest_schema
         → IsOtherVersion (state S.Store conn.old).now n) }
+    // on an honest disk, 33 comes to a vault's tables with full rows only where one isn't read or a rowid
+    // comes twice
     ensures unread { TellsUnread S.Store conn.old conn.new result }
-    ensures sees { LeavesSeen S.Store conn.old conn.new result
+    // on an honest disk, after 30 and 31 the connection sees what it saw, where the schema is the newest
+    ensures unchanged { LeavesSeen S.Store conn.old conn.new result
         ((state S.Store conn.old).now.schema ≡ newest_schema) }
-    ensures quiet { IsQuiet (state S.Store conn.old) (state S.Store conn.new) }
+    // in the newest schema, on an honest disk, a crash leaves nothing new; no doubt goes away, and no
+    // transaction begins
+    ensures nothing_new { IsQuiet (state S.Store conn.old) (state S.Store conn.new) }
 {
     match verdict(alloc, conn, NEWEST) {
         Ok(it) => Ok(it.sizes),

@@ -18,7 +18,9 @@ use vault_schema::v1::shape::has_version;
 
 /// The refusal by another version that these rows say; else this one.
 fn told_by(versions: &[RawVersion], refusal: OpenFault) -> OpenFault
+    // where the rows tell another version, it is 30 with that one
     ensures other { (n : ℤ) → other_version versions.now ≡ Some n → result ≡ OpenFault.WrongSchema n }
+    // where they tell no other, it is the refusal that is handed in
     ensures this { other_version versions.now ≡ None → result ≡ refusal }
 {
     match other_version(versions) {
@@ -33,14 +35,21 @@ pub fn version_or<S: Alter>(
     conn: &mut Connection<S>,
     refusal: OpenFault,
 ) -> OpenFault
+    // where the schema has no version, it is the refusal that is handed in, and nothing changes
     ensures none { ¬ HasVersion (state S.Store conn.old).now.schema
         → (result ≡ refusal) × (conn.new ≡ conn.old) }
+    // on an honest disk, 30 or 31 is another version that is told, or where none is, the refusal that is
+    // handed in
     ensures told { HasCleanDisk (state S.Store conn.new) → IsJudged result
         → TellsVersion (state S.Store conn.old).now refusal result }
+    // where the refusal that is handed in isn't 31, this isn't
     ensures undamaged { IsNoDamage refusal → IsNoDamage result }
-    ensures sees { HasCleanDisk (state S.Store conn.new) → HasVersion (state S.Store conn.old).now.schema
+    // on an honest disk, after 30 and 31 the connection sees what it saw, where the schema has a version
+    ensures unchanged { HasCleanDisk (state S.Store conn.new) → HasVersion (state S.Store conn.old).now.schema
         → IsJudged result → IsUnchanged (state S.Store conn.old) (state S.Store conn.new) }
-    ensures quiet { IsStillVersioned S.Store conn.old conn.new }
+    // in a schema with a version, on an honest disk, a crash leaves nothing new; no doubt goes away, and no
+    // transaction begins
+    ensures nothing_new { IsStillVersioned S.Store conn.old conn.new }
 {
     if !has_version(conn.schema()) {
         return refusal;

@@ -27,12 +27,18 @@ impl Error for WriteFailed {}
 /// Writes the bytes in order, and doesn't flush. After a failure a beginning of them is out, and
 /// not all; nothing is where the writer had failed before.
 pub fn send<W: Write>(writer: &mut Watched<W>, bytes: &[u8]) -> Result<(), WriteFailed>
+    // with Ok, the bytes stand behind what the writer held, where that is known
     ensures ok { let old = W.contents (inner_of writer.old) in let new = W.contents (inner_of writer.new) in
         OnOk result (Appends old new bytes.now) }
+    // with Err, a beginning of the bytes, and not all, stands behind what the writer held, where that is
+    // known
     ensures err { let old = W.contents (inner_of writer.old) in let new = W.contents (inner_of writer.new) in
         OnErr result ((n : ℕ) × (n < length bytes.now) × Appends old new (take n bytes.now)) }
+    // after Err the writer has failed
     ensures failed { OnErr result (is_stopped writer.new ≡ true) }
+    // with Ok, whether the writer has failed stays as it was
     ensures goes { OnOk result (is_stopped writer.new ≡ is_stopped writer.old) }
+    // where the writer had failed and there are bytes, it is an Err, and the writer stays as it was
     ensures refused { is_stopped writer.old ≡ true → 0 < length bytes.now
         → IsErr result × (writer.new ≡ writer.old) }
 {

@@ -20,6 +20,7 @@ impl<T> Watched<T> {
     /// One that has not failed.
     pub fn new(inner: T) -> Watched<T>
         ensures inner { inner_of result ≡ inner }
+        // it hasn't failed
         ensures fresh { is_stopped result ≡ false }
     {
         Watched {
@@ -40,11 +41,17 @@ impl<R: Read> Read for Watched<R> {
     ghost remaining = { λ w. R.remaining w.inner };
 
     fn read(&mut self, buf: &mut [u8]) -> io::Result<usize>
+        // no more bytes are read than there is room for
         ensures bound { ReadsAtMost result buf.new }
+        // the bytes that are read are those that the reader underneath gave up, where they are known; with
+        // Err it gave up none
         ensures bytes { let old = R.remaining self.old.inner in let new = R.remaining self.new.inner in
             ReadConsumes old new result buf.new }
+        // it has failed exactly after an Err
         ensures flag { self.new.stopped ≡ is_err result }
+        // with Ok, it hadn't failed before
         ensures ok { OnOk result (self.old.stopped ≡ false) }
+        // one that had failed reads nothing, and stays as it was
         ensures refused { self.old.stopped ≡ true → (self.new ≡ self.old) × (buf.new ≡ buf.old) }
     {
         if self.stopped {
@@ -60,11 +67,17 @@ impl<W: Write> Write for Watched<W> {
     ghost contents = { λ w. W.contents w.inner };
 
     fn write(&mut self, buf: &[u8]) -> io::Result<usize>
+        // no more bytes are taken than there are
         ensures bound { WritesAtMost result buf.now }
+        // the bytes taken stand behind what the writer underneath held, where that is known; with Err that
+        // stays
         ensures bytes { let old = W.contents self.old.inner in let new = W.contents self.new.inner in
             WriteAppends old new result buf.now }
+        // it has failed exactly where the write took none of some bytes or was an Err
         ensures flag { self.new.stopped ≡ tells_failure (length buf.now) result }
+        // with Ok, it hadn't failed before
         ensures ok { OnOk result (self.old.stopped ≡ false) }
+        // one that had failed stays as it was
         ensures refused { self.old.stopped ≡ true → self.new ≡ self.old }
     {
         if self.stopped {
@@ -79,9 +92,13 @@ impl<W: Write> Write for Watched<W> {
     }
 
     fn flush(&mut self) -> io::Result<()>
+        // what the writer underneath holds stays, where it is known
         ensures bytes { Keeps (W.contents self.old.inner) (W.contents self.new.inner) }
+        // it has failed exactly after an Err
         ensures flag { self.new.stopped ≡ is_err result }
+        // with Ok, it hadn't failed before
         ensures ok { OnOk result (self.old.stopped ≡ false) }
+        // one that had failed stays as it was
         ensures refused { self.old.stopped ≡ true → self.new ≡ self.old }
     {
         if self.stopped {

@@ -9,7 +9,9 @@ use std::alloc::{AllocError, Global};
 
 /// A text that must stand at its place.
 pub(crate) fn text<'a>(alloc: Global, id: &'a str, help: &'a str) -> Arg<'a>
+    // it is a text that must be there
     ensures rule { rule_of result ≡ text_rule id.entry.now }
+    // it doesn't go down to subcommands
     ensures local { result.global ≡ false }
 {
     Arg::new(alloc, id)
@@ -20,7 +22,9 @@ pub(crate) fn text<'a>(alloc: Global, id: &'a str, help: &'a str) -> Arg<'a>
 
 /// A whole number that must stand at its place.
 pub(crate) fn number<'a>(alloc: Global, id: &'a str, help: &'a str) -> Arg<'a>
+    // it is a whole number of 64 bits that must be there
     ensures rule { rule_of result ≡ number_rule id.entry.now }
+    // it doesn't go down to subcommands
     ensures local { result.global ≡ false }
 {
     text(alloc, id, help).value_parser(value_parser!(u64))
@@ -28,7 +32,9 @@ pub(crate) fn number<'a>(alloc: Global, id: &'a str, help: &'a str) -> Arg<'a>
 
 /// A text behind `--` and its name, which may be left out.
 pub(crate) fn text_after<'a>(alloc: Global, id: &'a str, value: &'a str, help: &'a str) -> Arg<'a>
+    // it is a text behind `--` and its name, or left out
     ensures rule { rule_of result ≡ text_option id.entry.now }
+    // it doesn't go down to subcommands
     ensures local { result.global ≡ false }
 {
     text(alloc, id, help)
@@ -39,7 +45,9 @@ pub(crate) fn text_after<'a>(alloc: Global, id: &'a str, value: &'a str, help: &
 
 /// A whole number behind `--` and its name, which may be left out.
 pub(crate) fn number_after<'a>(alloc: Global, id: &'a str, value: &'a str, help: &'a str) -> Arg<'a>
+    // it is a whole number of 64 bits behind `--` and its name, or left out
     ensures rule { rule_of result ≡ number_option id.entry.now }
+    // it doesn't go down to subcommands
     ensures local { result.global ≡ false }
 {
     text_after(alloc, id, value, help).value_parser(value_parser!(u64))
@@ -47,7 +55,9 @@ pub(crate) fn number_after<'a>(alloc: Global, id: &'a str, value: &'a str, help:
 
 /// A word `--` and its name, which may be left out.
 pub(crate) fn flag<'a>(alloc: Global, id: &'a str, help: &'a str) -> Arg<'a>
+    // it is the word `--` and its name, or left out
     ensures rule { rule_of result ≡ flag_rule id.entry.now }
+    // it doesn't go down to subcommands
     ensures local { result.global ≡ false }
 {
     Arg::new(alloc, id)
@@ -58,7 +68,9 @@ pub(crate) fn flag<'a>(alloc: Global, id: &'a str, help: &'a str) -> Arg<'a>
 
 /// The moment.
 pub(crate) fn now<'a>(alloc: Global) -> Arg<'a>
+    // it is `--now` with a whole number of 64 bits, or left out
     ensures rule { rule_of result ≡ now_rule }
+    // it doesn't go down to subcommands
     ensures local { result.global ≡ false }
 {
     number_after(
@@ -71,7 +83,9 @@ pub(crate) fn now<'a>(alloc: Global) -> Arg<'a>
 
 /// The end of a right.
 pub(crate) fn until<'a>(alloc: Global) -> Arg<'a>
+    // it is `--until` with a whole number of 64 bits, or left out
     ensures rule { rule_of result ≡ until_rule }
+    // it doesn't go down to subcommands
     ensures local { result.global ≡ false }
 {
     number_after(
@@ -84,7 +98,9 @@ pub(crate) fn until<'a>(alloc: Global) -> Arg<'a>
 
 /// How many digits masks show at the left, at most.
 pub(crate) fn lead<'a>(alloc: Global) -> Arg<'a>
+    // it is `--lead` with a whole number of 64 bits, or left out
     ensures rule { rule_of result ≡ lead_rule }
+    // it doesn't go down to subcommands
     ensures local { result.global ≡ false }
 {
     number_after(
@@ -97,7 +113,9 @@ pub(crate) fn lead<'a>(alloc: Global) -> Arg<'a>
 
 /// The digits that stand for drawn ones.
 pub(crate) fn digits<'a>(alloc: Global) -> Arg<'a>
+    // it is `--digits` with a text, or left out
     ensures rule { rule_of result ≡ digits_rule }
+    // it doesn't go down to subcommands
     ensures local { result.global ≡ false }
 {
     text_after(
@@ -110,7 +128,9 @@ pub(crate) fn digits<'a>(alloc: Global) -> Arg<'a>
 
 /// The file of a vault.
 pub(crate) fn file<'a>(alloc: Global) -> Arg<'a>
+    // it is the text FILE, which must be there
     ensures rule { rule_of result ≡ text_rule (codes "FILE") }
+    // it doesn't go down to subcommands
     ensures local { result.global ≡ false }
 {
     text(
@@ -129,6 +149,7 @@ pub(crate) fn command<'a>(alloc: Global, name: &'a str, about: &'a str) -> Comma
 
 /// The command with notes, which help has behind its words.
 pub(crate) fn with_notes<'a>(command: Command<'a>, notes: &'a str) -> Command<'a>
+    // to the rules of its words it is the same command
     ensures { (a : App) → IsApp command.entry a → IsApp result a }
 {
     command.after_help(notes)

@@ -14,7 +14,9 @@ fn are_digits(text: &[u8]) -> bool
 
 /// The drawing that a text of 1 to 300 digits stands for: they are repeated until there are 300.
 pub fn drawn(text: &[u8]) -> Option<Digits>
+    // a drawing is given exactly for 1 to 300 digits
     ensures some { IsSome result ↔ IsDigitText text.now }
+    // it is the text's digits, repeated until there are 300
     ensures value { IfSome result (λ digits. digits ≡ repeated 300 text.now) }
 {
     if text.is_empty() || text.len() > DRAWN_DIGITS || !are_digits(text) {

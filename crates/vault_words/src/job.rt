@@ -30,6 +30,8 @@ fn asked_by<'a>(matches: &ArgMatches<'a>) -> Result<Job<'a>, BadValue<'a>>
 
 /// What a refusal of the words comes to.
 fn fault_of(alloc: Global, error: &Error) -> JobFault
+    // help or the version where its kind is that, Memory where it is want of memory or help, else bad words
+    // in few digits
     ensures { StandsFor (kind_of error.now) result }
 {
     match error.kind() {
@@ -45,6 +47,7 @@ fn fault_of(alloc: Global, error: &Error) -> JobFault
 
 /// The job that words ask for. The first of them is the program's name, as in `env::args`.
 pub fn job<'a, S: AsStr>(alloc: Global, words: &'a [S]) -> Result<Job<'a>, JobFault>
+    // Ok is the job that the words ask for; Err says why they ask for none, or that memory was refused
     ensures { MatchResult result
         (IsAsked program_app (map S.text words.now))
         (Explains program_app (map S.text words.now)) }

@@ -26,6 +26,7 @@ fn digits_in(text: &[u8]) -> usize
 
 /// The text, where it shows few digits; else an empty one, as where there was no memory for it.
 fn shown(alloc: Global, text: Result<String, AllocError>) -> String
+    // it shows fewer than ten digits, too few for a card number
     ensures { HasFewDigits (string_bytes result) }
 {
     match text {
@@ -43,6 +44,7 @@ fn value_line(alloc: Global, value: &BadValue<'_>) -> Result<String, AllocError>
 
 /// What is wrong with a value.
 pub(crate) fn of_value(alloc: Global, value: &BadValue<'_>) -> String
+    // it shows fewer than ten digits, too few for a card number
     ensures { HasFewDigits (string_bytes result) }
 {
     shown(alloc, value_line(alloc, value))
@@ -70,6 +72,7 @@ fn error_lines(alloc: Global, error: &Error) -> Result<String, AllocError> {
 
 /// What is wrong with the words.
 pub(crate) fn of_error(alloc: Global, error: &Error) -> String
+    // it shows fewer than ten digits, too few for a card number
     ensures { HasFewDigits (string_bytes result) }
 {
     shown(alloc, error_lines(alloc, error))

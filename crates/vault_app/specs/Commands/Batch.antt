@@ -17,5 +17,5 @@ IsBatchOf j world t = (IsName j.caller.now × IsName j.merchant.now)
 -- it is refused by 4 for a name that is none
 abbrev pub batch_says : BatchJob → Saying
 batch_says j = record (quiet (OfTask j.file (IsBatchOf j))) {
-  refused = λ n. (n ≡ 4) × ¬ (IsName j.caller.now × IsName j.merchant.now);
+  refused = λ world n. (n ≡ 4) × ¬ (IsName j.caller.now × IsName j.merchant.now);
 }

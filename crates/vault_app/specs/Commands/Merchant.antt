@@ -20,6 +20,6 @@ IsSettingOf j world t = IsName j.name.now × ((now : ℕ) × IsMomentOf world.te
 abbrev pub merchant_says : MerchantJob → Saying
 merchant_says j = record (quiet (OfTask j.file (IsSettingOf j))) {
   lives = IsLife j.single_life × IsLife j.multi_life;
-  refused = λ n. (n ≡ 4) × ¬ (IsName j.name.now);
+  refused = λ world n. (n ≡ 4) × ¬ (IsName j.name.now);
   needs_moment = j.now ≡ None;
 }

@@ -22,7 +22,7 @@ IsGrantOf j world t = AreNames j.given
 -- it is refused by 4 for a name that is none, and by 71 for a right that is none
 abbrev pub grant_says : GrantJob → Saying
 grant_says j = record (quiet (OfTask j.given.file (IsGrantOf j))) {
-  refused = IsMisnamed j.given;
+  refused = λ world n. IsMisnamed j.given n;
   needs_moment = j.given.now ≡ None;
 }
 
@@ -35,6 +35,6 @@ IsWithdrawalOf j world t = AreNames j
 -- it is refused as a grant is
 abbrev pub withdraw_says : RightJob → Saying
 withdraw_says j = record (quiet (OfTask j.file (IsWithdrawalOf j))) {
-  refused = IsMisnamed j;
+  refused = λ world n. IsMisnamed j n;
   needs_moment = j.now ≡ None;
 }

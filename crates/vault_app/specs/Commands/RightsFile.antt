@@ -23,10 +23,10 @@ abbrev pub IsTaskOfList : RightsFileJob → World → Task → Type 0
 IsTaskOfList j world t = (rows : Vec Row) × (now : ℕ) × IsListed (world.says j.rights.now) rows.items
     × IsMomentOf world.tells j.now now × (t ≡ rights_task j rows now)
 
--- it is refused for the text of its list
+-- it is refused for a text of the file of its list
 abbrev pub rights_says : RightsFileJob → Saying
 rights_says j = record (quiet (OfTask j.file (IsTaskOfList j))) {
-  refused = IsRefusedText;
+  refused = λ world n. IsRefusedText (world.says j.rights.now) n;
   needs_moment = j.now ≡ None;
   has_list = Unit {0};
 }

@@ -23,11 +23,16 @@ IsServeOf world port connections (Some path) t = (rows : Vec Row) × (now : ℕ)
     × IsListed (world.says path.now) rows.items × IsMomentOf world.tells None now
     × (t ≡ task.Serve port connections (Some (record { rights = rows; now = now })))
 
--- it is refused for the text of its list, where it has one, and needs a moment only then
+-- a text of the file of its list names no rights, where it has one
+abbrev pub IsRefusedAt : World → Option (Bor (List ℕ)) → ℕ → Type 0
+IsRefusedAt world None n = ⊥
+IsRefusedAt world (Some path) n = IsRefusedText (world.says path.now) n
+
+-- it is refused for a text of the file of its list, where it has one, and needs a moment only then
 abbrev pub serve_says : ServeJob → Saying
 serve_says j = record (quiet (OfTask j.file
     (λ world t. IsServeOf world j.port (unwrap_or j.connections without_end) j.rights t))) {
-      refused = λ n. IsSome j.rights × IsRefusedText n;
+      refused = λ world n. IsRefusedAt world j.rights n;
       needs_moment = IsSome j.rights;
       has_list = IsSome j.rights;
     }

@@ -18,6 +18,6 @@ IsSweepOf j world t = (IsName j.caller.now × IsName j.merchant.now)
 -- it is refused by 4 for a name that is none
 abbrev pub sweep_says : SweepJob → Saying
 sweep_says j = record (quiet (OfTask j.file (IsSweepOf j))) {
-  refused = λ n. (n ≡ 4) × ¬ (IsName j.caller.now × IsName j.merchant.now);
+  refused = λ world n. (n ≡ 4) × ¬ (IsName j.caller.now × IsName j.merchant.now);
   needs_moment = j.now ≡ None;
 }

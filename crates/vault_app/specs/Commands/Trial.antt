@@ -30,7 +30,7 @@ pub record IsTrialOf (world : World) (j : TrialJob) (t : Asked) : Type 0 where
 abbrev pub trial_says : TrialJob → Saying
 trial_says j = record (quiet (OfTrial (λ world t. IsTrialOf world j t))) {
   lives = IsLife j.life;
-  refused = λ n. (n ≡ 4) × ¬ (IsName j.caller.now × IsName j.merchant.now);
+  refused = λ world n. (n ≡ 4) × ¬ (IsName j.caller.now × IsName j.merchant.now);
   needs_moment = j.now ≡ None;
 }
 

@@ -13,8 +13,10 @@ use vault_words::commands::batch::BatchJob;
 
 /// Rows are answered in a caller's name at a merchant. Refused by 4 where a name is none.
 pub(crate) fn task(job: &BatchJob<'_>) -> Result<Task, Ending>
+    // Ok is the task that the words ask for; Err is how the job may end without a plan
     ensures task { MatchResult result
-        (IsTaskOf untold (Job.Batch job.entry.now)) (EndsBefore (Job.Batch job.entry.now)) }
+        (IsTaskOf untold (Job.Batch job.entry.now)) (EndsBefore untold (Job.Batch job.entry.now)) }
+    // with Ok, the parts of the task are values of their types
     ensures proper { IfOk result AreValues }
 {
     match asker_of(job.caller, job.merchant) {

@@ -10,7 +10,9 @@ use vault_words::commands::list::ListJob;
 
 /// The merchants and the rights are said, in words or as JSON objects.
 pub(crate) fn task(job: &ListJob<'_>) -> Task
+    // it is the task that the words ask for
     ensures task { IsTaskOf untold (Job.List job.entry.now) result }
+    // the parts of the task are values of their types
     ensures proper { AreValues result }
 {
     if job.json {

@@ -18,11 +18,15 @@ use vault_words::commands::merchant::MerchantJob;
 /// A merchant is set. Refused by 4 where the name is none, and when it is done by 18 where there are as many
 /// merchants as there may be.
 pub(crate) fn task<K: Timekeeper>(time: &K, job: &MerchantJob<'_>) -> Result<Task, Ending>
+    // the life of single-use tokens is in range
     requires single { IsLife job.now.single_life }
+    // the life of multi-use tokens is in range
     requires multi { IsLife job.now.multi_life }
+    // Ok is the task that the words ask for; Err is how the job may end without a plan
     ensures task { MatchResult result
         (IsTaskOf (told (K.tells time.now)) (Job.Merchant job.entry.now))
-        (EndsBefore (Job.Merchant job.entry.now)) }
+        (EndsBefore (told (K.tells time.now)) (Job.Merchant job.entry.now)) }
+    // with Ok, the parts of the task are values of their types
     ensures proper { IfOk result AreValues }
 {
     let Ok(merchant) = MerchantId::read(job.name.as_bytes()) else {

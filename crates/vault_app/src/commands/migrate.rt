@@ -13,7 +13,10 @@ use vault_wire::watched::Watched;
 
 /// Says which schema a file has now, the newest; or ends as the file isn't opened.
 pub(crate) fn tell_moved<W: Write>(moved: Result<i64, NotOpened>, output: &mut Watched<W>) -> Ending
+    // with Ok, the version is the newest
     requires { IfOk moved (λ version. version ≡ number_of newest) }
+    // with Ok, the line of the newest schema went out, or the writer failed; with Err, it ends by that, and
+    // nothing went out
     ensures { TellsMoved moved result (output.new ≡ output.old) (W.contents (inner_of output.old))
         (W.contents (inner_of output.new)) (is_stopped output.new) }
 {

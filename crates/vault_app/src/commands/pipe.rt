@@ -10,7 +10,9 @@ use vault_words::commands::pipe::PipeJob;
 
 /// Messages are answered, with the moment and the digits that the words fix.
 pub(crate) fn task(job: &PipeJob<'_>) -> Task
+    // it is the task that the words ask for
     ensures task { IsTaskOf untold (Job.Pipe job.entry.now) result }
+    // the parts of the task are values of their types
     ensures proper { AreValues result }
 {
     Task::Pipe(fixed_moment(job.now), fixed_digits(job.digits))

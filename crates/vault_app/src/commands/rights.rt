@@ -28,7 +28,9 @@ struct Entitlement {
 
 /// The names and the right of the words, or the number of their refusal.
 fn read(job: &RightJob<'_>) -> Result<Entitlement, u8>
+    // with Ok both names are names; Err is 4 where one isn't, and else 71 where the word is no right's
     ensures names { MatchResult result (λ _. AreNames job.entry.now) (IsMisnamed job.entry.now) }
+    // with Ok, the names and the right are those of the words
     ensures value { IfOk result (λ asked. (asked.caller ≡ job.entry.now.caller.now)
         × (asked.merchant ≡ job.entry.now.merchant.now)
         × (job.entry.now.right.now ≡ right_word asked.right)) }
@@ -52,9 +54,11 @@ fn read(job: &RightJob<'_>) -> Result<Entitlement, u8>
 /// A caller gets a right at a merchant, up to an end or for good. Refused by 4 where a name is none, by 71
 /// where the right is none, and when it is done by 7 where the merchant isn't known.
 pub(crate) fn grant<K: Timekeeper>(time: &K, job: &GrantJob<'_>) -> Result<Task, Ending>
+    // Ok is the task that the words ask for; Err is how the job may end without a plan
     ensures task { MatchResult result
         (IsTaskOf (told (K.tells time.now)) (Job.Grant job.entry.now))
-        (EndsBefore (Job.Grant job.entry.now)) }
+        (EndsBefore (told (K.tells time.now)) (Job.Grant job.entry.now)) }
+    // with Ok, the parts of the task are values of their types
     ensures proper { IfOk result AreValues }
 {
     let asked = match read(&job.given) {
@@ -76,9 +80,11 @@ pub(crate) fn grant<K: Timekeeper>(time: &K, job: &GrantJob<'_>) -> Result<Task,
 
 /// A right of a caller at a merchant is taken away. Refused as a grant is.
 pub(crate) fn withdraw<K: Timekeeper>(time: &K, job: &RightJob<'_>) -> Result<Task, Ending>
+    // Ok is the task that the words ask for; Err is how the job may end without a plan
     ensures task { MatchResult result
         (IsTaskOf (told (K.tells time.now)) (Job.Withdraw job.entry.now))
-        (EndsBefore (Job.Withdraw job.entry.now)) }
+        (EndsBefore (told (K.tells time.now)) (Job.Withdraw job.entry.now)) }
+    // with Ok, the parts of the task are values of their types
     ensures proper { IfOk result AreValues }
 {
     let asked = match read(job) {

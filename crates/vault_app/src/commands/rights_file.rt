@@ -1,5 +1,5 @@
 //! `rights`: the rights that a file lists.
-ghost use Rattle.std.specs.Prelude.{◌≡◌, ◌≢◌, IfErr, IfOk, MatchResult};
+ghost use Rattle.std.specs.Prelude.{◌≡◌, IfErr, IfOk, MatchResult};
 ghost use Rattle.vault_words.specs.declared.jobs.Job.{Job};
 ghost use Rattle.vault_app.specs.World.{said};
 ghost use Rattle.vault_app.specs.Plans.{EndsBefore, IsTaskOf};
@@ -14,23 +14,12 @@ use vault_file::paths::Paths;
 use vault_jobs::changes::ListedRight;
 use vault_jobs::clock::moment;
 use vault_jobs::show::Shown;
-use vault_jobs::stop::{Stop, Unread};
+use vault_jobs::stop::Stop;
 use vault_jobs::task::Task;
 use vault_listen::time::Timekeeper;
 use vault_rights::fault::RightsFault;
 use vault_rights::read::read_rights;
 use vault_words::commands::rights_file::RightsFileJob;
-
-/// Why a file isn't read that the host refuses so.
-fn why_unread(kind: ErrorKind) -> Unread
-    ensures memory { kind ≡ ErrorKind.OutOfMemory → result ≡ Unread.Memory }
-    ensures refused { kind ≢ ErrorKind.OutOfMemory → result ≡ Unread.File }
-{
-    match kind {
-        ErrorKind::OutOfMemory => Unread::Memory,
-        _ => Unread::File,
-    }
-}
 
 /// The rights that a file lists, or how the job ends without them: refused by 70 to 73 or 75, or stopped by
 /// 74 or, where the file can't be read, by 80.
@@ -39,16 +28,19 @@ pub(crate) fn read<P: Paths>(
     paths: &P,
     path: &str,
 ) -> Result<Vec<ListedRight>, Ending>
+    // with Ok, the rows are the rights that a text of the file names, in order and each once, with its latest
+    // end
     ensures listed { IfOk result (λ rows. IsListed (P.says paths.now path.now) rows.items) }
-    ensures unlisted { IfErr result IsUnlisted }
+    // with Err, it ends by the refusal of a text of the file, or by a stop, since no text was read
+    ensures unlisted { IfErr result (IsUnlisted (P.says paths.now path.now)) }
 {
     let text = match paths.read(rt, path) {
         Ok(text) => text,
-        Err(error) => return Err(Ending::Stopped(Stop::Rights(why_unread(error.kind())))),
+        Err(error) => return Err(Ending::Stopped(Stop::Rights(error.kind()))),
     };
     match read_rights(rt.alloc(), &text) {
         Ok(rows) => Ok(rows),
-        Err(RightsFault::Memory) => Err(Ending::Stopped(Stop::Rights(Unread::Memory))),
+        Err(RightsFault::Memory) => Err(Ending::Stopped(Stop::Rights(ErrorKind::OutOfMemory))),
         Err(fault) => Err(Ending::Refused(fault.refusal().number())),
     }
 }
@@ -75,9 +67,11 @@ pub(crate) fn task<P: Paths, K: Timekeeper>(
     time: &K,
     job: &RightsFileJob<'_>,
 ) -> Result<Task, Ending>
+    // Ok is the task that the words ask for; Err is how the job may end without a plan
     ensures task { MatchResult result
         (IsTaskOf (said (K.tells time.now) (P.says paths.now)) (Job.Rights job.entry.now))
-        (EndsBefore (Job.Rights job.entry.now)) }
+        (EndsBefore (said (K.tells time.now) (P.says paths.now)) (Job.Rights job.entry.now)) }
+    // with Ok, the parts of the task are values of their types
     ensures proper { IfOk result AreValues }
 {
     let rows = read(rt, paths, job.rights)?;

@@ -25,9 +25,12 @@ fn listed<P: Paths, K: Timekeeper>(
     time: &K,
     path: &str,
 ) -> Result<Listed, Ending>
+    // with Ok, a text of the file names the rights, and the moment was told; they are values of their types
     ensures listed { IfOk result
         (AreListedAt (said (K.tells time.now) (P.says paths.now)) path.now) }
-    ensures unlisted { IfErr result EndsUnlisted }
+    // with Err, it ends for want of a list or of a moment
+    ensures unlisted { IfErr result
+        (EndsUnlisted (said (K.tells time.now) (P.says paths.now)) path.now) }
 {
     let rights = read(rt, paths, path)?;
     match moment(time, None) {
@@ -45,9 +48,11 @@ pub(crate) fn task<P: Paths, K: Timekeeper>(
     time: &K,
     job: &ServeJob<'_>,
 ) -> Result<Task, Ending>
+    // Ok is the task that the words ask for; Err is how the job may end without a plan
     ensures task { MatchResult result
         (IsTaskOf (said (K.tells time.now) (P.says paths.now)) (Job.Serve job.entry.now))
-        (EndsBefore (Job.Serve job.entry.now)) }
+        (EndsBefore (said (K.tells time.now) (P.says paths.now)) (Job.Serve job.entry.now)) }
+    // with Ok, the parts of the task are values of their types
     ensures proper { IfOk result AreValues }
 {
     let connections = job.connections.unwrap_or(WITHOUT_END);

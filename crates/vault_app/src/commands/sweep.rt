@@ -16,9 +16,11 @@ use vault_words::commands::sweep::SweepJob;
 /// done by 8 where a token is dead and the caller may not purge; and by 81 where the words fix no moment and
 /// the merchant's is far ahead of the clock's.
 pub(crate) fn task<K: Timekeeper>(time: &K, job: &SweepJob<'_>) -> Result<Task, Ending>
+    // Ok is the task that the words ask for; Err is how the job may end without a plan
     ensures task { MatchResult result
         (IsTaskOf (told (K.tells time.now)) (Job.Sweep job.entry.now))
-        (EndsBefore (Job.Sweep job.entry.now)) }
+        (EndsBefore (told (K.tells time.now)) (Job.Sweep job.entry.now)) }
+    // with Ok, the parts of the task are values of their types
     ensures proper { IfOk result AreValues }
 {
     let asker = match asker_of(job.caller, job.merchant) {

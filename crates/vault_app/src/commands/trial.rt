@@ -21,9 +21,12 @@ use vault_words::commands::trial::TrialJob;
 
 /// What the trial is asked with. Refused by 4 where a name is none.
 pub(crate) fn plan<K: Timekeeper>(time: &K, job: &TrialJob<'_>) -> Result<Trial, Ending>
+    // the life of single-use tokens is in range
     requires { IsLife job.now.life }
+    // Ok is the trial that the words ask for; Err is how the job may end without a plan
     ensures trial { MatchResult result (IsTrialOf (told (K.tells time.now)) job.entry.now)
-        (EndsBefore (Job.Trial job.entry.now)) }
+        (EndsBefore (told (K.tells time.now)) (Job.Trial job.entry.now)) }
+    // with Ok, the life of single-use tokens is in range
     ensures life { IfOk result (λ trial. IsLife trial.life) }
 {
     let Ok(caller) = Caller::read(job.caller.as_bytes()) else {
@@ -54,7 +57,10 @@ pub(crate) fn serve<K: Timekeeper, R: Read, W: Write>(
     input: &mut Watched<R>,
     output: &mut Watched<W>,
 ) -> Ending
+    // the life of single-use tokens is in range
     requires { IsLife trial.now.life }
+    // with Done, the messages are answered as in a trial; at a stop, which Store never is, a beginning of the
+    // answers went out
     ensures { let s : Streams = streams R.remaining input.old input.new W.contents output.old output.new in
         TrialEnds (K.tells time.now) trial.now result s }
 {

@@ -1,6 +1,7 @@
 //! Worked messages, byte for byte, and what is refused.
-use super::running::{ASKED, FIRST_TOKEN, answer, trial};
+use super::running::{answer, trial};
 use std::alloc::Global;
+use vault_script::worked::{ANSWERED, ASKED};
 
 /// The body of the worked message's answer.
 const TOKEN: &str = "{\"expires\":1060,\"token\":\"0000000000001111\"}";
@@ -23,7 +24,7 @@ fn answers(rt: &HostRuntime, digits: &str, asked: &[u8], wanted: &str) -> bool {
 
 #[test]
 fn the_worked_message_is_answered_byte_for_byte(rt: HostRuntime) {
-    assert!(rt; ASKED.len() == 165 && answers(&rt, "0", ASKED.as_bytes(), FIRST_TOKEN));
+    assert!(rt; ASKED.len() == 165 && answers(&rt, "0", ASKED.as_bytes(), ANSWERED));
 }
 
 /// Digits, a number, and the status line and the body that it is answered with.

@@ -1,5 +1,5 @@
 //! Batches on files, and the same ones over ordered maps.
-use super::running::{HAS_LOG, Step, end_so, is_folder_made, is_missing};
+use super::running::{HAS_LOG, Input, Output, Step, are_done, end_so, is_folder_made, is_missing};
 use std::alloc::Global;
 use std::io::{Read, Write};
 use vault_batch::asker::Asker;
@@ -8,8 +8,7 @@ use vault_core::name::{Caller, MerchantId};
 use vault_core::source::FixedSource;
 use vault_jobs::batch::batch_input;
 use vault_pan::draw::Digits;
-use vault_script::case::wrong;
-use vault_store::memory::MemTables;
+use vault_script::case::filled;
 use vault_store::tables::Tables;
 use vault_store::vault::Vault;
 use vault_wire::watched::Watched;
@@ -42,22 +41,8 @@ const ANSWERED: &str = "request,answer,detail\n\
     5,0000000002222,1100\n";
 
 /// A shop with lives of 60 and 100, at which `till-1` may ask for tokens.
-const SHOP: [Step; 2] = [
-    (
-        "vault merchant --now 1000 FILE shop1 60 100",
-        "",
-        0,
-        "done\n",
-        "",
-    ),
-    (
-        "vault grant --now 1000 FILE till-1 shop1 tokenize",
-        "",
-        0,
-        "done\n",
-        "",
-    ),
-];
+const SHOP: &str = "vault merchant --now 1000 FILE shop1 60 100
+vault grant --now 1000 FILE till-1 shop1 tokenize";
 
 /// A batch that comes again is answered the tokens that stand.
 const AGAIN: [Step; 4] = [
@@ -88,7 +73,7 @@ const AGAIN: [Step; 4] = [
 #[test]
 fn a_batch_that_comes_again_is_answered_the_tokens_that_stand(rt: HostRuntime) {
     let file = "app_batch/vault.db";
-    assert!(rt; is_folder_made(&rt, "app_batch") && end_so(&rt, file, &SHOP));
+    assert!(rt; is_folder_made(&rt, "app_batch") && are_done(&rt, file, SHOP));
     assert!(rt; end_so(&rt, file, &AGAIN));
 }
 
@@ -135,7 +120,7 @@ const UNBATCHED: [Step; 6] = [
 #[test]
 fn what_is_no_batch_is_stopped_after_the_rows_before_it(rt: HostRuntime) {
     let file = "app_unbatched/vault.db";
-    assert!(rt; is_folder_made(&rt, "app_unbatched") && end_so(&rt, file, &SHOP));
+    assert!(rt; is_folder_made(&rt, "app_unbatched") && are_done(&rt, file, SHOP));
     assert!(rt; end_so(&rt, file, &UNBATCHED));
 }
 
@@ -172,14 +157,11 @@ fn lines_over_maps(alloc: Global, input: &str) -> Option<Vec<u8>> {
     let merchant = MerchantId::read(b"shop1").ok()?;
     let asker = Asker { caller, merchant };
     let source = FixedSource::new(now, Digits::new(&[0; 300])?, 100);
-    let mut vault = Vault::new(MemTables::new(alloc));
     let shop = "set shop1 60 100 1000 = done\ngrant till-1 shop1 tokenize 1000 = done";
-    if wrong(alloc, &mut vault, shop).as_str() != "answered" {
-        return None;
-    }
+    let mut vault = filled(alloc, shop)?;
     let mut output = Vec::new(alloc);
-    let mut reader = Watched::new(input.as_bytes());
-    let mut writer = Watched::new(&mut output);
+    let mut reader = Watched::new(Input::of(input.as_bytes()));
+    let mut writer = Watched::new(Output::to(&mut output));
     answer_rows(alloc, &mut reader, &mut writer, &mut vault, &asker, source);
     Some(output)
 }
@@ -204,6 +186,6 @@ const ROWS: [Step; 1] = [(
 #[test]
 fn plain_runs(rt: HostRuntime) {
     let file = "app_rows/vault.db";
-    assert!(rt; is_folder_made(&rt, "app_rows") && end_so(&rt, file, &SHOP));
+    assert!(rt; is_folder_made(&rt, "app_rows") && are_done(&rt, file, SHOP));
     assert!(rt; end_so(&rt, file, &ROWS) && are_answered_over_maps(rt.alloc()));
 }

@@ -1,38 +1,26 @@
 //! The program on files of the tests' own folders.
 use super::running::{
-    ASKED, FIRST_TOKEN, HAS_LOG, Step, answer, end_so, is_folder_made, is_missing, run_on, trial,
+    HAS_LOG, NOT_OPENED, SHOP, Step, answer, are_done, are_said, end_so, is_folder_made,
+    is_missing, run_on, trial,
 };
 use std::net::TcpListener;
 use std::{fs, io};
+use vault_script::worked::{ANSWERED, ASKED};
 
-/// A shop is set up, and a repeat answers its first token.
-const SHOP: [Step; 5] = [
-    (
-        "vault merchant --now 1000 FILE shop1 60 0",
-        "",
-        0,
-        "done\n",
-        "",
-    ),
-    (
-        "vault grant --now 1000 FILE till-1 shop1 tokenize",
-        "",
-        0,
-        "done\n",
-        "",
-    ),
+/// A repeat answers the first token of a shop.
+const REPEATED: [Step; 3] = [
     (
         "vault pipe --now 1000 --digits 0 FILE",
         ASKED,
         0,
-        FIRST_TOKEN,
+        ANSWERED,
         "",
     ),
     (
         "vault pipe --now 1050 --digits 7 FILE",
         ASKED,
         0,
-        FIRST_TOKEN,
+        ANSWERED,
         "",
     ),
     ("vault check FILE", "", 0, "sound 1 1 1\n", HAS_LOG),
@@ -40,27 +28,15 @@ const SHOP: [Step; 5] = [
 
 #[test]
 fn a_shop_is_set_up_and_a_repeat_answers_its_first_token(rt: HostRuntime) {
-    assert!(rt; is_folder_made(&rt, "app_shop") && end_so(&rt, "app_shop/vault.db", &SHOP));
+    let file = "app_shop/vault.db";
+    assert!(rt; is_folder_made(&rt, "app_shop") && are_done(&rt, file, SHOP));
+    assert!(rt; end_so(&rt, file, &REPEATED));
 }
 
 /// A right is given and withdrawn.
-const RIGHT: [Step; 3] = [
-    ("vault merchant FILE shop1 60 0", "", 0, "done\n", ""),
-    (
-        "vault grant FILE till-1 shop1 tokenize",
-        "",
-        0,
-        "done\n",
-        "",
-    ),
-    (
-        "vault withdraw FILE till-1 shop1 tokenize",
-        "",
-        0,
-        "done\n",
-        "",
-    ),
-];
+const RIGHT: &str = "vault merchant FILE shop1 60 0
+vault grant FILE till-1 shop1 tokenize
+vault withdraw FILE till-1 shop1 tokenize";
 
 /// Whether a message is answered by 403 at the clock's moment.
 fn is_forbidden(rt: &HostRuntime) -> bool {
@@ -75,7 +51,7 @@ fn is_forbidden(rt: &HostRuntime) -> bool {
 
 #[test]
 fn a_right_that_is_withdrawn_is_refused(rt: HostRuntime) {
-    assert!(rt; is_folder_made(&rt, "app_right") && end_so(&rt, "app_right/vault.db", &RIGHT));
+    assert!(rt; is_folder_made(&rt, "app_right") && are_done(&rt, "app_right/vault.db", RIGHT));
     assert!(rt; is_forbidden(&rt));
 }
 
@@ -92,22 +68,12 @@ const NO_RIGHT: &str =
     "HTTP/1.1 403 Forbidden\r\nContent-Type: application/json\r\nContent-Length: 13\r\n\r\n\
      {\"refused\":8}";
 
-/// A right is given up to an end, and then for good.
-const ENDING: [Step; 6] = [
-    (
-        "vault merchant --now 1000 FILE shop1 60 0",
-        "",
-        0,
-        "done\n",
-        "",
-    ),
-    (
-        "vault grant --now 1000 --until 2000 FILE back shop1 audit",
-        "",
-        0,
-        "done\n",
-        "",
-    ),
+/// A right is given up to an end.
+const GIVEN: &str = "vault merchant --now 1000 FILE shop1 60 0
+vault grant --now 1000 --until 2000 FILE back shop1 audit";
+
+/// It lasts up to its end, and is given for good then.
+const ENDING: [Step; 4] = [
     (
         "vault pipe --now 1999 --digits 0 FILE",
         COUNTS,
@@ -140,8 +106,9 @@ const ENDING: [Step; 6] = [
 
 #[test]
 fn a_right_lasts_up_to_its_end(rt: HostRuntime) {
-    assert!(rt; is_folder_made(&rt, "app_ending"));
-    assert!(rt; end_so(&rt, "app_ending/vault.db", &ENDING));
+    let file = "app_ending/vault.db";
+    assert!(rt; is_folder_made(&rt, "app_ending") && are_done(&rt, file, GIVEN));
+    assert!(rt; end_so(&rt, file, &ENDING));
 }
 
 /// A question for what the worked message's token stands for.
@@ -159,34 +126,18 @@ const SIX: &str = "HTTP/1.1 200 OK\r\nContent-Type: application/json\r\nContent-
      {\"birth\":1000,\"expires\":1060,\"masked\":\"411111******1111\",\"state\":\"live\",\
      \"use\":\"single\"}";
 
+/// A shop with a lead of eight digits.
+const LEADING: &str = "vault merchant --now 1000 --lead 8 FILE shop1 60 0
+vault grant --now 1000 FILE till-1 shop1 tokenize
+vault grant --now 1000 FILE till-1 shop1 view";
+
 /// A token is shown with the lead that its merchant has at the time.
-const LEADS: [Step; 8] = [
-    (
-        "vault merchant --now 1000 --lead 8 FILE shop1 60 0",
-        "",
-        0,
-        "done\n",
-        "",
-    ),
-    (
-        "vault grant --now 1000 FILE till-1 shop1 tokenize",
-        "",
-        0,
-        "done\n",
-        "",
-    ),
-    (
-        "vault grant --now 1000 FILE till-1 shop1 view",
-        "",
-        0,
-        "done\n",
-        "",
-    ),
+const LEADS: [Step; 5] = [
     (
         "vault pipe --now 1000 --digits 0 FILE",
         ASKED,
         0,
-        FIRST_TOKEN,
+        ANSWERED,
         "",
     ),
     ("vault pipe --now 1000 --digits 0 FILE", VIEW, 0, EIGHT, ""),
@@ -203,118 +154,58 @@ const LEADS: [Step; 8] = [
 
 #[test]
 fn a_token_is_shown_with_its_merchants_lead(rt: HostRuntime) {
-    assert!(rt; is_folder_made(&rt, "app_leads"));
-    assert!(rt; end_so(&rt, "app_leads/vault.db", &LEADS));
+    let file = "app_leads/vault.db";
+    assert!(rt; is_folder_made(&rt, "app_leads") && are_done(&rt, file, LEADING));
+    assert!(rt; end_so(&rt, file, &LEADS));
 }
 
 /// A file is made in the newest schema, and stays in it.
-const MIGRATED: [Step; 3] = [
-    ("vault migrate FILE", "", 0, "schema 4\n", ""),
-    ("vault migrate FILE", "", 0, "schema 4\n", ""),
-    ("vault check FILE", "", 0, "sound 0 0 0\n", HAS_LOG),
-];
+const MIGRATED: &str = "vault migrate FILE = schema 4
+vault migrate FILE = schema 4";
+
+/// It is an empty vault.
+const EMPTY: [Step; 1] = [("vault check FILE", "", 0, "sound 0 0 0\n", HAS_LOG)];
 
 #[test]
 fn a_new_file_has_the_newest_schema(rt: HostRuntime) {
-    assert!(rt; is_folder_made(&rt, "app_migrated"));
-    assert!(rt; end_so(&rt, "app_migrated/vault.db", &MIGRATED));
+    let file = "app_migrated/vault.db";
+    assert!(rt; is_folder_made(&rt, "app_migrated") && are_said(&rt, file, MIGRATED));
+    assert!(rt; end_so(&rt, file, &EMPTY));
 }
 
 /// Names and rights that are refused before the file.
-const MISNAMED: [Step; 5] = [
-    ("vault grant FILE Till shop1 view", "", 1, "refused 4\n", ""),
-    ("vault grant FILE till Shop1 view", "", 1, "refused 4\n", ""),
-    (
-        "vault grant FILE till shop1 veiw",
-        "",
-        1,
-        "refused 71\n",
-        "",
-    ),
-    ("vault withdraw FILE till  view", "", 1, "refused 4\n", ""),
-    ("vault merchant FILE Shop1 60 0", "", 1, "refused 4\n", ""),
+const MISNAMED: [&str; 5] = [
+    "vault grant FILE Till shop1 view = refused 4",
+    "vault grant FILE till Shop1 view = refused 4",
+    "vault grant FILE till shop1 veiw = refused 71",
+    "vault withdraw FILE till  view = refused 4",
+    "vault merchant FILE Shop1 60 0 = refused 4",
 ];
-
-/// A merchant that isn't known.
-const UNKNOWN: [Step; 1] = [(
-    "vault withdraw FILE till shop1 view",
-    "",
-    1,
-    "refused 7\n",
-    "",
-)];
 
 #[test]
 fn names_rights_and_merchants_are_refused_by_number(rt: HostRuntime) {
+    let file = "app_refused/vault.db";
     assert!(rt; is_folder_made(&rt, "app_refused"));
-    for step in MISNAMED {
-        let line = step.0;
+    for line in MISNAMED {
         assert!(rt;
-            end_so(&rt, "app_refused/vault.db", &[step]) && is_missing(&rt, "app_refused/vault.db"),
+            are_said(&rt, file, line) && is_missing(&rt, file),
             "{line}"
         );
     }
-    assert!(rt; end_so(&rt, "app_refused/vault.db", &UNKNOWN));
+    // a merchant that isn't known
+    assert!(rt; are_said(&rt, file, "vault withdraw FILE till shop1 view = refused 7"));
 }
 
-/// Files that are no vault.
-const OTHER: [Step; 8] = [
-    (
-        "vault check app_other",
-        "",
-        3,
-        "",
-        "vault: file not opened 34\n",
-    ),
-    (
-        "vault pipe app_other",
-        "",
-        3,
-        "",
-        "vault: file not opened 34\n",
-    ),
-    (
-        "vault check app_other/text",
-        "",
-        3,
-        "",
-        "vault: file not opened 34\n",
-    ),
-    (
-        "vault pipe app_other/text",
-        "",
-        3,
-        "",
-        "vault: file not opened 34\n",
-    ),
-    (
-        "vault check :memory:",
-        "",
-        3,
-        "",
-        "vault: file not opened 34\n",
-    ),
-    (
-        "vault pipe :memory:",
-        "",
-        3,
-        "",
-        "vault: file not opened 34\n",
-    ),
-    (
-        "vault check none/vault.db",
-        "",
-        3,
-        "",
-        "vault: file not opened 34\n",
-    ),
-    (
-        "vault pipe none/vault.db",
-        "",
-        3,
-        "",
-        "vault: file not opened 34\n",
-    ),
+/// Runs on files that are no vault.
+const OTHER: [&str; 8] = [
+    "vault check app_other",
+    "vault pipe app_other",
+    "vault check app_other/text",
+    "vault pipe app_other/text",
+    "vault check :memory:",
+    "vault pipe :memory:",
+    "vault check none/vault.db",
+    "vault pipe none/vault.db",
 ];
 
 /// Whether a folder is made with a text that is no database.
@@ -325,7 +216,10 @@ fn is_text_made(rt: &HostRuntime) -> bool {
 
 #[test]
 fn a_file_that_is_no_vault_is_not_opened(rt: HostRuntime) {
-    assert!(rt; is_text_made(&rt) && end_so(&rt, "", &OTHER));
+    assert!(rt; is_text_made(&rt));
+    for line in OTHER {
+        assert!(rt; end_so(&rt, "", &[(line, "", 3, "", NOT_OPENED)]), "{line}");
+    }
 }
 
 /// The file of the statuses.
@@ -362,13 +256,7 @@ const STATUSES: [Step; 4] = [
         "",
         "vault: bad words\nCONNECTIONS: 0 isn't a number of one to a million\n",
     ),
-    (
-        "vault check app_statuses",
-        "",
-        3,
-        "",
-        "vault: file not opened 34\n",
-    ),
+    ("vault check app_statuses", "", 3, "", NOT_OPENED),
 ];
 
 /// The file afterwards.
@@ -382,58 +270,12 @@ fn each_status_goes_with_its_line(rt: HostRuntime) {
     );
 }
 
-/// A file with the merchant and the rights of a trial.
-const PLAIN: [Step; 7] = [
-    (
-        "vault merchant --now 1000 FILE shop1 60 0",
-        "",
-        0,
-        "done\n",
-        "",
-    ),
-    (
-        "vault grant --now 1000 FILE till-1 shop1 tokenize",
-        "",
-        0,
-        "done\n",
-        "",
-    ),
-    (
-        "vault grant --now 1000 FILE till-1 shop1 detokenize",
-        "",
-        0,
-        "done\n",
-        "",
-    ),
-    (
-        "vault grant --now 1000 FILE till-1 shop1 view",
-        "",
-        0,
-        "done\n",
-        "",
-    ),
-    (
-        "vault grant --now 1000 FILE till-1 shop1 revoke",
-        "",
-        0,
-        "done\n",
-        "",
-    ),
-    (
-        "vault grant --now 1000 FILE till-1 shop1 purge",
-        "",
-        0,
-        "done\n",
-        "",
-    ),
-    (
-        "vault grant --now 1000 FILE till-1 shop1 audit",
-        "",
-        0,
-        "done\n",
-        "",
-    ),
-];
+/// The rights of a trial that a shop hasn't given.
+const RIGHTS: &str = "vault grant --now 1000 FILE till-1 shop1 detokenize
+vault grant --now 1000 FILE till-1 shop1 view
+vault grant --now 1000 FILE till-1 shop1 revoke
+vault grant --now 1000 FILE till-1 shop1 purge
+vault grant --now 1000 FILE till-1 shop1 audit";
 
 /// A message whose number has a wrong check digit.
 const WRONG: &str = "POST /v1/merchants/shop1/tokens HTTP/1.1\r\nHost: vault\r\n\
@@ -466,6 +308,7 @@ fn are_alike(rt: &HostRuntime) -> bool {
 
 #[test]
 fn plain_runs(rt: HostRuntime) {
-    assert!(rt; is_folder_made(&rt, "app_plain") && end_so(&rt, "app_plain/vault.db", &PLAIN));
-    assert!(rt; are_alike(&rt));
+    let file = "app_plain/vault.db";
+    assert!(rt; is_folder_made(&rt, "app_plain") && are_done(&rt, file, SHOP));
+    assert!(rt; are_done(&rt, file, RIGHTS) && are_alike(&rt));
 }

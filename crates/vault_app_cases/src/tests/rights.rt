@@ -1,5 +1,5 @@
 //! Rights files.
-use super::running::{Step, end_so, is_folder_made, is_missing};
+use super::running::{Step, are_done, end_so, is_folder_made, is_missing};
 use std::fs;
 
 /// Whether a rights file is written, and the run on a vault's file ends so.
@@ -39,8 +39,7 @@ const LISTS: [(&str, u8, &str); 5] = [
 fn a_rights_file_is_granted_up_to_the_first_refusal(rt: HostRuntime) {
     let set = "vault merchant --now 1000 FILE shop1 60 0";
     let file = "app_rights/vault.db";
-    assert!(rt; is_folder_made(&rt, "app_rights"));
-    assert!(rt; end_so(&rt, file, &[(set, "", 0, "done\n", "")]));
+    assert!(rt; is_folder_made(&rt, "app_rights") && are_done(&rt, file, set));
     for (text, status, line) in LISTS {
         let step = (GIVEN, "", status, line, "");
         assert!(rt;

@@ -8,17 +8,8 @@ use vault_file::host::HostPaths;
 use vault_listen::network::Loopback;
 use vault_listen::peer::Limits;
 use vault_listen::time::ClockTime;
+use vault_script::worked;
 use vault_wire::watched::Watched;
-
-/// The answer to the worked message.
-pub const FIRST_TOKEN: &str =
-    "HTTP/1.1 200 OK\r\nContent-Type: application/json\r\nContent-Length: 43\r\n\r\n\
-     {\"expires\":1060,\"token\":\"0000000000001111\"}";
-
-/// The worked message.
-pub const ASKED: &str = "POST /v1/merchants/shop1/tokens HTTP/1.1\r\nHost: vault\r\n\
-     X-Vault-Caller: till-1\r\nX-Vault-Request: 7\r\nContent-Length: 44\r\n\r\n\
-     {\"number\":\"4111111111111111\",\"use\":\"single\"}";
 
 /// What a check says on the errors of a file with a log.
 pub const HAS_LOG: &str = "vault: the file has a log, FILE-wal, and a copy needs both\n";
@@ -188,6 +179,43 @@ pub fn end_so(rt: &HostRuntime, file: &str, steps: &[Step]) -> bool {
     true
 }
 
+/// A shop with a life of 60, at which `till-1` may ask for tokens.
+pub const SHOP: &str = "vault merchant --now 1000 FILE shop1 60 0
+vault grant --now 1000 FILE till-1 shop1 tokenize";
+
+/// Whether each run of these lines on this file says `done`; one that doesn't is printed.
+pub fn are_done(rt: &HostRuntime, file: &str, lines: &'static str) -> bool {
+    for line in lines.lines() {
+        if !end_so(rt, file, &[(line, "", 0, "done\n", "")]) {
+            return false;
+        }
+    }
+    true
+}
+
+/// Whether a run of these words on this file says this, with status 1 where it is a refusal.
+fn is_said(rt: &HostRuntime, file: &str, words: &str, said: &str) -> bool {
+    let alloc = rt.alloc();
+    let output = format!(in alloc; "{said}\n").unwrap_or(String::new(alloc));
+    let status = if said.starts_with("refused ") { 1 } else { 0 };
+    run_on(rt, words, file, b"").is(status, output.as_str(), "")
+}
+
+/// Whether each run of these lines on this file says what stands behind ` = `; one that doesn't is printed.
+pub fn are_said(rt: &HostRuntime, file: &str, lines: &str) -> bool {
+    for line in lines.lines() {
+        let (words, said) = line.split_once(" = ").unwrap_or((line, ""));
+        if !is_said(rt, file, words, said) {
+            let _ = println!(rt; "{line}");
+            return false;
+        }
+    }
+    true
+}
+
+/// What is said of a file that is no vault.
+pub const NOT_OPENED: &str = "vault: file not opened 34\n";
+
 /// Whether a folder is there and empty.
 pub fn is_folder_made(rt: &HostRuntime, folder: &str) -> bool {
     let _ = fs::remove_dir_all(rt, folder);
@@ -202,11 +230,7 @@ pub fn is_missing(rt: &HostRuntime, file: &str) -> bool {
 /// The answer with this status line, these fields after the length, and this body; nothing for want of
 /// memory.
 pub fn answer(alloc: Global, status: &str, fields: &str, body: &str) -> String {
-    let size = body.len();
-    let text = format!(in alloc;
-        "HTTP/1.1 {status}\r\nContent-Type: application/json\r\nContent-Length: {size}\r\n{fields}\r\n{body}"
-    );
-    text.unwrap_or(String::new(alloc))
+    worked::answer(alloc, status, fields, body).unwrap_or(String::new(alloc))
 }
 
 /// Runs `trial` with these digits.

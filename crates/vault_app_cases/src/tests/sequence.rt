@@ -1,6 +1,7 @@
 //! Several messages of one input.
-use super::running::{ASKED, FIRST_TOKEN, answer, trial};
+use super::running::{answer, trial};
 use std::alloc::Global;
+use vault_script::worked::{ANSWERED, ASKED};
 
 /// The two texts, one behind the other; nothing for want of memory.
 fn both(alloc: Global, first: &str, second: &str) -> String {
@@ -16,7 +17,7 @@ fn answers(rt: &HostRuntime, digits: &str, asked: (&str, &str), wanted: (&str, &
 
 #[test]
 fn the_same_message_twice_is_answered_twice(rt: HostRuntime) {
-    assert!(rt; answers(&rt, "0", (ASKED, ASKED), (FIRST_TOKEN, FIRST_TOKEN)));
+    assert!(rt; answers(&rt, "0", (ASKED, ASKED), (ANSWERED, ANSWERED)));
 }
 
 /// The worked message by another request number.
@@ -29,7 +30,7 @@ fn each_message_finds_what_those_before_it_left(rt: HostRuntime) {
     let body = "{\"expires\":1060,\"token\":\"1000000000001111\"}";
     let other = answer(rt.alloc(), "200 OK", "", body);
     let digits = "000000000000000100000000000000";
-    assert!(rt; answers(&rt, digits, (ASKED, NEXT), (FIRST_TOKEN, other.as_str())));
+    assert!(rt; answers(&rt, digits, (ASKED, NEXT), (ANSWERED, other.as_str())));
 }
 
 /// A text so many times; nothing for want of memory.
@@ -70,7 +71,7 @@ fn longest(alloc: Global) -> String {
 /// Whether that message has its 12288 bytes and is answered.
 fn is_longest_answered(rt: &HostRuntime) -> bool {
     let message = longest(rt.alloc());
-    message.len() == 12288 && trial(rt, "0", message.as_bytes()).is(0, FIRST_TOKEN, "")
+    message.len() == 12288 && trial(rt, "0", message.as_bytes()).is(0, ANSWERED, "")
 }
 
 #[test]
@@ -95,7 +96,7 @@ fn after_a_message_that_closes_nothing_is_answered(rt: HostRuntime) {
 #[test]
 fn a_second_message_that_is_cut_is_not_answered(rt: HostRuntime) {
     assert!(rt; ASKED.len() == 165);
-    assert!(rt; answers(&rt, "0", (ASKED, &ASKED[..164]), (FIRST_TOKEN, "")));
+    assert!(rt; answers(&rt, "0", (ASKED, &ASKED[..164]), (ANSWERED, "")));
 }
 
 /// The answer to a head that can't be read.
@@ -106,5 +107,5 @@ const BAD_HEAD: &str =
 #[test]
 fn a_fault_after_a_message_is_answered_too(rt: HostRuntime) {
     let bad = "POST / HTTP/1.1\r\nA b\r\n\r\n";
-    assert!(rt; answers(&rt, "0", (ASKED, bad), (FIRST_TOKEN, BAD_HEAD)));
+    assert!(rt; answers(&rt, "0", (ASKED, bad), (ANSWERED, BAD_HEAD)));
 }

@@ -1,5 +1,5 @@
 //! Sweeps on files.
-use super::running::{HAS_LOG, Step, end_so, is_folder_made, is_missing};
+use super::running::{HAS_LOG, SHOP, Step, are_done, are_said, end_so, is_folder_made, is_missing};
 
 /// The revocation of the third token, by `back`.
 const REVOKE: &str = "POST /v1/merchants/shop1/tokens/2222222222221111/revoke HTTP/1.1\r\n\
@@ -9,51 +9,14 @@ const REVOKE: &str = "POST /v1/merchants/shop1/tokens/2222222222221111/revoke HT
 const DONE: &str = "HTTP/1.1 200 OK\r\nContent-Type: application/json\r\nContent-Length: 13\r\n\r\n\
      {\"done\":true}";
 
-/// A shop whose tokens live for a minute, with who may do what there; three tokens, made at 1000, 1010 and
-/// 1020, of which the third is revoked.
-const TOKENS: [Step; 10] = [
-    (
-        "vault merchant --now 1000 FILE shop1 60 0",
-        "",
-        0,
-        "done\n",
-        "",
-    ),
-    (
-        "vault grant --now 1000 FILE till-1 shop1 tokenize",
-        "",
-        0,
-        "done\n",
-        "",
-    ),
-    (
-        "vault grant --now 1000 FILE back shop1 detokenize",
-        "",
-        0,
-        "done\n",
-        "",
-    ),
-    (
-        "vault grant --now 1000 FILE back shop1 revoke",
-        "",
-        0,
-        "done\n",
-        "",
-    ),
-    (
-        "vault grant --now 1000 FILE back shop1 purge",
-        "",
-        0,
-        "done\n",
-        "",
-    ),
-    (
-        "vault grant --now 1000 FILE back shop1 audit",
-        "",
-        0,
-        "done\n",
-        "",
-    ),
+/// What the back office may at the shop.
+const BACK: &str = "vault grant --now 1000 FILE back shop1 detokenize
+vault grant --now 1000 FILE back shop1 revoke
+vault grant --now 1000 FILE back shop1 purge
+vault grant --now 1000 FILE back shop1 audit";
+
+/// Three tokens of the shop, made at 1000, 1010 and 1020, of which the third is revoked.
+const TOKENS: [Step; 4] = [
     (
         "vault batch --now 1000 --digits 0 FILE till-1 shop1",
         "request,number,use\n7,4111111111111111,single\n",
@@ -78,6 +41,14 @@ const TOKENS: [Step; 10] = [
     ("vault pipe --now 1020 FILE", REVOKE, 0, DONE, ""),
 ];
 
+/// Whether a folder is made anew, with the shop and its three tokens in this file.
+fn is_shop_made(rt: &HostRuntime, folder: &str, file: &str) -> bool {
+    is_folder_made(rt, folder)
+        && are_done(rt, file, SHOP)
+        && are_done(rt, file, BACK)
+        && end_so(rt, file, &TOKENS)
+}
+
 /// The number of the second token is asked for.
 const NUMBER: &str = "POST /v1/merchants/shop1/tokens/1111111111111111/number HTTP/1.1\r\n\
      X-Vault-Caller: back\r\n\r\n";
@@ -95,22 +66,12 @@ const COUNTS: &str =
     "HTTP/1.1 200 OK\r\nContent-Type: application/json\r\nContent-Length: 31\r\n\r\n\
      {\"denied\":0,\"given\":1,\"made\":3}";
 
-/// Dead tokens are purged, and a live one gives its number.
-const SWEPT: [Step; 5] = [
-    (
-        "vault sweep --now 1065 FILE back shop1",
-        "",
-        0,
-        "purged 2\n",
-        "",
-    ),
-    (
-        "vault sweep --now 1065 FILE back shop1",
-        "",
-        0,
-        "purged 0\n",
-        "",
-    ),
+/// Dead tokens are purged.
+const SWEEPS: &str = "vault sweep --now 1065 FILE back shop1 = purged 2
+vault sweep --now 1065 FILE back shop1 = purged 0";
+
+/// A live one gives its number then.
+const SWEPT: [Step; 3] = [
     ("vault pipe --now 1065 FILE", NUMBER, 0, GIVEN, ""),
     ("vault pipe --now 1065 FILE", AUDIT, 0, COUNTS, ""),
     ("vault check FILE", "", 0, "sound 1 3 3\n", HAS_LOG),
@@ -119,70 +80,30 @@ const SWEPT: [Step; 5] = [
 #[test]
 fn dead_tokens_are_purged_and_a_live_one_gives_its_number(rt: HostRuntime) {
     let file = "app_sweep/vault.db";
-    assert!(rt; is_folder_made(&rt, "app_sweep") && end_so(&rt, file, &TOKENS));
-    assert!(rt; end_so(&rt, file, &SWEPT));
+    assert!(rt; is_shop_made(&rt, "app_sweep", file));
+    assert!(rt; are_said(&rt, file, SWEEPS) && end_so(&rt, file, &SWEPT));
 }
 
 /// A sweep without the right is refused and purges nothing.
-const UNSWEPT: [Step; 4] = [
-    (
-        "vault sweep --now 1070 FILE guest shop1",
-        "",
-        1,
-        "refused 8\n",
-        "",
-    ),
-    (
-        "vault sweep --now 1070 FILE back shop1",
-        "",
-        0,
-        "purged 3\n",
-        "",
-    ),
-    (
-        "vault sweep --now 1070 FILE guest shop1",
-        "",
-        0,
-        "purged 0\n",
-        "",
-    ),
-    (
-        "vault sweep --now 1070 FILE back shop2",
-        "",
-        0,
-        "purged 0\n",
-        "",
-    ),
-];
+const UNSWEPT: &str = "vault sweep --now 1070 FILE guest shop1 = refused 8
+vault sweep --now 1070 FILE back shop1 = purged 3
+vault sweep --now 1070 FILE guest shop1 = purged 0
+vault sweep --now 1070 FILE back shop2 = purged 0";
 
 #[test]
 fn a_sweep_without_the_right_is_refused_and_purges_nothing(rt: HostRuntime) {
     let file = "app_unswept/vault.db";
-    assert!(rt; is_folder_made(&rt, "app_unswept") && end_so(&rt, file, &TOKENS));
-    assert!(rt; end_so(&rt, file, &UNSWEPT));
+    assert!(rt; is_shop_made(&rt, "app_unswept", file));
+    assert!(rt; are_said(&rt, file, UNSWEPT));
 }
 
 /// A sweep with a bad name is refused before the file.
-const MISNAMED: [Step; 2] = [
-    (
-        "vault sweep --now 1000 FILE Back shop1",
-        "",
-        1,
-        "refused 4\n",
-        "",
-    ),
-    (
-        "vault sweep --now 1000 FILE back ",
-        "",
-        1,
-        "refused 4\n",
-        "",
-    ),
-];
+const MISNAMED: &str = "vault sweep --now 1000 FILE Back shop1 = refused 4
+vault sweep --now 1000 FILE back  = refused 4";
 
 #[test]
 fn a_sweep_with_a_bad_name_is_refused_before_the_file(rt: HostRuntime) {
     let file = "app_misnamed/vault.db";
-    assert!(rt; is_folder_made(&rt, "app_misnamed") && end_so(&rt, file, &MISNAMED));
+    assert!(rt; is_folder_made(&rt, "app_misnamed") && are_said(&rt, file, MISNAMED));
     assert!(rt; is_missing(&rt, file));
 }

@@ -1,10 +1,11 @@
 //! Runs of the program one after the other over files in memory, with a stop after each.
-use super::running::{ASKED, FIRST_TOKEN, HAS_LOG, Ran, Step, words_of};
+use super::running::{HAS_LOG, Input, Output, Ran, SHOP, Step, words_of};
 use vault_listen::network::Loopback;
 use vault_listen::peer::Limits;
 use vault_listen::time::ClockTime;
 use vault_promise::kept::KeptFiles;
 use vault_promise::twice::twice;
+use vault_script::worked::{ANSWERED, ASKED};
 use vault_wire::watched::Watched;
 
 /// Runs the program on the words of a line and on bytes, over these files, and gives what it left of them.
@@ -19,9 +20,9 @@ fn run_kept(
     let mut network = Loopback::new(rt, Limits::of_service());
     let mut output = Vec::new(rt.alloc());
     let mut errors = Vec::new(rt.alloc());
-    let mut reader = Watched::new(input);
-    let mut writer = Watched::new(&mut output);
-    let mut teller = Watched::new(&mut errors);
+    let mut reader = Watched::new(Input::of(input));
+    let mut writer = Watched::new(Output::to(&mut output));
+    let mut teller = Watched::new(Output::to(&mut errors));
     let (status, left) = kept.again(
         rt,
         &time,
@@ -39,10 +40,10 @@ fn run_kept(
     (ran, left)
 }
 
-/// The files after these runs, each over what a stop leaves of those that the one before it left; none, where
-/// one ends otherwise.
-fn kept_after(rt: &HostRuntime, steps: &[Step]) -> Option<KeptFiles> {
-    let mut kept = KeptFiles::begun(rt.alloc())?;
+/// These files after runs, each over what a stop leaves of those that the one before it left; none, where one
+/// ends otherwise.
+fn kept_after(rt: &HostRuntime, kept: KeptFiles, steps: &[Step]) -> Option<KeptFiles> {
+    let mut kept = kept;
     for (line, input, status, output, errors) in steps {
         let (ran, left) = run_kept(rt, kept, line, input.as_bytes());
         let left = left?;
@@ -54,34 +55,29 @@ fn kept_after(rt: &HostRuntime, steps: &[Step]) -> Option<KeptFiles> {
     Some(kept)
 }
 
+/// The files after a shop is set up, with a stop after each of its runs.
+fn kept_shop(rt: &HostRuntime) -> Option<KeptFiles> {
+    let mut kept = KeptFiles::begun(rt.alloc())?;
+    for line in SHOP.lines() {
+        kept = kept_after(rt, kept, &[(line, "", 0, "done\n", "")])?;
+    }
+    Some(kept)
+}
+
 /// A run answers a token, and later ones answer it again, with other digits and at other moments.
-const AGAIN: [Step; 6] = [
-    (
-        "vault merchant --now 1000 FILE shop1 60 0",
-        "",
-        0,
-        "done\n",
-        "",
-    ),
-    (
-        "vault grant --now 1000 FILE till-1 shop1 tokenize",
-        "",
-        0,
-        "done\n",
-        "",
-    ),
+const AGAIN: [Step; 4] = [
     (
         "vault pipe --now 1000 --digits 0 FILE",
         ASKED,
         0,
-        FIRST_TOKEN,
+        ANSWERED,
         "",
     ),
     (
         "vault pipe --now 1050 --digits 7 FILE",
         ASKED,
         0,
-        FIRST_TOKEN,
+        ANSWERED,
         "",
     ),
     ("vault check FILE", "", 0, "sound 1 1 1\n", HAS_LOG),
@@ -89,14 +85,22 @@ const AGAIN: [Step; 6] = [
         "vault pipe --now 1055 --digits 123 FILE",
         ASKED,
         0,
-        FIRST_TOKEN,
+        ANSWERED,
         "",
     ),
 ];
 
+/// Whether they do.
+fn is_answered_again(rt: &HostRuntime) -> bool {
+    match kept_shop(rt) {
+        Some(kept) => kept_after(rt, kept, &AGAIN).is_some(),
+        None => false,
+    }
+}
+
 #[test]
 fn a_token_is_answered_again_by_runs_after_stops(rt: HostRuntime) {
-    assert!(rt; kept_after(&rt, &AGAIN).is_some());
+    assert!(rt; is_answered_again(&rt));
 }
 
 /// What two calls of `pipe` sent, the first with the digit 0 and the second with the digit 7 and at a later
@@ -116,10 +120,10 @@ fn sent_twice(rt: &HostRuntime, kept: KeptFiles) -> Option<Vec<u8>> {
     let mut network = Loopback::new(rt, Limits::of_service());
     let mut output = Vec::new(rt.alloc());
     let mut errors = Vec::new(rt.alloc());
-    let mut first = Watched::new(ASKED.as_bytes());
-    let mut second = Watched::new(ASKED.as_bytes());
-    let mut writer = Watched::new(&mut output);
-    let mut teller = Watched::new(&mut errors);
+    let mut first = Watched::new(Input::of(ASKED.as_bytes()));
+    let mut second = Watched::new(Input::of(ASKED.as_bytes()));
+    let mut writer = Watched::new(Output::to(&mut output));
+    let mut teller = Watched::new(Output::to(&mut errors));
     let (status, again, _left) = twice(
         rt,
         kept,
@@ -140,14 +144,14 @@ fn sent_twice(rt: &HostRuntime, kept: KeptFiles) -> Option<Vec<u8>> {
 
 /// Whether two calls after a shop is set up answer the same token twice.
 fn is_answered_twice(rt: &HostRuntime) -> bool {
-    let Some(kept) = kept_after(rt, &AGAIN[..2]) else {
+    let Some(kept) = kept_shop(rt) else {
         return false;
     };
     let Some(sent) = sent_twice(rt, kept) else {
         return false;
     };
     let (first, second) = sent.split_at(sent.len() / 2);
-    first == FIRST_TOKEN.as_bytes() && second == FIRST_TOKEN.as_bytes()
+    first == ANSWERED.as_bytes() && second == ANSWERED.as_bytes()
 }
 
 #[test]

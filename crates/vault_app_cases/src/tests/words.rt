@@ -1,5 +1,5 @@
 //! Words that ask for no job, for help, or by a bad name.
-use super::running::{Step, end_so, run_on};
+use super::running::{Output, Step, end_so, run_on};
 use std::io::{Error, ErrorKind, Write};
 use vault_app::run::no_words;
 use vault_wire::watched::Watched;
@@ -79,8 +79,8 @@ fn status_without_words<W: Write, E: Write>(
 fn ends_wordless(rt: &HostRuntime, kind: ErrorKind, status: u8, line: &[u8]) -> bool {
     let mut output = Vec::new(rt.alloc());
     let mut errors = Vec::new(rt.alloc());
-    let mut writer = Watched::new(&mut output);
-    let mut teller = Watched::new(&mut errors);
+    let mut writer = Watched::new(Output::to(&mut output));
+    let mut teller = Watched::new(Output::to(&mut errors));
     let told = status_without_words(&Error::from(kind), &mut writer, &mut teller);
     told == status && errors.as_slice() == line
 }

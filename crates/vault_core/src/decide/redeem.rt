@@ -20,7 +20,9 @@ use vault_refusal::refusal::Refusal;
 
 /// A card number is asked for.
 pub fn detokenize(w: &Window, asked: &TokenCommand) -> (Reply, Changes)
+    // of whatever sound vault the window is, the decision is the command's outcome
     ensures settles { Decides w.now (command_by Command.Detokenize asked.now) result }
+    // a refusal changes nothing, but that a denial is counted
     ensures refusals { RefusesQuietly (command_by Command.Detokenize asked.now) result.0 result.1 }
 {
     let Some(row) = w.merchant else {
@@ -37,8 +39,10 @@ pub fn detokenize(w: &Window, asked: &TokenCommand) -> (Reply, Changes)
 
 /// The token is known.
 fn redeemed(merchant: MerchantId, row: &MerchantRow, now: Moment, entry: &Entry) -> (Reply, Changes)
+    // in each vault that has the row as the merchant's, the decision is the outcome of the entry's state
     ensures yields { YieldsAt merchant row.now (λ V known. redemption V merchant now known
         (state_of entry.now (time_at known now))) result }
+    // a refusal changes nothing, but that a denial is counted
     ensures denials { RefusesBy denies merchant result.0 result.1 }
 {
     let (number, state) = match entry.state(row.moment.later(now)) {
@@ -54,7 +58,9 @@ fn redeemed(merchant: MerchantId, row: &MerchantRow, now: Moment, entry: &Entry)
 
 /// A number is given and counted, or refused where no more can be counted.
 fn given(merchant: MerchantId, row: &MerchantRow, now: Moment, number: Pan) -> (Reply, Changes)
+    // in each vault that has the row as the merchant's, the decision is the gift of the number
     ensures yields { YieldsAt merchant row.now (λ V known. gift V merchant now known number) result }
+    // a refusal changes nothing, but that a denial is counted
     ensures denials { RefusesBy denies merchant result.0 result.1 }
 {
     if row.given == MOST_COUNT {
@@ -70,9 +76,12 @@ fn given(merchant: MerchantId, row: &MerchantRow, now: Moment, number: Pan) -> (
 
 /// A number is denied and that is counted, or refused where no more can be counted.
 fn denied(merchant: MerchantId, row: &MerchantRow, now: Moment, reason: Refusal) -> (Reply, Changes)
+    // the reason is one by which a number is denied
     requires { denies (number_of reason) ≡ true }
+    // in each vault that has the row as the merchant's, the decision is the denial for this reason
     ensures yields { YieldsAt merchant row.now
         (λ V known. denial V merchant now known (number_of reason)) result }
+    // a refusal changes nothing, but that a denial is counted
     ensures denials { RefusesBy denies merchant result.0 result.1 }
 {
     if row.denied == MOST_COUNT {

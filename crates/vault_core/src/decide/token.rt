@@ -20,8 +20,11 @@ use vault_refusal::refusal::Refusal;
 
 /// A token is asked for.
 pub fn tokenize(w: &Window, asked: &TokenRequest) -> (Reply, Changes)
+    // of whatever sound vault the window is, the decision is the command's outcome
     ensures settles { Decides w.now (command_of asked.now) result }
+    // a refusal changes nothing, but that a denial is counted
     ensures refusals { RefusesQuietly (command_of asked.now) result.0 result.1 }
+    // a request that the window shows to be recorded changes nothing
     ensures repeats { IsSome w.now.recorded → result.1 ≡ no_changes }
 {
     if let Some((earlier, entry)) = w.recorded {
@@ -53,9 +56,12 @@ fn is_repeat(asked: &TokenRequest, earlier: &Record, entry: &Entry) -> bool
 
 /// A new request at a merchant that is known.
 fn new_request(w: &Window, asked: &TokenRequest, row: &MerchantRow) -> (Reply, Changes)
+    // in each vault whose known merchant the window and the row show, the decision is the outcome of a new
+    // request
     ensures yields { (V : Vault) (known : Merchant)
         → ShowsMerchant V asked.now known w.now row.now
         → Yields V (new_request_lem V asked.now known) result }
+    // a refusal changes nothing, but that a denial is counted
     ensures refusals { RefusesQuietly (command_of asked.now) result.0 result.1 }
 {
     if !w.right {
@@ -103,7 +109,9 @@ fn life_of(row: &MerchantRow, usage: Use) -> u64
 
 /// The token of an entry is given, and the request is recorded.
 fn again(asked: &TokenRequest, row: &MerchantRow, token: Token, entry: &Entry) -> (Reply, Changes)
+    // the reply is the token, with the entry's end
     ensures value { result.0 ≡ Reply.Token token entry.now.expires }
+    // the request is recorded with the token, and the merchant's moment moves
     ensures changes { result.1 ≡ record_changes asked.now row.now token }
 {
     let record = Record {

@@ -197,6 +197,7 @@ where
 pub fn make_blank<R: Files + Alloc>(rt: &R, path: &str) -> io::Result<Made>
 where
     R::File: Lock,
+    // an empty path is refused with `InvalidInput`
     ensures no_path { path.now ≡ [] → IsErrAnd result (λ e. error_kind e ≡ ErrorKind.InvalidInput) }
 {
     if path.is_empty() {

@@ -26,8 +26,11 @@ pub(crate) fn log_name<A: Allocator>(alloc: A, path: &str) -> Result<String<A>, 
 
 /// The folder that a path lies in.
 pub(crate) fn folder_of(path: &str) -> &str
+    // a path without a parent is in the folder `.`
     ensures none { path_parent path.now ≡ None → result.now ≡ codes "." }
+    // so is one whose parent is empty
     ensures here { path_parent path.now ≡ Some [] → result.now ≡ codes "." }
+    // any other is in its parent
     ensures parent { (folder : List ℕ) → path_parent path.now ≡ Some folder → folder ≢ []
         → result.now ≡ folder }
 {

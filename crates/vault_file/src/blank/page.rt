@@ -37,6 +37,7 @@ fn put(page: &mut [u8], at: usize, bytes: &[u8])
 
 /// The one page of a database without a table. What isn't put is 0.
 pub fn blank_page() -> [u8; 1024]
+    // these are the bytes of a database without a table
     ensures bytes { result ≡ blank_database }
     ensures length { length result ≡ 1024 }
 {

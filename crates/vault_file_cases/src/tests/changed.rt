@@ -1,15 +1,38 @@
 //! Files that were changed by statements of SQL: the check and the open refuse both, with the same number.
 use super::over::Step;
 use super::steps::are_told;
+use std::alloc::Global;
+use vault_schema::v1::CREATE_COUNTS;
+
+/// A table of another program.
+pub const NOTES: &str = "CREATE TABLE notes (line TEXT)";
 
 /// A card number of one merchant under a single-use and a multi-use token.
 const VAULT: &str = "open till-1 shop1 60 100 1000 = done
 tokenize till-1 shop1 7 single 4111111111111111 0 1000 = 0000000000001111 1060
 tokenize till-1 shop1 8 multi 4111111111111111 1 1000 = 1111111111111111 1100";
 
-/// Statements, and by which rule the rows are refused then.
-const RULES: [(&str, &str); 27] = [
+/// Statements that change the form of any vault, also of one without a row, and how it is refused then.
+pub const ANY_FORM: [(&str, &str); 2] = [
+    ("UPDATE vault SET version = 9", "30 9"),
+    ("DROP TABLE rights", "30 0"),
+];
+
+/// Statements that change the rows of any vault, and how it is refused then.
+pub const ANY_ROWS: [(&str, &str); 3] = [
     ("DELETE FROM vault", "31 1"),
+    (
+        "INSERT INTO rights4 VALUES ('till-1', 'shop2', 6, NULL)",
+        "31 12",
+    ),
+    (
+        "INSERT INTO merchants3 VALUES ('shop2', 60, 0, 1000, 7)",
+        "31 14",
+    ),
+];
+
+/// Statements, and by which rule the rows are refused then.
+const RULES: [(&str, &str); 26] = [
     ("INSERT INTO vault VALUES (2, 4)", "31 1"),
     (
         "INSERT INTO entries VALUES ('shop1', '2222222222221111', NULL, 1, 0, 60, 0)",
@@ -63,8 +86,7 @@ const RULES: [(&str, &str); 27] = [
 ];
 
 /// Statements, and what the file is refused by for its version, its names or the form of its tables.
-const FORMS: [(&str, &str); 17] = [
-    ("UPDATE vault SET version = 9", "30 9"),
+const FORMS: [(&str, &str); 14] = [
     ("UPDATE vault SET version = 3", "30 3"),
     ("UPDATE vault SET version = 9; DROP TABLE rights", "30 9"),
     (
@@ -76,19 +98,13 @@ const FORMS: [(&str, &str); 17] = [
         "30 1",
     ),
     ("DELETE FROM vault; DROP TABLE rights", "30 0"),
-    ("DROP TABLE rights", "30 0"),
     ("DROP TABLE cards2", "30 0"),
     ("DROP TABLE merchants3", "30 0"),
     ("DROP TABLE rights4", "30 0"),
-    ("CREATE TABLE notes (line TEXT)", "30 0"),
+    (NOTES, "30 0"),
     ("CREATE INDEX by_token ON records (token)", "30 0"),
     ("DROP INDEX entries2_card", "30 0"),
     ("UPDATE vault SET version = -1", "30 -1"),
-    (
-        "DROP TABLE counts; CREATE TABLE counts (merchant TEXT NOT NULL, kind INTEGER NOT NULL, \
-         total INTEGER NOT NULL, PRIMARY KEY (merchant, kind)) STRICT",
-        "33",
-    ),
     (
         "DROP TABLE rights; CREATE TABLE RIGHTS (caller TEXT NOT NULL, merchant TEXT NOT NULL, \
          what INTEGER NOT NULL, PRIMARY KEY (caller, merchant, what)) STRICT",
@@ -100,6 +116,12 @@ const FORMS: [(&str, &str); 17] = [
         "33",
     ),
 ];
+
+/// Drops a table, so that what makes it puts it behind the others.
+fn made_anew(alloc: Global) -> String {
+    let sql = format!(in alloc; "DROP TABLE counts; {CREATE_COUNTS}");
+    sql.unwrap_or(String::new(alloc))
+}
 
 /// Whether the vault's file that was changed by this is refused so, by its check and by its open.
 fn is_refused(rt: &HostRuntime, sql: &str, refused: &str) -> bool {
@@ -120,6 +142,9 @@ fn is_refused(rt: &HostRuntime, sql: &str, refused: &str) -> bool {
 
 #[test]
 fn changed_rows_are_refused_by_their_least_broken_rule(rt: HostRuntime) {
+    for (sql, refused) in ANY_ROWS {
+        assert!(rt; is_refused(&rt, sql, refused), "{sql}");
+    }
     for (sql, refused) in RULES {
         assert!(rt; is_refused(&rt, sql, refused), "{sql}");
     }
@@ -127,7 +152,11 @@ fn changed_rows_are_refused_by_their_least_broken_rule(rt: HostRuntime) {
 
 #[test]
 fn another_version_or_form_is_refused(rt: HostRuntime) {
+    for (sql, refused) in ANY_FORM {
+        assert!(rt; is_refused(&rt, sql, refused), "{sql}");
+    }
     for (sql, refused) in FORMS {
         assert!(rt; is_refused(&rt, sql, refused), "{sql}");
     }
+    assert!(rt; is_refused(&rt, made_anew(rt.alloc()).as_str(), "33"));
 }

@@ -1,4 +1,5 @@
 //! Files without a table, files of another program, and files that are opened again.
+use super::changed::NOTES;
 use super::over::Step;
 use super::steps::are_told;
 
@@ -49,7 +50,7 @@ fn a_vault_is_found_again(rt: HostRuntime) {
 
 /// A table of another program is made, and dropped.
 const FOREIGN: [Step<'static>; 5] = [
-    Step::Change("CREATE TABLE notes (line TEXT)"),
+    Step::Change(NOTES),
     Step::Check,
     Step::Ask(""),
     Step::Change("DROP TABLE notes"),

@@ -1,6 +1,6 @@
 //! Files of older schemas: refused, moved to the newest schema, and stopped while they move.
 use super::over::Step;
-use super::steps::{TestDisk, all_done, are_told, is_told, no_files, tell};
+use super::steps::{TestDisk, all_done, are_told, done, is_told, no_files, tell};
 use super::stops::{Trial, is_whole_where_stopped};
 use sqlite::Files;
 use std::alloc::Global;
@@ -9,6 +9,17 @@ use vault_schema::v1::{
     CREATE_RIGHTS, CREATE_VAULT,
 };
 use vault_schema::{v2, v3};
+
+/// What makes the tables of schema 1.
+pub const FIRST_TABLES: [&str; 7] = [
+    CREATE_VAULT,
+    CREATE_MERCHANTS,
+    CREATE_COUNTS,
+    CREATE_ENTRIES,
+    CREATE_ENTRIES_NUMBER,
+    CREATE_RECORDS,
+    CREATE_RIGHTS,
+];
 
 /// The rows of two merchants: a number under two tokens of the one and a token of the other, and a purged
 /// entry.
@@ -24,27 +35,20 @@ INSERT INTO records VALUES ('till-1', 1, 'shop1', '0000000000001111', 1),
 ('till-1', 4, 'shop2', '1111111111111111', 1);
 INSERT INTO rights VALUES ('till-1', 'shop1', 3), ('till-1', 'shop1', 5)";
 
-/// Files of schema 1 are made with these rows, and refused.
-const MADE: [Step<'static>; 10] = [
-    Step::Change(CREATE_VAULT),
-    Step::Change(CREATE_MERCHANTS),
-    Step::Change(CREATE_COUNTS),
-    Step::Change(CREATE_ENTRIES),
-    Step::Change(CREATE_ENTRIES_NUMBER),
-    Step::Change(CREATE_RECORDS),
-    Step::Change(CREATE_RIGHTS),
-    Step::Change(ROWS),
-    Step::Check,
-    Step::Ask(""),
-];
+/// Files with the tables of schema 1 get these rows, and are refused.
+const MADE: [Step<'static>; 3] = [Step::Change(ROWS), Step::Check, Step::Ask("")];
 
 /// What files of schema 1 tell before they move.
-const REFUSED: &str =
-    "changed; changed; changed; changed; changed; changed; changed; changed; 30 1; 30 1; ";
+const REFUSED: &str = "changed; 30 1; 30 1; ";
 
-/// Files of schema 1, and what they told.
+/// Files of schema 1, and what they told once they had their tables.
 pub fn older(alloc: Global) -> (String, Files<TestDisk>) {
-    all_done(alloc, no_files(alloc), MADE.as_slice())
+    let mut files = no_files(alloc);
+    for sql in FIRST_TABLES {
+        let (_told, left) = done(alloc, files, Step::Change(sql));
+        files = left;
+    }
+    all_done(alloc, files, MADE.as_slice())
 }
 
 /// Whether files of schema 1 are refused, and steps over them then tell this.

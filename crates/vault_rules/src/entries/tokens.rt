@@ -41,6 +41,7 @@ impl<'a> Tokens<'a> {
 
     /// Takes the next entry. Only memory can fail.
     pub(crate) fn take(&mut self, found: &Found<'a, '_>) -> Result<(), AllocError>
+        // with Ok, of an entry with its own merchant, the entries held are those before and this one
         ensures { OnOk result ((merchants : List MerchantRow) (cards : List CardRow) (raws : List EntryRow)
             → IsFoundIn merchants cards found.now → HoldTokens merchants self.old raws
             → HoldTokens merchants self.new (raws ++ found.now.entry.now ∷ [])) }
@@ -66,6 +67,8 @@ impl<'a> Tokens<'a> {
 
     /// The usage of a merchant's token, where each entry has a merchant and a token.
     pub(crate) fn usage(&self, merchant: &'a RawMerchant, token: &[u8]) -> Option<i64>
+        // it is the usage of the first entry of the token, where that merchant exists and each entry has a
+        // merchant and a token
         ensures { (merchants : List MerchantRow) (raws : List EntryRow) → HoldTokens merchants self.now raws
             → is_known merchants (string_bytes merchant.now.name) ≡ true
             → list_all (has_token merchants) raws ≡ true → result

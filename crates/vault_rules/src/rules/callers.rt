@@ -23,6 +23,7 @@ pub(crate) fn is_record(entries: &Entries, r: &RawRecord) -> bool
 
 /// Whether the entry of a record exists and has its usage.
 fn has_usage(entries: &Entries, r: &RawRecord) -> bool
+    // it is so of the entries that came, where each of them has a merchant and a token
     ensures { (cards : List CardRow) (raws : List EntryRow)
         → HasEntries entries.now cards raws → entries.now.rules.tokens ≡ true
         → result ≡ rules.has_usage raws r.now }

@@ -17,6 +17,7 @@ use crate::index::found::Found;
 /// Rule 13: each card row's merchant exists, and its uses are the number of entries that point at it, 1 or
 /// more; the card of each entry that isn't purged is a card row of its merchant.
 pub fn are_cards(entries: &Entries) -> bool
+    // it is so of the rows that came, where each entry has a merchant and a token
     ensures { (rows : List CardRow) (raws : List EntryRow) → HasEntries entries.now rows raws
         → entries.now.rules.tokens ≡ true → result
         ≡ (list_all (rules.is_card entries.now.index.merchants.now raws) rows
@@ -40,6 +41,7 @@ fn have_uses(entries: &Entries) -> bool
 
 /// Whether a card row's merchant exists, and its uses are the number of entries that point at it.
 fn is_card(entries: &Entries, c: &Card) -> bool
+    // of a card whose id has a row, it tells this, and that the uses are 1 or more
     ensures { (rows : List CardRow) (raws : List EntryRow) → HasEntries entries.now rows raws
         → is_some (card_of rows c.now.id) ≡ true → result ≡ is_used raws (seen_card c.now) }
 {

@@ -48,6 +48,7 @@ pub fn are_counted(entries: &Entries) -> bool
 
 /// Whether a merchant keeps the rule of its count.
 fn is_counted(entries: &Entries, m: &RawMerchant) -> bool
+    // it is so of a merchant that exists
     ensures { (cards : List CardRow) (raws : List EntryRow)
         → HasEntries entries.now cards raws
         → is_known entries.now.index.merchants.now (string_bytes m.now.name) ≡ true

@@ -20,7 +20,9 @@ pub fn live_token(
     pan: &Pan,
     at: Moment,
 ) -> Option<Token>
+    // a token that is given is a live multi-use one of the number at the merchant
     ensures some { IfSome result (IsLiveToken entries.now merchant pan.now at) }
+    // without one, the merchant has no live multi-use token of the number
     ensures none { IfNone result ((token : Bytes) → ¬ (IsLiveToken entries.now merchant pan.now at token)) }
 {
     for ((owner, token), entry) in entries.iter() {

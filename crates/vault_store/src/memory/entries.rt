@@ -32,7 +32,9 @@ pub struct Entries {
 impl Entries {
     /// No entries, which take no memory yet.
     pub fn new(alloc: Global) -> Entries
+        // it holds no entries
         ensures held { HoldsEntries result map.empty }
+        // it has an index
         ensures indexed { is_some result.index ≡ true }
     {
         Entries {
@@ -55,14 +57,20 @@ impl Entries {
         token: Token,
         entry: &Entry,
     ) -> Result<Option<Entry>, AllocError>
+        // Ok gives what stood at the token before
         ensures was { IfOk result (λ was. was ≡ tree.get entry_cmp self.old.rows (merchant, token)) }
+        // with Ok, the entries that were held are held with this one at its token
         ensures ok { OnOk result ((F : map.FinMap entry_cmp Entry)
             → HoldsEntries self.old F → HoldsEntries self.new (map.insert F (merchant, token) entry.now)) }
+        // where it is refused, nothing stood at the token
         ensures new { OnErr result (tree.get entry_cmp self.old.rows (merchant, token) ≡ None) }
+        // where it is refused, the entries that were held are held still
         ensures err { OnErr result ((F : map.FinMap entry_cmp Entry)
             → HoldsEntries self.old F → HoldsEntries self.new F) }
+        // where nothing stood at the token, an index that was there stays, and none comes up
         ensures new_indexed { tree.get entry_cmp self.old.rows (merchant, token) ≡ None
             → is_some self.new.index ≡ is_some self.old.index }
+        // where the entry has no key, an index that was there stays, and none comes up
         ensures keyless_indexed { number_key merchant token entry.now ≡ None
             → is_some self.new.index ≡ is_some self.old.index }
     {
@@ -96,8 +104,10 @@ impl Entries {
 
     /// A live multi-use token of a card number at a merchant.
     pub fn current(&self, merchant: MerchantId, pan: &Pan, at: Moment) -> Option<Token>
+        // where entries are held, a token that is given is a live multi-use one of the number at the merchant
         ensures some { (F : map.FinMap entry_cmp Entry) → HoldsEntries self.now F
             → IfSome result (IsLiveToken self.now.rows merchant pan.now at) }
+        // where entries are held and none is given, the merchant has no live multi-use token of the number
         ensures none { (F : map.FinMap entry_cmp Entry) → HoldsEntries self.now F
             → IfNone result
             ((token : Bytes) → ¬ (IsLiveToken self.now.rows merchant pan.now at token)) }
@@ -121,10 +131,13 @@ fn add(
     token: Token,
     entry: Entry,
 ) -> Result<(), AllocError>
+    // with Ok, an index that showed entries with none at the token shows them with this one there
     ensures ok { OnOk result ((F : map.FinMap entry_cmp Entry) → map.get F (merchant, token) ≡ None
         → ShowsIndex index.old F → ShowsIndex index.new (map.insert F (merchant, token) entry)) }
+    // where it is refused, the index shows the entries that it showed
     ensures err { OnErr result
         ((F : map.FinMap entry_cmp Entry) → ShowsIndex index.old F → ShowsIndex index.new F) }
+    // an index that was there stays, and none comes up
     ensures kept { is_some index.new ≡ is_some index.old }
 {
     let Some(keys) = index else {
@@ -142,8 +155,10 @@ fn follow(
     was: Option<Entry>,
     now: Option<Entry>,
 )
+    // an index that showed entries with the earlier one at the token shows them with the later one there
     ensures shown { (F : map.FinMap entry_cmp Entry) → map.get F (merchant, token) ≡ was
         → ShowsIndex index.old F → ShowsIndex index.new (with_at F (merchant, token) now) }
+    // where the later entry is none or has no key, an index that was there stays, and none comes up
     ensures kept { IfSome now (λ entry. number_key merchant token entry ≡ None)
         → is_some index.new ≡ is_some index.old }
 {

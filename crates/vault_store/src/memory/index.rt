@@ -48,10 +48,13 @@ pub fn put_in(
     token: Token,
     entry: Entry,
 ) -> Result<(), AllocError>
+    // with Ok, an index of entries with none at the token is one of them with this one there
     ensures ok { OnOk result ((F : map.FinMap entry_cmp Entry) → map.get F (merchant, token) ≡ None
         → Indexes index.old F → Indexes index.new (map.insert F (merchant, token) entry)) }
+    // where it is refused, the index is one of the entries that it was of
     ensures err { OnErr result
         ((F : map.FinMap entry_cmp Entry) → Indexes index.old F → Indexes index.new F) }
+    // an entry that has no key isn't refused
     ensures keyless { number_key_lem merchant token entry ≡ None → IsOk result }
 {
     let Some(number) = number_key(merchant, token, entry) else {
@@ -82,11 +85,14 @@ pub fn take_out(
 
 /// The place of a merchant's number whose end is the latest.
 pub fn latest(index: &BTreeSet<NumberKey>, merchant: MerchantId, pan: &Pan) -> Option<Place>
+    // a place that is given is in the index
     ensures there { IfSome result
         (λ place. keys.contains number_cmp index.now (key_at merchant pan.now place) ≡ true) }
+    // no place of the number in the index has a later end than the one that is given
     ensures latest { IfSome result (λ place. (other : Place)
         → keys.contains number_cmp index.now (key_at merchant pan.now other) ≡ true
         → other.0 ≤ place.0) }
+    // where none is given, no place of the number is in the index
     ensures none { IfNone result ((place : Place)
         → keys.contains number_cmp index.now (key_at merchant pan.now place) ≡ false) }
 {

@@ -18,10 +18,13 @@ pub fn put_merchant(
     merchants: &mut BTreeMap<MerchantId, MerchantRow>,
     ch: &Changes,
 ) -> Result<(), AllocError>
+    // with Ok, the rows that showed a sound vault that the changes fit show its merchants with them
     ensures done { OnOk result ((V : Vault) → ShowsMerchants merchants.old V → Sound V → Fit V ch.now
         → ShowsMerchants merchants.new (plus V ch.now)) }
+    // where it is refused, the rows show each vault that they showed
     ensures kept { OnErr result
         ((V : Vault) → ShowsMerchants merchants.old V → ShowsMerchants merchants.new V) }
+    // where the changes add nothing to the vault that is shown, it isn't refused
     ensures allowed { (V : Vault) → ShowsMerchants merchants.old V → AddsNothing V (plus V ch.now)
         → IsOk result }
 {

@@ -18,10 +18,14 @@ pub fn give<V: Drop>(
     key: (Caller, (MerchantId, Right)),
     row: V,
 ) -> Result<Option<V>, AllocError>
+    // Ok gives what stood there before
     ensures was { IfOk result (λ was. was ≡ tree.get right_cmp rights.old key) }
+    // with Ok, the rights that were shown are shown with this one
     ensures ok { OnOk result ((F : map.FinMap right_cmp V) → Shows right_cmp rights.old F
         → Shows right_cmp rights.new (map.insert F key row)) }
+    // where it is refused, nothing stood there
     ensures new { OnErr result (tree.get right_cmp rights.old key ≡ None) }
+    // where it is refused, the rights that were shown are shown still
     ensures err { OnErr result ((F : map.FinMap right_cmp V)
         → Shows right_cmp rights.old F → Shows right_cmp rights.new F) }
 {

@@ -13,10 +13,14 @@ pub fn put<K: Ord + Drop, V: Drop>(
     key: K,
     row: V,
 ) -> Result<Option<V>, AllocError>
+    // Ok gives what stood at the key before
     ensures was { IfOk result (λ was. was ≡ tree.get K.cmp rows.old key) }
+    // with Ok, the rows that were shown are shown with this one at its key
     ensures ok { OnOk result
         ((F : map.FinMap K.cmp V) → Shows K.cmp rows.old F → Shows K.cmp rows.new (map.insert F key row)) }
+    // where it is refused, nothing stood at the key
     ensures new { OnErr result (tree.get K.cmp rows.old key ≡ None) }
+    // where it is refused, the rows that were shown are shown still
     ensures err { OnErr result ((F : map.FinMap K.cmp V) → Shows K.cmp rows.old F → Shows K.cmp rows.new F) }
 {
     Ok(rows.insert(key, row)?)

@@ -24,10 +24,14 @@ pub fn write_record(
     merchants: &mut BTreeMap<MerchantId, MerchantRow>,
     ch: &Changes,
 ) -> Result<(), AllocError>
+    // with Ok, of a sound vault that the changes fit, the records, rights and merchants are held with them
     ensures done { OnOk result ((V : Vault) → HoldsRecords records.old rights.old merchants.old V
         → Sound V → Fit V ch.now → HoldsRecords records.new rights.new merchants.new (plus V ch.now)) }
+    // where it is refused, the records, rights and merchants that were held are held still
     ensures kept { OnErr result ((V : Vault) → HoldsRecords records.old rights.old merchants.old V
         → HoldsRecords records.new rights.new merchants.new V) }
+    // where the changes add nothing to the vault whose records, rights and merchants are held, it isn't
+    // refused
     ensures allowed { (V : Vault) → HoldsRecords records.old rights.old merchants.old V
         → AddsNothing V (plus V ch.now) → IsOk result }
 {
@@ -49,10 +53,13 @@ fn write_right(
     merchants: &mut BTreeMap<MerchantId, MerchantRow>,
     ch: &Changes,
 ) -> Result<(), AllocError>
+    // with Ok, of a sound vault that the changes fit, the rights and merchants are held with them
     ensures done { OnOk result ((V : Vault) → HoldsRights rights.old merchants.old V → Sound V
         → Fit V ch.now → HoldsRights rights.new merchants.new (plus V ch.now)) }
+    // where it is refused, the rights and merchants that were held are held still
     ensures kept { OnErr result
         ((V : Vault) → HoldsRights rights.old merchants.old V → HoldsRights rights.new merchants.new V) }
+    // where the changes add nothing to the vault whose rights and merchants are held, it isn't refused
     ensures allowed { (V : Vault) → HoldsRights rights.old merchants.old V → AddsNothing V (plus V ch.now)
         → IsOk result }
 {

@@ -23,7 +23,7 @@ returns-in-Err g c =
         none_then (g.N.Network.tells c.args.network.now),
         refused_file world c.args.path.now (c.args.input.now ≡ c.args.input.now)
             (c.args.output.now ≡ c.args.output.now) s c.in-Err.left c.args.task.now c.in-Err.fault
-            told.refused told.refused_there told.never told.tells told.left told.same refl refl,
+            told.refused told.refused_there told.spared told.tells told.left told.same refl refl,
       );
     }
 
@@ -67,7 +67,7 @@ returns g c =
             c.do_task-outcome.new.vault left c.args.task.now c.do_task-outcome.result
             (is_broken c.do_task-outcome.new.vault) unread unsent s c.in-Ok.ensures.found
             (fresh.1.0, λ V. subst (λ place. IsPast place V) (sym fresh.1.1) tt)
-            c.do_task-outcome.ensures.honest
+            c.do_task-outcome.ensures.disk_honest
             (λ clean. omega (arith, c.close_files-left.ensures.clean, clean)) c.close_files-left.ensures.after
             c.close_files-left.ensures.either_after it.2)),
       );

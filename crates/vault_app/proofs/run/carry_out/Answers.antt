@@ -24,7 +24,8 @@ returns-in-Check g c =
             c.check_file-checked.result.0,
             checked world c.in-Check.path.now (c.args.input.now ≡ c.args.input.now)
                 (c.tell_sizes.new.output ≡ c.args.output.now) s c.check_file-checked.result.1
-                c.check_file-checked.result.0 told.empty told.refused told.refused_there told.sound told.never
+                c.check_file-checked.result.0 told.empty told.refused told.refused_there told.sound
+                told.spared
                 told.tells told.same told.left,
             (c.has_log-has_log.result, c.has_log-has_log.ensures, c.tell_sizes.ensures),
           ),

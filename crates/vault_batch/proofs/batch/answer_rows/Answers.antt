@@ -1,18 +1,19 @@
-use Rattle.std.proofs.Common.{◌≡◌, ◌+◌, [], ◌∷◌, ◌++◌, length, sym, ap, ◌∙◌, subst, append-nil, arith}
+use Rattle.std.proofs.Common.{◌≡◌, ◌+◌, [], ◌∷◌, ◌++◌, length, refl, sym, ap, ◌∙◌, subst, append-nil, arith}
 use Rattle.std.proofs.Common.{length-append}
 use Rattle.std.specs.Prelude.{if◌then◌else◌}
 use Rattle.csv.specs.Records.{fields_of}
 use Rattle.vault_engine.specs.Asking.{reply_to, vault_after}
 use Rattle.vault_engine.specs.Passing.{passing}
-use Rattle.vault_engine.proofs.Following.{follows, one_more}
+use Rattle.vault_engine.proofs.Following.{Joins, answered_then, then_before}
 use Rattle.vault_batch.specs.Asking.{Asked, rows_by}
 use Rattle.vault_batch.specs.Batched.{rows_of, tokens}
 use Rattle.vault_batch.specs.Lines.{first_line, has_token}
 use Rattle.vault_batch.specs.Reading.{StandsAfter, StandsNext}
 use Rattle.vault_batch.specs.Rows.{BeginRecordsOf, Fields, fields_in, records_with, row_of}
-use Rattle.vault_batch.proofs.Lining.{counts_one, first_answered, one_at_most, tokens-more, tokens-nil}
-use Rattle.vault_batch.proofs.Stopping.{beside_writer, records_more, stops_at_row, stops_between, stops_first}
-use Rattle.vault_batch.proofs.Tracking.{begins_given}
+use Rattle.vault_batch.proofs.TokenCounts.{counts_one, first_answered, one_at_most, tokens-more, tokens-nil}
+use Rattle.vault_batch.proofs.BatchStops.{beside_writer, records_more, stops_at_row}
+use Rattle.vault_batch.proofs.BatchStops.{stops_between, stops_first}
+use Rattle.vault_batch.proofs.ReaderProgress.{begins_given}
 use Rattle.vault_batch.proofs.batch.answer_rows.Goals as goal
 
 pub returns-in-Err-clause-stopped : goal.returns-in-Err-clause-stopped
@@ -41,7 +42,7 @@ rows-init g c =
       counted = λ V b. sym (tokens-nil V);
       pairs = omega arith;
       later = g.met.S.Source.reflexive _;
-      told = beside_writer _ _ _ _ c.in_default.ensures.told;
+      told = beside_writer _ _ _ _ c.in_default.ensures.own_failure;
       honest = λ h. h;
     }
 
@@ -100,16 +101,12 @@ rows-preserved g c =
     (c.in-Ok-true.ensures.next known _ inv.stands) in
     let one = c.in-Ok.ensures.answered in
     let x : Asked = one.0 in
-    let second = passing g.S.Source.given c.rows.source c.ask.new.source g.W.Write.contents
-    c.rows.writer c.ask.new.writer g.T.Tables.is_honest g.T.Tables.holds g.T.Tables.leaves c.rows.vault
-    c.ask.new.vault in
-    let whole = passing g.S.Source.given c.args.source.now c.ask.new.source g.W.Write.contents
-    c.args.writer.now c.ask.new.writer g.T.Tables.is_honest g.T.Tables.holds g.T.Tables.leaves
-    c.args.vault.now c.ask.new.vault in
-    let f = follows g.S.Source.given c.args.source.now c.rows.source c.ask.new.source
-    g.W.Write.contents c.args.writer.now c.rows.writer c.ask.new.writer g.T.Tables.is_honest
-    g.T.Tables.holds g.T.Tables.leaves c.args.vault.now c.rows.vault c.ask.new.vault
-    (rows_by c.args.asker.now) c.ask.ensures.trusted.honest first_line inv.asked inv.answered in
+    let early = passing g.S.Source.given c.args.source.now c.rows.source g.W.Write.contents c.args.writer.now
+    c.rows.writer g.T.Tables.is_honest g.T.Tables.holds g.T.Tables.leaves c.args.vault.now c.rows.vault in
+    let late = passing g.S.Source.given c.rows.source c.ask.new.source g.W.Write.contents c.rows.writer
+    c.ask.new.writer g.T.Tables.is_honest g.T.Tables.holds g.T.Tables.leaves c.rows.vault c.ask.new.vault in
+    let j : Joins early late =
+    record { given = refl; sent = refl; held = λ V h. h; back = c.ask.ensures.trusted.disk_honest } in
     let more : length (inv.asked ++ x ∷ []) ≡ length inv.asked + 1 = length-append inv.asked (x ∷ []) in
     record {
       asked = inv.asked ++ x ∷ [];
@@ -118,22 +115,24 @@ rows-preserved g c =
           (ap (λ (fs : Fields). records_with (rows_of inv.asked) ++ fs ∷ [])
           (c.in-Some.ensures.some ∙ ap fields_in (sym one.1)) ∙ sym (records_more inv.asked x)) next;
       answered =
-          one_more (rows_by c.args.asker.now) first_line second whole inv.asked inv.answered.asked f x one.2;
+          answered_then (rows_by c.args.asker.now) first_line early late inv.asked inv.answered j (x ∷ [])
+          one.2;
       few = omega (arith, inv.few, more, c.from-tokens.ensures, one_at_most c.has_token.result);
       counted = λ V b.
           let before : c.rows.tokens ≡ tokens V inv.asked =
-          inv.counted V (c.ask.ensures.trusted.honest b.0, b.1) in
+          inv.counted V (c.ask.ensures.trusted.disk_honest b.0, b.1) in
           let all : tokens V (inv.asked ++ x ∷ [])
           ≡ c.rows.tokens + (if has_token (reply_to (vault_after V inv.asked) x.wanted) then 1 else 0) =
           tokens-more V inv.asked x
           ∙ ap (λ n. n + (if has_token (reply_to (vault_after V inv.asked) x.wanted) then 1 else 0))
           (sym before) in
           counts_one c.has_token.result _ c.rows.tokens _ c.from-tokens.result c.from-tokens.ensures
-          (c.has_token.ensures ∙ ap has_token (one.3 (vault_after V inv.asked) (f.before V b))) all;
+          (c.has_token.ensures ∙ ap has_token (one.3 (vault_after V inv.asked)
+          (then_before (rows_by c.args.asker.now) first_line early late inv.asked inv.answered j V b))) all;
       pairs = omega (arith, inv.pairs, c.in-Ok.ensures.counted, more);
       later = g.met.S.Source.transitive _ _ _ inv.later c.ask.ensures.later;
-      told = c.in-Ok.ensures.told ∙ inv.told;
-      honest = λ h. inv.honest (c.ask.ensures.trusted.honest h);
+      told = c.in-Ok.ensures.own_failure ∙ inv.told;
+      honest = λ h. inv.honest (c.ask.ensures.trusted.disk_honest h);
     }
 
 pub returns-in-Err-ask-clause-stopped : goal.returns-in-Err-ask-clause-stopped
@@ -144,17 +143,13 @@ returns-in-Err-ask-clause-stopped g c =
     (records_with (rows_of inv.asked)) (fields_of c.read_record.new.fields)
     c.read_record.new.records) c.in-Ok-true.field-0-test
     (c.in-Ok-true.ensures.next known _ inv.stands) in
-    let second = passing g.S.Source.given c.rows.source c.ask.new.source g.W.Write.contents
-    c.rows.writer c.ask.new.writer g.T.Tables.is_honest g.T.Tables.holds g.T.Tables.leaves c.rows.vault
-    c.ask.new.vault in
-    let whole = passing g.S.Source.given c.args.source.now c.ask.new.source g.W.Write.contents
-    c.args.writer.now c.ask.new.writer g.T.Tables.is_honest g.T.Tables.holds g.T.Tables.leaves
-    c.args.vault.now c.ask.new.vault in
-    let f = follows g.S.Source.given c.args.source.now c.rows.source c.ask.new.source
-    g.W.Write.contents c.args.writer.now c.rows.writer c.ask.new.writer g.T.Tables.is_honest
-    g.T.Tables.holds g.T.Tables.leaves c.args.vault.now c.rows.vault c.ask.new.vault
-    (rows_by c.args.asker.now) c.ask.ensures.trusted.honest first_line inv.asked inv.answered in
-    stops_at_row known c.args.asker.now second whole inv.asked inv.answered.asked (row_of c.in-Some.row) f
+    let early = passing g.S.Source.given c.args.source.now c.rows.source g.W.Write.contents c.args.writer.now
+    c.rows.writer g.T.Tables.is_honest g.T.Tables.holds g.T.Tables.leaves c.args.vault.now c.rows.vault in
+    let late = passing g.S.Source.given c.rows.source c.ask.new.source g.W.Write.contents c.rows.writer
+    c.ask.new.writer g.T.Tables.is_honest g.T.Tables.holds g.T.Tables.leaves c.rows.vault c.ask.new.vault in
+    let j : Joins early late =
+    record { given = refl; sent = refl; held = λ V h. h; back = c.ask.ensures.trusted.disk_honest } in
+    stops_at_row known c.args.asker.now early late inv.asked inv.answered (row_of c.in-Some.row) j
     (begins_given known (λ r. g.R.Read.remaining r.now.inner) c.rows.records _ inv.stands.gave)
     (subst (λ (fs : Fields). BeginRecordsOf known (records_with (rows_of inv.asked) ++ fs ∷ []))
     c.in-Some.ensures.some

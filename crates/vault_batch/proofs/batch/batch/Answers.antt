@@ -1,5 +1,5 @@
 use Rattle.vault_engine.specs.Passing.{passing}
-use Rattle.vault_batch.proofs.Stopping.{memory_for_read, stops_after_all}
+use Rattle.vault_batch.proofs.BatchStops.{memory_for_read, stops_after_all}
 use Rattle.vault_batch.proofs.batch.batch.Goals as goal
 
 pub returns-else-failed-clause-stopped : goal.returns-else-failed-clause-stopped

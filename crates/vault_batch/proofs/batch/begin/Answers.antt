@@ -1,7 +1,7 @@
 use Rattle.std.proofs.Common.{[], inr, subst}
 use Rattle.csv.specs.Records.{fields_of}
 use Rattle.vault_batch.specs.Reading.{StandsNext}
-use Rattle.vault_batch.proofs.Tracking.{begins_given}
+use Rattle.vault_batch.proofs.ReaderProgress.{begins_given}
 use Rattle.vault_batch.proofs.batch.begin.Goals as goal
 
 pub returns-then-not-is_header-clause-began : goal.returns-then-not-is_header-clause-began

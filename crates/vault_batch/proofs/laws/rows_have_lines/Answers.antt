@@ -1,4 +1,4 @@
-use Rattle.vault_batch.proofs.Replying.{rows_show}
+use Rattle.vault_batch.proofs.TokenReplies.{rows_show}
 use Rattle.vault_batch.proofs.laws.rows_have_lines.Goals as goal
 
 pub returns : goal.returns

@@ -1,6 +1,6 @@
 use Rattle.std.proofs.Common.{inl}
 use Rattle.csv.specs.Records.{fields_of}
-use Rattle.vault_batch.proofs.Tracking.{stands_next}
+use Rattle.vault_batch.proofs.ReaderProgress.{stands_next}
 use Rattle.vault_batch.proofs.records.read_record.Goals as goal
 
 pub returns-in-Ok-clause-next : goal.returns-in-Ok-clause-next

@@ -1,5 +1,5 @@
 use Rattle.std.proofs.Common.{◌∙◌, inr}
-use Rattle.vault_batch.proofs.Tracking.{given_none}
+use Rattle.vault_batch.proofs.ReaderProgress.{given_none}
 use Rattle.vault_batch.proofs.records.records_of.Goals as goal
 
 pub returns : goal.returns

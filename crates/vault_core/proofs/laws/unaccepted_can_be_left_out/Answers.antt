@@ -1,4 +1,4 @@
-use Rattle.vault_core.proofs.LeftOut.{left_out}
+use Rattle.vault_core.proofs.UnacceptedCommands.{left_out}
 use Rattle.vault_core.proofs.laws.unaccepted_can_be_left_out.Goals as goal
 
 pub returns : goal.returns

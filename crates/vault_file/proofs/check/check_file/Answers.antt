@@ -24,11 +24,11 @@ returns-in-Err-default-Some-clause-damaged g c image holds clean =
     omega (arith, c.close_moved-in-Err-default-Some.ensures.clean, clean) in
     ((rw c.in-Err-default-Some.field-0-1-is at c.in-Err-default-Some.ensures.tells) image holds was).damaged
 
-pub returns-in-Err-default-Some-clause-never : goal.returns-in-Err-default-Some-clause-never
-returns-in-Err-default-Some-clause-never g c image holds clean =
+pub returns-in-Err-default-Some-clause-spared : goal.returns-in-Err-default-Some-clause-spared
+returns-in-Err-default-Some-clause-spared g c image holds clean =
     let was : HasCleanDisk (file_state c.in-Err-default-Some.conn) =
     omega (arith, c.close_moved-in-Err-default-Some.ensures.clean, clean) in
-    (rw c.in-Err-default-Some.field-0-1-is at c.in-Err-default-Some.ensures.never) image holds was
+    (rw c.in-Err-default-Some.field-0-1-is at c.in-Err-default-Some.ensures.spared) image holds was
 
 pub returns-then-is_missing-clause-empty : goal.returns-then-is_missing-clause-empty
 returns-then-is_missing-clause-empty g c = λ _. (no_sizes, c.is_missing.ensures c.if-is_missing.true)

@@ -11,7 +11,7 @@ pub returns-in-Ok-clause-sizes : goal.returns-in-Ok-clause-sizes
 returns-in-Ok-clause-sizes g c image holds clean = (
   (file_state c.in-Some.conn).now,
   found_in image c.in-Some.conn (c.in-Some.ensures.opened image holds)
-      (omega (arith, c.check.ensures.quiet.clean, clean)),
+      (omega (arith, c.check.ensures.nothing_new.clean, clean)),
   record {
     whose = whose_of c.told-told.result.1 (file_state c.in-Some.conn).now.schema c.told-told.ensures.holder
         (λ other. c.in-Ok.ensures.foreign other);
@@ -21,10 +21,10 @@ returns-in-Ok-clause-sizes g c image holds clean = (
 
 pub returns-in-Ok-clause-kept : goal.returns-in-Ok-clause-kept
 returns-in-Ok-clause-kept g c image holds clean V sound keeps =
-    let held = c.in-Some.ensures.again image holds (omega (arith, c.check.ensures.quiet.clean, clean)) V
+    let held = c.in-Some.ensures.again image holds (omega (arith, c.check.ensures.nothing_new.clean, clean)) V
     keeps in
     still_held (file_state c.in-Some.conn) (file_state c.check.new.conn)
-    (c.in-Ok.ensures.kept clean held.schema) c.check.ensures.quiet.limit V held
+    (c.in-Ok.ensures.kept clean held.schema) c.check.ensures.nothing_new.limit V held
 
 pub returns-in-Ok-clause-no_path : goal.returns-in-Ok-clause-no_path
 returns-in-Ok-clause-no_path g c none = there c.in-Some.conn (c.in-Some.ensures.no_path none)
@@ -39,7 +39,7 @@ returns-in-Err-clause-tells g c image holds clean = record {
     found_damaged image c.in-Some.conn
         (c.in-Some.ensures.opened image holds) (c.in-Some.ensures.again image holds)
         c.check.new.conn c.in-Err.fault
-        c.in-Err.ensures.never (λ some. c.check.ensures.quiet.clean) clean rule same,
+        c.in-Err.ensures.spared (λ some. c.check.ensures.nothing_new.clean) clean rule same,
     c.in-Err.ensures.damaged clean rule (same_fault c.in-Err.fault (Damaged rule) same),
   );
   wrong = λ n same. (
@@ -47,43 +47,43 @@ returns-in-Err-clause-tells g c image holds clean = record {
     found_wrong image c.in-Some.conn
         (c.in-Some.ensures.opened image holds) (c.in-Some.ensures.again image holds)
         c.check.new.conn c.in-Err.fault
-        c.in-Err.ensures.never (λ some. c.check.ensures.quiet.clean) clean n same,
+        c.in-Err.ensures.spared (λ some. c.check.ensures.nothing_new.clean) clean n same,
     c.in-Err.ensures.wrong clean n (same_fault c.in-Err.fault (WrongSchema n) same),
   );
 }
 
-pub returns-in-Err-clause-never : goal.returns-in-Err-clause-never
-returns-in-Err-clause-never g c image holds clean =
+pub returns-in-Err-clause-spared : goal.returns-in-Err-clause-spared
+returns-in-Err-clause-spared g c image holds clean =
     spares image c.in-Some.conn
     (c.in-Some.ensures.opened image holds) (c.in-Some.ensures.again image holds)
     c.check.new.conn c.in-Err.fault
-    c.in-Err.ensures.never (λ some. c.check.ensures.quiet.clean) clean
+    c.in-Err.ensures.spared (λ some. c.check.ensures.nothing_new.clean) clean
     (c.in-Some.ensures.either image holds) (c.in-Some.ensures.first image holds)
 
 pub returns-in-Ok-clause-same : goal.returns-in-Ok-clause-same
 returns-in-Ok-clause-same g c image holds =
     leaves_whole image c.in-Some.conn c.check.new.conn (c.in-Some.ensures.opened image holds)
-    c.settled.ensures c.check.ensures.quiet.clean
+    c.settled.ensures c.check.ensures.nothing_new.clean
     (checked_less c.in-Some.conn c.check.new.conn c.told-told.result.0 c.told-told.ensures.version
-    c.check.ensures.quiet c.check.ensures.untouched)
+    c.check.ensures.nothing_new c.check.ensures.untouched)
 
 pub returns-in-Err-clause-same_refused : goal.returns-in-Err-clause-same_refused
 returns-in-Err-clause-same_refused g c image holds =
     leaves_whole image c.in-Some.conn c.check.new.conn (c.in-Some.ensures.opened image holds)
-    c.settled.ensures c.check.ensures.quiet.clean
+    c.settled.ensures c.check.ensures.nothing_new.clean
     (checked_less c.in-Some.conn c.check.new.conn c.told-told.result.0 c.told-told.ensures.version
-    c.check.ensures.quiet c.check.ensures.untouched)
+    c.check.ensures.nothing_new c.check.ensures.untouched)
 
 pub returns-in-Ok-clause-left : goal.returns-in-Ok-clause-left
 returns-in-Ok-clause-left g c image holds =
     checked_leaves image c.in-Some.conn c.check.new.conn (c.in-Some.ensures.opened image holds)
-    c.in-Some.ensures.unlimited c.settled.ensures c.check.ensures.quiet c.check.ensures.untouched
+    c.in-Some.ensures.unlimited c.settled.ensures c.check.ensures.nothing_new c.check.ensures.untouched
     (c.in-Some.ensures.again image holds) (c.in-Some.ensures.either image holds)
     (c.in-Some.ensures.first image holds)
 
 pub returns-in-Err-clause-left_refused : goal.returns-in-Err-clause-left_refused
 returns-in-Err-clause-left_refused g c image holds =
     checked_leaves image c.in-Some.conn c.check.new.conn (c.in-Some.ensures.opened image holds)
-    c.in-Some.ensures.unlimited c.settled.ensures c.check.ensures.quiet c.check.ensures.untouched
+    c.in-Some.ensures.unlimited c.settled.ensures c.check.ensures.nothing_new c.check.ensures.untouched
     (c.in-Some.ensures.again image holds) (c.in-Some.ensures.either image holds)
     (c.in-Some.ensures.first image holds)

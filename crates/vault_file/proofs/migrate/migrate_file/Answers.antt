@@ -35,7 +35,7 @@ returns-in-Err-default-Some-clause-left g c image holds =
     c.close_moved.ensures.same_after
     ((rw c.in-Err-default-Some.field-0-1-is at c.in-Err-default-Some.ensures.never_in) image holds)
     ((rw c.in-Err-default-Some.field-0-1-is at c.in-Err-default-Some.ensures.never_some) image holds)
-    ((rw c.in-Err-default-Some.field-0-1-is at c.in-Err-default-Some.ensures.never) image holds)
+    ((rw c.in-Err-default-Some.field-0-1-is at c.in-Err-default-Some.ensures.spared) image holds)
 
 pub returns-in-Err-default-Some-clause-same : goal.returns-in-Err-default-Some-clause-same
 returns-in-Err-default-Some-clause-same g c image holds other =

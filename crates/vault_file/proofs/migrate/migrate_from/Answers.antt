@@ -44,14 +44,14 @@ pub returns-in-Err-clause-never_in : goal.returns-in-Err-clause-never_in
 returns-in-Err-clause-never_in g c image holds =
     never_in image c.in-Some.conn c.migrate_all.new.conn (c.in-Some.ensures.opened image holds)
     c.in-Some.ensures.unlimited c.migrate_all.ensures.migrates.clean c.in-Err.fault
-    c.in-Err.ensures.migrates.never
+    c.in-Err.ensures.migrates.spared
 
-pub returns-in-Err-clause-never : goal.returns-in-Err-clause-never
-returns-in-Err-clause-never g c image holds clean =
+pub returns-in-Err-clause-spared : goal.returns-in-Err-clause-spared
+returns-in-Err-clause-spared g c image holds clean =
     spares image c.in-Some.conn
     (c.in-Some.ensures.opened image holds) (c.in-Some.ensures.again image holds)
     c.migrate_all.new.conn c.in-Err.fault
-    (λ clean fit. c.in-Err.ensures.migrates.never clean (movable (file_state c.in-Some.conn).now fit))
+    (λ clean fit. c.in-Err.ensures.migrates.spared clean (movable (file_state c.in-Some.conn).now fit))
     (λ some. c.migrate_all.ensures.migrates.clean) clean (c.in-Some.ensures.either image holds)
     (c.in-Some.ensures.first image holds)
 
@@ -59,7 +59,7 @@ pub returns-in-Err-clause-never_some : goal.returns-in-Err-clause-never_some
 returns-in-Err-clause-never_some g c image holds =
     never_some image c.in-Some.conn c.migrate_all.new.conn (c.in-Some.ensures.opened image holds)
     c.in-Some.ensures.unlimited c.migrate_all.ensures.migrates.clean c.in-Err.fault
-    c.in-Err.ensures.migrates.never
+    c.in-Err.ensures.migrates.spared
 
 pub returns-in-Err-clause-left : goal.returns-in-Err-clause-left
 returns-in-Err-clause-left g c image holds =

@@ -27,42 +27,44 @@ returns-in-Err-clause-tells g c image holds clean = record {
     found_damaged image c.in-Some.conn
         (c.in-Some.ensures.opened image holds) (c.in-Some.ensures.again image holds)
         c.in-Err.refusal.1 c.in-Err.refusal.0
-        c.in-Err.ensures.never (λ some. (c.in-Err.ensures.quiet some).clean) clean rule same,
-    c.in-Err.ensures.damaged clean rule (same_fault c.in-Err.refusal.0 (Damaged rule) same),
+        c.in-Err.ensures.refused.spared (λ some. (c.in-Err.ensures.refused.nothing_new some).clean)
+        clean rule same,
+    c.in-Err.ensures.refused.damaged clean rule (same_fault c.in-Err.refusal.0 (Damaged rule) same),
   );
   wrong = λ n same. (
     (file_state c.in-Some.conn).now,
     found_wrong image c.in-Some.conn
         (c.in-Some.ensures.opened image holds) (c.in-Some.ensures.again image holds)
         c.in-Err.refusal.1 c.in-Err.refusal.0
-        c.in-Err.ensures.never (λ some. (c.in-Err.ensures.quiet some).clean) clean n same,
-    c.in-Err.ensures.wrong clean n (same_fault c.in-Err.refusal.0 (WrongSchema n) same),
+        c.in-Err.ensures.refused.spared (λ some. (c.in-Err.ensures.refused.nothing_new some).clean)
+        clean n same,
+    c.in-Err.ensures.refused.wrong clean n (same_fault c.in-Err.refusal.0 (WrongSchema n) same),
   );
 }
 
-pub returns-in-Err-clause-never : goal.returns-in-Err-clause-never
-returns-in-Err-clause-never g c image holds clean =
+pub returns-in-Err-clause-spared : goal.returns-in-Err-clause-spared
+returns-in-Err-clause-spared g c image holds clean =
     spares image c.in-Some.conn
     (c.in-Some.ensures.opened image holds) (c.in-Some.ensures.again image holds)
     c.in-Err.refusal.1 c.in-Err.refusal.0
-    c.in-Err.ensures.never (λ some. (c.in-Err.ensures.quiet some).clean) clean
+    c.in-Err.ensures.refused.spared (λ some. (c.in-Err.ensures.refused.nothing_new some).clean) clean
     (c.in-Some.ensures.either image holds) (c.in-Some.ensures.first image holds)
 
 pub returns-in-Err-clause-same : goal.returns-in-Err-clause-same
 returns-in-Err-clause-same g c image holds some clean =
     leaves_whole image c.in-Some.conn c.in-Err.refusal.1 (c.in-Some.ensures.opened image holds)
-    c.settled.ensures c.in-Err.ensures.clean_refused
+    c.settled.ensures c.in-Err.ensures.refused.clean
     (λ whole. opened_less c.in-Some.conn c.in-Err.refusal.1 _ c.in-Err.refusal.0
     (some_there image c.in-Some.conn (c.in-Some.ensures.opened image holds) some
-    (omega (arith, c.in-Err.ensures.clean_refused, whole)))
+    (omega (arith, c.in-Err.ensures.refused.clean, whole)))
     c.told-told.result.0 c.told-told.result.1 c.told-told.ensures.version c.told-told.ensures.holder
-    c.in-Err.ensures.quiet c.in-Err.ensures.mixed c.in-Err.ensures.strange whole) clean
+    c.in-Err.ensures.refused.nothing_new c.in-Err.ensures.mixed c.in-Err.ensures.strange whole) clean
 
 pub returns-in-Err-clause-left : goal.returns-in-Err-clause-left
 returns-in-Err-clause-left g c image holds =
     leaves_from image c.in-Some.conn c.in-Err.refusal.1 (c.in-Some.ensures.opened image holds)
-    c.in-Some.ensures.unlimited c.in-Err.ensures.left_refused c.in-Err.ensures.clean_refused
+    c.in-Some.ensures.unlimited c.in-Err.ensures.refused.left c.in-Err.ensures.refused.clean
     (older_left (file_state c.in-Some.conn) (file_state c.in-Err.refusal.1) c.settled.ensures
-    c.in-Err.ensures.quiet)
+    c.in-Err.ensures.refused.nothing_new)
     (c.in-Some.ensures.again image holds)
     (c.in-Some.ensures.either image holds) (c.in-Some.ensures.first image holds)

@@ -5,11 +5,11 @@ use Rattle.vault_file.proofs.Leaving.{stays}
 use Rattle.vault_file.proofs.Whole.{stays_whole}
 use Rattle.vault_file.proofs.open.open_vault.Goals as goal
 
-pub returns-in-Err-default-Some-clause-never : goal.returns-in-Err-default-Some-clause-never
-returns-in-Err-default-Some-clause-never g c image holds clean =
+pub returns-in-Err-default-Some-clause-spared : goal.returns-in-Err-default-Some-clause-spared
+returns-in-Err-default-Some-clause-spared g c image holds clean =
     let was : HasCleanDisk (file_state c.in-Err-default-Some.conn) =
     omega (arith, c.close_moved.ensures.clean, clean) in
-    (rw c.in-Err-default-Some.field-0-1-is at c.in-Err-default-Some.ensures.never) image holds was
+    (rw c.in-Err-default-Some.field-0-1-is at c.in-Err-default-Some.ensures.spared) image holds was
 
 pub returns-in-Err-default-Some-clause-same : goal.returns-in-Err-default-Some-clause-same
 returns-in-Err-default-Some-clause-same g c image holds some =

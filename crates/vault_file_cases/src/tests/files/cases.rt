@@ -1,37 +1,9 @@
 //! Worked cases: each is done in a folder of its own.
 use super::file::refusal;
 use super::script::is_as_said;
+use crate::tests::changed::{ANY_FORM, ANY_ROWS};
 use vault_file::fault::NotOpened;
 use vault_verdict::fault::OpenFault;
-
-/// Files that statements of SQL changed: all three calls refuse them with the same words, and write nothing.
-const DAMAGED: &str = "folder vault_file_damaged = done
-open vault_file_damaged/0 = opened
-run vault_file_damaged/0: UPDATE vault SET version = 9 = changed
-check vault_file_damaged/0 = 30 9
-migrate vault_file_damaged/0 = 30 9
-open vault_file_damaged/0 = 30 9
-open vault_file_damaged/1 = opened
-run vault_file_damaged/1: DROP TABLE rights = changed
-check vault_file_damaged/1 = 30 0
-migrate vault_file_damaged/1 = 30 0
-open vault_file_damaged/1 = 30 0
-open vault_file_damaged/2 = opened
-run vault_file_damaged/2: DELETE FROM vault = changed
-check vault_file_damaged/2 = 31 1
-migrate vault_file_damaged/2 = 31 1
-open vault_file_damaged/2 = 31 1
-open vault_file_damaged/3 = opened
-run vault_file_damaged/3: INSERT INTO rights4 VALUES ('till-1', 'shop1', 6, NULL) = changed
-check vault_file_damaged/3 = 31 12
-migrate vault_file_damaged/3 = 31 12
-open vault_file_damaged/3 = 31 12
-open vault_file_damaged/4 = opened
-run vault_file_damaged/4: INSERT INTO merchants3 VALUES ('shop1', 60, 0, 1000, 7) = changed
-check vault_file_damaged/4 = 31 14
-migrate vault_file_damaged/4 = 31 14
-open vault_file_damaged/4 = 31 14
-remove vault_file_damaged = done";
 
 /// Another program's file is refused.
 const FOREIGN: &str = "folder vault_file_foreign = done
@@ -153,9 +125,29 @@ busy vault_file_busy/a = done
 open vault_file_busy/a = opened
 remove vault_file_busy = done";
 
+/// Whether all three calls refuse a new file that these statements changed, with the same words, and write
+/// nothing.
+fn is_damaged(rt: &HostRuntime, sql: &str, refused: &str) -> bool {
+    let file = "vault_file_damaged/a";
+    let lines = format!(in rt.alloc();
+        "folder vault_file_damaged = done\nopen {file} = opened\nrun {file}: {sql} = changed\n\
+         check {file} = {refused}\nmigrate {file} = {refused}\nopen {file} = {refused}\n\
+         remove vault_file_damaged = done"
+    );
+    match lines {
+        Ok(lines) => is_as_said(rt, lines.as_str()),
+        Err(_) => false,
+    }
+}
+
 #[test]
 fn a_changed_file_is_refused_by_its_version_or_rule(rt: HostRuntime) {
-    assert!(rt; is_as_said(&rt, DAMAGED));
+    for (sql, refused) in ANY_FORM {
+        assert!(rt; is_damaged(&rt, sql, refused), "{sql}");
+    }
+    for (sql, refused) in ANY_ROWS {
+        assert!(rt; is_damaged(&rt, sql, refused), "{sql}");
+    }
 }
 
 #[test]

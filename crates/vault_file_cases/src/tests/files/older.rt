@@ -1,9 +1,6 @@
 //! Files of schema 1.
 use super::file::changed_in;
-use vault_schema::v1::{
-    CREATE_COUNTS, CREATE_ENTRIES, CREATE_ENTRIES_NUMBER, CREATE_MERCHANTS, CREATE_RECORDS,
-    CREATE_RIGHTS, CREATE_VAULT,
-};
+use crate::tests::moved::FIRST_TABLES;
 
 /// Two merchants: tokens of both uses, live, expired, revoked and purged, and numbers of 16 and 13 digits.
 const ROWS: &str = "INSERT INTO vault VALUES (1, 1);
@@ -20,24 +17,12 @@ INSERT INTO records VALUES ('till-1', 1, 'shop1', '0000000000001111', 1),
 ('till-2', 1, 'shop2', '0000000002222', 1);
 INSERT INTO rights VALUES ('till-1', 'shop1', 1), ('back', 'shop2', 6)";
 
-/// Makes the tables of schema 1, and these rows.
-const STATEMENTS: [&str; 8] = [
-    CREATE_VAULT,
-    CREATE_MERCHANTS,
-    CREATE_COUNTS,
-    CREATE_ENTRIES,
-    CREATE_ENTRIES_NUMBER,
-    CREATE_RECORDS,
-    CREATE_RIGHTS,
-    ROWS,
-];
-
 /// Makes a file of schema 1 with these rows, and tells whether that was done.
 pub fn is_older_made(rt: &HostRuntime, path: &str) -> bool {
-    for sql in STATEMENTS {
+    for sql in FIRST_TABLES {
         if changed_in(rt, path, sql).as_str() != "changed" {
             return false;
         }
     }
-    true
+    changed_in(rt, path, ROWS).as_str() == "changed"
 }

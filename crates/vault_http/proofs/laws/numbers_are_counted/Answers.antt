@@ -1,7 +1,7 @@
 use Rattle.std.proofs.Common.{arith}
 use Rattle.vault_core.proofs.Counted.{counts_follow}
-use Rattle.vault_http.specs.Exchanges.{commands_of, vault_after}
-use Rattle.vault_http.proofs.Exchanging.{vault_after-append}
+use Rattle.vault_engine.specs.Asking.{commands_of, vault_after}
+use Rattle.vault_engine.proofs.Listing.{vault_after-append}
 use Rattle.vault_http.proofs.laws.numbers_are_counted.Goals as goal
 
 pub returns : goal.returns

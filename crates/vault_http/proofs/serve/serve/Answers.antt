@@ -1,11 +1,12 @@
-use Rattle.std.proofs.Common.{[], refl, inl}
+use Rattle.std.proofs.Common.{[], refl}
 use Rattle.std.proofs.lemmas.List.Elements.{All-nil}
 use Rattle.vault_wire.specs.Messages.{IsMessage}
-use Rattle.vault_http.specs.Passing.{passing}
-use Rattle.vault_http.proofs.Answering.{all_nothing}
-use Rattle.vault_http.proofs.Bytes.{appends_nothing, consumes_nothing}
+use Rattle.vault_engine.specs.Passing.{passing}
+use Rattle.vault_engine.proofs.Answering.{appends_nothing}
+use Rattle.vault_engine.proofs.Within.{all_nothing, stops_after}
+use Rattle.vault_http.specs.Exchanges.{message_kind}
+use Rattle.vault_http.proofs.Bytes.{consumes_nothing}
 use Rattle.vault_http.proofs.Counting.{serves_part}
-use Rattle.vault_http.proofs.Serving.{before_of}
 use Rattle.vault_http.proofs.serve.serve.Goals as goal
 
 pub returns-in_default-clause-serves : goal.returns-in_default-clause-serves
@@ -18,7 +19,6 @@ returns-in_default-clause-serves g c =
       messages = [];
       read = consumes_nothing _;
       begins = record { rest = []; whole = refl; each = All-nil IsMessage };
-      stops =
-          inl (before_of w [] (all_nothing w refl (appends_nothing _)
-          (λ V b. (b.1, g.met.T.Tables.settled _ V b.1.0 b.0))));
+      stops = stops_after message_kind w [] [] (all_nothing message_kind w refl (appends_nothing _)
+          (λ V b. (b.1, g.met.T.Tables.settled _ V b.1.0 b.0)));
     })

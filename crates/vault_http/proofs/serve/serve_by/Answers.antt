@@ -1,24 +1,23 @@
 use Rattle.std.proofs.Common.{◌≡◌, ◌+◌, ◌-◌, ◌<◌, [], ◌++◌, length, take, refl, sym, ap, ◌∙◌}
-use Rattle.std.proofs.Common.{subst, arith, true, false, None, Some, inl, length-append}
+use Rattle.std.proofs.Common.{arith, true, false, None, Some, length-append}
 use Rattle.std.proofs.lemmas.List.{length-map, length-take}
 use Rattle.std.specs.Prelude.{Bool, Ok, Err}
 use Rattle.vault_store.specs.Applied.{is_broken}
 use Rattle.vault_wire.specs.Parts.{parts_of}
 use Rattle.vault_wire.specs.Reading.{Kept}
 use Rattle.vault_wire.specs.Watching.{is_stopped}
+use Rattle.vault_engine.specs.Passing.{passing}
+use Rattle.vault_engine.proofs.Answering.{appends_nothing}
+use Rattle.vault_engine.proofs.Within.{all_nothing, all_then, stops_after, stops_then}
 use Rattle.vault_http.specs.Faults.{Failures, failures}
-use Rattle.vault_http.specs.Exchanges.{has_close, shown, up_to_close}
-use Rattle.vault_http.specs.Passing.{AllAnswered, passing}
+use Rattle.vault_http.specs.Exchanges.{has_close, message_kind, shown, up_to_close}
 use Rattle.vault_http.specs.declared.served.Served.{Served}
-use Rattle.vault_http.proofs.Answering.{all_nothing}
-use Rattle.vault_http.proofs.Bytes.{appends_nothing, consumes_both, consumes_keeps, consumes_none}
-use Rattle.vault_http.proofs.Bytes.{consumes_nothing}
+use Rattle.vault_http.proofs.Bytes.{consumes_both, consumes_keeps, consumes_none, consumes_nothing}
 use Rattle.vault_http.proofs.Counting.{serves_all, serves_part}
-use Rattle.vault_http.proofs.Closing.{has_close-shown, shown_count, up_to_close-none, up_to_close-shown}
+use Rattle.vault_http.proofs.Closing.{up_to_close-none}
 use Rattle.vault_http.proofs.Fed.{fed_of}
-use Rattle.vault_http.proofs.Following.{all_then, stops_then}
-use Rattle.vault_http.proofs.Serving.{before_of, begins_more, begins_of, falls, reads_by, served_fault}
-use Rattle.vault_http.proofs.Serving.{served_plain, stopped_fault, stopped_of}
+use Rattle.vault_http.proofs.Serving.{begins_more, begins_of, falls, reads_by, served_fault, served_plain}
+use Rattle.vault_http.proofs.Serving.{all_as, stopped_fault, stopped_of, stops_as}
 use Rattle.vault_http.proofs.Telling.{after_read, beside_reader, beside_writer, not_read, tells_as}
 use Rattle.vault_http.proofs.serve.serve_by.Goals as goal
 
@@ -35,7 +34,8 @@ pieces-init g c =
       read = consumes_nothing _;
       reading = c.new-intake.ensures.reading;
       open_till = refl;
-      answered = all_nothing w refl (appends_nothing _) (λ V b. (b.1, g.met.T.Tables.settled _ V b.1.0 b.0));
+      answered = all_nothing message_kind w refl (appends_nothing _)
+          (λ V b. (b.1, g.met.T.Tables.settled _ V b.1.0 b.0));
       counted = omega arith;
       later = g.met.S.Source.reflexive _;
       told = refl;
@@ -45,79 +45,60 @@ pieces-init g c =
 pub returns-in_default-clause-serves : goal.returns-in_default-clause-serves
 returns-in_default-clause-serves g c =
     let inv = c.pieces.invariant in
-    let w = passing g.S.Source.given c.args.source.now c.pieces.source g.W.Write.contents c.args.writer.now
-    c.pieces.writer g.T.Tables.is_honest g.T.Tables.holds g.T.Tables.leaves c.args.vault.now
-    c.pieces.vault in
-    serves_part _ _ w _ (record {
+    serves_part _ _ _ _ (record {
       bytes = inv.bytes;
       messages = inv.messages;
       read = consumes_keeps _ _ _ inv.bytes inv.read c.in_default.ensures.bytes;
       reads = reads_by c.pieces.intake inv.bytes inv.messages None inv.calm inv.reading;
-      stops = subst (AllAnswered w) (sym (up_to_close-none (shown inv.messages) inv.open_till)) inv.answered;
+      stops = all_as _ _ _
+          (sym (up_to_close-none (shown inv.messages) inv.open_till)) inv.answered;
     })
 
 pub returns-then-count-eq0-clause-serves : goal.returns-then-count-eq0-clause-serves
 returns-then-count-eq0-clause-serves g c =
     let inv = c.pieces.invariant in
-    let w = passing g.S.Source.given c.args.source.now c.pieces.source g.W.Write.contents c.args.writer.now
-    c.pieces.writer g.T.Tables.is_honest g.T.Tables.holds g.T.Tables.leaves c.args.vault.now
-    c.pieces.vault in
     let r = c.in-Ok.ensures.bytes in
     let room : 0 < length c.read.new.buf = omega (arith, c.read.auto.buf, inv.room) in
     let none = up_to_close-none (shown inv.messages) inv.open_till in
     let many : length (up_to_close (shown inv.messages)) ≡ length inv.messages =
     ap length none ∙ length-map inv.messages parts_of in
-    serves_all _ _ _ _ (served_plain _ _ w inv.bytes inv.messages
+    serves_all _ _ _ _ (served_plain _ _ _ inv.bytes inv.messages
     (consumes_none _ _ _ inv.bytes c.read.new.buf c.in-Ok.count inv.read c.if-count-eq0.true r.0) None
     (record { messages = c.left-pairs.result - c.left.result; fault = None })
     (reads_by c.pieces.intake inv.bytes inv.messages None inv.calm inv.reading)
-    (subst (AllAnswered w) (sym none) inv.answered)
+    (all_as _ _ _ (sym none) inv.answered)
     (omega (arith, inv.counted, c.left-pairs.ensures, c.left.ensures, many)) refl (rw inv.open_till refl)
     (λ open_till no_fault. r.1 c.if-count-eq0.true room))
 
 pub returns-in_default-feed-clause-serves : goal.returns-in_default-feed-clause-serves
 returns-in_default-feed-clause-serves g c =
     let inv = c.pieces.invariant in
-    let w = passing g.S.Source.given c.args.source.now c.pieces.source g.W.Write.contents c.args.writer.now
-    c.pieces.writer g.T.Tables.is_honest g.T.Tables.holds g.T.Tables.leaves c.args.vault.now
-    c.pieces.vault in
     let piece = take c.in-Ok.count c.read.new.buf in
     let reads = reads_by c.pieces.intake inv.bytes inv.messages None inv.calm inv.reading in
-    serves_part _ _ w _ (record {
+    serves_part _ _ _ _ (record {
       bytes = inv.bytes ++ piece;
       messages = inv.messages;
       read = consumes_both _ _ _ inv.bytes piece inv.read c.in-Ok.ensures.bytes.0;
       begins = begins_more inv.bytes piece inv.messages (begins_of inv.bytes inv.messages None reads);
-      stops =
-          inl
-          (before_of w _ (subst (AllAnswered w) (sym (up_to_close-none (shown inv.messages) inv.open_till))
-          inv.answered));
+      stops = stops_after message_kind _ [] _ (all_as _ _ _
+          (sym (up_to_close-none (shown inv.messages) inv.open_till)) inv.answered);
     })
 
 pub returns-in-Ok-true-clause-serves : goal.returns-in-Ok-true-clause-serves
 returns-in-Ok-true-clause-serves g c =
     let inv = c.pieces.invariant in
     let piece = take c.in-Ok.count c.read.new.buf in
-    let fed = c.in-Ok-feed.ensures.reads in
     let bytes = inv.bytes ++ piece in
-    let ms = inv.messages ++ fed.0 in
-    let ps = c.deref.result.now in
-    let more = fed_of _ _ _ _ inv.bytes piece inv.messages fed.0 ps inv.read c.in-Ok.ensures.bytes.0
-    (fed.2 inv.bytes inv.messages inv.reading) (c.deref.ensures.value ∙ fed.1) inv.open_till in
-    let w = passing g.S.Source.given c.args.source.now c.answer_all.new.source g.W.Write.contents
-    c.args.writer.now c.answer_all.new.writer g.T.Tables.is_honest g.T.Tables.holds g.T.Tables.leaves
-    c.args.vault.now c.answer_all.new.vault in
-    let all =
-    subst (AllAnswered w) (sym more.whole) (all_then g.S.Source.given c.args.source.now c.pieces.source
-    c.answer_all.new.source g.W.Write.contents
-    c.args.writer.now c.pieces.writer c.answer_all.new.writer g.T.Tables.is_honest g.T.Tables.holds
-    g.T.Tables.leaves c.args.vault.now c.pieces.vault c.answer_all.new.vault
-    c.answer_all.ensures.trusted.honest
-    (shown inv.messages) (up_to_close c.deref.result.now) inv.answered
-    c.in-Ok-true.ensures.ends) in
+    let ms = inv.messages ++ c.in-Ok-feed.ensures.reads.0 in
+    let more = fed_of _ _ _ _ _ inv.bytes piece inv.messages c.deref.result.now _ inv.read
+    c.in-Ok.ensures.bytes.0 inv.reading c.deref.ensures.value inv.open_till c.in-Ok-feed.ensures.reads in
+    let all = all_as _ _ _ (sym more.whole)
+    (all_then message_kind [] _ _ _ (up_to_close c.deref.result.now) inv.answered c.in-Ok-true.ensures.ends
+    (record { given = refl; sent = refl; held = λ V h. h; back = c.answer_all.ensures.trusted.disk_honest }))
+    in
     let closed : has_close (shown ms) ≡ true =
     more.closing ∙ sym c.in-Ok-true.ensures.closes ∙ c.in-Ok-true.field-0-test in
-    serves_all _ _ _ _ (served_plain _ _ w bytes ms more.read c.feed.new.self.fault
+    serves_all _ _ _ _ (served_plain _ _ _ bytes ms more.read c.feed.new.self.fault
     (record { messages = c.left-pairs.result - c.left-in-Ok-true.result; fault = None })
     (reads_by c.feed.new.self bytes ms c.feed.new.self.fault refl more.reading) all
     (omega (
@@ -134,53 +115,35 @@ pub returns-in-Err-clause-serves : goal.returns-in-Err-clause-serves
 returns-in-Err-clause-serves g c =
     let inv = c.pieces.invariant in
     let piece = take c.in-Ok.count c.read.new.buf in
-    let fed = c.in-Ok-feed.ensures.reads in
     let bytes = inv.bytes ++ piece in
-    let ms = inv.messages ++ fed.0 in
-    let ps = c.deref.result.now in
-    let more = fed_of _ _ _ _ inv.bytes piece inv.messages fed.0 ps inv.read c.in-Ok.ensures.bytes.0
-    (fed.2 inv.bytes inv.messages inv.reading) (c.deref.ensures.value ∙ fed.1) inv.open_till in
-    let w = passing g.S.Source.given c.args.source.now c.answer_all.new.source g.W.Write.contents
-    c.args.writer.now c.answer_all.new.writer g.T.Tables.is_honest g.T.Tables.holds g.T.Tables.leaves
-    c.args.vault.now c.answer_all.new.vault in
+    let ms = inv.messages ++ c.in-Ok-feed.ensures.reads.0 in
+    let more = fed_of _ _ _ _ _ inv.bytes piece inv.messages c.deref.result.now _ inv.read
+    c.in-Ok.ensures.bytes.0 inv.reading c.deref.ensures.value inv.open_till c.in-Ok-feed.ensures.reads in
     let e = c.in-Err.fault in
-    let stops = stops_then g.S.Source.given c.args.source.now c.pieces.source c.answer_all.new.source
-    g.W.Write.contents c.args.writer.now c.pieces.writer c.answer_all.new.writer g.T.Tables.is_honest
-    g.T.Tables.holds g.T.Tables.leaves c.args.vault.now c.pieces.vault c.answer_all.new.vault
-    c.answer_all.ensures.trusted.honest (shown inv.messages) (up_to_close c.deref.result.now) inv.answered
-    e c.in-Err.ensures.ends in
-    serves_part _ _ _ _ (stopped_of _ _ w bytes ms more.read e c.feed.new.self.fault
-    (not_read e _ _ _ _ _ _ c.in-Err.ensures.told)
-    (reads_by c.feed.new.self bytes ms c.feed.new.self.fault refl more.reading) (rw more.whole stops))
+    let stops = stops_as _ e _ _ (sym more.whole)
+    (stops_then message_kind [] _ _ _ (up_to_close c.deref.result.now) inv.answered e c.in-Err.ensures.ends
+    (record { given = refl; sent = refl; held = λ V h. h; back = c.answer_all.ensures.trusted.disk_honest }))
+    in
+    serves_part _ _ _ _ (stopped_of _ _ _ bytes ms more.read e c.feed.new.self.fault
+    (not_read e _ _ _ _ _ _ c.in-Err.ensures.own_failure)
+    (reads_by c.feed.new.self bytes ms c.feed.new.self.fault refl more.reading) stops)
 
 pub returns-in-Err-refuse-clause-serves : goal.returns-in-Err-refuse-clause-serves
 returns-in-Err-refuse-clause-serves g c =
     let inv = c.pieces.invariant in
     let piece = take c.in-Ok.count c.read.new.buf in
-    let fed = c.in-Ok-feed.ensures.reads in
     let bytes = inv.bytes ++ piece in
-    let ms = inv.messages ++ fed.0 in
-    let ps = c.deref.result.now in
-    let more = fed_of _ _ _ _ inv.bytes piece inv.messages fed.0 ps inv.read c.in-Ok.ensures.bytes.0
-    (fed.2 inv.bytes inv.messages inv.reading) (c.deref.ensures.value ∙ fed.1) inv.open_till in
-    let w = passing g.S.Source.given c.args.source.now c.answer_all.new.source g.W.Write.contents
-    c.args.writer.now c.answer_all.new.writer g.T.Tables.is_honest g.T.Tables.holds g.T.Tables.leaves
-    c.args.vault.now c.answer_all.new.vault in
+    let ms = inv.messages ++ c.in-Ok-feed.ensures.reads.0 in
+    let more = fed_of _ _ _ _ _ inv.bytes piece inv.messages c.deref.result.now _ inv.read
+    c.in-Ok.ensures.bytes.0 inv.reading c.deref.ensures.value inv.open_till c.in-Ok-feed.ensures.reads in
     let none : has_close (shown ms) ≡ false =
     more.closing ∙ sym c.in-Ok-false.ensures.closes ∙ c.in-Ok-false.field-0-test in
-    let all = subst (AllAnswered w) (sym more.whole ∙ up_to_close-none (shown ms) none)
-    (all_then g.S.Source.given c.args.source.now c.pieces.source c.answer_all.new.source
-    g.W.Write.contents
-    c.args.writer.now c.pieces.writer c.answer_all.new.writer g.T.Tables.is_honest g.T.Tables.holds
-    g.T.Tables.leaves c.args.vault.now c.pieces.vault c.answer_all.new.vault
-    c.answer_all.ensures.trusted.honest
-    (shown inv.messages) (up_to_close c.deref.result.now) inv.answered c.in-Ok-false.ensures.ends) in
-    let many : length (up_to_close ps) ≡ length fed.0 = more.count none in
+    let all = all_as _ _ _ (sym more.whole ∙ up_to_close-none (shown ms) none)
+    (all_then message_kind [] _ _ _ (up_to_close c.deref.result.now) inv.answered c.in-Ok-false.ensures.ends
+    (record { given = refl; sent = refl; held = λ V h. h; back = c.answer_all.ensures.trusted.disk_honest }))
+    in
     let fault = sym c.in-Ok-feed.ensures.fault ∙ c.in-Some.is in
-    serves_part _ _ _ _ (stopped_fault g.S.Source.given c.args.source.now c.answer_all.new.source
-    g.W.Write.contents
-    c.args.writer.now c.answer_all.new.writer c.refuse.new.writer g.T.Tables.is_honest g.T.Tables.holds
-    g.T.Tables.leaves c.args.vault.now c.answer_all.new.vault _ _ bytes ms c.in-Some.fault more.read
+    serves_part _ _ _ _ (stopped_fault _ _ _ _ bytes ms c.in-Some.fault more.read
     (reads_by c.feed.new.self bytes ms (Some c.in-Some.fault) fault more.reading) none all
     c.in-Err-refuse.stop c.in-Err-refuse.ensures.ends)
 
@@ -188,31 +151,19 @@ pub returns-in-Some-clause-serves : goal.returns-in-Some-clause-serves
 returns-in-Some-clause-serves g c =
     let inv = c.pieces.invariant in
     let piece = take c.in-Ok.count c.read.new.buf in
-    let fed = c.in-Ok-feed.ensures.reads in
     let bytes = inv.bytes ++ piece in
-    let ms = inv.messages ++ fed.0 in
-    let ps = c.deref.result.now in
-    let more = fed_of _ _ _ _ inv.bytes piece inv.messages fed.0 ps inv.read c.in-Ok.ensures.bytes.0
-    (fed.2 inv.bytes inv.messages inv.reading) (c.deref.ensures.value ∙ fed.1) inv.open_till in
-    let w = passing g.S.Source.given c.args.source.now c.answer_all.new.source g.W.Write.contents
-    c.args.writer.now c.answer_all.new.writer g.T.Tables.is_honest g.T.Tables.holds g.T.Tables.leaves
-    c.args.vault.now c.answer_all.new.vault in
+    let ms = inv.messages ++ c.in-Ok-feed.ensures.reads.0 in
+    let more = fed_of _ _ _ _ _ inv.bytes piece inv.messages c.deref.result.now _ inv.read
+    c.in-Ok.ensures.bytes.0 inv.reading c.deref.ensures.value inv.open_till c.in-Ok-feed.ensures.reads in
     let none : has_close (shown ms) ≡ false =
     more.closing ∙ sym c.in-Ok-false.ensures.closes ∙ c.in-Ok-false.field-0-test in
-    let all = subst (AllAnswered w) (sym more.whole ∙ up_to_close-none (shown ms) none)
-    (all_then g.S.Source.given c.args.source.now c.pieces.source c.answer_all.new.source
-    g.W.Write.contents
-    c.args.writer.now c.pieces.writer c.answer_all.new.writer g.T.Tables.is_honest g.T.Tables.holds
-    g.T.Tables.leaves c.args.vault.now c.pieces.vault c.answer_all.new.vault
-    c.answer_all.ensures.trusted.honest
-    (shown inv.messages) (up_to_close c.deref.result.now) inv.answered c.in-Ok-false.ensures.ends) in
-    let many : length (up_to_close ps) ≡ length fed.0 = more.count none in
+    let all = all_as _ _ _ (sym more.whole ∙ up_to_close-none (shown ms) none)
+    (all_then message_kind [] _ _ _ (up_to_close c.deref.result.now) inv.answered c.in-Ok-false.ensures.ends
+    (record { given = refl; sent = refl; held = λ V h. h; back = c.answer_all.ensures.trusted.disk_honest }))
+    in
+    let ns = c.in-Ok-feed.ensures.reads.0 in
     let fault = sym c.in-Ok-feed.ensures.fault ∙ c.in-Some.is in
-    let count : length ms ≡ length inv.messages + length fed.0 = length-append inv.messages fed.0 in
-    serves_all _ _ _ _ (served_fault g.S.Source.given c.args.source.now c.answer_all.new.source
-    g.W.Write.contents
-    c.args.writer.now c.answer_all.new.writer c.refuse.new.writer g.T.Tables.is_honest g.T.Tables.holds
-    g.T.Tables.leaves c.args.vault.now c.answer_all.new.vault _ _ bytes ms c.in-Some.fault more.read
+    serves_all _ _ _ _ (served_fault _ _ _ _ bytes ms c.in-Some.fault more.read
     (reads_by c.feed.new.self bytes ms (Some c.in-Some.fault) fault more.reading) none all
     (record { messages = c.left-pairs.result - c.left-in-Some.result; fault = Some c.in-Some.fault })
     (omega (
@@ -221,8 +172,8 @@ returns-in-Some-clause-serves g c =
       c.in-Ok-false.ensures.counted,
       c.left-pairs.ensures,
       c.left-in-Some.ensures,
-      many,
-      count,
+      more.count none,
+      length-append inv.messages ns,
     ))
     refl c.in_default-refuse.ensures.ends)
 
@@ -230,50 +181,33 @@ pub pieces-smaller : goal.pieces-smaller
 pieces-smaller g c =
     let inv = c.pieces.invariant in
     let piece = take c.in-Ok.count c.read.new.buf in
-    let fed = c.in-Ok-feed.ensures.reads in
     let bytes = inv.bytes ++ piece in
-    let ms = inv.messages ++ fed.0 in
-    let ps = c.deref.result.now in
-    let more = fed_of _ _ _ _ inv.bytes piece inv.messages fed.0 ps inv.read c.in-Ok.ensures.bytes.0
-    (fed.2 inv.bytes inv.messages inv.reading) (c.deref.ensures.value ∙ fed.1) inv.open_till in
+    let ms = inv.messages ++ c.in-Ok-feed.ensures.reads.0 in
+    let more = fed_of _ _ _ _ _ inv.bytes piece inv.messages c.deref.result.now _ inv.read
+    c.in-Ok.ensures.bytes.0 inv.reading c.deref.ensures.value inv.open_till c.in-Ok-feed.ensures.reads in
     let none : has_close (shown ms) ≡ false =
     more.closing ∙ sym c.in-Ok-false.ensures.closes ∙ c.in-Ok-false.field-0-test in
-    let many : length (up_to_close ps) ≡ length fed.0 = more.count none in
+    let ns = c.in-Ok-feed.ensures.reads.0 in
     let room : 0 < length c.read.new.buf = omega (arith, c.read.auto.buf, inv.room) in
     let taken = length-take c.in-Ok.count c.read.new.buf in
     let some : 0 < length piece = omega (arith, c.if-count-eq0.false, room, taken) in
-    falls fed.0 c.pieces.intake c.feed.new.self inv.bytes piece inv.messages
+    falls ns c.pieces.intake c.feed.new.self inv.bytes piece inv.messages
     (g.S.Source.count_left c.pieces.source) (g.S.Source.count_left c.answer_all.new.source)
     inv.calm (sym c.in-Ok-feed.ensures.fault ∙ c.in_default-fault.is) inv.reading more.reading some
-    (c.in-Ok-false.ensures.counted ∙ ap (λ n. g.S.Source.count_left c.answer_all.new.source + n) many)
+    (c.in-Ok-false.ensures.counted
+    ∙ ap (λ n. g.S.Source.count_left c.answer_all.new.source + n) (more.count none))
 
 pub pieces-preserved : goal.pieces-preserved
 pieces-preserved g c =
     let inv = c.pieces.invariant in
     let piece = take c.in-Ok.count c.read.new.buf in
-    let fed = c.in-Ok-feed.ensures.reads in
     let bytes = inv.bytes ++ piece in
-    let ms = inv.messages ++ fed.0 in
-    let ps = c.deref.result.now in
-    let more = fed_of _ _ _ _ inv.bytes piece inv.messages fed.0 ps inv.read c.in-Ok.ensures.bytes.0
-    (fed.2 inv.bytes inv.messages inv.reading) (c.deref.ensures.value ∙ fed.1) inv.open_till in
-    let w = passing g.S.Source.given c.args.source.now c.answer_all.new.source g.W.Write.contents
-    c.args.writer.now c.answer_all.new.writer g.T.Tables.is_honest g.T.Tables.holds g.T.Tables.leaves
-    c.args.vault.now c.answer_all.new.vault in
+    let ms = inv.messages ++ c.in-Ok-feed.ensures.reads.0 in
+    let more = fed_of _ _ _ _ _ inv.bytes piece inv.messages c.deref.result.now _ inv.read
+    c.in-Ok.ensures.bytes.0 inv.reading c.deref.ensures.value inv.open_till c.in-Ok-feed.ensures.reads in
     let none : has_close (shown ms) ≡ false =
     more.closing ∙ sym c.in-Ok-false.ensures.closes ∙ c.in-Ok-false.field-0-test in
-    let all = subst (AllAnswered w) (sym more.whole ∙ up_to_close-none (shown ms) none)
-    (all_then g.S.Source.given c.args.source.now c.pieces.source c.answer_all.new.source
-    g.W.Write.contents
-    c.args.writer.now c.pieces.writer c.answer_all.new.writer g.T.Tables.is_honest g.T.Tables.holds
-    g.T.Tables.leaves c.args.vault.now c.pieces.vault c.answer_all.new.vault
-    c.answer_all.ensures.trusted.honest
-    (shown inv.messages) (up_to_close c.deref.result.now) inv.answered c.in-Ok-false.ensures.ends) in
-    let many : length (up_to_close ps) ≡ length fed.0 = more.count none in
     let went = after_read _ _ _ _ _ _ (c.in-Ok.ensures.flag ∙ sym c.in-Ok.ensures.ok) inv.told in
-    let all_told =
-    beside_reader Bool (Ok false) (is_stopped c.read.new.self) _ _ _ _ _ _ c.in-Ok-false.ensures.told
-    ∙ went in
     record {
       room = c.read.auto.buf ∙ inv.room;
       calm = sym c.in-Ok-feed.ensures.fault ∙ c.in_default-fault.is;
@@ -282,66 +216,84 @@ pieces-preserved g c =
       read = more.read;
       reading = more.reading;
       open_till = none;
-      answered = all;
-      counted =
-          omega (arith, inv.counted, c.in-Ok-false.ensures.counted, many, length-append inv.messages fed.0);
+      answered =
+          all_as _ _ _ (sym more.whole ∙ up_to_close-none (shown ms) none)
+          (all_then message_kind [] _ _ _ (up_to_close c.deref.result.now) inv.answered
+          c.in-Ok-false.ensures.ends
+          (record {
+            given = refl;
+            sent = refl;
+            held = λ V h. h;
+            back = c.answer_all.ensures.trusted.disk_honest;
+          }));
+      counted = omega (
+        arith,
+        inv.counted,
+        c.in-Ok-false.ensures.counted,
+        more.count none,
+        length-append inv.messages c.in-Ok-feed.ensures.reads.0,
+      );
       later = g.met.S.Source.transitive _ _ _ inv.later c.answer_all.ensures.later;
-      told = all_told;
-      honest = λ h. inv.honest (c.answer_all.ensures.trusted.honest h);
+      told =
+          beside_reader Bool (Ok false) (is_stopped c.read.new.self) _ _ _ _ _ _
+          c.in-Ok-false.ensures.own_failure
+          ∙ went;
+      honest = λ h. inv.honest (c.answer_all.ensures.trusted.disk_honest h);
     }
 
-pub returns-in_default-clause-told : goal.returns-in_default-clause-told
-returns-in_default-clause-told g c =
+pub returns-in_default-clause-own_failure : goal.returns-in_default-clause-own_failure
+returns-in_default-clause-own_failure g c =
     ap (λ b. failures (g.S.Source.has_refused c.pieces.source) b (is_stopped c.pieces.writer)
     (is_broken c.pieces.vault))
     c.in_default.ensures.flag
     ∙ ap (λ (f : Failures). record f { reader = true }) c.pieces.invariant.told
 
-pub returns-then-count-eq0-clause-told : goal.returns-then-count-eq0-clause-told
-returns-then-count-eq0-clause-told g c =
+pub returns-then-count-eq0-clause-own_failure : goal.returns-then-count-eq0-clause-own_failure
+returns-then-count-eq0-clause-own_failure g c =
     let went =
     after_read _ _ _ _ _ _ (c.in-Ok.ensures.flag ∙ sym c.in-Ok.ensures.ok) c.pieces.invariant.told in
     went
 
-pub returns-in_default-feed-clause-told : goal.returns-in_default-feed-clause-told
-returns-in_default-feed-clause-told g c =
+pub returns-in_default-feed-clause-own_failure : goal.returns-in_default-feed-clause-own_failure
+returns-in_default-feed-clause-own_failure g c =
     let went =
     after_read _ _ _ _ _ _ (c.in-Ok.ensures.flag ∙ sym c.in-Ok.ensures.ok) c.pieces.invariant.told in
     went
 
-pub returns-in-Ok-true-clause-told : goal.returns-in-Ok-true-clause-told
-returns-in-Ok-true-clause-told g c =
+pub returns-in-Ok-true-clause-own_failure : goal.returns-in-Ok-true-clause-own_failure
+returns-in-Ok-true-clause-own_failure g c =
     let went =
     after_read _ _ _ _ _ _ (c.in-Ok.ensures.flag ∙ sym c.in-Ok.ensures.ok) c.pieces.invariant.told in
-    beside_reader Bool (Ok true) (is_stopped c.read.new.self) _ _ _ _ _ _ c.in-Ok-true.ensures.told ∙ went
+    beside_reader Bool (Ok true) (is_stopped c.read.new.self) _ _ _ _ _ _ c.in-Ok-true.ensures.own_failure
+    ∙ went
 
-pub returns-in-Err-clause-told : goal.returns-in-Err-clause-told
-returns-in-Err-clause-told g c =
+pub returns-in-Err-clause-own_failure : goal.returns-in-Err-clause-own_failure
+returns-in-Err-clause-own_failure g c =
     let went =
     after_read _ _ _ _ _ _ (c.in-Ok.ensures.flag ∙ sym c.in-Ok.ensures.ok) c.pieces.invariant.told in
     tells_as Bool Served c.in-Err.fault _ _ _ went
     (beside_reader Bool (Err c.in-Err.fault) (is_stopped c.read.new.self) _ _ _ _ _ _
-    c.in-Err.ensures.told)
+    c.in-Err.ensures.own_failure)
 
-pub returns-in-Err-refuse-clause-told : goal.returns-in-Err-refuse-clause-told
-returns-in-Err-refuse-clause-told g c =
+pub returns-in-Err-refuse-clause-own_failure : goal.returns-in-Err-refuse-clause-own_failure
+returns-in-Err-refuse-clause-own_failure g c =
     let went =
     after_read _ _ _ _ _ _ (c.in-Ok.ensures.flag ∙ sym c.in-Ok.ensures.ok) c.pieces.invariant.told in
     let all =
-    beside_reader Bool (Ok false) (is_stopped c.read.new.self) _ _ _ _ _ _ c.in-Ok-false.ensures.told
+    beside_reader Bool (Ok false) (is_stopped c.read.new.self) _ _ _ _ _ _ c.in-Ok-false.ensures.own_failure
     ∙ went in
     tells_as (Unit {0}) Served c.in-Err-refuse.stop _ _ _ all
     (beside_writer c.in-Err-refuse.stop (g.S.Source.has_refused c.answer_all.new.source)
     (is_stopped c.read.new.self)
-    (is_broken c.answer_all.new.vault) _ _ c.in-Err-refuse.ensures.told)
+    (is_broken c.answer_all.new.vault) _ _ c.in-Err-refuse.ensures.own_failure)
 
-pub returns-in-Some-clause-told : goal.returns-in-Some-clause-told
-returns-in-Some-clause-told g c =
+pub returns-in-Some-clause-own_failure : goal.returns-in-Some-clause-own_failure
+returns-in-Some-clause-own_failure g c =
     let went =
     after_read _ _ _ _ _ _ (c.in-Ok.ensures.flag ∙ sym c.in-Ok.ensures.ok) c.pieces.invariant.told in
     let all =
-    beside_reader Bool (Ok false) (is_stopped c.read.new.self) _ _ _ _ _ _ c.in-Ok-false.ensures.told
+    beside_reader Bool (Ok false) (is_stopped c.read.new.self) _ _ _ _ _ _ c.in-Ok-false.ensures.own_failure
     ∙ went in
     ap (λ (f : Failures). failures (g.S.Source.has_refused c.answer_all.new.source)
     (is_stopped c.read.new.self) f.writer
-    (is_broken c.answer_all.new.vault)) c.in_default-refuse.ensures.told ∙ all
+    (is_broken c.answer_all.new.vault)) c.in_default-refuse.ensures.own_failure ∙ all

@@ -1,12 +1,13 @@
-use Rattle.std.proofs.Common.{◌≡◌, ℕ, ◌+◌, ◌*◌, ◌-◌, List, length, None, false}
+use Rattle.std.proofs.Common.{◌≡◌, ℕ, ◌+◌, ◌*◌, ◌-◌, List, [], length, None, false}
 use Rattle.std.specs.Io.KnownBytes.{Consumes}
 use Rattle.vault_store.specs.Applied.{is_broken, tables_of}
 use Rattle.vault_wire.specs.Messages.{Request}
 use Rattle.vault_wire.specs.Reading.{IsReading}
 use Rattle.vault_wire.specs.Watching.{is_stopped}
-use Rattle.vault_http.specs.Exchanges.{has_close, shown}
+use Rattle.vault_http.specs.Exchanges.{has_close, message_kind, shown}
 use Rattle.vault_http.specs.Faults.{failures}
-use Rattle.vault_http.specs.Passing.{AllAnswered, passing}
+use Rattle.vault_engine.specs.Passing.{passing}
+use Rattle.vault_engine.specs.Within.{AllAnswered}
 use Rattle.vault_http.proofs.serve.serve_by.Given as goal
 
 abbrev pub invariant-pieces : goal.invariant-pieces
@@ -18,8 +19,8 @@ invariant-pieces g l = record {
   read : Consumes (g.R.Read.remaining l.initial.reader.inner) (g.R.Read.remaining l.reader.inner) bytes;
   reading : IsReading l.intake bytes messages;
   open_till : has_close (shown messages) ≡ false;
-  answered : AllAnswered (passing g.S.Source.given l.initial.source l.source g.W.Write.contents
-      l.initial.writer l.writer
+  answered : AllAnswered message_kind [] (passing g.S.Source.given l.initial.source l.source
+      g.W.Write.contents l.initial.writer l.writer
       g.T.Tables.is_honest g.T.Tables.holds g.T.Tables.leaves l.initial.vault l.vault) (shown messages);
   counted : g.S.Source.count_left l.initial.source ≡ g.S.Source.count_left l.source + length messages;
   later : g.S.Source.precedes l.initial.source l.source;

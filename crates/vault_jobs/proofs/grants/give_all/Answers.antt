@@ -15,7 +15,7 @@ returns-in-Ok-Refused-clause-carried g c =
     refused_then g.T.Tables.is_honest g.T.Tables.holds g.T.Tables.leaves c.args.vault.now c.loop-given.vault
     c.change.new.vault (grants_at c.args.now rows) i (Grant row.0 row.1 row.2 row.3 c.args.now)
     (is_broken c.change.new.vault) (grants_more c.args.now rows i row c.given-item.is inside)
-    (grants_below c.args.now rows i inside) c.in-Ok-Refused.ensures.honest c.loop-given.invariant.2
+    (grants_below c.args.now rows i inside) c.in-Ok-Refused.ensures.disk_honest c.loop-given.invariant.2
     c.in-Ok-Refused.number (rw c.in-Ok-Refused.field-0-is at c.in-Ok-Refused.ensures.carried)
 
 pub returns-in-Err-clause-carried : goal.returns-in-Err-clause-carried
@@ -27,7 +27,7 @@ returns-in-Err-clause-carried g c =
     stopped_then g.T.Tables.is_honest g.T.Tables.holds g.T.Tables.leaves c.args.vault.now c.loop-given.vault
     c.change.new.vault (grants_at c.args.now rows) i (Grant row.0 row.1 row.2 row.3 c.args.now)
     (is_broken c.change.new.vault) (grants_more c.args.now rows i row c.given-item.is inside)
-    (grants_below c.args.now rows i inside) c.in-Err.ensures.honest c.loop-given.invariant.2
+    (grants_below c.args.now rows i inside) c.in-Err.ensures.disk_honest c.loop-given.invariant.2
     c.in-Err.fault c.in-Err.ensures.carried (granted_or_refused row.0 row.1 row.2 row.3 c.args.now)
 
 pub loop-given-preserved : goal.loop-given-preserved
@@ -37,11 +37,11 @@ loop-given-preserved g c =
     let inside : i < length rows = omega (arith, c.loop-given-test.true, c.loop-given.auto.given-index-end) in
     let row = c.given-item.result in (
       unbroken (is_broken c.change.new.vault) c.in-Ok-Done.field-0 _ c.in-Ok-Done.ensures.broken,
-      λ h. c.loop-given.invariant.1 (c.in-Ok-Done.ensures.honest h),
+      λ h. c.loop-given.invariant.1 (c.in-Ok-Done.ensures.disk_honest h),
       λ V h held. done_then g.T.Tables.is_honest g.T.Tables.holds g.T.Tables.leaves c.args.vault.now
           c.loop-given.vault c.change.new.vault (grants_at c.args.now rows) i
           (Grant row.0 row.1 row.2 row.3 c.args.now) (is_broken c.change.new.vault)
           (grants_more c.args.now rows i row c.given-item.is inside) (grants_below c.args.now rows i inside)
-          c.in-Ok-Done.ensures.honest c.loop-given.invariant.2
+          c.in-Ok-Done.ensures.disk_honest c.loop-given.invariant.2
           (rw c.in-Ok-Done.field-0-is at c.in-Ok-Done.ensures.carried) V (h, held),
     )

@@ -1,5 +1,5 @@
 use Rattle.std.proofs.Common.{inr, refl}
-use Rattle.vault_http.specs.Passing.{Passage, passing}
+use Rattle.vault_engine.specs.Passing.{Passage, passing}
 use Rattle.vault_jobs.proofs.Flushing.{flushed}
 use Rattle.vault_jobs.proofs.pipe.pipe.Goals as goal
 

@@ -1,6 +1,6 @@
 use Rattle.std.proofs.Common.{Err, inl, subst, sym}
 use Rattle.std.specs.Prelude.{All}
-use Rattle.vault_http.specs.Passing.{Passage}
+use Rattle.vault_engine.specs.Passing.{Passage}
 use Rattle.vault_listen.specs.Peers.{vault_passing}
 use Rattle.vault_store.specs.Applied.{Contains, is_broken, tables_of}
 use Rattle.vault_jobs.proofs.Refining.{carries_all}
@@ -23,12 +23,12 @@ returns-in-Err-carry_all-clause-failed g c =
     let step : Passage = vault_passing honest holds leaves v1 v2 in
     inl (
       c.in-Ok.changes,
-      λ V b. (c.in-Ok.ensures.found V (c.in-Err-carry_all.ensures.honest b.0, b.1)).0,
+      λ V b. (c.in-Ok.ensures.found V (c.in-Err-carry_all.ensures.disk_honest b.0, b.1)).0,
       subst (λ cs. CarriesAll cs (vault_passing honest holds leaves v0 v2) (is_broken v2)
           (Err c.in-Err-carry_all.fault)) c.as_slice.ensures.value
           (carries_all (honest (tables_of v2)) (Contains holds v0) (Contains holds v2) (leaves (tables_of v2))
           step
-          (λ V h held. (h, (c.in-Ok.ensures.found V (c.in-Err-carry_all.ensures.honest h, held)).1.0))
+          (λ V h held. (h, (c.in-Ok.ensures.found V (c.in-Err-carry_all.ensures.disk_honest h, held)).1.0))
           (λ h V kept. kept) (λ h V W torn. torn) c.as_slice.result.now (is_broken v2)
           (Err c.in-Err-carry_all.fault) c.in-Err-carry_all.ensures.carried),
     )

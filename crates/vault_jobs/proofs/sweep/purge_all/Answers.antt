@@ -17,7 +17,7 @@ returns-in-Ok-Refused-clause-carried g c =
     refused_then g.T.Tables.is_honest g.T.Tables.holds g.T.Tables.leaves c.args.vault.now c.loop-token.vault
     c.change.new.vault (purges_at who c.args.now tokens) i (purge_at who c.args.now token)
     (is_broken c.change.new.vault) (purges_more who c.args.now tokens i token c.token-item.is inside)
-    (purges_below who c.args.now tokens i inside) c.in-Ok-Refused.ensures.honest c.loop-token.invariant.2
+    (purges_below who c.args.now tokens i inside) c.in-Ok-Refused.ensures.disk_honest c.loop-token.invariant.2
     c.in-Ok-Refused.number (rw c.in-Ok-Refused.field-0-is at c.in-Ok-Refused.ensures.carried)
 
 pub returns-in-Err-clause-carried : goal.returns-in-Err-clause-carried
@@ -31,7 +31,7 @@ returns-in-Err-clause-carried g c =
     stopped_then g.T.Tables.is_honest g.T.Tables.holds g.T.Tables.leaves c.args.vault.now c.loop-token.vault
     c.change.new.vault (purges_at who c.args.now tokens) i (purge_at who c.args.now token)
     (is_broken c.change.new.vault) (purges_more who c.args.now tokens i token c.token-item.is inside)
-    (purges_below who c.args.now tokens i inside) c.in-Err.ensures.honest c.loop-token.invariant.2
+    (purges_below who c.args.now tokens i inside) c.in-Err.ensures.disk_honest c.loop-token.invariant.2
     c.in-Err.fault c.in-Err.ensures.carried (purged_or_refused who.caller who.merchant token c.args.now)
 
 pub loop-token-preserved : goal.loop-token-preserved
@@ -43,12 +43,12 @@ loop-token-preserved g c =
     let token = c.token-item.result in
     let who = c.args.asker.now in (
       unbroken (is_broken c.change.new.vault) c.in-Ok-Done.field-0 _ c.in-Ok-Done.ensures.broken,
-      λ h. c.loop-token.invariant.1 (c.in-Ok-Done.ensures.honest h),
+      λ h. c.loop-token.invariant.1 (c.in-Ok-Done.ensures.disk_honest h),
       λ V h held. done_then g.T.Tables.is_honest g.T.Tables.holds g.T.Tables.leaves c.args.vault.now
           c.loop-token.vault c.change.new.vault (purges_at who c.args.now tokens) i
           (purge_at who c.args.now token) (is_broken c.change.new.vault)
           (purges_more who c.args.now tokens i token c.token-item.is inside)
           (purges_below who c.args.now tokens i inside)
-          c.in-Ok-Done.ensures.honest c.loop-token.invariant.2
+          c.in-Ok-Done.ensures.disk_honest c.loop-token.invariant.2
           (rw c.in-Ok-Done.field-0-is at c.in-Ok-Done.ensures.carried) V (h, held),
     )

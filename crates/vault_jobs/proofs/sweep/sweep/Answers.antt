@@ -19,7 +19,7 @@ pub returns-in-Err-clause-swept : goal.returns-in-Err-clause-swept
 returns-in-Err-clause-swept g c =
     unread g.T.Tables.is_honest g.T.Tables.holds g.T.Tables.leaves c.args.asker.now c.args.now
     c.args.vault.now c.loop.vault c.dead.new.self c.loop.counter c.loop.count c.loop.invariant.2
-    c.in-Err.ensures.honest c.in-Err.fault c.loop.invariant.0 c.in-Err.ensures.broken
+    c.in-Err.ensures.disk_honest c.in-Err.fault c.loop.invariant.0 c.in-Err.ensures.broken
     (λ is. c.in-Err.ensures.reopen.0 (ap Err is)) (λ is. c.in-Err.ensures.memory (ap Err is))
     c.in-Err.ensures.crash
 
@@ -29,15 +29,16 @@ returns-then-is_empty-clause-swept g c =
     grind (arith, nat_tests, common_steps, c.is_empty.ensures, c.if-is_empty.true) in
     all_swept g.T.Tables.is_honest g.T.Tables.holds g.T.Tables.leaves c.args.asker.now c.args.now
     c.args.vault.now c.loop.vault c.dead.new.self c.loop.counter c.loop.count c.loop.invariant.2
-    c.in-Ok.ensures.honest (is_broken c.dead.new.self) c.in-Ok.tokens.items 1000 (omega arith) none
+    c.in-Ok.ensures.disk_honest (is_broken c.dead.new.self) c.in-Ok.tokens.items 1000 (omega arith) none
     c.in-Ok.ensures.told c.in-Ok.ensures.crash
 
 pub returns-in-Ok-Refused-clause-swept : goal.returns-in-Ok-Refused-clause-swept
 returns-in-Ok-Refused-clause-swept g c =
     page_refused g.T.Tables.is_honest g.T.Tables.holds g.T.Tables.leaves c.args.asker.now c.args.now
     c.args.vault.now c.loop.vault c.dead.new.self c.purge_all.new.vault c.loop.counter c.loop.count
-    c.as_slice.result.now 1000 (is_broken c.purge_all.new.vault) c.loop.invariant.2 c.in-Ok.ensures.honest
-    c.in-Ok-Refused.ensures.honest
+    c.as_slice.result.now 1000 (is_broken c.purge_all.new.vault) c.loop.invariant.2
+    c.in-Ok.ensures.disk_honest
+    c.in-Ok-Refused.ensures.disk_honest
     (λ h W held. let t = c.in-Ok.ensures.told h W held in (c.as_slice.ensures.value ∙ t.0, t.1))
     c.in-Ok-Refused.number (rw c.in-Ok-Refused.field-0-is at c.in-Ok-Refused.ensures.carried)
 
@@ -45,8 +46,9 @@ pub returns-in-Err-purge_all-clause-swept : goal.returns-in-Err-purge_all-clause
 returns-in-Err-purge_all-clause-swept g c =
     page_stopped g.T.Tables.is_honest g.T.Tables.holds g.T.Tables.leaves c.args.asker.now c.args.now
     c.args.vault.now c.loop.vault c.dead.new.self c.purge_all.new.vault c.loop.counter c.loop.count
-    c.as_slice.result.now 1000 (is_broken c.purge_all.new.vault) c.loop.invariant.2 c.in-Ok.ensures.honest
-    c.in-Err-purge_all.ensures.honest
+    c.as_slice.result.now 1000 (is_broken c.purge_all.new.vault) c.loop.invariant.2
+    c.in-Ok.ensures.disk_honest
+    c.in-Err-purge_all.ensures.disk_honest
     (λ h W held. let t = c.in-Ok.ensures.told h W held in (c.as_slice.ensures.value ∙ t.0, t.1))
     c.in-Err-purge_all.fault c.in-Err-purge_all.ensures.carried
 
@@ -58,11 +60,11 @@ loop-preserved g c =
     let size : c.len.result ≡ length page =
     grind (arith, common_steps, c.len.ensures, c.as_slice.ensures.len) in (
       unbroken (is_broken c.purge_all.new.vault) c.in-Ok-Done.field-0 _ c.in-Ok-Done.ensures.broken,
-      λ h. c.loop.invariant.1 (c.in-Ok.ensures.honest (c.in-Ok-Done.ensures.honest h)),
+      λ h. c.loop.invariant.1 (c.in-Ok.ensures.disk_honest (c.in-Ok-Done.ensures.disk_honest h)),
       page_swept g.T.Tables.is_honest g.T.Tables.holds g.T.Tables.leaves c.args.asker.now c.args.now
           c.args.vault.now c.loop.vault c.dead.new.self c.purge_all.new.vault c.loop.counter c.loop.count
-          page 1000 (is_broken c.purge_all.new.vault) c.loop.invariant.2 c.in-Ok.ensures.honest
-          c.in-Ok-Done.ensures.honest
+          page 1000 (is_broken c.purge_all.new.vault) c.loop.invariant.2 c.in-Ok.ensures.disk_honest
+          c.in-Ok-Done.ensures.disk_honest
           (λ h W held. let t = c.in-Ok.ensures.told h W held in (c.as_slice.ensures.value ∙ t.0, t.1))
           c.saturating_add-count.result
           (λ few. omega (arith, few, size, c.saturating_add-count.ensures)) some

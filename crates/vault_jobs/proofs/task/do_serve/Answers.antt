@@ -15,7 +15,7 @@ returns-in-Ok-Done-default-clause-does g c =
       does.1,
       serves_then g.T.Tables.is_honest g.T.Tables.holds g.T.Tables.leaves c.args.vault.now
           c.settle.new.vault c.serve_at-in-Ok-Done-default.new.vault c.in-Some.listed c.as_slice.result.now
-          it.field-0-1 c.as_slice.ensures.value c.serve_at-in-Ok-Done-default.ensures.honest
+          it.field-0-1 c.as_slice.ensures.value c.serve_at-in-Ok-Done-default.ensures.disk_honest
           it.ensures.changes (is_broken c.settle.new.vault)
           (is_broken c.serve_at-in-Ok-Done-default.new.vault)
           (rw it.field-0-0-is at it.ensures.carried) (g.K.Timekeeper.tells c.args.time.now)

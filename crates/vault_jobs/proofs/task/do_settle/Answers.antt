@@ -11,7 +11,7 @@ returns-in-Ok-clause-does g c =
       it.changes,
       it.ensures.changes,
       (
-        c.in-Ok.ensures.handed_on,
+        c.in-Ok.ensures.writer_ok,
         subst (Appends (g.W.Write.contents (inner_of c.args.output.now))
             (g.W.Write.contents (inner_of c.answer.new.output)))
             (five (codes "granted ") c.format.result.now _ (codes " withdrawn ")

@@ -1,6 +1,6 @@
 use Rattle.std.proofs.Common.{◌≡◌, [], refl}
 use Rattle.vault_store.specs.Applied.{is_broken}
-use Rattle.vault_http.specs.Passing.{Passage}
+use Rattle.vault_engine.specs.Passing.{Passage}
 use Rattle.vault_listen.specs.Peers.{vault_passing}
 use Rattle.vault_listen.proofs.Linking.{none_then}
 use Rattle.vault_jobs.proofs.Parts.{change_done, give_done, serve_done, settle_done, show_done, sweep_done}

@@ -1,7 +1,7 @@
 use Rattle.std.proofs.Common.{◌⊎◌}
 use Rattle.vault_listen.specs.Live.{pairs_of}
 use Rattle.vault_store.specs.Held.{IsHeld}
-use Rattle.vault_http.specs.Passing.{Passage, passing}
+use Rattle.vault_engine.specs.Passing.{Passage, passing}
 use Rattle.vault_jobs.specs.Piped.{IsPiped, StopsPiping}
 use Rattle.vault_jobs.specs.Trial.{IsCut, IsTrial, trial_vault}
 use Rattle.vault_jobs.proofs.Stops.{cut_piping, fixed_pairs, if_err_then, nothing_cut, on_err, on_ok_then}

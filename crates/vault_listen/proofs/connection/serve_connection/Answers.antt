@@ -1,7 +1,7 @@
 use Rattle.std.proofs.Common.{List, None, Result, Ok, Err, length, ap, arith, subst, sym}
 use Rattle.std.specs.Prelude.{IfErr, IfOk, MatchResult}
-use Rattle.vault_http.specs.Exchanges.{Pair}
-use Rattle.vault_http.specs.Passing.{passing}
+use Rattle.vault_engine.specs.Asking.{Pair}
+use Rattle.vault_engine.specs.Passing.{passing}
 use Rattle.vault_http.specs.Served.{IsServed, IsStopped}
 use Rattle.vault_listen.specs.Live.{AreGiven, pairs_of}
 use Rattle.vault_listen.proofs.Turns.{none_given}

@@ -20,9 +20,9 @@ returns-then-store_failed-clause-served g c =
       x,
       link_of (g.K.Timekeeper.tells c.args.time.now) g.T.Tables.is_honest g.T.Tables.holds g.T.Tables.leaves
           x c.args.vault.now e.new.vault
-          c.new-reader.result.stopped c.new-writer.result.stopped e.ensures.told.0 e.ensures.answered.0
+          c.new-reader.result.stopped c.new-writer.result.stopped e.ensures.own_failure.0 e.ensures.answered.0
           e.ensures.answered.1 e.ensures.answered.2 e.ensures.answered.3 c.new-reader.ensures.fresh
-          c.new-writer.ensures.fresh e.ensures.told.1 e.ensures.trusted.honest,
+          c.new-writer.ensures.fresh e.ensures.own_failure.1 e.ensures.trusted.disk_honest,
       record {
         gave = ap remaining c.new-reader.ensures.inner;
         took = ap contents c.new-writer.ensures.inner;
@@ -48,9 +48,9 @@ returns-clause-served g c =
       x,
       link_of (g.K.Timekeeper.tells c.args.time.now) g.T.Tables.is_honest g.T.Tables.holds g.T.Tables.leaves
           x c.args.vault.now e.new.vault
-          c.new-reader.result.stopped c.new-writer.result.stopped e.ensures.told.0 e.ensures.answered.0
+          c.new-reader.result.stopped c.new-writer.result.stopped e.ensures.own_failure.0 e.ensures.answered.0
           e.ensures.answered.1 e.ensures.answered.2 e.ensures.answered.3 c.new-reader.ensures.fresh
-          c.new-writer.ensures.fresh e.ensures.told.1 e.ensures.trusted.honest,
+          c.new-writer.ensures.fresh e.ensures.own_failure.1 e.ensures.trusted.disk_honest,
       record {
         gave = ap remaining c.new-reader.ensures.inner;
         took = ap contents c.new-writer.ensures.inner;

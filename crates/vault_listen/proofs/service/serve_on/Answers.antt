@@ -69,7 +69,7 @@ loop-preserved g c =
                 (All-cons GoesOn (Some x) [] it.3 (All-nil GoesOn));
             whole = ap is_broken w.vault-is ∙ w.in_ok-serve_link.ensures.store ∙ inv.whole;
             honest = λ h. inv.honest
-                (w.serve_link.ensures.honest (subst (λ v. honest (tables_of v)) w.vault-is h));
+                (w.serve_link.ensures.disk_honest (subst (λ v. honest (tables_of v)) w.vault-is h));
           }
       | in_default-2 w ↦ let lost : List (Option Link) = None ∷ [] in record {
         links = inv.links ++ None ∷ [];

@@ -10,7 +10,7 @@ returns-in_err-check-in-Err-Taken-clause-left g c clean =
     let taken = c.in-Err-Taken.is ∙ ap (λ e. Err e) c.in-Err-Taken.field-0-is in
     let same : c.make_schema.new.conn ≡ c.args.conn.now = c.make_schema.ensures.unchanged taken in
     found_after (state g.S.Store c.args.conn.now) (state g.S.Store c.check.new.conn)
-    (rw same at c.check.ensures.quiet) clean
+    (rw same at c.check.ensures.nothing_new) clean
     (λ V h db left. g.met.S.Store.settled c.args.conn.now.store db h.is_open left)
     (c.make_schema.ensures.taken.0 taken)
 
@@ -36,27 +36,27 @@ returns-in_ok-check-in-Err-Taken-clause-left g c clean =
     let taken = c.in-Err-Taken.is ∙ ap (λ e. Err e) c.in-Err-Taken.field-0-is in
     let same : c.make_schema.new.conn ≡ c.args.conn.now = c.make_schema.ensures.unchanged taken in
     found_after (state g.S.Store c.args.conn.now) (state g.S.Store c.check.new.conn)
-    (rw same at c.check.ensures.quiet) clean
+    (rw same at c.check.ensures.nothing_new) clean
     (λ V h db left. g.met.S.Store.settled c.args.conn.now.store db h.is_open left)
     (c.make_schema.ensures.taken.0 taken)
 
 pub returns-in_err-check-in-Err-Taken-clause-clean :
     goal.returns-in_err-check-in-Err-Taken-clause-clean
 returns-in_err-check-in-Err-Taken-clause-clean g c =
-    omega (arith, c.make_schema.ensures.clean, c.check.ensures.quiet.clean)
+    omega (arith, c.make_schema.ensures.clean, c.check.ensures.nothing_new.clean)
 
 pub returns-in_ok-check-in-Err-Taken-clause-clean :
     goal.returns-in_ok-check-in-Err-Taken-clause-clean
 returns-in_ok-check-in-Err-Taken-clause-clean g c =
-    omega (arith, c.make_schema.ensures.clean, c.check.ensures.quiet.clean)
+    omega (arith, c.make_schema.ensures.clean, c.check.ensures.nothing_new.clean)
 
-pub returns-in_err-check-in-Err-Taken-clause-never :
-    goal.returns-in_err-check-in-Err-Taken-clause-never
-returns-in_err-check-in-Err-Taken-clause-never g c clean =
+pub returns-in_err-check-in-Err-Taken-clause-spared :
+    goal.returns-in_err-check-in-Err-Taken-clause-spared
+returns-in_err-check-in-Err-Taken-clause-spared g c clean =
     let taken = c.in-Err-Taken.is ∙ ap (λ e. Err e) c.in-Err-Taken.field-0-is in
     let same : c.make_schema.new.conn ≡ c.args.conn.now = c.make_schema.ensures.unchanged taken in
     passed_as _ c.from_residual.result _ c.from_residual.ensures.1
-    (rw same at (c.in_err-check-in-Err-Taken.ensures.never clean))
+    (rw same at (c.in_err-check-in-Err-Taken.ensures.spared clean))
 
 pub returns-in_ok-check-in-Err-Taken-clause-checked :
     goal.returns-in_ok-check-in-Err-Taken-clause-checked
@@ -81,7 +81,7 @@ returns-in_err-check-in-Err-Taken-clause-unwritten g c clean =
     let same : c.make_schema.new.conn ≡ c.args.conn.now = c.make_schema.ensures.unchanged taken in
     let told = c.schema.ensures.value ∙ ap (λ h. (state g.S.Store h).now.schema) same in
     each_err c.from_residual.result (λ e other. checked_less _ _ c.has_version-told.result
-    (rw told at c.has_version-told.ensures) (rw same at c.check.ensures.quiet)
+    (rw told at c.has_version-told.ensures) (rw same at c.check.ensures.nothing_new)
     (λ none. ap (state g.S.Store) ((rw same at c.check.ensures.untouched) none)) clean)
 
 pub returns-in_err-check-in-Err-Taken-clause-unmade :
@@ -91,5 +91,5 @@ returns-in_err-check-in-Err-Taken-clause-unmade g c clean =
     let same : c.make_schema.new.conn ≡ c.args.conn.now = c.make_schema.ensures.unchanged taken in
     let told = c.schema.ensures.value ∙ ap (λ h. (state g.S.Store h).now.schema) same in
     each_err c.from_residual.result (λ e some. checked_less _ _ c.has_version-told.result
-    (rw told at c.has_version-told.ensures) (rw same at c.check.ensures.quiet)
+    (rw told at c.has_version-told.ensures) (rw same at c.check.ensures.nothing_new)
     (λ none. ap (state g.S.Store) ((rw same at c.check.ensures.untouched) none)) clean)

@@ -49,4 +49,4 @@ returns-in-Ok-clause-sound g c clean full =
 
 pub returns-in_err-entries-clause-unwritten : goal.returns-in_err-entries-clause-unwritten
 returns-in_err-entries-clause-unwritten g c clean =
-    each_err c.from_residual.result (λ e other schema. c.judged.ensures.quiet.left clean schema)
+    each_err c.from_residual.result (λ e other schema. c.judged.ensures.nothing_new.left clean schema)

@@ -13,7 +13,7 @@ returns-clause-given g c clean V h =
 pub returns-clause-held : goal.returns-clause-held
 returns-clause-held g c clean V h =
     still_held c.args.version V (state g.S.Store c.args.conn.now) (state g.S.Store c.verdict.new.conn) h
-    (c.in_ok-olders.ensures.kept clean h.is.schema) c.verdict.ensures.quiet.limit
+    (c.in_ok-olders.ensures.kept clean h.is.schema) c.verdict.ensures.nothing_new.limit
 
 pub returns-clause-live : goal.returns-clause-live
 returns-clause-live g c clean full = (c.in_ok-olders.ensures.sound clean full).is

@@ -16,7 +16,7 @@ loop-older-preserved c =
     omega (arith, c.loop-older-test.true, c.loop-older.auto.older-index-end) in
     let held = c.loop-older.piece.items in
     let x = c.in_ok-typed.field-0 in
-    let pushed = c.in_ok-push.ensures.items in
+    let pushed = c.in_ok-add.ensures in
     let Small : Bytes × Bytes × Entry → Type 0 = λ e. e.2.expires < 2 ^ 63 in (
       typed_more olders i c.older-item.result inside c.older-item.is held x c.loop-older.invariant.0
           c.in_ok-typed.ensures.row ∙ ap (map typed_columns) (sym pushed),

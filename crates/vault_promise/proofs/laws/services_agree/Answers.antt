@@ -1,4 +1,4 @@
-use Rattle.vault_http.specs.Passing.{passing}
+use Rattle.vault_engine.specs.Passing.{passing}
 use Rattle.vault_promise.proofs.Service.{services}
 use Rattle.vault_promise.proofs.laws.services_agree.Goals as goal
 

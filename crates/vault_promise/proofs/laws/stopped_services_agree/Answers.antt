@@ -1,4 +1,4 @@
-use Rattle.vault_http.specs.Passing.{passing}
+use Rattle.vault_engine.specs.Passing.{passing}
 use Rattle.vault_promise.proofs.Stopped.{stopped}
 use Rattle.vault_promise.proofs.laws.stopped_services_agree.Goals as goal
 

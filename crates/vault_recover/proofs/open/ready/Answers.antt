@@ -14,7 +14,7 @@ returns-in-Ok-newest_verdict-clause-opens g c clean =
     c.is_autocommit-settled.ensures.value c.requires.idle c.requires.unlimited
     c.is_autocommit-settled.ensures.settled
     (held_by _ _ _ _ c.in-Vault.is c.schema.ensures.value c.holder_in.ensures)
-    c.newest_verdict.ensures.quiet.limit
+    c.newest_verdict.ensures.nothing_new.limit
     (c.in-Ok-newest_verdict.ensures.sound clean) (c.in-Ok-newest_verdict.ensures.kept clean)
 
 pub returns-in-Err-newest_verdict-clause-damaged : goal.returns-in-Err-newest_verdict-clause-damaged
@@ -24,8 +24,8 @@ returns-in-Err-newest_verdict-clause-damaged g c clean rule same full =
       full = full;
     })
 
-pub returns-in-Err-newest_verdict-clause-never : goal.returns-in-Err-newest_verdict-clause-never
-returns-in-Err-newest_verdict-clause-never g c clean =
+pub returns-in-Err-newest_verdict-clause-spared : goal.returns-in-Err-newest_verdict-clause-spared
+returns-in-Err-newest_verdict-clause-spared g c clean =
     no_refusal {A = Unit {0}} (state g.S.Store c.args.conn.now).now
     (held_by _ _ _ _ c.in-Vault.is c.schema.ensures.value c.holder_in.ensures)
     (Err c.in-Err-newest_verdict.fault) (c.in-Err-newest_verdict.ensures.damaged clean)
@@ -50,6 +50,6 @@ returns-in-Ok-newest_verdict-clause-left g c clean =
     record {
       held = λ V h. left_after old new V h
           (λ db left. g.met.S.Store.settled c.args.conn.now.store db h.is_open left)
-          (c.newest_verdict.ensures.quiet.left clean h.schema);
+          (c.newest_verdict.ensures.nothing_new.left clean h.schema);
       blank = λ ready none. absurd (apart (sym none ∙ vault));
     }

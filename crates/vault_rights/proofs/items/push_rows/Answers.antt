@@ -29,11 +29,12 @@ loop-right-preserved c =
           (ap (λ v. v.items) w.rows-is)
     ]
 
-pub returns-clause-rows : goal.returns-clause-rows
-returns-clause-rows c =
-    extended-same _ _ c.args.rows.now.items c.loop-right.rows.items c.loop-right.invariant
-    (λ row. (
-      λ p. (p.0, p.1, p.3),
-      λ r. let w = number-within row.2 in
-          (r.0, r.1, omega (arith, w.1, c.loop-right-test.false), r.2),
-    ))
+pub returns : goal.returns
+returns c = record {
+  rows = extended-same _ _ c.args.rows.now.items c.loop-right.rows.items c.loop-right.invariant
+      (λ row. (
+        λ p. (p.0, p.1, p.3),
+        λ r. let w = number-within row.2 in
+            (r.0, r.1, omega (arith, w.1, c.loop-right-test.false), r.2),
+      ));
+}

@@ -1,7 +1,7 @@
 use Rattle.std.proofs.Common.{w64}
 use Rattle.std.proofs.lemmas.Int.{to_z-of_z}
 use Rattle.vault_rows.proofs.Calls.{tables_so}
-use Rattle.vault_rows.proofs.Pointed.{maybe_shown, no_text}
+use Rattle.vault_rows.proofs.PointingRow.{maybe_shown, no_text}
 use Rattle.vault_rows.proofs.cards.number_at.Goals as goal
 
 pub returns-in-Some : goal.returns-in-Some

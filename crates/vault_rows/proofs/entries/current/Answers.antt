@@ -8,7 +8,7 @@ use Rattle.vault_core.specs.Window.{moment_at}
 use Rattle.vault_schema.specs.Version2.Joined.{AreJoined, nothing_owed}
 use Rattle.vault_rows.proofs.Calls.{tables_so, tables_then, tells_of}
 use Rattle.vault_rows.proofs.Current.{none_current}
-use Rattle.vault_cards.proofs.Owing.{card_first, no_card}
+use Rattle.vault_cards.proofs.CardUses.{card_first, no_card}
 use Rattle.vault_rows.proofs.entries.current.Goals as goal
 
 pub returns-in-Some : goal.returns-in-Some

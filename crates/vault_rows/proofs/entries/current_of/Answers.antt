@@ -3,7 +3,7 @@ use Rattle.std.proofs.lemmas.Int.{to_z-of_z}
 use Rattle.sqlite.specs.declared.types.Value.TheVariants.{Int}
 use Rattle.vault_rows.specs.Cards.{HasCard}
 use Rattle.vault_rows.proofs.Calls.{tables_so}
-use Rattle.vault_rows.proofs.Pointed.{no_text, text_shown}
+use Rattle.vault_rows.proofs.PointingRow.{no_text, text_shown}
 use Rattle.vault_rows.proofs.entries.current_of.Goals as goal
 
 pub returns-in-Some : goal.returns-in-Some

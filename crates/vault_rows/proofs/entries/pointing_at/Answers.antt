@@ -1,5 +1,5 @@
 use Rattle.vault_rows.proofs.Calls.{tables_so}
-use Rattle.vault_rows.proofs.Pointed.{no_pointing, pointing_shown}
+use Rattle.vault_rows.proofs.PointingRow.{no_pointing, pointing_shown}
 use Rattle.vault_rows.proofs.entries.pointing_at.Goals as goal
 
 pub returns-in-Some : goal.returns-in-Some

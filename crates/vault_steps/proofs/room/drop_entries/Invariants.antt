@@ -1,6 +1,6 @@
 use Rattle.std.proofs.Common.{◌≡◌}
 use Rattle.sqlite.specs.Held.{state}
-use Rattle.vault_steps.proofs.Carding.{AreDropped}
+use Rattle.vault_steps.proofs.CardStep.{AreDropped}
 use Rattle.vault_steps.proofs.room.drop_entries.Given as goal
 
 abbrev pub invariant-loop-piece : goal.invariant-loop-piece

@@ -36,12 +36,12 @@ loop-name-preserved g c =
     let i = c.loop-name.name-index in
     let name = c.name-item.result in
     record {
-      honest = λ h. inv.honest (told.honest h);
+      honest = λ h. inv.honest (told.disk_honest h);
       kept = λ V held. told.kept V (inv.kept V held);
       failing = told.failing ∙ inv.failing;
       listed = λ h V held sound.
           let found = told.told h V (inv.kept V held) sound in
-          let before = inv.listed (told.honest h) V held sound in
+          let before = inv.listed (told.disk_honest h) V held sound in
           elim c.match-branch-3.branch [
             | in-Some+else-is_err w ↦
                 let fine = sym w.is_err.ensures.value ∙ w.if-is_err.false in

@@ -25,7 +25,7 @@ returns-then-is_none g c =
     let inv = c.loop-k.invariant in
     let read = c.in_ok-entry.ensures in
     record {
-      honest = λ honest. inv.honest (read.honest honest);
+      disk_honest = λ honest. inv.honest (read.disk_honest honest);
       told = λ honest V held sound.
           let a = c.args.asked.now in
           let token = c.in-Some.ensures in
@@ -34,7 +34,7 @@ returns-then-is_none g c =
           ∙ none_is c.in_ok-entry.field-0 (c.is_none.ensures ∙ ap not c.if-is_none.true) in
           let good = chosen_from-good V a.merchant a.pan a.digits c.loop-k.k c.loop-k-test.true
           (ap passes_check (sym token.0) ∙ token.1) (ap (entry_at V a.merchant) (sym token.0) ∙ new) in
-          ap Some token.0 ∙ sym (inv.passed (read.honest honest) V held sound ∙ good);
+          ap Some token.0 ∙ sym (inv.passed (read.disk_honest honest) V held sound ∙ good);
       kept = λ V held. read.kept V (inv.kept V held);
       crash = λ honest V held. read.crash honest V (inv.kept V held);
       failing = read.failing ∙ inv.failing;
@@ -52,7 +52,7 @@ loop-k-preserved g c =
       | in-Some+in_ok-entry+else-is_none w ↦
           let told = w.in_ok-entry.ensures in
           record {
-            honest = λ h. inv.honest (told.honest (subst now w.tables-is h));
+            honest = λ h. inv.honest (told.disk_honest (subst now w.tables-is h));
             kept = λ V held. subst (λ t. holds t V) (sym w.tables-is) (told.kept V (inv.kept V held));
             failing = ap failed w.tables-is ∙ told.failing ∙ inv.failing;
             passed = λ h V held sound.
@@ -60,7 +60,7 @@ loop-k-preserved g c =
                 let there = some_is w.in_ok-entry.field-0 (w.is_none.ensures ∙ ap not w.if-is_none.false) in
                 let token = w.in-Some.ensures in
                 let found = sym (told.told honest V (inv.kept V held) sound) ∙ there.1 in
-                inv.passed (told.honest honest) V held sound
+                inv.passed (told.disk_honest honest) V held sound
                 ∙ chosen_from-taken V a.merchant a.pan a.digits c.loop-k.k there.0 c.loop-k-test.true
                 (ap (entry_at V a.merchant) (sym token.0) ∙ found);
           }
@@ -80,7 +80,7 @@ pub returns : goal.returns
 returns g c =
     let inv = c.loop-k.invariant in
     record {
-      honest = inv.honest;
+      disk_honest = inv.honest;
       told = λ honest V held sound.
           let last : c.loop-k.k ≡ 20 = omega (arith, c.loop-k.auto.k-end, c.loop-k-test.false) in
           sym (inv.passed honest V held sound

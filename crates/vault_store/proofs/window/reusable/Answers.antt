@@ -8,10 +8,10 @@ returns-in-Some-2 g c =
     let read = c.in_ok-entry-in-Multi.ensures in
     let first = c.in_ok-token-in-Multi.ensures in
     record {
-      honest = λ honest. first.honest (read.honest honest);
+      disk_honest = λ honest. first.disk_honest (read.disk_honest honest);
       told = λ honest V held sound at.
           let a = c.args.asked.now in
-          let token = sym c.in-Some.is ∙ first.told (read.honest honest) V held sound at in
+          let token = sym c.in-Some.is ∙ first.told (read.disk_honest honest) V held sound at in
           let entry = sym (read.told honest V (first.kept V held) sound) ∙ c.in-Some-2.is in
           sym (ap (λ u. reusable u (current V a.merchant a.pan c.args.at)) c.in-Multi.is
           ∙ held_pair V a.merchant a.pan c.args.at c.in-Some.token c.in-Some-2.entry token entry);
@@ -26,10 +26,10 @@ returns-in-None g c =
     let read = c.in_ok-entry-in-Multi.ensures in
     let first = c.in_ok-token-in-Multi.ensures in
     record {
-      honest = λ honest. first.honest (read.honest honest);
+      disk_honest = λ honest. first.disk_honest (read.disk_honest honest);
       told = λ honest V held sound at.
           let a = c.args.asked.now in
-          let token = sym c.in-Some.is ∙ first.told (read.honest honest) V held sound at in
+          let token = sym c.in-Some.is ∙ first.told (read.disk_honest honest) V held sound at in
           let entry = sym (read.told honest V (first.kept V held) sound) ∙ c.in-None.is in
           absurd (held_none V a.merchant a.pan c.args.at c.in-Some.token token entry);
       kept = λ V held. read.kept V (first.kept V held);

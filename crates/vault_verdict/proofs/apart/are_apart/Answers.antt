@@ -1,6 +1,6 @@
 use Rattle.std.proofs.Common.{◌∙◌, ap, refl, subst, IsTrue, sym}
 use Rattle.vault_verdict.proofs.AllApart.{apart_by, told_by}
-use Rattle.vault_verdict.proofs.Rising.{rising_apart}
+use Rattle.vault_verdict.proofs.RisingRowids.{rising_apart}
 use Rattle.vault_verdict.proofs.apart.are_apart.Goals as goal
 use Rattle.vault_verdict.specs.Apart.{TellsApart}
 use Rattle.vault_tables.specs.Merchants.{merchant_values}

@@ -1,7 +1,7 @@
 use Rattle.std.proofs.Common.{refl, rules}
 use Rattle.std.proofs.lemmas.Fn.{always_returns_same}
 use Rattle.std.specs.Prelude.{int_lt}
-use Rattle.vault_verdict.proofs.Rising.{tells_apart}
+use Rattle.vault_verdict.proofs.RisingRowids.{tells_apart}
 use Rattle.vault_verdict.proofs.apart.counts.Goals as goal
 
 pub returns : goal.returns

@@ -17,8 +17,8 @@ returns-in-Vault-clause-damaged g c clean =
     (λ fault broken rule same full. broken rule same (record { schema = vault; full = full }))
     (c.newest_verdict.ensures.damaged clean)
 
-pub returns-in-Vault-clause-never : goal.returns-in-Vault-clause-never
-returns-in-Vault-clause-never g c clean =
+pub returns-in-Vault-clause-spared : goal.returns-in-Vault-clause-spared
+returns-in-Vault-clause-spared g c clean =
     no_refusal (state g.S.Store c.args.conn.now).now
     (held_by _ _ _ _ c.in-Vault.is c.schema.ensures.value c.holder_in.ensures)
     c.newest_verdict.result (c.newest_verdict.ensures.damaged clean)

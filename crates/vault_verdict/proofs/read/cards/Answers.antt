@@ -1,5 +1,5 @@
 use Rattle.std.proofs.Common.{◌≡◌, ◌∙◌, false, sym, true}
-use Rattle.vault_schema.proofs.Behind.{behind_two, indexes_behind_two, schema_first, schema_second}
+use Rattle.vault_schema.proofs.TablesBehind.{behind_two, indexes_behind_two, schema_first, schema_second}
 use Rattle.vault_schema.specs.Versions.{has_cards}
 use Rattle.vault_verdict.proofs.read.cards.Goals as goal
 

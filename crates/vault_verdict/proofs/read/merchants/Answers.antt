@@ -1,7 +1,7 @@
 use Rattle.std.proofs.Common.{◌≡◌, ◌∙◌, Bool, cond, false, map, sym, subst, true}
 use Rattle.sql_stored.specs.Reading.{IsAny, ReadsTable}
-use Rattle.vault_schema.proofs.Behind.{behind, behind_three, indexes_behind, indexes_behind_three}
-use Rattle.vault_schema.proofs.Behind.{schema_third}
+use Rattle.vault_schema.proofs.TablesBehind.{behind, behind_three, indexes_behind, indexes_behind_three}
+use Rattle.vault_schema.proofs.TablesBehind.{schema_third}
 use Rattle.vault_schema.specs.Layers.{is_from}
 use Rattle.vault_schema.specs.Versions.{schema_of}
 use Rattle.vault_schema.specs.declared.version.Version.TheVariants.{Three}

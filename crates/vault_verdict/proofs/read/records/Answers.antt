@@ -1,4 +1,4 @@
-use Rattle.vault_schema.proofs.Behind.{behind, indexes_behind}
+use Rattle.vault_schema.proofs.TablesBehind.{behind, indexes_behind}
 use Rattle.vault_verdict.proofs.read.records.Goals as goal
 
 pub returns : goal.returns

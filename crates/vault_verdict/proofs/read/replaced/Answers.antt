@@ -2,7 +2,7 @@ use Rattle.std.proofs.Common.{◌≡◌, ◌∙◌, arith, inl, inr}
 use Rattle.sqlite.specs.Held.{state}
 use Rattle.sqlite.specs.State.{HasCleanDisk}
 use Rattle.sqlite.specs.Tree.{Trees}
-use Rattle.vault_schema.proofs.Behind.{behind, indexes_behind, schema_is}
+use Rattle.vault_schema.proofs.TablesBehind.{behind, indexes_behind, schema_is}
 use Rattle.vault_verdict.proofs.Joined.{both_told, failed_as, failed_then, from_start, in_version, none_if}
 use Rattle.sql_maps.proofs.Calls.{reads_then}
 use Rattle.vault_schema.specs.declared.version.Version.{Version}

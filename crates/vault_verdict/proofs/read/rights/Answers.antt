@@ -1,7 +1,7 @@
 use Rattle.std.proofs.Common.{◌≡◌, ◌∙◌, Bool, cond, false, map, sym, subst, true}
 use Rattle.sql_stored.specs.Reading.{AreLonger, ReadsTable}
-use Rattle.vault_schema.proofs.Behind.{behind, behind_four, indexes_behind, indexes_behind_four}
-use Rattle.vault_schema.proofs.Behind.{schema_fourth}
+use Rattle.vault_schema.proofs.TablesBehind.{behind, behind_four, indexes_behind, indexes_behind_four}
+use Rattle.vault_schema.proofs.TablesBehind.{schema_fourth}
 use Rattle.vault_schema.specs.Layers.{Either, is_from}
 use Rattle.vault_schema.specs.Versions.{schema_of}
 use Rattle.vault_schema.specs.declared.version.Version.TheVariants.{Four}

@@ -25,7 +25,7 @@ pub returns-clause-refused : goal.returns-clause-refused
 returns-clause-refused g c clean has =
     (c.shown.ensures _ (read_version_is _ _).plain).refused clean (is_versioned _ has)
 
-pub returns-clause-quiet : goal.returns-clause-quiet
-returns-clause-quiet g c =
+pub returns-clause-nothing_new : goal.returns-clause-nothing_new
+returns-clause-nothing_new g c =
     quiet_where _ (state g.S.Store c.args.conn.now) (state g.S.Store c.shown.new.conn) (is_versioned _)
     (c.shown.ensures _ (read_version_is _ _).plain).reads

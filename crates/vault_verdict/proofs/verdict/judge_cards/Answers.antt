@@ -2,7 +2,7 @@ use Rattle.std.proofs.Common.{◌∙◌, Ok, Result, arith, ap, inl, inr, refl, 
 use Rattle.sqlite.specs.Effect.{Database}
 use Rattle.sqlite.specs.Held.{state}
 use Rattle.sqlite.specs.State.{HasCleanDisk}
-use Rattle.vault_verdict.proofs.Onward.{all_onward, judges_same, none_of, sizes_failed}
+use Rattle.vault_verdict.proofs.FirstAndBehind.{all_onward, judges_same, none_of, sizes_failed}
 use Rattle.vault_verdict.proofs.Results.{failed_read}
 use Rattle.vault_verdict.proofs.verdict.judge_cards.Goals as goal
 use Rattle.vault_verdict.specs.declared.fault.OpenFault.{OpenFault}
@@ -16,7 +16,7 @@ returns-in_err-olders-clause-told g c clean has none =
 pub returns-in_err-sizes-clause-told : goal.returns-in_err-sizes-clause-told
 returns-in_err-sizes-clause-told g c clean has none =
     let middle : HasCleanDisk (state g.S.Store c.cards.new.conn) =
-    omega (arith, c.judge_behind.ensures.quiet.clean, clean) in
+    omega (arith, c.judge_behind.ensures.nothing_new.clean, clean) in
     let it = c.in_ok-olders.ensures.told middle has in
     let same = c.in_ok-olders.ensures.reads.kept middle has in
     let held = it.1 none in
@@ -36,7 +36,7 @@ returns-in_err-sizes-clause-told g c clean has none =
 pub returns-clause-told : goal.returns-clause-told
 returns-clause-told g c clean has none =
     let middle : HasCleanDisk (state g.S.Store c.cards.new.conn) =
-    omega (arith, c.judge_behind.ensures.quiet.clean, clean) in
+    omega (arith, c.judge_behind.ensures.nothing_new.clean, clean) in
     let it = c.in_ok-olders.ensures.told middle has in
     let same = c.in_ok-olders.ensures.reads.kept middle has in
     let held = it.1 none in

@@ -1,5 +1,5 @@
 use Rattle.std.proofs.Common.{◌∙◌, [], inl, refl, subst, sym}
-use Rattle.vault_verdict.proofs.Onward.{judges_as}
+use Rattle.vault_verdict.proofs.FirstAndBehind.{judges_as}
 use Rattle.vault_verdict.proofs.Results.{failed_memory}
 use Rattle.vault_verdict.proofs.verdict.judge_first.Goals as goal
 use Rattle.vault_rules.specs.Held.{HoldCards}

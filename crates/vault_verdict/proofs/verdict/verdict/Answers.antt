@@ -7,7 +7,7 @@ use Rattle.vault_schema.specs.Versions.{number_of, schema_of}
 use Rattle.vault_verdict.specs.Faults.{IsJudged}
 use Rattle.vault_verdict.proofs.InVersion.{has_version_in}
 use Rattle.vault_verdict.proofs.Judged.{AreRead, apart_of, by_rowid, olders_in, sound_of}
-use Rattle.vault_verdict.proofs.Onward.{judged_err, judged_ok, judges_as, read_onward}
+use Rattle.vault_verdict.proofs.FirstAndBehind.{judged_err, judged_ok, judges_as, read_onward}
 use Rattle.vault_verdict.proofs.Results.{err_where, ok_where, on_where, passed_on}
 use Rattle.vault_verdict.proofs.verdict.verdict.Given.{Over}
 use Rattle.vault_verdict.proofs.verdict.verdict.Goals as goal
@@ -29,7 +29,7 @@ module _ (g : Over) (c : goal.After-drop-versions-2 g)
       c.in_ok-first.first.counts.items result c.read_first.new.conn c.judge_first.new.conn
 
   middle : HasCleanDisk (state g.S.Store c.read_first.new.conn)
-  middle = omega (arith, c.judge_first.ensures.quiet.clean, clean)
+  middle = omega (arith, c.judge_first.ensures.nothing_new.clean, clean)
 
   early : HasCleanDisk (state g.S.Store c.version_rows.new.conn)
   early = let disk = middle in omega (arith, c.in_ok-first.ensures.reads.clean, disk)
@@ -117,8 +117,8 @@ returns-clause-damaged g c clean = err_where c.judge_first.result (λ fault is r
       least = it.5.damaged rule broken;
     })
 
-pub returns-clause-sees : goal.returns-clause-sees
-returns-clause-sees g c clean = err_where c.judge_first.result (λ fault is judged schema.
+pub returns-clause-unchanged : goal.returns-clause-unchanged
+returns-clause-unchanged g c clean = err_where c.judge_first.result (λ fault is judged schema.
     let v = c.args.version in
     let one = c.in_ok-versions.ensures.kept (early g c clean) (has_version_in v _ schema) in
     let two = c.in_ok-first.ensures.reads.kept (middle g c clean) (there g c clean schema) in

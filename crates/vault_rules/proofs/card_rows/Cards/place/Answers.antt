@@ -4,7 +4,7 @@ use Rattle.std.specs.Ordering.{int_eq}
 use Rattle.std.specs.Prelude.{position}
 use Rattle.vault_rules.proofs.CardRows.{ids_are, place_kept}
 use Rattle.vault_rules.proofs.card_rows.Cards.place.Goals as goal
-use Rattle.vault_rules.specs.Rising.{are_rising}
+use Rattle.vault_rules.specs.RisingNumbers.{are_rising}
 use Rattle.vault_rules.specs.declared.card_rows.Card.{Card}
 
 pub returns-then-rises : goal.returns-then-rises

@@ -5,7 +5,7 @@ use Rattle.std.proofs.lemmas.List.{map-append}
 use Rattle.vault_rules.proofs.card_rows.Cards.take.Goals as goal
 use Rattle.vault_rules.specs.Held.{seen_card}
 use Rattle.vault_rules.specs.Kept.{KeptCard, kept_card, short_text}
-use Rattle.vault_rules.specs.Rising.{IsRisingOver}
+use Rattle.vault_rules.specs.RisingNumbers.{IsRisingOver}
 use Rattle.vault_rules.specs.declared.rows.RawCard.{RawCard}
 
 pub returns-clause-taken : goal.returns-clause-taken

@@ -3,7 +3,7 @@ use Rattle.std.proofs.lemmas.Int.{to_z-of_z}
 use Rattle.std.proofs.lemmas.List.{length-append, map-append}
 use Rattle.vault_rules.proofs.EntriesTaken.{card_used, card_unused}
 use Rattle.vault_rules.proofs.entries.Entries.take.Goals as goal
-use Rattle.vault_rules.specs.Rising.{IsRisingOver}
+use Rattle.vault_rules.specs.RisingNumbers.{IsRisingOver}
 use Rattle.vault_rules.specs.Seen.{AreLive, HoldTokens, KeepRules}
 use Rattle.vault_rules.specs.declared.rows.RawEntry.{RawEntry}
 

@@ -3,8 +3,8 @@ use Rattle.std.proofs.Math.Bool.{and-false}
 use Rattle.std.proofs.lemmas.Int.{ints, to_z-of_z}
 use Rattle.std.specs.Int.RustNames.{int_lt}
 use Rattle.std.specs.Option.{option_map_or}
-use Rattle.vault_rules.specs.Rising.{are_rising}
-use Rattle.vault_rules.proofs.RisingLemmas.{last_more, rising_more, with_true}
+use Rattle.vault_rules.specs.RisingNumbers.{are_rising}
+use Rattle.vault_rules.proofs.RisingNumbers.{last_more, rising_more, with_true}
 use Rattle.vault_rules.proofs.rising.Rising.take.Goals as goal
 use Rattle.vault_rules.proofs.rising.Rising.take.Goals.{in-Some+then-number-last, in-Some+else-number-last}
 use Rattle.vault_rules.proofs.rising.Rising.take.Goals.{in_default}
