@@ -1,6 +1,6 @@
 #!/bin/sh
 # How long the pages are, and how hard to read: words, the words of the longest sentence, and the longest cell of
-# a table. A page that has a limit of words has sentences of at most 40 words, and cells of at most 40.
+# a table. Each page has sentences of at most 30 words and cells of at most 40; some have a limit of words.
 set -eu
 cd "$(dirname "$0")/.."
 
@@ -45,11 +45,10 @@ for page in README.md docs/*.md bench/*.md trials/README.md; do
     rest=${sizes#* }
     most=$(printf '%s\n' "$limits" | sed -n "s#^$page ##p")
     printf '%-24s %6d words, sentence %3d, cell %3d\n' "$page" "$words" "${rest% *}" "${rest#* }"
-    [ -n "$most" ] || continue
-    if [ "$words" -le "$most" ] && [ "${rest% *}" -le 40 ] && [ "${rest#* }" -le 40 ]; then
+    if [ "$words" -le "${most:-$words}" ] && [ "${rest% *}" -le 30 ] && [ "${rest#* }" -le 40 ]; then
         passed=$((passed + 1))
     else
-        echo "$page is over a limit: $most words, 40 a sentence, 40 a cell"
+        echo "$page is over a limit: ${most:-any} words, 30 a sentence, 40 a cell"
         failed=$((failed + 1))
     fi
 done
