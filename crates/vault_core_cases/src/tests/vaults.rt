@@ -5,7 +5,6 @@ mod marks;
 mod purged;
 mod redeemed;
 mod reused;
-mod stuck;
 
 use super::is_answered;
 use asked::wrong;
