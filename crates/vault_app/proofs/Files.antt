@@ -1,17 +1,18 @@
 -- A task on the vault in files, said of the files.
 use Rattle.std.proofs.Common.{◌≡◌, ◌≢◌, ◌↔◌, ℕ, List, Bool, Option, Some, None, Result, Ok, Err, false}
-use Rattle.std.proofs.Common.{ap, inl, refl}
+use Rattle.std.proofs.Common.{◌≤◌, ap, arith, inl, refl, subst, sym}
 use Rattle.std.specs.Prelude.{ℤ, IfErr, IfOk, IfSome}
 use Rattle.sqlite.specs.Files.{file_state}
 use Rattle.sqlite.specs.Held.{Held}
 use Rattle.sqlite.specs.State.{HasCleanDisk}
-use Rattle.sqlite.specs.View.{IsClean}
+use Rattle.sqlite.specs.View.{IsClean, doubt}
 use Rattle.sqlite_disk.specs.declared.Disk.{Ghosts}
 use Rattle.sqlite_store.specs.FileStore.{view}
 use Rattle.sqlite_store.specs.declared.store.FileStore.{FileStore}
 use Rattle.sqlite_wal.specs.Recovery.{Image}
 use Rattle.vault_core.specs.Sound.{Sound}
 use Rattle.vault_core.specs.Vault.{Vault as Content, empty_vault}
+use Rattle.vault_file.specs.Closed.{ReopensAs}
 use Rattle.vault_file.specs.Found.{ChecksAs, MayFindNone, OpensFrom, SparesStopped, Stays}
 use Rattle.vault_file.specs.Paths.{Each}
 use Rattle.vault_file.specs.Found.{StaysWhole, TellsFound}
@@ -19,7 +20,7 @@ use Rattle.vault_file.specs.Moved.{MayFindOlder, MovesAs, StaysOld, TellsOld}
 use Rattle.vault_verdict.specs.declared.fault.OpenFault.TheVariants.{Store}
 use Rattle.vault_file.specs.declared.fault.NotOpened.{NotOpened as FileFault}
 use Rattle.vault_file.specs.declared.fault.NotOpened.TheVariants as file
-use Rattle.vault_jobs.proofs.Refining.{refined}
+use Rattle.vault_jobs.proofs.RefinedTasks.{refined}
 use Rattle.vault_jobs.specs.Doing.{Does}
 use Rattle.vault_jobs.specs.Streams.{Streams}
 use Rattle.vault_jobs.specs.declared.stop.Stop.{Stop}
@@ -30,7 +31,6 @@ use Rattle.vault_listen.specs.Peers.{vault_passing}
 use Rattle.vault_listen.specs.Live.{Turns}
 use Rattle.vault_recover.specs.Crashed.{Reopens, ReopensEither}
 use Rattle.vault_schema.specs.Holds.{Holds, LeavesEither}
-use Rattle.vault_store.specs.Applied.{Contains}
 use Rattle.vault_store.specs.declared.vault.Vault.{Vault}
 use Rattle.vault_verdict.specs.Sizes.{sizes_of}
 use Rattle.vault_verdict.specs.declared.sizes.Sizes.{Sizes}
@@ -52,14 +52,20 @@ module _ {D : Type 0} {g : Ghosts D} {T : Type 0} (conn_of : T → Held (FileSto
       → Each Holding (λ image. OpensFrom image (conn_of v.tables)) → (failed v.tables ≡ false)
       × ((V : Content) → Past v.tables V)
       → (HasCleanDisk (file_state (conn_of v'.tables)) → HasCleanDisk (file_state (conn_of v.tables)))
-      → (IsClean (view left) → HasCleanDisk (file_state (conn_of v'.tables)))
-      → (IsClean (view left) → (V : Content) → Contains held v' V → Reopens left V)
-      → (IsClean (view left) → (V W : Content) → LeavesEither (file_state (conn_of v'.tables)) V W
-      → ReopensEither left V W)
+      → (conn : Held (FileStore D g)) → conn ≡ conn_of v'.tables
+      → doubt (file_state conn).is_clean ≤ doubt (view left).is_clean
+      → (IsClean (view left) → ReopensAs (file_state conn) left)
       → Does tells task (vault_passing (λ t. HasCleanDisk (file_state (conn_of t))) held
       (λ t V W. LeavesEither (file_state (conn_of t)) V W) v v') broken r unread unsent s
       → WorksOn Holding left (λ p b. Does tells task p b r unread unsent s)
-  works tells Holding v v' left task r broken unread unsent s found fresh honest closed after either does =
+  works tells Holding v v' left task r broken unread unsent s found fresh honest conn same no_less after
+      does =
+      let closed : IsClean (view left) → HasCleanDisk (file_state (conn_of v'.tables)) =
+      λ clean. subst (λ h. HasCleanDisk (file_state h)) same (omega (arith, no_less, clean)) in
+      let held_by : (V : Content) → Holds (file_state (conn_of v'.tables)) V → Holds (file_state conn) V =
+      λ V. subst (λ h. Holds (file_state h) V) (sym same) in
+      let left_by : (V W : Content) → LeavesEither (file_state (conn_of v'.tables)) V W
+      → LeavesEither (file_state conn) V W = λ V W. subst (λ h. LeavesEither (file_state h) V W) (sym same) in
       record {
         opened = conn_of v.tables;
         broken = broken;
@@ -70,8 +76,11 @@ module _ {D : Type 0} {g : Ghosts D} {T : Type 0} (conn_of : T → Held (FileSto
             (vault_passing (λ t. HasCleanDisk (file_state (conn_of t))) held
             (λ t V W. LeavesEither (file_state (conn_of t)) V W) v v')
             (λ V clean was. (closed clean, ((fresh.0, λ _. (was.0, fresh.1 V)), was.1)))
-            (λ clean V kept. ((after clean V kept.0, kept.0.1), either clean V V kept.1))
-            (λ clean V W torn. either clean V W torn)
+            (λ clean V kept. (
+              ((after clean).kept V (held_by V (kept.0.0.1 (closed clean)).0), kept.0.1),
+              (after clean).either V V (left_by V V kept.1),
+            ))
+            (λ clean V W torn. (after clean).either V W (left_by V W torn))
             s tells task broken r unread unsent does;
       }
 
@@ -97,49 +106,50 @@ module _ {D : Type 0} {g : Ghosts D} (world : World) (path : List ℕ) (unread u
     refused_file (Some left) task why is there never tells stays same calm silent =
         (record { spared = never; tells = tells; stays = stays; same = same }, calm, silent)
 
-    -- what a check comes to
-    pub checked : (left : Option (FileStore D g)) (r : Result Sizes FileFault)
-        → (left ≡ None → IfOk r (λ sizes. (sizes ≡ sizes_of empty_vault) × world.lacks path))
-        → IfErr r (λ why. (left ≡ None) ↔ (why ≡ file.Refused))
-        → (r ≡ Err file.Refused → world.refuses path)
-        → IfOk r (λ sizes. IfSome left (λ it. Each (world.holds path) (λ image. ChecksAs image it sizes)))
-        → IfErr r (λ why. IfSome left
-        (λ it. Each (world.holds path) (λ image. IsClean (view it) → SparesStopped image why)))
-        → IfErr r (λ why. IfSome left
-        (λ it. Each (world.holds path) (λ image. IsClean (view it) → TellsFound image why)))
-        → IfSome left (λ it. Each (world.holds path) (λ image. StaysWhole image it))
-        → IfSome left (λ it. Each (world.holds path) (λ image. Stays image it))
-        → IsChecked world path left r
-    checked None (Ok sizes) empty refused there sound never tells same stays = empty refl
-    checked None (Err why) empty refused there sound never tells same stays =
-        let is : why ≡ file.Refused = refused.0 refl in (is, there (ap Err is))
-    checked (Some left) (Ok sizes) empty refused there sound never tells same stays =
-        λ image at. (sound image at, same image at, stays image at)
-    checked (Some left) (Err why) empty refused there sound never tells same stays =
-        λ image at. (λ clean. (never image at clean, tells image at clean), same image at, stays image at)
+module _ {D : Type 0} {g : Ghosts D} (world : World) (path : List ℕ) where
+  -- what a check comes to
+  pub checked : (left : Option (FileStore D g)) (r : Result Sizes FileFault)
+      → (left ≡ None → IfOk r (λ sizes. (sizes ≡ sizes_of empty_vault) × world.lacks path))
+      → IfErr r (λ why. (left ≡ None) ↔ (why ≡ file.Refused))
+      → (r ≡ Err file.Refused → world.refuses path)
+      → IfOk r (λ sizes. IfSome left (λ it. Each (world.holds path) (λ image. ChecksAs image it sizes)))
+      → IfErr r (λ why. IfSome left
+      (λ it. Each (world.holds path) (λ image. IsClean (view it) → SparesStopped image why)))
+      → IfErr r (λ why. IfSome left
+      (λ it. Each (world.holds path) (λ image. IsClean (view it) → TellsFound image why)))
+      → IfSome left (λ it. Each (world.holds path) (λ image. StaysWhole image it))
+      → IfSome left (λ it. Each (world.holds path) (λ image. Stays image it))
+      → IsChecked world path left r
+  checked None (Ok sizes) empty refused there sound never tells same stays = empty refl
+  checked None (Err why) empty refused there sound never tells same stays =
+      let is : why ≡ file.Refused = refused.0 refl in (is, there (ap Err is))
+  checked (Some left) (Ok sizes) empty refused there sound never tells same stays =
+      λ image at. (sound image at, same image at, stays image at)
+  checked (Some left) (Err why) empty refused there sound never tells same stays =
+      λ image at. (λ clean. (never image at clean, tells image at clean), same image at, stays image at)
 
-    -- and a migration
-    pub moved : (left : Option (FileStore D g)) (r : Result ℤ FileFault)
-        → (left ≡ None) ↔ (r ≡ Err file.Refused) → (r ≡ Err file.Refused → world.refuses path)
-        → IfOk r (λ _. IfSome left (λ it. Each (world.holds path) (λ image. MovesAs image it)))
-        → IfErr r (λ why. IfSome left (λ it. Each (world.holds path) (λ image. StaysOld image it why)))
-        → IfErr r (λ why. IfSome left
-        (λ it. Each (world.holds path) (λ image. IsClean (view it) → TellsOld image why)))
-        → IfErr r (λ _. IfSome left (λ it. Each (world.holds path) (λ image. Stays image it)))
-        → IfErr r (λ why. IfSome left (λ it. Each (world.holds path)
-        (λ image. why ≢ file.Fault Store → StaysWhole image it)))
-        → IfErr r (λ _. IfSome left (λ it. Each (world.holds path)
-        (λ image. ¬ MayFindNone image → ¬ MayFindOlder image → StaysWhole image it)))
-        → IsMoved world path left r
-    moved None (Ok version) refused there moves old tells stays same unmoved =
-        let clash = refused.0 refl in cc
-    moved None (Err why) refused there moves old tells stays same unmoved =
-        let is : Err why ≡ Err file.Refused = refused.0 refl in (cc (is), there is)
-    moved (Some left) (Ok version) refused there moves old tells stays same unmoved = moves
-    moved (Some left) (Err why) refused there moves old tells stays same unmoved = λ image at. (
-      old image at,
-      tells image at,
-      stays image at,
-      same image at,
-      unmoved image at,
-    )
+  -- and a migration
+  pub moved : (left : Option (FileStore D g)) (r : Result ℤ FileFault)
+      → (left ≡ None) ↔ (r ≡ Err file.Refused) → (r ≡ Err file.Refused → world.refuses path)
+      → IfOk r (λ _. IfSome left (λ it. Each (world.holds path) (λ image. MovesAs image it)))
+      → IfErr r (λ why. IfSome left (λ it. Each (world.holds path) (λ image. StaysOld image it why)))
+      → IfErr r (λ why. IfSome left
+      (λ it. Each (world.holds path) (λ image. IsClean (view it) → TellsOld image why)))
+      → IfErr r (λ _. IfSome left (λ it. Each (world.holds path) (λ image. Stays image it)))
+      → IfErr r (λ why. IfSome left (λ it. Each (world.holds path)
+      (λ image. why ≢ file.Fault Store → StaysWhole image it)))
+      → IfErr r (λ _. IfSome left (λ it. Each (world.holds path)
+      (λ image. ¬ MayFindNone image → ¬ MayFindOlder image → StaysWhole image it)))
+      → IsMoved world path left r
+  moved None (Ok version) refused there moves old tells stays same unmoved =
+      let clash = refused.0 refl in cc
+  moved None (Err why) refused there moves old tells stays same unmoved =
+      let is : Err why ≡ Err file.Refused = refused.0 refl in (cc (is), there is)
+  moved (Some left) (Ok version) refused there moves old tells stays same unmoved = moves
+  moved (Some left) (Err why) refused there moves old tells stays same unmoved = λ image at. (
+    old image at,
+    tells image at,
+    stays image at,
+    same image at,
+    unmoved image at,
+  )

@@ -1,5 +1,5 @@
 -- What a job comes to: a plan, or an ending before there is one.
-use Rattle.std.specs.Prelude.{◌≡◌, ◌⊎◌, List}
+use Rattle.std.specs.Prelude.{◌≡◌, ◌⊎◌, List, MatchResult, Result}
 use Rattle.std.specs.declared.io.ErrorKind.{ErrorKind}
 use Rattle.clap.specs.Words.{Text}
 use Rattle.vault_core.specs.Scalar.{IsLife}
@@ -73,6 +73,10 @@ EndsBefore world job ending = EndsSo (record no_ending {
   stopped = λ s. (s ≡ stop.Service service.Source) × (saying job).needs_moment
       ⊎ ((why : ErrorKind) × (s ≡ stop.Rights why)) × (saying job).has_list;
 }) ending
+
+-- the task that the words of a job ask for, or how it may end without a plan
+abbrev pub ComesToTask : World → Job → Result Task Ending → Type 0
+ComesToTask world job result = MatchResult result (IsTaskOf world job) (EndsBefore world job)
 
 -- how the words end without a plan: as their job does, or as they ask for none
 abbrev pub EndsPlanless : World → List Text → Ending → Type 0 → Type 0

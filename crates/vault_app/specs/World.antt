@@ -1,6 +1,7 @@
 -- What is told of the world around a run.
 use Rattle.std.specs.Prelude.{ℕ, Bool, List}
 use Rattle.sqlite_wal.specs.Recovery.{Image}
+use Rattle.vault_file.specs.declared.paths.Paths.{Ghosts}
 use Rattle.vault_listen.specs.Live.{Turns}
 
 -- Which moments are told at which turn; and of each path which bytes its files may hold, that nothing is
@@ -23,6 +24,11 @@ world_of tells holds lacks refuses says logs = record {
   says = says;
   logs = logs;
 }
+
+-- what is told of the paths of a host
+abbrev pub world_at : {P D : Type 0} → Ghosts P D → Turns → P → World
+world_at g tells paths = world_of tells (g.holds paths) (g.lacks paths) (g.refuses paths) (g.says paths)
+    (g.logs paths)
 
 -- nothing is told
 abbrev pub untold : World

@@ -4,14 +4,15 @@ ghost use Rattle.vault_listen.specs.Peers.{Event, Link, events_of};
 ghost use Rattle.vault_jobs.specs.Streams.{Streams, streams, with_links};
 ghost use Rattle.vault_jobs.specs.Tasks.{IsProper};
 ghost use Rattle.vault_app.specs.Files.{EndsOnFile, IsShow, ending_for};
-ghost use Rattle.vault_app.specs.World.{World, world_of};
+ghost use Rattle.vault_app.specs.World.{World, world_at};
 
 use crate::ending::Ending;
 use sqlite::FileStore;
 use std::io::{Read, Write};
 use vault_file::fault::NotOpened;
-use vault_file::open::{close_files, open_vault};
+use vault_file::open::open_vault;
 use vault_file::paths::Paths;
+use vault_file::reopen::close;
 use vault_jobs::stop::Stop;
 use vault_jobs::task::{Outcome, Task, do_task};
 use vault_listen::network::Network;
@@ -67,9 +68,7 @@ pub(crate) fn do_on_file<P: Paths, K: Timekeeper, N: Network, R: Read, W: Write>
     requires proper { IsProper task.now }
     // by how it ends: what was done with the vault in the files, or why they weren't opened, and which files
     // are left
-    ensures does { let world : World =
-        world_of (K.tells time.now) (P.holds paths) (P.lacks paths) (P.refuses paths) (P.says paths)
-        (P.logs paths) in
+    ensures does { let world : World = world_at P.Paths (K.tells time.now) paths in
         let s : Streams = streams R.remaining input.old input.new W.contents output.old output.new in
         (links : List (Option Link))
         × ((log : List Event) → N.tells network.old log → N.tells network.new (log ++ events_of links))
@@ -84,6 +83,6 @@ pub(crate) fn do_on_file<P: Paths, K: Timekeeper, N: Network, R: Read, W: Write>
         Err((fault, left)) => return (Ending::NotOpened(fault), left),
     };
     let outcome = do_task(rt, time, network, task, &mut vault, input, output);
-    let left = close_files(vault);
+    let left = close(vault.into_tables().into_connection());
     (ending_of(outcome), Some(left))
 }

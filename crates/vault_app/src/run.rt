@@ -12,7 +12,7 @@ ghost use Rattle.vault_app.specs.Ending.{bad_words_line, log_line, stop_line};
 ghost use Rattle.vault_app.specs.Jobs.{Does, DoesPlan, RunsAs};
 ghost use Rattle.vault_app.specs.Plans.{EndsPlanless, IsPlanOf, IsProperPlan};
 ghost use Rattle.vault_app.specs.Asked.{AsksFor, IsBatch, IsCheck};
-ghost use Rattle.vault_app.specs.World.{World, world_of};
+ghost use Rattle.vault_app.specs.World.{World, world_at};
 
 use crate::commands::check::tell_sizes;
 use crate::commands::migrate::tell_moved;
@@ -46,18 +46,14 @@ fn planned<'a, P: Paths, K: Timekeeper, A: AsStr, W: Write>(
     output: &mut Watched<W>,
 ) -> Result<Plan<'a>, Ending>
     // with Ok, nothing went out, and it is a plan of a job that the words ask for
-    ensures planned { let world : World =
-        world_of (K.tells time.now) (P.holds paths.now) (P.lacks paths.now) (P.refuses paths.now)
-        (P.says paths.now) (P.logs paths.now) in
+    ensures planned { let world : World = world_at P.Paths (K.tells time.now) paths.now in
         IfOk result (λ plan. (output.new ≡ output.old)
         × AsksFor (map A.text words.now) (λ job. IsPlanOf world job plan)) }
     // with Ok, the parts of the plan's task are values of their types, or the life of its trial is in range
     ensures proper { IfOk result IsProperPlan }
     // with Err, the words' job ends without a plan, the words ask for none, or memory was refused; only help
     // is said
-    ensures planless { let world : World =
-        world_of (K.tells time.now) (P.holds paths.now) (P.lacks paths.now) (P.refuses paths.now)
-        (P.says paths.now) (P.logs paths.now) in
+    ensures planless { let world : World = world_at P.Paths (K.tells time.now) paths.now in
         IfErr result (λ ending. EndsPlanless world (map A.text words.now) ending (output.new ≡ output.old)) }
 {
     match job(rt.alloc(), words) {
@@ -86,9 +82,7 @@ fn carry_out<P: Paths, K: Timekeeper, N: Network, R: Read, W: Write>(
     requires { IsProperPlan plan }
     // by how it ends: what the plan did with the files at its path, which are left, and what was read and
     // sent
-    ensures does { let world : World =
-        world_of (K.tells time.now) (P.holds paths) (P.lacks paths) (P.refuses paths) (P.says paths)
-        (P.logs paths) in
+    ensures does { let world : World = world_at P.Paths (K.tells time.now) paths in
         let s : Streams = streams R.remaining input.old input.new W.contents output.old output.new in
         (links : List (Option Link))
         × ((log : List Event) → N.tells network.old log → N.tells network.new (log ++ events_of links))
@@ -121,9 +115,7 @@ fn ended<P: Paths, K: Timekeeper, N: Network, A: AsStr, R: Read, W: Write>(
     output: &mut Watched<W>,
 ) -> (Ending, Option<FileStore<P::Disk>>)
     // by how it ends: what the words' job did with its files, which are left, and what was read and sent
-    ensures does { let world : World =
-        world_of (K.tells time.now) (P.holds paths) (P.lacks paths) (P.refuses paths) (P.says paths)
-        (P.logs paths) in
+    ensures does { let world : World = world_at P.Paths (K.tells time.now) paths in
         let s : Streams = streams R.remaining input.old input.new W.contents output.old output.new in
         (links : List (Option Link))
         × ((log : List Event) → N.tells network.old log → N.tells network.new (log ++ events_of links))
@@ -170,9 +162,7 @@ pub fn run<P: Paths, K: Timekeeper, N: Network, A: AsStr, R: Read, W: Write, E: 
 ) -> (u8, Option<FileStore<P::Disk>>)
     // the run did what the words ask, which gives its status, the files left, what was read and sent, and
     // what it said then
-    ensures does { let world : World =
-        world_of (K.tells time.now) (P.holds paths) (P.lacks paths) (P.refuses paths) (P.says paths)
-        (P.logs paths) in
+    ensures does { let world : World = world_at P.Paths (K.tells time.now) paths in
         (told : Watched W) × (links : List (Option Link))
         × ((log : List Event) → N.tells network.old log → N.tells network.new (log ++ events_of links))
         × RunsAs R.remaining W.contents E.contents world result.1

@@ -10,8 +10,8 @@ use Rattle.vault_engine.specs.Passing.{Passage}
 use Rattle.vault_engine.specs.Stops.{Failures, StopsAt, failures}
 use Rattle.vault_engine.specs.declared.stop.Stop.{Stop}
 use Rattle.vault_engine.specs.declared.stop.Stop.TheVariants as stop
-use Rattle.vault_engine.proofs.Following.{Joins, answered_then, before_then, cut_then, joined, silent_then}
-use Rattle.vault_engine.proofs.Following.{undecided_then}
+use Rattle.vault_engine.proofs.JoinedUnits.{Joins, answered_then, before_then, cut_then, joined, silent_then}
+use Rattle.vault_engine.proofs.JoinedUnits.{undecided_then}
 use Rattle.vault_engine.proofs.Within.{before_of}
 use Rattle.vault_batch.specs.Asking.{Asked, rows_by}
 use Rattle.vault_batch.specs.Batched.{Answered, Unchanged, rows_of}

@@ -2,7 +2,7 @@
 ghost use Rattle.std.specs.Prelude.{◌≡◌, ◌⊎◌, [], true, false, Err, IfErr, IfOk, OnOk, Option};
 ghost use Rattle.std.specs.Io.KnownBytes.{IsAtEnd};
 ghost use Rattle.vault_engine.specs.Passing.{Passage, passing};
-ghost use Rattle.vault_engine.specs.Stops.{failures};
+ghost use Rattle.vault_engine.specs.Stops.{NeverFails, failures};
 ghost use Rattle.vault_store.specs.Applied.{is_broken, tables_of};
 ghost use Rattle.vault_wire.specs.Watching.{inner_of, is_stopped};
 ghost use Rattle.vault_core.specs.Keys.{Bytes};
@@ -89,8 +89,7 @@ fn answer_rows<R: Read, W: Write, T: Tables, S: Source>(
     // the source is the same, further on
     ensures later { S.precedes source.old source.new }
     // tables that can't fail give an unbroken vault no Store fault
-    ensures infallible { T.may_fail ≡ false → is_broken vault.old ≡ false
-        → ¬ (result ≡ Err BatchFault.Store) }
+    ensures infallible { NeverFails T.may_fail vault.old (result ≡ Err BatchFault.Store) }
     // a disk that is honest after the call was so before it
     ensures disk_honest { T.is_honest (tables_of vault.new) → T.is_honest (tables_of vault.old) }
 {
@@ -187,8 +186,7 @@ pub fn batch<R: Read, W: Write, T: Tables, S: Source>(
     // the source is the same, further on
     ensures later { S.precedes source.old source.new }
     // tables that can't fail give an unbroken vault no Store fault
-    ensures infallible { T.may_fail ≡ false → is_broken vault.old ≡ false
-        → ¬ (result ≡ Err BatchFault.Store) }
+    ensures infallible { NeverFails T.may_fail vault.old (result ≡ Err BatchFault.Store) }
     // a disk that is honest after the call was so before it
     ensures disk_honest { T.is_honest (tables_of vault.new) → T.is_honest (tables_of vault.old) }
 {

@@ -127,60 +127,57 @@ module _ (m : Bytes) (writer : Option Bytes) (V W : Vault) where
     grows = omega arith;
   }
 
-  -- a right at the merchant is given
-  pub give_right : (caller : Bytes) (right : Right) (g : GrantRow)
-      → Together m writer V W
-      (record V { rights = map.insert V.rights (caller, (m, right)) g })
-      (record W { rights = map.insert W.rights (caller, (m, right)) g })
-  give_right caller right g = record {
+  -- the rights at the merchant change alone, and in both alike
+  set_rights : (given taken : map.FinMap right_cmp GrantRow)
+      → ((c : Bytes) (r : Right) (at : ℕ)
+      → has_at at (map.get V.rights (c, (m, r))) ≡ has_at at (map.get W.rights (c, (m, r)))
+      → has_at at (map.get given (c, (m, r))) ≡ has_at at (map.get taken (c, (m, r))))
+      → ((other : Bytes) → other ≢ m → (c : Bytes) (r : Right)
+      → map.get given (c, (other, r)) ≡ map.get V.rights (c, (other, r)))
+      → Together m writer V W (record V { rights = given }) (record W { rights = taken })
+  set_rights given taken alike spared = record {
     rows = λ a. record {
       merchant = a.merchant;
       entries = a.entries;
-      rights = λ c r at.
-          ap (has_at at) (map.get-insert right_total V.rights (caller, (m, right)) g (c, (m, r)))
-          ∙ same_at at (eq_by_cmp right_cmp (c, (m, r)) (caller, (m, right))) (Some g) _ _ (a.rights c r at)
-          ∙ sym (ap (has_at at) (map.get-insert right_total W.rights (caller, (m, right)) g (c, (m, r))));
+      rights = λ c r at. alike c r at (a.rights c r at);
     };
     records = λ caller a. a;
     fewer = λ a le. le;
     others = λ other apart. record {
       merchant = refl;
       entries = λ token. refl;
-      rights = λ c r at. sym (ap (has_at at)
-          (get-insert_other right_total right_exact V.rights (caller, (m, right)) g (c, (other, r))
-          (other_right caller right m other apart c r)));
+      rights = λ c r at. sym (ap (has_at at) (spared other apart c r));
     };
     unwritten = λ other apart request. refl;
     grows = omega arith;
   }
+
+  -- a right at the merchant is given
+  pub give_right : (caller : Bytes) (right : Right) (g : GrantRow)
+      → Together m writer V W
+      (record V { rights = map.insert V.rights (caller, (m, right)) g })
+      (record W { rights = map.insert W.rights (caller, (m, right)) g })
+  give_right caller right g =
+      set_rights _ _
+      (λ c r at same. ap (has_at at) (map.get-insert right_total V.rights (caller, (m, right)) g (c, (m, r)))
+      ∙ same_at at (eq_by_cmp right_cmp (c, (m, r)) (caller, (m, right))) (Some g) _ _ same
+      ∙ sym (ap (has_at at) (map.get-insert right_total W.rights (caller, (m, right)) g (c, (m, r)))))
+      (λ other apart c r.
+      get-insert_other right_total right_exact V.rights (caller, (m, right)) g (c, (other, r))
+      (other_right caller right m other apart c r))
 
   -- a right at the merchant is taken away
   pub take_right : (caller : Bytes) (right : Right)
       → Together m writer V W
       (record V { rights = map.remove V.rights (caller, (m, right)) })
       (record W { rights = map.remove W.rights (caller, (m, right)) })
-  take_right caller right = record {
-    rows = λ a. record {
-      merchant = a.merchant;
-      entries = a.entries;
-      rights = λ c r at.
-          ap (has_at at) (map.get-remove right_total V.rights (caller, (m, right)) (c, (m, r)))
-          ∙ same_at at (eq_by_cmp right_cmp (c, (m, r)) (caller, (m, right))) None _ _ (a.rights c r at)
-          ∙ sym (ap (has_at at) (map.get-remove right_total W.rights (caller, (m, right)) (c, (m, r))));
-    };
-    records = λ caller a. a;
-    fewer = λ a le. le;
-    others = λ other apart. record {
-      merchant = refl;
-      entries = λ token. refl;
-      rights = λ c r at. sym (ap (has_at at)
-          (map.get-remove right_total V.rights (caller, (m, right)) (c, (other, r))
-          ∙ ap (λ b. cond b None (map.get V.rights (c, (other, r))))
-          (other_right caller right m other apart c r)));
-    };
-    unwritten = λ other apart request. refl;
-    grows = omega arith;
-  }
+  take_right caller right =
+      set_rights _ _
+      (λ c r at same. ap (has_at at) (map.get-remove right_total V.rights (caller, (m, right)) (c, (m, r)))
+      ∙ same_at at (eq_by_cmp right_cmp (c, (m, r)) (caller, (m, right))) None _ _ same
+      ∙ sym (ap (has_at at) (map.get-remove right_total W.rights (caller, (m, right)) (c, (m, r)))))
+      (λ other apart c r. map.get-remove right_total V.rights (caller, (m, right)) (c, (other, r))
+      ∙ ap (λ b. cond b None (map.get V.rights (c, (other, r)))) (other_right caller right m other apart c r))
 
 -- a record of the writer is set
 pub set_record : (m : Bytes) (V W : Vault) (caller : Bytes) (request : ℕ) (r : Record)

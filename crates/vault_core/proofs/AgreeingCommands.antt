@@ -8,7 +8,8 @@ use Rattle.vault_core.specs.Lives.{new_merchant}
 use Rattle.vault_core.specs.Merchants.{set_from, set_to, granting, withdrawal}
 use Rattle.vault_core.specs.Outcome.{Outcome, plain_reply, plain_refusal, of_merchant, of_token, on_token}
 use Rattle.vault_core.specs.Outcome.{moved_vault, entry_change}
-use Rattle.vault_core.specs.Redeem.{merchant_after_gift, merchant_after_denial, gift, denial, redemption}
+use Rattle.vault_core.specs.Redeem.{counting, denial, gift, merchant_after_denial, merchant_after_gift}
+use Rattle.vault_core.specs.Redeem.{redemption}
 use Rattle.vault_core.specs.Refusals.{no_merchant, no_right, full, no_token, token_purged, token_revoked}
 use Rattle.vault_core.specs.Refusals.{token_expired, still_live, too_many_merchants}
 use Rattle.vault_core.specs.Retire.{retirement, revoked_entry, purging, without_number}
@@ -124,19 +125,22 @@ module _ (m : Bytes) (writer : Option Bytes) (V W : Vault) (agree : AgreeAt m V 
         (take_right m writer (moved_vault V m known now) (moved_vault W m known now) caller right);
   }
 
+  -- a count goes up, unless it is full
+  alike-counting : (count : ℕ) (r : Reply) (row : Merchant)
+      → Both (counting V m count r row) (counting W m count r row)
+  alike-counting count r row =
+      both_by_test Both V W (λ U. count == MOST_COUNT) refl (λ U. plain_refusal U full)
+      (λ U. row_set U m r row) (alike-refused full) (alike-row r row)
+
   pub alike-denied : (now : ℕ) (known : Merchant) (reason : ℕ)
       → Both (denial V m now known reason) (denial W m now known reason)
   alike-denied now known reason =
-      both_by_test Both V W (λ U. known.denied == MOST_COUNT) refl
-      (λ U. plain_refusal U full) (λ U. row_set U m (Refused reason) (merchant_after_denial known now))
-      (alike-refused full) (alike-row (Refused reason) (merchant_after_denial known now))
+      alike-counting known.denied (Refused reason) (merchant_after_denial known now)
 
   pub alike-given : (now : ℕ) (known : Merchant) (number : Bytes)
       → Both (gift V m now known number) (gift W m now known number)
   alike-given now known number =
-      both_by_test Both V W (λ U. known.given == MOST_COUNT) refl
-      (λ U. plain_refusal U full) (λ U. row_set U m (Number number) (merchant_after_gift known now))
-      (alike-refused full) (alike-row (Number number) (merchant_after_gift known now))
+      alike-counting known.given (Number number) (merchant_after_gift known now)
 
   pub alike-redeemed : (now : ℕ) (known : Merchant) (state : EntryState)
       → Both (redemption V m now known state) (redemption W m now known state)

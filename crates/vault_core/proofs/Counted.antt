@@ -6,27 +6,25 @@ use Rattle.std.specs.FinMap as map
 use Rattle.std.specs.Cmp.{eq_by_cmp_equiv}
 use Rattle.std.specs.Cmp.Lexicographic.{texts_ties}
 use Rattle.vault_pan.specs.CardText.{same}
-use Rattle.vault_core.specs.Draw.{chosen_token}
 use Rattle.vault_core.specs.Keys.{Bytes, bytes_cmp}
 use Rattle.vault_core.specs.Lives.{new_merchant, setting, with_lives}
 use Rattle.vault_core.specs.Merchants.{granting, withdrawal, set_from, set_to}
 use Rattle.vault_core.specs.Named.{token_command, merchant_of, denies}
-use Rattle.vault_core.specs.Outcome.{Outcome, plain_reply, plain_refusal, of_merchant}
+use Rattle.vault_core.specs.Outcome.{Outcome, plain_reply, plain_refusal, on_token}
 use Rattle.vault_core.specs.Redeem.{merchant_after_gift, merchant_after_denial}
-use Rattle.vault_core.specs.Refusals.{no_merchant, no_right, wrong_use, number_reused, full, no_candidate}
+use Rattle.vault_core.specs.Refusals.{no_merchant, no_right, full}
 use Rattle.vault_core.specs.Refusals.{token_purged, still_live, too_many_merchants}
-use Rattle.vault_core.specs.Repeats.{current, is_repeat, reusable}
 use Rattle.vault_core.specs.Retire.{retirement, purging}
 use Rattle.vault_core.specs.Runs.{run}
 use Rattle.vault_core.specs.Show.{showing, totals}
 use Rattle.vault_core.specs.Table.{command_of, outcome, after}
-use Rattle.vault_core.specs.Tokens.{earlier_request, repetition, new_request, token_again, new_token}
-use Rattle.vault_core.specs.Tokens.{drawing, life_asked, tokenize}
-use Rattle.vault_core.specs.Vault.{Vault, Merchant, merchant_at, entry_at, record_at, entitled, made_count}
+use Rattle.vault_core.specs.Tokens.{token_again, new_token}
+use Rattle.vault_core.specs.Tokens.{tokenize}
+use Rattle.vault_core.specs.Vault.{Vault, Merchant, merchant_at, entitled, made_count}
 use Rattle.vault_core.specs.Vault.{time_at}
 use Rattle.vault_core.specs.Yields.{CountsFollow, given_by, denied_by, gives_number, denies_number}
 use Rattle.vault_core.specs.Yields.{answered_so}
-use Rattle.vault_core.specs.declared.limit.TheConstants.{MOST_MERCHANTS, MOST_TOKENS, MOST_COUNT}
+use Rattle.vault_core.specs.declared.limit.TheConstants.{MOST_MERCHANTS, MOST_COUNT}
 use Rattle.vault_core.specs.declared.command.Command.{Command}
 use Rattle.vault_core.specs.declared.command.Command.TheVariants.{Grant, Withdraw, Tokenize}
 use Rattle.vault_core.specs.declared.command.Command.TheVariants.{Detokenize, View, Revoke, Purge, Audit}
@@ -41,6 +39,7 @@ use Rattle.vault_core.specs.declared.row.Entry.{Entry}
 use Rattle.vault_core.specs.declared.row.EntryState.{EntryState}
 use Rattle.vault_core.specs.declared.row.EntryState.TheVariants.{Kept, Purged}
 use Rattle.vault_core.proofs.Setting.{at_setting}
+use Rattle.vault_core.proofs.TokenRequests.{by_request}
 use Rattle.vault_core.proofs.Branches.{by_test, by_option}
 use Rattle.vault_core.proofs.Maps.{bytes_total, bytes_exact, tied, get-insert_same, get-insert_other}
 use Rattle.vault_core.proofs.Repeats.{same-refl}
@@ -118,47 +117,13 @@ module _ (c : Command) (V : Vault) (m : Bytes) where
 
 follows-tokenize : (V : Vault) (m : Bytes) (a : TokenRequest) → Follows (command_of a) V m (tokenize V a)
 follows-tokenize V m a =
-    by_option P (record_at V a.caller a.request) (earlier_request V a)
-    (of_merchant V a.merchant (new_request V a))
-    (λ r _. by_option P (entry_at V r.merchant r.token) (repetition V a r) (plain_refusal V number_reused)
-    (λ entry _. by_test P (is_repeat a.merchant a.usage a.pan r entry)
-    (plain_reply V (Token r.token entry.expires)) (plain_refusal V number_reused)
-    (λ _. quiet (Token r.token entry.expires) refl refl) (λ _. quiet (Refused number_reused) refl refl))
-    (λ _. quiet (Refused number_reused) refl refl))
-    (λ _. by_option P (merchant_at V a.merchant) (new_request V a) (plain_refusal V no_merchant)
-    (λ known is. by_test P (not (entitled V a.caller a.merchant right.Tokenize (time_at known a.moment)))
-    (plain_refusal V no_right) (offered known)
-    (λ _. quiet (Refused no_right) refl refl)
-    (λ _. by_test P (life_asked a known == 0) (plain_refusal V wrong_use) (given_one known)
-    (λ _. quiet (Refused wrong_use) refl refl)
-    (λ life. by_option P (reusable a.usage (current V a.merchant a.pan (time_at known a.moment)))
-    (token_again V a known) (drawing V a known)
-    (λ held h. keeps (command_of a) V m (token_again V a known held) known _ is refl refl refl refl refl)
-    (λ none. by_test P (made_count V a.merchant == MOST_TOKENS) (plain_refusal V full) (picked known)
-    (λ _. quiet (Refused full) refl refl)
-    (λ room. by_option P (chosen_token V a.merchant a.pan a.digits) (new_token V a known)
-    (plain_refusal V no_candidate)
-    (λ token drew. keeps (command_of a) V m (new_token V a known token) known _ is refl refl refl refl refl)
-    (λ _. quiet (Refused no_candidate) refl refl))))))
-    (λ _. quiet (Refused no_merchant) refl refl))
+    by_request (Follows c V m) V a (λ number. calm c V m (Refused number) refl refl)
+    (λ r entry _ _ _. calm c V m (Token r.token entry.expires) refl refl)
+    (λ known held _ is _. keeps c V m (token_again V a known held) known _ is refl refl refl refl refl)
+    (λ known token _ is _ _ _ _. keeps c V m (new_token V a known token) known _ is refl refl refl refl refl)
   where
-    P : Outcome → Type 0
-    P = Follows (command_of a) V m
-
-    quiet : (r : Reply) → gives_number r ≡ false → denies_number (command_of a) r ≡ false
-        → Follows (command_of a) V m (plain_reply V r)
-    quiet = calm (command_of a) V m
-
-    picked : Merchant → Outcome
-    picked known = option_map_or (new_token V a known) (chosen_token V a.merchant a.pan a.digits)
-        (plain_refusal V no_candidate)
-
-    given_one : Merchant → Outcome
-    given_one known = option_map_or (token_again V a known)
-        (reusable a.usage (current V a.merchant a.pan (time_at known a.moment))) (drawing V a known)
-
-    offered : Merchant → Outcome
-    offered known = cond (life_asked a known == 0) (plain_refusal V wrong_use) (given_one known)
+    c : Command
+    c = command_of a
 
 follows-set : (V : Vault) (m q : Bytes) (x : Lives) (o : Option Merchant) → merchant_at V q ≡ o
     → Follows (setting q x) V m (set_from V q x o)
@@ -213,6 +178,19 @@ follows-detokenize V m caller q token now =
     c : Command
     c = Detokenize caller q token now
 
+-- a command on a token whose refusals count nothing
+follows-token : (V : Vault) (m : Bytes) (c : Command) (t : TokenCommand)
+    (answer : Merchant → Entry → EntryState → Outcome)
+    → ((number : ℕ) → denies_number c (Refused number) ≡ false)
+    → ((known : Merchant) (entry : Entry) → merchant_at V t.merchant ≡ Some known → (state : EntryState)
+    → Follows c V m (answer known entry state))
+    → Follows c V m (on_token V t (λ known. plain_refusal V) answer)
+follows-token V m c t answer silent answering =
+    by_token (Follows c V m) V t (λ known. plain_refusal V) answer
+    (calm c V m (Refused no_merchant) refl (silent no_merchant))
+    (λ _ number _ _. calm c V m (Refused number) refl (silent number))
+    (λ known entry state is _ _. answering known entry is state)
+
 -- one command
 pub follows : (V : Vault) (m : Bytes) (c : Command) → Follows c V m (outcome V c)
 follows V m (Grant caller q right until now) =
@@ -242,23 +220,17 @@ follows V m (Tokenize caller q request usage pan digits now) =
     })
 follows V m (Detokenize caller q token now) = follows-detokenize V m caller q token now
 follows V m (View caller q token now) =
-    by_token (Follows c V m) V (token_command caller q token right.View now) (λ known. plain_refusal V)
-    (showing V)
-    (calm c V m (Refused no_merchant) refl refl) (λ _ number _ _. calm c V m (Refused number) refl refl)
-    (λ known entry state _ _ _. seen known entry state)
+    follows-token V m c (token_command caller q token right.View now) (showing V) (λ _. refl) ended
   where
     c : Command
     c = View caller q token now
 
-    seen : (known : Merchant) (entry : Entry) (state : EntryState)
+    ended : (known : Merchant) (entry : Entry) → merchant_at V q ≡ Some known → (state : EntryState)
         → Follows c V m (showing V known entry state)
-    seen known entry Purged = calm c V m (Refused token_purged) refl refl
-    seen known entry (Kept number state) =
+    ended known entry _ Purged = calm c V m (Refused token_purged) refl refl
+    ended known entry _ (Kept number state) =
         calm c V m (showing V known entry (Kept number state)).reply refl refl
-follows V m (Revoke caller q token now) =
-    by_token (Follows c V m) V t (λ known. plain_refusal V) (retirement V t)
-    (calm c V m (Refused no_merchant) refl refl) (λ _ number _ _. calm c V m (Refused number) refl refl)
-    (λ known entry state is _ _. ended known entry is state)
+follows V m (Revoke caller q token now) = follows-token V m c t (retirement V t) (λ _. refl) ended
   where
     c : Command
     c = Revoke caller q token now
@@ -271,10 +243,7 @@ follows V m (Revoke caller q token now) =
     ended known entry is Purged = calm c V m (Refused token_purged) refl refl
     ended known entry is (Kept number state) =
         keeps c V m (retirement V t known entry (Kept number state)) known _ is refl refl refl refl refl
-follows V m (Purge caller q token now) =
-    by_token (Follows c V m) V t (λ known. plain_refusal V) (purging V t)
-    (calm c V m (Refused no_merchant) refl refl) (λ _ number _ _. calm c V m (Refused number) refl refl)
-    (λ known entry state is _ _. ended known entry is state)
+follows V m (Purge caller q token now) = follows-token V m c t (purging V t) (λ _. refl) ended
   where
     c : Command
     c = Purge caller q token now

@@ -21,6 +21,7 @@ pub mod SoundMoved
 pub mod SoundRedeem
 pub mod StaysSound
 pub mod Steps
+pub mod TokenRequests
 pub mod TokenYields
 pub mod TokenizeAlike
 pub mod UnacceptedCommands

@@ -21,16 +21,16 @@ use Rattle.vault_core.specs.Show.{showing, totals}
 use Rattle.vault_core.specs.Sound.{Sound, IsNumber}
 use Rattle.vault_core.specs.Table.{after, command_of, token_request}
 use Rattle.vault_core.specs.Tokens.{earlier_request, repetition, new_request, token_again, new_token}
-use Rattle.vault_core.specs.Tokens.{drawing, new_entry, life_asked, tokenize}
+use Rattle.vault_core.specs.Tokens.{new_entry, tokenize}
 use Rattle.vault_core.specs.Vault.{Vault, Merchant, merchant_at, entry_at, record_at, entitled, made_count}
 use Rattle.vault_core.specs.Vault.{time_at, state_of}
-use Rattle.vault_core.specs.declared.limit.TheConstants.{MOST_TOKENS, MOST_COUNT}
+use Rattle.vault_core.specs.declared.limit.TheConstants.{MOST_COUNT}
 use Rattle.vault_core.specs.declared.command.Command.{Command}
 use Rattle.vault_core.specs.declared.command.Command.TheVariants.{Grant, Withdraw, Tokenize}
 use Rattle.vault_core.specs.declared.command.Command.TheVariants.{Detokenize, View, Revoke, Purge, Audit}
 use Rattle.vault_core.specs.declared.command.TokenCommand.{TokenCommand}
 use Rattle.vault_core.specs.declared.command.TokenRequest.{TokenRequest}
-use Rattle.vault_core.specs.Refusals.{no_merchant, no_right, wrong_use, number_reused, full, no_candidate}
+use Rattle.vault_core.specs.Refusals.{no_merchant, no_right, number_reused, full}
 use Rattle.vault_core.specs.declared.reply.Reply.{Reply}
 use Rattle.vault_core.specs.declared.reply.Reply.TheVariants.{Token, Refused, Counts}
 use Rattle.vault_core.specs.declared.reply.State.TheVariants.{Live, Expired, Revoked}
@@ -42,6 +42,7 @@ use Rattle.vault_core.specs.declared.row.Record.{Record}
 use Rattle.vault_core.specs.declared.usage.Use.{Use}
 use Rattle.vault_core.specs.declared.usage.Use.TheVariants.{Single, Multi}
 use Rattle.vault_core.proofs.Setting.{at_setting, by_set}
+use Rattle.vault_core.proofs.TokenRequests.{by_request}
 use Rattle.vault_core.proofs.Branches.{by_test, by_option}
 use Rattle.vault_core.proofs.CurrentLemmas.{current-some, same-is}
 use Rattle.vault_core.proofs.DrawLemmas.{chosen-is_good}
@@ -254,14 +255,8 @@ faithful-new V a known none token drew =
 
 pub faithful-tokenize : (V : Vault) → Sound V → (a : TokenRequest) → IsFaithful V a (tokenize V a)
 faithful-tokenize V s a =
-    by_option (IsFaithful V a) (record_at V a.caller a.request) (earlier_request V a)
-    (of_merchant V a.merchant (new_request V a))
-    (λ r held. by_option (IsFaithful V a) (entry_at V r.merchant r.token) (repetition V a r)
-    (plain_refusal V number_reused)
-    (λ entry here. by_test (IsFaithful V a) (is_repeat a.merchant a.usage a.pan r entry)
-    (plain_reply V (Token r.token entry.expires)) (plain_refusal V number_reused)
-    (λ repeat.
-    record {
+    by_request (IsFaithful V a) V a (refusal V a)
+    (λ r entry held here repeat. record {
       keeps = keeps-refl V;
       remembers = λ token expires is.
           let parts = token-same r.token token entry.expires expires is in
@@ -275,39 +270,8 @@ faithful-tokenize V s a =
             expires_is = parts.1;
           };
     })
-    (λ _. refusal V a number_reused))
-    (λ _. refusal V a number_reused))
-    (λ none.
-    by_option (IsFaithful V a) (merchant_at V a.merchant) (new_request V a) (plain_refusal V no_merchant)
-    (λ known is. by_test (IsFaithful V a)
-    (not (entitled V a.caller a.merchant right.Tokenize (time_at known a.moment)))
-    (plain_refusal V no_right) (offered known)
-    (λ _. refusal V a no_right)
-    (λ _. by_test (IsFaithful V a) (life_asked a known == 0) (plain_refusal V wrong_use) (given known)
-    (λ _. refusal V a wrong_use)
-    (λ life. by_option (IsFaithful V a)
-    (reusable a.usage (current V a.merchant a.pan (time_at known a.moment))) (token_again V a known)
-    (drawing V a known)
-    (λ held h. faithful-again V a known none a.usage held h)
-    (λ _. by_test (IsFaithful V a) (made_count V a.merchant == MOST_TOKENS) (plain_refusal V full)
-    (picked known)
-    (λ _. refusal V a full)
-    (λ room. by_option (IsFaithful V a) (chosen_token V a.merchant a.pan a.digits) (new_token V a known)
-    (plain_refusal V no_candidate)
-    (λ token drew. faithful-new V a known none token drew)
-    (λ _. refusal V a no_candidate))))))
-    (λ _. refusal V a no_merchant))
-  where
-    picked : Merchant → Outcome
-    picked known = option_map_or (new_token V a known) (chosen_token V a.merchant a.pan a.digits)
-        (plain_refusal V no_candidate)
-
-    given : Merchant → Outcome
-    given known = option_map_or (token_again V a known)
-        (reusable a.usage (current V a.merchant a.pan (time_at known a.moment))) (drawing V a known)
-
-    offered : Merchant → Outcome
-    offered known = cond (life_asked a known == 0) (plain_refusal V wrong_use) (given known)
+    (λ known held none _ one. faithful-again V a known none a.usage held one)
+    (λ known token none _ _ _ _ drew. faithful-new V a known none token drew)
 
 abbrev KeepsAfter : Vault → Outcome → Type 0
 KeepsAfter V o = Keeps V o.after

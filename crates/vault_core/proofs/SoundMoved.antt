@@ -4,7 +4,7 @@ use Rattle.std.specs.FinMap as map
 use Rattle.vault_core.specs.Keys.{Bytes}
 use Rattle.vault_core.specs.Outcome.{moved_vault}
 use Rattle.vault_core.specs.Scalar.{IsMoment}
-use Rattle.vault_core.specs.Sound.{Sound, IsSoundMerchant}
+use Rattle.vault_core.specs.Sound.{Sound, IsCount, IsSoundMerchant}
 use Rattle.vault_core.specs.Vault.{Vault, Merchant, merchant_at, time_at}
 use Rattle.vault_core.proofs.Finds.{some_same}
 use Rattle.vault_core.proofs.Maps.{bytes_total}
@@ -23,18 +23,29 @@ known-set V s m known new is fine later =
     ≡ old = some_same (sym is ∙ e) in let at = ap (λ (x : Merchant). x.moment) h in omega arith)
     (omega (arith, count))
 
+-- a merchant's moment moves, and its counts are these
+pub sound-counts : (V : Vault) → Sound V → (m : Bytes) (known : Merchant) (now given denied : ℕ)
+    → merchant_at V m ≡ Some known → IsMoment now → IsCount given → IsCount denied
+    → Sound (record V {
+      merchants = map.insert V.merchants m
+          (record known { moment = time_at known now; given = given; denied = denied });
+    })
+sound-counts V s m known now given denied is moment few_given few_denied =
+    let old = s.merchants m known is in
+    let before = old.moment in
+    known-set V s m known (record known { moment = time_at known now; given = given; denied = denied }) is
+    (record {
+      name = old.name;
+      lives = old.lives;
+      moment = omega arith;
+      given = few_given;
+      denied = few_denied;
+    })
+    (omega arith)
+
 pub sound-moved : (V : Vault) → Sound V → (m : Bytes) (known : Merchant) (now : ℕ)
     → merchant_at V m ≡ Some known
     → IsMoment now → Sound (moved_vault V m known now)
 sound-moved V s m known now is moment =
     let old = s.merchants m known is in
-    let before = old.moment in
-    known-set V s m known (record known { moment = time_at known now }) is
-    (record {
-      name = old.name;
-      lives = old.lives;
-      moment = omega arith;
-      given = old.given;
-      denied = old.denied;
-    })
-    (omega arith)
+    sound-counts V s m known now known.given known.denied is moment old.given old.denied

@@ -7,7 +7,8 @@ use Rattle.std.proofs.lemmas.Bool.Decides.{nat_tests}
 use Rattle.vault_core.specs.Keys.{Bytes}
 use Rattle.vault_core.specs.Merchants.{withdrawal}
 use Rattle.vault_core.specs.Outcome.{Outcome, plain_refusal, moved_vault, plain_reply, entry_change}
-use Rattle.vault_core.specs.Redeem.{merchant_after_gift, merchant_after_denial, detokenize}
+use Rattle.vault_core.specs.Outcome.{on_token}
+use Rattle.vault_core.specs.Redeem.{detokenize}
 use Rattle.vault_core.specs.Refusals.{no_merchant, no_right, full}
 use Rattle.vault_core.specs.Repeats.{is_reusable}
 use Rattle.vault_core.specs.Retire.{retirement, revoke, revoked_entry, purging, purge, without_number}
@@ -32,7 +33,7 @@ use Rattle.vault_core.proofs.Branches.{by_test, by_option}
 use Rattle.vault_core.proofs.Finds.{some_same}
 use Rattle.vault_core.proofs.Maps.{bytes_total, bytes_exact, get-insert_same}
 use Rattle.vault_core.proofs.Redeemed.{kept-has, kept-dead}
-use Rattle.vault_core.proofs.SoundMoved.{known-set, sound-moved}
+use Rattle.vault_core.proofs.SoundMoved.{sound-counts, sound-moved}
 use Rattle.vault_core.proofs.Steps.{sound-unright, sound-changed, later_entry}
 use Rattle.vault_core.proofs.Walks.{by_redeem, by_token}
 
@@ -54,32 +55,14 @@ pub sound-detokenize : (V : Vault) → Sound V → (t : TokenCommand) → IsMome
     → SoundAfter (detokenize V t)
 sound-detokenize V s t moment =
     by_redeem SoundAfter V t s
-    (λ known reason e _. by_test SoundAfter (known.denied == MOST_COUNT) (plain_refusal V full) _
-    (λ _. s)
+    (λ known reason e _. by_test SoundAfter (known.denied == MOST_COUNT) (plain_refusal V full) _ (λ _. s)
     (λ room. let old = s.merchants t.merchant known e in
-    let before = old.moment in
-    known-set V s t.merchant known (merchant_after_denial known t.moment) e
-    (record {
-      name = old.name;
-      lives = old.lives;
-      moment = omega arith;
-      given = old.given;
-      denied = below known.denied old.denied room;
-    })
-    (omega arith)))
-    (λ known number e. by_test SoundAfter (known.given == MOST_COUNT) (plain_refusal V full) _
-    (λ _. s)
+    sound-counts V s t.merchant known t.moment known.given (known.denied + 1) e moment old.given
+    (below known.denied old.denied room)))
+    (λ known number e. by_test SoundAfter (known.given == MOST_COUNT) (plain_refusal V full) _ (λ _. s)
     (λ room. let old = s.merchants t.merchant known e in
-    let before = old.moment in
-    known-set V s t.merchant known (merchant_after_gift known t.moment) e
-    (record {
-      name = old.name;
-      lives = old.lives;
-      moment = omega arith;
-      given = below known.given old.given room;
-      denied = old.denied;
-    })
-    (omega arith)))
+    sound-counts V s t.merchant known t.moment (known.given + 1) known.denied e moment
+    (below known.given old.given room) old.denied))
 
 pub sound-view : (V : Vault) → Sound V → (t : TokenCommand) → SoundAfter (view V t)
 sound-view V s t =
@@ -140,14 +123,23 @@ module _ (V : Vault) (s : Sound V) (t : TokenCommand) (moment : IsMoment t.momen
       (sound-moved V s t.merchant known t.moment e moment) t.merchant t.token entry new later
       (get-insert_same bytes_total bytes_exact V.merchants t.merchant later) here (fine was) usage reuse
 
+  -- what the answer to each state of a known token's entry leaves is sound
+  abbrev Leaves : (Merchant → Entry → EntryState → Outcome) → Type 0
+  Leaves answer =
+      (known : Merchant) → merchant_at V t.merchant ≡ Some known → (entry : Entry)
+      → entry_at V t.merchant t.token ≡ Some entry → (state : EntryState)
+      → state_of entry (time_at known t.moment) ≡ state → SoundAfter (answer known entry state)
+
+  sound-by_state : (answer : Merchant → Entry → EntryState → Outcome) → Leaves answer
+      → SoundAfter (on_token V t (λ known. plain_refusal V) answer)
+  sound-by_state answer leaves =
+      by_token SoundAfter V t (λ known. plain_refusal V) answer s (λ _ _ _ _. s)
+      (λ known entry state e here is. leaves known e entry here state is)
+
   pub sound-revoke : SoundAfter (revoke V t)
-  sound-revoke =
-      by_token SoundAfter V t (λ known. plain_refusal V) (retirement V t) s (λ _ _ _ _. s)
-      (λ known entry state e here is. ended known e entry here state is)
+  sound-revoke = sound-by_state (retirement V t) ended
     where
-      ended : (known : Merchant) → merchant_at V t.merchant ≡ Some known → (entry : Entry)
-          → entry_at V t.merchant t.token ≡ Some entry → (state : EntryState)
-          → state_of entry (time_at known t.moment) ≡ state → SoundAfter (retirement V t known entry state)
+      ended : Leaves (retirement V t)
       ended known e entry here Purged is = s
       ended known e entry here (Kept number state) is =
           let at = time_at known t.moment in
@@ -164,9 +156,7 @@ module _ (V : Vault) (s : Sound V) (t : TokenCommand) (moment : IsMoment t.momen
           (λ pan again. absurd (not_reusable pan at at entry again))
 
   pub sound-purge : SoundAfter (purge V t)
-  sound-purge =
-      by_token SoundAfter V t (λ known. plain_refusal V) (purging V t) s (λ _ _ _ _. s)
-      (λ known entry state e here is. ended known e entry here state is)
+  sound-purge = sound-by_state (purging V t) ended
     where
       without : (known : Merchant) → merchant_at V t.merchant ≡ Some known → (entry : Entry)
           → entry_at V t.merchant t.token ≡ Some entry → (number : Bytes) (state : State) → state ≢ Live
@@ -184,9 +174,7 @@ module _ (V : Vault) (s : Sound V) (t : TokenCommand) (moment : IsMoment t.momen
           })
           (λ pan again. absurd (numberless pan (time_at known t.moment) entry again))
 
-      ended : (known : Merchant) → merchant_at V t.merchant ≡ Some known → (entry : Entry)
-          → entry_at V t.merchant t.token ≡ Some entry → (state : EntryState)
-          → state_of entry (time_at known t.moment) ≡ state → SoundAfter (purging V t known entry state)
+      ended : Leaves (purging V t)
       ended known e entry here Purged is = sound-moved V s t.merchant known t.moment e moment
       ended known e entry here (Kept number Live) is = s
       ended known e entry here (Kept number Revoked) is =

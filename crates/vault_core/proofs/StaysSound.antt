@@ -2,7 +2,6 @@
 use Rattle.std.proofs.Common.{◌≡◌, ℕ, ◌+◌, ◌<◌, ◌≤◌, Bool, true, false, cond, Option, Some, None, [], ◌∷◌}
 use Rattle.std.proofs.Common.{not, is_none, refl, sym, ap, ◌∙◌, subst, arith, nat_lt, ◌==◌, zero, suc, lit≤}
 use Rattle.std.specs.Prelude.{map, IfSome}
-use Rattle.std.specs.Option.{option_map_or}
 use Rattle.std.specs.FinMap as map
 use Rattle.std.specs.Cmp.{first_so, second_so}
 use Rattle.std.specs.List.{AllByRecursion, range_with_len}
@@ -18,24 +17,23 @@ use Rattle.vault_core.specs.Lives.{AreLives, new_merchant, with_lives}
 use Rattle.vault_core.specs.Merchants.{granting, set_from, set_to}
 use Rattle.vault_core.specs.Name.{IsName}
 use Rattle.vault_core.specs.Named.{token_command}
-use Rattle.vault_core.specs.Outcome.{Outcome, plain_reply, plain_refusal, moved_vault, of_merchant}
+use Rattle.vault_core.specs.Outcome.{Outcome, plain_refusal, moved_vault}
 use Rattle.vault_core.specs.Proper.{IsProper}
-use Rattle.vault_core.specs.Repeats.{current, is_repeat, is_reusable, reusable, same_use}
+use Rattle.vault_core.specs.Repeats.{current, is_reusable, reusable, same_use}
 use Rattle.vault_core.specs.Scalar.{IsLife, IsMoment, IsRequest}
 use Rattle.vault_core.specs.Sound.{Sound, IsSoundEntry}
 use Rattle.vault_core.specs.Table.{after, token_request}
-use Rattle.vault_core.specs.Tokens.{earlier_request, repetition, new_request, token_again, new_token}
-use Rattle.vault_core.specs.Tokens.{drawing, new_entry, life_asked, tokenize}
-use Rattle.vault_core.specs.Vault.{Vault, Merchant, merchant_at, entry_at, record_at, entitled, made_count}
+use Rattle.vault_core.specs.Tokens.{token_again, new_token}
+use Rattle.vault_core.specs.Tokens.{new_entry, life_asked, tokenize}
+use Rattle.vault_core.specs.Vault.{Vault, Merchant, merchant_at, entry_at, made_count}
 use Rattle.vault_core.specs.Vault.{time_at, life_for}
 use Rattle.vault_core.specs.declared.limit.TheConstants.{MOST_MERCHANTS, MOST_TOKENS}
 use Rattle.vault_core.specs.declared.command.Command.{Command}
 use Rattle.vault_core.specs.declared.command.Command.TheVariants.{Grant, Withdraw, Tokenize}
 use Rattle.vault_core.specs.declared.command.Command.TheVariants.{Detokenize, View, Revoke, Purge, Audit}
 use Rattle.vault_core.specs.declared.command.TokenRequest.{TokenRequest}
-use Rattle.vault_core.specs.Refusals.{no_merchant, no_right, wrong_use, number_reused, full, no_candidate}
+use Rattle.vault_core.specs.Refusals.{no_merchant}
 use Rattle.vault_core.specs.Refusals.{too_many_merchants}
-use Rattle.vault_core.specs.declared.reply.Reply.TheVariants.{Token}
 use Rattle.vault_core.specs.declared.right.Right.{Right}
 use Rattle.vault_core.specs.declared.row.Lives.{Lives}
 use Rattle.vault_core.specs.declared.right.Right.TheVariants as right
@@ -43,6 +41,7 @@ use Rattle.vault_core.specs.declared.row.Entry.{Entry}
 use Rattle.vault_core.specs.declared.usage.Use.{Use}
 use Rattle.vault_core.specs.declared.usage.Use.TheVariants.{Single, Multi}
 use Rattle.vault_core.proofs.Setting.{at_setting}
+use Rattle.vault_core.proofs.TokenRequests.{by_request}
 use Rattle.vault_core.proofs.Branches.{by_test, by_option}
 use Rattle.vault_core.proofs.CurrentLemmas.{current-none, current-some, same-is}
 use Rattle.vault_core.proofs.DrawLemmas.{chosen-is_good}
@@ -224,41 +223,9 @@ sound-new V s a p known is offered none room token drew =
 
 sound-tokenize : (V : Vault) → Sound V → (a : TokenRequest) → IsProperRequest a → SoundAfter (tokenize V a)
 sound-tokenize V s a p =
-    by_option SoundAfter (record_at V a.caller a.request) (earlier_request V a)
-    (of_merchant V a.merchant (new_request V a))
-    (λ r _. by_option SoundAfter (entry_at V r.merchant r.token) (repetition V a r)
-    (plain_refusal V number_reused)
-    (λ entry _. by_test SoundAfter (is_repeat a.merchant a.usage a.pan r entry)
-    (plain_reply V (Token r.token entry.expires)) (plain_refusal V number_reused) (λ _. s) (λ _. s))
-    (λ _. s))
-    (λ _. by_option SoundAfter (merchant_at V a.merchant) (new_request V a) (plain_refusal V no_merchant)
-    (λ known is. by_test SoundAfter
-    (not (entitled V a.caller a.merchant right.Tokenize (time_at known a.moment)))
-    (plain_refusal V no_right) (offered known)
-    (λ _. s)
-    (λ _. by_test SoundAfter (life_asked a known == 0) (plain_refusal V wrong_use) (given known)
-    (λ _. s)
-    (λ life. by_option SoundAfter (reusable a.usage (current V a.merchant a.pan (time_at known a.moment)))
-    (token_again V a known) (drawing V a known)
-    (λ held h. sound-again V s a p known is a.usage refl held h)
-    (λ none. by_test SoundAfter (made_count V a.merchant == MOST_TOKENS) (plain_refusal V full) (picked known)
-    (λ _. s)
-    (λ room. by_option SoundAfter (chosen_token V a.merchant a.pan a.digits) (new_token V a known)
-    (plain_refusal V no_candidate)
-    (λ token drew. sound-new V s a p known is life none room token drew)
-    (λ _. s))))))
-    (λ _. s))
-  where
-    picked : Merchant → Outcome
-    picked known = option_map_or (new_token V a known) (chosen_token V a.merchant a.pan a.digits)
-        (plain_refusal V no_candidate)
-
-    given : Merchant → Outcome
-    given known = option_map_or (token_again V a known)
-        (reusable a.usage (current V a.merchant a.pan (time_at known a.moment))) (drawing V a known)
-
-    offered : Merchant → Outcome
-    offered known = cond (life_asked a known == 0) (plain_refusal V wrong_use) (given known)
+    by_request SoundAfter V a (λ _. s) (λ _ _ _ _ _. s)
+    (λ known held _ is one. sound-again V s a p known is a.usage refl held one)
+    (λ known token _ is life none room drew. sound-new V s a p known is life none room token drew)
 
 pub sound-after : (V : Vault) → Sound V → (c : Command) → IsProper c → Sound (after V c)
 sound-after V s (Grant caller m right until now) p = sound-grant V s caller m right until now p.0 p.2 p.3

@@ -197,6 +197,22 @@ IsSole V m token entry at =
     (pan other : Bytes) (e : Entry) → entry_at V m other ≡ Some e
     → is_reusable pan at e ≡ true → is_reusable pan at entry ≡ true → ⊥
 
+-- with an entry that is sound all are
+inserted-sound : (V : Vault) → Sound V → (m token : Bytes) (entry : Entry) (known : Merchant)
+    → merchant_at V m ≡ Some known → IsSoundEntry token entry known
+    → (q t : Bytes) (e : Entry) → map.get (map.insert V.entries (m, token) entry) (q, t) ≡ Some e
+    → (row : Merchant) × (merchant_at V q ≡ Some row) × IsSoundEntry t e row
+inserted-sound V s m token entry known is fine q t e h =
+    elim (get-insert_cases entry_total entry_exact V.entries (m, token) entry (q, t) e h) [
+      | inl i ↦ (
+        known,
+        ap (λ (k : Bytes × Bytes). map.get V.merchants k.0) i.0 ∙ is,
+        subst (λ (x : Bytes). IsSoundEntry x e known) (sym (ap (λ (k : Bytes × Bytes). k.1) i.0))
+            (subst (λ (x : Entry). IsSoundEntry token x known) (sym i.1) fine),
+      )
+      | inr i ↦ s.entries q t e i.1
+    ]
+
 -- a new entry comes
 pub sound-entry : (V : Vault) → Sound V → (m token : Bytes) (entry : Entry) (known : Merchant)
     → merchant_at V m ≡ Some known → IsSoundEntry token entry known → entry_at V m token ≡ None
@@ -219,16 +235,7 @@ sound-entry V s m token entry known is fine new few sole = record {
         let before = s.made_few q in
         omega arith
   ];
-  entries = λ q t e h.
-      elim (get-insert_cases entry_total entry_exact V.entries (m, token) entry (q, t) e h) [
-        | inl i ↦ (
-          known,
-          ap (λ (k : Bytes × Bytes). map.get V.merchants k.0) i.0 ∙ is,
-          subst (λ (x : Bytes). IsSoundEntry x e known) (sym (ap (λ (k : Bytes × Bytes). k.1) i.0))
-              (subst (λ (x : Entry). IsSoundEntry token x known) (sym i.1) fine),
-        )
-        | inr i ↦ s.entries q t e i.1
-      ];
+  entries = inserted-sound V s m token entry known is fine;
   alone = λ q pan t other e e' row at_q e1 r1 e2 r2.
       elim (get-insert_cases entry_total entry_exact V.entries (m, token) entry (q, t) e e1) [
         | inl i ↦
@@ -280,16 +287,7 @@ sound-changed V s m token old new known is here fine same_usage reuse = record {
       (λ key. eq_by_cmp bytes_cmp q key.0) old here in
       let before = s.made_few q in
       omega (arith, equal, before);
-  entries = λ q t e h.
-      elim (get-insert_cases entry_total entry_exact V.entries (m, token) new (q, t) e h) [
-        | inl i ↦ (
-          known,
-          ap (λ (k : Bytes × Bytes). map.get V.merchants k.0) i.0 ∙ is,
-          subst (λ (x : Bytes). IsSoundEntry x e known) (sym (ap (λ (k : Bytes × Bytes). k.1) i.0))
-              (subst (λ (x : Entry). IsSoundEntry token x known) (sym i.1) fine),
-        )
-        | inr i ↦ s.entries q t e i.1
-      ];
+  entries = inserted-sound V s m token new known is fine;
   alone = λ q pan t other e e' row at_q e1 r1 e2 r2.
       let one = before q pan t e row at_q e1 r1 in
       let two = before q pan other e' row at_q e2 r2 in

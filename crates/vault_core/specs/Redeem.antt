@@ -7,6 +7,7 @@ use Rattle.vault_core.specs.Refusals.{full, token_purged, token_revoked, token_e
 use Rattle.vault_core.specs.Vault.{Vault, Merchant, time_at}
 use Rattle.vault_core.specs.declared.limit.TheConstants.{MOST_COUNT}
 use Rattle.vault_core.specs.declared.command.TokenCommand.{TokenCommand}
+use Rattle.vault_core.specs.declared.reply.Reply.{Reply}
 use Rattle.vault_core.specs.declared.reply.Reply.TheVariants.{Number, Refused}
 use Rattle.vault_core.specs.declared.reply.State.TheVariants.{Live, Expired, Revoked}
 use Rattle.vault_core.specs.declared.row.EntryState.{EntryState}
@@ -22,25 +23,22 @@ abbrev pub merchant_after_denial : Merchant → ℕ → Merchant
 merchant_after_denial merchant now =
     record merchant { moment = time_at merchant now; denied = merchant.denied + 1 }
 
+-- an answer that is counted sets the merchant's row; 11 where that count can't go up
+abbrev pub counting : Vault → Bytes → ℕ → Reply → Merchant → Outcome
+counting V m count reply merchant =
+    if count == MOST_COUNT
+    then plain_refusal V full
+    else record { reply = reply; after = record V { merchants = map.insert V.merchants m merchant } }
+
 -- a number is given and counted; 11 where no more can be counted
 abbrev pub gift : Vault → Bytes → ℕ → Merchant → Bytes → Outcome
 gift V m now merchant number =
-    if merchant.given == MOST_COUNT
-    then plain_refusal V full
-    else record {
-      reply = Number number;
-      after = record V { merchants = map.insert V.merchants m (merchant_after_gift merchant now) };
-    }
+    counting V m merchant.given (Number number) (merchant_after_gift merchant now)
 
 -- a number is denied and that is counted; 11 where no more can be counted
 abbrev pub denial : Vault → Bytes → ℕ → Merchant → ℕ → Outcome
 denial V m now merchant reason =
-    if merchant.denied == MOST_COUNT
-    then plain_refusal V full
-    else record {
-      reply = Refused reason;
-      after = record V { merchants = map.insert V.merchants m (merchant_after_denial merchant now) };
-    }
+    counting V m merchant.denied (Refused reason) (merchant_after_denial merchant now)
 
 -- the number of a token is given by its state; else 14 where it is purged, 15 where it is revoked and 16
 -- where it has expired

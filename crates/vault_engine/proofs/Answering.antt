@@ -8,9 +8,14 @@ use Rattle.std.proofs.lemmas.List.Elements.{All-cons, All-nil}
 use Rattle.vault_core.specs.Vault.{Vault as Content}
 use Rattle.vault_core.specs.declared.reply.Reply.{Reply}
 use Rattle.vault_engine.specs.Answered.{Answered, AnsweredBefore, CutAt, SilentAt, UndecidedAt}
-use Rattle.vault_engine.specs.Asking.{Asked, Asks, Kind, Pair, left_by, reply_to, text_at, vault_after}
+use Rattle.vault_engine.specs.Asking.{Asked, Asks, Kind, Pair, Wanted, left_by, reply_to, text_at}
+use Rattle.vault_engine.specs.Asking.{vault_after}
 use Rattle.vault_engine.specs.Passing.{Passage, IsBefore, Keeps, Sends, Takes}
 use Rattle.vault_engine.proofs.Listing.{texts-one, vault_after-nil, vault_after-one}
+
+-- the unit, asked with the pair, wants this
+abbrev pub asked : {X : Type 0} → X → Pair → Wanted → Asked X
+asked unit pair wanted = record { unit = unit; pair = pair; wanted = wanted }
 
 pub appends_nothing : (a : Option (List ℕ)) → Appends a a []
 appends_nothing None = tt

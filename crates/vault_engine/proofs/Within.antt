@@ -12,8 +12,8 @@ use Rattle.vault_engine.specs.Within.{AllAnswered, FirstOf, StopsWithin}
 use Rattle.vault_engine.specs.declared.stop.Stop.{Stop}
 use Rattle.vault_engine.specs.declared.stop.Stop.TheVariants as stop
 use Rattle.vault_engine.proofs.Answering.{none_answered}
-use Rattle.vault_engine.proofs.Following.{Joins, answered_then, before_then, cut_then, joined, silent_then}
-use Rattle.vault_engine.proofs.Following.{undecided_then}
+use Rattle.vault_engine.proofs.JoinedUnits.{Joins, answered_then, before_then, cut_then, joined, silent_then}
+use Rattle.vault_engine.proofs.JoinedUnits.{undecided_then}
 
 module _ {X : Type 0} (k : Kind X) (w : Passage) where
   -- nothing is asked, and the vault stays

@@ -48,3 +48,7 @@ pub record Trusts {T X : Type 0} (is_honest : T → Type 0) (may_fail : Bool) (o
     (r : Result X Stop) : Type 0 where
   pub disk_honest : is_honest (tables_of new) → is_honest (tables_of old)
   pub infallible : may_fail ≡ false → is_broken old ≡ false → ¬ (r ≡ Err stop.Store)
+
+-- over tables that can't fail, a vault that wasn't broken never comes to this
+abbrev pub NeverFails : {T : Type 0} → Bool → Vault T → Type 0 → Type 0
+NeverFails may_fail old Is = may_fail ≡ false → is_broken old ≡ false → ¬ Is

@@ -14,11 +14,11 @@ use Rattle.sqlite_store.specs.declared.store.FileStore.{FileStore}
 use Rattle.sqlite_wal.specs.Recovery.{Image}
 use Rattle.sql_maps.specs.Schema.{no_schema}
 use Rattle.vault_core.specs.Vault.{Vault, empty_vault}
+use Rattle.vault_file.specs.Closed.{ReopensAs}
 use Rattle.vault_file.specs.Found.{LeavesFrom, Stays}
 use Rattle.vault_recover.specs.Crashed.{AreBlank, HoldsEither, HoldsFirst, IsBlank, IsOpenOf}
-use Rattle.vault_recover.specs.Crashed.{Keeps, KeepsEither, KeepsFirst, ReopensEither, ReopensFirst}
+use Rattle.vault_recover.specs.Crashed.{Keeps, KeepsEither, KeepsFirst}
 use Rattle.vault_file.proofs.Reopened.{some_again}
-use Rattle.vault_file.specs.Reopened.{ReopensSome}
 use Rattle.vault_migrate.proofs.Moving.{left_in, never_blank}
 use Rattle.vault_migrate.specs.Moved.{LeavesSome}
 use Rattle.vault_schema.specs.Left.{left_after}
@@ -152,17 +152,13 @@ checked_leaves image first conn found unlimited alone quiet untouched again eith
 -- the connection is closed, and its files keep what a crash left
 pub stays : {D : Type 0} {g : Ghosts D} (image : Image) (conn : Held (FileStore D g)) (left : FileStore D g)
     → LeavesFrom image conn → (IsClean (view left) → HasCleanDisk (file_state conn))
-    → (IsClean (view left) → (V W : Vault) → LeavesEither (file_state conn) V W → ReopensEither left V W)
-    → (IsClean (view left) → (before : Trees) → AreBlank before → LeavesFirst (file_state conn) before
-    → ReopensFirst left before)
-    → (IsClean (view left) → (V : Vault) → LeavesSome V (file_state conn) → ReopensSome left V)
-    → Stays image left
-stays image conn left it was either first some = record {
+    → (IsClean (view left) → ReopensAs (file_state conn) left) → Stays image left
+stays image conn left it was after = record {
   either = λ clean V W keeps bytes may found finds. ∥∥₁_elim (it.either (was clean) V W keeps) ∥∥₁_prop
-      (λ leaves. either clean V W leaves bytes may found finds);
+      (λ leaves. (after clean).either V W leaves bytes may found finds);
   empty = λ clean before blank keeps bytes may found finds.
       ∥∥₁_elim (it.empty (was clean) before blank keeps) ∥∥₁_prop
-      (λ leaves. first clean before blank leaves bytes may found finds);
+      (λ leaves. (after clean).first before blank leaves bytes may found finds);
   some = λ clean V keeps bytes may found finds. ∥∥₁_elim (it.some (was clean) V keeps) ∥∥₁_prop
-      (λ leaves. some clean V leaves bytes may found finds);
+      (λ leaves. (after clean).some V leaves bytes may found finds);
 }

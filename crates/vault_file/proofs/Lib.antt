@@ -1,3 +1,4 @@
+pub mod Closed
 pub mod Leaving
 pub mod Moving
 pub mod Opening

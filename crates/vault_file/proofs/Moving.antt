@@ -1,5 +1,5 @@
 -- What a migration comes to over files.
-use Rattle.std.proofs.Common.{◌≡◌, ◌≢◌, ◌≤◌, inl, inr, ap, arith, None}
+use Rattle.std.proofs.Common.{◌≡◌, ◌≢◌, ◌≤◌, inl, inr, ap, arith, None, ℕ, ℤ}
 use Rattle.std.proofs.Math.Logic.{∥∥₁_elim, ∥∥₁_map}
 use Rattle.sqlite.specs.Files.{file_state}
 use Rattle.sqlite.specs.Held.{Held}
@@ -13,17 +13,18 @@ use Rattle.sqlite_wal.specs.Recovery.{Image}
 use Rattle.sql_maps.specs.Schema.{no_schema}
 use Rattle.vault_core.specs.Sound.{Sound}
 use Rattle.vault_core.specs.Vault.{Vault, empty_vault}
-use Rattle.vault_file.proofs.Opening.{found_in as held_there, no_verdict}
-use Rattle.vault_file.specs.Found.{IsNoVerdict, SparesStopped}
-use Rattle.vault_file.specs.Moved.{LeavesOld, MovesAs, MovesFrom, StaysOld}
+use Rattle.vault_file.proofs.Opening.{found_in as held_there, no_verdict, same_fault}
+use Rattle.vault_file.specs.Closed.{ReopensAs}
+use Rattle.vault_file.specs.Found.{IsFoundIn, IsNoVerdict, SparesStopped}
+use Rattle.vault_file.specs.Moved.{LeavesOld, MovesAs, MovesFrom, StaysOld, TellsOld}
 use Rattle.vault_file.specs.declared.fault.NotOpened.{NotOpened}
 use Rattle.vault_file.specs.declared.fault.NotOpened.TheVariants.{Fault}
 use Rattle.vault_file.proofs.Reopened.{in_again, some_again, sound_again}
+use Rattle.vault_migrate.specs.Moved.{FindsBroken, FindsVersion}
 use Rattle.vault_migrate.specs.Moved.{HoldsSoundIn, IsKnown, IsMovable, IsOlder, IsSoundWhereFull, LeavesIn}
 use Rattle.vault_migrate.specs.Moved.{LeavesSome}
-use Rattle.vault_file.specs.Reopened.{KeepsIn, KeepsSome, ReopensIn, ReopensSome}
+use Rattle.vault_file.specs.Reopened.{KeepsIn, KeepsSome}
 use Rattle.vault_recover.specs.Crashed.{AreBlank, HoldsEither, HoldsFirst, IsOpenOf, KeepsEither, KeepsFirst}
-use Rattle.vault_recover.specs.Crashed.{Reopens}
 use Rattle.vault_schema.proofs.Newest.{held_by_newest, held_in_newest, ours_in_newest}
 use Rattle.vault_schema.specs.Holds.{HoldsIn}
 use Rattle.vault_schema.specs.Stands.{newest}
@@ -32,16 +33,16 @@ use Rattle.vault_verdict.specs.Opened.{IsFit, IsNoRefusal}
 use Rattle.vault_verdict.specs.ReadAs.{IsFullIn}
 use Rattle.sqlite.specs.Effect.{Database}
 use Rattle.vault_verdict.specs.declared.fault.OpenFault.{OpenFault}
-use Rattle.vault_verdict.specs.declared.fault.OpenFault.TheVariants.{Store}
+use Rattle.vault_verdict.specs.declared.fault.OpenFault.TheVariants.{Store, Damaged, WrongSchema}
 use Rattle.vault_schema.specs.Holds.{Holds}
 use Rattle.vault_schema.specs.Making.{IsReady}
 
-module _ {D : Type 0} {g : Ghosts D} (image : Image) (first last : Held (FileStore D g))
-    (found : HasCleanDisk (file_state first) → IsOpenOf image first)
+module _ {D : Type 0} {g : Ghosts D} {image : Image} {first : Held (FileStore D g)}
+    (last : Held (FileStore D g)) (found : HasCleanDisk (file_state first) → IsOpenOf image first)
     (unlimited : (file_state first).step_limit ≡ None)
     (quiet : doubt (file_state first).is_clean ≤ doubt (file_state last).is_clean) where
   -- a disk that is clean after a migration was clean before it
-  pub was_clean : HasCleanDisk (file_state last) → HasCleanDisk (file_state first)
+  was_clean : HasCleanDisk (file_state last) → HasCleanDisk (file_state first)
   was_clean clean = omega (arith, quiet, clean)
 
   found_in : HasCleanDisk (file_state last) → (v : Version) (V : Vault) → KeepsIn v image V
@@ -87,7 +88,7 @@ module _ {D : Type 0} {g : Ghosts D} (image : Image) (first last : Held (FileSto
       sound = sound;
       stood = λ clean. (
         (file_state first).now,
-        held_there image first found (was_clean clean),
+        held_there found (was_clean clean),
         record {
           known = known;
           sound = λ v full.
@@ -115,6 +116,18 @@ module _ {D : Type 0} {g : Ghosts D} (image : Image) (first last : Held (FileSto
 
   -- and one that is refused
   module _ (e : OpenFault) where
+    -- it tells what was found in the bytes
+    pub tells_old : HasCleanDisk (file_state last)
+        → ((rule : ℕ) → e ≡ Damaged rule → FindsBroken (file_state first).now rule)
+        → ((n : ℤ) → e ≡ WrongSchema n → FindsVersion (file_state first).now n) → TellsOld image (Fault e)
+    tells_old clean damaged wrong =
+        let db : Database = (file_state first).now in
+        let held : IsFoundIn image db = held_there found (was_clean clean) in
+        record {
+          damaged = λ rule same. (db, held, damaged rule (same_fault e (Damaged rule) same));
+          wrong = λ n same. (db, held, wrong n (same_fault e (WrongSchema n) same));
+        }
+
     pub leaves_old : (HasCleanDisk (file_state last)
         → (v : Version) (V : Vault) → HoldsIn v V (file_state first) → LeavesSome V (file_state last))
         → (HasCleanDisk (file_state last) → e ≢ Store
@@ -151,21 +164,21 @@ movable db fit = elim fit [ inl it ↦ inl (newest, it) | inr blank ↦ inr blan
 -- the connection is closed after a migration that is done
 pub moves_as : {D : Type 0} {g : Ghosts D} (image : Image) (conn : Held (FileStore D g))
     (left : FileStore D g) → MovesFrom image conn → (IsClean (view left) → HasCleanDisk (file_state conn))
-    → (IsClean (view left) → (V : Vault) → Holds (file_state conn) V → Reopens left V) → MovesAs image left
+    → (IsClean (view left) → ReopensAs (file_state conn) left) → MovesAs image left
 moves_as image conn left it was after = record {
-  moved = λ clean v V keeps. after clean V (it.moved (was clean) v V keeps);
-  newest = λ clean V keeps. after clean V
+  moved = λ clean v V keeps. (after clean).kept V (it.moved (was clean) v V keeps);
+  newest = λ clean V keeps. (after clean).kept V
       (it.moved (was clean) newest V (λ found finds. ours_in_newest V found (keeps found finds)));
   stopped = λ clean V keeps bytes may found finds. ∥∥₁_map (it.stopped (was clean) V keeps)
-      (λ held. after clean V held bytes may found finds);
+      (λ held. (after clean).kept V held bytes may found finds);
   either = λ clean V W keeps bytes may found finds.
       ∥∥₁_map (it.either (was clean) V W keeps) (λ held. elim held [
-        | inl is ↦ inl (after clean V is bytes may found finds)
-        | inr is ↦ inr (after clean W is bytes may found finds)
+        | inl is ↦ inl ((after clean).kept V is bytes may found finds)
+        | inr is ↦ inr ((after clean).kept W is bytes may found finds)
       ]);
   blank = λ clean before none keeps bytes may found finds.
       ∥∥₁_map (it.blank (was clean) before none keeps)
-      (λ held. after clean empty_vault held bytes may found finds);
+      (λ held. (after clean).kept empty_vault held bytes may found finds);
   stood = λ clean.
       let db = it.stood (was clean) in (
         db.0,
@@ -173,7 +186,7 @@ moves_as image conn left it was after = record {
         record {
           known = db.2.known;
           sound = λ v full.
-              let stands = db.2.sound v full in (stands.0, after clean stands.0.vault stands.1);
+              let stands = db.2.sound v full in (stands.0, (after clean).kept stands.0.vault stands.1);
         },
       );
 }
@@ -182,15 +195,14 @@ moves_as image conn left it was after = record {
 pub stays_old : {D : Type 0} {g : Ghosts D} (image : Image) (conn : Held (FileStore D g))
     (left : FileStore D g) (why : NotOpened) → LeavesOld image why conn
     → (IsClean (view left) → HasCleanDisk (file_state conn))
-    → (IsClean (view left) → (V : Vault) → LeavesSome V (file_state conn) → ReopensSome left V)
-    → (IsClean (view left) → (v : Version) (V : Vault) → LeavesIn v V (file_state conn) → ReopensIn v left V)
+    → (IsClean (view left) → ReopensAs (file_state conn) left)
     → (HasCleanDisk (file_state conn)
     → (v : Version) (V : Vault) → Sound V → KeepsIn v image V → IsNoVerdict why)
     → (HasCleanDisk (file_state conn) → (V : Vault) → Sound V → KeepsSome image V → IsNoVerdict why)
     → (HasCleanDisk (file_state conn) → SparesStopped image why) → StaysOld image left why
-stays_old image conn left why old was some after never never_some spares = record {
-  stays = λ clean other v V keeps. after clean v V (old.stays (was clean) other v V keeps);
-  some = λ clean v V keeps. some clean V (old.some (was clean) v V keeps);
+stays_old image conn left why old was after never never_some spares = record {
+  stays = λ clean other v V keeps. (after clean).same v V (old.stays (was clean) other v V keeps);
+  some = λ clean v V keeps. (after clean).some V (old.some (was clean) v V keeps);
   spared = λ clean. never (was clean);
   never_some = λ clean. never_some (was clean);
   spares = λ clean. spares (was clean);

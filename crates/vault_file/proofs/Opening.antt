@@ -13,13 +13,14 @@ use Rattle.sqlite_wal.specs.Recovery.{Image}
 use Rattle.vault_core.proofs.Empty.{sound-empty}
 use Rattle.vault_core.specs.Sound.{Sound}
 use Rattle.vault_core.specs.Vault.{Vault, empty_vault}
-use Rattle.vault_file.specs.Found.{IsFoundIn, IsNoVerdict, OpensFrom, SparesStopped}
+use Rattle.vault_file.specs.Found.{IsFoundIn, IsNoVerdict, OpensFrom, SparesStopped, TellsFound}
 use Rattle.vault_file.specs.declared.fault.NotOpened.{NotOpened}
 use Rattle.vault_file.specs.declared.fault.NotOpened.TheVariants.{Refused, Fault}
 use Rattle.vault_recover.proofs.Reopened.{held_again}
 use Rattle.vault_recover.specs.Crashed.{AreBlank, HoldsEither, HoldsFirst, IsOpenOf}
 use Rattle.vault_recover.specs.Crashed.{Keeps, KeepsEither, KeepsFirst}
-use Rattle.vault_verdict.specs.Opened.{IsFit, IsNoRefusal, Opens, StandsSound}
+use Rattle.vault_verdict.specs.Opened.{IsFit, IsLeastBroken, IsNoRefusal, IsWrong, Opens, StandsSound}
+use Rattle.vault_verdict.specs.Reading.{IsFull}
 use Rattle.vault_verdict.specs.declared.fault.OpenFault.{OpenFault}
 use Rattle.vault_verdict.specs.declared.fault.OpenFault.TheVariants.{WrongSchema, Damaged, Memory, Store}
 use Rattle.vault_file.proofs.Reopened.{some_again}
@@ -74,7 +75,7 @@ still_held old new same limit V held = record {
   stands = subst (λ (d : Database). Stands d.trees V) (sym same.0.now_is) held.stands;
 }
 
-module _ {D : Type 0} {g : Ghosts D} (image : Image) (first : Held (FileStore D g))
+module _ {D : Type 0} {g : Ghosts D} {image : Image} {first : Held (FileStore D g)}
     (found : HasCleanDisk (file_state first) → IsOpenOf image first) where
   pub found_in : HasCleanDisk (file_state first) → IsFoundIn image (file_state first).now
   found_in clean =
@@ -171,11 +172,25 @@ module _ {D : Type 0} {g : Ghosts D} (image : Image) (first : Held (FileStore D 
             ]));
       }
 
-      pub found_wrong : (n : ℤ) → Fault e ≡ Fault (WrongSchema n) → IsFoundIn image (file_state first).now
+      found_wrong : (n : ℤ) → Fault e ≡ Fault (WrongSchema n) → IsFoundIn image (file_state first).now
       found_wrong n same =
           found_in (was_clean (λ blank. (never clean (inr blank)).0 n (same_fault e (WrongSchema n) same)))
 
-      pub found_damaged : (rule : ℕ) → Fault e ≡ Fault (Damaged rule)
+      found_damaged : (rule : ℕ) → Fault e ≡ Fault (Damaged rule)
           → IsFoundIn image (file_state first).now
       found_damaged rule same =
           found_in (was_clean (λ blank. (never clean (inr blank)).1 rule (same_fault e (Damaged rule) same)))
+
+      -- it tells what was found in the bytes
+      pub tells_found : ((rule : ℕ) → e ≡ Damaged rule → IsFull (file_state first).now
+          → IsLeastBroken (file_state first).now rule)
+          → ((n : ℤ) → e ≡ WrongSchema n → IsWrong (file_state first).now n) → TellsFound image (Fault e)
+      tells_found damaged wrong = record {
+        damaged = λ rule same. (
+          (file_state first).now,
+          found_damaged rule same,
+          damaged rule (same_fault e (Damaged rule) same),
+        );
+        wrong = λ n same.
+            ((file_state first).now, found_wrong n same, wrong n (same_fault e (WrongSchema n) same));
+      }

@@ -16,6 +16,7 @@ use Rattle.sqlite_store.specs.declared.store.FileStore.{FileStore}
 use Rattle.sqlite_wal.specs.Recovery.{Image}
 use Rattle.sql_maps.specs.Schema.{no_schema}
 use Rattle.sql_maps.specs.States.{LeavesNoMore}
+use Rattle.vault_file.specs.Closed.{ReopensAs}
 use Rattle.vault_file.specs.Found.{LeavesWhole, MayFindNone, StaysWhole}
 use Rattle.vault_file.specs.Moved.{MayFindOlder}
 use Rattle.vault_migrate.specs.Moved.{IsNoOlder}
@@ -72,13 +73,10 @@ module _ {D : Type 0} {g : Ghosts D} where
   -- the connection is closed
   pub stays_whole : (image : Image) (conn : Held (FileStore D g)) (left : FileStore D g)
       → LeavesWhole image conn → (IsClean (files.view left) → HasCleanDisk (file_state conn))
-      → (IsClean (files.view left) → (schema : Schema) (only : Trees) → IsSound schema only
-      → ((db : Trees) → (file_state conn).may_leave db → db ≡ only) → (next : Image)
-      → (files.state left).may_leave next → (found : Trees) → MayFind next found → found ≡ only)
-      → StaysWhole image left
+      → (IsClean (files.view left) → ReopensAs (file_state conn) left) → StaysWhole image left
   stays_whole image conn left whole was after clean next may found finds =
       let (schema, only, sound, held, alone) = whole (was clean) in
-      subst (MayFind image) (sym (after clean schema only sound alone next may found finds)) held
+      subst (MayFind image) (sym ((after clean).only schema only sound alone next may found finds)) held
 
   -- where there is a table, the open found one
   pub some_there : (image : Image) (first : Held (FileStore D g))

@@ -1,3 +1,4 @@
+pub mod Closed
 pub mod Faults
 pub mod Found
 pub mod Moved

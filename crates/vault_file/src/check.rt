@@ -17,9 +17,8 @@ ghost use Rattle.vault_verdict.specs.Sizes.{sizes_of};
 ghost use Rattle.vault_schema.specs.Holds.{Holds};
 
 use crate::fault::NotOpened;
-use crate::paths::{Paths, is_no_path};
-use crate::reopen::{close_moved, settled, told};
-use sqlite::{Connection, FileStore};
+use crate::paths::{Closed, Connected, Paths, is_no_path};
+use crate::reopen::{close, settled, told};
 use vault_recover::options::Cache;
 use vault_verdict::check::check;
 use vault_verdict::fault::OpenFault;
@@ -30,14 +29,8 @@ use vault_verdict::sizes::Sizes;
 /// `open_from` makes it, and is the empty vault.
 ///
 /// Refused by 30 to 34 as `open_from` refuses.
-pub fn check_from<P: Paths>(
-    rt: &HostRuntime,
-    path: &str,
-    paths: P,
-) -> Result<
-    (Sizes, Connection<FileStore<P::Disk>>),
-    (NotOpened, Option<Connection<FileStore<P::Disk>>>),
->
+#[tactic(auto, using(crate::proofs::Opening::there))]
+pub fn check_from<P: Paths>(rt: &HostRuntime, path: &str, paths: P) -> Connected<P, Sizes>
     // words that name no file are refused by 34
     ensures no_path { IsNoPath path.now → IsRefused result }
     // with Ok, on an honest disk, the bytes hold no table or a vault's alone, of these sizes where the rows
@@ -92,11 +85,7 @@ const EMPTY: Sizes = Sizes {
 
 /// Checks the file at a path whole, as `check_from` does, and hands out the files, closed, where there are
 /// some. But a file that isn't there, in a folder that is, is the empty vault, and nothing is made.
-pub fn check_file<P: Paths>(
-    rt: &HostRuntime,
-    path: &str,
-    paths: P,
-) -> (Result<Sizes, NotOpened>, Option<FileStore<P::Disk>>)
+pub fn check_file<P: Paths>(rt: &HostRuntime, path: &str, paths: P) -> Closed<P, Sizes>
     // words that name no file are refused by 34
     ensures no_path { IsNoPath path.now → result.0 ≡ Err NotOpened.Refused }
     // with Ok and no files, nothing has the name, and the sizes are those of the empty vault
@@ -132,8 +121,8 @@ pub fn check_file<P: Paths>(
         return (Ok(EMPTY), None);
     }
     match check_from(rt, path, paths) {
-        Ok((sizes, conn)) => (Ok(sizes), Some(close_moved(conn))),
-        Err((fault, Some(conn))) => (Err(fault), Some(close_moved(conn))),
+        Ok((sizes, conn)) => (Ok(sizes), Some(close(conn))),
+        Err((fault, Some(conn))) => (Err(fault), Some(close(conn))),
         Err((fault, None)) => (Err(fault), None),
     }
 }

@@ -5,6 +5,7 @@ pub mod blank;
 pub mod check;
 pub mod fault;
 pub mod host;
+pub mod last;
 pub mod migrate;
 pub mod open;
 pub mod paths;

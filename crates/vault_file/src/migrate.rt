@@ -14,12 +14,10 @@ ghost use Rattle.vault_schema.specs.Versions.{newest, number_of};
 ghost use Rattle.vault_schema.specs.declared.version.Version.{Version};
 
 use crate::fault::NotOpened;
-use crate::paths::Paths;
-use crate::reopen::{close_moved, settled};
-use sqlite::{Connection, FileStore};
+use crate::paths::{Closed, Connected, Paths};
+use crate::reopen::{close, settled};
 use vault_migrate::migrate::migrate_all;
 use vault_recover::options::Cache;
-use vault_recover::reopen::close;
 use vault_verdict::fault::OpenFault;
 
 /// Moves the file at a path to the newest schema, and answers its version. The connection is given back,
@@ -27,14 +25,8 @@ use vault_verdict::fault::OpenFault;
 /// `open_from` makes it, and gets the tables of the empty vault.
 ///
 /// Refused by 30 to 33 as `vault_migrate::migrate_all` refuses, by 34 as `open_from` refuses.
-pub fn migrate_from<P: Paths>(
-    rt: &HostRuntime,
-    path: &str,
-    paths: P,
-) -> Result<
-    (i64, Connection<FileStore<P::Disk>>),
-    (NotOpened, Option<Connection<FileStore<P::Disk>>>),
->
+#[tactic(auto, using(crate::proofs::Opening::there))]
+pub fn migrate_from<P: Paths>(rt: &HostRuntime, path: &str, paths: P) -> Connected<P, i64>
     // words that name no file are refused by 34
     ensures no_path { IsNoPath path.now → IsRefused result }
     // Ok says the newest version
@@ -82,11 +74,7 @@ pub fn migrate_from<P: Paths>(
 
 /// Moves the file at a path to the newest schema, as `migrate_from` does, and hands out the files, closed,
 /// where there are some.
-pub fn migrate_file<P: Paths>(
-    rt: &HostRuntime,
-    path: &str,
-    paths: P,
-) -> (Result<i64, NotOpened>, Option<FileStore<P::Disk>>)
+pub fn migrate_file<P: Paths>(rt: &HostRuntime, path: &str, paths: P) -> Closed<P, i64>
     // words that name no file are refused by 34
     ensures no_path { IsNoPath path.now → result.0 ≡ Err NotOpened.Refused }
     // 34, and nothing else, gives no files
@@ -119,7 +107,7 @@ pub fn migrate_file<P: Paths>(
 {
     match migrate_from(rt, path, paths) {
         Ok((version, conn)) => (Ok(version), Some(close(conn))),
-        Err((fault, Some(conn))) => (Err(fault), Some(close_moved(conn))),
+        Err((fault, Some(conn))) => (Err(fault), Some(close(conn))),
         Err((fault, None)) => (Err(fault), None),
     }
 }

@@ -1,26 +1,21 @@
 //! The vault in the file at a path is opened, and closed.
-ghost use Rattle.std.specs.Prelude.{◌≡◌, ◌≤◌, false, None, Err, IfOk, IfErr};
-ghost use Rattle.sqlite.specs.Files.{file_state};
-ghost use Rattle.sqlite.specs.View.{IsClean, doubt};
+ghost use Rattle.std.specs.Prelude.{◌≡◌, false, None, Err, IfOk, IfErr};
+ghost use Rattle.sqlite.specs.View.{IsClean};
 ghost use Rattle.sqlite_store.specs.FileStore.{view};
 ghost use Rattle.vault_file.specs.Refused.{GivesBack, IsRefused, TellsWhereRefused, WhereRefused};
-ghost use Rattle.vault_core.specs.Vault.{Vault as Content};
 ghost use Rattle.vault_file.specs.Found.{IsNoPath, LeavesWhole, LeavesFrom, MayFindNone};
 ghost use Rattle.vault_file.specs.Found.{OpensFrom, SparesStopped, Stays, StaysWhole, TellsFound};
 ghost use Rattle.vault_file.specs.Paths.{Each};
-ghost use Rattle.vault_recover.specs.Crashed.{Reopens, ReopensEither};
-ghost use Rattle.vault_schema.specs.Holds.{LeavesEither};
-ghost use Rattle.vault_sql.specs.Held.{AreFresh, AreHeld};
-ghost use Rattle.vault_store.specs.Applied.{Contains, is_broken, tables_of};
+ghost use Rattle.vault_sql.specs.Held.{AreFresh};
+ghost use Rattle.vault_store.specs.Applied.{is_broken, tables_of};
 
 use crate::fault::NotOpened;
 use crate::paths::Paths;
-use crate::reopen::{close_moved, settled, told};
+use crate::reopen::{close, settled, told};
 use sqlite::{Connection, FileStore};
 use sqlite_disk::Disk;
 use vault_recover::open::open;
 use vault_recover::options::Cache;
-use vault_recover::reopen::close;
 use vault_sql::tables::SqlTables;
 use vault_store::vault::Vault;
 use vault_verdict::fault::OpenFault;
@@ -115,30 +110,7 @@ pub fn open_vault<P: Paths>(
 {
     match open_from(rt, path, paths, cache) {
         Ok(vault) => Ok(vault),
-        Err((fault, Some(conn))) => Err((fault, Some(close_moved(conn)))),
+        Err((fault, Some(conn))) => Err((fault, Some(close(conn)))),
         Err((fault, None)) => Err((fault, None)),
     }
-}
-
-/// Ends a vault, and gives its files back. Whoever opens them after a stop finds the vault that was held, and
-/// after a write that failed the vault before it or the vault after it.
-pub fn close_files<D: Disk + Drop>(vault: Vault<SqlTables<FileStore<D>>>) -> FileStore<D>
-    // a disk that is honest after the call was so before it
-    ensures clean { doubt (file_state (tables_of vault).conn).is_clean ≤ doubt (view result).is_clean }
-    // on an honest disk, the files that a crash leaves before the call keep the vault that was contained
-    ensures before { IsClean (view result)
-        → (V : Content) → Contains AreHeld vault V → Reopens (tables_of vault).conn.store V }
-    // on an honest disk, the files that a crash leaves after the call keep the vault that was contained
-    ensures after { IsClean (view result) → (V : Content) → Contains AreHeld vault V → Reopens result V }
-    // on an honest disk, where a crash leaves one of two vaults, the files that it leaves before the call
-    // keep one of them
-    ensures either { IsClean (view result) → (V W : Content)
-        → LeavesEither (file_state (tables_of vault).conn) V W
-        → ReopensEither (tables_of vault).conn.store V W }
-    // on an honest disk, where a crash leaves one of two vaults, the files that it leaves after the call keep
-    // one of them
-    ensures either_after { IsClean (view result) → (V W : Content)
-        → LeavesEither (file_state (tables_of vault).conn) V W → ReopensEither result V W }
-{
-    close(vault.into_tables().into_connection())
 }

@@ -10,6 +10,7 @@ ghost use Rattle.vault_recover.specs.Crashed.{AreBlank, HoldsEither, HoldsFirst,
 ghost use Rattle.vault_recover.specs.Crashed.{Keeps, KeepsEither, KeepsFirst};
 ghost use Rattle.vault_schema.specs.Holds.{Holds};
 
+use crate::fault::NotOpened;
 use sqlite::{Connection, FileStore};
 use sqlite_disk::Disk;
 use std::io;
@@ -21,6 +22,16 @@ pub fn is_no_path(path: &str) -> bool
 {
     path.is_empty() || path == ":memory:" || path.starts_with("file:")
 }
+
+/// The connection over the files at a path.
+pub type ConnectionAt<P> = Connection<FileStore<<P as Paths>::Disk>>;
+
+/// What comes of a call over the file at a path, with its connection, or a refusal, with the connection where
+/// there is one.
+pub type Connected<P, X> = Result<(X, ConnectionAt<P>), (NotOpened, Option<ConnectionAt<P>>)>;
+
+/// What comes of a call over the file at a path, and the files, closed, where there are some.
+pub type Closed<P, X> = (Result<X, NotOpened>, Option<FileStore<<P as Paths>::Disk>>);
 
 /// The paths of a host, and what stands at them.
 ///

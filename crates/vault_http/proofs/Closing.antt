@@ -2,6 +2,7 @@
 use Rattle.std.proofs.Common.{◌≡◌, ℕ, ◌+◌, ◌<◌, List, [], ◌∷◌, ◌++◌, length, take, drop, get_or, Bool, true}
 use Rattle.std.proofs.Common.{false, cond, refl, sym, ◌∙◌, ap, append-nil, suc}
 use Rattle.std.proofs.Common.{drop-cons}
+use Rattle.std.proofs.Math.Seq.{take-length}
 use Rattle.std.specs.Prelude.{◌||◌}
 use Rattle.std.proofs.lemmas.List.{length-map, take-append-drop, take_more, map-append}
 use Rattle.std.proofs.lemmas.List.Folds.{list_any-append}
@@ -25,6 +26,14 @@ up_to_close-append (p ∷ ps) qs none =
 pub up_to_close-none : (ps : List Parts) → has_close ps ≡ false → up_to_close ps ≡ ps
 up_to_close-none ps none = ap up_to_close (sym (append-nil ps)) ∙ up_to_close-append ps [] none
     ∙ append-nil ps
+
+-- all are passed, and none of them closes the connection
+pub passed_all : (ps : List Parts) (i : ℕ) → i ≡ length ps → has_close (take i ps) ≡ false
+    → (take i ps ≡ up_to_close ps) × (length (up_to_close ps) ≡ i)
+passed_all ps i all none =
+    let whole : take i ps ≡ ps = ap (λ (n : ℕ). take n ps) all ∙ take-length ps in
+    let is = up_to_close-none ps (sym (ap has_close whole) ∙ none) in
+    (whole ∙ sym is, ap length is ∙ sym all)
 
 module _ (ps : List Parts) (i : ℕ) (d : Parts) (lt : i < length ps) (none : has_close (take i ps) ≡ false)
     (is : d ≡ get_or ps i d) where

@@ -16,7 +16,7 @@ use Rattle.vault_engine.specs.Answered.{units_of}
 use Rattle.vault_engine.specs.Asking.{Asked, texts, vault_after}
 use Rattle.vault_engine.specs.Passing.{Passage, IsBefore, Keeps, Sends}
 use Rattle.vault_engine.specs.Within.{AllAnswered, StopsWithin}
-use Rattle.vault_engine.proofs.Following.{appends_both}
+use Rattle.vault_engine.proofs.JoinedUnits.{appends_both}
 use Rattle.vault_engine.proofs.Within.{stops_after}
 use Rattle.vault_http.specs.Exchanges.{answer_for, fault_text, has_close, last_text, message_kind, shown}
 use Rattle.vault_http.specs.Exchanges.{up_to_close}

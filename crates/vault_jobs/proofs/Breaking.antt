@@ -9,22 +9,18 @@ use Rattle.vault_batch.specs.declared.fault.BatchFault.TheVariants as row
 use Rattle.vault_listen.specs.declared.fault.ListenFault.{ListenFault}
 use Rattle.vault_listen.specs.declared.fault.ListenFault.TheVariants as listen
 
+-- a vault that stays as it was isn't broken
+unmoved : (old new : Bool) → old ≡ false → new ≡ old → new ≢ true
+unmoved old new whole same broken = cc (whole, same, broken)
+
 -- among messages
 pub is_store : (e : ServeFault) (s r w v s' r' w' v' : Bool) → v ≡ false
     → Tells {X = Unit {0}} (Err e) (failures s r w v) (failures s' r' w' v') → v' ≡ true → e ≡ fault.Store
-is_store fault.Source s r w v s' r' w' v' z t b =
-    let h = ap (λ (f : Failures). f.vault) t in
-    absurd (cc (z, h, b))
-is_store fault.Read s r w v s' r' w' v' z t b =
-    let h = ap (λ (f : Failures). f.vault) t in
-    absurd (cc (z, h, b))
-is_store fault.Write s r w v s' r' w' v' z t b =
-    let h = ap (λ (f : Failures). f.vault) t in
-    absurd (cc (z, h, b))
+is_store fault.Source s r w v s' r' w' v' z t b = absurd (unmoved v v' z (ap (λ f. f.vault) t) b)
+is_store fault.Read s r w v s' r' w' v' z t b = absurd (unmoved v v' z (ap (λ f. f.vault) t) b)
+is_store fault.Write s r w v s' r' w' v' z t b = absurd (unmoved v v' z (ap (λ f. f.vault) t) b)
 is_store fault.Store s r w v s' r' w' v' z t b = refl
-is_store fault.Memory s r w v s' r' w' v' z t b =
-    let h = ap (λ (f : Failures). f.vault) t in
-    absurd (cc (z, h, b))
+is_store fault.Memory s r w v s' r' w' v' z t b = absurd (unmoved v v' z (ap (λ f. f.vault) t) b)
 
 pub no_store : (e : ServeFault) (s r w v s' r' w' v' : Bool)
     → Tells {X = Unit {0}} (Err e) (failures s r w v) (failures s' r' w' v') → v' ≡ false → e ≢ fault.Store

@@ -10,12 +10,11 @@ use Rattle.vault_listen.specs.Live.{Turns}
 use Rattle.vault_rights.specs.Named.{Row}
 use Rattle.vault_store.specs.Applied.{Contains, tables_of}
 use Rattle.vault_store.specs.declared.vault.Vault.{Vault}
-use Rattle.vault_jobs.proofs.Refining.{serve_ends}
+use Rattle.vault_jobs.proofs.RefinedPassages.{serve_ends}
 use Rattle.vault_jobs.specs.Changes.{AreChangesOf}
 use Rattle.vault_jobs.specs.Doing.{ListedServeEnds, ServeEnds}
 use Rattle.vault_jobs.specs.Grants.{CarriesAll}
 use Rattle.vault_jobs.specs.Streams.{Known}
-use Rattle.vault_jobs.specs.declared.change.Verdict.TheVariants.{Done}
 use Rattle.vault_jobs.specs.declared.changes.Changes.{Changes}
 use Rattle.vault_jobs.specs.declared.stop.Stop.{Stop}
 use Rattle.vault_jobs.specs.declared.task.Listed.{Listed}
@@ -34,7 +33,7 @@ module _ {T : Type 0} (honest : T → Type 0) (holds : T → Content → Type 0)
   -- its changes are done, and then it serves
   pub serves_then : ((V : Content) → IsBefore (vault_passing honest holds leaves v0 v1) V
       → AreChangesOf true it.now rows V changes) → (broken after : Bool)
-      → CarriesAll cs (vault_passing honest holds leaves v0 v1) broken (Ok Done) → (tells : Turns)
+      → CarriesAll cs (vault_passing honest holds leaves v0 v1) broken (Ok (Ok tt)) → (tells : Turns)
       (port n : ℕ) (r : Result Outcome Stop) (unsent : Type 0) (old new : Known) (writer : Bool)
       (xs : List (Option Link)) → ServeEnds tells port n step r unsent old new writer xs
       → ListedServeEnds tells port n (Some it) (vault_passing honest holds leaves v0 v2) after r unsent

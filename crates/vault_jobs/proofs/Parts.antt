@@ -1,12 +1,13 @@
 -- What a task does, by what its parts do.
 use Rattle.std.proofs.Common.{◌≡◌, ℕ, List, [], Bool, true, Option, Some, None, Result, Ok, Err}
-use Rattle.std.proofs.Common.{inl, inr, length}
+use Rattle.std.proofs.Common.{inl, inr, length, ◌++◌}
 use Rattle.std.proofs.Common.{subst, sym}
 use Rattle.std.specs.Prelude.{IfErr}
 use Rattle.vault_engine.specs.Passing.{Passage}
 use Rattle.vault_batch.specs.declared.asker.Asker.{Asker}
 use Rattle.vault_listen.specs.Live.{Turns}
-use Rattle.vault_listen.specs.Peers.{Link}
+use Rattle.vault_listen.specs.Peers.{Event, Link, events_of}
+use Rattle.vault_listen.proofs.ServedConnections.{none_then}
 use Rattle.vault_store.specs.declared.vault.Fault.{Fault}
 use Rattle.vault_jobs.specs.Causes.{IsCause, IsCauseOf}
 use Rattle.vault_jobs.specs.Carried.{Carries}
@@ -16,9 +17,10 @@ use Rattle.vault_store.specs.declared.vault.Fault.TheVariants as vault
 use Rattle.vault_jobs.specs.Grants.{CarriesAll, grants_at}
 use Rattle.std.specs.Global.{Vec}
 use Rattle.vault_rights.specs.Named.{Row}
-use Rattle.vault_jobs.specs.Tasks.{BreaksBy, FailsStore, granted_line}
+use Rattle.vault_jobs.specs.Tasks.{BreaksBy, FailsStore, HasNoLinks, IsTaskBegun, granted_line}
 use Rattle.vault_core.specs.Vault.{Vault as Content}
 use Rattle.vault_jobs.specs.Listing.{shown_text}
+use Rattle.vault_jobs.specs.declared.task.Task.{Task}
 use Rattle.vault_jobs.specs.declared.task.Task.TheVariants.{Change, Give, Settle, Sweep, Serve, Show}
 use Rattle.vault_jobs.specs.declared.task.Listed.{Listed}
 use Rattle.vault_jobs.specs.declared.clock.Giver.{Giver}
@@ -26,7 +28,7 @@ use Rattle.vault_jobs.specs.declared.clock.Giver.TheVariants.{Words, Clock}
 use Rattle.vault_jobs.specs.declared.show.Shown.{Shown}
 use Rattle.vault_core.specs.declared.command.Command.{Command}
 use Rattle.vault_jobs.specs.Streams.{Known, Streams}
-use Rattle.vault_jobs.specs.declared.change.Verdict.{Verdict}
+use Rattle.vault_jobs.specs.Carried.{Verdict}
 use Rattle.vault_jobs.specs.declared.stop.Stop.{Stop}
 use Rattle.vault_jobs.specs.declared.stop.Stop.TheVariants.{Vault, Service, Listener, Rights}
 use Rattle.vault_jobs.specs.declared.stop.Stop.TheVariants as stop
@@ -110,8 +112,34 @@ module _ (unsent : Type 0) (old new : Known) (s : Streams) where
   listed_caused tells port most (Some it) w broken r xs (inr (changes, of, h)) =
       serve_caused tells port most (behind changes.commands.items w) r xs h
 
-module _ (tells : Turns) (w : Passage) (broken : Bool) (r : Result Outcome Stop) (unread unsent : Type 0)
-    (s : Streams) where
+-- a store that fails a read breaks the vault
+show_breaks : (text : Content → List ℕ) (w : Passage) (broken : Bool) (unsent : Type 0) (s : Streams)
+    (r : Result Outcome Stop) → ShowEnds text w broken r unsent s.sent_old s.sent_new s.writer → FailsStore r
+    → broken ≡ true
+show_breaks text w broken unsent s (Ok end) h store = absurd store
+show_breaks text w broken unsent s (Err (Vault vault.Memory)) h store = absurd (cc store)
+show_breaks text w broken unsent s (Err (Vault vault.Store)) h store = h.1.0
+show_breaks text w broken unsent s (Err (Vault vault.Reopen)) h store = absurd h.1
+show_breaks text w broken unsent s (Err (Service f)) h store = let is = h.0 in absurd (cc (is, store))
+show_breaks text w broken unsent s (Err (Listener f)) h store = absurd h
+show_breaks text w broken unsent s (Err (Rights f)) h store = absurd h
+show_breaks text w broken unsent s (Err (stop.Batch f)) h store = absurd h
+
+-- no connection came
+pub unlinked : (tells : List Event → Type 0) (P : List (Option Link) → Type 0) → P []
+    → (links : List (Option Link)) × ((log : List Event) → tells log → tells (log ++ events_of links))
+    × P links
+unlinked tells P done = ([], none_then tells, done)
+
+module _ {tells : Turns} {w : Passage} {broken : Bool} {r : Result Outcome Stop} {unread unsent : Type 0}
+    {s : Streams} where
+  -- a task by what it does
+  pub task_done : {task : Task} → Works tells task w broken r unread unsent s → IsTaskBegun task unread
+      → HasNoLinks task s → IfErr r (λ stop. IsCauseOf stop s) → BreaksBy task r broken
+      → Does tells task w broken r unread unsent s
+  task_done h calm none caused breaks =
+      record { works = h; begun = calm; alone = none; caused = caused; breaks = breaks }
+
   pub change_done : (c : Command) → unread → s.links ≡ [] → (broken ≡ true → FailsStore r)
       → Works tells (Change c) w broken r unread unsent s → Does tells (Change c) w broken r unread unsent s
   change_done c calm none breaks h = record {
@@ -180,18 +208,6 @@ module _ (tells : Turns) (w : Passage) (broken : Bool) (r : Result Outcome Stop)
         breaks = (breaks, λ _. inr tt);
       }
 
-  -- a store that fails a read breaks the vault
-  show_breaks : (text : Content → List ℕ) (r : Result Outcome Stop)
-      → ShowEnds text w broken r unsent s.sent_old s.sent_new s.writer → FailsStore r → broken ≡ true
-  show_breaks text (Ok end) h store = absurd store
-  show_breaks text (Err (Vault vault.Memory)) h store = absurd (cc store)
-  show_breaks text (Err (Vault vault.Store)) h store = h.1.0
-  show_breaks text (Err (Vault vault.Reopen)) h store = absurd h.1
-  show_breaks text (Err (Service f)) h store = let is = h.0 in absurd (cc (is, store))
-  show_breaks text (Err (Listener f)) h store = absurd h
-  show_breaks text (Err (Rights f)) h store = absurd h
-  show_breaks text (Err (stop.Batch f)) h store = absurd h
-
   pub show_done : (it : Shown) → unread → s.links ≡ [] → (broken ≡ true → FailsStore r)
       → Works tells (Show it) w broken r unread unsent s
       → Does tells (Show it) w broken r unread unsent s
@@ -200,5 +216,5 @@ module _ (tells : Turns) (w : Passage) (broken : Bool) (r : Result Outcome Stop)
     begun = calm;
     alone = none;
     caused = show_caused unsent s.sent_old s.sent_new s (shown_text it) w broken r h;
-    breaks = (breaks, λ store. inl (show_breaks (shown_text it) r h store));
+    breaks = (breaks, λ store. inl (show_breaks (shown_text it) w broken unsent s r h store));
   }

@@ -1,6 +1,8 @@
 -- The number of a dead token is purged.
 use Rattle.std.proofs.Common.{◌≡◌, ℕ, Bool, true, false, cond, ◌&&◌, not, List, [], ◌∷◌, map, max, refl}
 use Rattle.std.proofs.Common.{Option, Some, None, sym, ap, ◌∙◌, subst, find, arith, is_some, inl, inr, ◌≢◌}
+use Rattle.std.proofs.Common.{Ok}
+use Rattle.std.proofs.Common.{Err}
 use Rattle.std.specs.Option.{option_map_or}
 use Rattle.std.specs.Cmp.{IsTotalOrder, first_so, second_so, tied_itself}
 use Rattle.std.specs.FinMap as map
@@ -32,8 +34,7 @@ use Rattle.vault_core.proofs.Maps.{bytes_exact, bytes_total, entry_exact, entry_
 use Rattle.vault_core.proofs.Maps.{retained-yes, tied}
 use Rattle.vault_core.proofs.Walks.{by_token}
 use Rattle.vault_jobs.specs.Carried.{reply_of}
-use Rattle.vault_jobs.specs.declared.change.Verdict.{Verdict}
-use Rattle.vault_jobs.specs.declared.change.Verdict.TheVariants.{Done, Refused}
+use Rattle.vault_jobs.specs.Carried.{Verdict}
 
 -- what stands first among those that pass is what a search finds
 first_found : {X : Type 0} (p : X → Bool) (xs : List X) (x : X) (rest : List X) → filter p xs ≡ x ∷ rest
@@ -97,7 +98,7 @@ pub purged_or_refused : (caller m token : Bytes) (now : ℕ) (V : Content)
     → (v : Verdict) × (reply V (Purge caller m token now) ≡ reply_of v)
 purged_or_refused caller m token now V =
     by_token IsPlain V (parts caller m token now) (λ known. plain_refusal V)
-    (purging V (parts caller m token now)) (Refused _, refl) (λ _ number _ _. (Refused number, refl))
+    (purging V (parts caller m token now)) (Err _, refl) (λ _ number _ _. (Err number, refl))
     (λ known entry state _ _ _. ended known entry state)
   where
     IsPlain : Outcome → Type 0
@@ -105,10 +106,10 @@ purged_or_refused caller m token now V =
 
     ended : (known : Merchant) (entry : Entry) (state : EntryState)
         → IsPlain (purging V (parts caller m token now) known entry state)
-    ended known entry Purged = (Done, refl)
-    ended known entry (Kept number Live) = (Refused _, refl)
-    ended known entry (Kept number Revoked) = (Done, refl)
-    ended known entry (Kept number Expired) = (Done, refl)
+    ended known entry Purged = (Ok tt, refl)
+    ended known entry (Kept number Live) = (Err _, refl)
+    ended known entry (Kept number Revoked) = (Ok tt, refl)
+    ended known entry (Kept number Expired) = (Ok tt, refl)
 
 -- where it is refused nothing changes
 pub refused_leaves : (caller m token : Bytes) (now : ℕ) (V : Content) (n : ℕ)
@@ -208,6 +209,10 @@ module _ (V : Content) (caller m token : Bytes) (now : ℕ) (rest : List Bytes)
             here = ap (λ (k : Bytes × Bytes). map.get V.entries k) (sym key) ∙ own.1;
             passes = find-passes p es x found;
           }
+
+  -- it has an entry
+  pub first_dead : (entry : Entry) × (entry_at V m token ≡ Some entry)
+  first_dead = (first_of.entry, first_of.here)
 
   -- the token's number is gone, and the merchant's moment has moved
   changed : (first : First) (known : Merchant) → merchant_at V m ≡ Some known

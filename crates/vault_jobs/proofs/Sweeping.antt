@@ -1,11 +1,12 @@
 -- The numbers of dead tokens are purged, one after the other.
 use Rattle.std.proofs.Common.{◌≡◌, ℕ, ◌+◌, ◌<◌, ◌≤◌, List, [], ◌∷◌, ◌++◌, length, map, take, drop, get_or}
 use Rattle.std.proofs.Common.{Bool, true, false, Ok, Err, sym, ◌∙◌, ap, subst, arith, refl, replicate}
-use Rattle.std.proofs.Common.{append-nil, cond}
+use Rattle.std.proofs.Common.{append-nil, not}
 use Rattle.std.specs.FinMap as finmap
 use Rattle.std.specs.List.{filter}
 use Rattle.std.proofs.lemmas.List.{append_assoc, drop_more, length-append, length-map, length-take}
 use Rattle.std.proofs.lemmas.List.{length-take-le, map-append, replicate-append-replicate}
+use Rattle.std.proofs.lemmas.List.Filters.{length-filter_both}
 use Rattle.std.proofs.lemmas.List.{take-append-drop, take-map, take_more}
 use Rattle.vault_core.specs.Dead.{dead_tokens, is_dead}
 use Rattle.vault_core.specs.Keys.{Bytes}
@@ -28,27 +29,8 @@ use Rattle.vault_store.specs.declared.vault.Fault.{Fault}
 use Rattle.vault_store.specs.declared.vault.Fault.TheVariants.{Memory, Store, Reopen}
 use Rattle.vault_jobs.specs.Grants.{AreDone, CarriesAll}
 use Rattle.vault_jobs.specs.Sweeps.{AreSwept, Begin, Sweeps, left_dead, purge_at, purges_at, swept_vault}
-use Rattle.vault_jobs.specs.declared.change.Verdict.TheVariants as verdict
-use Rattle.vault_jobs.specs.declared.sweep.Swept.TheVariants.{Purged, Refused}
-use Rattle.vault_jobs.proofs.Giving.{replies_more, run_more}
+use Rattle.vault_jobs.proofs.GivenRights.{replies_more, run_more}
 use Rattle.vault_jobs.proofs.Purging.{purged_first, refused_leaves}
-
--- the purges up to a token are those before it and its own
-pub purges_more : (who : Asker) (now : ℕ) (tokens : List Bytes) (i : ℕ) (token : Bytes)
-    → token ≡ get_or tokens i token → i < length tokens
-    → take (i + 1) (purges_at who now tokens)
-    ≡ take i (purges_at who now tokens) ++ purge_at who now token ∷ []
-purges_more who now tokens i token is below =
-    let f : Bytes → Command = λ t. purge_at who now t in
-    take-map f (i + 1) tokens ∙ ap (λ ts. map f ts) (take_more tokens i token below)
-    ∙ ap (λ t. map f (take i tokens ++ t ∷ [])) (sym is)
-    ∙ map-append f (take i tokens) (token ∷ []) ∙ ap (λ cs. cs ++ f token ∷ []) (sym (take-map f i tokens))
-
--- there is a purge for each token
-pub purges_below : (who : Asker) (now : ℕ) (tokens : List Bytes) (i : ℕ) → i < length tokens
-    → i < length (purges_at who now tokens)
-purges_below who now tokens i below =
-    subst (λ n. i < n) (sym (length-map tokens (λ (t : Bytes). purge_at who now t))) below
 
 -- commands, and then others
 run_then : (cs ds : List Command) (V : Content) → run (cs ++ ds) V ≡ run ds (run cs V)
@@ -153,18 +135,9 @@ dead_few V s m now =
     let p = λ (e : (Bytes × Bytes) × Entry). is_dead e.1 (moment_at V m now) in
     let few = s.made_few m in
     let own = finmap.len-entries (entries_of V m) in
-    let passing = filtered p es in
+    let passing = length-filter_both p (λ (e : (Bytes × Bytes) × Entry). not (p e)) (λ e. refl) es in
     let texts = length-map (filter p es) (λ (e : (Bytes × Bytes) × Entry). e.0.1) in
     omega (arith, few, own, passing, texts)
-  where
-    filtered : {X : Type 0} (p : X → Bool) (xs : List X) → length (filter p xs) ≤ length xs
-    filtered p [] = omega arith
-    filtered p (x ∷ xs) =
-        let rest = filtered p xs in
-        elim (p x) as (λ b. length (cond b (x ∷ filter p xs) (filter p xs)) ≤ length (x ∷ xs)) [
-          | true ↦ omega (arith, rest)
-          | false ↦ omega (arith, rest)
-        ]
 
 -- so many of the dead tokens are swept, one at least in each round
 abbrev pub IsSweeping : Asker → ℕ → Passage → ℕ → ℕ → Type 0
@@ -208,7 +181,7 @@ module _ {T : Type 0} (honest : T → Type 0) (holds : T → Content → Type 0)
       → (honest (tables_of v2) → (W : Content) → Contains holds v1 W
       → (page ≡ take n (dead_tokens W who.merchant now)) × Contains holds v2 W)
       → (honest (tables_of v2) → (W : Content) → Contains holds v1 W → leaves (tables_of v2) W W)
-      → Sweeps who now whole broken (Ok (Purged count))
+      → Sweeps who now whole broken (Ok (Ok count))
   all_swept broken page n some none told crash = (
     tokens,
     λ V b.
@@ -314,7 +287,7 @@ module _ {T : Type 0} (honest : T → Type 0) (holds : T → Content → Type 0)
 
   -- all of a page are purged
   pub page_swept : (count' : ℕ) → (count + length page ≤ MOST_TOKENS → count' ≡ count + length page)
-      → 1 ≤ length page → CarriesAll (purges_at who now page) step broken (Ok verdict.Done)
+      → 1 ≤ length page → CarriesAll (purges_at who now page) step broken (Ok (Ok tt))
       → IsSweeping who now all (rounds + 1) count'
   page_swept count' adds some carried = (
     sweeping.0 ++ page,
@@ -381,8 +354,8 @@ module _ {T : Type 0} (honest : T → Type 0) (holds : T → Content → Type 0)
   inside k below = subst (λ n. k < n) (length-map page (λ (t : Bytes). purge_at who now t)) below
 
   -- one of a page is refused
-  pub page_refused : (n : ℕ) → CarriesAll (purges_at who now page) step broken (Ok (verdict.Refused n))
-      → Sweeps who now all broken (Ok (Refused n))
+  pub page_refused : (n : ℕ) → CarriesAll (purges_at who now page) step broken (Ok (Err n))
+      → Sweeps who now all broken (Ok (Err n))
   page_refused n (k, below, carried) = (
     sweeping.0 ++ take k page,
     get_or page k [],

@@ -10,7 +10,7 @@ use Rattle.std.proofs.lemmas.Grind.{flat_map-append}
 use Rattle.std.proofs.lemmas.List.Concat.{flat_map-cons}
 use Rattle.std.proofs.lemmas.List.{take-append-drop, take-append-le, take_more}
 use Rattle.std.proofs.lemmas.List.Folds.{length-flat_map-take}
-use Rattle.vault_engine.proofs.Following.{appends_both}
+use Rattle.vault_engine.proofs.JoinedUnits.{appends_both}
 
 -- what holds of an error
 pub of_error : {X E : Type 0} (r : Result X E) (P : Type 0) → is_err r ≡ true → OnErr r P → P

@@ -6,7 +6,7 @@ use Rattle.vault_engine.specs.Passing.{IsBefore, Keeps, Passage}
 use Rattle.vault_listen.specs.Peers.{vault_passing}
 use Rattle.vault_store.specs.Applied.{Contains, tables_of}
 use Rattle.vault_store.specs.declared.vault.Vault.{Vault}
-use Rattle.vault_jobs.proofs.Refining.{sweep_ends}
+use Rattle.vault_jobs.proofs.RefinedPassages.{sweep_ends}
 use Rattle.vault_jobs.specs.Ahead.{is_merchant_ahead}
 use Rattle.vault_jobs.specs.Doing.{SweepEnds, TimedSweepEnds}
 use Rattle.vault_jobs.specs.Streams.{Known}

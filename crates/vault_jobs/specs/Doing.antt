@@ -32,11 +32,9 @@ use Rattle.vault_jobs.specs.Tasks.{BreaksBy, HasNoLinks, IsTaskBegun, granted_li
 use Rattle.vault_jobs.specs.Tasks.{listening_line, purged_line}
 use Rattle.vault_jobs.specs.declared.clock.Giver.{Giver}
 use Rattle.vault_jobs.specs.declared.clock.Giver.TheVariants.{Words, Clock}
-use Rattle.vault_jobs.specs.declared.change.Verdict.{Verdict}
-use Rattle.vault_jobs.specs.declared.change.Verdict.TheVariants as verdict
+use Rattle.vault_jobs.specs.Carried.{Verdict}
 use Rattle.vault_jobs.specs.declared.stop.Stop.{Stop}
 use Rattle.vault_jobs.specs.declared.stop.Stop.TheVariants.{Vault}
-use Rattle.vault_jobs.specs.declared.sweep.Swept.TheVariants.{Purged, Refused}
 use Rattle.vault_jobs.specs.declared.task.Outcome.{Outcome}
 use Rattle.vault_jobs.specs.declared.task.Outcome.TheVariants as outcome
 use Rattle.vault_jobs.specs.declared.task.Task.{Task}
@@ -79,10 +77,10 @@ FailsToRead w broken vault.Reopen = ⊥
 abbrev pub CommandsEnd : (Result Verdict Fault → Type 0) → List ℕ → Result Outcome Stop → Type 0
     → Known → Known → Bool → Type 0
 CommandsEnd Carried line result unsent old new writer = ComesTo (record no_outcome {
-  done = (writer ≡ false) × Appends old new line × Carried (Ok verdict.Done);
-  refused = λ n. unsent × Carried (Ok (verdict.Refused n));
+  done = (writer ≡ false) × Appends old new line × Carried (Ok (Ok tt));
+  refused = λ n. unsent × Carried (Ok (Err n));
   vault = λ f. unsent × Carried (Err f);
-  service = λ f. (f ≡ service.Write) × (writer ≡ true) × Carried (Ok verdict.Done);
+  service = λ f. (f ≡ service.Write) × (writer ≡ true) × Carried (Ok (Ok tt));
 }) result
 
 -- how a sweep ends: with Done its line says how many were purged, and went out; with a refusal of a purge
@@ -91,11 +89,11 @@ abbrev pub SweepEnds : Asker → ℕ → Passage → Bool → Result Outcome Sto
     → Known → Known → Bool → Type 0
 SweepEnds who now w broken result unsent old new writer = ComesTo (record no_outcome {
   done = (writer ≡ false)
-      × ((count : ℕ) × Sweeps who now w broken (Ok (Purged count)) × Appends old new (purged_line count));
-  refused = λ n. unsent × Sweeps who now w broken (Ok (Refused n));
+      × ((count : ℕ) × Sweeps who now w broken (Ok (Ok count)) × Appends old new (purged_line count));
+  refused = λ n. unsent × Sweeps who now w broken (Ok (Err n));
   vault = λ f. unsent × Sweeps who now w broken (Err f);
   service = λ f. (f ≡ service.Write) × (writer ≡ true)
-      × ((count : ℕ) × Sweeps who now w broken (Ok (Purged count)));
+      × ((count : ℕ) × Sweeps who now w broken (Ok (Ok count)));
 }) result
 
 -- How a sweep ends whose moment the words or the clock gave. At one of the words it ends as above. At one of
@@ -185,7 +183,7 @@ behind cs w = record w { held_old = λ U. (V : Content) × w.held_old V × (U �
 -- they are refused, or stopped by the vault.
 abbrev pub ListEnds : ℕ → List Row → Passage → Bool → Result Outcome Stop → Type 0 → Type 0
 ListEnds now rows w broken result unsent = ComesTo (record no_outcome {
-  refused = λ n. unsent × Settles now rows w broken (Ok (verdict.Refused n));
+  refused = λ n. unsent × Settles now rows w broken (Ok (Err n));
   vault = λ f. unsent × (Settles now rows w broken (Err f) ⊎ FailsToRead w broken f);
 }) result
 

@@ -10,8 +10,7 @@ use Rattle.vault_engine.specs.Passing.{IsBefore, Keeps, Passage}
 use Rattle.vault_rights.specs.Named.{Row}
 use Rattle.vault_store.specs.declared.vault.Fault.{Fault}
 use Rattle.vault_store.specs.declared.vault.Fault.TheVariants.{Memory, Store, Reopen}
-use Rattle.vault_jobs.specs.declared.change.Verdict.{Verdict}
-use Rattle.vault_jobs.specs.declared.change.Verdict.TheVariants.{Done, Refused}
+use Rattle.vault_jobs.specs.Carried.{Verdict}
 
 -- the commands that give rights at a moment, each with its end, in their order
 abbrev pub grants_at : ℕ → List Row → List Command
@@ -25,9 +24,9 @@ AreDone k cs V = replies (take k cs) V ≡ replicate k answer.Done
 -- one, which is refused by this number; nothing after it. 20: all before one, and nothing of that one. 21:
 -- all before one, the vault is broken, and a crash leaves the vault before that one or the one after it.
 abbrev pub CarriesAll : List Command → Passage → Bool → Result Verdict Fault → Type 0
-CarriesAll cs w broken (Ok Done) =
+CarriesAll cs w broken (Ok (Ok done)) =
     (V : Content) → IsBefore w V → AreDone (length cs) cs V × Keeps w (run cs V)
-CarriesAll cs w broken (Ok (Refused n)) = (k : ℕ) × (k < length cs) × ((V : Content) → IsBefore w V
+CarriesAll cs w broken (Ok (Err n)) = (k : ℕ) × (k < length cs) × ((V : Content) → IsBefore w V
     → (replies (take (k + 1) cs) V ≡ replicate k answer.Done ++ answer.Refused n ∷ [])
     × Keeps w (run (take (k + 1) cs) V))
 CarriesAll cs w broken (Err Memory) = (k : ℕ) × (k < length cs) × ((V : Content) → IsBefore w V

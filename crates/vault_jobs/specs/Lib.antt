@@ -4,6 +4,7 @@ pub mod Carried
 pub mod Causes
 pub mod Changes
 pub mod Doing
+pub mod Failing
 pub mod Grants
 pub mod Listing
 pub mod Moments

@@ -13,8 +13,6 @@ use Rattle.vault_engine.specs.Passing.{IsBefore, Keeps, Passage}
 use Rattle.vault_store.specs.declared.vault.Fault.{Fault}
 use Rattle.vault_store.specs.declared.vault.Fault.TheVariants.{Memory, Store, Reopen}
 use Rattle.vault_jobs.specs.Grants.{AreDone}
-use Rattle.vault_jobs.specs.declared.sweep.Swept.{Swept}
-use Rattle.vault_jobs.specs.declared.sweep.Swept.TheVariants.{Purged, Refused}
 
 -- the command that purges a token's number
 abbrev pub purge_at : Asker → ℕ → Bytes → Command
@@ -46,11 +44,11 @@ Begin first whole = (rest : List Bytes) × (whole ≡ first ++ rest)
 -- left; so many they are. Refused: those of the first are done, and that of the next one is refused by this
 -- number; nothing after it. 20: those of the first are done, and nothing else is. 21: those of the first are
 -- done, the vault is broken, and a crash leaves the vault before the next one's or the one after it.
-abbrev pub Sweeps : Asker → ℕ → Passage → Bool → Result Swept Fault → Type 0
-Sweeps who now w broken (Ok (Purged count)) = (tokens : List Bytes) × ((V : Content) → IsBefore w V
+abbrev pub Sweeps : Asker → ℕ → Passage → Bool → Result (Result ℕ ℕ) Fault → Type 0
+Sweeps who now w broken (Ok (Ok count)) = (tokens : List Bytes) × ((V : Content) → IsBefore w V
     → AreSwept who now tokens V × (left_dead who now tokens V ≡ []) × (count ≡ length tokens)
     × Keeps w (swept_vault who now tokens V))
-Sweeps who now w broken (Ok (Refused n)) = (tokens : List Bytes) × (next : Bytes)
+Sweeps who now w broken (Ok (Err n)) = (tokens : List Bytes) × (next : Bytes)
     × ((V : Content) → IsBefore w V → AreSwept who now tokens V
     × Begin (next ∷ []) (left_dead who now tokens V)
     × (reply (swept_vault who now tokens V) (purge_at who now next) ≡ answer.Refused n)

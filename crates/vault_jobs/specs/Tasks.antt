@@ -5,7 +5,9 @@ use Rattle.vault_core.specs.Proper.{HasLivesInRange}
 use Rattle.vault_engine.specs.declared.stop.Stop.TheVariants as service
 use Rattle.vault_batch.specs.declared.fault.BatchFault.TheVariants as row
 use Rattle.vault_listen.specs.declared.fault.ListenFault.TheVariants as listener
+use Rattle.vault_store.specs.Applied.{is_broken}
 use Rattle.vault_store.specs.declared.vault.Fault.TheVariants as vault
+use Rattle.vault_store.specs.declared.vault.Vault.{Vault as Held}
 use Rattle.vault_jobs.specs.Streams.{Streams}
 use Rattle.vault_jobs.specs.declared.stop.Stop.{Stop}
 use Rattle.vault_jobs.specs.declared.stop.Stop.TheVariants.{Vault, Service, Listener, Rights}
@@ -59,6 +61,10 @@ FailsStore (Err (Service f)) = f ≡ service.Store
 FailsStore (Err (Listener f)) = f ≡ listener.Store
 FailsStore (Err (Rights f)) = ⊥
 FailsStore (Err (stop.Batch f)) = f ≡ row.Store
+
+-- the vault is broken only where the store failed
+abbrev pub BreaksTask : {T : Type 0} → Held T → Result Outcome Stop → Type 0
+BreaksTask new result = is_broken new ≡ true → FailsStore result
 
 -- a vault is broken only by a store that fails, and always but by a command whose reply is no verdict
 abbrev pub BreaksBy : Task → Result Outcome Stop → Bool → Type 0

@@ -1,10 +1,11 @@
 //! Whether a merchant's moment is far ahead of the clock's.
-ghost use Rattle.std.specs.Prelude.{◌≡◌, Err, IfErr, IfOk, Option, false, true};
+ghost use Rattle.std.specs.Prelude.{◌≡◌, Err, IfErr, IfOk, Option, false};
 ghost use Rattle.std.specs.Option.{option_map_or};
 ghost use Rattle.vault_core.specs.Vault.{Vault as Content};
 ghost use Rattle.vault_store.specs.Applied.{is_broken, tables_of};
 ghost use Rattle.vault_engine.specs.Passing.{IsBefore, Keeps, Passage};
 ghost use Rattle.vault_listen.specs.Peers.{vault_passing};
+ghost use Rattle.vault_jobs.specs.Failing.{BreaksByStore};
 ghost use Rattle.vault_jobs.specs.Ahead.{is_far_ahead, is_merchant_ahead, moment_among};
 ghost use Rattle.vault_jobs.specs.Doing.{FailsToRead};
 
@@ -60,7 +61,7 @@ pub(crate) fn is_ahead<T: Tables>(
     ensures failed { let w : Passage = vault_passing T.is_honest T.holds T.leaves vault.old vault.new in
         IfErr result (FailsToRead w (is_broken vault.new)) }
     // the vault is broken after Store only
-    ensures broken { is_broken vault.new ≡ true → result ≡ Err Fault.Store }
+    ensures broken { BreaksByStore vault.new result }
     // a disk that is honest after the call was so before it
     ensures disk_honest { T.is_honest (tables_of vault.new) → T.is_honest (tables_of vault.old) }
 {

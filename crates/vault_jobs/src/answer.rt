@@ -1,8 +1,9 @@
 //! The line that answers a job.
-ghost use Rattle.std.specs.Prelude.{◌≡◌, ℕ, OnErr, OnOk, IfErr, false, take, true};
+ghost use Rattle.std.specs.Prelude.{◌≡◌, ℕ, OnErr, OnOk, IfErr, take, true};
 ghost use Rattle.std.specs.Io.KnownBytes.{Appends};
 ghost use Rattle.std.specs.List.{flat_map};
 ghost use Rattle.vault_wire.specs.Watching.{inner_of, is_stopped};
+ghost use Rattle.vault_jobs.specs.Failing.{GoesOn};
 
 use crate::told::tell;
 use std::io::Write;
@@ -17,7 +18,7 @@ pub fn answer<W: Write>(output: &mut Watched<W>, parts: &[&str]) -> Result<(), S
         (W.contents (inner_of output.old)) (W.contents (inner_of output.new))
         (flat_map (λ part. part.now) parts.now)) }
     // with Ok, the writer hasn't failed
-    ensures writer_ok { OnOk result (is_stopped output.new ≡ false) }
+    ensures writer_ok { GoesOn result output.new }
     // the fault is Write, and the writer has failed
     ensures failed { IfErr result (λ e. (e ≡ ServeFault.Write) × (is_stopped output.new ≡ true)) }
 {
@@ -38,7 +39,7 @@ pub fn answer_text<W: Write>(output: &mut Watched<W>, text: &[u8]) -> Result<(),
     ensures cut { OnErr result ((n : ℕ) × Appends
         (W.contents (inner_of output.old)) (W.contents (inner_of output.new)) (take n text.now)) }
     // with Ok, the writer hasn't failed
-    ensures writer_ok { OnOk result (is_stopped output.new ≡ false) }
+    ensures writer_ok { GoesOn result output.new }
     // the fault is Write, and the writer has failed
     ensures failed { IfErr result (λ e. (e ≡ ServeFault.Write) × (is_stopped output.new ≡ true)) }
 {

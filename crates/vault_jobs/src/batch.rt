@@ -1,12 +1,14 @@
 //! The rows of standard input answered on standard output.
 ghost use Rattle.std.specs.Prelude.{◌≡◌, Err, IfErr, IfOk, OnOk, false, true};
 ghost use Rattle.std.specs.Io.KnownBytes.{IsAtEnd};
+ghost use Rattle.vault_engine.specs.Stops.{NeverFails};
 ghost use Rattle.vault_store.specs.Applied.{is_broken, tables_of};
 ghost use Rattle.vault_wire.specs.Watching.{inner_of, is_stopped};
 ghost use Rattle.vault_http.specs.Faults.{failures};
 ghost use Rattle.vault_engine.specs.Passing.{Passage, passing};
 ghost use Rattle.vault_batch.specs.Faults.{Tells};
 ghost use Rattle.vault_batch.specs.Stops.{IsBatched};
+ghost use Rattle.vault_jobs.specs.Failing.{GoesOn};
 ghost use Rattle.vault_jobs.specs.Batched.{StopsBatch};
 
 use std::alloc::Global;
@@ -40,9 +42,9 @@ pub fn batch_input<R: Read, W: Write, T: Tables, S: Source>(
     // with Ok, no byte of the input is left, where it is known
     ensures end { OnOk result (IsAtEnd (R.remaining (inner_of input.new))) }
     // with Ok, the reader hasn't failed
-    ensures reader_ok { OnOk result (is_stopped input.new ≡ false) }
+    ensures reader_ok { GoesOn result input.new }
     // with Ok, the writer hasn't failed
-    ensures writer_ok { OnOk result (is_stopped output.new ≡ false) }
+    ensures writer_ok { GoesOn result output.new }
     // the fault says at which row it stopped, and what went out and is kept; or all are answered, and it is
     // Write
     ensures stopped { let w : Passage = passing S.given source.old source.new W.contents output.old output.new
@@ -57,8 +59,7 @@ pub fn batch_input<R: Read, W: Write, T: Tables, S: Source>(
     // the source is the same, further on
     ensures later { S.precedes source.old source.new }
     // tables that can't fail give an unbroken vault no Store fault
-    ensures infallible { T.may_fail ≡ false → is_broken vault.old ≡ false
-        → ¬ (result ≡ Err BatchFault.Store) }
+    ensures infallible { NeverFails T.may_fail vault.old (result ≡ Err BatchFault.Store) }
     // a disk that is honest after the call was so before it
     ensures disk_honest { T.is_honest (tables_of vault.new) → T.is_honest (tables_of vault.old) }
 {

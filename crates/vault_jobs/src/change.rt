@@ -1,9 +1,10 @@
 //! One command on a vault.
-ghost use Rattle.std.specs.Prelude.{◌≡◌, Err, false, true};
+ghost use Rattle.std.specs.Prelude.{◌≡◌, Err, false};
 ghost use Rattle.vault_core.specs.Proper.{HasLivesInRange};
 ghost use Rattle.vault_store.specs.Applied.{is_broken, tables_of};
 ghost use Rattle.vault_engine.specs.Passing.{Passage};
 ghost use Rattle.vault_listen.specs.Peers.{vault_passing};
+ghost use Rattle.vault_jobs.specs.Failing.{BreaksByStore};
 ghost use Rattle.vault_jobs.specs.Carried.{Carries};
 
 use vault_core::command::Command;
@@ -11,19 +12,10 @@ use vault_core::reply::Reply;
 use vault_store::tables::Tables;
 use vault_store::vault::{Fault, Vault};
 
-/// What a vault replies to a command of the words.
-#[derive(Clone, Copy, PartialEq, Eq, Drop)]
-pub enum Verdict {
-    /// It is done.
-    Done,
-    /// It is refused, by this number.
-    Refused(u8),
-}
-
 /// Carries out one command that is answered by done or refused.
 ///
 /// 20 Memory: memory was refused, and nothing changed. 21 Store: the store failed, or its reply is neither.
-pub fn change<T: Tables>(vault: &mut Vault<T>, command: &Command) -> Result<Verdict, Fault>
+pub fn change<T: Tables>(vault: &mut Vault<T>, command: &Command) -> Result<Result<(), u8>, Fault>
     // the lives that the command sets, if any, are in range
     requires lives { HasLivesInRange command.now }
     requires unbroken { is_broken vault.old ≡ false }
@@ -32,13 +24,13 @@ pub fn change<T: Tables>(vault: &mut Vault<T>, command: &Command) -> Result<Verd
     ensures carried { let w : Passage = vault_passing T.is_honest T.holds T.leaves vault.old vault.new in
         Carries command.now w (is_broken vault.new) result }
     // the vault is broken after Store only
-    ensures broken { is_broken vault.new ≡ true → result ≡ Err Fault.Store }
+    ensures broken { BreaksByStore vault.new result }
     // a disk that is honest after the call was so before it
     ensures disk_honest { T.is_honest (tables_of vault.new) → T.is_honest (tables_of vault.old) }
 {
     match vault.apply(command) {
-        Ok(Reply::Done) => Ok(Verdict::Done),
-        Ok(Reply::Refused(number)) => Ok(Verdict::Refused(number)),
+        Ok(Reply::Done) => Ok(Ok(())),
+        Ok(Reply::Refused(number)) => Ok(Err(number)),
         Ok(_) => Err(Fault::Store),
         Err(Fault::Memory) => Err(Fault::Memory),
         Err(Fault::Store) => Err(Fault::Store),

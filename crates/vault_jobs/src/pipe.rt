@@ -1,9 +1,10 @@
 //! The messages of standard input answered on standard output.
-ghost use Rattle.std.specs.Prelude.{◌≡◌, false, Err, IfErr, OnOk};
-ghost use Rattle.vault_store.specs.Applied.{is_broken, tables_of};
+ghost use Rattle.std.specs.Prelude.{Err, IfErr, OnOk};
+ghost use Rattle.vault_store.specs.Applied.{is_broken};
 ghost use Rattle.vault_wire.specs.Watching.{inner_of, is_stopped};
 ghost use Rattle.vault_http.specs.Faults.{Tells, failures};
 ghost use Rattle.vault_engine.specs.Passing.{Passage, passing};
+ghost use Rattle.vault_jobs.specs.Failing.{GoesOn};
 ghost use Rattle.vault_jobs.specs.Piped.{IsPiped, StopsPiping};
 ghost use Rattle.vault_engine.specs.Stops.{Trusts};
 
@@ -40,7 +41,7 @@ pub fn pipe<R: Read, W: Write, T: Tables, S: Source>(
         T.is_honest T.holds T.leaves vault.old vault.new in
         IfErr result (StopsPiping (R.remaining (inner_of input.old)) (R.remaining (inner_of input.new)) w) }
     // with Ok, the writer hasn't failed
-    ensures writer_ok { OnOk result (is_stopped output.new ≡ false) }
+    ensures writer_ok { GoesOn result output.new }
     // the stop's own one of source, reader, writer and vault has failed; whether the others have stays as it
     // was
     ensures own_failure { Tells result

@@ -4,17 +4,18 @@ ghost use Rattle.vault_core.specs.Vault.{Vault as Content};
 ghost use Rattle.vault_store.specs.Applied.{is_broken, tables_of};
 ghost use Rattle.vault_engine.specs.Passing.{IsBefore, Keeps, Passage};
 ghost use Rattle.vault_listen.specs.Peers.{vault_passing};
+ghost use Rattle.vault_jobs.specs.Failing.{BreaksByStore};
 ghost use Rattle.vault_jobs.specs.Carried.{IsCarriedOut};
 ghost use Rattle.vault_jobs.specs.Changes.{AreChangesOf};
 ghost use Rattle.vault_jobs.specs.Doing.{FailsToRead, Settles};
 ghost use Rattle.vault_jobs.specs.Grants.{CarriesAll};
 ghost use Rattle.vault_jobs.specs.Listing.{shown_text};
 
-use crate::carry::carry_all;
-use crate::change::Verdict;
+use crate::carry::{Orders, carry_all};
 use crate::changes::{Changes, ListedRight, changes_of};
 use crate::show::{Form, Shown, changes_text, list_text};
 use std::alloc::Global;
+use vault_core::command::Command;
 use vault_core::moment::Moment;
 use vault_store::tables::Tables;
 use vault_store::vault::{Fault, Vault};
@@ -43,17 +44,26 @@ pub(crate) fn changes_to<T: Tables>(
     ensures failed { let w : Passage = vault_passing T.is_honest T.holds T.leaves vault.old vault.new in
         IfErr result (FailsToRead w (is_broken vault.new)) }
     // the vault is broken after Store only
-    ensures broken { is_broken vault.new ≡ true → result ≡ Err Fault.Store }
+    ensures broken { BreaksByStore vault.new result }
     // a disk that is honest after the call was so before it
     ensures disk_honest { T.is_honest (tables_of vault.new) → T.is_honest (tables_of vault.old) }
 {
-    let held = match vault.rights() {
-        Ok(held) => held,
-        Err(fault) => return Err(fault),
-    };
+    let held = vault.rights()?;
     match changes_of(alloc, exact, rows, held.as_slice(), now) {
         Ok(changes) => Ok(changes),
         Err(_) => Err(Fault::Memory),
+    }
+}
+
+/// Commands of a list stand for themselves.
+#[derive(Clone, Copy)]
+struct AsTheyStand;
+
+impl Orders<Command> for AsTheyStand {
+    ghost command_of = { λ _ command. command };
+
+    fn command(&self, command: &Command) -> Command {
+        *command
     }
 }
 
@@ -67,7 +77,7 @@ pub(crate) fn settle<T: Tables>(
     vault: &mut Vault<T>,
     rows: &[ListedRight],
     now: Moment,
-) -> Result<(Verdict, Changes), Fault>
+) -> Result<(Result<(), u8>, Changes), Fault>
     // the vault isn't broken
     requires { is_broken vault.old ≡ false }
     // with Ok, on an honest disk, these are the changes from each vault that was held to exactly these rights
@@ -83,15 +93,12 @@ pub(crate) fn settle<T: Tables>(
         IfErr result (λ f. Settles now rows.now w (is_broken vault.new) (Err f)
         ⊎ FailsToRead w (is_broken vault.new) f) }
     // the vault is broken after Store only
-    ensures broken { is_broken vault.new ≡ true → result ≡ Err Fault.Store }
+    ensures broken { BreaksByStore vault.new result }
     // a disk that is honest after the call was so before it
     ensures disk_honest { T.is_honest (tables_of vault.new) → T.is_honest (tables_of vault.old) }
 {
-    let changes = match changes_to(alloc, vault, true, rows, now) {
-        Ok(changes) => changes,
-        Err(fault) => return Err(fault),
-    };
-    match carry_all(vault, changes.commands.as_slice()) {
+    let changes = changes_to(alloc, vault, true, rows, now)?;
+    match carry_all(vault, &AsTheyStand, changes.commands.as_slice()) {
         Ok(verdict) => Ok((verdict, changes)),
         Err(fault) => Err(fault),
     }
@@ -112,18 +119,12 @@ fn listing_of<T: Tables>(alloc: Global, vault: &mut Vault<T>, form: Form) -> Res
     ensures failed { let w : Passage = vault_passing T.is_honest T.holds T.leaves vault.old vault.new in
         IfErr result (FailsToRead w (is_broken vault.new)) }
     // the vault is broken after Store only
-    ensures broken { is_broken vault.new ≡ true → result ≡ Err Fault.Store }
+    ensures broken { BreaksByStore vault.new result }
     // a disk that is honest after the call was so before it
     ensures disk_honest { T.is_honest (tables_of vault.new) → T.is_honest (tables_of vault.old) }
 {
-    let merchants = match vault.merchants() {
-        Ok(merchants) => merchants,
-        Err(fault) => return Err(fault),
-    };
-    let rights = match vault.rights() {
-        Ok(rights) => rights,
-        Err(fault) => return Err(fault),
-    };
+    let merchants = vault.merchants()?;
+    let rights = vault.rights()?;
     match list_text(alloc, form, merchants.as_slice(), rights.as_slice()) {
         Ok(text) => Ok(text),
         Err(_) => Err(Fault::Memory),
@@ -151,14 +152,11 @@ fn difference_of<T: Tables>(
     ensures failed { let w : Passage = vault_passing T.is_honest T.holds T.leaves vault.old vault.new in
         IfErr result (FailsToRead w (is_broken vault.new)) }
     // the vault is broken after Store only
-    ensures broken { is_broken vault.new ≡ true → result ≡ Err Fault.Store }
+    ensures broken { BreaksByStore vault.new result }
     // a disk that is honest after the call was so before it
     ensures disk_honest { T.is_honest (tables_of vault.new) → T.is_honest (tables_of vault.old) }
 {
-    let changes = match changes_to(alloc, vault, exact, rows.as_slice(), now) {
-        Ok(changes) => changes,
-        Err(fault) => return Err(fault),
-    };
+    let changes = changes_to(alloc, vault, exact, rows.as_slice(), now)?;
     match changes_text(alloc, changes.commands.as_slice()) {
         Ok(text) => Ok(text),
         Err(_) => Err(Fault::Memory),
@@ -184,7 +182,7 @@ pub(crate) fn text_of<T: Tables>(
     ensures failed { let w : Passage = vault_passing T.is_honest T.holds T.leaves vault.old vault.new in
         IfErr result (FailsToRead w (is_broken vault.new)) }
     // the vault is broken after Store only
-    ensures broken { is_broken vault.new ≡ true → result ≡ Err Fault.Store }
+    ensures broken { BreaksByStore vault.new result }
     // a disk that is honest after the call was so before it
     ensures disk_honest { T.is_honest (tables_of vault.new) → T.is_honest (tables_of vault.old) }
 {

@@ -1,5 +1,5 @@
 //! What a vault holds, in lines.
-ghost use Rattle.std.specs.Prelude.{◌≡◌, ◌++◌, IfOk, OnOk, decimal};
+ghost use Rattle.std.specs.Prelude.{◌≡◌, ◌++◌, IfOk, decimal};
 ghost use Rattle.std.specs.List.{flat_map};
 ghost use Rattle.vault_core.specs.Words.{right_word};
 ghost use Rattle.vault_jobs.specs.Changes.{change_line, changes_text as changes_text_of, right_text};

@@ -1,26 +1,24 @@
 //! The pairs that a job's messages and rows are asked with.
-ghost use Rattle.std.specs.Prelude.{◌≡◌, IfErr, IfOk, IfSome};
+ghost use Rattle.std.specs.Prelude.{IfSome};
 ghost use Rattle.vault_listen.specs.Live.{Fixes, IsFresh};
 
 use rand::make_rng;
 use rand::rngs::StdRng;
 use std::random::RandomSource;
-use vault_batch::fault::BatchFault;
 use vault_core::moment::Moment;
-use vault_http::fault::ServeFault;
 use vault_listen::live::LiveSource;
 use vault_listen::time::Timekeeper;
 use vault_pan::draw::Digits;
 
 /// The most messages of one job.
-const MOST_MESSAGES: u64 = 1000;
+pub const MOST_MESSAGES: u64 = 1000;
 
 /// The most rows of one batch.
-const MOST_ROWS: u64 = 100_000;
+pub const MOST_ROWS: u64 = 100_000;
 
 /// So many pairs, each with the moment and the digits that the words give, or else with one that is told and
 /// drawn ones; none where there is nothing to draw digits from.
-fn pairs<'t, H: AllocGlobal + RandomSource, K: Timekeeper>(
+pub fn pairs<'t, H: AllocGlobal + RandomSource, K: Timekeeper>(
     rt: &H,
     time: &'t K,
     times: u64,
@@ -36,48 +34,4 @@ fn pairs<'t, H: AllocGlobal + RandomSource, K: Timekeeper>(
         return None;
     };
     Some(LiveSource::fixed(rt.alloc(), time, generator, times, moment, digits))
-}
-
-/// The pairs of a job's messages: 1000 of them.
-///
-/// 60 Source: there is nothing to draw digits from.
-pub fn source<'t, H: AllocGlobal + RandomSource, K: Timekeeper>(
-    rt: &H,
-    time: &'t K,
-    moment: Option<Moment>,
-    digits: Option<Digits>,
-) -> Result<LiveSource<'t, K, StdRng>, ServeFault>
-    // it gave no pair yet, gives 1000, and never refused
-    ensures fresh { IfOk result (λ s. IsFresh s 1000) }
-    // its time, and what is fixed of its pairs, are what is handed in
-    ensures fixed { IfOk result (λ s. Fixes s time.now moment digits) }
-    // the fault is Source
-    ensures fault { IfErr result (λ e. e ≡ ServeFault.Source) }
-{
-    match pairs(rt, time, MOST_MESSAGES, moment, digits) {
-        Some(source) => Ok(source),
-        None => Err(ServeFault::Source),
-    }
-}
-
-/// The pairs of a batch's rows: 100000 of them.
-///
-/// 46 Source: there is nothing to draw digits from.
-pub fn row_source<'t, H: AllocGlobal + RandomSource, K: Timekeeper>(
-    rt: &H,
-    time: &'t K,
-    moment: Option<Moment>,
-    digits: Option<Digits>,
-) -> Result<LiveSource<'t, K, StdRng>, BatchFault>
-    // it gave no pair yet, gives 100000, and never refused
-    ensures fresh { IfOk result (λ s. IsFresh s 100000) }
-    // its time, and what is fixed of its pairs, are what is handed in
-    ensures fixed { IfOk result (λ s. Fixes s time.now moment digits) }
-    // the fault is Source
-    ensures fault { IfErr result (λ e. e ≡ BatchFault.Source) }
-{
-    match pairs(rt, time, MOST_ROWS, moment, digits) {
-        Some(source) => Ok(source),
-        None => Err(BatchFault::Source),
-    }
 }

@@ -11,15 +11,14 @@ ghost use Rattle.vault_jobs.specs.Streams.{Streams, streams, with_links};
 ghost use Rattle.vault_jobs.specs.Doing.{BatchEnds, CommandsEnd, Does, ListedServeEnds, PipeEnds};
 ghost use Rattle.vault_jobs.specs.Doing.{SettleEnds, ShowEnds, SweepEnds, TimedSweepEnds};
 ghost use Rattle.vault_jobs.specs.Listing.{shown_text};
-ghost use Rattle.vault_jobs.specs.declared.task.Listed.{Listed as Rows};
 ghost use Rattle.vault_jobs.specs.Grants.{CarriesAll, grants_at};
-ghost use Rattle.vault_jobs.specs.Tasks.{BreaksBy, FailsStore, IsProper, granted_line};
+ghost use Rattle.vault_jobs.specs.Tasks.{BreaksBy, BreaksTask, IsProper, granted_line};
 ghost use Rattle.vault_jobs.specs.declared.task.Task.{Task};
 
 use crate::ahead::is_ahead;
 use crate::answer::{answer, answer_text};
 use crate::batch::batch_input;
-use crate::change::{Verdict, change};
+use crate::change::change;
 use crate::changes::ListedRight;
 use crate::clock::Giver;
 use crate::grants::give_all;
@@ -27,15 +26,17 @@ use crate::listening::serve_at;
 use crate::pipe::pipe;
 use crate::settle::{settle, text_of};
 use crate::show::Shown;
-use crate::source::{row_source, source};
+use crate::source::{MOST_MESSAGES, MOST_ROWS, pairs};
 use crate::stop::Stop;
-use crate::sweep::{Swept, sweep};
+use crate::sweep::sweep;
 use itoa::Buffer;
 use std::alloc::Global;
 use std::io::{Read, Write};
 use vault_batch::asker::Asker;
+use vault_batch::fault::BatchFault;
 use vault_core::command::Command;
 use vault_core::moment::Moment;
+use vault_http::fault::ServeFault;
 use vault_listen::network::Network;
 use vault_listen::time::Timekeeper;
 use vault_pan::draw::Digits;
@@ -101,16 +102,16 @@ fn do_change<W: Write, T: Tables>(
         (output.new ≡ output.old) (W.contents (inner_of output.old)) (W.contents (inner_of output.new))
         (is_stopped output.new) }
     // the vault is broken only where the store failed
-    ensures breaks { is_broken vault.new ≡ true → FailsStore result }
+    ensures breaks { BreaksTask vault.new result }
     // a disk that is honest after the call was so before it
     ensures disk_honest { T.is_honest (tables_of vault.new) → T.is_honest (tables_of vault.old) }
 {
     match change(vault, command) {
-        Ok(Verdict::Done) => match answer(output, &["done\n"]) {
+        Ok(Ok(())) => match answer(output, &["done\n"]) {
             Ok(()) => Ok(Outcome::Done),
             Err(fault) => Err(Stop::Service(fault)),
         },
-        Ok(Verdict::Refused(number)) => Ok(Outcome::Refused(number)),
+        Ok(Err(number)) => Ok(Outcome::Refused(number)),
         Err(fault) => Err(Stop::Vault(fault)),
     }
 }
@@ -131,19 +132,19 @@ fn do_give<W: Write, T: Tables>(
         (granted_line (length rights.now)) result (output.new ≡ output.old)
         (W.contents (inner_of output.old)) (W.contents (inner_of output.new)) (is_stopped output.new) }
     // the vault is broken only where the store failed
-    ensures breaks { is_broken vault.new ≡ true → FailsStore result }
+    ensures breaks { BreaksTask vault.new result }
     // a disk that is honest after the call was so before it
     ensures disk_honest { T.is_honest (tables_of vault.new) → T.is_honest (tables_of vault.old) }
 {
     match give_all(vault, rights, now) {
-        Ok(Verdict::Done) => {
+        Ok(Ok(())) => {
             let mut digits = Buffer::new();
             match answer(output, &["granted ", digits.format(rights.len()), "\n"]) {
                 Ok(()) => Ok(Outcome::Done),
                 Err(fault) => Err(Stop::Service(fault)),
             }
         }
-        Ok(Verdict::Refused(number)) => Ok(Outcome::Refused(number)),
+        Ok(Err(number)) => Ok(Outcome::Refused(number)),
         Err(fault) => Err(Stop::Vault(fault)),
     }
 }
@@ -164,12 +165,12 @@ fn do_settle<W: Write, T: Tables>(
         SettleEnds now rows.now w (is_broken vault.new) result (output.new ≡ output.old)
         (W.contents (inner_of output.old)) (W.contents (inner_of output.new)) (is_stopped output.new) }
     // the vault is broken only where the store failed
-    ensures breaks { is_broken vault.new ≡ true → FailsStore result }
+    ensures breaks { BreaksTask vault.new result }
     // a disk that is honest after the call was so before it
     ensures disk_honest { T.is_honest (tables_of vault.new) → T.is_honest (tables_of vault.old) }
 {
     match settle(alloc, vault, rows, now) {
-        Ok((Verdict::Done, changes)) => {
+        Ok((Ok(()), changes)) => {
             let [mut granted, mut withdrawn] = [Buffer::new(), Buffer::new()];
             let parts = [
                 "granted ",
@@ -183,7 +184,7 @@ fn do_settle<W: Write, T: Tables>(
                 Err(fault) => Err(Stop::Service(fault)),
             }
         }
-        Ok((Verdict::Refused(number), _)) => Ok(Outcome::Refused(number)),
+        Ok((Err(number), _)) => Ok(Outcome::Refused(number)),
         Err(fault) => Err(Stop::Vault(fault)),
     }
 }
@@ -203,7 +204,7 @@ fn do_show<W: Write, T: Tables>(
         ShowEnds (shown_text shown.now) w (is_broken vault.new) result (output.new ≡ output.old)
         (W.contents (inner_of output.old)) (W.contents (inner_of output.new)) (is_stopped output.new) }
     // the vault is broken only where the store failed
-    ensures breaks { is_broken vault.new ≡ true → FailsStore result }
+    ensures breaks { BreaksTask vault.new result }
     // a disk that is honest after the call was so before it
     ensures disk_honest { T.is_honest (tables_of vault.new) → T.is_honest (tables_of vault.old) }
 {
@@ -246,8 +247,8 @@ fn do_serve<K: Timekeeper, N: Network, W: Write, T: Tables>(
         return serve_at(rt, time, network, port, connections, vault, output);
     };
     match settle(rt.alloc(), vault, listed.rights.as_slice(), listed.now) {
-        Ok((Verdict::Done, _)) => serve_at(rt, time, network, port, connections, vault, output),
-        Ok((Verdict::Refused(number), _)) => Ok(Outcome::Refused(number)),
+        Ok((Ok(()), _)) => serve_at(rt, time, network, port, connections, vault, output),
+        Ok((Err(number), _)) => Ok(Outcome::Refused(number)),
         Err(fault) => Err(Stop::Vault(fault)),
     }
 }
@@ -267,19 +268,19 @@ fn do_purges<W: Write, T: Tables>(
         SweepEnds asker now w (is_broken vault.new) result (output.new ≡ output.old)
         (W.contents (inner_of output.old)) (W.contents (inner_of output.new)) (is_stopped output.new) }
     // the vault is broken only where the store failed
-    ensures breaks { is_broken vault.new ≡ true → FailsStore result }
+    ensures breaks { BreaksTask vault.new result }
     // a disk that is honest after the call was so before it
     ensures disk_honest { T.is_honest (tables_of vault.new) → T.is_honest (tables_of vault.old) }
 {
     match sweep(vault, &asker, now) {
-        Ok(Swept::Purged(count)) => {
+        Ok(Ok(count)) => {
             let mut digits = Buffer::new();
             match answer(output, &["purged ", digits.format(count), "\n"]) {
                 Ok(()) => Ok(Outcome::Done),
                 Err(fault) => Err(Stop::Service(fault)),
             }
         }
-        Ok(Swept::Refused(number)) => Ok(Outcome::Refused(number)),
+        Ok(Err(number)) => Ok(Outcome::Refused(number)),
         Err(fault) => Err(Stop::Vault(fault)),
     }
 }
@@ -300,7 +301,7 @@ fn do_sweep<W: Write, T: Tables>(
         TimedSweepEnds giver asker now w (is_broken vault.new) result (output.new ≡ output.old)
         (W.contents (inner_of output.old)) (W.contents (inner_of output.new)) (is_stopped output.new) }
     // the vault is broken only where the store failed
-    ensures breaks { is_broken vault.new ≡ true → FailsStore result }
+    ensures breaks { BreaksTask vault.new result }
     // a disk that is honest after the call was so before it
     ensures disk_honest { T.is_honest (tables_of vault.new) → T.is_honest (tables_of vault.old) }
 {
@@ -343,9 +344,8 @@ fn do_batch<K: Timekeeper, R: Read, W: Write, T: Tables>(
     // a disk that is honest after the call was so before it
     ensures disk_honest { T.is_honest (tables_of vault.new) → T.is_honest (tables_of vault.old) }
 {
-    let mut pairs = match row_source(rt, time, moment, digits) {
-        Ok(pairs) => pairs,
-        Err(fault) => return Err(Stop::Batch(fault)),
+    let Some(mut pairs) = pairs(rt, time, MOST_ROWS, moment, digits) else {
+        return Err(Stop::Batch(BatchFault::Source));
     };
     match batch_input(rt.alloc(), input, output, vault, asker, &mut pairs) {
         Ok(counts) if counts.refused == 0 => Ok(Outcome::Done),
@@ -382,9 +382,8 @@ fn do_pipe<K: Timekeeper, R: Read, W: Write, T: Tables>(
     // a disk that is honest after the call was so before it
     ensures disk_honest { T.is_honest (tables_of vault.new) → T.is_honest (tables_of vault.old) }
 {
-    let mut pairs = match source(rt, time, moment, digits) {
-        Ok(pairs) => pairs,
-        Err(fault) => return Err(Stop::Service(fault)),
+    let Some(mut pairs) = pairs(rt, time, MOST_MESSAGES, moment, digits) else {
+        return Err(Stop::Service(ServeFault::Source));
     };
     match pipe(rt.alloc(), input, output, vault, &mut pairs) {
         Ok(()) => Ok(Outcome::Done),

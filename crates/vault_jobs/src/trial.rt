@@ -6,11 +6,12 @@ ghost use Rattle.vault_core.specs.Vault.{Vault as Content};
 ghost use Rattle.vault_store.specs.Applied.{Contains, is_broken};
 ghost use Rattle.vault_store.specs.Held.{IsHeld};
 ghost use Rattle.vault_wire.specs.Watching.{inner_of, is_stopped};
+ghost use Rattle.vault_jobs.specs.Failing.{GoesOn};
 ghost use Rattle.vault_jobs.specs.Causes.{IsCause};
 ghost use Rattle.vault_jobs.specs.Trial.{IsCut, IsTrial, left_by, trial_vault as trial_vault_lem};
 
 use crate::pipe::pipe;
-use crate::source::source;
+use crate::source::{MOST_MESSAGES, pairs};
 use std::alloc::{AllocError, Global};
 use std::io::{Read, Write};
 use std::random::RandomSource;
@@ -126,7 +127,7 @@ pub fn serve_trial<H: AllocGlobal + RandomSource, K: Timekeeper, R: Read, W: Wri
         (trial_vault_lem trial.now.caller trial.now.merchant trial.now.life trial.now.made)
         trial.now.moment trial.now.digits) }
     // with Ok, the writer hasn't failed
-    ensures writer_ok { OnOk result (is_stopped output.new ≡ false) }
+    ensures writer_ok { GoesOn result output.new }
     // with Err, what was read begins with messages, and a beginning of the texts that answer some of them
     // went out
     ensures cut { OnErr result (IsCut (K.tells time.now)
@@ -141,6 +142,8 @@ pub fn serve_trial<H: AllocGlobal + RandomSource, K: Timekeeper, R: Read, W: Wri
 {
     let alloc = rt.alloc();
     let mut vault = trial_vault(alloc, trial)?;
-    let mut pairs = source(rt, time, trial.moment, trial.digits)?;
+    let Some(mut pairs) = pairs(rt, time, MOST_MESSAGES, trial.moment, trial.digits) else {
+        return Err(ServeFault::Source);
+    };
     pipe(alloc, input, output, &mut vault, &mut pairs)
 }

@@ -34,62 +34,59 @@ module _ (w : Passage) (V : Content) (b : IsBefore w V) where
   abbrev pub Settles : (Passage → Type 0) → Type 0
   Settles P = (M : Content) × Keeps w M × P (from w V M M)
 
+  -- the vault that these leave is kept
+  kept_by : (ys : List (Asked Parts)) (P : Passage → Type 0) → Keeps w (vault_after V ys)
+      → P (from w V (vault_after V ys) (vault_after V ys)) → Settles P
+  kept_by ys P kept h = (vault_after V ys, kept, h)
+
+  -- what went out answers the first, and the vault that they and others leave is kept
+  sent_all : (xs ys : List (Asked Parts)) → Sends w (texts answer_for V xs) → (A : Content)
+      → IsBefore (from w V (vault_after V ys) (vault_after V ys)) A
+      → Sends w (texts answer_for A xs)
+      × Keeps (from w V (vault_after V ys) (vault_after V ys)) (vault_after A ys)
+  sent_all xs ys sent = let M = vault_after V ys in
+      at w V M M (λ A. Sends w (texts answer_for A xs) × Keeps (from w V M M) (vault_after A ys))
+      (sent, (refl, (refl, refl)))
+
   all_done : (xs : List (Asked Parts)) → Answered message_kind [] w xs
       → Settles (λ p. Answered message_kind [] p xs)
-  all_done xs q = let M = vault_after V xs in (
-    M,
-    (q.answered V b).1,
-    record {
-      taken = q.taken;
-      asked = q.asked;
-      answered = at w V M M (λ A. Sends w (texts answer_for A xs) × Keeps (from w V M M) (vault_after A xs))
-          ((q.answered V b).0, (refl, (refl, refl)));
-    },
-  )
+  all_done xs q = kept_by xs (λ p. Answered message_kind [] p xs) (q.answered V b).1 (record {
+    taken = q.taken;
+    asked = q.asked;
+    answered = sent_all xs xs (q.answered V b).0;
+  })
 
   before_one : (xs : List (Asked Parts)) → AnsweredBefore message_kind [] w xs
       → Settles (λ p. AnsweredBefore message_kind [] p xs)
-  before_one xs q = let M = vault_after V xs in (
-    M,
-    (q.answered V b).1,
-    record {
-      unused = q.unused;
-      one = q.one;
-      taken = q.taken;
-      asked = q.asked;
-      answered = at w V M M (λ A. Sends w (texts answer_for A xs) × Keeps (from w V M M) (vault_after A xs))
-          ((q.answered V b).0, (refl, (refl, refl)));
-    },
-  )
+  before_one xs q = kept_by xs (λ p. AnsweredBefore message_kind [] p xs) (q.answered V b).1 (record {
+    unused = q.unused;
+    one = q.one;
+    taken = q.taken;
+    asked = q.asked;
+    answered = sent_all xs xs (q.answered V b).0;
+  })
 
   cut_one : (x : Asked Parts) (xs : List (Asked Parts)) → CutAt message_kind [] w xs x
       → Settles (λ p. CutAt message_kind [] p xs x)
-  cut_one x xs q = let M = vault_after V (xs ++ x ∷ []) in (
-    M,
-    (q.answered V b).2,
-    record {
-      sent = q.sent;
-      taken = q.taken;
-      asked = q.asked;
-      answered = at w V M M (λ A. (q.sent < length (text_at answer_for (vault_after A xs) x))
-          × Sends w (texts answer_for A xs ++ take q.sent (text_at answer_for (vault_after A xs) x))
-          × Keeps (from w V M M) (vault_after A (xs ++ x ∷ [])))
-          ((q.answered V b).0, (q.answered V b).1, (refl, (refl, refl)));
-    },
-  )
+  cut_one x xs q = let M = vault_after V (xs ++ x ∷ []) in
+      kept_by (xs ++ x ∷ []) (λ p. CutAt message_kind [] p xs x) (q.answered V b).2 (record {
+        sent = q.sent;
+        taken = q.taken;
+        asked = q.asked;
+        answered = at w V M M (λ A. (q.sent < length (text_at answer_for (vault_after A xs) x))
+            × Sends w (texts answer_for A xs ++ take q.sent (text_at answer_for (vault_after A xs) x))
+            × Keeps (from w V M M) (vault_after A (xs ++ x ∷ [])))
+            ((q.answered V b).0, (q.answered V b).1, (refl, (refl, refl)));
+      })
 
   silent_one : (x : Asked Parts) (xs : List (Asked Parts)) → SilentAt message_kind [] w xs x
       → Settles (λ p. SilentAt message_kind [] p xs x)
-  silent_one x xs q = let M = vault_after V (xs ++ x ∷ []) in (
-    M,
-    (q.answered V b).1,
-    record {
-      taken = q.taken;
-      asked = q.asked;
-      answered = at w V M M (λ A. Sends w (texts answer_for A xs)
-          × Keeps (from w V M M) (vault_after A (xs ++ x ∷ []))) ((q.answered V b).0, (refl, (refl, refl)));
-    },
-  )
+  silent_one x xs q =
+      kept_by (xs ++ x ∷ []) (λ p. SilentAt message_kind [] p xs x) (q.answered V b).1 (record {
+        taken = q.taken;
+        asked = q.asked;
+        answered = sent_all xs (xs ++ x ∷ []) (q.answered V b).0;
+      })
 
   -- what is true of the first messages
   of_first : (us rest : List Parts) (Known : Passage → List (Asked Parts) → Type 0)

@@ -1,5 +1,5 @@
 pub mod Answered
-pub mod Following
-pub mod Jumping
-pub mod Linking
+pub mod JoinedConnections
+pub mod ServedConnections
+pub mod TimeJumps
 pub mod Turns

@@ -1,6 +1,7 @@
 //! Connections of peers, served one after the other by one vault.
 ghost use Rattle.std.specs.Prelude.{◌≡◌, ◌≢◌, ◌↔◌, ◌++◌, List, Option, false, true, Err};
 ghost use Rattle.std.specs.Prelude.{IsTrue, MatchResult};
+ghost use Rattle.vault_engine.specs.Stops.{NeverFails};
 ghost use Rattle.vault_store.specs.Applied.{is_broken, tables_of};
 ghost use Rattle.vault_engine.specs.Passing.{Passage};
 ghost use Rattle.vault_listen.specs.Peers.{AreLinks, Event, IsClosedBy, IsLink, Link, events_of};
@@ -54,8 +55,7 @@ fn serve_link<P: Peers, K: Timekeeper, G: Rng, T: Tables>(
     ensures store { MatchResult result (λ _. is_broken vault.new ≡ is_broken vault.old)
         (λ fault. (fault ≡ ListenFault.Store) × (is_broken vault.new ≡ true)) }
     // tables that can't fail give an unbroken vault no Store fault
-    ensures infallible { T.may_fail ≡ false → is_broken vault.old ≡ false
-        → ¬ (result ≡ Err ListenFault.Store) }
+    ensures infallible { NeverFails T.may_fail vault.old (result ≡ Err ListenFault.Store) }
     // a disk that is honest after the call was so before it
     ensures disk_honest { T.is_honest (tables_of vault.new) → T.is_honest (tables_of vault.old) }
 {
@@ -109,8 +109,7 @@ pub fn serve_on<P: Peers, K: Timekeeper, G: Rng, T: Tables>(
     // after Memory the vault is as it was
     ensures memory { result ≡ Err ListenFault.Memory → vault.new ≡ vault.old }
     // tables that can't fail give an unbroken vault no Store fault
-    ensures infallible { T.may_fail ≡ false → is_broken vault.old ≡ false
-        → ¬ (result ≡ Err ListenFault.Store) }
+    ensures infallible { NeverFails T.may_fail vault.old (result ≡ Err ListenFault.Store) }
     // a disk that is honest after the call was so before it
     ensures disk_honest { T.is_honest (tables_of vault.new) → T.is_honest (tables_of vault.old) }
 {

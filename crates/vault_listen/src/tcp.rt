@@ -137,7 +137,7 @@ impl<'c, L: OpenListener<Stream = TcpStream> + AsRawFd, C: Clock> Peers for TcpP
         }
     }
 
-    #[tactic(auto, using(crate::proofs::Linking::closed_none))]
+    #[tactic(auto, using(crate::proofs::ServedConnections::closed_none))]
     fn close(
         &mut self,
         reader: Watched<PeerReader<'c, C>>,

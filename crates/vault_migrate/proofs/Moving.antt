@@ -41,6 +41,10 @@ many s t same = ap (λ (x : Schema). length x.tables) same
 pub never_blank : (v : Version) → schema_of v ≡ no_schema → ⊥
 never_blank v same = let e = many _ _ same in absurd (omega (arith, e))
 
+-- a database in the schema of an older version
+abbrev pub IsInOlder : Version → Database → Type 0
+IsInOlder v db = IsOlder v × (db.schema ≡ schema_of v)
+
 -- a version is older or the newest
 older_or : (v : Version) → IsOlder v ⊎ (v ≡ newest)
 older_or v =
@@ -213,6 +217,12 @@ left_newest V s left db there = elim (left db there) [
   | inl ours ↦ ours_in_newest V db ours
   | inr ours ↦ ours_in_newest V db ours
 ]
+
+-- so a vault in any version is in the newest, and stays there where a check leaves what it found
+pub kept_newest : (old new : State) → IsNoOlder old.now → LeavesFound old new → (v : Version) (V : Vault)
+    → HoldsIn v V old → (v ≡ newest) × LeavesIn newest V new
+kept_newest old new none found v V h =
+    let it = held_newest old none v V h in (it.0, left_newest V new (found.held V it.1))
 
 -- in an older version no table is missing
 pub older_found : (v : Version) (old new : State) → old.now.schema ≡ schema_of v → IsOlder v

@@ -1,9 +1,11 @@
 -- The rows of a database tell each part of the vault that they stand for.
-use Rattle.std.proofs.Common.{◌≡◌, ℕ, Option}
+use Rattle.std.proofs.Common.{◌≡◌, ℕ, Option, Ordering}
 use Rattle.std.proofs.Common.{option_map, arith}
 use Rattle.std.specs.FinMap as map
 use Rattle.std.specs.Option.{option_map_or}
+use Rattle.sqlite.specs.Order.{Row}
 use Rattle.sqlite.specs.Tree.{Trees}
+use Rattle.sql_maps.proofs.ByKey.{Coding}
 use Rattle.vault_core.specs.Keys.{Bytes}
 use Rattle.vault_core.specs.Vault.{Vault, Merchant, merchant_at}
 use Rattle.vault_core.specs.declared.right.Right.{Right}
@@ -16,6 +18,11 @@ use Rattle.vault_schema.specs.declared.version.Version.{Version}
 use Rattle.vault_steps.proofs.PartsByVersion.{one_stand}
 use Rattle.vault_core.specs.Lives.{lives_in}
 use Rattle.vault_schema.specs.Stands.{count_at, lookups_of}
+
+-- two maps whose keys rows tell are one, where they have the same at each key
+one_map : {K X Y : Type 0} {cmp : K → K → Ordering} {row : K → X → Row} (c : Coding cmp row)
+    (a b : map.FinMap cmp Y) → ((key : K) → map.get a key ≡ map.get b key) → a ≡ b
+one_map c a b same = map.same_map c.total c.exact a b same
 
 -- a merchant is its lives, its moment and its counts
 same_merchant : (a b : Option Merchant) → option_map lives_in a ≡ option_map lives_in b
@@ -38,14 +45,10 @@ module _ (V W : Vault) (merchants : (m : Bytes) → (lookups_of V).merchants m �
 
     same_vault : V ≡ W
     same_vault =
-        let m = three.merchant_coding in
-        let all_merchants = map.same_map m.total m.exact _ _ merchants_same in
-        let e = codes.entry_coding in
-        let all_entries = map.same_map e.total e.exact _ _ entries in
-        let r = codes.record_coding in
-        let all_records = map.same_map r.total r.exact _ _ records in
-        let g = four.right_coding in
-        let all_rights = map.same_map g.total g.exact _ _ rights in
+        let all_merchants = one_map three.merchant_coding _ _ merchants_same in
+        let all_entries = one_map codes.entry_coding _ _ entries in
+        let all_records = one_map codes.record_coding _ _ records in
+        let all_rights = one_map four.right_coding _ _ rights in
         λ i. record {
           merchants = all_merchants i;
           entries = all_entries i;

@@ -15,7 +15,7 @@ use Rattle.vault_jobs.specs.declared.task.Task.TheVariants as task
 use Rattle.vault_app.specs.Asked.{AsksFor}
 use Rattle.vault_app.specs.Plans.{IsTaskOf}
 use Rattle.vault_app.specs.World.{anything}
-use Rattle.vault_promise.proofs.Piping.{as_run, commands-append}
+use Rattle.vault_promise.proofs.PipedMessages.{as_run, commands-append}
 use Rattle.vault_promise.specs.Again.{DidNoPipe, Piped, PipesAgree, RunsAnswerAgain}
 use Rattle.vault_promise.specs.Runs.{Come, Run, Work}
 use Rattle.vault_promise.specs.Standing.{AnsweredIn, AnswersStand, IsRepliedIn, Stand}

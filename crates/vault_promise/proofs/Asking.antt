@@ -25,8 +25,8 @@ use Rattle.vault_routes.specs.declared.table.TokenAction.TheVariants as on
 use Rattle.vault_engine.specs.Answered.{pairs_of, units_of}
 use Rattle.vault_engine.specs.Asking.{Asked, Asks, reply_to, vault_after}
 use Rattle.vault_http.specs.Exchanges.{message_kind}
-use Rattle.vault_promise.specs.Giving.{AsksForNumber, EachIsDue, IsDue, OnlyDueGoesOut}
-use Rattle.vault_promise.proofs.Giving.{only_due}
+use Rattle.vault_promise.specs.DueNumbers.{AsksForNumber, EachIsDue, IsDue, OnlyDueGoesOut}
+use Rattle.vault_promise.proofs.DueNumbers.{only_due}
 use Rattle.vault_promise.proofs.Telling.{texts_tell}
 
 -- the one method that is found, or one of two

@@ -38,10 +38,10 @@ use Rattle.vault_jobs.specs.declared.stop.Stop.TheVariants as stop
 use Rattle.vault_jobs.specs.declared.task.Outcome.{Outcome}
 use Rattle.vault_jobs.specs.declared.task.Outcome.TheVariants as outcome
 use Rattle.vault_jobs.specs.declared.task.Task.TheVariants as task
-use Rattle.vault_promise.proofs.Piping.{as_run, command_in, commands_then, run_then, wanted_proper}
+use Rattle.vault_promise.proofs.PipedMessages.{as_run, command_in, commands_then, run_then, wanted_proper}
 use Rattle.vault_promise.proofs.Proper.{IsFine, all_first, asked_proper, fine_by, proper-first, proper-last}
 use Rattle.vault_promise.proofs.Proper.{refused}
-use Rattle.vault_promise.proofs.Working.{Works}
+use Rattle.vault_promise.proofs.TaskAnswers.{Works}
 use Rattle.vault_promise.specs.Runs.{perhaps}
 use Rattle.vault_promise.specs.Told.{CameIn, IsQuiet}
 

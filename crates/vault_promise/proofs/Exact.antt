@@ -1,7 +1,7 @@
 -- Rights that are made those of a list are these, and no others are left.
-use Rattle.std.proofs.Common.{◌≡◌, ◌⊎◌, ◌&&◌, ◌||◌, ◌∙◌, ℕ, suc, Bool, true, false, cond, not, List, [], ◌∷◌}
-use Rattle.std.proofs.Common.{◌++◌, length, take, replicate, find, filter, Option, Some, None, inl, inr, refl}
-use Rattle.std.proofs.Common.{arith, sym, ap, subst, Less, Equal, Greater, Ordering}
+use Rattle.std.proofs.Common.{◌≡◌, ◌||◌, ◌∙◌, ℕ, Bool, true, false, cond, not, List, [], ◌∷◌}
+use Rattle.std.proofs.Common.{◌++◌, length, find, Option, Some, None, inl, inr, refl}
+use Rattle.std.proofs.Common.{arith, sym, ap, Less, Equal, Greater, Ordering}
 use Rattle.std.proofs.lemmas.Bool.{and_parts}
 use Rattle.std.specs.Cmp.{tied_itself}
 use Rattle.std.specs.FinMap as fin
@@ -11,13 +11,12 @@ use Rattle.std.specs.List.Sorted.{IsStrictlySortedBy}
 use Rattle.std.specs.Option.{option_map, option_map_or}
 use Rattle.std.specs.Ordering.{eq_by_cmp, is_eq, ordering_reverse}
 use Rattle.sqlite_rules.specs.Lists.{Has}
-use Rattle.vault_core.proofs.Finds.{true-T}
 use Rattle.vault_core.proofs.Maps.{right_exact, right_total, tied}
 use Rattle.vault_core.specs.Keys.{right_cmp}
 use Rattle.vault_core.specs.Merchants.{granting, withdrawal}
 use Rattle.vault_core.specs.Outcome.{Outcome, plain_refusal}
 use Rattle.vault_core.specs.Refusals.{no_merchant}
-use Rattle.vault_core.specs.Runs.{replies, run}
+use Rattle.vault_core.specs.Runs.{run}
 use Rattle.vault_core.specs.Table.{after, reply}
 use Rattle.vault_core.specs.Vault.{Merchant, Vault as Content, merchant_at}
 use Rattle.vault_core.specs.declared.command.Command.{Command}
@@ -29,7 +28,7 @@ use Rattle.vault_rows.proofs.Dead.{has_found}
 use Rattle.vault_jobs.specs.Changes.{Held, Key, changes_at, is_as_listed, is_held, is_listed, is_same_end}
 use Rattle.vault_jobs.specs.Changes.{missing_rows, right_of, rights_of, surplus_rights, withdrawals_at}
 use Rattle.vault_jobs.specs.Grants.{AreDone, grants_at}
-use Rattle.vault_promise.proofs.Piping.{run_append}
+use Rattle.vault_promise.proofs.PipedMessages.{run_append}
 use Rattle.vault_promise.specs.Exact.{RightsBecomeExact, listed_end}
 
 -- ---- keys

@@ -50,21 +50,20 @@ not_open bytes e (h, x, a, says) (inr (k, y, size, w)) =
     let is : Err e ≡ Ok size = sym says ∙ same ∙ w.size_is in
     absurd (cc (is))
 
+-- the body is refused by one fault
+one_fault : (bytes : List ℕ) (d e : WireFault) → SaysNoBody d bytes → SaysNoBody e bytes → Some d ≡ Some e
+one_fault bytes d e (h, x, a, says) (k, y, b, other) =
+    let is : Err d ≡ Err e = sym says ∙ one_size bytes h k x y a b ∙ other in cc (is)
+
 -- where the body is refused it is by one fault, and nothing else stands
 refused_alone : (bytes : List ℕ) (d : WireFault) (e : Option WireFault) → SaysNoBody d bytes → Ends bytes e
     → Some d ≡ e
 refused_alone bytes d None says more = absurd (not_open bytes d says more)
 refused_alone bytes d (Some fault.BadHead) (h, x, a, says) f = absurd (no_head_fault bytes h x a (inl f))
 refused_alone bytes d (Some fault.HeadTooLarge) (h, x, a, says) f = absurd (no_head_fault bytes h x a (inr f))
-refused_alone bytes d (Some fault.BadLength) (h, x, a, says) (k, y, b, other) =
-    let is : Err d ≡ Err fault.BadLength = sym says ∙ one_size bytes h k x y a b ∙ other in
-    cc (is)
-refused_alone bytes d (Some fault.NoCoding) (h, x, a, says) (k, y, b, other) =
-    let is : Err d ≡ Err fault.NoCoding = sym says ∙ one_size bytes h k x y a b ∙ other in
-    cc (is)
-refused_alone bytes d (Some fault.BodyTooLarge) (h, x, a, says) (k, y, b, other) =
-    let is : Err d ≡ Err fault.BodyTooLarge = sym says ∙ one_size bytes h k x y a b ∙ other in
-    cc (is)
+refused_alone bytes d (Some fault.BadLength) says more = one_fault bytes d fault.BadLength says more
+refused_alone bytes d (Some fault.NoCoding) says more = one_fault bytes d fault.NoCoding says more
+refused_alone bytes d (Some fault.BodyTooLarge) says more = one_fault bytes d fault.BodyTooLarge says more
 refused_alone bytes d (Some fault.Memory) says never = absurd never
 
 -- a fault is one of the body, or none or one of the head

@@ -24,10 +24,10 @@ use Rattle.vault_jobs.specs.declared.task.Outcome.{Outcome}
 use Rattle.vault_jobs.specs.declared.task.Outcome.TheVariants as outcome
 use Rattle.vault_jobs.specs.declared.task.Task.TheVariants as task
 use Rattle.vault_promise.proofs.Answering.{Answers, served_answer, stopped_answer}
-use Rattle.vault_promise.proofs.Piping.{as_run, command_in, commands_then, run_append}
-use Rattle.vault_promise.proofs.Piping.{run_then, wanted_proper}
+use Rattle.vault_promise.proofs.PipedMessages.{as_run, command_in, commands_then, run_append}
+use Rattle.vault_promise.proofs.PipedMessages.{run_then, wanted_proper}
 use Rattle.vault_promise.proofs.Proper.{proper-append, proper-first, proper-last}
-use Rattle.vault_promise.proofs.Working.{Works}
+use Rattle.vault_promise.proofs.TaskAnswers.{Works}
 use Rattle.vault_promise.specs.Runs.{perhaps}
 use Rattle.vault_promise.specs.Told.{AllAnswer, AreAnswered, streams_of}
 

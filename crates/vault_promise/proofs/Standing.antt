@@ -20,10 +20,10 @@ use Rattle.vault_jobs.specs.Changes.{changes_at, rights_of}
 use Rattle.vault_jobs.specs.Streams.{Streams}
 use Rattle.vault_jobs.specs.declared.task.Task.{Task}
 use Rattle.vault_jobs.specs.declared.task.Task.TheVariants as task
-use Rattle.vault_promise.proofs.Coming.{answers_last, opening_last}
-use Rattle.vault_promise.proofs.Lasting.{last-append, parts}
-use Rattle.vault_promise.proofs.Piping.{as_run, commands-append, run_append}
-use Rattle.vault_promise.specs.Lasting.{HistoriesLast}
+use Rattle.vault_promise.proofs.RunHistories.{answers_last, opening_last}
+use Rattle.vault_promise.proofs.SoundHistories.{last-append, parts}
+use Rattle.vault_promise.proofs.PipedMessages.{as_run, commands-append, run_append}
+use Rattle.vault_promise.specs.SoundHistories.{HistoriesLast}
 use Rattle.vault_promise.specs.Runs.{Come, Run, RunsComeToHistories, answers, history, opening}
 use Rattle.vault_promise.specs.Standing.{AnsweredIn, Answers, AnswersStand, Stand, TellsStanding}
 use Rattle.vault_promise.specs.Standing.{IsRepliedIn, LinksStand, TextsStand, TokensStand}
@@ -140,6 +140,18 @@ messages_stand now digits W cs s Later stand (xs, are, heard, (fault, sent, went
   stand = replies_stand W cs xs Later stand are;
 }
 
+-- where tokens stand that commands answer, those stand that the later ones of them do
+later_stand : (W : Content) (cs first more : List Command) (Later : Command → Reply → Type 0)
+    → cs ≡ first ++ more → TokensStand (AnswersIn W cs) Later
+    → TokensStand (AnswersIn (run first W) more) Later
+later_stand W cs first more Later is stand = λ a again token expires y (front, behind, same, replied).
+    stand a again token expires y (
+      first ++ front,
+      behind,
+      is ∙ ap (λ ds. first ++ ds) same ∙ sym (append_assoc first front (command_of a ∷ behind)),
+      subst (λ U. reply U (command_of a) ≡ Token token expires) (sym (run_append first front W)) replied,
+    )
+
 -- and so those of connections
 links_stand : (xs : List (Option Link)) (W : Content) (cs : List Command) (Later : Command → Reply → Type 0)
     → TokensStand (AnswersIn W cs) Later → AllAnswer W xs cs → LinksStand W xs Later
@@ -156,14 +168,7 @@ links_stand (Some x ∷ xs) W cs Later stand (first, more, is, here, rest) = (
         replied,
       )) here,
   subst (λ U. LinksStand U xs Later) (ap (λ ds. run ds W) here.1 ∙ sym (as_run W here.0))
-      (links_stand xs (run first W) more Later
-      (λ a again token expires y (front, behind, same, replied).
-      stand a again token expires y (
-        first ++ front,
-        behind,
-        is ∙ ap (λ ds. first ++ ds) same ∙ sym (append_assoc first front (command_of a ∷ behind)),
-        subst (λ U. reply U (command_of a) ≡ Token token expires) (sym (run_append first front W)) replied,
-      )) rest),
+      (links_stand xs (run first W) more Later (later_stand W cs first more Later is stand) rest),
 )
 
 -- what went out of a task stands
@@ -184,14 +189,7 @@ texts_stand (task.Serve port connections (Some it)) W cs s Later stand (inl (k, 
     (sym none) tt
 texts_stand (task.Serve port connections (Some it)) W cs s Later stand (inr (more, is, done, told)) =
     let changes : List Command = changes_at true it.now it.rights.items (rights_of W) in
-    links_stand s.links (run changes W) more Later
-    (λ a again token expires y (front, behind, same, replied).
-    stand a again token expires y (
-      changes ++ front,
-      behind,
-      is ∙ ap (λ ds. changes ++ ds) same ∙ sym (append_assoc changes front (command_of a ∷ behind)),
-      subst (λ U. reply U (command_of a) ≡ Token token expires) (sym (run_append changes front W)) replied,
-    )) told
+    links_stand s.links (run changes W) more Later (later_stand W cs changes more Later is stand) told
 texts_stand t W cs s Later stand told = tt
 
 stand_in : HistoriesLast → (V : Content) (c : Option Command) (rs : List Run) (end : Image)

@@ -1,35 +1,26 @@
 -- What a sweep answered, and what it left undecided.
-use Rattle.std.proofs.Common.{◌≡◌, ◌⊎◌, ℕ, ◌≤◌, Bool, true, false, cond, List, [], ◌∷◌, ◌++◌, length, map}
-use Rattle.std.proofs.Common.{find, Some, None, Result, Ok, Err, inl, inr, refl, sym, ap, subst, ◌∙◌, arith}
+use Rattle.std.proofs.Common.{◌≡◌, ◌⊎◌, ℕ, ◌≤◌, Bool, List, [], ◌∷◌, ◌++◌, length}
+use Rattle.std.proofs.Common.{Some, None, Result, Ok, Err, inl, inr, refl, ap, subst, ◌∙◌, arith}
 use Rattle.std.proofs.Common.{append-nil}
 use Rattle.std.proofs.lemmas.List.{map-append}
-use Rattle.std.specs.FinMap as finmap
-use Rattle.std.specs.List.{filter}
-use Rattle.std.specs.Ordering.{eq_by_cmp, is_eq}
-use Rattle.std.specs.Cmp.{tied_itself}
-use Rattle.vault_core.proofs.CurrentLemmas.{get-entries_of}
-use Rattle.vault_core.proofs.Finds.{find-lookup, true-T}
-use Rattle.vault_core.proofs.Maps.{bytes_exact, bytes_total, entry_total, tied}
 use Rattle.vault_core.proofs.StaysSound.{sound-after, stays_sound}
-use Rattle.vault_core.specs.Dead.{dead_tokens, is_dead}
-use Rattle.vault_core.specs.Keys.{Bytes, bytes_cmp}
+use Rattle.vault_core.specs.Dead.{dead_tokens}
+use Rattle.vault_core.specs.Keys.{Bytes}
 use Rattle.vault_core.specs.Name.{IsName}
 use Rattle.vault_core.specs.Proper.{AllProper, IsProper}
 use Rattle.vault_core.specs.Runs.{run}
 use Rattle.vault_core.specs.Scalar.{IsMoment}
 use Rattle.vault_core.specs.Sound.{Sound}
 use Rattle.vault_core.specs.Table.{after, reply}
-use Rattle.vault_core.specs.Vault.{Vault as Content, entries_of, entry_at}
-use Rattle.vault_core.specs.Window.{moment_at}
+use Rattle.vault_core.specs.Vault.{Vault as Content}
 use Rattle.vault_core.specs.declared.command.Command.{Command}
 use Rattle.vault_core.specs.declared.reply.Reply.{Reply}
 use Rattle.vault_core.specs.declared.reply.Reply.TheVariants as answer
-use Rattle.vault_core.specs.declared.row.Entry.{Entry}
 use Rattle.vault_batch.specs.declared.asker.Asker.{Asker}
 use Rattle.vault_engine.specs.Passing.{IsBefore, Passage}
 use Rattle.vault_store.specs.declared.vault.Fault.TheVariants.{Memory, Store, Reopen}
-use Rattle.vault_jobs.proofs.Giving.{run_more}
-use Rattle.vault_jobs.proofs.Purging.{purged_first}
+use Rattle.vault_jobs.proofs.GivenRights.{run_more}
+use Rattle.vault_jobs.proofs.Purging.{first_dead, purged_first}
 use Rattle.vault_jobs.specs.Ahead.{MaySweep}
 use Rattle.vault_jobs.specs.Doing.{SweepEnds, TimedSweepEnds}
 use Rattle.vault_jobs.specs.Grants.{AreDone}
@@ -42,61 +33,9 @@ use Rattle.vault_jobs.specs.declared.stop.Stop.TheVariants as stop
 use Rattle.vault_jobs.specs.declared.task.Outcome.{Outcome as Ended}
 use Rattle.vault_jobs.specs.declared.task.Outcome.TheVariants as outcome
 use Rattle.vault_jobs.specs.declared.task.Task.TheVariants as task
-use Rattle.vault_promise.proofs.Settling.{unread_works}
-use Rattle.vault_promise.proofs.Working.{Works}
+use Rattle.vault_promise.proofs.SettledRights.{unread_works}
+use Rattle.vault_promise.proofs.TaskAnswers.{Works}
 use Rattle.vault_promise.specs.Told.{IsQuiet, Tells}
-
--- what stands first among those that pass is what a search finds
-first_found : {X : Type 0} (p : X → Bool) (xs : List X) (x : X) (rest : List X) → filter p xs ≡ x ∷ rest
-    → find p xs ≡ Some x
-first_found p [] x rest e = cc
-first_found p (y ∷ ys) x rest e =
-    elim (p y) as (λ b. cond b (y ∷ filter p ys) (filter p ys) ≡ x ∷ rest
-    → cond b (Some y) (find p ys) ≡ Some x) [
-      | true ↦ λ here. cc
-      | false ↦ λ there. first_found p ys x rest there
-    ] e
-
--- what stands among a merchant's entries stands in the vault, under its name
-own_entry : (V : Content) (m : Bytes) (key : Bytes × Bytes) (entry : Entry)
-    → finmap.get (entries_of V m) key ≡ Some entry → (m ≡ key.0) × (finmap.get V.entries key ≡ Some entry)
-own_entry V m key entry found =
-    elim (tied bytes_exact m key.0) [
-      | inl own ↦ (own, sym (get-entries_of V m key ∙ passes own) ∙ found)
-      | inr apart ↦ let clash =
-          sym (get-entries_of V m key ∙ ap (λ b. cond b (finmap.get V.entries key) None) apart) ∙ found in cc
-    ]
-  where
-    passes : m ≡ key.0 → cond (eq_by_cmp bytes_cmp m key.0) (finmap.get V.entries key) None
-        ≡ finmap.get V.entries key
-    passes own = ap (λ r. cond (is_eq r) (finmap.get V.entries key) None)
-        (ap (λ x. bytes_cmp x key.0) own ∙ tied_itself bytes_total key.0)
-
--- the first dead token has an entry
-first_dead : (V : Content) (m : Bytes) (now : ℕ) (token : Bytes) (rest : List Bytes)
-    → dead_tokens V m now ≡ token ∷ rest → (entry : Entry) × (entry_at V m token ≡ Some entry)
-unfolding dead_tokens
-first_dead V m now token rest dead =
-    by_rows (filter p es) refl dead
-  where
-    p : (Bytes × Bytes) × Entry → Bool
-    p e = is_dead e.1 (moment_at V m now)
-
-    es : List ((Bytes × Bytes) × Entry)
-    es = finmap.entries (entries_of V m)
-
-    by_rows : (rows : List ((Bytes × Bytes) × Entry)) → filter p es ≡ rows
-        → map (λ e. e.0.1) rows ≡ token ∷ rest → (entry : Entry) × (entry_at V m token ≡ Some entry)
-    by_rows [] is e = cc
-    by_rows (x ∷ xs) is e =
-        let found = first_found p es x xs is in
-        let stands : finmap.get (entries_of V m) x.0 ≡ Some x.1 =
-        finmap.get-entries (entries_of V m) x.0
-        ∙ find-lookup entry_total p es x (true-T _ (finmap.entries_sorted (entries_of V m))) found in
-        let own = own_entry V m x.0 x.1 stands in
-        let text : x.0.1 ≡ token = cc in
-        let key : x.0 ≡ (m, token) = λ i. (sym own.0 i, text i) in
-        (x.1, ap (λ (k : Bytes × Bytes). finmap.get V.entries k) (sym key) ∙ own.1)
 
 -- the parts of equal lists
 heads : (x y : Reply) (xs ys : List Reply) → x ∷ xs ≡ y ∷ ys → (x ≡ y) × (xs ≡ ys)
@@ -108,7 +47,7 @@ module _ (who : Asker) (now : ℕ) (named : IsName who.caller) (at : IsName who.
   first_proper : (V : Content) (token : Bytes) (rest : List Bytes) → Sound V
       → dead_tokens V who.merchant now ≡ token ∷ rest → IsProper (purge_at who now token)
   first_proper V token rest sound dead =
-      let it = first_dead V who.merchant now token rest dead in
+      let it = first_dead V who.caller who.merchant token now rest dead in
       (named, at, (sound.entries who.merchant token it.0 it.1).2.token_fails, moment)
 
   -- and so are those of all that are done one after the other

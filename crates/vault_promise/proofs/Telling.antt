@@ -30,7 +30,7 @@ use Rattle.vault_routes.specs.Status.{status_for, status_of}
 use Rattle.vault_routes.specs.Wanted.{Wanted}
 use Rattle.vault_http.specs.Exchanges.{answer_for, fault_text, methods_with}
 use Rattle.vault_engine.specs.Asking.{Pair, reply_to, text_at}
-use Rattle.vault_promise.specs.Giving.{FaultsTellNoNumber, TextsTellNumbers, number_text}
+use Rattle.vault_promise.specs.DueNumbers.{FaultsTellNoNumber, TextsTellNumbers, number_text}
 
 unlike : (a b : ℕ) → (a == b) ≡ false → a ≡ b → ⊥
 unlike a b apart e = true≢false (sym (eq-eqb a b e) ∙ apart)

@@ -6,7 +6,7 @@ use Rattle.sqlite_disk.specs.declared.Disk.{Ghosts}
 use Rattle.sqlite_store.specs.FileStore as files
 use Rattle.sqlite_store.specs.declared.store.FileStore.{FileStore}
 use Rattle.sqlite_wal.specs.Recovery.{Image}
-use Rattle.vault_promise.proofs.Keeping.{goes_on}
+use Rattle.vault_promise.proofs.JoinedRuns.{goes_on}
 use Rattle.vault_promise.specs.Kept.{GoesOn}
 use Rattle.vault_promise.specs.Runs.{IsRun, Leaves, Run}
 

@@ -37,7 +37,7 @@ use Rattle.vault_app.specs.World.{anything, world_of}
 use Rattle.vault_app.specs.declared.ending.Ending.{Ending}
 use Rattle.vault_app.specs.declared.ending.Ending.TheVariants.{Done, NotOpened}
 use Rattle.vault_file.specs.declared.fault.NotOpened.{NotOpened as FileFault}
-use Rattle.vault_promise.specs.Lasting.{Lasts}
+use Rattle.vault_promise.specs.SoundHistories.{Lasts}
 use Rattle.vault_promise.specs.Told.{AllDone, IsQuiet, Tells}
 
 -- a run: the bytes that the files had before it, its words, how it ended, and what came in and went out, with

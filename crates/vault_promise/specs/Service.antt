@@ -14,13 +14,17 @@ use Rattle.vault_engine.specs.declared.stop.Stop.{Stop as ServeFault}
 use Rattle.vault_http.specs.declared.served.Served.{Served}
 use Rattle.vault_promise.specs.Agreement.{IsAmbiguous, IsOfHead, IsRest}
 
--- a service served these bytes, all that a reader had, to the end, with these pairs, from this vault
-pub record Serves (bytes : List ℕ) (pairs : List Pair) (V : Content) (w : Passage) (served : Served)
+-- a service with these pairs, from this vault, did this with what it left of the bytes
+pub record ServesSo (pairs : List Pair) (V : Content) (w : Passage) (Does : Option (List ℕ) → Type 0)
     : Type 0 where
   pub left : Option (List ℕ)
-  pub does : IsServed (Some bytes) left w served
+  pub does : Does left
   pub taken : Takes w pairs
   pub before : IsBefore w V
+
+-- a service served these bytes, all that a reader had, to the end, with these pairs, from this vault
+abbrev pub Serves : List ℕ → List Pair → Content → Passage → Served → Type 0
+Serves bytes pairs V w served = ServesSo pairs V w (λ left. IsServed (Some bytes) left w served)
 
 -- some beginning of the bytes is ambiguous after all its whole messages
 pub record HasAmbiguousRest (bytes : List ℕ) : Type 0 where
@@ -69,12 +73,8 @@ MessagesAreClear =
     → bytes ++ more ≡ flat_map print_message (m ∷ ms) → ¬ HasAmbiguousRest bytes
 
 -- a service of these bytes, with these pairs, from this vault, stopped by a fault
-pub record StopsServing (bytes : List ℕ) (pairs : List Pair) (V : Content) (w : Passage) (e : ServeFault)
-    : Type 0 where
-  pub left : Option (List ℕ)
-  pub does : IsStopped (Some bytes) left w e
-  pub taken : Takes w pairs
-  pub before : IsBefore w V
+abbrev pub StopsServing : List ℕ → List Pair → Content → Passage → ServeFault → Type 0
+StopsServing bytes pairs V w e = ServesSo pairs V w (λ left. IsStopped (Some bytes) left w e)
 
 -- what the second one sent is a beginning of what the first one sent
 pub record SentBeginning (w w' : Passage) : Type 0 where

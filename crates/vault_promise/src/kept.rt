@@ -14,7 +14,7 @@ ghost use Rattle.vault_promise.specs.Memory.{MayBeLeftIn};
 use sqlite::{Connection, FileStore, Files};
 use sqlite_disk::{Crash, Disk, Memory};
 use std::alloc::Global;
-use vault_file::reopen::close_moved;
+use vault_file::reopen::close;
 use vault_recover::reopen::open_files;
 use vault_verdict::names::{Holder, holder_in};
 
@@ -33,7 +33,7 @@ fn blank_files<D: Disk + Drop>(conn: Connection<FileStore<D>>) -> Option<FileSto
     ensures { IfSome result (λ left. IsClean (view left) → IsBlankLeft left) }
 {
     match holder_in(conn.schema()) {
-        Holder::Nobody => Some(close_moved(conn)),
+        Holder::Nobody => Some(close(conn)),
         _ => None,
     }
 }

@@ -2,8 +2,8 @@
 ghost use Rattle.vault_promise.specs.Agreement.{ExchangesAgree, FaultsAgree, WantsAgree, WholeHeadsAgree};
 ghost use Rattle.vault_promise.specs.Agreement.{AmbiguousFitsTwo, FaultsDifferOnlyWhereAmbiguous};
 ghost use Rattle.vault_promise.specs.Apart.{TextsAreIsolated};
-ghost use Rattle.vault_promise.specs.Giving.{EachIsDue, FaultsTellNoNumber, OnlyDueGoesOut};
-ghost use Rattle.vault_promise.specs.Giving.{OnlyDueIsGiven, TextsTellNumbers};
+ghost use Rattle.vault_promise.specs.DueNumbers.{EachIsDue, FaultsTellNoNumber, OnlyDueGoesOut};
+ghost use Rattle.vault_promise.specs.DueNumbers.{OnlyDueIsGiven, TextsTellNumbers};
 ghost use Rattle.vault_promise.specs.Service.{EachPassage, MessagesAreClear, ServicesAgree};
 ghost use Rattle.vault_promise.specs.Service.{StoppedServicesAgree};
 

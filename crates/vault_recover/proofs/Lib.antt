@@ -4,4 +4,3 @@ pub mod OneEntry
 pub mod OneToken
 pub mod Reopened
 pub mod Steps
-pub mod TokenRequests

@@ -30,7 +30,7 @@ use Rattle.vault_core.proofs.Walks.{by_token}
 use Rattle.vault_recover.specs.Histories.{Step, Answered, Undecided, Reopened, Migrated, IsStep, IsHistory}
 use Rattle.vault_recover.specs.Histories.{last, how_many, is_redeem, answers_number, leaves_number}
 use Rattle.vault_recover.specs.Histories.{GivenIsWithin}
-use Rattle.vault_recover.proofs.TokenRequests.{by_request}
+use Rattle.vault_core.proofs.TokenRequests.{by_request}
 
 -- no number is given
 abbrev IsNone : Outcome → Type 0
@@ -46,7 +46,7 @@ only-redeem V (Withdraw caller m right now) is =
     (λ _ _. refl) (λ _. refl)
 only-redeem V (Tokenize caller m request usage pan digits now) is =
     by_request IsNone V (token_request caller m request usage pan digits now)
-    (λ _. refl) (λ _ _ _. refl) (λ _ _ _. refl) (λ _ _ _ _. refl)
+    (λ _. refl) (λ _ _ _ _ _. refl) (λ _ _ _ _ _. refl) (λ _ _ _ _ _ _ _ _. refl)
 only-redeem V (Detokenize caller m token now) is = absurd (cc)
 only-redeem V (View caller m token now) is =
     by_token IsNone V (token_command caller m token right.View now) (λ known. plain_refusal V) (showing V)

@@ -24,7 +24,7 @@ use Rattle.vault_recover.specs.Histories.{Step, IsStep, IsHistory}
 use Rattle.vault_recover.specs.Histories.{makes_entry, entries_made}
 use Rattle.vault_recover.specs.Histories.{is_request_of}
 use Rattle.vault_recover.specs.Histories.{EntriesComeOnce}
-use Rattle.vault_recover.proofs.TokenRequests.{by_request}
+use Rattle.vault_core.proofs.TokenRequests.{by_request}
 use Rattle.vault_recover.proofs.Steps.{step-sound, step-keeps, done-or-not}
 
 -- a command that is a request of a caller
@@ -50,9 +50,9 @@ asked caller request c is = absurd (cc)
 recorded-stays : (V : Vault) (a : TokenRequest) (r : Record) → record_at V a.caller a.request ≡ Some r
     → after V (command_of a) ≡ V
 recorded-stays V a r has =
-    by_request (λ o. o.after ≡ V) V a (λ _. refl) (λ _ _ _. refl)
-    (λ known held none. let clash = sym none ∙ has in absurd (cc))
-    (λ known token none _. let clash = sym none ∙ has in absurd (cc))
+    by_request (λ o. o.after ≡ V) V a (λ _. refl) (λ _ _ _ _ _. refl)
+    (λ known held none _ _. let clash = sym none ∙ has in absurd (cc))
+    (λ known token none _ _ _ _ _. let clash = sym none ∙ has in absurd (cc))
 
 -- a request leaves as many entries as there were, or is recorded
 made-recorded : (V : Vault) (a : TokenRequest)
@@ -61,9 +61,9 @@ made-recorded : (V : Vault) (a : TokenRequest)
 made-recorded V a =
     by_request (λ (o : Outcome). (map.len o.after.entries ≡ map.len V.entries)
     ⊎ ((r : Record) × (record_at o.after a.caller a.request ≡ Some r))) V a
-    (λ _. inl refl) (λ _ _ _. inl refl)
-    (λ known held _. inl refl)
-    (λ known token _ _.
+    (λ _. inl refl) (λ _ _ _ _ _. inl refl)
+    (λ known held _ _ _. inl refl)
+    (λ known token _ _ _ _ _ _.
     inr (
       _,
       get-insert_same record_total record_exact V.records (a.caller, a.request)

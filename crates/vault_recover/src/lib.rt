@@ -2,7 +2,6 @@
 #![tactic(auto)]
 
 mod cached;
-pub mod last;
 pub mod laws;
 pub mod open;
 pub mod options;

@@ -3,19 +3,16 @@
 //! All of it stands on this premise: the disk keeps what the database promises of a crash, it returns what
 //! was written, and nobody else wrote. No clause can say what the files at a path hold: the bytes of the
 //! caller's `Start` stand for them.
-ghost use Rattle.std.specs.Prelude.{◌≡◌, ◌≤◌, false, None, IfSome};
+ghost use Rattle.std.specs.Prelude.{◌≡◌, false, None, IfSome};
 ghost use Rattle.sqlite.specs.Files.{file_state, image_of};
 ghost use Rattle.sqlite.specs.Held.{IsNew};
 ghost use Rattle.sqlite.specs.State.{HasCleanDisk};
-ghost use Rattle.sqlite.specs.View.{IsClean, doubt};
-ghost use Rattle.sqlite_store.specs.FileStore.{view};
 ghost use Rattle.sqlite_trees.specs.Tree.{Trees};
 ghost use Rattle.sqlite_wal.specs.Files.{image_at};
 ghost use Rattle.vault_core.specs.Vault.{Vault};
 ghost use Rattle.vault_recover.specs.Crashed.{AreBlank, HoldsEither, HoldsFirst, IsOpenOf};
 ghost use Rattle.vault_recover.specs.Crashed.{Keeps, KeepsEither, KeepsFirst};
-ghost use Rattle.vault_recover.specs.Crashed.{Reopens, ReopensEither, ReopensFirst};
-ghost use Rattle.vault_schema.specs.Holds.{AreOurs, Holds, LeavesEither, LeavesFirst};
+ghost use Rattle.vault_schema.specs.Holds.{AreOurs, Holds};
 
 use crate::cached::keep_both_in_pages;
 use crate::options::{Cache, options_for};
@@ -23,41 +20,6 @@ use sqlite::{Connection, FileFrom, FileStore, Files, Options, Start};
 use sqlite_disk::Disk;
 use std::alloc::Global;
 use std::rt::HostRuntime;
-
-/// Ends a connection. A crash at the moment of the call, or after it, leaves files in which whoever opens
-/// them finds the vault that was held.
-///
-/// After a write that failed it is the vault before or the vault after. After an open that failed while it
-/// made the tables it is what was there, without a table, or the empty vault. What the tables say of the
-/// states that a crash may leave is here said of the bytes of the files.
-pub fn close<D: Disk + Drop>(conn: Connection<FileStore<D>>) -> FileStore<D>
-    // a disk that is honest after the call was so before it
-    ensures clean { doubt (file_state conn).is_clean ≤ doubt (view result).is_clean }
-    // on an honest disk, the files that a crash leaves before the call keep the vault that was held
-    ensures reopens { IsClean (view result) → (V : Vault) → Holds (file_state conn) V → Reopens conn.store V }
-    // on an honest disk, the files that a crash leaves after the call keep the vault that was held
-    ensures after { IsClean (view result) → (V : Vault) → Holds (file_state conn) V → Reopens result V }
-    // on an honest disk, where a crash leaves one of two vaults, the files that it leaves before the call
-    // keep one of them
-    ensures either { IsClean (view result)
-        → (V W : Vault) → LeavesEither (file_state conn) V W → ReopensEither conn.store V W }
-    // on an honest disk, where a crash leaves one of two vaults, the files that it leaves after the call keep
-    // one of them
-    ensures either_after { IsClean (view result)
-        → (V W : Vault) → LeavesEither (file_state conn) V W → ReopensEither result V W }
-    // on an honest disk, where a crash leaves no table or the empty vault, the files before the call keep one
-    // of these
-    ensures first { IsClean (view result)
-        → (before : Trees) → AreBlank before → LeavesFirst (file_state conn) before
-        → ReopensFirst conn.store before }
-    // on an honest disk, where a crash leaves no table or the empty vault, the files after the call keep one
-    // of these
-    ensures first_after { IsClean (view result)
-        → (before : Trees) → AreBlank before → LeavesFirst (file_state conn) before
-        → ReopensFirst result before }
-{
-    conn.into_store()
-}
 
 /// Opens these files, if no write to them is in doubt. The salts of the log begin from one fixed number.
 pub fn open_files<D: Disk + Drop>(

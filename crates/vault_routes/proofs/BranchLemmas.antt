@@ -88,24 +88,30 @@ by_byte rs s t x y no_param no_rest at_x at_y other b path = by (x == b) refl (y
     goes : first rs (b ∷ path) ≡ first (step b rs) path
     goes = first-byte rs b path no_param no_rest
 
+    on : (z : ℕ) (u : Rows) → (z == b) ≡ true → step z rs ≡ u
+        → (left : List ℕ) × (b ∷ path ≡ z ∷ left) × (first rs (b ∷ path) ≡ first u left)
+    on z u e at =
+        let same : z ≡ b = eqb-true _ _ e in (
+          path,
+          ap (λ n. n ∷ path) (sym same),
+          goes ∙ ap (λ r. first r path) (ap (λ n. step n rs) (sym same) ∙ at),
+        )
+
     by : (u : Bool) → (x == b) ≡ u → (v : Bool) → (y == b) ≡ v → ByByte rs x s y t (b ∷ path)
-    by true e v f =
-        let same : x ≡ b = eqb-true _ _ e in
-        inr (inl (
-          path,
-          ap (λ n. n ∷ path) (sym same),
-          goes ∙ ap (λ r. first r path)
-              (ap (λ n. step n rs) (sym same) ∙ at_x),
-        ))
-    by false e true f =
-        let same : y ≡ b = eqb-true _ _ f in
-        inr (inr (
-          path,
-          ap (λ n. n ∷ path) (sym same),
-          goes ∙ ap (λ r. first r path)
-              (ap (λ n. step n rs) (sym same) ∙ at_y),
-        ))
+    by true e v f = inr (inl (on x s e at_x))
+    by false e true f = inr (inr (on y t f at_y))
     by false e false f = inl (goes ∙ (ap (λ r. first r path) (other b e f) ∙ seek-empty 0 path))
+
+-- a row that ends behind a byte and a text finds these alone
+behind_byte : (rs : Rows) (x : ℕ) (w : List ℕ) (k : ℕ) (text left : List ℕ)
+    → list_all (λ b. ltb b 256) w ≡ true → text ≡ x ∷ left
+    → first rs text ≡ first (prepend w (([], k) ∷ [])) left
+    → (first rs text ≡ None) ⊎ (text ≡ x ∷ w ++ [])
+behind_byte rs x w k text left small same found =
+    elim (behind_end w k left (IsText-from_test w small)) [
+      | inl none ↦ inl (found ∙ none)
+      | inr is ↦ inr (same ∙ ap (λ t. x ∷ t) is)
+    ]
 
 -- ---- the rows of the service
 
@@ -133,24 +139,20 @@ ends_token (b ∷ path) =
     Ends : Type 0
     Ends = (first token_rows (b ∷ path) ≡ None) ⊎ ((b ∷ path ≡ codes "number") ⊎ (b ∷ path ≡ codes "revoke"))
 
-    number : (left : List ℕ) → b ∷ path ≡ 110 ∷ left
-        → first token_rows (b ∷ path) ≡ first ((codes "umber", 1) ∷ []) left
-        → (first (prepend (codes "umber") (([], 1) ∷ [])) left ≡ None) ⊎ (left ≡ codes "umber") → Ends
-    number left same found (inl none) = inl (found ∙ none)
-    number left same found (inr is) = inr (inl (same ∙ ap (λ t. 110 ∷ t) is))
+    number : (first token_rows (b ∷ path) ≡ None) ⊎ (b ∷ path ≡ codes "number") → Ends
+    number (inl none) = inl none
+    number (inr is) = inr (inl is)
 
-    revoke : (left : List ℕ) → b ∷ path ≡ 114 ∷ left
-        → first token_rows (b ∷ path) ≡ first ((codes "evoke", 2) ∷ []) left
-        → (first (prepend (codes "evoke") (([], 2) ∷ [])) left ≡ None) ⊎ (left ≡ codes "evoke") → Ends
-    revoke left same found (inl none) = inl (found ∙ none)
-    revoke left same found (inr is) = inr (inr (same ∙ ap (λ t. 114 ∷ t) is))
+    revoke : (first token_rows (b ∷ path) ≡ None) ⊎ (b ∷ path ≡ codes "revoke") → Ends
+    revoke (inl none) = inl none
+    revoke (inr is) = inr (inr is)
 
     by : ByByte token_rows 110 ((codes "umber", 1) ∷ []) 114 ((codes "evoke", 2) ∷ []) (b ∷ path) → Ends
     by (inl none) = inl none
     by (inr (inl (left, same, found))) =
-        number left same found (behind_end (codes "umber") 1 left (IsText-from_test (codes "umber") refl))
+        number (behind_byte token_rows 110 (codes "umber") 1 _ left refl same found)
     by (inr (inr (left, same, found))) =
-        revoke left same found (behind_end (codes "evoke") 2 left (IsText-from_test (codes "evoke") refl))
+        revoke (behind_byte token_rows 114 (codes "evoke") 2 _ left refl same found)
 
 -- an end of the tokens' rows, or what stands behind a slash
 pub ends_tokens : (text : List ℕ)
@@ -189,11 +191,9 @@ ends_merchant (b ∷ path) =
         ⊎ ((b ∷ path ≡ codes "audit") ⊎ ((left : List ℕ) × (b ∷ path ≡ codes "tokens" ++ left)
         × (first merchant_rows (b ∷ path) ≡ first tokens_rows left)))
 
-    audit : (left : List ℕ) → b ∷ path ≡ 97 ∷ left
-        → first merchant_rows (b ∷ path) ≡ first ((codes "udit", 0) ∷ []) left
-        → (first (prepend (codes "udit") (([], 0) ∷ [])) left ≡ None) ⊎ (left ≡ codes "udit") → Ends
-    audit left same found (inl none) = inl (found ∙ none)
-    audit left same found (inr is) = inr (inl (same ∙ ap (λ t. 97 ∷ t) is))
+    audit : (first merchant_rows (b ∷ path) ≡ None) ⊎ (b ∷ path ≡ codes "audit") → Ends
+    audit (inl none) = inl none
+    audit (inr is) = inr (inl is)
 
     tokens : (left : List ℕ) → b ∷ path ≡ 116 ∷ left
         → first merchant_rows (b ∷ path) ≡ first (prepend (codes "okens") tokens_rows) left
@@ -209,7 +209,7 @@ ends_merchant (b ∷ path) =
         → Ends
     by (inl none) = inl none
     by (inr (inl (left, same, found))) =
-        audit left same found (behind_end (codes "udit") 0 left (IsText-from_test (codes "udit") refl))
+        audit (behind_byte merchant_rows 97 (codes "udit") 0 _ left refl same found)
     by (inr (inr (left, same, found))) =
         tokens left same found (behind_text (codes "okens") tokens_rows left
         (IsText-from_test (codes "okens") refl))

@@ -1,6 +1,6 @@
 -- What the service's router finds for a target, by the target's own parts.
-use Rattle.std.proofs.Common.{◌≡◌, ℕ, ◌∙◌, List, [], ◌∷◌, ◌++◌, codes, Some, None, cond, refl, ap, arith, ◌⊎◌}
-use Rattle.std.proofs.Common.{inl, inr, subst, lit<, ◌==◌, append-nil}
+use Rattle.std.proofs.Common.{◌≡◌, ℕ, ◌∙◌, List, [], ◌∷◌, ◌++◌, codes, Some, None, cond, refl, sym, ap, arith}
+use Rattle.std.proofs.Common.{◌⊎◌, inl, inr, subst, lit<, ◌==◌, append-nil}
 use Rattle.matchit.proofs.OnLiterals.{matchit_on_literals}
 use Rattle.matchit.proofs.RenameLemmas.{first-rename}
 use Rattle.matchit.proofs.SeekLemmas.{first-prefix}
@@ -133,25 +133,19 @@ first-token_end : (t : List ℕ) → IsPlain t → IsText t → first (with_para
 first-token_end [] plain small = absurd (omega (arith, plain.some))
 first-token_end (b ∷ t) plain small = first-no_slash token_rows (Some 3) (lit< tt) b t small.0 plain.one_part
 
-found-audit : first merchant_rows (codes "audit") ≡ Some 0
+-- what a merchant's rows find at the texts of two places, and then those of a token
+found-merchant : (first merchant_rows (codes "audit") ≡ Some 0)
+    × (first merchant_rows (codes "tokens") ≡ Some 4)
 unfolding matchit_on_literals
-found-audit = refl
+found-merchant = (refl, refl)
 
-found-tokens : first merchant_rows (codes "tokens") ≡ Some 4
+found-token : (first token_rows (codes "number") ≡ Some 1) × (first token_rows (codes "revoke") ≡ Some 2)
 unfolding matchit_on_literals
-found-tokens = refl
+found-token = (refl, refl)
 
 found-end : first tokens_rows [] ≡ Some 4
 unfolding seek
 found-end = refl
-
-found-number : first token_rows (codes "number") ≡ Some 1
-unfolding matchit_on_literals
-found-number = refl
-
-found-revoke : first token_rows (codes "revoke") ≡ Some 2
-unfolding matchit_on_literals
-found-revoke = refl
 
 -- the texts of a target's parameters
 pub record AreTexts (p : Place) (m t : List ℕ) : Type 0 where
@@ -161,18 +155,18 @@ pub record AreTexts (p : Place) (m t : List ℕ) : Type 0 where
 first-merchant_on : (p : Place) (m t : List ℕ) → AreTexts p m t → IsText m → IsText t
     → first all_rows (merchant_on p m t) ≡ Some (key_of p)
 first-merchant_on place.Tokens m t are small low =
-    first-merchant m (codes "tokens") are.merchant small ∙ found-tokens
+    first-merchant m (codes "tokens") are.merchant small ∙ found-merchant.1
 first-merchant_on place.Audit m t are small low =
-    first-merchant m (codes "audit") are.merchant small ∙ found-audit
+    first-merchant m (codes "audit") are.merchant small ∙ found-merchant.0
 first-merchant_on place.Token m t are small low =
     first-merchant m (codes "tokens/" ++ t) are.merchant small
     ∙ (first-tokens t ∙ first-token_end t are.token low)
 first-merchant_on place.Number m t are small low =
     first-merchant m (codes "tokens/" ++ (t ++ codes "/number")) are.merchant small
-    ∙ (first-tokens (t ++ codes "/number") ∙ (first-token t (codes "number") are.token low ∙ found-number))
+    ∙ (first-tokens (t ++ codes "/number") ∙ (first-token t (codes "number") are.token low ∙ found-token.0))
 first-merchant_on place.Revoke m t are small low =
     first-merchant m (codes "tokens/" ++ (t ++ codes "/revoke")) are.merchant small
-    ∙ (first-tokens (t ++ codes "/revoke") ∙ (first-token t (codes "revoke") are.token low ∙ found-revoke))
+    ∙ (first-tokens (t ++ codes "/revoke") ∙ (first-token t (codes "revoke") are.token low ∙ found-token.1))
 
 -- a target with such texts has the place's row
 pub first-target : (p : Place) (m t : List ℕ) → AreTexts p m t → IsText m → IsText t
@@ -196,28 +190,29 @@ Finds text =
 finds : (text : List ℕ) → IsText text → Finds text
 finds text small = whole (parts merchant_rows None text (lit< tt) small)
   where
+    at : (p : Place) (m t rest last : List ℕ) → text ≡ m ++ (codes "/tokens/" ++ (t ++ 47 ∷ rest))
+        → rest ≡ last → merchant_on p m t ≡ m ++ (codes "/tokens/" ++ (t ++ 47 ∷ last)) → AreTexts p m t
+        → first all_rows text ≡ first token_rows rest → first token_rows last ≡ Some (key_of p) → Finds text
+    at p m t rest last is same ends texts goes found =
+        inr (
+          p,
+          m,
+          t,
+          is ∙ ap (λ r. m ++ (codes "/tokens/" ++ (t ++ 47 ∷ r))) same ∙ sym ends,
+          texts,
+          goes ∙ (ap (first token_rows) same ∙ found),
+        )
+
     token : (m t rest : List ℕ) → text ≡ m ++ (codes "/tokens/" ++ (t ++ 47 ∷ rest)) → IsPlain m → IsPlain t
         → first all_rows text ≡ first token_rows rest
         → (first token_rows rest ≡ None) ⊎ ((rest ≡ codes "number") ⊎ (rest ≡ codes "revoke")) → Finds text
     token m t rest is plain one goes (inl none) = inl (goes ∙ none)
     token m t rest is plain one goes (inr (inl same)) =
-        inr (
-          place.Number,
-          m,
-          t,
-          is ∙ ap (λ r. m ++ (codes "/tokens/" ++ (t ++ 47 ∷ r))) same,
-          record { merchant = plain; token = one },
-          goes ∙ (ap (first token_rows) same ∙ found-number),
-        )
+        at place.Number m t rest (codes "number") is same refl (record { merchant = plain; token = one }) goes
+        found-token.0
     token m t rest is plain one goes (inr (inr same)) =
-        inr (
-          place.Revoke,
-          m,
-          t,
-          is ∙ ap (λ r. m ++ (codes "/tokens/" ++ (t ++ 47 ∷ r))) same,
-          record { merchant = plain; token = one },
-          goes ∙ (ap (first token_rows) same ∙ found-revoke),
-        )
+        at place.Revoke m t rest (codes "revoke") is same refl (record { merchant = plain; token = one }) goes
+        found-token.1
 
     behind : (m path : List ℕ) → text ≡ m ++ (codes "/tokens/" ++ path) → IsPlain m
         → first all_rows text ≡ first (with_parameter token_rows (Some 3)) path
@@ -266,7 +261,7 @@ finds text small = whole (parts merchant_rows None text (lit< tt) small)
           [],
           is ∙ ap (λ r. m ++ 47 ∷ r) same,
           record { merchant = plain; token = refl },
-          goes ∙ (ap (first merchant_rows) same ∙ found-audit),
+          goes ∙ (ap (first merchant_rows) same ∙ found-merchant.0),
         )
     merchant m rest is plain goes (inr (inr (left, same, found))) =
         tokens m left (is ∙ ap (λ r. m ++ 47 ∷ r) same) plain (goes ∙ found) (ends_tokens left)

@@ -55,6 +55,27 @@ asker_read p m now goes a r (inl (caller, is, inl (name, inr (none, same)))) h =
 asker_read p m now goes a r (inl (caller, is, inr (none, same))) h = absurd (cc)
 asker_read p m now goes a r (inr (none, same)) h = absurd (cc)
 
+-- the route and the action of a message's target and method, as the code found them
+pub record Routed (p : Parts) (target : Target) (asked : Action) : Type 0 where
+  pub found : route_of p.target ≡ Some target
+  pub takes : action_at target.place p.method ≡ Some asked
+
+pub routed : (p : Parts) (text method : List ℕ) (target : Target) (found asked : Action) → text ≡ p.target
+    → Some target ≡ route_of text → method ≡ p.method → Some found ≡ action_at target.place method
+    → found ≡ asked → Routed p target asked
+routed p text method target found asked its_text finds its_method acts is = record {
+  found = ap route_of (sym its_text) ∙ sym finds;
+  takes = ap (action_at target.place) (sym its_method) ∙ sym acts ∙ ap Some is;
+}
+
+-- who asks was read, and this is wanted
+pub wants_by : (p : Parts) (now : ℕ) (drawn : List ℕ) (target : Target) (asked : Action) (a : Asker)
+    (r : Wanted Command) → Routed p target asked → WantsAsker p target.merchant now (λ b s. s ≡ Ok b) (Ok a)
+    → WantsAction asked target p drawn a r → Wants p now drawn r
+wants_by p now drawn target asked a r routed read wants =
+    wants_of p now drawn target asked r routed.found routed.takes
+    (asker_read p target.merchant now (WantsAction asked target p drawn) a r read wants)
+
 -- who asks was refused, and so is the whole
 pub asker_refused : {X : Type 0} (p : Parts) (m : List ℕ) (now : ℕ) (goes : Asker → Wanted X → Type 0) (n : ℕ)
     → WantsAsker p m now (λ b s. s ≡ Ok b) (Err n) → WantsAsker p m now goes (Err n)

@@ -19,6 +19,10 @@ pub record Row : Type 0 where
   pub template : List Part
   pub methods : List (List ℕ × Action)
 
+-- the row of a template and the methods of its targets
+abbrev pub row : List Part → List (List ℕ × Action) → Row
+row template methods = record { template = template; methods = methods }
+
 -- the beginning of each template
 abbrev pub at_merchant : List Part → List Part
 at_merchant rest = text (codes "/v1/merchants/") ∷ merchant ∷ rest
@@ -29,31 +33,15 @@ at_token rest = at_merchant (text (codes "/tokens/") ∷ token ∷ rest)
 
 -- the table
 abbrev pub row_of : Place → Row
-row_of place.Tokens =
-    record {
-      template = at_merchant (text (codes "/tokens") ∷ []);
-      methods = (codes "POST", action.Tokenize) ∷ [];
-    }
+row_of place.Tokens = row (at_merchant (text (codes "/tokens") ∷ [])) ((codes "POST", action.Tokenize) ∷ [])
 row_of place.Token =
-    record {
-      template = at_token [];
-      methods = (codes "GET", action.OnToken on.View) ∷ (codes "DELETE", action.OnToken on.Purge) ∷ [];
-    }
+    row (at_token [])
+    ((codes "GET", action.OnToken on.View) ∷ (codes "DELETE", action.OnToken on.Purge) ∷ [])
 row_of place.Number =
-    record {
-      template = at_token (text (codes "/number") ∷ []);
-      methods = (codes "POST", action.OnToken on.Detokenize) ∷ [];
-    }
+    row (at_token (text (codes "/number") ∷ [])) ((codes "POST", action.OnToken on.Detokenize) ∷ [])
 row_of place.Revoke =
-    record {
-      template = at_token (text (codes "/revoke") ∷ []);
-      methods = (codes "POST", action.OnToken on.Revoke) ∷ [];
-    }
-row_of place.Audit =
-    record {
-      template = at_merchant (text (codes "/audit") ∷ []);
-      methods = (codes "GET", action.Audit) ∷ [];
-    }
+    row (at_token (text (codes "/revoke") ∷ [])) ((codes "POST", action.OnToken on.Revoke) ∷ [])
+row_of place.Audit = row (at_merchant (text (codes "/audit") ∷ [])) ((codes "GET", action.Audit) ∷ [])
 
 -- the text of a part, with a merchant's text and a token's for the parameters
 abbrev pub part_text : List ℕ → List ℕ → Part → List ℕ

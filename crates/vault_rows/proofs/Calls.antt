@@ -1,10 +1,10 @@
 -- The one clause of a call, from what the functions that run a text say.
-use Rattle.std.proofs.Common.{◌≡◌, ◌∙◌, ℕ, List, Ok, Err, Result, IfOk, OnOk, sym, IsTrue, true}
+use Rattle.std.proofs.Common.{◌≡◌, ℕ, List, Ok, Err, Result, IfOk, OnOk, sym, IsTrue, true}
 use Rattle.std.proofs.Common.{false, true≢false}
 use Rattle.std.proofs.Common.{◌∷◌, ◌++◌, [], suc, ℤ, arith, Option, IsErr, Ordering, subst, refl}
 use Rattle.sqlite.specs.Effect.{Database}
 use Rattle.sqlite.specs.Order.{Row}
-use Rattle.sqlite.specs.State.{State, HasCleanDisk, ExecutesInside, IsUnchanged, Shown, Shows}
+use Rattle.sqlite.specs.State.{State, HasCleanDisk, ExecutesInside, Shown, Shows}
 use Rattle.sqlite.specs.Tree.{Trees}
 use Rattle.sqlite.specs.Listing.{understood}
 use Rattle.sqlite.specs.Query.{Query}

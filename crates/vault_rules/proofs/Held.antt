@@ -1,5 +1,5 @@
 -- Each row is in the vault of rows.
-use Rattle.std.proofs.Common.{◌≡◌, ℕ, pos, true, List, [], ◌∷◌, length, Some, option_map, inl, inr}
+use Rattle.std.proofs.Common.{◌≡◌, ℕ, ℤ, pos, true, List, [], ◌∷◌, length, Some, option_map, inl, inr}
 use Rattle.std.proofs.Common.{refl, sym, ap, ◌∙◌}
 use Rattle.std.specs.Prelude.{string_bytes}
 use Rattle.std.specs.Cmp.{tied_itself}
@@ -10,10 +10,8 @@ use Rattle.std.specs.Ordering.{eq_by_cmp, int_eq, is_eq}
 use Rattle.std.specs.declared.cmp.Ordering.{Ordering}
 use Rattle.sqlite_rules.specs.Lists.{Has}
 use Rattle.sqlite_rules.proofs.ListLemmas.{has_found}
-use Rattle.vault_core.specs.Keys.{Bytes}
 use Rattle.vault_core.specs.Numbers.{right_number}
 use Rattle.vault_core.specs.Vault.{merchant_at, entry_at, record_at, right_at}
-use Rattle.vault_core.specs.declared.right.Right.{Right}
 use Rattle.vault_core.proofs.Maps.{bytes_total, bytes_exact, entry_total, entry_exact, record_total}
 use Rattle.vault_core.proofs.Maps.{record_exact, right_total, right_exact}
 use Rattle.vault_rules.specs.Codes.{natural, right_of}
@@ -58,6 +56,14 @@ get_held {R = R} {C = C} total exact key value rows apart r h =
     get_first total exact key value (λ q s. eq_by_cmp C q (key s)) (λ q s. refl) rows (key r)
     ∙ ap (option_map value) first.1 ∙ ap (λ s. Some (value s)) same
 
+-- keys that are apart by a number are apart by what the number stands for
+numbered_apart : {R K Q : Type 0} (key : R → K) (shown : R → Q) (rows : List R) (number : R → ℤ)
+    (stands : K → ℤ) → ((a : R) → Has rows a → number a ≡ stands (key a))
+    → ((a b : R) → key a ≡ key b → number a ≡ number b → shown a ≡ shown b) → AreKeysApart shown rows
+    → AreKeysApart key rows
+numbered_apart key shown rows number stands is back apart =
+    apart_by shown key rows (λ a b g k same. back a b same (is a g ∙ ap stands same ∙ sym (is b k))) apart
+
 module _ (rows : Rows) (apart : HasKeysApart rows) where
   pub merchant_held : (m : RawMerchant) → Has rows.merchants m
       → merchant_at (vault_of rows) (string_bytes m.name) ≡ Some (merchant_value rows.counts m)
@@ -85,16 +91,10 @@ module _ (rows : Rows) (apart : HasKeysApart rows) where
 
   -- requests that are apart have keys that are apart, since they aren't negative
   requests_apart : ((r : ℕ) → keeps rows r ≡ true) → AreKeysApart record_key rows.records
-  requests_apart keep = apart_by request_key record_key rows.records numbered apart.records
-    where
-      numbered : (a b : RawRecord)
-          → Has rows.records a → Has rows.records b → record_key a ≡ record_key b
-          → request_key a ≡ request_key b
-      numbered a b g k same =
-          let request : a.request ≡ b.request =
-          (kept.records_well rows keep a g).request.is ∙ ap (λ (key : Bytes × ℕ). pos key.1) same
-          ∙ sym (kept.records_well rows keep b k).request.is in
-          λ i. ((same i).0, request i)
+  requests_apart keep =
+      numbered_apart record_key request_key rows.records (λ r. r.request) (λ key. pos key.1)
+      (λ a there. (kept.records_well rows keep a there).request.is)
+      (λ a b same request i. ((same i).0, request i)) apart.records
 
   pub record_held : ((r : ℕ) → keeps rows r ≡ true) → (r : RawRecord) → Has rows.records r
       → record_at (vault_of rows) (string_bytes r.caller) (natural r.request) ≡ Some (record_value r)
@@ -112,17 +112,10 @@ module _ (rows : Rows) (apart : HasKeysApart rows) where
 
   -- rights that are apart have keys that are apart, since each has a number of its own
   rights_apart : ((r : ℕ) → keeps rows r ≡ true) → AreKeysApart right_key rows.rights
-  rights_apart keep = apart_by number_key right_key rows.rights numbered apart.rights
-    where
-      numbered : (a b : RawRight)
-          → Has rows.rights a → Has rows.rights b → right_key a ≡ right_key b
-          → number_key a ≡ number_key b
-      numbered a b g k same =
-          let what : a.what ≡ b.what =
-          what_is a.what (kept.rights_well rows keep a g).2
-          ∙ ap (λ (key : Bytes × (Bytes × Right)). pos (right_number key.1.1)) same
-          ∙ sym (what_is b.what (kept.rights_well rows keep b k).2) in
-          λ i. ((same i).0, ((same i).1.0, what i))
+  rights_apart keep =
+      numbered_apart right_key number_key rows.rights (λ r. r.what) (λ key. pos (right_number key.1.1))
+      (λ a there. what_is a.what (kept.rights_well rows keep a there).2)
+      (λ a b same what i. ((same i).0, ((same i).1.0, what i))) apart.rights
 
   pub right_held : ((r : ℕ) → keeps rows r ≡ true) → (r : RawRight) → Has rows.rights r
       → right_at (vault_of rows) (string_bytes r.caller) (string_bytes r.merchant) (right_of r.what)

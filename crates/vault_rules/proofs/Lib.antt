@@ -19,6 +19,7 @@ pub mod Live
 pub mod LiveKeys
 pub mod LiveLemmas
 pub mod MerchantRows
+pub mod NextKey
 pub mod Numbers
 pub mod Options
 pub mod PackedLemmas

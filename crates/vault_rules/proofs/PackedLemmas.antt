@@ -3,6 +3,7 @@ use Rattle.std.proofs.Common.{◌≡◌, ◌≤◌, ◌<◌, ◌+◌, ◌*◌, �
 use Rattle.std.proofs.Common.{length, drop, zero, refl, arith}
 use Rattle.std.proofs.Math.Nat.{pow-succ', pow-le-pow_right}
 use Rattle.std.proofs.lemmas.Bool.{and_parts}
+use Rattle.std.proofs.lemmas.List.{length-drop}
 use Rattle.std.proofs.lemmas.Bool.Decides.{nat_tests}
 use Rattle.std.specs.Char.{is_ascii_digit}
 use Rattle.std.specs.List.{list_all}
@@ -66,3 +67,11 @@ number_parts text is =
     let all = and_parts _ _ is in
     let short : nat_lt (length text) 20 ≡ true = (and_parts _ _ all.0).1 in
     (grind (arith, nat_tests), all.1)
+
+-- what is packed of the digits behind some has room for one more
+pub behind_small : (text : Bytes) (n : ℕ) → is_number text ≡ true
+    → packed (drop n text) < 20000000000000000000
+behind_small text n is =
+    let parts = number_parts text is in
+    let short = length-drop n text in
+    packed_small (drop n text) (digits_behind text n parts.1) (omega (arith, short, parts.0))

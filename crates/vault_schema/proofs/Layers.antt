@@ -58,60 +58,58 @@ module _ {T : Type 0} (w : Version) where
       rw (not_true (is_from l.since w) both.0) none
 
 module _ {T : Type 0} (w v : Version) where
-  -- a later version has the tables of an older one, and behind them those that came since
+  -- a later version has the tables and indexes of an older one, and behind them those that came since
+  parts_from : (ls : List (Layer T)) → are_split w ls ≡ true → is_from w v ≡ true
+      → (tables_at v ls ≡ tables_at w ls ++ tables_at v (layers_after w ls))
+      × (indexes_at v ls ≡ indexes_at w ls ++ indexes_at v (layers_after w ls))
+  parts_from [] split from = (refl, refl)
+  parts_from (l ∷ ls) split from =
+      elim (is_from l.since w) as (λ b. is_from l.since w ≡ b
+      → cond b (are_split w ls) (are_after w (l ∷ ls)) ≡ true
+      → (tables_at v (l ∷ ls)
+      ≡ cond b (l.table ∷ tables_at w ls) (tables_at w ls)
+      ++ tables_at v (cond b (layers_after w ls) (l ∷ ls)))
+      × (indexes_at v (l ∷ ls)
+      ≡ cond b (l.indexes ++ indexes_at w ls) (indexes_at w ls)
+      ++ indexes_at v (cond b (layers_after w ls) (l ∷ ls)))) [
+        | true ↦ λ has rest.
+            let more = parts_from ls rest from in
+            rw (from_both l.since w v has from) (
+              λ i. l.table ∷ more.0 i,
+              (λ i. l.indexes ++ more.1 i) ∙ sym (append_assoc l.indexes _ _),
+            )
+        | false ↦ λ none after.
+            let both = and_parts (not (is_from l.since w)) (are_after w ls) after in
+            let none = none_yet w ls both.1 in
+            rw (none.0, none.1) (refl, refl)
+      ] refl split
+
   pub tables_from : (ls : List (Layer T)) → are_split w ls ≡ true → is_from w v ≡ true
       → tables_at v ls ≡ tables_at w ls ++ tables_at v (layers_after w ls)
-  tables_from [] split from = refl
-  tables_from (l ∷ ls) split from =
-      elim (is_from l.since w) as (λ b. is_from l.since w ≡ b
-      → cond b (are_split w ls) (are_after w (l ∷ ls)) ≡ true
-      → tables_at v (l ∷ ls)
-      ≡ cond b (l.table ∷ tables_at w ls) (tables_at w ls)
-      ++ tables_at v (cond b (layers_after w ls) (l ∷ ls))) [
-        | true ↦ λ has rest. rw (from_both l.since w v has from)
-            (λ i. l.table ∷ tables_from ls rest from i)
-        | false ↦ λ none after.
-            let both = and_parts (not (is_from l.since w)) (are_after w ls) after in
-            rw ((none_yet w ls both.1).0) refl
-      ] refl split
+  tables_from ls split from = (parts_from ls split from).0
 
-  -- so it is of its indexes
   pub indexes_from : (ls : List (Layer T)) → are_split w ls ≡ true → is_from w v ≡ true
       → indexes_at v ls ≡ indexes_at w ls ++ indexes_at v (layers_after w ls)
-  indexes_from [] split from = refl
-  indexes_from (l ∷ ls) split from =
-      elim (is_from l.since w) as (λ b. is_from l.since w ≡ b
-      → cond b (are_split w ls) (are_after w (l ∷ ls)) ≡ true
-      → indexes_at v (l ∷ ls)
-      ≡ cond b (l.indexes ++ indexes_at w ls) (indexes_at w ls)
-      ++ indexes_at v (cond b (layers_after w ls) (l ∷ ls))) [
-        | true ↦ λ has rest. rw (from_both l.since w v has from)
-            ((λ i. l.indexes ++ indexes_from ls rest from i) ∙ sym (append_assoc l.indexes _ _))
-        | false ↦ λ none after.
-            let both = and_parts (not (is_from l.since w)) (are_after w ls) after in
-            rw ((none_yet w ls both.1).1) refl
-      ] refl split
+  indexes_from ls split from = (parts_from ls split from).1
 
-  -- a version before this one has no table that came with it or since
-  pub no_tables : (ls : List (Layer T)) → are_since w ls ≡ true → is_from w v ≡ false → tables_at v ls ≡ []
-  no_tables [] since none = refl
-  no_tables (l ∷ ls) since none =
+  -- a version before this one has no table and no index that came with it or since
+  none_before : (ls : List (Layer T)) → are_since w ls ≡ true → is_from w v ≡ false
+      → (tables_at v ls ≡ []) × (indexes_at v ls ≡ [])
+  none_before [] since none = (refl, refl)
+  none_before (l ∷ ls) since none =
       let both : (is_from w l.since ≡ true) × (are_since w ls ≡ true) = and_parts _ _ since in
       elim (is_from l.since v) as (λ b. is_from l.since v ≡ b
-      → cond b (l.table ∷ tables_at v ls) (tables_at v ls) ≡ []) [
+      → (cond b (l.table ∷ tables_at v ls) (tables_at v ls) ≡ [])
+      × (cond b (l.indexes ++ indexes_at v ls) (indexes_at v ls) ≡ [])) [
         | true ↦ λ has. absurd (let clash = sym none ∙ from_both w l.since v both.0 has in cc)
-        | false ↦ λ has. no_tables ls both.1 none
+        | false ↦ λ has. none_before ls both.1 none
       ] refl
+
+  pub no_tables : (ls : List (Layer T)) → are_since w ls ≡ true → is_from w v ≡ false → tables_at v ls ≡ []
+  no_tables ls since none = (none_before ls since none).0
 
   pub no_indexes : (ls : List (Layer T)) → are_since w ls ≡ true → is_from w v ≡ false → indexes_at v ls ≡ []
-  no_indexes [] since none = refl
-  no_indexes (l ∷ ls) since none =
-      let both : (is_from w l.since ≡ true) × (are_since w ls ≡ true) = and_parts _ _ since in
-      elim (is_from l.since v) as (λ b. is_from l.since v ≡ b
-      → cond b (l.indexes ++ indexes_at v ls) (indexes_at v ls) ≡ []) [
-        | true ↦ λ has. absurd (let clash = sym none ∙ from_both w l.since v both.0 has in cc)
-        | false ↦ λ has. no_indexes ls both.1 none
-      ] refl
+  no_indexes ls since none = (none_before ls since none).1
 
 -- ---- a version stands table by table
 

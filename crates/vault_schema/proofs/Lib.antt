@@ -1,6 +1,8 @@
 pub mod ByTable
 pub mod Layers
+pub mod Meanings
 pub mod Newest
+pub mod Placed
 pub mod TablesBehind
 pub mod Values
 pub mod Version1

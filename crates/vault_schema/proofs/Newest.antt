@@ -23,8 +23,10 @@ use Rattle.sql_maps.specs.States.{Claim, StandsIn}
 use Rattle.sql_maps.specs.Texts.{IsWrite, MakesTable, insert}
 use Rattle.vault_core.specs.Keys.{bytes_cmp, entry_cmp, record_cmp, right_cmp}
 use Rattle.vault_core.specs.Vault.{Vault}
+use Rattle.vault_schema.proofs.Placed.{by_id_in_grown}
 use Rattle.vault_schema.proofs.TablesBehind.{behind, behind_four, behind_from, behind_two, indexes_behind}
 use Rattle.vault_schema.proofs.TablesBehind.{indexes_behind_four, indexes_behind_from, indexes_behind_two}
+use Rattle.vault_schema.proofs.Version1.Codes as one
 use Rattle.vault_schema.proofs.Version2.Codes as two
 use Rattle.vault_schema.proofs.Version3 as three
 use Rattle.vault_schema.proofs.Version4 as four
@@ -37,7 +39,7 @@ use Rattle.vault_schema.specs.Version1.Claims.{IsVersion}
 use Rattle.vault_schema.specs.Version1.Rows.{count_row, entry_key, merchant_key, number_column, numbered_key}
 use Rattle.vault_schema.specs.Version1.Rows.{record_columns, record_row, right_key}
 use Rattle.vault_schema.specs.Version2.Rows.{card_columns, pointing_columns, pointing_row}
-use Rattle.vault_schema.specs.Version2.Tables.{cards, v2}
+use Rattle.vault_schema.specs.Version2.Tables.{v2}
 use Rattle.vault_schema.specs.Version4.{ends_column}
 use Rattle.vault_schema.specs.Versions.{HasDefaults, Lookups, Tables, has_cards, lives_columns, merchant_row}
 use Rattle.vault_schema.specs.Versions.{natural_of, newest, newest_merchants, next_of, number_of, right_row}
@@ -70,16 +72,16 @@ abbrev pub right_table : Keyed newest_schema right_cmp right_key ends_column
 right_table = keyed_in_grown four.right_table (behind_four newest) (indexes_behind_four newest) refl
 
 abbrev pub count_table : Keyed newest_schema record_cmp numbered_key number_column
-count_table = keyed_in_grown two.count_table behind_second indexes_behind_second refl
+count_table = keyed_in_grown one.count_table behind_first indexes_behind_first refl
 
 abbrev pub record_table : Keyed newest_schema record_cmp numbered_key record_columns
-record_table = keyed_in_grown two.record_table behind_second indexes_behind_second refl
+record_table = keyed_in_grown one.record_table behind_first indexes_behind_first refl
 
 abbrev pub pointing_table : Keyed newest_schema entry_cmp entry_key pointing_columns
 pointing_table = keyed_in_grown two.pointing_table behind_second indexes_behind_second refl
 
 abbrev pub card_table : ById newest_schema card_columns
-card_table = record { table = cards; place = 6; here = refl; fits = λ c. refl }
+card_table = by_id_in_grown two.card_table behind_second indexes_behind_second
 
 pub merchant_coding : Coding bytes_cmp merchant_row
 merchant_coding = three.merchant_coding
@@ -113,14 +115,14 @@ pub later_makes : (n : ℕ) (text : List ℕ) → n < length later_texts → tex
     → MakesLater n text
 later_makes zero text inside is = subst (MakesLater 0) (sym is) (record {
   table = _;
-  makes = three.makes_merchants;
-  made = three.all_made;
+  makes = three.texts.makes;
+  made = three.texts.made;
   more = refl;
 })
 later_makes (suc zero) text inside is = subst (MakesLater 1) (sym is) (record {
   table = _;
-  makes = four.makes_rights;
-  made = four.all_made;
+  makes = four.texts.makes;
+  made = four.texts.made;
   more = refl;
 })
 later_makes (suc (suc n)) text inside is = absurd (omega (arith, inside))

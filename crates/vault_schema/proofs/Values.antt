@@ -1,6 +1,8 @@
 -- What a value of a column tells, and back.
-use Rattle.std.proofs.Common.{◌≡◌, ◌==◌, ℕ, pos, [], true, cond, Option, Some, None, refl}
+use Rattle.std.proofs.Common.{◌≡◌, ◌==◌, ◌∙◌, ℕ, pos, [], true, ap, cond, sym, Option, Some, None}
+use Rattle.std.proofs.Common.{refl}
 use Rattle.sqlite.specs.Kind.TheVariants.{Integer, Text as Words}
+use Rattle.sqlite.specs.Order.{column}
 use Rattle.sqlite.specs.declared.types.Value.{Value}
 use Rattle.sqlite.specs.declared.types.Value.TheVariants.{Int, Text}
 use Rattle.sql_maps.specs.Codes.{fits}
@@ -11,7 +13,7 @@ use Rattle.vault_core.specs.declared.usage.Use.TheVariants.{Single, Multi}
 use Rattle.vault_pan.specs.Mask.{lead_digits}
 use Rattle.vault_pan.specs.declared.lead.Lead.{Lead}
 use Rattle.vault_pan.specs.declared.lead.Lead.TheVariants.{Six, Eight}
-use Rattle.vault_schema.specs.Version1.Rows.{number_or_null, text_or_null}
+use Rattle.vault_schema.specs.Version1.Rows.{life_columns, number_or_null, text_or_null}
 
 -- ---- a number, and one that may be missing
 
@@ -45,6 +47,10 @@ pub text_back : (o : Option Bytes) → maybe_text (text_or_null o) ≡ o
 text_back None = refl
 text_back (Some t) = refl
 
+-- two that show the same are the same
+pub text_same : (a b : Option Bytes) → text_or_null a ≡ text_or_null b → a ≡ b
+text_same a b e = sym (text_back a) ∙ ap maybe_text e ∙ text_back b
+
 pub text_fits : (o : Option Bytes) → fits Words (text_or_null o) ≡ true
 text_fits None = refl
 text_fits (Some t) = refl
@@ -57,6 +63,22 @@ use_in v = cond (number_in v == 1) Single Multi
 pub use_back : (u : Use) → use_in (Int (pos (use_number u))) ≡ u
 use_back Single = refl
 use_back Multi = refl
+
+pub use_same : (u v : Use) → Int (pos (use_number u)) ≡ Int (pos (use_number v)) → u ≡ v
+use_same u v e = sym (use_back u) ∙ ap use_in e ∙ use_back v
+
+-- ---- the last columns of an entry
+
+-- they tell its use, its birth, its end, and when it was revoked
+pub life_back : (u v : Use) (birth birth' expires expires' : ℕ) (revoked revoked' : Option ℕ)
+    → life_columns u birth expires revoked ≡ life_columns v birth' expires' revoked'
+    → (u ≡ v) × (birth ≡ birth') × (expires ≡ expires') × (revoked ≡ revoked')
+life_back u v birth birth' expires expires' revoked revoked' e = (
+  use_same u v (ap (λ r. column r 0) e),
+  ap (λ r. number_in (column r 1)) e,
+  ap (λ r. number_in (column r 2)) e,
+  sym (number_back revoked) ∙ ap (λ r. maybe_number (column r 3)) e ∙ number_back revoked',
+)
 
 -- ---- a lead
 

@@ -72,12 +72,18 @@ fn set(line: &str) -> Option<Command> {
     })
 }
 
+/// The caller, the merchant and the right of a `grant` or a `withdraw`.
+fn granted(line: &str) -> Option<(Caller, MerchantId, Right)> {
+    Some((caller(line, 1)?, merchant(line, 2)?, right(line, 3)?))
+}
+
 /// `grant CALLER MERCHANT RIGHT NOW [UNTIL]`.
 fn grant(line: &str) -> Option<Command> {
+    let (caller, merchant, right) = granted(line)?;
     Some(Command::Grant {
-        caller: caller(line, 1)?,
-        merchant: merchant(line, 2)?,
-        right: right(line, 3)?,
+        caller,
+        merchant,
+        right,
         until: until(line, 5)?,
         now: moment(line, 4)?,
     })
@@ -85,10 +91,11 @@ fn grant(line: &str) -> Option<Command> {
 
 /// `withdraw CALLER MERCHANT RIGHT NOW`.
 fn withdraw(line: &str) -> Option<Command> {
+    let (caller, merchant, right) = granted(line)?;
     Some(Command::Withdraw {
-        caller: caller(line, 1)?,
-        merchant: merchant(line, 2)?,
-        right: right(line, 3)?,
+        caller,
+        merchant,
+        right,
         now: moment(line, 4)?,
     })
 }

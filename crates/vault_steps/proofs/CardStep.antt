@@ -39,8 +39,7 @@ use Rattle.vault_schema.specs.declared.v2.Pointing.{Pointing}
 use Rattle.vault_schema.specs.declared.v2.TheConstants.{CREATE_CARDS, CREATE_ENTRIES, CREATE_ENTRIES_CARD}
 use Rattle.vault_schema.specs.declared.v2.TheConstants.{EMPTY_ENTRIES, SET_VERSION}
 use Rattle.vault_schema.specs.declared.version.Version.TheVariants.{One, Two}
-use Rattle.vault_schema.proofs.Version2.Making.{all_made, makes_cards, makes_entries, makes_entries_card}
-use Rattle.vault_schema.proofs.Version2.Making.{with_cards, with_entries}
+use Rattle.vault_schema.proofs.Version2.Making.{makes_second, with_cards, with_entries}
 use Rattle.vault_schema.proofs.Version2.Texts.{empty_entries_is, set_version_is}
 use Rattle.vault_cards.specs.Calls.{IsWithin}
 use Rattle.vault_steps.specs.Entries.{AreEntriesOf, with_all, without_entries}
@@ -117,14 +116,14 @@ module _ {h : Lookups} {base : Database} {a b c d : State} (w : WithinOf One h b
   }
 
   after_cards : Within with_cards (first_claims h ++ IsEmpty ∷ []) base b
-  after_cards = table_in refl makes_cards (ran_in one' cards first)
+  after_cards = table_in refl makes_second.for_cards (ran_in one' cards first)
 
   after_entries : Within with_entries (tables_made h) base c
-  after_entries = table_in refl makes_entries (ran_in two' entries after_cards)
+  after_entries = table_in refl makes_second.for_entries (ran_in two' entries after_cards)
 
   -- both tables are there
   pub tabled : Within v2 (tables_made h) base d
-  tabled = index_in all_made makes_entries_card (ran_in three' index after_entries)
+  tabled = index_in makes_second.all makes_second.for_card (ran_in three' index after_entries)
 
 -- rows that are left were there
 left_of : (ids : List ℤ) (rows : List Row) (r : Row) → Has (without_all rows ids) r → Has rows r

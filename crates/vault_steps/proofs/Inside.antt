@@ -43,6 +43,19 @@ closed v rows defaults claims w = record {
   };
 }
 
+-- what stood with cards still does in the next version, with these rows
+pub closed_over : (v u : Version) {h : Lookups} {base : Database} (old : State) {new : State}
+    (j : StandJoined u old.now.trees h) → HasDefaults v h
+    → (StandJoined v new.now.trees h → StandRows v new.now.trees h)
+    → Within (schema_of v) (claims_of v (tables_of h j.cards j.pointing)) base new → WithinOf v h base new
+closed_over v u {h = h} old j defaults with_cards end =
+    closed v (with_cards (record {
+      cards = j.cards;
+      pointing = j.pointing;
+      rows = end.stands.rows;
+      joined = j.joined;
+    })) defaults (claims_of v (tables_of h j.cards j.pointing)) end
+
 -- what a statement of a step did
 abbrev pub Did : List ℕ → State → State → Type 0
 Did sql old new = IsTrue old.in_transaction → (count : ℕ) × ExecutesInside 0 sql [] old new (Ok count)
@@ -73,6 +86,17 @@ index_in {s} {next} {claims} {base} {old} {new} {sql} made it run =
     (makes_index s claims base old new run.within.free run.within.committed run.within.stands.schema
     run.within.stands.rows sql run.count run.ran run.limit _ _ _ it)
 
+-- four texts were run, one after the other
+pub record RunsFour (p q r s : List ℕ) (a b c d e : State) : Type 0 where
+  pub one : Steps a b
+  pub two : Steps b c
+  pub three : Steps c d
+  pub four : Steps d e
+  pub first : Did p a b
+  pub second : Did q b c
+  pub third : Did r c d
+  pub fourth : Did s d e
+
 -- four texts, one after the other, lead where what they did leads
 pub four_texts : {S R E F : Type 0} {g : Ghosts S} {a b c d e : Transaction S} {p q r s : List ℕ} {x y z : R}
     {last : Result R F} {From To : Lookups → Database → State → Type 0}
@@ -80,11 +104,8 @@ pub four_texts : {S R E F : Type 0} {g : Ghosts S} {a b c d e : Transaction S} {
     (let it : Result R E = Ok y in it) q []
     → RunsText g c d (let it : Result R E = Ok z in it) r [] → RunsText g d e last s []
     → ((h : Lookups) (base : Database) → From h base (state g a.conn.now)
-    → Steps (state g a.conn.now) (state g b.conn.now) → Steps (state g b.conn.now) (state g c.conn.now)
-    → Steps (state g c.conn.now) (state g d.conn.now) → Steps (state g d.conn.now) (state g e.conn.now)
-    → Did p (state g a.conn.now) (state g b.conn.now) → Did q (state g b.conn.now) (state g c.conn.now)
-    → Did r (state g c.conn.now) (state g d.conn.now) → Did s (state g d.conn.now) (state g e.conn.now)
-    → To h base (state g e.conn.now)) → LeadsTo g a e last From To
+    → RunsFour p q r s (state g a.conn.now) (state g b.conn.now) (state g c.conn.now) (state g d.conn.now)
+    (state g e.conn.now) → To h base (state g e.conn.now)) → LeadsTo g a e last From To
 four_texts {g = g} {b = b} {c = c} {d = d} {last = last} one two three four lead = record {
   same_reference =
       four.same_reference ∙ three.same_reference ∙ two.same_reference ∙ one.same_reference;
@@ -94,6 +115,14 @@ four_texts {g = g} {b = b} {c = c} {d = d} {last = last} one two three four lead
       let second : HasCleanDisk (state g c.conn.now) = omega (arith, three.steps.clean, third) in
       let first : HasCleanDisk (state g b.conn.now) = omega (arith, two.steps.clean, second) in
       on_ok last (four.ran clean) (λ did base h from.
-      lead h base from one.steps two.steps three.steps four.steps (one.ran first) (two.ran second)
-      (three.ran third) did);
+      lead h base from (record {
+        one = one.steps;
+        two = two.steps;
+        three = three.steps;
+        four = four.steps;
+        first = one.ran first;
+        second = two.ran second;
+        third = three.ran third;
+        fourth = did;
+      }));
 }

@@ -1,14 +1,12 @@
 -- The table of merchants: the steps that replace it, and what its rows tell.
-use Rattle.std.proofs.Common.{◌≡◌, [], Some, refl, sym}
+use Rattle.std.proofs.Common.{◌≡◌, Some, refl, sym}
 use Rattle.sqlite.specs.Effect.{Database}
 use Rattle.sqlite.specs.State.{State}
 use Rattle.sqlite.specs.Tree.{Trees}
-use Rattle.sql_maps.specs.States.{Steps, Within}
 use Rattle.vault_core.specs.Keys.{Bytes}
-use Rattle.vault_schema.specs.Version3.{older, with_six, v3}
+use Rattle.vault_schema.specs.Version3.{older, with_six}
 use Rattle.vault_schema.specs.Layers.{is_from}
-use Rattle.vault_schema.specs.Versions.{AreSix, Lookups, OldMerchants, Stand, Tables, WithinOf, claims_of}
-use Rattle.vault_schema.specs.Versions.{tables_of}
+use Rattle.vault_schema.specs.Versions.{AreSix, Lookups, OldMerchants, Stand, WithinOf}
 use Rattle.vault_core.specs.declared.row.Lives.{Lives}
 use Rattle.vault_schema.specs.declared.v3.TheConstants.{CREATE_MERCHANTS, COPY_MERCHANTS, EMPTY_MERCHANTS}
 use Rattle.vault_schema.specs.declared.v3.TheConstants.{SET_VERSION}
@@ -16,9 +14,8 @@ use Rattle.vault_schema.specs.declared.version.Version.{Version}
 use Rattle.vault_schema.specs.declared.version.Version.TheVariants.{Two, Three}
 use Rattle.vault_schema.proofs.ByTable.{held}
 use Rattle.vault_schema.proofs.Version1.Codes as one
-use Rattle.vault_schema.proofs.Version3.{merchant_coding, merchant_table, old_merchant_table}
-use Rattle.vault_schema.proofs.Version3.{all_made, makes_merchants, copy_is, empty_is, set_version_is}
-use Rattle.vault_steps.proofs.Inside.{Did, closed, opened}
+use Rattle.vault_schema.proofs.Version3.{merchant_coding, merchant_table, old_merchant_table, texts}
+use Rattle.vault_steps.proofs.Inside.{RunsFour, closed_over, opened}
 use Rattle.vault_steps.proofs.Replacing.{alike, claim_before, default_before, replaced, told}
 
 -- ---- from schema 2 to schema 3
@@ -28,26 +25,14 @@ still_six : (h : Lookups) → AreSix h → (m : Bytes) (x : Lives) → h.merchan
     → with_six (older x) ≡ x
 still_six h six m x is = λ i. record x { lead = sym (six m x is) i }
 
-module _ {h : Lookups} {base : Database} {a b c d e : State} (w : WithinOf Two h base a)
-    (one' : Steps a b) (two' : Steps b c) (three' : Steps c d) (four' : Steps d e)
-    (create : Did CREATE_MERCHANTS.now a b) (copy : Did COPY_MERCHANTS.now b c)
-    (empty : Did EMPTY_MERCHANTS.now c d) (version : Did SET_VERSION.now d e) where
-  abbrev t : Tables
-  t = tables_of h w.is.stand.rows.cards w.is.stand.rows.pointing
-
-  pub led : WithinOf Three h base e
-  led =
-      let end : Within v3 (claims_of Three t) base e =
-      replaced old_merchant_table merchant_table with_six older t.merchants 2 3 refl
-      (opened Two w w.is.stand.rows) (still_six h w.is.stand.defaults.0) makes_merchants all_made
-      (copy_is [] []) (empty_is [] []) (set_version_is [] []) refl one' two' three' four' create copy empty
-      version (λ rows are. are) (λ rows none. none) (λ rows are. are) (λ rows is. is) (λ id k x. refl) in
-      closed Three (record {
-        cards = w.is.stand.rows.cards;
-        pointing = w.is.stand.rows.pointing;
-        rows = end.stands.rows;
-        joined = w.is.stand.rows.joined;
-      }) (tt, w.is.stand.defaults.1) (claims_of Three t) end
+pub led : {h : Lookups} {base : Database} {a b c d e : State} (w : WithinOf Two h base a)
+    → RunsFour CREATE_MERCHANTS.now COPY_MERCHANTS.now EMPTY_MERCHANTS.now SET_VERSION.now a b c d e
+    → WithinOf Three h base e
+led {h = h} {a = a} w run =
+    closed_over Three Two a w.is.stand.rows (tt, w.is.stand.defaults.1) (λ j. j)
+    (replaced old_merchant_table merchant_table with_six older h.merchants 2 3 refl
+    (opened Two w w.is.stand.rows) (still_six h w.is.stand.defaults.0) texts refl run (λ rows are. are)
+    (λ rows none. none) (λ rows are. are) (λ rows is. is) (λ id k x. refl))
 
 -- ---- what the rows of merchants tell, in whatever version
 

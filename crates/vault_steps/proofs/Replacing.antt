@@ -2,19 +2,16 @@
 -- version is said. Once for every such step. And what the rows of such a table tell, in whatever version.
 use Rattle.std.proofs.Common.{◌≡◌, ◌++◌, ◌∙◌, ℕ, ℤ, pos, Bool, true, false, List, [], ◌∷◌, Option, Some, None}
 use Rattle.std.proofs.Common.{Ordering, ap, option_map, refl, slice_get, subst, sym}
-use Rattle.sqlite.specs.Change.{created}
 use Rattle.sqlite.specs.Effect.{Database}
 use Rattle.sqlite.specs.Order.{Row}
 use Rattle.sqlite.specs.Schema.{Schema}
 use Rattle.sqlite.specs.State.{State}
-use Rattle.sqlite.specs.Table.{Table}
-use Rattle.sqlite.specs.Term.{Term, lit, col}
+use Rattle.sqlite.specs.Term.{Term}
 use Rattle.sqlite.specs.declared.types.Value.TheVariants.{Null, Int}
 use Rattle.sql_maps.specs.Codes.{row_of}
 use Rattle.sql_maps.specs.Rows.{AreRowsOf}
 use Rattle.sql_maps.specs.Schema.{is_plain, table_of}
-use Rattle.sql_maps.specs.States.{Claim, IsEmpty, Steps, Within, at_place}
-use Rattle.sql_maps.specs.Texts.{IsWrite, MakesTable, delete, eq, insert_from, update}
+use Rattle.sql_maps.specs.States.{Claim, IsEmpty, Within, at_place}
 use Rattle.sql_maps.proofs.Answers.{shown_as}
 use Rattle.sql_maps.proofs.ByKey.{Coding}
 use Rattle.sql_maps.proofs.Copies.{copy_in}
@@ -23,10 +20,11 @@ use Rattle.sql_maps.proofs.KeyTests.{int_eq}
 use Rattle.sql_maps.proofs.Keys.{Keyed}
 use Rattle.sql_maps.proofs.Moves.{change_one, empty_in}
 use Rattle.sql_maps.proofs.Plain.{claim_at}
+use Rattle.vault_schema.proofs.Meanings.{ReplacesTable}
 use Rattle.vault_schema.specs.Layers.{Either, claim_or_empty}
 use Rattle.vault_schema.specs.Version1.Claims.{IsVersion}
 use Rattle.vault_schema.specs.Version1.Tables.{vault}
-use Rattle.vault_steps.proofs.Inside.{Did, ran_in, table_in}
+use Rattle.vault_steps.proofs.Inside.{RunsFour, ran_in, table_in}
 
 -- what has the defaults is as the older table has it, with them
 pub again : {K X Y : Type 0} (widen : X → Y) (older : Y → X) (held : K → Option Y)
@@ -90,17 +88,11 @@ module _ {next : Schema} {K X Y : Type 0} {cmp : K → K → Ordering} {key : K 
   emptied before = at_place (copied before) old.place IsEmpty
 
   module _ {s : Schema} {claims : List Claim} {base : Database} {a b c d e : State}
-      {create copy empty version : List ℕ} {t : Table}
-      {project : List Term} (m n : ℕ) (fine : is_plain next ≡ true) (w : Within s claims base a)
-      (same : (k : K) (y : Y) → held k ≡ Some y → widen (older y) ≡ y)
-      (makes : MakesTable s create t) (is : created s t ≡ next)
-      (copies : IsWrite next copy (insert_from new.place old.table.tree project))
-      (empties : IsWrite next empty (delete old.place old.table.tree []))
-      (sets : IsWrite next version
-      (update 0 0 (eq (col 1 0) (lit (Int (pos 1))) ∷ []) (lit Null ∷ lit (Int (pos n)) ∷ [])))
-      (here : slice_get next.tables 0 ≡ Some (table_of vault)) where
-    pub replaced : Steps a b → Steps b c → Steps c d → Steps d e → Did create a b → Did copy b c
-        → Did empty c d → Did version d e
+      {create copy empty version : List ℕ} {project : List Term} (m n : ℕ) (fine : is_plain next ≡ true)
+      (w : Within s claims base a) (same : (k : K) (y : Y) → held k ≡ Some y → widen (older y) ≡ y)
+      (texts : ReplacesTable s next old.table new.table old.place new.place n project create copy empty
+      version) (here : slice_get next.tables 0 ≡ Some (table_of vault)) where
+    pub replaced : RunsFour create copy empty version a b c d e
         → ((rows : List Row) → claim_at (made_more claims) old.place rows → Old rows)
         → ((rows : List Row) → claim_at (made_more claims) new.place rows → rows ≡ [])
         → ((rows : List Row) → claim_at (copied claims) old.place rows → Old rows)
@@ -108,17 +100,18 @@ module _ {next : Schema} {K X Y : Type 0} {cmp : K → K → Ordering} {key : K 
         → ((id : ℤ) (k : K) (x : X)
         → shown_as [] project (Int id ∷ row_of key was k x) ≡ Null ∷ row_of key value k (widen x))
         → Within next (at_place (emptied claims) 0 (IsVersion n)) base e
-    replaced one two three four create' copy' empty' version' said none still before shows =
-        let first : Within next (made_more claims) base b = table_in is makes (ran_in one create' w) in
+    replaced run said none still before shows =
+        let first : Within next (made_more claims) base b = table_in texts.made texts.makes
+        (ran_in run.one run.first w) in
         let second : Within next (copied claims) base c =
         subst (λ (now : K → Option Y). Within next
         (at_place (made_more claims) new.place (λ rows. AreRowsOf (row_of key value) rows now)) base c)
         (again widen older held same)
-        (copy_in fine (ran_in two copy' first) old new widen (λ k. option_map older (held k)) (said _)
-        (none _) project shows copies) in
+        (copy_in fine (ran_in run.two run.second first) old new widen (λ k. option_map older (held k))
+        (said _) (none _) project shows texts.copies) in
         let third : Within next (emptied claims) base d =
-        empty_in fine (ran_in three empty' second) old.table old.place old.here empties
+        empty_in fine (ran_in run.three run.third second) old.table old.place old.here texts.empties
         (λ is r there. (still _ is).keyed r there) in
-        change_one fine (ran_in four version' third) vault 0 here _ _ sets (pos 1)
+        change_one fine (ran_in run.four run.fourth third) vault 0 here _ _ texts.sets (pos 1)
         (Null ∷ Int (pos m) ∷ []) (Null ∷ Int (pos n) ∷ []) (before _)
         (rw (int_eq (pos 1) (pos 1)) refl) refl refl

@@ -4,6 +4,7 @@ pub mod Drawn
 pub mod EmptyLemmas
 pub mod EntriesLemmas
 pub mod Held
+pub mod HeldTables
 pub mod IndexLemmas
 pub mod LatestLemmas
 pub mod ListedLemmas

@@ -26,37 +26,30 @@ use Rattle.vault_store.proofs.MadeLemmas.{one_at, made-plus, made-unknown, one_a
 abbrev counted : ℕ → Merchant → MerchantRow
 counted n merchant = counted_row (lives_in merchant) n merchant.given merchant.denied
 
+-- a row of no tokens, and one of as many as before
+none_made : (m : Merchant) (row : MerchantRow) (n k : ℕ) → n ≡ 0 → k ≡ n + 0 → counted 0 m ≡ row
+    → counted k m ≡ row
+none_made m row n k zero more same = let is : k ≡ 0 = omega arith in ap (λ j. counted j m) is ∙ same
+
+as_many : (m : Merchant) (row : MerchantRow) (n k : ℕ) → k ≡ n + 0 → counted n m ≡ row → counted k m ≡ row
+as_many m row n k more same = let is : k ≡ n = omega arith in ap (λ j. counted j m) is ∙ same
+
 -- the row of the merchant whose lives change
 counted-raised : (count : Option Count) (x : Lives) (o : Option Merchant) (n k : ℕ) → (o ≡ None → n ≡ 0)
     → k ≡ n + cond (is_made count) 1 0
     → counted k (merchant_with_count count (merchant_with x o))
     ≡ row_raised count (row_with x (option_map (counted n) o))
-counted-raised None x None n k none more =
-    let zero = none refl in
-    let is : k ≡ 0 = omega arith in
-    ap (λ j. counted j (merchant_with x None)) is
-counted-raised None x (Some old) n k none more =
-    let is : k ≡ n = omega arith in
-    ap (λ j. counted j (merchant_with x (Some old))) is
+counted-raised None x None n k none more = none_made _ _ n k (none refl) more refl
+counted-raised None x (Some old) n k none more = as_many _ _ n k more refl
 counted-raised (Some Made) x None n k none more =
     let zero = none refl in
     let is : k ≡ 1 = omega arith in
     ap (λ j. counted j (merchant_with x None)) is
 counted-raised (Some Made) x (Some old) n k none more = ap (λ j. counted j (merchant_with x (Some old))) more
-counted-raised (Some Given) x None n k none more =
-    let zero = none refl in
-    let is : k ≡ 0 = omega arith in
-    ap (λ j. counted j (merchant_with_count (Some Given) (merchant_with x None))) is
-counted-raised (Some Given) x (Some old) n k none more =
-    let is : k ≡ n = omega arith in
-    ap (λ j. counted j (merchant_with_count (Some Given) (merchant_with x (Some old)))) is
-counted-raised (Some Denied) x None n k none more =
-    let zero = none refl in
-    let is : k ≡ 0 = omega arith in
-    ap (λ j. counted j (merchant_with_count (Some Denied) (merchant_with x None))) is
-counted-raised (Some Denied) x (Some old) n k none more =
-    let is : k ≡ n = omega arith in
-    ap (λ j. counted j (merchant_with_count (Some Denied) (merchant_with x (Some old)))) is
+counted-raised (Some Given) x None n k none more = none_made _ _ n k (none refl) more refl
+counted-raised (Some Given) x (Some old) n k none more = as_many _ _ n k more refl
+counted-raised (Some Denied) x None n k none more = none_made _ _ n k (none refl) more refl
+counted-raised (Some Denied) x (Some old) n k none more = as_many _ _ n k more refl
 
 -- a row is the same where its merchant and its count are
 row-same : (V W : Vault) (q : Bytes) → merchant_at W q ≡ merchant_at V q → made_count W q ≡ made_count V q

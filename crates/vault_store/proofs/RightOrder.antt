@@ -13,19 +13,25 @@ use Rattle.vault_core.specs.declared.right.Right.TheVariants.{Audit}
 use Rattle.vault_core.specs.contracts.right.RightOrd.TheImpl.{ghosts}
 use Rattle.vault_store.specs.Shown.{Shows}
 
-by_number : (a b : Right) → ghosts.cmp a b ≡ nat_cmp (right_number a) (right_number b)
-by_number Tokenize =
-    elim [ Tokenize ↦ refl | Detokenize ↦ refl | View ↦ refl | Revoke ↦ refl | Purge ↦ refl | Audit ↦ refl ]
-by_number Detokenize =
-    elim [ Tokenize ↦ refl | Detokenize ↦ refl | View ↦ refl | Revoke ↦ refl | Purge ↦ refl | Audit ↦ refl ]
-by_number View =
-    elim [ Tokenize ↦ refl | Detokenize ↦ refl | View ↦ refl | Revoke ↦ refl | Purge ↦ refl | Audit ↦ refl ]
-by_number Revoke =
-    elim [ Tokenize ↦ refl | Detokenize ↦ refl | View ↦ refl | Revoke ↦ refl | Purge ↦ refl | Audit ↦ refl ]
-by_number Purge =
-    elim [ Tokenize ↦ refl | Detokenize ↦ refl | View ↦ refl | Revoke ↦ refl | Purge ↦ refl | Audit ↦ refl ]
-by_number Audit =
-    elim [ Tokenize ↦ refl | Detokenize ↦ refl | View ↦ refl | Revoke ↦ refl | Purge ↦ refl | Audit ↦ refl ]
+-- what holds of each right holds of all
+each : (P : Right → Type 0) → P Tokenize → P Detokenize → P View → P Revoke → P Purge → P Audit
+    → (r : Right) → P r
+each P a b c d e f =
+    elim [ Tokenize ↦ a | Detokenize ↦ b | View ↦ c | Revoke ↦ d | Purge ↦ e | Audit ↦ f ]
+
+-- the code orders two rights as their numbers are ordered
+abbrev ByNumber : Right → Right → Type 0
+ByNumber a b = ghosts.cmp a b ≡ nat_cmp (right_number a) (right_number b)
+
+by_number : (a b : Right) → ByNumber a b
+by_number =
+    each (λ a. (b : Right) → ByNumber a b)
+    (each (ByNumber Tokenize) refl refl refl refl refl refl)
+    (each (ByNumber Detokenize) refl refl refl refl refl refl)
+    (each (ByNumber View) refl refl refl refl refl refl)
+    (each (ByNumber Revoke) refl refl refl refl refl refl)
+    (each (ByNumber Purge) refl refl refl refl refl refl)
+    (each (ByNumber Audit) refl refl refl refl refl refl)
 
 -- the key of a right: the caller, the merchant and the right
 abbrev pub RightKey : Type 0

@@ -27,6 +27,10 @@ IsAllowed may_refuse may_fail (Ok x) = Unit {0}
 IsAllowed may_refuse may_fail (Err Memory) = ¬ (may_refuse ≡ false)
 IsAllowed may_refuse may_fail (Err Store) = ¬ (may_fail ≡ false)
 
+-- tables that can't fail give no Store fault
+abbrev pub FailsOnlyIf : {X : Type 0} → Bool → Result X TablesFault → Type 0
+FailsOnlyIf may_fail result = may_fail ≡ false → ¬ (result ≡ Err Store)
+
 -- the tables fail with the first call that is answered a Store fault, and with no other
 abbrev pub FailsWith : {X : Type 0} → Result X TablesFault → Bool → Bool → Type 0
 FailsWith (Ok x) before now = now ≡ before

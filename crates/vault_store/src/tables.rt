@@ -1,5 +1,5 @@
 //! Tables that hold a vault, whichever way.
-ghost use Rattle.std.specs.Prelude.{◌≡◌, ◌≤◌, Bool, true, false, Option, Some, None, IfOk, OnOk, IsOk, Err};
+ghost use Rattle.std.specs.Prelude.{◌≡◌, ◌≤◌, Bool, true, false, Option, Some, None, IfOk, OnOk, IsOk};
 ghost use Rattle.std.specs.Prelude.{option_map, take};
 ghost use Rattle.std.specs.FinMap as map;
 ghost use Rattle.vault_core.specs.Changes.{Fit, plus};
@@ -10,7 +10,7 @@ ghost use Rattle.vault_core.specs.Vault.{Vault, entry_at, record_at, right_at};
 ghost use Rattle.vault_core.specs.Window.{moment_at, row_at};
 ghost use Rattle.vault_store.specs.Added.{AddsNothing};
 ghost use Rattle.vault_store.specs.Listed.{merchant_names};
-ghost use Rattle.vault_store.specs.Reads.{FailsWith, IsAllowed, Keeps, KeepsOnMemory};
+ghost use Rattle.vault_store.specs.Reads.{FailsOnlyIf, FailsWith, IsAllowed, Keeps, KeepsOnMemory};
 
 use std::alloc::AllocError;
 use vault_core::changes::Changes;
@@ -186,7 +186,7 @@ pub trait Tables {
         // with a Store fault the tables have failed; with any other answer that stays as it was
         ensures failing { FailsWith result (has_failed self.old) (has_failed self.new) }
         // tables that can't fail give no Store fault
-        ensures infallible { may_fail ≡ false → ¬ (result ≡ Err TablesFault.Store) };
+        ensures infallible { FailsOnlyIf may_fail result };
 
     /// The names of all merchants, in order.
     fn names(&mut self) -> Result<Vec<MerchantId>, TablesFault>
@@ -203,7 +203,7 @@ pub trait Tables {
         // with a Store fault the tables have failed; with any other answer that stays as it was
         ensures failing { FailsWith result (has_failed self.old) (has_failed self.new) }
         // tables that can't fail give no Store fault
-        ensures infallible { may_fail ≡ false → ¬ (result ≡ Err TablesFault.Store) };
+        ensures infallible { FailsOnlyIf may_fail result };
 
     /// All rights with their ends, by caller, merchant and the right's number.
     fn rights(&mut self) -> Result<Vec<RightRow>, TablesFault>
@@ -220,7 +220,7 @@ pub trait Tables {
         // with a Store fault the tables have failed; with any other answer that stays as it was
         ensures failing { FailsWith result (has_failed self.old) (has_failed self.new) }
         // tables that can't fail give no Store fault
-        ensures infallible { may_fail ≡ false → ¬ (result ≡ Err TablesFault.Store) };
+        ensures infallible { FailsOnlyIf may_fail result };
 
     /// Makes the changes, all of them or none. Contracts ask that they fit the vault.
     fn write(&mut self, ch: &Changes) -> Result<(), TablesFault>
@@ -244,7 +244,7 @@ pub trait Tables {
         // with a Store fault the tables have failed; with any other answer that stays as it was
         ensures failing { FailsWith result (has_failed self.old) (has_failed self.new) }
         // tables that can't fail give no Store fault
-        ensures infallible { may_fail ≡ false → ¬ (result ≡ Err TablesFault.Store) };
+        ensures infallible { FailsOnlyIf may_fail result };
 
     // tables that hold a vault haven't failed
     ghost unfailed: { (t : Self) (V : Vault) → holds t V → has_failed t ≡ false };

@@ -12,12 +12,16 @@ use Rattle.vault_rules.specs.declared.records.Records.{Records}
 use Rattle.vault_rules.specs.declared.rows.RawRight.{RawRight}
 use Rattle.vault_rules.specs.declared.rows.RawVersion.{RawVersion}
 
-module _ (rows : Rows) (a b c d e f : Bool) (ms : TellsApart merchant_values (λ m. m.rowid) rows.merchants a)
-    (ns : TellsApart count_values (λ n. n.rowid) rows.counts b)
-    (ks : TellsApart card_row (λ k. k.id) rows.cards c)
-    (es : TellsApart entry_values (λ x. x.rowid) rows.entries d)
-    (rs : TellsApart record_values (λ r. r.rowid) rows.records e)
-    (gs : TellsApart right_values (λ r. r.rowid) rows.rights f) where
+-- each table's test tells whether its rowids are apart
+pub record AreTold (rows : Rows) (a b c d e f : Bool) : Type 0 where
+  pub merchants : TellsApart merchant_values (λ m. m.rowid) rows.merchants a
+  pub counts : TellsApart count_values (λ n. n.rowid) rows.counts b
+  pub cards : TellsApart card_row (λ k. k.id) rows.cards c
+  pub entries : TellsApart entry_values (λ x. x.rowid) rows.entries d
+  pub records : TellsApart record_values (λ r. r.rowid) rows.records e
+  pub rights : TellsApart right_values (λ r. r.rowid) rows.rights f
+
+module _ (rows : Rows) (a b c d e f : Bool) (tell : AreTold rows a b c d e f) where
   pub apart_by : IsTrue (list_all (λ is. is) (a ∷ b ∷ c ∷ d ∷ e ∷ f ∷ [])) → AreApart rows
   apart_by told =
       let one = and_parts a _ told in
@@ -27,23 +31,23 @@ module _ (rows : Rows) (a b c d e f : Bool) (ms : TellsApart merchant_values (λ
       let five = and_parts e _ four.1 in
       let six = and_parts f true five.1 in
       record {
-        merchants = ms.apart one.0;
-        counts = ns.apart two.0;
-        cards = ks.apart three.0;
-        entries = es.apart four.0;
-        records = rs.apart five.0;
-        rights = gs.apart six.0;
+        merchants = tell.merchants.apart one.0;
+        counts = tell.counts.apart two.0;
+        cards = tell.cards.apart three.0;
+        entries = tell.entries.apart four.0;
+        records = tell.records.apart five.0;
+        rights = tell.rights.apart six.0;
       }
 
   pub told_by : AreByRowid rows → AreApart rows
       → IsTrue (list_all (λ is. is) (a ∷ b ∷ c ∷ d ∷ e ∷ f ∷ []))
   told_by ordered apart =
-      and_from a _ (ms.only ordered.merchants apart.merchants)
-      (and_from b _ (ns.only ordered.counts apart.counts)
-      (and_from c _ (ks.only ordered.cards apart.cards)
-      (and_from d _ (es.only ordered.entries apart.entries)
-      (and_from e _ (rs.only ordered.records apart.records)
-      (and_from f true (gs.only ordered.rights apart.rights) refl)))))
+      and_from a _ (tell.merchants.only ordered.merchants apart.merchants)
+      (and_from b _ (tell.counts.only ordered.counts apart.counts)
+      (and_from c _ (tell.cards.only ordered.cards apart.cards)
+      (and_from d _ (tell.entries.only ordered.entries apart.entries)
+      (and_from e _ (tell.records.only ordered.records apart.records)
+      (and_from f true (tell.rights.only ordered.rights apart.rights) refl)))))
 
 -- rows came as they were read
 pub rights_as : (rows : Rows) (versions : List RawVersion) (replaced : ℕ) (it : Records)

@@ -19,6 +19,7 @@ pub mod OldRows
 pub mod Opening
 pub mod Permuted
 pub mod Pointers
+pub mod ReplacedTable
 pub mod Results
 pub mod Rights
 pub mod RisingRowids

@@ -1,7 +1,7 @@
 -- What is made of old entries, one after the other.
-use Rattle.std.proofs.Common.{◌≡◌, ◌+◌, ◌<◌, ◌++◌, ℕ, List, [], ◌∷◌, length, map, take, get_or, Option, Some}
-use Rattle.std.proofs.Common.{None, option_map, refl, sym, ap, ◌∙◌}
-use Rattle.std.proofs.lemmas.List.{map-append, take_more}
+use Rattle.std.proofs.Common.{◌≡◌, ◌≤◌, ◌+◌, ◌<◌, ◌++◌, ℕ, List, [], ◌∷◌, length, map, take, get_or, Option}
+use Rattle.std.proofs.Common.{Some, None, option_map, refl, sym, ap, ◌∙◌}
+use Rattle.std.proofs.lemmas.List.{map-append, take_all, take_more}
 use Rattle.std.proofs.lemmas.List.Elements.{filter_map-append}
 use Rattle.std.specs.List.{cons_option, filter_map}
 use Rattle.sqlite.specs.Order.{Row}
@@ -9,6 +9,11 @@ use Rattle.vault_verdict.specs.Raw.{card_values}
 use Rattle.vault_verdict.specs.declared.replaced.OldEntry.{OldEntry}
 use Rattle.vault_rules.specs.declared.rows.RawCard.{RawCard}
 use Rattle.vault_verdict.specs.Made.{as_card}
+
+-- what is made of what a walk took, at its end is made of all
+pub of_all : {X Y : Type 0} (f : List X → Y) (xs : List X) (i : ℕ) (y : Y) → length xs ≤ i
+    → f (take i xs) ≡ y → f xs ≡ y
+of_all f xs i y last made = ap f (sym (take_all i xs last)) ∙ made
 
 -- with one more old entry
 one_more : (olders : List OldEntry) (i : ℕ) (o : OldEntry) → i < length olders → o ≡ get_or olders i o

@@ -92,6 +92,12 @@ card_is c o same = elim o.number as (λ n. o.number ≡ n → IsCardOf c o) [
       }
 ] refl
 
+-- where two lists show the same rows, what is in one has its like in the other
+alike_in : {A B : Type 0} (f : A → Row) (g : B → Row) (xs : List A) (ys : List B) → map f xs ≡ map g ys
+    → (y : B) → Has ys y → (x : A) × Has xs x × (g y ≡ f x)
+alike_in f g xs ys same y h =
+    has_mapped f xs (g y) (subst (λ l. Has l (g y)) (sym same) (mapped_has g ys y h))
+
 module _ (db : Trees) (olders : List OldEntry) (rows : Rows) (made : AreOlders db olders rows)
     (up : IsApart (map old_entry_values olders)) where
   -- no rowid comes twice
@@ -103,15 +109,12 @@ module _ (db : Trees) (olders : List OldEntry) (rows : Rows) (made : AreOlders d
   -- each entry row was made of an old entry, and each old entry has its row
   pub old_of : (e : RawEntry) → Has rows.entries e → (o : OldEntry) × Has olders o × IsEntryOf e o
   old_of e h =
-      let shown = subst (λ l. Has l (entry_values e)) (sym made.entries)
-      (mapped_has entry_values rows.entries e h) in
-      let it = has_mapped as_entry olders (entry_values e) shown in
+      let it = alike_in as_entry entry_values olders rows.entries made.entries e h in
       (it.0, it.1, entry_is e it.0 it.2)
 
   pub row_of : (o : OldEntry) → Has olders o → (e : RawEntry) × Has rows.entries e × IsEntryOf e o
   row_of o h =
-      let shown = subst (λ l. Has l (as_entry o)) made.entries (mapped_has as_entry olders o h) in
-      let it = has_mapped entry_values rows.entries (as_entry o) shown in
+      let it = alike_in entry_values as_entry rows.entries olders (sym made.entries) o h in
       (it.0, it.1, entry_is it.0 o (sym it.2))
 
   -- each card row was made of an old entry

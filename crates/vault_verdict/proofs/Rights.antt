@@ -1,6 +1,6 @@
 -- Rights in each version: what its tables have of them, read as the rows of the newest one.
-use Rattle.std.proofs.Common.{◌≡◌, ◌∙◌, ℕ, ℤ, true, false, List, [], ◌∷◌, drop, map, cond, Option, Some}
-use Rattle.std.proofs.Common.{None, ap, arith, option_map, refl, subst, sym}
+use Rattle.std.proofs.Common.{◌≡◌, ◌∙◌, ℕ, ℤ, true, List, [], ◌∷◌, drop, map, Option, Some}
+use Rattle.std.proofs.Common.{None, ap, arith, option_map, refl, sym}
 use Rattle.std.specs.List.Sorted.{IsPermutation}
 use Rattle.std.specs.Prelude.{string_bytes}
 use Rattle.sqlite.specs.Effect.{Database, IsDatabase}
@@ -10,11 +10,9 @@ use Rattle.sqlite.specs.Tree.{Trees}
 use Rattle.sqlite.specs.declared.types.Value.TheVariants.{Int, Null, Text}
 use Rattle.sqlite_rules.specs.Lists.{Has}
 use Rattle.sqlite_schema.specs.declared.schema.Index.{Index}
-use Rattle.sql_maps.proofs.ConstantColumns.{each_has, stand_narrow}
 use Rattle.sql_maps.proofs.Grown.{keyed_in_grown}
 use Rattle.sql_maps.specs.Rows.{IsApart}
 use Rattle.sql_maps.specs.Schema.{columns_to}
-use Rattle.sql_stored.specs.Reading.{any_left}
 use Rattle.sql_stored.specs.Values.{int_value}
 use Rattle.vault_core.specs.Keys.{Bytes}
 use Rattle.vault_core.specs.Vault.{Vault}
@@ -36,7 +34,6 @@ use Rattle.vault_schema.proofs.Layers.{free_in, layers_after}
 use Rattle.vault_schema.proofs.Newest as newest_tables
 use Rattle.vault_schema.proofs.Version1.Codes as first
 use Rattle.vault_schema.proofs.Version4 as fourth
-use Rattle.vault_schema.specs.Layers.{Either, claim_or_empty, is_from}
 use Rattle.vault_schema.specs.Stands.{lookups_of}
 use Rattle.vault_schema.specs.Version1.Rows as one
 use Rattle.vault_schema.specs.Version1.Rows.{number_or_null}
@@ -48,9 +45,10 @@ use Rattle.vault_schema.specs.declared.version.Version.{Version}
 use Rattle.vault_schema.specs.declared.version.Version.TheVariants.{Four}
 use Rattle.vault_tables.specs.Rights.{endless, right_values}
 use Rattle.vault_verdict.proofs.Sources.{moment_as, moment_told}
-use Rattle.vault_verdict.proofs.Left.{AreGone, none_left}
-use Rattle.vault_verdict.proofs.Permuted.{apart_as}
-use Rattle.vault_verdict.proofs.Table.{Table, keys_apart, pair_of, stand_for}
+use Rattle.vault_verdict.proofs.Left.{AreGone}
+use Rattle.vault_verdict.proofs.ReplacedTable.{AreSaid, Replaced, by_table, narrow_up, said_of_read}
+use Rattle.vault_verdict.proofs.ReplacedTable.{said_where_read}
+use Rattle.vault_verdict.proofs.Table.{Listing, Table, keys_apart, listed_by, pair_of, stand_for}
 use Rattle.vault_verdict.proofs.Tables.{IsFree, same_int, same_text}
 use Rattle.vault_verdict.proofs.Widened.{widened}
 use Rattle.vault_verdict.specs.ReadAs.{rights_in}
@@ -69,6 +67,14 @@ right_back : (q : Bytes × (Bytes × ℤ)) (k : Bytes × (Bytes × Right)) → w
     → right_told q ≡ k
 right_back q k e = grind arith
 
+abbrev by_right : Listing one.right_key 3 (Bytes × (Bytes × ℤ))
+by_right = record {
+  shows = whose;
+  key_of = right_told;
+  fits = λ q. (refl, rw (same_text q.0, same_text q.1.0, same_int q.1.1) refl);
+  back = right_back;
+}
+
 -- what the older table has of a right
 abbrev old_right_values : RawRight → Row
 old_right_values r =
@@ -78,28 +84,12 @@ module _ (others : List SqlTable) (indexes : List Index) where
   -- without an end
   abbrev old_right_table : (free : IsFree others indexes v1.rights 3)
       → Table (keyed_in_grown first.right_table others indexes free) RawRight (Bytes × (Bytes × ℤ))
-  old_right_table free = record {
-    values = old_right_values;
-    shown = number_key;
-    shows = whose;
-    key_of = right_told;
-    whole = λ r. refl;
-    fits = λ q. (refl, rw (same_text q.0, same_text q.1.0, same_int q.1.1) refl);
-    back = right_back;
-  }
+  old_right_table free = listed_by by_right old_right_values number_key (λ r. refl)
 
   -- with an end, or none
   abbrev ending_right_table : (free : IsFree others indexes four.rights 3)
       → Table (keyed_in_grown fourth.right_table others indexes free) RawRight (Bytes × (Bytes × ℤ))
-  ending_right_table free = record {
-    values = right_values;
-    shown = number_key;
-    shows = whose;
-    key_of = right_told;
-    whole = λ r. refl;
-    fits = λ q. (refl, rw (same_text q.0, same_text q.1.0, same_int q.1.1) refl);
-    back = right_back;
-  }
+  ending_right_table free = listed_by by_right right_values number_key (λ r. refl)
 
 -- that of the newest schema
 abbrev newest_right_table : Table newest_tables.right_table RawRight (Bytes × (Bytes × ℤ))
@@ -113,40 +103,31 @@ module _ (v : Version) where
   ending_rights_free : IsFree (behind_four v) (indexes_behind_four v) four.rights 3
   ending_rights_free = free_in v four.rights (columns_to 3) (layers_after Four layers) refl
 
--- ---- rows of the older table, read with no end
-
-module _ (rows : List Row) (items : List RawRight)
-    (are : IsPermutation (map endless rows) (map right_values items)) where
-  -- the rows of it are those that were read, without the end, and each of these has none
-  old_rights_are : IsPermutation rows (map old_right_values items)
-  old_rights_are =
-      stand_narrow right_values old_right_values (λ r. int_value r.ends) (λ r. refl) Null rows items are
-
-  each_endless : (r : RawRight) → Has items r → int_value r.ends ≡ Null
-  each_endless =
-      each_has right_values old_right_values (λ r. int_value r.ends) (λ r. refl) Null rows items are
-
--- without the end, too, no rowid comes twice
-old_rights_up : (items : List RawRight) → IsApart (map right_values items)
-    → IsApart (map old_right_values items)
-old_rights_up = apart_as right_values old_right_values (λ r. refl)
+-- the older table, and the one that came for it: what is read of the older one has no end
+abbrev pub replaced_rights : Replaced RawRight
+replaced_rights = record {
+  since = Four;
+  older = 10;
+  newer = 19;
+  wide = right_values;
+  narrow = old_right_values;
+  extra = λ r. int_value r.ends;
+  parts = λ r. refl;
+  rowids = λ r. refl;
+  default = Null;
+}
 
 -- no right comes twice in them, where no rowid does
 pub rights_apart : (v : Version) (db : Database) → db.schema ≡ schema_of v → IsDatabase db
     → (items : List RawRight) → IsPermutation (rights_in v db.trees) (map right_values items)
     → IsApart (map right_values items) → AreKeysApart number_key items
 rights_apart v db ours sound items are up =
-    elim (is_from Four v) as (λ b. is_from Four v ≡ b
-    → IsPermutation (cond b (db.trees 19) (map endless (db.trees 10))) (map right_values items)
-    → AreKeysApart number_key items) [
-      | true ↦ λ has rows_are.
-          keys_apart (ending_right_table (behind_four v) (indexes_behind_four v) (ending_rights_free v)) db
-          (ours ∙ schema_fourth v has) sound items rows_are up
-      | false ↦ λ none rows_are.
-          keys_apart (old_right_table (behind v) (indexes_behind v) (old_rights_free v)) db
-          (ours ∙ schema_is v) sound items (old_rights_are (db.trees 10) items rows_are)
-          (old_rights_up items up)
-    ] refl are
+    by_table replaced_rights v db.trees items are (λ b. AreKeysApart number_key items)
+    (λ has these. keys_apart
+    (ending_right_table (behind_four v) (indexes_behind_four v) (ending_rights_free v)) db
+    (ours ∙ schema_fourth v has) sound items these up)
+    (λ these none. keys_apart (old_right_table (behind v) (indexes_behind v) (old_rights_free v)) db
+    (ours ∙ schema_is v) sound items these (narrow_up replaced_rights v db.trees items are up))
 
 -- ---- from what a version says of its tables
 
@@ -162,13 +143,9 @@ with_no_ends held rows none are =
 pub rights_claimed : (v : Version) (db : Trees) (h : Lookups) → AreHeld v db h → HasDefaults v h
     → Rights h.rights (rights_in v db)
 rights_claimed v db h it defaults =
-    elim (is_from Four v) as (λ b. claim_or_empty b (OldRights h.rights) (db 10)
-    → (b ≡ true → Rights h.rights (db 19)) → Either b (Unit {0}) (AreEndless h)
-    → Rights h.rights (cond b (db 19) (map endless (db 10)))) [
-      | true ↦ λ older newer none. newer refl
-      | false ↦ λ older newer none. with_no_ends h.rights (db 10)
-          (λ key g at. ap number_or_null (none key g at)) older
-    ] (it.hold.1.1.1.1.1.0 refl) it.hold.1.1.1.1.1.1.1.1.1.0 defaults.1.0
+    said_of_read replaced_rights v db (OldRights h.rights) (Rights h.rights) (AreEndless h)
+    (record { older = it.hold.1.1.1.1.1.0 refl; newer = it.hold.1.1.1.1.1.1.1.1.1.0; default = defaults.1.0 })
+    (λ none. with_no_ends h.rights (db 10) (λ key g at. ap number_or_null (none key g at)))
 
 -- rows that stand for the rights of a vault show them
 pub right_shown : (V : Vault) (tree : List Row) (items : List RawRight)
@@ -200,66 +177,41 @@ module _ (rows : Rows) (apart : HasKeysApart rows) (keep : (r : ℕ) → keeps r
       let none = no_end row.0.ends (endless row.0 row.1) in
       sym (ap (λ (x : GrantRow). x.ends) row.3) ∙ ap (option_map natural) none
 
+  -- each row has the columns of a right, and each right has its row
+  listed : (r : RawRight) → Has rows.rights r
+      → (key : Bytes × (Bytes × Right)) × (g : GrantRow) × (drop 1 (right_values r) ≡ four.right_row key g)
+      × (h.rights key ≡ Some g)
+  listed r there =
+      let it = shows.rights r there in
+      let what = it.2 in
+      let ends : int_value r.ends ≡ number_or_null it.1.ends = ap int_value it.4 ∙ moment_as it.1.ends in (
+        (string_bytes r.caller, (string_bytes r.merchant, it.0)),
+        it.1,
+        λ i. Text (string_bytes r.caller) ∷ Text (string_bytes r.merchant) ∷ Int (what i) ∷ ends i ∷ [],
+        it.3,
+      )
+
+  row_there : (key : Bytes × (Bytes × Right)) (g : GrantRow) → h.rights key ≡ Some g
+      → (r : RawRight) × Has rows.rights r × (right_told (number_key r) ≡ key)
+  row_there key g is = let it = right_row rows key.0 key.1.0 key.1.1 g is in (it.0, it.1, it.2)
+
+  -- so it is without the end
+  old_listed : (r : RawRight) → Has rows.rights r
+      → (key : Bytes × (Bytes × Right)) × (x : Unit {0}) × (drop 1 (old_right_values r) ≡ one.right_row key x)
+      × (option_map four.older (h.rights key) ≡ Some x)
+  old_listed r there =
+      let it = listed r there in (it.0, tt, grind (arith, it.2), ap (option_map four.older) it.3)
+
   module _ (db : Database) (sound : IsDatabase db) (v : Version) (ours : db.schema ≡ schema_of v) where
-    -- the rows of each table stand for the rights of the vault of all rows
-    old_rights_stand : IsPermutation (db.trees 10) (map old_right_values rows.rights)
-        → IsApart (map old_right_values rows.rights) → OldRights h.rights (db.trees 10)
-    old_rights_stand are up =
-        stand_for (old_right_table (behind v) (indexes_behind v) (old_rights_free v)) db
-        (ours ∙ schema_is v) sound _ are up
-        (λ r there.
-        let it = shows.rights r there in
-        let listed : drop 1 (old_right_values r) ≡ one.right_row _ tt = grind (arith, it.2) in (
-          (string_bytes r.caller, (string_bytes r.merchant, it.0)),
-          tt,
-          listed,
-          ap (option_map four.older) it.3,
-        ))
-        (λ k x is.
-        let g = mapped_is four.older (h.rights k) x is in
-        let it = right_row rows k.0 k.1.0 k.1.1 g.0 g.1 in
-        (it.0, it.1, it.2))
-
-    ending_rights_stand : is_from Four v ≡ true → IsPermutation (db.trees 19) (map right_values rows.rights)
-        → IsApart (map right_values rows.rights) → Rights h.rights (db.trees 19)
-    ending_rights_stand has are up =
-        stand_for (ending_right_table (behind_four v) (indexes_behind_four v) (ending_rights_free v)) db
-        (ours ∙ schema_fourth v has) sound _ are up
-        (λ r there.
-        let it = shows.rights r there in
-        let what = it.2 in
-        let ends : int_value r.ends ≡ number_or_null it.1.ends = ap int_value it.4
-        ∙ moment_as it.1.ends in (
-          (string_bytes r.caller, (string_bytes r.merchant, it.0)),
-          it.1,
-          λ i. Text (string_bytes r.caller) ∷ Text (string_bytes r.merchant) ∷ Int (what i) ∷ ends i ∷ [],
-          it.3,
-        ))
-        (λ k g is. let it = right_row rows k.0 k.1.0 k.1.1 g is in (it.0, it.1, it.2))
-
-    module _ (are : IsPermutation (rights_in v db.trees) (map right_values rows.rights))
-        (up : IsApart (map right_values rows.rights)) (gone : AreGone v db.trees layers) where
-      -- the table of schema 1, and that of schema 4
-      pub old_rights_hold : claim_or_empty (is_from Four v) (OldRights h.rights) (db.trees 10)
-      old_rights_hold =
-          elim (is_from Four v) as (λ b. cond b (any_left (db.trees 10)) 0 ≡ 0
-          → IsPermutation (cond b (db.trees 19) (map endless (db.trees 10))) (map right_values rows.rights)
-          → claim_or_empty b (OldRights h.rights) (db.trees 10)) [
-            | true ↦ λ gone are. none_left (db.trees 10) gone
-            | false ↦ λ gone are. old_rights_stand (old_rights_are _ _ are) (old_rights_up _ up)
-          ] gone.1.1.1.1.1.0 are
-
-      pub rights_hold : is_from Four v ≡ true → Rights h.rights (db.trees 19)
-      rights_hold has =
-          ending_rights_stand has
-          (subst (λ b. IsPermutation (cond b (db.trees 19) (map endless (db.trees 10)))
-          (map right_values rows.rights)) has are) up
-
-      -- before schema 4 none ends
-      pub endless_where_old : Either (is_from Four v) (Unit {0}) (AreEndless h)
-      endless_where_old =
-          elim (is_from Four v) as (λ b. IsPermutation (cond b (db.trees 19) (map endless (db.trees 10)))
-          (map right_values rows.rights) → Either b (Unit {0}) (AreEndless h)) [
-            | true ↦ λ are. tt
-            | false ↦ λ are. are_endless (each_endless _ _ are)
-          ] are
+    -- what is said of the table of schema 1, of that of schema 4, and of each end before schema 4
+    pub rights_said : IsPermutation (rights_in v db.trees) (map right_values rows.rights)
+        → IsApart (map right_values rows.rights) → AreGone v db.trees layers
+        → AreSaid replaced_rights v db.trees (OldRights h.rights) (Rights h.rights) (AreEndless h)
+    rights_said are up gone =
+        said_where_read replaced_rights v db.trees rows.rights are up _ _ _ gone.1.1.1.1.1.0
+        (λ has these up. stand_for
+        (ending_right_table (behind_four v) (indexes_behind_four v) (ending_rights_free v)) db
+        (ours ∙ schema_fourth v has) sound _ these up listed row_there)
+        (λ these up. stand_for (old_right_table (behind v) (indexes_behind v) (old_rights_free v)) db
+        (ours ∙ schema_is v) sound _ these up old_listed
+        (λ key x is. let g = mapped_is four.older (h.rights key) x is in row_there key g.0 g.1)) are_endless

@@ -14,15 +14,17 @@ use Rattle.vault_schema.specs.Layers.{Either, claim_or_empty, claims_at, claims_
 use Rattle.vault_schema.specs.Stands.{lookups_of}
 use Rattle.vault_schema.specs.Version1.Rows.{entry_row}
 use Rattle.vault_schema.specs.Version2.Rows.{card_columns, pointing_row}
-use Rattle.vault_schema.specs.Versions.{Lookups}
+use Rattle.vault_schema.specs.Versions.{AreEndless, AreSix, Lookups, Merchants, OldMerchants, OldRights}
+use Rattle.vault_schema.specs.Versions.{Rights}
 use Rattle.vault_schema.specs.Versions.{Stand, StandJoined, Tables, has_cards, layers}
 use Rattle.vault_schema.specs.Versions.{natural_of, number_of, schema_of, tables_of, uncarded_claims}
 use Rattle.vault_schema.specs.declared.v2.Card.{Card}
 use Rattle.vault_schema.specs.declared.v2.Pointing.{Pointing}
 use Rattle.vault_schema.specs.declared.version.Version.{Version}
 use Rattle.vault_verdict.proofs.Left.{AreGone, gone_at, none_left}
-use Rattle.vault_verdict.proofs.Merchants.{merchants_hold, old_merchants_hold, six_where_old}
-use Rattle.vault_verdict.proofs.Rights.{endless_where_old, old_rights_hold, rights_hold}
+use Rattle.vault_verdict.proofs.Merchants.{merchants_said, replaced_merchants}
+use Rattle.vault_verdict.proofs.ReplacedTable.{AreSaid}
+use Rattle.vault_verdict.proofs.Rights.{replaced_rights, rights_said}
 use Rattle.vault_verdict.proofs.Joining.{cards_in, pointing_in}
 use Rattle.vault_verdict.proofs.KeysIn.{apart_keys}
 use Rattle.vault_verdict.proofs.OldEntries.{old_entries_stand, olders_apart}
@@ -54,6 +56,14 @@ module _ (v : Version) (db : Database) (ours : db.schema ≡ schema_of v) (sound
   gone : AreGone v db.trees layers
   gone = gone_at v db.trees layers (sym raws.replaced ∙ (rows_show rows keys keep).replaced)
 
+  -- the tables that were replaced
+  merchants : AreSaid replaced_merchants v db.trees (OldMerchants h.merchants) (Merchants h.merchants)
+      (AreSix h)
+  merchants = merchants_said rows keys keep db sound v ours raws.merchants up.merchants gone
+
+  rights : AreSaid replaced_rights v db.trees (OldRights h.rights) (Rights h.rights) (AreEndless h)
+  rights = rights_said rows keys keep db sound v ours raws.rights up.rights gone
+
   -- all of them, with these entries of schema 1, cards, and entries that point at them
   hold_with : (entries : Bytes × Bytes → Option Entry) (cards : ℤ → Option Card)
       → (pointing : Bytes × Bytes → Option Pointing)
@@ -64,7 +74,7 @@ module _ (v : Version) (db : Database) (ours : db.schema ≡ schema_of v) (sound
   hold_with entries cards pointing entries_hold cards_hold pointing_hold = (
     λ so. version_stands v db ours sound _ raws.versions row alone id (natural_of v) is,
     (
-      λ so. old_merchants_hold rows keys keep db sound v ours raws.merchants up.merchants gone,
+      λ so. merchants.older,
       (
         λ so. counts_stand rows keys keep db sound v ours raws.counts up.counts,
         (
@@ -72,15 +82,12 @@ module _ (v : Version) (db : Database) (ours : db.schema ≡ schema_of v) (sound
           (
             λ so. records_stand rows keys keep db sound v ours raws.records up.records,
             (
-              λ so. old_rights_hold rows keys keep db sound v ours raws.rights up.rights gone,
+              λ so. rights.older,
               (
                 cards_hold,
                 (
                   pointing_hold,
-                  (
-                    merchants_hold rows keys keep db sound v ours raws.merchants up.merchants gone,
-                    (rights_hold rows keys keep db sound v ours raws.rights up.rights gone, tt),
-                  ),
+                  (merchants.newer, (rights.newer, tt)),
                 ),
               ),
             ),
@@ -140,8 +147,5 @@ module _ (v : Version) (db : Database) (ours : db.schema ≡ schema_of v) (sound
           | true ↦ joined_rows
           | false ↦ first_rows
         ] refl raws.entries;
-    defaults = (
-      six_where_old rows keys keep db sound v ours raws.merchants up.merchants gone,
-      (endless_where_old rows keys keep db sound v ours raws.rights up.rights gone, tt),
-    );
+    defaults = (merchants.default, (rights.default, tt));
   }

@@ -1,5 +1,5 @@
 -- A table, and its rows as they were read.
-use Rattle.std.proofs.Common.{◌≡◌, ◌++◌, List, ◌∷◌, map, length, drop, suc, take, true, Option, Some}
+use Rattle.std.proofs.Common.{◌≡◌, ◌++◌, ℕ, List, ◌∷◌, map, length, drop, suc, take, true, Option, Some}
 use Rattle.std.proofs.Common.{Ordering, Equal, sym, ap, ◌∙◌, subst}
 use Rattle.std.proofs.Math.Seq.{take-append_seam}
 use Rattle.std.proofs.lemmas.Cmp.{tied_itself}
@@ -37,6 +37,30 @@ pub record Table {s : Schema} {K X : Type 0} {cmp : K → K → Ordering} {key :
       ++ drop (suc (suc keyed.more)) (values m)
   pub fits : (q : Q) → (length (shows q) ≡ suc keyed.more) × (same_values (shows q) (shows q) ≡ true)
   pub back : (q : Q) (k : K) → shows q ≡ key k → key_of q ≡ k
+
+-- how the n columns of a key are listed, and which key they may be
+pub record Listing {K : Type 0} (key : K → Row) (n : ℕ) (Q : Type 0) : Type 0 where
+  pub shows : Q → Row
+  pub key_of : Q → K
+  pub fits : (q : Q) → (length (shows q) ≡ n) × (same_values (shows q) (shows q) ≡ true)
+  pub back : (q : Q) (k : K) → shows q ≡ key k → key_of q ≡ k
+
+-- so the key of a table is listed, in front of the other columns
+abbrev pub listed_by : {s : Schema} {K X R Q : Type 0} {cmp : K → K → Ordering} {key : K → Row}
+    {value : X → Row} {keyed : Keyed s cmp key value} (l : Listing key (suc keyed.more) Q) (values : R → Row)
+    (shown : R → Q)
+    → ((m : R) → values m ≡ Int (id_in (rowid (values m))) ∷ l.shows (shown m)
+    ++ drop (suc (suc keyed.more)) (values m))
+    → Table keyed R Q
+listed_by l values shown whole = record {
+  values = values;
+  shown = shown;
+  shows = l.shows;
+  key_of = l.key_of;
+  whole = whole;
+  fits = l.fits;
+  back = l.back;
+}
 
 module _ {s : Schema} {K X R Q : Type 0} {cmp : K → K → Ordering} {key : K → Row} {value : X → Row}
     {keyed : Keyed s cmp key value} (t : Table keyed R Q) where

@@ -12,7 +12,7 @@ use Rattle.sql_maps.proofs.KeyTests.{text_eq, int_eq}
 use Rattle.sql_maps.specs.Schema.{Descriptor, columns_to, guards_of, table_of}
 use Rattle.vault_core.proofs.Maps.{bytes_total}
 use Rattle.vault_core.specs.Keys.{Bytes}
-use Rattle.vault_verdict.proofs.Table.{Table}
+use Rattle.vault_verdict.proofs.Table.{Listing, Table, listed_by}
 use Rattle.vault_verdict.specs.Raw as raw
 use Rattle.vault_rules.specs.Codes.{natural}
 use Rattle.vault_rules.specs.VaultOf.{count_key, entry_key, request_key}
@@ -53,6 +53,37 @@ number_back q k e = grind arith
 pub entry_back : (q k : Bytes × Bytes) → Text q.0 ∷ Text q.1 ∷ [] ≡ row.entry_key k → q ≡ k
 entry_back q k e = grind arith
 
+-- ---- how keys are listed
+
+-- a name
+abbrev pub by_name : Listing row.merchant_key 1 Bytes
+by_name = record {
+  shows = λ q. Text q ∷ [];
+  key_of = λ q. q;
+  fits = λ q. (refl, rw (same_text q) refl);
+  back = name_back;
+}
+
+-- a text and a number
+abbrev pub by_number : Listing row.numbered_key 2 (Bytes × ℤ)
+by_number = record {
+  shows = numbered;
+  key_of = number_of;
+  fits = λ q. (refl, rw (same_text q.0, same_int q.1) refl);
+  back = number_back;
+}
+
+-- a merchant and a token
+abbrev pub by_token : Listing row.entry_key 2 (Bytes × Bytes)
+by_token = record {
+  shows = λ q. Text q.0 ∷ Text q.1 ∷ [];
+  key_of = λ q. q;
+  fits = λ q. (refl, rw (same_text q.0, same_text q.1) refl);
+  back = entry_back;
+}
+
+-- ---- the tables
+
 module _ (tables : List SqlTable) (indexes : List Index) where
   -- no index behind those of schema 1 guards the key
   abbrev pub IsFree : Descriptor → ℕ → Type 0
@@ -60,53 +91,22 @@ module _ (tables : List SqlTable) (indexes : List Index) where
 
   abbrev pub counts_in : (free : IsFree v1.counts 2)
       → Table (keyed_in_grown codes.count_table tables indexes free) RawCount (Bytes × ℤ)
-  counts_in free = record {
-    values = raw.count_values;
-    shown = count_key;
-    shows = numbered;
-    key_of = number_of;
-    whole = λ c. refl;
-    fits = λ q. (refl, rw (same_text q.0, same_int q.1) refl);
-    back = number_back;
-  }
+  counts_in free = listed_by by_number raw.count_values count_key (λ c. refl)
 
   abbrev pub records_in : (free : IsFree v1.records 2)
       → Table (keyed_in_grown codes.record_table tables indexes free) RawRecord (Bytes × ℤ)
-  records_in free = record {
-    values = raw.record_values;
-    shown = request_key;
-    shows = numbered;
-    key_of = number_of;
-    whole = λ r. refl;
-    fits = λ q. (refl, rw (same_text q.0, same_int q.1) refl);
-    back = number_back;
-  }
+  records_in free = listed_by by_number raw.record_values request_key (λ r. refl)
 
 -- the entries of schema 1
 abbrev pub old_entries : Table codes.entry_table OldEntry (Bytes × Bytes)
-old_entries = record {
-  values = raw.old_entry_values;
-  shown = λ o. (text_bytes o.merchant, text_bytes o.token);
-  shows = λ q. Text q.0 ∷ Text q.1 ∷ [];
-  key_of = λ q. q;
-  whole = λ e. refl;
-  fits = λ q. (refl, rw (same_text q.0, same_text q.1) refl);
-  back = entry_back;
-}
+old_entries =
+    listed_by by_token raw.old_entry_values (λ o. (text_bytes o.merchant, text_bytes o.token)) (λ e. refl)
 
 -- those of schema 2, in each schema that begins with it
 module _ (tables : List SqlTable) (indexes : List Index) where
   abbrev pub entries_in : (free : guards_of indexes (table_of v2.entries) (columns_to 2) ≡ [])
       → Table (keyed_in_grown second.pointing_table tables indexes free) RawEntry (Bytes × Bytes)
-  entries_in free = record {
-    values = raw.entry_values;
-    shown = entry_key;
-    shows = λ q. Text q.0 ∷ Text q.1 ∷ [];
-    key_of = λ q. q;
-    whole = λ e. refl;
-    fits = λ q. (refl, rw (same_text q.0, same_text q.1) refl);
-    back = entry_back;
-  }
+  entries_in free = listed_by by_token raw.entry_values entry_key (λ e. refl)
 
 -- the tables of the newest schema
 abbrev pub counts : Table (keyed_in_grown codes.count_table newest.behind_first newest.indexes_behind_first
@@ -120,12 +120,4 @@ abbrev pub records :
 records = records_in newest.behind_first newest.indexes_behind_first refl
 
 abbrev pub entries : Table second.pointing_table RawEntry (Bytes × Bytes)
-entries = record {
-  values = raw.entry_values;
-  shown = entry_key;
-  shows = λ q. Text q.0 ∷ Text q.1 ∷ [];
-  key_of = λ q. q;
-  whole = λ e. refl;
-  fits = λ q. (refl, rw (same_text q.0, same_text q.1) refl);
-  back = entry_back;
-}
+entries = listed_by by_token raw.entry_values entry_key (λ e. refl)

@@ -1,5 +1,4 @@
 -- The refusals of an open.
-use Rattle.std.specs.Prelude.{ℕ}
 use Rattle.vault_refusal.specs.declared.refusal.Refusal.{Refusal}
 use Rattle.vault_refusal.specs.declared.refusal.Refusal.TheVariants as refusal
 use Rattle.vault_verdict.specs.declared.fault.OpenFault.{OpenFault}

@@ -1,6 +1,7 @@
 -- Rules for the arguments of a command, as clap sees commands and rules.
 use Rattle.std.specs.Prelude.{◌≡◌, List, [], ◌∷◌, Some, true, false, codes}
-use Rattle.clap.specs.Words.{App, Rule, Text, app_of, new_rule, with_rule}
+use Rattle.clap.specs.Words.{App, Rule, Text, app_of, new_rule, rule_of, with_rule}
+use Rattle.clap.specs.declared.builder.arg.Arg.{Arg}
 use Rattle.clap.specs.declared.builder.command.Command.{Command}
 use Rattle.clap.specs.declared.builder.command.Command.TheViews.{out-Command}
 use Rattle.clap.specs.declared.builder.action.ArgAction.TheVariants.{Set, SetTrue}
@@ -46,6 +47,10 @@ digits_rule = text_option (codes "digits")
 abbrev pub with_rules : App → List Rule → App
 with_rules a [] = a
 with_rules a (r ∷ rs) = with_rules (with_rule a r) rs
+
+-- the argument has this rule, and doesn't go down to subcommands
+abbrev pub IsArg : Arg → Rule → Type 0
+IsArg arg rule = (rule_of arg ≡ rule) × (arg.global ≡ false)
 
 -- the command is this one, and none of its arguments goes down to subcommands
 pub record IsApp (c : Command) (a : App) : Type 0 where

@@ -1,7 +1,7 @@
 //! `batch`: rows answered by the vault of a file.
-ghost use Rattle.std.specs.Prelude.{IfOk, MatchResult};
+ghost use Rattle.std.specs.Prelude.{IfOk};
 ghost use Rattle.vault_words.specs.declared.jobs.Job.{Job};
-ghost use Rattle.vault_app.specs.Plans.{EndsBefore, IsTaskOf};
+ghost use Rattle.vault_app.specs.Plans.{ComesToTask};
 ghost use Rattle.vault_app.specs.World.{untold};
 ghost use Rattle.vault_app.specs.Values.{AreValues};
 
@@ -14,8 +14,7 @@ use vault_words::commands::batch::BatchJob;
 /// Rows are answered in a caller's name at a merchant. Refused by 4 where a name is none.
 pub(crate) fn task(job: &BatchJob<'_>) -> Result<Task, Ending>
     // Ok is the task that the words ask for; Err is how the job may end without a plan
-    ensures task { MatchResult result
-        (IsTaskOf untold (Job.Batch job.entry.now)) (EndsBefore untold (Job.Batch job.entry.now)) }
+    ensures task { ComesToTask untold (Job.Batch job.entry.now) result }
     // with Ok, the parts of the task are values of their types
     ensures proper { IfOk result AreValues }
 {

@@ -1,9 +1,9 @@
 //! `merchant`: a merchant's lives and its lead.
-ghost use Rattle.std.specs.Prelude.{IfOk, MatchResult};
+ghost use Rattle.std.specs.Prelude.{IfOk};
 ghost use Rattle.vault_core.specs.Scalar.{IsLife};
 ghost use Rattle.vault_words.specs.declared.jobs.Job.{Job};
 ghost use Rattle.vault_app.specs.World.{told};
-ghost use Rattle.vault_app.specs.Plans.{EndsBefore, IsTaskOf};
+ghost use Rattle.vault_app.specs.Plans.{ComesToTask};
 ghost use Rattle.vault_app.specs.Values.{AreValues};
 
 use crate::ending::Ending;
@@ -23,9 +23,7 @@ pub(crate) fn task<K: Timekeeper>(time: &K, job: &MerchantJob<'_>) -> Result<Tas
     // the life of multi-use tokens is in range
     requires multi { IsLife job.now.multi_life }
     // Ok is the task that the words ask for; Err is how the job may end without a plan
-    ensures task { MatchResult result
-        (IsTaskOf (told (K.tells time.now)) (Job.Merchant job.entry.now))
-        (EndsBefore (told (K.tells time.now)) (Job.Merchant job.entry.now)) }
+    ensures task { ComesToTask (told (K.tells time.now)) (Job.Merchant job.entry.now) result }
     // with Ok, the parts of the task are values of their types
     ensures proper { IfOk result AreValues }
 {

@@ -3,7 +3,7 @@ ghost use Rattle.std.specs.Prelude.{◌≡◌, IfOk, MatchResult};
 ghost use Rattle.vault_core.specs.Words.{right_word};
 ghost use Rattle.vault_words.specs.declared.jobs.Job.{Job};
 ghost use Rattle.vault_app.specs.World.{told};
-ghost use Rattle.vault_app.specs.Plans.{EndsBefore, IsTaskOf};
+ghost use Rattle.vault_app.specs.Plans.{ComesToTask};
 ghost use Rattle.vault_app.specs.Asked.{AreNames, IsMisnamed};
 ghost use Rattle.vault_app.specs.Values.{AreValues};
 
@@ -55,9 +55,7 @@ fn read(job: &RightJob<'_>) -> Result<Entitlement, u8>
 /// where the right is none, and when it is done by 7 where the merchant isn't known.
 pub(crate) fn grant<K: Timekeeper>(time: &K, job: &GrantJob<'_>) -> Result<Task, Ending>
     // Ok is the task that the words ask for; Err is how the job may end without a plan
-    ensures task { MatchResult result
-        (IsTaskOf (told (K.tells time.now)) (Job.Grant job.entry.now))
-        (EndsBefore (told (K.tells time.now)) (Job.Grant job.entry.now)) }
+    ensures task { ComesToTask (told (K.tells time.now)) (Job.Grant job.entry.now) result }
     // with Ok, the parts of the task are values of their types
     ensures proper { IfOk result AreValues }
 {
@@ -81,9 +79,7 @@ pub(crate) fn grant<K: Timekeeper>(time: &K, job: &GrantJob<'_>) -> Result<Task,
 /// A right of a caller at a merchant is taken away. Refused as a grant is.
 pub(crate) fn withdraw<K: Timekeeper>(time: &K, job: &RightJob<'_>) -> Result<Task, Ending>
     // Ok is the task that the words ask for; Err is how the job may end without a plan
-    ensures task { MatchResult result
-        (IsTaskOf (told (K.tells time.now)) (Job.Withdraw job.entry.now))
-        (EndsBefore (told (K.tells time.now)) (Job.Withdraw job.entry.now)) }
+    ensures task { ComesToTask (told (K.tells time.now)) (Job.Withdraw job.entry.now) result }
     // with Ok, the parts of the task are values of their types
     ensures proper { IfOk result AreValues }
 {

@@ -1,8 +1,8 @@
 //! `rights`: the rights that a file lists.
-ghost use Rattle.std.specs.Prelude.{◌≡◌, IfErr, IfOk, MatchResult};
+ghost use Rattle.std.specs.Prelude.{◌≡◌, IfErr, IfOk};
 ghost use Rattle.vault_words.specs.declared.jobs.Job.{Job};
 ghost use Rattle.vault_app.specs.World.{said};
-ghost use Rattle.vault_app.specs.Plans.{EndsBefore, IsTaskOf};
+ghost use Rattle.vault_app.specs.Plans.{ComesToTask};
 ghost use Rattle.vault_app.specs.Commands.RightsFile.{rights_task};
 ghost use Rattle.vault_app.specs.Rights.{IsListed, IsUnlisted};
 ghost use Rattle.vault_app.specs.Values.{AreValues};
@@ -68,9 +68,8 @@ pub(crate) fn task<P: Paths, K: Timekeeper>(
     job: &RightsFileJob<'_>,
 ) -> Result<Task, Ending>
     // Ok is the task that the words ask for; Err is how the job may end without a plan
-    ensures task { MatchResult result
-        (IsTaskOf (said (K.tells time.now) (P.says paths.now)) (Job.Rights job.entry.now))
-        (EndsBefore (said (K.tells time.now) (P.says paths.now)) (Job.Rights job.entry.now)) }
+    ensures task { ComesToTask (said (K.tells time.now) (P.says paths.now))
+        (Job.Rights job.entry.now) result }
     // with Ok, the parts of the task are values of their types
     ensures proper { IfOk result AreValues }
 {

@@ -1,9 +1,9 @@
 //! `serve`: the vault of a file served on a port.
-ghost use Rattle.std.specs.Prelude.{◌≡◌, IfErr, IfOk, MatchResult};
+ghost use Rattle.std.specs.Prelude.{◌≡◌, IfErr, IfOk};
 ghost use Rattle.vault_core.specs.Scalar.{IsMoment};
 ghost use Rattle.vault_words.specs.declared.jobs.Job.{Job};
 ghost use Rattle.vault_app.specs.Listed.{AreListedAt, EndsUnlisted};
-ghost use Rattle.vault_app.specs.Plans.{EndsBefore, IsTaskOf};
+ghost use Rattle.vault_app.specs.Plans.{ComesToTask};
 ghost use Rattle.vault_app.specs.World.{said};
 ghost use Rattle.vault_app.specs.Values.{AreValues};
 
@@ -49,9 +49,7 @@ pub(crate) fn task<P: Paths, K: Timekeeper>(
     job: &ServeJob<'_>,
 ) -> Result<Task, Ending>
     // Ok is the task that the words ask for; Err is how the job may end without a plan
-    ensures task { MatchResult result
-        (IsTaskOf (said (K.tells time.now) (P.says paths.now)) (Job.Serve job.entry.now))
-        (EndsBefore (said (K.tells time.now) (P.says paths.now)) (Job.Serve job.entry.now)) }
+    ensures task { ComesToTask (said (K.tells time.now) (P.says paths.now)) (Job.Serve job.entry.now) result }
     // with Ok, the parts of the task are values of their types
     ensures proper { IfOk result AreValues }
 {

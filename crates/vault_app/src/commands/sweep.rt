@@ -1,8 +1,8 @@
 //! `sweep`: a merchant's dead tokens, whose card numbers are purged in the vault of a file.
-ghost use Rattle.std.specs.Prelude.{IfOk, MatchResult};
+ghost use Rattle.std.specs.Prelude.{IfOk};
 ghost use Rattle.vault_words.specs.declared.jobs.Job.{Job};
 ghost use Rattle.vault_app.specs.World.{told};
-ghost use Rattle.vault_app.specs.Plans.{EndsBefore, IsTaskOf};
+ghost use Rattle.vault_app.specs.Plans.{ComesToTask};
 ghost use Rattle.vault_app.specs.Values.{AreValues};
 
 use crate::asker::asker_of;
@@ -17,9 +17,7 @@ use vault_words::commands::sweep::SweepJob;
 /// the merchant's is far ahead of the clock's.
 pub(crate) fn task<K: Timekeeper>(time: &K, job: &SweepJob<'_>) -> Result<Task, Ending>
     // Ok is the task that the words ask for; Err is how the job may end without a plan
-    ensures task { MatchResult result
-        (IsTaskOf (told (K.tells time.now)) (Job.Sweep job.entry.now))
-        (EndsBefore (told (K.tells time.now)) (Job.Sweep job.entry.now)) }
+    ensures task { ComesToTask (told (K.tells time.now)) (Job.Sweep job.entry.now) result }
     // with Ok, the parts of the task are values of their types
     ensures proper { IfOk result AreValues }
 {

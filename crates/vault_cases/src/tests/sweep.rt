@@ -5,7 +5,7 @@ use vault_core::command::Command;
 use vault_core::name::{Caller, MerchantId};
 use vault_core::request::RequestNo;
 use vault_core::usage::Use;
-use vault_jobs::sweep::{Swept, sweep};
+use vault_jobs::sweep::sweep;
 use vault_pan::draw::Digits;
 use vault_pan::pan::Pan;
 use vault_script::case::answer_told;
@@ -45,7 +45,7 @@ const EARLIER: &str =
 sweep till-1 shop1 1000 = purged 2";
 
 /// How the sweep of a line `sweep CALLER MERCHANT NOW` ends.
-fn swept(vault: &mut Vault<MemTables>, line: &str) -> Option<Swept> {
+fn swept(vault: &mut Vault<MemTables>, line: &str) -> Option<Result<u64, u8>> {
     let asker = Asker {
         caller: caller(line, 1)?,
         merchant: merchant(line, 2)?,
@@ -60,8 +60,8 @@ fn swept(vault: &mut Vault<MemTables>, line: &str) -> Option<Swept> {
 /// The ending of a sweep in words.
 fn sweep_told(alloc: Global, vault: &mut Vault<MemTables>, line: &str) -> String {
     let told = match swept(vault, line) {
-        Some(Swept::Purged(count)) => format!(in alloc; "purged {count}"),
-        Some(Swept::Refused(number)) => format!(in alloc; "refused {number}"),
+        Some(Ok(count)) => format!(in alloc; "purged {count}"),
+        Some(Err(number)) => format!(in alloc; "refused {number}"),
         None => String::from_str(alloc, "no sweep"),
     };
     told.unwrap_or(String::new(alloc))

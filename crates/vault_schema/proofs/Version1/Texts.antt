@@ -11,7 +11,7 @@ use Rattle.sqlite_sql.specs.declared.ops.BinaryOp.TheVariants.{Arith}
 use Rattle.sql_maps.specs.Schema.{grown}
 use Rattle.sql_maps.specs.Texts.{IsQuery, IsWrite, query_of, sorted_of, ordered_by, by_key}
 use Rattle.sql_maps.specs.Texts.{insert, update}
-use Rattle.sql_maps.proofs.Full.{all_columns}
+use Rattle.vault_schema.proofs.Meanings.{whole_of}
 use Rattle.vault_schema.specs.Versioned.{versioned}
 use Rattle.vault_schema.specs.Version1.Tables.{v1}
 use Rattle.vault_schema.specs.declared.v1.TheConstants.{READ_VERSIONS, READ_COUNTS}
@@ -38,13 +38,11 @@ module _ (ts : List Table) (is : List Index) where
 
   -- ---- whole tables
 
-  pub read_counts_is : IsQuery (grown v1 ts is) READ_COUNTS.now
-      (sorted_of 3 [] (all_columns 3) [] (ordered_by (0 ∷ [])))
+  pub read_counts_is : IsQuery (grown v1 ts is) READ_COUNTS.now (whole_of 3 3)
   unfolding understood everything
   read_counts_is = record { names = _; is = refl; plain = (refl, refl); unlisted = refl }
 
-  pub read_entries_is : IsQuery (grown v1 ts is) READ_ENTRIES.now
-      (sorted_of 5 [] (all_columns 7) [] (ordered_by (0 ∷ [])))
+  pub read_entries_is : IsQuery (grown v1 ts is) READ_ENTRIES.now (whole_of 5 7)
   unfolding understood everything
   read_entries_is = record { names = _; is = refl; plain = (refl, refl); unlisted = refl }
 
@@ -53,8 +51,7 @@ module _ (ts : List Table) (is : List Index) where
   unfolding understood everything
   read_entry_ids_is = record { names = _; is = refl; plain = (refl, refl); unlisted = refl }
 
-  pub read_records_is : IsQuery (grown v1 ts is) READ_RECORDS.now
-      (sorted_of 8 [] (all_columns 5) [] (ordered_by (0 ∷ [])))
+  pub read_records_is : IsQuery (grown v1 ts is) READ_RECORDS.now (whole_of 8 5)
   unfolding understood everything
   read_records_is = record { names = _; is = refl; plain = (refl, refl); unlisted = refl }
 

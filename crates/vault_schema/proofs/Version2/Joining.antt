@@ -172,33 +172,43 @@ module _ {cards : ℤ → Option Card} {pointing : Bytes × Bytes → Option Poi
             revoked = e.revoked;
           })
 
+  -- a card has another number of uses
+  reused : {owed owed' : ℤ → ℕ} → AreJoined owed cards pointing entries → (id : ℤ) (c : Card)
+      → cards id ≡ Some c → (uses : ℕ)
+      → (many : ℕ) × AreMany (λ key. card_of pointing key ≡ Some id) many × (uses ≡ many + owed' id)
+      × (1 ≤ uses)
+      → ((n : ℤ) → (n ≡ id → ⊥) → owed' n ≡ owed n)
+      → AreJoined owed' (put int_cmp cards id (Some (record c { uses = uses }))) pointing entries
+  reused {owed} {owed'} it id c is uses counted others = recarded it id (Some (record c { uses = uses }))
+      (record {
+        agrees = λ key at.
+            let own = it.owned key id at in
+            let same : own.0 ≡ c = some_card own.0 c (sym own.1 ∙ is) in (
+              record c { uses = uses },
+              refl,
+              ap (λ (x : Card). x.merchant) (sym same) ∙ own.2,
+              ap (option_map (λ (x : Card). x.number)) is,
+            );
+        alone = λ n x d far e other m number.
+            let same = some_card _ _ e in
+            far (it.once n id d c other is (sym (ap (λ (y : Card). y.merchant) same ∙ m))
+            (sym (ap (λ (y : Card). y.number) same ∙ number)));
+        counted = λ d e. subst (λ u. (many : ℕ) × AreMany (λ key. card_of pointing key ≡ Some id) many
+            × (u ≡ many + owed' id) × (1 ≤ u)) (ap (λ (y : Card). y.uses) (some_card _ _ e)) counted;
+        others = others;
+      })
+
   -- ---- one use more, owed
 
   -- of a card that is there
   pub raised : AreJoined nothing_owed cards pointing entries → (id : ℤ) (c : Card) → cards id ≡ Some c
       → AreJoined (owed_to (Some id)) (put int_cmp cards id (Some (record c { uses = c.uses + 1 }))) pointing
       entries
-  raised it id c is = recarded it id (Some (record c { uses = c.uses + 1 })) (record {
-    agrees = λ key at.
-        let own = it.owned key id at in
-        let same : own.0 ≡ c = some_card own.0 c (sym own.1 ∙ is) in (
-          record c { uses = c.uses + 1 },
-          refl,
-          ap (λ (x : Card). x.merchant) (sym same) ∙ own.2,
-          ap (option_map (λ (x : Card). x.number)) is,
-        );
-    alone = λ n x d far e other m number.
-        let same = some_card _ _ e in
-        far (it.once n id d c other is (sym (ap (λ (y : Card). y.merchant) same ∙ m))
-        (sym (ap (λ (y : Card). y.number) same ∙ number)));
-    counted = λ d e.
-        let was = it.used id c is in
-        let uses = ap (λ (y : Card). y.uses) (some_card _ _ e) in
-        let owes = owed_at id in
-        let many = was.2 in
-        (was.0, was.1, omega (arith, uses, owes, many), omega (arith, uses));
-    others = λ n far. owed_beside id n far;
-  })
+  raised it id c is = reused it id c is (c.uses + 1)
+      (let was = it.used id c is in
+      let owes = owed_at id in
+      let many = was.2 in
+      (was.0, was.1, omega (arith, owes, many), omega arith)) (λ n far. owed_beside id n far)
 
   -- of a card that is new
   pub added : AreJoined nothing_owed cards pointing entries → (id : ℤ) → cards id ≡ None → (m number : Bytes)
@@ -325,27 +335,11 @@ module _ {cards : ℤ → Option Card} {pointing : Bytes × Bytes → Option Poi
       → cards id ≡ Some c
       → (fewer : ℕ) → c.uses ≡ suc fewer → 1 ≤ fewer
       → AreJoined nothing_owed (put int_cmp cards id (Some (record c { uses = fewer }))) pointing entries
-  lowered id it c is fewer less some = recarded it id (Some (record c { uses = fewer })) (record {
-    agrees = λ key at.
-        let own = it.owned key id at in
-        let same : own.0 ≡ c = some_card own.0 c (sym own.1 ∙ is) in (
-          record c { uses = fewer },
-          refl,
-          ap (λ (x : Card). x.merchant) (sym same) ∙ own.2,
-          ap (option_map (λ (x : Card). x.number)) is,
-        );
-    alone = λ n x d far e other m number.
-        let same = some_card _ _ e in
-        far (it.once n id d c other is (sym (ap (λ (y : Card). y.merchant) same ∙ m))
-        (sym (ap (λ (y : Card). y.number) same ∙ number)));
-    counted = λ d e.
-        let was = it.used id c is in
-        let uses = ap (λ (y : Card). y.uses) (some_card _ _ e) in
-        let owes = owed_at id in
-        let many = was.2 in
-        (was.0, was.1, omega (arith, uses, owes, many, less), omega (arith, uses, some));
-    others = λ n far. sym (owed_beside id n far);
-  })
+  lowered id it c is fewer less some = reused it id c is fewer
+      (let was = it.used id c is in
+      let owes = owed_at id in
+      let many = was.2 in
+      (was.0, was.1, omega (arith, owes, many, less), some)) (λ n far. sym (owed_beside id n far))
 
   -- of a card that goes
   pub dropped : (id : ℤ) → AreJoined (owed_to (Some id)) cards pointing entries → (c : Card)

@@ -7,7 +7,7 @@ use Rattle.sqlite.specs.Schema.{Schema}
 use Rattle.sqlite_schema.specs.declared.schema.Index.{Index}
 use Rattle.sql_maps.specs.Schema.{table_of, plain_index}
 use Rattle.sql_maps.specs.Texts.{MakesTable, MakesIndex}
-use Rattle.vault_schema.proofs.Version1.Making.{treeless}
+use Rattle.vault_schema.proofs.Meanings.{treeless}
 use Rattle.vault_schema.specs.Version1.Tables.{v1}
 use Rattle.vault_schema.specs.Version2.Tables.{v2, cards, entries}
 use Rattle.vault_schema.specs.declared.v2.TheConstants.{CREATE_CARDS, CREATE_ENTRIES, CREATE_ENTRIES_CARD}
@@ -24,19 +24,18 @@ with_entries = created with_cards (treeless entries)
 abbrev pub card_index : Index
 card_index = plain_index 0 (codes "entries2_card") 14 (1 ∷ 3 ∷ [])
 
-pub makes_cards : MakesTable v1 CREATE_CARDS.now (treeless cards)
-unfolding understood everything
-makes_cards = record { is = refl; whole = refl; plain = (refl, refl); defines = refl; uncounted = refl }
+-- what each text makes of the schema that those before it made, of which the last is schema 2
+pub record MakesSecond : Type 0 where
+  pub for_cards : MakesTable v1 CREATE_CARDS.now (treeless cards)
+  pub for_entries : MakesTable with_cards CREATE_ENTRIES.now (treeless entries)
+  pub for_card : MakesIndex with_entries CREATE_ENTRIES_CARD.now 7 (table_of entries) card_index
+  pub all : indexed with_entries (table_of entries) card_index ≡ v2
 
-pub makes_entries : MakesTable with_cards CREATE_ENTRIES.now (treeless entries)
+pub makes_second : MakesSecond
 unfolding understood everything
-makes_entries = record { is = refl; whole = refl; plain = (refl, refl); defines = refl; uncounted = refl }
-
-pub makes_entries_card : MakesIndex with_entries CREATE_ENTRIES_CARD.now 7 (table_of entries) card_index
-unfolding understood everything
-makes_entries_card = record { is = refl; whole = refl; plain = (refl, refl); here = refl; defines = refl }
-
--- with all of them it is schema 2
-pub all_made : indexed with_entries (table_of entries) card_index ≡ v2
-unfolding everything
-all_made = refl
+makes_second = record {
+  for_cards = record { is = refl; whole = refl; plain = (refl, refl); defines = refl; uncounted = refl };
+  for_entries = record { is = refl; whole = refl; plain = (refl, refl); defines = refl; uncounted = refl };
+  for_card = record { is = refl; whole = refl; plain = (refl, refl); here = refl; defines = refl };
+  all = refl;
+}

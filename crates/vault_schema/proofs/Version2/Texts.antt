@@ -14,7 +14,7 @@ use Rattle.sqlite_sql.specs.declared.ops.UnaryOp.TheVariants.{Not}
 use Rattle.sql_maps.specs.Schema.{grown}
 use Rattle.sql_maps.specs.Texts.{IsQuery, IsWrite, query_of, sorted_of, ordered_by, by_id, by_key, eq, update}
 use Rattle.sql_maps.specs.Texts.{insert, upsert, delete, first_of}
-use Rattle.sql_maps.proofs.Full.{all_columns}
+use Rattle.vault_schema.proofs.Meanings.{whole_of}
 use Rattle.vault_schema.specs.Version2.Tables.{v2}
 use Rattle.vault_schema.specs.declared.v2.TheConstants.{SET_VERSION, EMPTY_ENTRIES, FIND_CARD}
 use Rattle.vault_schema.specs.declared.v2.TheConstants.{FIND_NUMBER, FIND_USES, ADD_CARD, SET_USES}
@@ -89,8 +89,7 @@ module _ (ts : List Table) (is : List Index) where
   unfolding understood everything
   read_cards_is = record { names = _; is = refl; plain = (refl, refl); unlisted = refl }
 
-  pub read_entries_is : IsQuery (grown v2 ts is) READ_ENTRIES.now
-      (sorted_of 14 [] (all_columns 7) [] (ordered_by (0 ∷ [])))
+  pub read_entries_is : IsQuery (grown v2 ts is) READ_ENTRIES.now (whole_of 14 7)
   unfolding understood everything
   read_entries_is = record { names = _; is = refl; plain = (refl, refl); unlisted = refl }
 

@@ -9,6 +9,7 @@ use Rattle.vault_core.specs.Numbers.{right_number, use_number}
 use Rattle.vault_core.specs.declared.right.Right.{Right}
 use Rattle.vault_core.specs.declared.row.Entry.{Entry}
 use Rattle.vault_core.specs.declared.row.Record.{Record}
+use Rattle.vault_core.specs.declared.usage.Use.{Use}
 use Rattle.vault_schema.specs.declared.v1.Lives.{Lives}
 
 -- a text, or NULL
@@ -49,11 +50,14 @@ count_row = row_of numbered_key number_column
 abbrev pub entry_key : Bytes × Bytes → Row
 entry_key key = Text key.0 ∷ Text key.1 ∷ []
 
+-- the columns of an entry behind what it stands for: its use, its birth, its end, and when it was revoked
+abbrev pub life_columns : Use → ℕ → ℕ → Option ℕ → Row
+life_columns usage birth expires revoked =
+    Int (pos (use_number usage)) ∷ Int (pos birth) ∷ Int (pos expires) ∷ number_or_null revoked ∷ []
+
 -- the columns of an entry behind its key
 abbrev pub entry_columns : Entry → Row
-entry_columns e =
-    text_or_null e.number ∷ Int (pos (use_number e.usage)) ∷ Int (pos e.birth) ∷ Int (pos e.expires)
-    ∷ number_or_null e.revoked ∷ []
+entry_columns e = text_or_null e.number ∷ life_columns e.usage e.birth e.expires e.revoked
 
 -- an entry, by its merchant and its token
 abbrev pub entry_row : Bytes × Bytes → Entry → Row

@@ -5,8 +5,7 @@ use Rattle.sqlite.specs.declared.types.Value.{Value}
 use Rattle.sqlite.specs.declared.types.Value.TheVariants.{Null, Int, Text}
 use Rattle.sql_maps.specs.Codes.{row_of}
 use Rattle.vault_core.specs.Keys.{Bytes}
-use Rattle.vault_core.specs.Numbers.{use_number}
-use Rattle.vault_schema.specs.Version1.Rows.{number_or_null, entry_key}
+use Rattle.vault_schema.specs.Version1.Rows.{entry_key, life_columns}
 use Rattle.vault_schema.specs.declared.v2.Card.{Card}
 use Rattle.vault_schema.specs.declared.v2.Pointing.{Pointing}
 
@@ -21,9 +20,7 @@ card_columns c = Null ∷ Text c.merchant ∷ Text c.number ∷ Int (pos c.uses)
 
 -- the columns of an entry behind its key
 abbrev pub pointing_columns : Pointing → Row
-pointing_columns e =
-    id_or_null e.card ∷ Int (pos (use_number e.usage)) ∷ Int (pos e.birth) ∷ Int (pos e.expires)
-    ∷ number_or_null e.revoked ∷ []
+pointing_columns e = id_or_null e.card ∷ life_columns e.usage e.birth e.expires e.revoked
 
 -- an entry, by its merchant and its token
 abbrev pub pointing_row : Bytes × Bytes → Pointing → Row

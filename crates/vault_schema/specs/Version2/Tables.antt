@@ -4,9 +4,9 @@ use Rattle.sqlite.specs.Kind.TheVariants.{Integer, Text}
 use Rattle.sqlite.specs.Schema.{Schema}
 use Rattle.sqlite.specs.Table.{Table}
 use Rattle.sqlite_schema.specs.declared.schema.Index.{Index}
-use Rattle.sql_maps.specs.Schema.{Descriptor, table_of, keyed_by, key_index, plain_index, present, optional}
+use Rattle.sql_maps.specs.Schema.{Descriptor, table_of, key_index, present, optional}
 use Rattle.sql_maps.specs.Schema.{grown}
-use Rattle.vault_schema.specs.Version1.Tables.{v1}
+use Rattle.vault_schema.specs.Version1.Tables.{entries_at, entry_indexes_at, v1}
 
 -- cards by their id, which stands in the rowid; no two have the same merchant and number
 abbrev pub cards : Descriptor
@@ -22,11 +22,7 @@ cards = record {
 
 -- entries by merchant and token, each with the id of its card
 abbrev pub entries : Descriptor
-entries =
-    keyed_by 2 14 (codes "entries2")
-    (present (codes "merchant") Text ∷ present (codes "token") Text ∷ optional (codes "card") Integer
-    ∷ present (codes "usage") Integer ∷ present (codes "birth") Integer
-    ∷ present (codes "expires") Integer ∷ optional (codes "revoked") Integer ∷ [])
+entries = entries_at 14 (codes "entries2") (optional (codes "card") Integer)
 
 -- the tables behind those of schema 1
 abbrev pub tables2 : List Table
@@ -37,9 +33,7 @@ abbrev pub card_indexes : List Index
 card_indexes = key_index 13 (codes "sqlite_autoindex_cards2_1") 12 (2 ∷ 3 ∷ []) ∷ []
 
 abbrev pub entry_indexes : List Index
-entry_indexes =
-    key_index 15 (codes "sqlite_autoindex_entries2_1") 14 (1 ∷ 2 ∷ [])
-    ∷ plain_index 16 (codes "entries2_card") 14 (1 ∷ 3 ∷ []) ∷ []
+entry_indexes = entry_indexes_at 14 (codes "sqlite_autoindex_entries2_1") (codes "entries2_card")
 
 -- the indexes behind those of schema 1
 abbrev pub indexes2 : List Index

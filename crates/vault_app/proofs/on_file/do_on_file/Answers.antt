@@ -1,30 +1,25 @@
-use Rattle.std.proofs.Common.{◌≡◌, [], Some, arith, inr, refl, subst, sym}
+use Rattle.std.proofs.Common.{◌≡◌, [], Some, ap, inr, refl, subst, sym, ◌∙◌}
+use Rattle.vault_jobs.proofs.Parts.{unlinked}
 use Rattle.vault_jobs.specs.Streams.{Streams, streams, with_links}
-use Rattle.vault_listen.proofs.Linking.{none_then}
+use Rattle.vault_listen.proofs.ServedConnections.{none_then}
 use Rattle.vault_sql.specs.Places.{IsPast}
 use Rattle.vault_store.specs.Applied.{is_broken}
 use Rattle.vault_app.proofs.Files.{ended, refused_file, works}
 use Rattle.vault_app.specs.Files.{EndsOnFile}
-use Rattle.vault_app.specs.World.{World, world_of}
+use Rattle.vault_app.specs.World.{World, world_at}
 use Rattle.vault_app.proofs.on_file.do_on_file.Goals as goal
 
 pub returns-in-Err : goal.returns-in-Err
 returns-in-Err g c =
-    let paths = c.args.paths in
-    let world : World = world_of (g.K.Timekeeper.tells c.args.time.now) (g.P.Paths.holds paths)
-    (g.P.Paths.lacks paths) (g.P.Paths.refuses paths) (g.P.Paths.says paths)
-    (g.P.Paths.logs paths) in
+    let world : World = world_at g.P.Paths (g.K.Timekeeper.tells c.args.time.now) c.args.paths in
     let s : Streams = with_links (streams g.R.Read.remaining c.args.input.now c.args.input.now
     g.W.Write.contents c.args.output.now c.args.output.now) [] in
     let told = c.in-Err.ensures in
     record {
-      does = (
-        [],
-        none_then (g.N.Network.tells c.args.network.now),
-        refused_file world c.args.path.now (c.args.input.now ≡ c.args.input.now)
-            (c.args.output.now ≡ c.args.output.now) s c.in-Err.left c.args.task.now c.in-Err.fault
-            told.refused told.refused_there told.spared told.tells told.left told.same refl refl,
-      );
+      does = unlinked (g.N.Network.tells c.args.network.now) _ (refused_file world c.args.path.now
+          (c.args.input.now ≡ c.args.input.now) (c.args.output.now ≡ c.args.output.now) s c.in-Err.left
+          c.args.task.now c.in-Err.fault told.refused told.refused_there told.spared told.tells told.left
+          told.same refl refl);
     }
 
 pub returns-then-is_missing : goal.returns-then-is_missing
@@ -45,15 +40,12 @@ returns-then-is_missing g c =
 pub returns : goal.returns
 returns g c =
     let it = c.do_task-outcome.ensures.does in
-    let paths = c.args.paths in
-    let world : World = world_of (g.K.Timekeeper.tells c.args.time.now) (g.P.Paths.holds paths)
-    (g.P.Paths.lacks paths) (g.P.Paths.refuses paths) (g.P.Paths.says paths)
-    (g.P.Paths.logs paths) in
+    let world : World = world_at g.P.Paths (g.K.Timekeeper.tells c.args.time.now) c.args.paths in
     let s : Streams = with_links (streams g.R.Read.remaining c.args.input.now c.do_task-outcome.new.input
     g.W.Write.contents c.args.output.now c.do_task-outcome.new.output) it.0 in
     let unread : Type 0 = c.do_task-outcome.new.input ≡ c.args.input.now in
     let unsent : Type 0 = c.do_task-outcome.new.output ≡ c.args.output.now in
-    let left = c.close_files-left.result in
+    let left = c.close-left.result in
     let fresh = c.in-Ok.ensures.fresh in
     record {
       does = (
@@ -68,7 +60,7 @@ returns g c =
             (is_broken c.do_task-outcome.new.vault) unread unsent s c.in-Ok.ensures.found
             (fresh.1.0, λ V. subst (λ place. IsPast place V) (sym fresh.1.1) tt)
             c.do_task-outcome.ensures.disk_honest
-            (λ clean. omega (arith, c.close_files-left.ensures.clean, clean)) c.close_files-left.ensures.after
-            c.close_files-left.ensures.either_after it.2)),
+            c.into_connection.result (c.into_connection.ensures ∙ ap (λ t. t.conn) c.into_tables.ensures)
+            c.close-left.ensures.clean c.close-left.ensures.after it.2)),
       );
     }

@@ -1,8 +1,8 @@
 use Rattle.std.proofs.Common.{◌≡◌, [], inl, inr, refl, subst}
 use Rattle.vault_jobs.specs.Streams.{streams, with_links}
-use Rattle.vault_listen.proofs.Linking.{none_then}
+use Rattle.vault_listen.proofs.ServedConnections.{none_then}
 use Rattle.vault_app.specs.Jobs.{DoesPlan}
-use Rattle.vault_app.specs.World.{World, world_of}
+use Rattle.vault_app.specs.World.{World, world_at}
 use Rattle.vault_app.proofs.Unread.{unasked}
 use Rattle.vault_app.proofs.run.ended.Goals as goal
 
@@ -10,10 +10,7 @@ pub returns-in-Ok : goal.returns-in-Ok
 returns-in-Ok g c =
     let asked = c.in-Ok.ensures.planned.1 in
     let it = c.carry_out.ensures.does in
-    let paths = c.args.paths in
-    let world : World = world_of (g.K.Timekeeper.tells c.args.time.now) (g.P.Paths.holds paths)
-    (g.P.Paths.lacks paths) (g.P.Paths.refuses paths) (g.P.Paths.says paths)
-    (g.P.Paths.logs paths) in record {
+    let world : World = world_at g.P.Paths (g.K.Timekeeper.tells c.args.time.now) c.args.paths in record {
       does = (
         it.0,
         it.1,

@@ -3,8 +3,8 @@ use Rattle.std.proofs.Common.{length-append}
 use Rattle.std.specs.Prelude.{if◌then◌else◌}
 use Rattle.csv.specs.Records.{fields_of}
 use Rattle.vault_engine.specs.Asking.{reply_to, vault_after}
-use Rattle.vault_engine.specs.Passing.{passing}
-use Rattle.vault_engine.proofs.Following.{Joins, answered_then, then_before}
+use Rattle.vault_engine.specs.Passing.{Passage, passing}
+use Rattle.vault_engine.proofs.JoinedUnits.{Joins, answered_then, then_before}
 use Rattle.vault_batch.specs.Asking.{Asked, rows_by}
 use Rattle.vault_batch.specs.Batched.{rows_of, tokens}
 use Rattle.vault_batch.specs.Lines.{first_line, has_token}
@@ -14,6 +14,8 @@ use Rattle.vault_batch.proofs.TokenCounts.{counts_one, first_answered, one_at_mo
 use Rattle.vault_batch.proofs.BatchStops.{beside_writer, records_more, stops_at_row}
 use Rattle.vault_batch.proofs.BatchStops.{stops_between, stops_first}
 use Rattle.vault_batch.proofs.ReaderProgress.{begins_given}
+use Rattle.vault_batch.proofs.batch.answer_rows.Given.{Over}
+use Rattle.vault_batch.proofs.batch.answer_rows.Goals.{In-Ok-true, After-ask}
 use Rattle.vault_batch.proofs.batch.answer_rows.Goals as goal
 
 pub returns-in-Err-clause-stopped : goal.returns-in-Err-clause-stopped
@@ -74,14 +76,35 @@ returns-in-Err-read_record-clause-stopped g c =
     (begins_given known (λ r. g.R.Read.remaining r.now.inner) c.rows.records _ inv.stands.gave)
     inv.answered c.in-Err-read_record.ensures.only
 
+-- the record that was read stands next
+next_stands : (g : Over) (c : In-Ok-true g) → StandsAfter (g.R.Read.remaining c.args.reader.now.inner)
+    (λ r. g.R.Read.remaining r.now.inner)
+    (records_with (rows_of c.rows.invariant.asked) ++ fields_of c.read_record.new.fields ∷ [])
+    c.read_record.new.records
+next_stands g c =
+    subst (StandsNext (g.R.Read.remaining c.args.reader.now.inner) (λ r. g.R.Read.remaining r.now.inner)
+    (records_with (rows_of c.rows.invariant.asked)) (fields_of c.read_record.new.fields)
+    c.read_record.new.records) c.in-Ok-true.field-0-test
+    (c.in-Ok-true.ensures.next (g.R.Read.remaining c.args.reader.now.inner) _ c.rows.invariant.stands)
+
+module _ (g : Over) (c : After-ask g) where
+  -- the passage of the rows before this one, and that of this one
+  abbrev early : Passage
+  early = passing g.S.Source.given c.args.source.now c.rows.source g.W.Write.contents c.args.writer.now
+      c.rows.writer g.T.Tables.is_honest g.T.Tables.holds g.T.Tables.leaves c.args.vault.now c.rows.vault
+
+  abbrev late : Passage
+  late = passing g.S.Source.given c.rows.source c.ask.new.source g.W.Write.contents c.rows.writer
+      c.ask.new.writer g.T.Tables.is_honest g.T.Tables.holds g.T.Tables.leaves c.rows.vault c.ask.new.vault
+
+  joins : Joins early late
+  joins = record { given = refl; sent = refl; held = λ V h. h; back = c.ask.ensures.trusted.disk_honest }
+
 pub returns-in_default-of-clause-stopped : goal.returns-in_default-of-clause-stopped
 returns-in_default-of-clause-stopped g c =
     let inv = c.rows.invariant in
     let known = g.R.Read.remaining c.args.reader.now.inner in
-    let next = subst (StandsNext known (λ r. g.R.Read.remaining r.now.inner)
-    (records_with (rows_of inv.asked)) (fields_of c.read_record.new.fields)
-    c.read_record.new.records) c.in-Ok-true.field-0-test
-    (c.in-Ok-true.ensures.next known _ inv.stands) in
+    let next = next_stands g (goal.at.returns-in_default-of-clause-stopped g c).In-Ok-true in
     record {
       rows = inv.asked;
       bad = fields_of c.read_record.new.fields;
@@ -95,18 +118,10 @@ pub rows-preserved : goal.rows-preserved
 rows-preserved g c =
     let inv = c.rows.invariant in
     let known = g.R.Read.remaining c.args.reader.now.inner in
-    let next = subst (StandsNext known (λ r. g.R.Read.remaining r.now.inner)
-    (records_with (rows_of inv.asked)) (fields_of c.read_record.new.fields)
-    c.read_record.new.records) c.in-Ok-true.field-0-test
-    (c.in-Ok-true.ensures.next known _ inv.stands) in
+    let next = next_stands g (goal.at.rows-preserved g c).In-Ok-true in
     let one = c.in-Ok.ensures.answered in
     let x : Asked = one.0 in
-    let early = passing g.S.Source.given c.args.source.now c.rows.source g.W.Write.contents c.args.writer.now
-    c.rows.writer g.T.Tables.is_honest g.T.Tables.holds g.T.Tables.leaves c.args.vault.now c.rows.vault in
-    let late = passing g.S.Source.given c.rows.source c.ask.new.source g.W.Write.contents c.rows.writer
-    c.ask.new.writer g.T.Tables.is_honest g.T.Tables.holds g.T.Tables.leaves c.rows.vault c.ask.new.vault in
-    let j : Joins early late =
-    record { given = refl; sent = refl; held = λ V h. h; back = c.ask.ensures.trusted.disk_honest } in
+    let it = (goal.at.rows-preserved g c).After-ask in
     let more : length (inv.asked ++ x ∷ []) ≡ length inv.asked + 1 = length-append inv.asked (x ∷ []) in
     record {
       asked = inv.asked ++ x ∷ [];
@@ -115,8 +130,8 @@ rows-preserved g c =
           (ap (λ (fs : Fields). records_with (rows_of inv.asked) ++ fs ∷ [])
           (c.in-Some.ensures.some ∙ ap fields_in (sym one.1)) ∙ sym (records_more inv.asked x)) next;
       answered =
-          answered_then (rows_by c.args.asker.now) first_line early late inv.asked inv.answered j (x ∷ [])
-          one.2;
+          answered_then (rows_by c.args.asker.now) first_line (early g it) (late g it) inv.asked inv.answered
+          (joins g it) (x ∷ []) one.2;
       few = omega (arith, inv.few, more, c.from-tokens.ensures, one_at_most c.has_token.result);
       counted = λ V b.
           let before : c.rows.tokens ≡ tokens V inv.asked =
@@ -128,7 +143,8 @@ rows-preserved g c =
           (sym before) in
           counts_one c.has_token.result _ c.rows.tokens _ c.from-tokens.result c.from-tokens.ensures
           (c.has_token.ensures ∙ ap has_token (one.3 (vault_after V inv.asked)
-          (then_before (rows_by c.args.asker.now) first_line early late inv.asked inv.answered j V b))) all;
+          (then_before (rows_by c.args.asker.now) first_line (early g it) (late g it) inv.asked inv.answered
+          (joins g it) V b))) all;
       pairs = omega (arith, inv.pairs, c.in-Ok.ensures.counted, more);
       later = g.met.S.Source.transitive _ _ _ inv.later c.ask.ensures.later;
       told = c.in-Ok.ensures.own_failure ∙ inv.told;
@@ -139,17 +155,10 @@ pub returns-in-Err-ask-clause-stopped : goal.returns-in-Err-ask-clause-stopped
 returns-in-Err-ask-clause-stopped g c =
     let inv = c.rows.invariant in
     let known = g.R.Read.remaining c.args.reader.now.inner in
-    let next = subst (StandsNext known (λ r. g.R.Read.remaining r.now.inner)
-    (records_with (rows_of inv.asked)) (fields_of c.read_record.new.fields)
-    c.read_record.new.records) c.in-Ok-true.field-0-test
-    (c.in-Ok-true.ensures.next known _ inv.stands) in
-    let early = passing g.S.Source.given c.args.source.now c.rows.source g.W.Write.contents c.args.writer.now
-    c.rows.writer g.T.Tables.is_honest g.T.Tables.holds g.T.Tables.leaves c.args.vault.now c.rows.vault in
-    let late = passing g.S.Source.given c.rows.source c.ask.new.source g.W.Write.contents c.rows.writer
-    c.ask.new.writer g.T.Tables.is_honest g.T.Tables.holds g.T.Tables.leaves c.rows.vault c.ask.new.vault in
-    let j : Joins early late =
-    record { given = refl; sent = refl; held = λ V h. h; back = c.ask.ensures.trusted.disk_honest } in
-    stops_at_row known c.args.asker.now early late inv.asked inv.answered (row_of c.in-Some.row) j
+    let next = next_stands g (goal.at.returns-in-Err-ask-clause-stopped g c).In-Ok-true in
+    let it = (goal.at.returns-in-Err-ask-clause-stopped g c).After-ask in
+    stops_at_row known c.args.asker.now (early g it) (late g it) inv.asked inv.answered (row_of c.in-Some.row)
+    (joins g it)
     (begins_given known (λ r. g.R.Read.remaining r.now.inner) c.rows.records _ inv.stands.gave)
     (subst (λ (fs : Fields). BeginRecordsOf known (records_with (rows_of inv.asked) ++ fs ∷ []))
     c.in-Some.ensures.some

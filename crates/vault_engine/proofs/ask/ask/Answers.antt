@@ -1,11 +1,11 @@
 use Rattle.std.proofs.Common.{◌<◌, List, ℕ, length, take, refl, ap, ◌∙◌, subst, sym, Err, inl, inr}
 use Rattle.std.specs.Io.KnownBytes.{Appends}
 use Rattle.vault_wire.specs.Watching.{inner_of}
-use Rattle.vault_engine.specs.Asking.{Asked, kind}
+use Rattle.vault_engine.specs.Asking.{kind}
 use Rattle.vault_engine.specs.Passing.{passing}
 use Rattle.vault_engine.specs.Stops.{StopsAt}
-use Rattle.vault_engine.proofs.Answering.{appends_nothing, none_answered, none_decided, one_answered, one_cut}
-use Rattle.vault_engine.proofs.Answering.{one_silent, one_undecided, text_is, when_err, when_ok}
+use Rattle.vault_engine.proofs.Answering.{appends_nothing, asked, none_answered, none_decided, one_answered}
+use Rattle.vault_engine.proofs.Answering.{one_cut, one_silent, one_undecided, text_is, when_err, when_ok}
 use Rattle.vault_engine.proofs.ask.ask.Goals as goal
 
 pub returns-in_default-clause-stopped : goal.returns-in_default-clause-stopped
@@ -29,11 +29,7 @@ returns-in-Err-clause-stopped g c =
           (λ V b. let now = d.memory (ap Err same) V b.1 in (now, g.met.T.Tables.settled _ V now.0 b.0))))
       | inr same ↦
           let stop = d.store (ap Err same) in
-          let x : Asked _ = record {
-            unit = g.U.Unit.shown c.args.unit.now;
-            pair = (c.in-Ok.pair.0, c.in-Ok.pair.1);
-            wanted = stop.wanted;
-          } in
+          let x = asked (g.U.Unit.shown c.args.unit.now) (c.in-Ok.pair.0, c.in-Ok.pair.1) stop.wanted in
           subst (StopsAt k w (g.U.Unit.shown c.args.unit.now)) (sym same) (
             x,
             refl,
@@ -45,19 +41,11 @@ returns-in-Err-clause-stopped g c =
 pub returns-in_default-text-clause-stopped : goal.returns-in_default-text-clause-stopped
 returns-in_default-text-clause-stopped g c =
     let d = c.in-Ok-decide.ensures.ok in
-    let k = kind (g.U.Unit.wants c.args.unit.now) g.U.Unit.text in
-    let w = passing g.S.Source.given c.args.source.now c.next.new.self g.W.Write.contents c.args.writer.now
-    c.args.writer.now g.T.Tables.is_honest g.T.Tables.holds g.T.Tables.leaves c.args.vault.now
-    c.decide.new.vault in
-    let x : Asked _ = record {
-      unit = g.U.Unit.shown c.args.unit.now;
-      pair = (c.in-Ok.pair.0, c.in-Ok.pair.1);
-      wanted = d.wanted;
-    } in
+    let x = asked (g.U.Unit.shown c.args.unit.now) (c.in-Ok.pair.0, c.in-Ok.pair.1) d.wanted in
     inr (
       x,
       refl,
-      one_silent k w x d.asks c.in-Ok.ensures.gives (appends_nothing _)
+      one_silent _ _ x d.asks c.in-Ok.ensures.gives (appends_nothing _)
           (λ V b. let now = (d.told b.0 V b.1).1 in (now, g.met.T.Tables.settled _ _ now.0 b.0)),
     )
 
@@ -66,17 +54,10 @@ returns-then-is_err-clause-stopped g c =
     let d = c.in-Ok-decide.ensures.ok in
     let sent = when_err c.send.result _ (sym c.is_err.ensures.value ∙ c.if-is_err.true) c.send.ensures.err in
     let k = kind (g.U.Unit.wants c.args.unit.now) g.U.Unit.text in
-    let w = passing g.S.Source.given c.args.source.now c.next.new.self g.W.Write.contents c.args.writer.now
-    c.send.new.writer g.T.Tables.is_honest g.T.Tables.holds g.T.Tables.leaves c.args.vault.now
-    c.decide.new.vault in
-    let x : Asked _ = record {
-      unit = g.U.Unit.shown c.args.unit.now;
-      pair = (c.in-Ok.pair.0, c.in-Ok.pair.1);
-      wanted = d.wanted;
-    } in (
+    let x = asked (g.U.Unit.shown c.args.unit.now) (c.in-Ok.pair.0, c.in-Ok.pair.1) d.wanted in (
       x,
       refl,
-      one_cut k w x d.asks c.in-Ok.ensures.gives sent.0
+      one_cut k _ x d.asks c.in-Ok.ensures.gives sent.0
           (λ V b.
           let now = d.told b.0 V b.1 in
           let text = c.deref.ensures.value
@@ -93,17 +74,10 @@ returns-clause-answered g c =
     let d = c.in-Ok-decide.ensures.ok in
     let sent = when_ok c.send.result _ (sym c.is_err.ensures.value ∙ c.if-is_err.false) c.send.ensures.ok in
     let k = kind (g.U.Unit.wants c.args.unit.now) g.U.Unit.text in
-    let w = passing g.S.Source.given c.args.source.now c.next.new.self g.W.Write.contents c.args.writer.now
-    c.send.new.writer g.T.Tables.is_honest g.T.Tables.holds g.T.Tables.leaves c.args.vault.now
-    c.decide.new.vault in
-    let x : Asked _ = record {
-      unit = g.U.Unit.shown c.args.unit.now;
-      pair = (c.in-Ok.pair.0, c.in-Ok.pair.1);
-      wanted = d.wanted;
-    } in (
+    let x = asked (g.U.Unit.shown c.args.unit.now) (c.in-Ok.pair.0, c.in-Ok.pair.1) d.wanted in (
       x,
       refl,
-      one_answered k w x d.asks c.in-Ok.ensures.gives
+      one_answered k _ x d.asks c.in-Ok.ensures.gives
           (λ V b.
           let now = d.told b.0 V b.1 in
           let text = c.deref.ensures.value

@@ -10,24 +10,24 @@ use Rattle.vault_verdict.proofs.Holders.{no_sizes}
 
 pub returns-in-Ok-clause-sound : goal.returns-in-Ok-clause-sound
 returns-in-Ok-clause-sound g c image holds =
-    let was : IsClean (view c.close_moved.result) → HasCleanDisk (file_state c.in-Ok.conn) =
-    λ clean. omega (arith, c.close_moved.ensures.clean, clean) in
+    let was : IsClean (view c.close.result) → HasCleanDisk (file_state c.in-Ok.conn) =
+    λ clean. omega (arith, c.close.ensures.clean, clean) in
     record {
       sizes_are = λ clean. c.in-Ok.ensures.sizes image holds (was clean);
-      kept = λ clean V sound keeps. c.close_moved.ensures.after clean V
+      kept = λ clean V sound keeps. (c.close.ensures.after clean).kept V
           (c.in-Ok.ensures.kept image holds (was clean) V sound keeps);
     }
 
 pub returns-in-Err-default-Some-clause-damaged : goal.returns-in-Err-default-Some-clause-damaged
 returns-in-Err-default-Some-clause-damaged g c image holds clean =
     let was : HasCleanDisk (file_state c.in-Err-default-Some.conn) =
-    omega (arith, c.close_moved-in-Err-default-Some.ensures.clean, clean) in
+    omega (arith, c.close-in-Err-default-Some.ensures.clean, clean) in
     ((rw c.in-Err-default-Some.field-0-1-is at c.in-Err-default-Some.ensures.tells) image holds was).damaged
 
 pub returns-in-Err-default-Some-clause-spared : goal.returns-in-Err-default-Some-clause-spared
 returns-in-Err-default-Some-clause-spared g c image holds clean =
     let was : HasCleanDisk (file_state c.in-Err-default-Some.conn) =
-    omega (arith, c.close_moved-in-Err-default-Some.ensures.clean, clean) in
+    omega (arith, c.close-in-Err-default-Some.ensures.clean, clean) in
     (rw c.in-Err-default-Some.field-0-1-is at c.in-Err-default-Some.ensures.spared) image holds was
 
 pub returns-then-is_missing-clause-empty : goal.returns-then-is_missing-clause-empty
@@ -35,36 +35,34 @@ returns-then-is_missing-clause-empty g c = λ _. (no_sizes, c.is_missing.ensures
 
 pub returns-in-Ok-clause-same : goal.returns-in-Ok-clause-same
 returns-in-Ok-clause-same g c image holds =
-    stays_whole image c.in-Ok.conn c.close_moved.result (c.in-Ok.ensures.same image holds)
-    (λ clean. omega (arith, c.close_moved.ensures.clean, clean)) c.close_moved.ensures.found_after
+    stays_whole image c.in-Ok.conn c.close.result (c.in-Ok.ensures.same image holds)
+    (λ clean. omega (arith, c.close.ensures.clean, clean)) c.close.ensures.after
 
 pub returns-in-Err-default-Some-clause-same : goal.returns-in-Err-default-Some-clause-same
 returns-in-Err-default-Some-clause-same g c image holds =
     stays_whole image c.in-Err-default-Some.conn
-    c.close_moved-in-Err-default-Some.result
+    c.close-in-Err-default-Some.result
     ((rw c.in-Err-default-Some.field-0-1-is at c.in-Err-default-Some.ensures.same_refused) image holds)
-    (λ clean. omega (arith, c.close_moved-in-Err-default-Some.ensures.clean, clean))
-    c.close_moved-in-Err-default-Some.ensures.found_after
+    (λ clean. omega (arith, c.close-in-Err-default-Some.ensures.clean, clean))
+    c.close-in-Err-default-Some.ensures.after
 
 pub returns-in-Ok-clause-left : goal.returns-in-Ok-clause-left
 returns-in-Ok-clause-left g c image holds =
-    stays image c.in-Ok.conn c.close_moved.result (c.in-Ok.ensures.left image holds)
-    (λ clean. omega (arith, c.close_moved.ensures.clean, clean)) c.close_moved.ensures.either_after
-    c.close_moved.ensures.first_after c.close_moved.ensures.some_after
+    stays image c.in-Ok.conn c.close.result (c.in-Ok.ensures.left image holds)
+    (λ clean. omega (arith, c.close.ensures.clean, clean)) c.close.ensures.after
 
 pub returns-in-Err-default-Some-clause-tells : goal.returns-in-Err-default-Some-clause-tells
 returns-in-Err-default-Some-clause-tells g c image holds clean =
     let was : HasCleanDisk (file_state c.in-Err-default-Some.conn) =
-    omega (arith, c.close_moved-in-Err-default-Some.ensures.clean, clean) in
+    omega (arith, c.close-in-Err-default-Some.ensures.clean, clean) in
     (rw c.in-Err-default-Some.field-0-1-is at c.in-Err-default-Some.ensures.tells) image holds was
 
 pub returns-in-Err-default-Some-clause-left : goal.returns-in-Err-default-Some-clause-left
 returns-in-Err-default-Some-clause-left g c image holds =
-    stays image c.in-Err-default-Some.conn c.close_moved-in-Err-default-Some.result
+    stays image c.in-Err-default-Some.conn c.close-in-Err-default-Some.result
     ((rw c.in-Err-default-Some.field-0-1-is at c.in-Err-default-Some.ensures.left_refused) image holds)
-    (λ clean. omega (arith, c.close_moved-in-Err-default-Some.ensures.clean, clean))
-    c.close_moved-in-Err-default-Some.ensures.either_after
-    c.close_moved-in-Err-default-Some.ensures.first_after c.close_moved-in-Err-default-Some.ensures.some_after
+    (λ clean. omega (arith, c.close-in-Err-default-Some.ensures.clean, clean))
+    c.close-in-Err-default-Some.ensures.after
 
 pub returns-in-Ok-clause-no_path : goal.returns-in-Ok-clause-no_path
 returns-in-Ok-clause-no_path g c none = absurd (c.in-Ok.ensures.no_path none)

@@ -1,16 +1,14 @@
 use Rattle.std.proofs.Common.{arith}
 use Rattle.sqlite.specs.Files.{file_state}
 use Rattle.vault_file.proofs.Leaving.{checked_leaves}
-use Rattle.vault_file.proofs.Opening.{found_damaged, found_in, found_wrong, same_fault, spares}
-use Rattle.vault_file.proofs.Opening.{still_held, there}
+use Rattle.vault_file.proofs.Opening.{found_in, spares, still_held, tells_found}
 use Rattle.vault_file.proofs.Whole.{checked_less, leaves_whole, whose_of}
 use Rattle.vault_file.proofs.check.check_from.Goals as goal
-use Rattle.vault_verdict.specs.declared.fault.OpenFault.TheVariants.{WrongSchema, Damaged}
 
 pub returns-in-Ok-clause-sizes : goal.returns-in-Ok-clause-sizes
 returns-in-Ok-clause-sizes g c image holds clean = (
   (file_state c.in-Some.conn).now,
-  found_in image c.in-Some.conn (c.in-Some.ensures.opened image holds)
+  found_in (c.in-Some.ensures.opened image holds)
       (omega (arith, c.check.ensures.nothing_new.clean, clean)),
   record {
     whose = whose_of c.told-told.result.1 (file_state c.in-Some.conn).now.schema c.told-told.ensures.holder
@@ -26,36 +24,15 @@ returns-in-Ok-clause-kept g c image holds clean V sound keeps =
     still_held (file_state c.in-Some.conn) (file_state c.check.new.conn)
     (c.in-Ok.ensures.kept clean held.schema) c.check.ensures.nothing_new.limit V held
 
-pub returns-in-Ok-clause-no_path : goal.returns-in-Ok-clause-no_path
-returns-in-Ok-clause-no_path g c none = there c.in-Some.conn (c.in-Some.ensures.no_path none)
-
-pub returns-in-Err-clause-no_path : goal.returns-in-Err-clause-no_path
-returns-in-Err-clause-no_path g c none = absurd (there c.in-Some.conn (c.in-Some.ensures.no_path none))
-
 pub returns-in-Err-clause-tells : goal.returns-in-Err-clause-tells
-returns-in-Err-clause-tells g c image holds clean = record {
-  damaged = λ rule same. (
-    (file_state c.in-Some.conn).now,
-    found_damaged image c.in-Some.conn
-        (c.in-Some.ensures.opened image holds) (c.in-Some.ensures.again image holds)
-        c.check.new.conn c.in-Err.fault
-        c.in-Err.ensures.spared (λ some. c.check.ensures.nothing_new.clean) clean rule same,
-    c.in-Err.ensures.damaged clean rule (same_fault c.in-Err.fault (Damaged rule) same),
-  );
-  wrong = λ n same. (
-    (file_state c.in-Some.conn).now,
-    found_wrong image c.in-Some.conn
-        (c.in-Some.ensures.opened image holds) (c.in-Some.ensures.again image holds)
-        c.check.new.conn c.in-Err.fault
-        c.in-Err.ensures.spared (λ some. c.check.ensures.nothing_new.clean) clean n same,
-    c.in-Err.ensures.wrong clean n (same_fault c.in-Err.fault (WrongSchema n) same),
-  );
-}
+returns-in-Err-clause-tells g c image holds clean =
+    tells_found (c.in-Some.ensures.opened image holds) (c.in-Some.ensures.again image holds)
+    c.check.new.conn c.in-Err.fault c.in-Err.ensures.spared (λ some. c.check.ensures.nothing_new.clean) clean
+    (c.in-Err.ensures.damaged clean) (c.in-Err.ensures.wrong clean)
 
 pub returns-in-Err-clause-spared : goal.returns-in-Err-clause-spared
 returns-in-Err-clause-spared g c image holds clean =
-    spares image c.in-Some.conn
-    (c.in-Some.ensures.opened image holds) (c.in-Some.ensures.again image holds)
+    spares (c.in-Some.ensures.opened image holds) (c.in-Some.ensures.again image holds)
     c.check.new.conn c.in-Err.fault
     c.in-Err.ensures.spared (λ some. c.check.ensures.nothing_new.clean) clean
     (c.in-Some.ensures.either image holds) (c.in-Some.ensures.first image holds)

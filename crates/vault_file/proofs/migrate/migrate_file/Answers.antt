@@ -16,36 +16,38 @@ returns-in-Ok-clause-moved g c image holds =
 
 pub returns-in-Err-default-Some-clause-stays : goal.returns-in-Err-default-Some-clause-stays
 returns-in-Err-default-Some-clause-stays g c image holds =
-    stays image c.in-Err-default-Some.conn c.close_moved.result
+    stays image c.in-Err-default-Some.conn c.close-in-Err-default-Some.result
     ((rw c.in-Err-default-Some.field-0-1-is at c.in-Err-default-Some.ensures.left) image holds)
-    (λ clean. omega (arith, c.close_moved.ensures.clean, clean)) c.close_moved.ensures.either_after
-    c.close_moved.ensures.first_after c.close_moved.ensures.some_after
+    (λ clean. omega (arith, c.close-in-Err-default-Some.ensures.clean, clean))
+    c.close-in-Err-default-Some.ensures.after
 
 pub returns-in-Err-default-Some-clause-tells : goal.returns-in-Err-default-Some-clause-tells
 returns-in-Err-default-Some-clause-tells g c image holds clean =
     let was : HasCleanDisk (file_state c.in-Err-default-Some.conn) =
-    omega (arith, c.close_moved.ensures.clean, clean) in
+    omega (arith, c.close-in-Err-default-Some.ensures.clean, clean) in
     (rw c.in-Err-default-Some.field-0-1-is at c.in-Err-default-Some.ensures.tells) image holds was
 
 pub returns-in-Err-default-Some-clause-left : goal.returns-in-Err-default-Some-clause-left
 returns-in-Err-default-Some-clause-left g c image holds =
-    stays_old image c.in-Err-default-Some.conn c.close_moved.result c.in-Err-default-Some.fault
+    stays_old image c.in-Err-default-Some.conn c.close-in-Err-default-Some.result c.in-Err-default-Some.fault
     ((rw c.in-Err-default-Some.field-0-1-is at c.in-Err-default-Some.ensures.left_old) image holds)
-    (λ clean. omega (arith, c.close_moved.ensures.clean, clean)) c.close_moved.ensures.some_after
-    c.close_moved.ensures.same_after
+    (λ clean. omega (arith, c.close-in-Err-default-Some.ensures.clean, clean))
+    c.close-in-Err-default-Some.ensures.after
     ((rw c.in-Err-default-Some.field-0-1-is at c.in-Err-default-Some.ensures.never_in) image holds)
     ((rw c.in-Err-default-Some.field-0-1-is at c.in-Err-default-Some.ensures.never_some) image holds)
     ((rw c.in-Err-default-Some.field-0-1-is at c.in-Err-default-Some.ensures.spared) image holds)
 
 pub returns-in-Err-default-Some-clause-same : goal.returns-in-Err-default-Some-clause-same
 returns-in-Err-default-Some-clause-same g c image holds other =
-    stays_whole image c.in-Err-default-Some.conn c.close_moved.result
+    stays_whole image c.in-Err-default-Some.conn c.close-in-Err-default-Some.result
     ((rw c.in-Err-default-Some.field-0-1-is at c.in-Err-default-Some.ensures.same) image holds other)
-    (λ clean. omega (arith, c.close_moved.ensures.clean, clean)) c.close_moved.ensures.found_after
+    (λ clean. omega (arith, c.close-in-Err-default-Some.ensures.clean, clean))
+    c.close-in-Err-default-Some.ensures.after
 
 pub returns-in-Err-default-Some-clause-same_unmoved : goal.returns-in-Err-default-Some-clause-same_unmoved
 returns-in-Err-default-Some-clause-same_unmoved g c image holds some none =
-    stays_whole image c.in-Err-default-Some.conn c.close_moved.result
+    stays_whole image c.in-Err-default-Some.conn c.close-in-Err-default-Some.result
     ((rw c.in-Err-default-Some.field-0-1-is at c.in-Err-default-Some.ensures.same_unmoved) image holds some
     none)
-    (λ clean. omega (arith, c.close_moved.ensures.clean, clean)) c.close_moved.ensures.found_after
+    (λ clean. omega (arith, c.close-in-Err-default-Some.ensures.clean, clean))
+    c.close-in-Err-default-Some.ensures.after

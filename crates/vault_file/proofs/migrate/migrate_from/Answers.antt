@@ -1,55 +1,34 @@
 use Rattle.std.proofs.Common.{ap, arith}
 use Rattle.sqlite.specs.Files.{file_state}
 use Rattle.vault_file.proofs.Leaving.{leaves_from}
-use Rattle.vault_file.proofs.Moving.{leaves_old, movable, moves_from, never_in, never_some, was_clean}
-use Rattle.vault_file.proofs.Opening.{found_in, same_fault, spares, there}
+use Rattle.vault_file.proofs.Moving.{leaves_old, movable, moves_from, never_in, never_some, tells_old}
+use Rattle.vault_file.proofs.Opening.{spares}
 use Rattle.vault_file.proofs.Whole.{leaves_whole, none_older, some_there}
 use Rattle.vault_file.proofs.migrate.migrate_from.Goals as goal
 use Rattle.vault_file.specs.declared.fault.NotOpened.TheVariants.{Fault}
-use Rattle.vault_verdict.specs.declared.fault.OpenFault.TheVariants.{WrongSchema, Damaged}
 
 pub returns-in-Ok-clause-moved : goal.returns-in-Ok-clause-moved
 returns-in-Ok-clause-moved g c image holds =
-    moves_from image c.in-Some.conn c.migrate_all.new.conn (c.in-Some.ensures.opened image holds)
-    c.in-Some.ensures.unlimited c.migrate_all.ensures.migrates.clean
+    moves_from c.migrate_all.new.conn (c.in-Some.ensures.opened image holds) c.in-Some.ensures.unlimited
+    c.migrate_all.ensures.migrates.clean
     c.in-Ok.ensures.migrates.moved c.in-Ok.ensures.migrates.blank c.in-Ok.ensures.migrates.sound
     (c.in-Some.ensures.either image holds)
     (c.in-Some.ensures.first image holds) c.in-Ok.ensures.known c.in-Ok.ensures.stood
 
-pub returns-in-Ok-clause-no_path : goal.returns-in-Ok-clause-no_path
-returns-in-Ok-clause-no_path g c none = there c.in-Some.conn (c.in-Some.ensures.no_path none)
-
-pub returns-in-Err-clause-no_path : goal.returns-in-Err-clause-no_path
-returns-in-Err-clause-no_path g c none = absurd (there c.in-Some.conn (c.in-Some.ensures.no_path none))
-
 pub returns-in-Err-clause-tells : goal.returns-in-Err-clause-tells
-returns-in-Err-clause-tells g c image holds clean = record {
-  damaged = λ rule same. (
-    (file_state c.in-Some.conn).now,
-    found_in image c.in-Some.conn (c.in-Some.ensures.opened image holds)
-        (was_clean image c.in-Some.conn c.migrate_all.new.conn (c.in-Some.ensures.opened image holds)
-        c.in-Some.ensures.unlimited c.migrate_all.ensures.migrates.clean clean),
-    c.in-Err.ensures.migrates.damaged clean rule (same_fault c.in-Err.fault (Damaged rule) same),
-  );
-  wrong = λ n same. (
-    (file_state c.in-Some.conn).now,
-    found_in image c.in-Some.conn (c.in-Some.ensures.opened image holds)
-        (was_clean image c.in-Some.conn c.migrate_all.new.conn (c.in-Some.ensures.opened image holds)
-        c.in-Some.ensures.unlimited c.migrate_all.ensures.migrates.clean clean),
-    c.in-Err.ensures.migrates.wrong clean n (same_fault c.in-Err.fault (WrongSchema n) same),
-  );
-}
+returns-in-Err-clause-tells g c image holds clean =
+    tells_old c.migrate_all.new.conn (c.in-Some.ensures.opened image holds) c.in-Some.ensures.unlimited
+    c.migrate_all.ensures.migrates.clean c.in-Err.fault clean (c.in-Err.ensures.migrates.damaged clean)
+    (c.in-Err.ensures.migrates.wrong clean)
 
 pub returns-in-Err-clause-never_in : goal.returns-in-Err-clause-never_in
 returns-in-Err-clause-never_in g c image holds =
-    never_in image c.in-Some.conn c.migrate_all.new.conn (c.in-Some.ensures.opened image holds)
-    c.in-Some.ensures.unlimited c.migrate_all.ensures.migrates.clean c.in-Err.fault
-    c.in-Err.ensures.migrates.spared
+    never_in c.migrate_all.new.conn (c.in-Some.ensures.opened image holds) c.in-Some.ensures.unlimited
+    c.migrate_all.ensures.migrates.clean c.in-Err.fault c.in-Err.ensures.migrates.spared
 
 pub returns-in-Err-clause-spared : goal.returns-in-Err-clause-spared
 returns-in-Err-clause-spared g c image holds clean =
-    spares image c.in-Some.conn
-    (c.in-Some.ensures.opened image holds) (c.in-Some.ensures.again image holds)
+    spares (c.in-Some.ensures.opened image holds) (c.in-Some.ensures.again image holds)
     c.migrate_all.new.conn c.in-Err.fault
     (λ clean fit. c.in-Err.ensures.migrates.spared clean (movable (file_state c.in-Some.conn).now fit))
     (λ some. c.migrate_all.ensures.migrates.clean) clean (c.in-Some.ensures.either image holds)
@@ -57,9 +36,8 @@ returns-in-Err-clause-spared g c image holds clean =
 
 pub returns-in-Err-clause-never_some : goal.returns-in-Err-clause-never_some
 returns-in-Err-clause-never_some g c image holds =
-    never_some image c.in-Some.conn c.migrate_all.new.conn (c.in-Some.ensures.opened image holds)
-    c.in-Some.ensures.unlimited c.migrate_all.ensures.migrates.clean c.in-Err.fault
-    c.in-Err.ensures.migrates.spared
+    never_some c.migrate_all.new.conn (c.in-Some.ensures.opened image holds) c.in-Some.ensures.unlimited
+    c.migrate_all.ensures.migrates.clean c.in-Err.fault c.in-Err.ensures.migrates.spared
 
 pub returns-in-Err-clause-left : goal.returns-in-Err-clause-left
 returns-in-Err-clause-left g c image holds =
@@ -71,8 +49,8 @@ returns-in-Err-clause-left g c image holds =
 
 pub returns-in-Err-clause-left_old : goal.returns-in-Err-clause-left_old
 returns-in-Err-clause-left_old g c image holds =
-    leaves_old image c.in-Some.conn c.migrate_all.new.conn (c.in-Some.ensures.opened image holds)
-    c.in-Some.ensures.unlimited c.migrate_all.ensures.migrates.clean c.in-Err.fault
+    leaves_old c.migrate_all.new.conn (c.in-Some.ensures.opened image holds) c.in-Some.ensures.unlimited
+    c.migrate_all.ensures.migrates.clean c.in-Err.fault
     (λ clean. (c.migrate_all.ensures.crash clean).older) c.in-Err.ensures.migrates.stays
 
 pub returns-in-Err-clause-same : goal.returns-in-Err-clause-same

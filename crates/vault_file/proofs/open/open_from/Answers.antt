@@ -1,15 +1,14 @@
 use Rattle.std.proofs.Common.{arith}
 use Rattle.sqlite.specs.Files.{file_state}
 use Rattle.vault_file.proofs.Leaving.{leaves_from, older_left}
-use Rattle.vault_file.proofs.Opening.{found_damaged, found_wrong, opens_from, same_fault, spares, there}
+use Rattle.vault_file.proofs.Opening.{opens_from, spares, tells_found, there}
 use Rattle.vault_file.proofs.Whole.{leaves_whole, opened_less, some_there}
 use Rattle.vault_file.proofs.open.open_from.Goals as goal
-use Rattle.vault_verdict.specs.declared.fault.OpenFault.TheVariants.{WrongSchema, Damaged}
 use Rattle.vault_store.specs.Applied.{tables_of}
 
 pub returns-in-Ok-clause-found : goal.returns-in-Ok-clause-found
 returns-in-Ok-clause-found g c image holds =
-    opens_from image c.in-Some.conn (c.in-Some.ensures.opened image holds)
+    opens_from (c.in-Some.ensures.opened image holds)
     (c.in-Some.ensures.again image holds) (tables_of c.in-Ok.vault).conn c.in-Some.ensures.unlimited
     (c.in-Some.ensures.either image holds) (c.in-Some.ensures.first image holds) c.in-Ok.ensures.opens
     c.in-Ok.ensures.clean
@@ -21,31 +20,15 @@ pub returns-in-Err-clause-no_path : goal.returns-in-Err-clause-no_path
 returns-in-Err-clause-no_path g c none = absurd (there c.in-Some.conn (c.in-Some.ensures.no_path none))
 
 pub returns-in-Err-clause-tells : goal.returns-in-Err-clause-tells
-returns-in-Err-clause-tells g c image holds clean = record {
-  damaged = λ rule same. (
-    (file_state c.in-Some.conn).now,
-    found_damaged image c.in-Some.conn
-        (c.in-Some.ensures.opened image holds) (c.in-Some.ensures.again image holds)
-        c.in-Err.refusal.1 c.in-Err.refusal.0
-        c.in-Err.ensures.refused.spared (λ some. (c.in-Err.ensures.refused.nothing_new some).clean)
-        clean rule same,
-    c.in-Err.ensures.refused.damaged clean rule (same_fault c.in-Err.refusal.0 (Damaged rule) same),
-  );
-  wrong = λ n same. (
-    (file_state c.in-Some.conn).now,
-    found_wrong image c.in-Some.conn
-        (c.in-Some.ensures.opened image holds) (c.in-Some.ensures.again image holds)
-        c.in-Err.refusal.1 c.in-Err.refusal.0
-        c.in-Err.ensures.refused.spared (λ some. (c.in-Err.ensures.refused.nothing_new some).clean)
-        clean n same,
-    c.in-Err.ensures.refused.wrong clean n (same_fault c.in-Err.refusal.0 (WrongSchema n) same),
-  );
-}
+returns-in-Err-clause-tells g c image holds clean =
+    tells_found (c.in-Some.ensures.opened image holds) (c.in-Some.ensures.again image holds)
+    c.in-Err.refusal.1 c.in-Err.refusal.0
+    c.in-Err.ensures.refused.spared (λ some. (c.in-Err.ensures.refused.nothing_new some).clean) clean
+    (c.in-Err.ensures.refused.damaged clean) (c.in-Err.ensures.refused.wrong clean)
 
 pub returns-in-Err-clause-spared : goal.returns-in-Err-clause-spared
 returns-in-Err-clause-spared g c image holds clean =
-    spares image c.in-Some.conn
-    (c.in-Some.ensures.opened image holds) (c.in-Some.ensures.again image holds)
+    spares (c.in-Some.ensures.opened image holds) (c.in-Some.ensures.again image holds)
     c.in-Err.refusal.1 c.in-Err.refusal.0
     c.in-Err.ensures.refused.spared (λ some. (c.in-Err.ensures.refused.nothing_new some).clean) clean
     (c.in-Some.ensures.either image holds) (c.in-Some.ensures.first image holds)

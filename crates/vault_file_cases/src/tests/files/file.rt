@@ -8,8 +8,9 @@ use vault_file::check::check_file;
 use vault_file::fault::NotOpened;
 use vault_file::host::HostPaths;
 use vault_file::migrate::migrate_file;
-use vault_file::open::{close_files, open_vault};
+use vault_file::open::open_vault;
 use vault_file::paths::Paths;
+use vault_file::reopen::close;
 use vault_recover::options::Cache;
 use vault_script::case::answer_told;
 use vault_script::told::text;
@@ -28,7 +29,7 @@ pub fn refusal(alloc: Global, fault: NotOpened) -> String {
 pub fn opened(rt: &HostRuntime, path: &str) -> String {
     match open_vault(rt, path, HostPaths::new(Unknown), Cache::Large) {
         Ok(vault) => {
-            drop(close_files(vault));
+            drop(close(vault.into_tables().into_connection()));
             text(rt.alloc(), "opened")
         }
         Err((fault, _)) => refusal(rt.alloc(), fault),
@@ -72,7 +73,7 @@ pub fn is_busy(rt: &HostRuntime, path: &str) -> bool {
     match open_vault(rt, path, HostPaths::new(Unknown), Cache::Large) {
         Ok(vault) => {
             let is_refused = is_refused(rt, path);
-            drop(close_files(vault));
+            drop(close(vault.into_tables().into_connection()));
             is_refused
         }
         Err(_) => false,
@@ -84,7 +85,7 @@ pub fn answered(rt: &HostRuntime, path: &str, line: &str) -> String {
     match open_vault(rt, path, HostPaths::new(Unknown), Cache::Large) {
         Ok(mut vault) => {
             let told = answer_told(rt.alloc(), &mut vault, line);
-            drop(close_files(vault));
+            drop(close(vault.into_tables().into_connection()));
             told
         }
         Err((fault, _)) => refusal(rt.alloc(), fault),

@@ -1,16 +1,15 @@
-use Rattle.std.proofs.Common.{◌≡◌, ℕ, ◌+◌, List, [], ◌∷◌, length, take, refl, sym, ap, ◌∙◌}
+use Rattle.std.proofs.Common.{◌≡◌, ◌+◌, List, [], ◌∷◌, length, take, refl, sym, ap, ◌∙◌}
 use Rattle.std.proofs.Common.{arith, false, cond, suc, drop, length-append}
 use Rattle.std.specs.Prelude.{Bool}
-use Rattle.std.proofs.Math.Seq.{take-length}
 use Rattle.std.proofs.lemmas.List.{length-take-le}
 use Rattle.vault_core.specs.declared.reply.Reply.{Reply}
 use Rattle.vault_wire.specs.Parts.{Parts, closes}
 use Rattle.vault_engine.specs.Passing.{passing}
 use Rattle.vault_engine.proofs.Answering.{appends_nothing}
 use Rattle.vault_engine.proofs.Within.{all_nothing, all_one, all_then, stops_at_first, stops_then}
-use Rattle.vault_http.specs.Exchanges.{has_close, message_kind, up_to_close}
+use Rattle.vault_http.specs.Exchanges.{message_kind, up_to_close}
 use Rattle.vault_http.proofs.Closing.{none_more, one_further, up_to_close-at, up_to_close-end}
-use Rattle.vault_http.proofs.Closing.{up_to_close-none}
+use Rattle.vault_http.proofs.Closing.{passed_all}
 use Rattle.vault_http.proofs.Serving.{all_as, stops_as}
 use Rattle.vault_http.proofs.Telling.{tells_as}
 use Rattle.vault_http.proofs.serve.answer_all.Goals as goal
@@ -89,23 +88,17 @@ returns-in-Err-clause-ends g c =
 
 pub returns-clause-ends : goal.returns-clause-ends
 returns-clause-ends g c =
-    let inv = c.loop-message.invariant in
-    let ps : List Parts = c.args.messages.now in
-    let i = c.loop-message.message-index in
-    let k : i ≡ length ps = omega (arith, c.loop-message-test.false, c.loop-message.auto.message-index-end) in
-    let whole : take i ps ≡ ps = ap (λ (n : ℕ). take n ps) k ∙ take-length ps in
-    let none : has_close ps ≡ false = sym (ap has_close whole) ∙ inv.open_till in
-    all_as _ _ _ (whole ∙ sym (up_to_close-none ps none)) inv.answered
+    all_as _ _ _
+    (passed_all c.args.messages.now c.loop-message.message-index
+    (omega (arith, c.loop-message-test.false, c.loop-message.auto.message-index-end))
+    c.loop-message.invariant.open_till).0 c.loop-message.invariant.answered
 
 pub returns-clause-counted : goal.returns-clause-counted
 returns-clause-counted g c =
     let inv = c.loop-message.invariant in
-    let ps : List Parts = c.args.messages.now in
-    let i = c.loop-message.message-index in
-    let k : i ≡ length ps = omega (arith, c.loop-message-test.false, c.loop-message.auto.message-index-end) in
-    let none : has_close ps ≡ false = sym (ap has_close (ap (λ (n : ℕ). take n ps) k ∙ take-length ps))
-    ∙ inv.open_till in
-    let many : length (up_to_close ps) ≡ i = ap length (up_to_close-none ps none) ∙ sym k in
+    let many =
+    (passed_all c.args.messages.now c.loop-message.message-index
+    (omega (arith, c.loop-message-test.false, c.loop-message.auto.message-index-end)) inv.open_till).1 in
     omega (arith, inv.counted, many)
 
 pub returns-then-closes-clause-own_failure : goal.returns-then-closes-clause-own_failure

@@ -10,12 +10,12 @@ use Rattle.vault_engine.specs.Passing.{passing}
 use Rattle.vault_engine.proofs.Answering.{appends_nothing}
 use Rattle.vault_engine.proofs.Within.{all_nothing, all_then, stops_after, stops_then}
 use Rattle.vault_http.specs.Faults.{Failures, failures}
-use Rattle.vault_http.specs.Exchanges.{has_close, message_kind, shown, up_to_close}
+use Rattle.vault_http.specs.Exchanges.{message_kind, shown, up_to_close}
 use Rattle.vault_http.specs.declared.served.Served.{Served}
 use Rattle.vault_http.proofs.Bytes.{consumes_both, consumes_keeps, consumes_none, consumes_nothing}
 use Rattle.vault_http.proofs.Counting.{serves_all, serves_part}
 use Rattle.vault_http.proofs.Closing.{up_to_close-none}
-use Rattle.vault_http.proofs.Fed.{fed_of}
+use Rattle.vault_http.proofs.Fed.{fed_of, fed_open}
 use Rattle.vault_http.proofs.Serving.{begins_more, begins_of, falls, reads_by, served_fault, served_plain}
 use Rattle.vault_http.proofs.Serving.{all_as, stopped_fault, stopped_of, stops_as}
 use Rattle.vault_http.proofs.Telling.{after_read, beside_reader, beside_writer, not_read, tells_as}
@@ -87,20 +87,16 @@ returns-in_default-feed-clause-serves g c =
 pub returns-in-Ok-true-clause-serves : goal.returns-in-Ok-true-clause-serves
 returns-in-Ok-true-clause-serves g c =
     let inv = c.pieces.invariant in
-    let piece = take c.in-Ok.count c.read.new.buf in
-    let bytes = inv.bytes ++ piece in
-    let ms = inv.messages ++ c.in-Ok-feed.ensures.reads.0 in
-    let more = fed_of _ _ _ _ _ inv.bytes piece inv.messages c.deref.result.now _ inv.read
+    let more = fed_of _ _ _ _ _ inv.bytes _ inv.messages c.deref.result.now _ inv.read
     c.in-Ok.ensures.bytes.0 inv.reading c.deref.ensures.value inv.open_till c.in-Ok-feed.ensures.reads in
     let all = all_as _ _ _ (sym more.whole)
     (all_then message_kind [] _ _ _ (up_to_close c.deref.result.now) inv.answered c.in-Ok-true.ensures.ends
     (record { given = refl; sent = refl; held = λ V h. h; back = c.answer_all.ensures.trusted.disk_honest }))
     in
-    let closed : has_close (shown ms) ≡ true =
-    more.closing ∙ sym c.in-Ok-true.ensures.closes ∙ c.in-Ok-true.field-0-test in
-    serves_all _ _ _ _ (served_plain _ _ _ bytes ms more.read c.feed.new.self.fault
+    let closed = more.closing ∙ sym c.in-Ok-true.ensures.closes ∙ c.in-Ok-true.field-0-test in
+    serves_all _ _ _ _ (served_plain _ _ _ _ _ more.read c.feed.new.self.fault
     (record { messages = c.left-pairs.result - c.left-in-Ok-true.result; fault = None })
-    (reads_by c.feed.new.self bytes ms c.feed.new.self.fault refl more.reading) all
+    (reads_by c.feed.new.self _ _ c.feed.new.self.fault refl more.reading) all
     (omega (
       arith,
       inv.counted,
@@ -114,57 +110,42 @@ returns-in-Ok-true-clause-serves g c =
 pub returns-in-Err-clause-serves : goal.returns-in-Err-clause-serves
 returns-in-Err-clause-serves g c =
     let inv = c.pieces.invariant in
-    let piece = take c.in-Ok.count c.read.new.buf in
-    let bytes = inv.bytes ++ piece in
-    let ms = inv.messages ++ c.in-Ok-feed.ensures.reads.0 in
-    let more = fed_of _ _ _ _ _ inv.bytes piece inv.messages c.deref.result.now _ inv.read
+    let more = fed_of _ _ _ _ _ inv.bytes _ inv.messages c.deref.result.now _ inv.read
     c.in-Ok.ensures.bytes.0 inv.reading c.deref.ensures.value inv.open_till c.in-Ok-feed.ensures.reads in
     let e = c.in-Err.fault in
     let stops = stops_as _ e _ _ (sym more.whole)
     (stops_then message_kind [] _ _ _ (up_to_close c.deref.result.now) inv.answered e c.in-Err.ensures.ends
     (record { given = refl; sent = refl; held = λ V h. h; back = c.answer_all.ensures.trusted.disk_honest }))
     in
-    serves_part _ _ _ _ (stopped_of _ _ _ bytes ms more.read e c.feed.new.self.fault
+    serves_part _ _ _ _ (stopped_of _ _ _ _ _ more.read e c.feed.new.self.fault
     (not_read e _ _ _ _ _ _ c.in-Err.ensures.own_failure)
-    (reads_by c.feed.new.self bytes ms c.feed.new.self.fault refl more.reading) stops)
+    (reads_by c.feed.new.self _ _ c.feed.new.self.fault refl more.reading) stops)
 
 pub returns-in-Err-refuse-clause-serves : goal.returns-in-Err-refuse-clause-serves
 returns-in-Err-refuse-clause-serves g c =
     let inv = c.pieces.invariant in
-    let piece = take c.in-Ok.count c.read.new.buf in
-    let bytes = inv.bytes ++ piece in
-    let ms = inv.messages ++ c.in-Ok-feed.ensures.reads.0 in
-    let more = fed_of _ _ _ _ _ inv.bytes piece inv.messages c.deref.result.now _ inv.read
-    c.in-Ok.ensures.bytes.0 inv.reading c.deref.ensures.value inv.open_till c.in-Ok-feed.ensures.reads in
-    let none : has_close (shown ms) ≡ false =
-    more.closing ∙ sym c.in-Ok-false.ensures.closes ∙ c.in-Ok-false.field-0-test in
-    let all = all_as _ _ _ (sym more.whole ∙ up_to_close-none (shown ms) none)
-    (all_then message_kind [] _ _ _ (up_to_close c.deref.result.now) inv.answered c.in-Ok-false.ensures.ends
-    (record { given = refl; sent = refl; held = λ V h. h; back = c.answer_all.ensures.trusted.disk_honest }))
+    let more = fed_open (fed_of _ _ _ _ _ inv.bytes _ inv.messages c.deref.result.now _ inv.read
+    c.in-Ok.ensures.bytes.0 inv.reading c.deref.ensures.value inv.open_till c.in-Ok-feed.ensures.reads)
+    inv.answered (sym c.in-Ok-false.ensures.closes ∙ c.in-Ok-false.field-0-test) c.in-Ok-false.ensures.ends
+    (record { given = refl; sent = refl; held = λ V h. h; back = c.answer_all.ensures.trusted.disk_honest })
     in
-    let fault = sym c.in-Ok-feed.ensures.fault ∙ c.in-Some.is in
-    serves_part _ _ _ _ (stopped_fault _ _ _ _ bytes ms c.in-Some.fault more.read
-    (reads_by c.feed.new.self bytes ms (Some c.in-Some.fault) fault more.reading) none all
+    serves_part _ _ _ _ (stopped_fault _ _ _ _ _ _ c.in-Some.fault more.read
+    (reads_by _ _ _ _ (sym c.in-Ok-feed.ensures.fault ∙ c.in-Some.is) more.reading) more.open_till
+    more.answered
     c.in-Err-refuse.stop c.in-Err-refuse.ensures.ends)
 
 pub returns-in-Some-clause-serves : goal.returns-in-Some-clause-serves
 returns-in-Some-clause-serves g c =
     let inv = c.pieces.invariant in
-    let piece = take c.in-Ok.count c.read.new.buf in
-    let bytes = inv.bytes ++ piece in
-    let ms = inv.messages ++ c.in-Ok-feed.ensures.reads.0 in
-    let more = fed_of _ _ _ _ _ inv.bytes piece inv.messages c.deref.result.now _ inv.read
-    c.in-Ok.ensures.bytes.0 inv.reading c.deref.ensures.value inv.open_till c.in-Ok-feed.ensures.reads in
-    let none : has_close (shown ms) ≡ false =
-    more.closing ∙ sym c.in-Ok-false.ensures.closes ∙ c.in-Ok-false.field-0-test in
-    let all = all_as _ _ _ (sym more.whole ∙ up_to_close-none (shown ms) none)
-    (all_then message_kind [] _ _ _ (up_to_close c.deref.result.now) inv.answered c.in-Ok-false.ensures.ends
-    (record { given = refl; sent = refl; held = λ V h. h; back = c.answer_all.ensures.trusted.disk_honest }))
+    let more = fed_open (fed_of _ _ _ _ _ inv.bytes _ inv.messages c.deref.result.now _ inv.read
+    c.in-Ok.ensures.bytes.0 inv.reading c.deref.ensures.value inv.open_till c.in-Ok-feed.ensures.reads)
+    inv.answered (sym c.in-Ok-false.ensures.closes ∙ c.in-Ok-false.field-0-test) c.in-Ok-false.ensures.ends
+    (record { given = refl; sent = refl; held = λ V h. h; back = c.answer_all.ensures.trusted.disk_honest })
     in
-    let ns = c.in-Ok-feed.ensures.reads.0 in
-    let fault = sym c.in-Ok-feed.ensures.fault ∙ c.in-Some.is in
-    serves_all _ _ _ _ (served_fault _ _ _ _ bytes ms c.in-Some.fault more.read
-    (reads_by c.feed.new.self bytes ms (Some c.in-Some.fault) fault more.reading) none all
+    let many = length-append inv.messages c.in-Ok-feed.ensures.reads.0 in
+    serves_all _ _ _ _ (served_fault _ _ _ _ _ _ c.in-Some.fault more.read
+    (reads_by _ _ _ _ (sym c.in-Ok-feed.ensures.fault ∙ c.in-Some.is) more.reading) more.open_till
+    more.answered
     (record { messages = c.left-pairs.result - c.left-in-Some.result; fault = Some c.in-Some.fault })
     (omega (
       arith,
@@ -172,8 +153,8 @@ returns-in-Some-clause-serves g c =
       c.in-Ok-false.ensures.counted,
       c.left-pairs.ensures,
       c.left-in-Some.ensures,
-      more.count none,
-      length-append inv.messages ns,
+      more.count,
+      many,
     ))
     refl c.in_default-refuse.ensures.ends)
 
@@ -181,56 +162,41 @@ pub pieces-smaller : goal.pieces-smaller
 pieces-smaller g c =
     let inv = c.pieces.invariant in
     let piece = take c.in-Ok.count c.read.new.buf in
-    let bytes = inv.bytes ++ piece in
-    let ms = inv.messages ++ c.in-Ok-feed.ensures.reads.0 in
-    let more = fed_of _ _ _ _ _ inv.bytes piece inv.messages c.deref.result.now _ inv.read
+    let fed = fed_of _ _ _ _ _ inv.bytes piece inv.messages c.deref.result.now _ inv.read
     c.in-Ok.ensures.bytes.0 inv.reading c.deref.ensures.value inv.open_till c.in-Ok-feed.ensures.reads in
-    let none : has_close (shown ms) ≡ false =
-    more.closing ∙ sym c.in-Ok-false.ensures.closes ∙ c.in-Ok-false.field-0-test in
-    let ns = c.in-Ok-feed.ensures.reads.0 in
+    let none = fed.closing ∙ sym c.in-Ok-false.ensures.closes ∙ c.in-Ok-false.field-0-test in
     let room : 0 < length c.read.new.buf = omega (arith, c.read.auto.buf, inv.room) in
     let taken = length-take c.in-Ok.count c.read.new.buf in
     let some : 0 < length piece = omega (arith, c.if-count-eq0.false, room, taken) in
-    falls ns c.pieces.intake c.feed.new.self inv.bytes piece inv.messages
+    falls c.in-Ok-feed.ensures.reads.0 c.pieces.intake c.feed.new.self inv.bytes piece inv.messages
     (g.S.Source.count_left c.pieces.source) (g.S.Source.count_left c.answer_all.new.source)
-    inv.calm (sym c.in-Ok-feed.ensures.fault ∙ c.in_default-fault.is) inv.reading more.reading some
+    inv.calm (sym c.in-Ok-feed.ensures.fault ∙ c.in_default-fault.is) inv.reading fed.reading some
     (c.in-Ok-false.ensures.counted
-    ∙ ap (λ n. g.S.Source.count_left c.answer_all.new.source + n) (more.count none))
+    ∙ ap (λ n. g.S.Source.count_left c.answer_all.new.source + n) (fed.count none))
 
 pub pieces-preserved : goal.pieces-preserved
 pieces-preserved g c =
     let inv = c.pieces.invariant in
-    let piece = take c.in-Ok.count c.read.new.buf in
-    let bytes = inv.bytes ++ piece in
-    let ms = inv.messages ++ c.in-Ok-feed.ensures.reads.0 in
-    let more = fed_of _ _ _ _ _ inv.bytes piece inv.messages c.deref.result.now _ inv.read
-    c.in-Ok.ensures.bytes.0 inv.reading c.deref.ensures.value inv.open_till c.in-Ok-feed.ensures.reads in
-    let none : has_close (shown ms) ≡ false =
-    more.closing ∙ sym c.in-Ok-false.ensures.closes ∙ c.in-Ok-false.field-0-test in
+    let more = fed_open (fed_of _ _ _ _ _ inv.bytes _ inv.messages c.deref.result.now _ inv.read
+    c.in-Ok.ensures.bytes.0 inv.reading c.deref.ensures.value inv.open_till c.in-Ok-feed.ensures.reads)
+    inv.answered (sym c.in-Ok-false.ensures.closes ∙ c.in-Ok-false.field-0-test) c.in-Ok-false.ensures.ends
+    (record { given = refl; sent = refl; held = λ V h. h; back = c.answer_all.ensures.trusted.disk_honest })
+    in
     let went = after_read _ _ _ _ _ _ (c.in-Ok.ensures.flag ∙ sym c.in-Ok.ensures.ok) inv.told in
     record {
       room = c.read.auto.buf ∙ inv.room;
       calm = sym c.in-Ok-feed.ensures.fault ∙ c.in_default-fault.is;
-      bytes = bytes;
-      messages = ms;
+      bytes = _;
+      messages = _;
       read = more.read;
       reading = more.reading;
-      open_till = none;
-      answered =
-          all_as _ _ _ (sym more.whole ∙ up_to_close-none (shown ms) none)
-          (all_then message_kind [] _ _ _ (up_to_close c.deref.result.now) inv.answered
-          c.in-Ok-false.ensures.ends
-          (record {
-            given = refl;
-            sent = refl;
-            held = λ V h. h;
-            back = c.answer_all.ensures.trusted.disk_honest;
-          }));
+      open_till = more.open_till;
+      answered = more.answered;
       counted = omega (
         arith,
         inv.counted,
         c.in-Ok-false.ensures.counted,
-        more.count none,
+        more.count,
         length-append inv.messages c.in-Ok-feed.ensures.reads.0,
       );
       later = g.met.S.Source.transitive _ _ _ inv.later c.answer_all.ensures.later;

@@ -1,5 +1,5 @@
 use Rattle.std.proofs.Common.{◌∙◌}
-use Rattle.vault_jobs.proofs.Among.{ahead_in}
+use Rattle.vault_jobs.proofs.MerchantMoments.{ahead_in}
 use Rattle.vault_jobs.proofs.ahead.is_ahead.Goals as goal
 
 pub returns-in-Ok-clause-told : goal.returns-in-Ok-clause-told

@@ -1,5 +1,5 @@
 use Rattle.std.proofs.Common.{◌∙◌, sym}
-use Rattle.vault_jobs.proofs.Among.{found_at, passed_at}
+use Rattle.vault_jobs.proofs.MerchantMoments.{found_at, passed_at}
 use Rattle.vault_jobs.proofs.ahead.moment_by.Goals as goal
 
 pub returns-then-eq : goal.returns-then-eq

@@ -1,5 +1,5 @@
 use Rattle.std.proofs.Common.{[], inl, refl}
-use Rattle.vault_listen.proofs.Linking.{none_then}
+use Rattle.vault_listen.proofs.ServedConnections.{none_then}
 use Rattle.vault_jobs.proofs.listening.serve_at.Goals as goal
 
 pub returns-in-Err-clause-does : goal.returns-in-Err-clause-does

@@ -1,53 +1,61 @@
 use Rattle.std.proofs.Common.{inr}
-use Rattle.vault_listen.specs.Peers.{vault_passing}
-use Rattle.vault_jobs.proofs.Along.{along_live}
 use Rattle.vault_batch.specs.Stops.{IsBatched}
+use Rattle.vault_batch.specs.declared.counts.Counts.{Counts}
+use Rattle.vault_engine.specs.Passing.{Passage, passing}
+use Rattle.vault_listen.specs.Live.{pairs_of}
+use Rattle.vault_listen.specs.Peers.{vault_passing}
+use Rattle.vault_jobs.proofs.VaultPassages.{along_live}
 use Rattle.vault_jobs.specs.Batched.{StopsBatch}
+use Rattle.vault_jobs.specs.Doing.{Along}
 use Rattle.vault_jobs.specs.Streams.{Streams, streams}
+use Rattle.vault_jobs.proofs.task.do_batch.Given.{Over}
+use Rattle.vault_jobs.proofs.task.do_batch.Goals.{After-batch_input}
 use Rattle.vault_jobs.proofs.task.do_batch.Goals as goal
 
-pub returns-in-Ok-batch_input-clause-does : goal.returns-in-Ok-batch_input-clause-does
-returns-in-Ok-batch_input-clause-does g c =
-    let s : Streams = streams g.R.Read.remaining c.args.input.now c.batch_input.new.input g.W.Write.contents
-    c.args.output.now c.batch_input.new.output in
-    let w = vault_passing g.T.Tables.is_honest g.T.Tables.holds g.T.Tables.leaves c.args.vault.now
-    c.batch_input.new.vault in
-    let counts = c.in-Ok-batch_input.counts in (
-      c.in-Ok-batch_input.ensures.writer_ok,
-      counts,
-      search,
-      c.in-Ok-batch_input.ensures.end,
-      along_live g.K.Timekeeper.tells c.args.time.now _ _ 100000 c.args.moment c.args.digits w s
-          (λ q. IsBatched s.left_old q c.args.asker counts) c.in-Ok.ensures.fresh.gave
-          c.in-Ok.ensures.fresh.left_is c.in-Ok.ensures.fixed c.batch_input.ensures.later
-          c.in-Ok-batch_input.ensures.batched,
-    )
+module _ (g : Over) (c : After-batch_input g) where
+  abbrev s : Streams
+  s = streams g.R.Read.remaining c.args.input.now c.batch_input.new.input g.W.Write.contents
+      c.args.output.now c.batch_input.new.output
+
+  abbrev alone : Passage
+  alone = vault_passing g.T.Tables.is_honest g.T.Tables.holds g.T.Tables.leaves c.args.vault.now
+      c.batch_input.new.vault
+
+  -- the same passage, with the pairs and the bytes that went out
+  abbrev whole : Passage
+  whole = passing pairs_of c.in-Some.pairs c.batch_input.new.source g.W.Write.contents c.args.output.now
+      c.batch_input.new.output g.T.Tables.is_honest g.T.Tables.holds g.T.Tables.leaves c.args.vault.now
+      c.batch_input.new.vault
+
+  -- what is known of the whole passage is known along its pairs
+  along : (P : Passage → Type 0) → P whole
+      → Along (g.K.Timekeeper.tells c.args.time.now) 100000 c.args.moment c.args.digits alone s P
+  along P h =
+      along_live g.K.Timekeeper.tells c.args.time.now _ _ 100000 c.args.moment c.args.digits alone s P
+      c.in-Some.ensures.fresh.gave c.in-Some.ensures.fresh.left_is c.in-Some.ensures.fixed
+      c.batch_input.ensures.later h
+
+  answered : (counts : Counts) → IsBatched s.left_old whole c.args.asker counts
+      → Along (g.K.Timekeeper.tells c.args.time.now) 100000 c.args.moment c.args.digits alone s
+      (λ q. IsBatched s.left_old q c.args.asker counts)
+  answered counts = along (λ q. IsBatched s.left_old q c.args.asker counts)
+
+pub returns-in-Ok-clause-does : goal.returns-in-Ok-clause-does
+returns-in-Ok-clause-does g c =
+    let it = (goal.at.returns-in-Ok-clause-does g c).After-batch_input in
+    let told = c.in-Ok in
+    let all = answered g it told.counts told.ensures.batched in
+    (told.ensures.writer_ok, told.counts, search, told.ensures.end, all)
 
 pub returns-in-Ok-2-clause-does : goal.returns-in-Ok-2-clause-does
 returns-in-Ok-2-clause-does g c =
-    let s : Streams = streams g.R.Read.remaining c.args.input.now c.batch_input.new.input g.W.Write.contents
-    c.args.output.now c.batch_input.new.output in
-    let w = vault_passing g.T.Tables.is_honest g.T.Tables.holds g.T.Tables.leaves c.args.vault.now
-    c.batch_input.new.vault in
-    let counts = c.in-Ok-batch_input.counts in (
-      c.in-Ok-batch_input.ensures.writer_ok,
-      counts,
-      search,
-      c.in-Ok-batch_input.ensures.end,
-      along_live g.K.Timekeeper.tells c.args.time.now _ _ 100000 c.args.moment c.args.digits w s
-          (λ q. IsBatched s.left_old q c.args.asker counts) c.in-Ok.ensures.fresh.gave
-          c.in-Ok.ensures.fresh.left_is c.in-Ok.ensures.fixed c.batch_input.ensures.later
-          c.in-Ok-batch_input.ensures.batched,
-    )
+    let it = (goal.at.returns-in-Ok-2-clause-does g c).After-batch_input in
+    let told = c.in-Ok in
+    let all = answered g it told.counts told.ensures.batched in
+    (told.ensures.writer_ok, told.counts, search, told.ensures.end, all)
 
 pub returns-clause-does : goal.returns-clause-does
 returns-clause-does g c =
-    let s : Streams = streams g.R.Read.remaining c.args.input.now c.batch_input.new.input g.W.Write.contents
-    c.args.output.now c.batch_input.new.output in
-    let w = vault_passing g.T.Tables.is_honest g.T.Tables.holds g.T.Tables.leaves c.args.vault.now
-    c.batch_input.new.vault in
-    let e = c.in-Err-batch_input.fault in
-    inr (along_live g.K.Timekeeper.tells c.args.time.now _ _ 100000 c.args.moment c.args.digits w s
-    (λ q. StopsBatch s.left_old q c.args.asker e) c.in-Ok.ensures.fresh.gave
-    c.in-Ok.ensures.fresh.left_is c.in-Ok.ensures.fixed c.batch_input.ensures.later
-    c.in-Err-batch_input.ensures.stopped)
+    let it = (goal.at.returns-clause-does g c).After-batch_input in
+    inr (along g it (λ q. StopsBatch (s g it).left_old q c.args.asker c.in-Err.fault)
+    c.in-Err.ensures.stopped)

@@ -1,21 +1,21 @@
 use Rattle.std.proofs.Common.{inr}
 use Rattle.vault_listen.specs.Peers.{vault_passing}
-use Rattle.vault_jobs.proofs.Along.{along_live}
+use Rattle.vault_jobs.proofs.VaultPassages.{along_live}
 use Rattle.vault_jobs.specs.Piped.{IsPiped, StopsPiping}
 use Rattle.vault_jobs.specs.Streams.{Streams, streams}
 use Rattle.vault_jobs.proofs.task.do_pipe.Goals as goal
 
-pub returns-in-Ok-pipe-clause-does : goal.returns-in-Ok-pipe-clause-does
-returns-in-Ok-pipe-clause-does g c =
+pub returns-in-Ok-clause-does : goal.returns-in-Ok-clause-does
+returns-in-Ok-clause-does g c =
     let s : Streams = streams g.R.Read.remaining c.args.input.now c.pipe.new.input g.W.Write.contents
     c.args.output.now c.pipe.new.output in
     let w = vault_passing g.T.Tables.is_honest g.T.Tables.holds g.T.Tables.leaves c.args.vault.now
     c.pipe.new.vault in (
-      c.in-Ok-pipe.ensures.writer_ok,
+      c.in-Ok.ensures.writer_ok,
       along_live g.K.Timekeeper.tells c.args.time.now _ _ 1000 c.args.moment c.args.digits w s
-          (IsPiped s.left_old s.left_new) c.in-Ok.ensures.fresh.gave
-          c.in-Ok.ensures.fresh.left_is c.in-Ok.ensures.fixed c.pipe.ensures.later
-          c.in-Ok-pipe.ensures.served,
+          (IsPiped s.left_old s.left_new) c.in-Some.ensures.fresh.gave
+          c.in-Some.ensures.fresh.left_is c.in-Some.ensures.fixed c.pipe.ensures.later
+          c.in-Ok.ensures.served,
     )
 
 pub returns-clause-does : goal.returns-clause-does
@@ -24,8 +24,8 @@ returns-clause-does g c =
     c.args.output.now c.pipe.new.output in
     let w = vault_passing g.T.Tables.is_honest g.T.Tables.holds g.T.Tables.leaves c.args.vault.now
     c.pipe.new.vault in
-    let e = c.in-Err-pipe.fault in
+    let e = c.in-Err.fault in
     inr (along_live g.K.Timekeeper.tells c.args.time.now _ _ 1000 c.args.moment c.args.digits w s
-    (λ q. StopsPiping s.left_old s.left_new q e) c.in-Ok.ensures.fresh.gave
-    c.in-Ok.ensures.fresh.left_is c.in-Ok.ensures.fixed c.pipe.ensures.later
-    c.in-Err-pipe.ensures.stopped)
+    (λ q. StopsPiping s.left_old s.left_new q e) c.in-Some.ensures.fresh.gave
+    c.in-Some.ensures.fresh.left_is c.in-Some.ensures.fixed c.pipe.ensures.later
+    c.in-Err.ensures.stopped)

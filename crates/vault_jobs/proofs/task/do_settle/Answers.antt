@@ -6,7 +6,7 @@ use Rattle.vault_jobs.proofs.task.do_settle.Goals as goal
 
 pub returns-in-Ok-clause-does : goal.returns-in-Ok-clause-does
 returns-in-Ok-clause-does g c =
-    let it = c.in-Ok-Done-default in
+    let it = c.in-Ok-Ok-default in
     inl (
       it.changes,
       it.ensures.changes,
@@ -15,16 +15,16 @@ returns-in-Ok-clause-does g c =
         subst (Appends (g.W.Write.contents (inner_of c.args.output.now))
             (g.W.Write.contents (inner_of c.answer.new.output)))
             (five (codes "granted ") c.format.result.now _ (codes " withdrawn ")
-            c.format-in-Ok-Done-default.result.now _ (codes "\n") c.format.ensures.text
-            (c.format-in-Ok-Done-default.ensures.text ∙ ap decimal c.withdrawn.ensures))
+            c.format-in-Ok-Ok-default.result.now _ (codes "\n") c.format.ensures.text
+            (c.format-in-Ok-Ok-default.ensures.text ∙ ap decimal c.withdrawn.ensures))
             c.in-Ok.ensures.answered,
         rw it.field-0-0-is at it.ensures.carried,
       ),
     )
 
-pub returns-in-Ok-Done-default-clause-does : goal.returns-in-Ok-Done-default-clause-does
-returns-in-Ok-Done-default-clause-does g c =
-    let it = c.in-Ok-Done-default in
+pub returns-in-Ok-Ok-default-clause-does : goal.returns-in-Ok-Ok-default-clause-does
+returns-in-Ok-Ok-default-clause-does g c =
+    let it = c.in-Ok-Ok-default in
     inl (
       it.changes,
       it.ensures.changes,
@@ -35,9 +35,9 @@ returns-in-Ok-Done-default-clause-does g c =
       ),
     )
 
-pub returns-in-Ok-Refused-default-clause-does : goal.returns-in-Ok-Refused-default-clause-does
-returns-in-Ok-Refused-default-clause-does g c =
-    let it = c.in-Ok-Refused-default in
+pub returns-in-Ok-Err-default-clause-does : goal.returns-in-Ok-Err-default-clause-does
+returns-in-Ok-Err-default-clause-does g c =
+    let it = c.in-Ok-Err-default in
     inl (it.field-0-1, it.ensures.changes, (refl, rw it.field-0-0-is at it.ensures.carried))
 
 pub returns-clause-does : goal.returns-clause-does

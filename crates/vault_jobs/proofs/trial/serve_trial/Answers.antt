@@ -1,67 +1,70 @@
 use Rattle.std.proofs.Common.{◌⊎◌}
-use Rattle.vault_listen.specs.Live.{pairs_of}
+use Rattle.vault_core.specs.Vault.{Vault as Content}
+use Rattle.vault_listen.specs.Live.{AreGiven, pairs_of}
 use Rattle.vault_store.specs.Held.{IsHeld}
 use Rattle.vault_engine.specs.Passing.{Passage, passing}
-use Rattle.vault_jobs.specs.Piped.{IsPiped, StopsPiping}
-use Rattle.vault_jobs.specs.Trial.{IsCut, IsTrial, trial_vault}
+use Rattle.vault_jobs.specs.Streams.{Known}
+use Rattle.vault_jobs.specs.Trial.{IsCut, trial_vault}
+use Rattle.vault_jobs.specs.declared.trial.Trial.{Trial}
 use Rattle.vault_jobs.proofs.Stops.{cut_piping, fixed_pairs, if_err_then, nothing_cut, on_err, on_ok_then}
 use Rattle.vault_jobs.proofs.Stops.{trial_of}
+use Rattle.vault_jobs.proofs.trial.serve_trial.Given.{Over}
+use Rattle.vault_jobs.proofs.trial.serve_trial.Goals.{Start, After-pipe}
 use Rattle.vault_jobs.proofs.trial.serve_trial.Goals as goal
+
+-- the vault that a trial begins with
+abbrev made : Trial → Content
+made trial = trial_vault trial.caller trial.merchant trial.life trial.made
+
+-- where no message is read
+uncut : (g : Over) (c : Start g) → IsCut (g.K.Timekeeper.tells c.args.time.now)
+    (g.R.Read.remaining c.args.input.now.inner) (g.R.Read.remaining c.args.input.now.inner)
+    (g.W.Write.contents c.args.output.now.inner) (g.W.Write.contents c.args.output.now.inner)
+    (made c.args.trial.now) c.args.trial.now.moment c.args.trial.now.digits
+uncut g c =
+    nothing_cut (g.K.Timekeeper.tells c.args.time.now) (g.R.Read.remaining c.args.input.now.inner)
+    (g.W.Write.contents c.args.output.now.inner) (made c.args.trial.now) c.args.trial.now.moment
+    c.args.trial.now.digits
 
 pub returns-in_err-vault-clause-cut : goal.returns-in_err-vault-clause-cut
 returns-in_err-vault-clause-cut g c =
-    let trial = c.args.trial.now in
-    let V = trial_vault trial.caller trial.merchant trial.life trial.made in
-    let left = g.R.Read.remaining c.args.input.now.inner in
-    let old = g.W.Write.contents c.args.output.now.inner in
-    on_err c.from_residual.result _ (nothing_cut _ left old V trial.moment trial.digits)
+    on_err c.from_residual.result _ (uncut g (goal.at.returns-in_err-vault-clause-cut g c).Start)
 
-pub returns-in_err-pairs-clause-cut : goal.returns-in_err-pairs-clause-cut
-returns-in_err-pairs-clause-cut g c =
-    let trial = c.args.trial.now in
-    let V = trial_vault trial.caller trial.merchant trial.life trial.made in
-    let left = g.R.Read.remaining c.args.input.now.inner in
-    let old = g.W.Write.contents c.args.output.now.inner in
-    on_err c.from_residual-in_err-pairs.result _ (nothing_cut _ left old V trial.moment trial.digits)
+pub returns-in_default-clause-cut : goal.returns-in_default-clause-cut
+returns-in_default-clause-cut g c = uncut g (goal.at.returns-in_default-clause-cut g c).Start
+
+module _ (g : Over) (c : After-pipe g) where
+  abbrev left : Known
+  left = g.R.Read.remaining c.args.input.now.inner
+
+  abbrev rest : Known
+  rest = g.R.Read.remaining c.pipe.new.input.inner
+
+  abbrev w : Passage
+  w = passing pairs_of c.in-Some.pairs c.pipe.new.source g.W.Write.contents c.args.output.now
+      c.pipe.new.output (λ t. Unit {0}) IsHeld (λ t V W. IsHeld t V ⊎ IsHeld t W) c.in_ok-vault.vault
+      c.pipe.new.vault
+
+  -- the pairs are those of the trial
+  fits : AreGiven (g.K.Timekeeper.tells c.args.time.now) c.args.trial.now.moment c.args.trial.now.digits
+      (pairs_of c.pipe.new.source)
+  fits =
+      fixed_pairs g.K.Timekeeper.tells c.in-Some.pairs c.pipe.new.source c.args.time.now
+      c.args.trial.now.moment c.args.trial.now.digits c.in-Some.ensures.fresh.gave
+      c.in-Some.ensures.fixed c.pipe.ensures.later
 
 pub returns-clause-served : goal.returns-clause-served
 returns-clause-served g c =
+    let it = (goal.at.returns-clause-served g c).After-pipe in
     let trial = c.args.trial.now in
-    let V = trial_vault trial.caller trial.merchant trial.life trial.made in
-    let left = g.R.Read.remaining c.args.input.now.inner in
-    let rest = g.R.Read.remaining c.pipe.new.input.inner in
-    let old = g.W.Write.contents c.args.output.now.inner in
-    let new = g.W.Write.contents c.pipe.new.output.inner in
-    let w : Passage = passing pairs_of c.in_ok-pairs.pairs c.pipe.new.source g.W.Write.contents
-    c.args.output.now c.pipe.new.output (λ t. Unit {0}) IsHeld (λ t V W. IsHeld t V ⊎ IsHeld t W)
-    c.in_ok-vault.vault c.pipe.new.vault in
-    let none = c.in_ok-pairs.ensures.fresh.gave in
-    let all = fixed_pairs g.K.Timekeeper.tells c.in_ok-pairs.pairs c.pipe.new.source c.args.time.now
-    trial.moment trial.digits none
-    c.in_ok-pairs.ensures.fixed c.pipe.ensures.later in
-    on_ok_then c.pipe.result (IsPiped left rest w) (IsTrial (g.K.Timekeeper.tells c.args.time.now) left rest
-    old new V trial.moment trial.digits)
-    (λ p. trial_of (g.K.Timekeeper.tells c.args.time.now) w V trial.moment trial.digits
-    (tt, c.in_ok-vault.ensures.holds) none all left rest p.0 p.1)
-    c.pipe.ensures.served
+    on_ok_then c.pipe.result _ _ (λ p. trial_of (g.K.Timekeeper.tells c.args.time.now) (w g it) (made trial)
+    trial.moment trial.digits (tt, c.in_ok-vault.ensures.holds) c.in-Some.ensures.fresh.gave (fits g it)
+    (left g it) (rest g it) p.0 p.1) c.pipe.ensures.served
 
 pub returns-clause-cut : goal.returns-clause-cut
 returns-clause-cut g c =
+    let it = (goal.at.returns-clause-cut g c).After-pipe in
     let trial = c.args.trial.now in
-    let V = trial_vault trial.caller trial.merchant trial.life trial.made in
-    let left = g.R.Read.remaining c.args.input.now.inner in
-    let rest = g.R.Read.remaining c.pipe.new.input.inner in
-    let old = g.W.Write.contents c.args.output.now.inner in
-    let new = g.W.Write.contents c.pipe.new.output.inner in
-    let w : Passage = passing pairs_of c.in_ok-pairs.pairs c.pipe.new.source g.W.Write.contents
-    c.args.output.now c.pipe.new.output (λ t. Unit {0}) IsHeld (λ t V W. IsHeld t V ⊎ IsHeld t W)
-    c.in_ok-vault.vault c.pipe.new.vault in
-    let none = c.in_ok-pairs.ensures.fresh.gave in
-    let all = fixed_pairs g.K.Timekeeper.tells c.in_ok-pairs.pairs c.pipe.new.source c.args.time.now
-    trial.moment trial.digits none
-    c.in_ok-pairs.ensures.fixed c.pipe.ensures.later in
-    if_err_then c.pipe.result (StopsPiping left rest w) (IsCut (g.K.Timekeeper.tells c.args.time.now) left
-    rest old new V trial.moment trial.digits)
-    (cut_piping (g.K.Timekeeper.tells c.args.time.now) w V trial.moment trial.digits
-    (tt, c.in_ok-vault.ensures.holds) none all
-    left rest) c.pipe.ensures.stopped
+    if_err_then c.pipe.result _ _ (cut_piping (g.K.Timekeeper.tells c.args.time.now) (w g it) (made trial)
+    trial.moment trial.digits (tt, c.in_ok-vault.ensures.holds) c.in-Some.ensures.fresh.gave (fits g it)
+    (left g it) (rest g it)) c.pipe.ensures.stopped

@@ -5,9 +5,9 @@ use Rattle.std.proofs.lemmas.List.Elements.{All-append, All-cons, All-nil}
 use Rattle.vault_store.specs.Applied.{is_broken, tables_of}
 use Rattle.vault_listen.specs.Peers.{AreLinks, Link, events_of, vault_passing}
 use Rattle.vault_listen.specs.Service.{GoesOn}
-use Rattle.vault_listen.proofs.Following.{failed_in, kept_after, unaccepted_in, undecided_after}
-use Rattle.vault_listen.proofs.Jumping.{jumped_after}
-use Rattle.vault_listen.proofs.Linking.{closed_then, links_then, lost_then, none_then, told_then}
+use Rattle.vault_listen.proofs.JoinedConnections.{failed_in, kept_after, unaccepted_in, undecided_after}
+use Rattle.vault_listen.proofs.TimeJumps.{jumped_after}
+use Rattle.vault_listen.proofs.ServedConnections.{closed_then, links_then, lost_then, none_then, told_then}
 use Rattle.vault_listen.proofs.service.serve_on.Goals as goal
 use Rattle.vault_listen.proofs.service.serve_on.Goals.{in-Some+in_ok-serve_link, in_default-2}
 

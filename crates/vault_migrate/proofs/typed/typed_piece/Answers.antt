@@ -1,5 +1,5 @@
-use Rattle.std.proofs.Common.{◌≡◌, ◌<◌, ◌^◌, ap, arith, length, map, subst, sym, take, ◌∙◌}
-use Rattle.std.proofs.Math.Seq.{take-length}
+use Rattle.std.proofs.Common.{◌<◌, ◌^◌, ap, arith, length, map, subst, sym, ◌∙◌}
+use Rattle.std.proofs.lemmas.List.{take_all}
 use Rattle.std.proofs.lemmas.List.Elements.{All-push}
 use Rattle.std.specs.List.{All}
 use Rattle.vault_core.specs.Keys.{Bytes}
@@ -27,8 +27,7 @@ loop-older-preserved c =
 pub returns-clause-rows : goal.returns-clause-rows
 returns-clause-rows c =
     let all = c.args.olders.now in
-    let whole : take c.loop-older.older-index all ≡ all =
-    ap (λ i. take i all)
-    (let last = c.loop-older.auto.older-index-end in let past = c.loop-older-test.false in
-    omega (arith, last, past)) ∙ take-length all in
+    let last = c.loop-older.auto.older-index-end in
+    let past = c.loop-older-test.false in
+    let whole = take_all c.loop-older.older-index all (omega (arith, last, past)) in
     ap (map old_columns) (sym whole) ∙ c.loop-older.invariant.0

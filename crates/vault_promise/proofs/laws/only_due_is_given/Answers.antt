@@ -1,4 +1,4 @@
-use Rattle.vault_promise.proofs.Giving.{only_due}
+use Rattle.vault_promise.proofs.DueNumbers.{only_due}
 use Rattle.vault_promise.proofs.laws.only_due_is_given.Goals as goal
 
 pub returns : goal.returns

@@ -1,12 +1,12 @@
-use Rattle.std.proofs.Common.{◌≡◌, Ok, Some, sym, inl, inr, refl, subst, ap, ◌∙◌}
+use Rattle.std.proofs.Common.{◌≡◌, Ok, sym, inl, inr, refl, subst, ap, ◌∙◌}
 use Rattle.vault_pan.specs.CardText.{IsToken}
 use Rattle.vault_routes.specs.Route.{route_of, target_of}
 use Rattle.vault_routes.specs.Table.{action_at}
 use Rattle.vault_routes.specs.Wanted.{Wants, WantsAction, command_for, command_on}
 use Rattle.vault_refusal.specs.declared.refusal.Refusal.TheVariants as refusal
 use Rattle.vault_routes.specs.declared.table.Action.TheVariants as action
-use Rattle.vault_routes.proofs.WantedLemmas.{asker_read, asker_refused, order_read, order_refused, refused_by}
-use Rattle.vault_routes.proofs.WantedLemmas.{wants_of}
+use Rattle.vault_routes.proofs.WantedLemmas.{asker_refused, order_read, order_refused, refused_by, routed}
+use Rattle.vault_routes.proofs.WantedLemmas.{wants_by, wants_of}
 use Rattle.vault_routes.proofs.wanted.command_of.Goals as goal
 
 pub returns-in_default-action-clause-wanted : goal.returns-in_default-action-clause-wanted
@@ -25,12 +25,13 @@ returns-in_default-action-clause-wanted c = λ _.
 pub returns-in_err-asker-clause-wanted : goal.returns-in_err-asker-clause-wanted
 returns-in_err-asker-clause-wanted c =
     let target = target_of c.in-Some.route in
-    let found = ap route_of (sym c.target.ensures) ∙ sym c.in-Some.ensures in
-    let takes = ap (action_at target.place) (sym c.method.ensures) ∙ sym c.in-Some-action.ensures in
+    let by = routed c.args.message.now _ _ target _ c.in-Some-action.action c.target.ensures c.in-Some.ensures
+    c.method.ensures c.in-Some-action.ensures refl in
     refused_by (Wants c.args.message.now c.args.now c.args.digits) c.from_residual.result
     c.in_err-asker.field-0.0
     c.from_residual.ensures.1
-    (λ some. wants_of c.args.message.now c.args.now c.args.digits target c.in-Some-action.action _ found takes
+    (λ some. wants_of c.args.message.now c.args.now c.args.digits target c.in-Some-action.action _ by.found
+    by.takes
     (asker_refused c.args.message.now target.merchant c.args.now
     (WantsAction c.in-Some-action.action target c.args.message.now c.args.digits) _
     (c.in_err-asker.ensures.wanted some)))
@@ -38,81 +39,56 @@ returns-in_err-asker-clause-wanted c =
 pub returns-in_err-order-in-Tokenize-clause-wanted :
     goal.returns-in_err-order-in-Tokenize-clause-wanted
 returns-in_err-order-in-Tokenize-clause-wanted c =
-    let target = target_of c.in-Some.route in
-    let found = ap route_of (sym c.target.ensures) ∙ sym c.in-Some.ensures in
-    let takes = ap (action_at target.place) (sym c.method.ensures) ∙ sym c.in-Some-action.ensures
-    ∙ ap Some c.in-Tokenize.is in
     refused_by (Wants c.args.message.now c.args.now c.args.digits)
     c.from_residual-in_err-order-in-Tokenize.result
     c.in_err-order-in-Tokenize.field-0.0 c.from_residual-in_err-order-in-Tokenize.ensures.1
-    (λ some. wants_of c.args.message.now c.args.now c.args.digits target action.Tokenize _ found takes
-    (asker_read c.args.message.now target.merchant c.args.now
-    (WantsAction action.Tokenize target c.args.message.now c.args.digits) c.in_ok-asker.asker _
-    c.in_ok-asker.ensures.wanted
+    (λ some. wants_by c.args.message.now c.args.now c.args.digits (target_of c.in-Some.route) action.Tokenize
+    c.in_ok-asker.asker _ (routed _ _ _ _ _ _ c.target.ensures c.in-Some.ensures c.method.ensures
+    c.in-Some-action.ensures c.in-Tokenize.is) c.in_ok-asker.ensures.wanted
     (order_refused c.args.message.now (λ o r. r ≡ Ok (command_for c.in_ok-asker.asker o c.args.digits)) _
-    (c.in_err-order-in-Tokenize.ensures.wanted some))))
+    (c.in_err-order-in-Tokenize.ensures.wanted some)))
 
 pub returns-in_err-token-in-OnToken-clause-wanted :
     goal.returns-in_err-token-in-OnToken-clause-wanted
 returns-in_err-token-in-OnToken-clause-wanted c =
-    let target = target_of c.in-Some.route in
-    let found = ap route_of (sym c.target.ensures) ∙ sym c.in-Some.ensures in
-    let asked = action.OnToken c.in-OnToken.what in
-    let takes = ap (action_at target.place) (sym c.method.ensures) ∙ sym c.in-Some-action.ensures
-    ∙ ap Some c.in-OnToken.is in
     refused_by (Wants c.args.message.now c.args.now c.args.digits)
     c.from_residual-in_err-token-in-OnToken.result
     refusal.BadToken c.from_residual-in_err-token-in-OnToken.ensures.1
-    (λ _. wants_of c.args.message.now c.args.now c.args.digits target asked _ found takes
-    (asker_read c.args.message.now target.merchant c.args.now
-    (WantsAction asked target c.args.message.now c.args.digits) c.in_ok-asker.asker _
-    c.in_ok-asker.ensures.wanted
+    (λ _. wants_by c.args.message.now c.args.now c.args.digits (target_of c.in-Some.route)
+    (action.OnToken c.in-OnToken.what)
+    c.in_ok-asker.asker _ (routed _ _ _ _ _ _ c.target.ensures c.in-Some.ensures c.method.ensures
+    c.in-Some-action.ensures c.in-OnToken.is) c.in_ok-asker.ensures.wanted
     (inr (
       (λ is. c.in_err-token-in-OnToken.ensures (subst IsToken (sym c.as_bytes.ensures.value) is)),
       refl,
-    ))))
+    )))
 
 pub returns-in_ok-order-in-Tokenize-clause-wanted :
     goal.returns-in_ok-order-in-Tokenize-clause-wanted
 returns-in_ok-order-in-Tokenize-clause-wanted c =
-    let target = target_of c.in-Some.route in
-    let found = ap route_of (sym c.target.ensures) ∙ sym c.in-Some.ensures in
-    let takes = ap (action_at target.place) (sym c.method.ensures) ∙ sym c.in-Some-action.ensures
-    ∙ ap Some c.in-Tokenize.is in
-    wants_of c.args.message.now c.args.now c.args.digits target action.Tokenize _ found takes
-    (asker_read c.args.message.now target.merchant c.args.now
-    (WantsAction action.Tokenize target c.args.message.now c.args.digits) c.in_ok-asker.asker _
-    c.in_ok-asker.ensures.wanted
+    wants_by c.args.message.now c.args.now c.args.digits (target_of c.in-Some.route) action.Tokenize
+    c.in_ok-asker.asker _ (routed _ _ _ _ _ _ c.target.ensures c.in-Some.ensures c.method.ensures
+    c.in-Some-action.ensures c.in-Tokenize.is) c.in_ok-asker.ensures.wanted
     (order_read c.args.message.now (λ o r. r ≡ Ok (command_for c.in_ok-asker.asker o c.args.digits))
     c.in_ok-order-in-Tokenize.order _ c.in_ok-order-in-Tokenize.ensures.wanted
-    (ap Ok c.order.ensures.asks)))
+    (ap Ok c.order.ensures.asks))
 
 pub returns-in_ok-token-in-OnToken-clause-wanted :
     goal.returns-in_ok-token-in-OnToken-clause-wanted
 returns-in_ok-token-in-OnToken-clause-wanted c =
-    let target = target_of c.in-Some.route in
-    let found = ap route_of (sym c.target.ensures) ∙ sym c.in-Some.ensures in
-    let asked = action.OnToken c.in-OnToken.what in
-    let takes = ap (action_at target.place) (sym c.method.ensures) ∙ sym c.in-Some-action.ensures
-    ∙ ap Some c.in-OnToken.is in
     let read = c.in_ok-token-in-OnToken.ensures in
-    wants_of c.args.message.now c.args.now c.args.digits target asked _ found takes
-    (asker_read c.args.message.now target.merchant c.args.now
-    (WantsAction asked target c.args.message.now c.args.digits) c.in_ok-asker.asker _
-    c.in_ok-asker.ensures.wanted (inl (
+    wants_by c.args.message.now c.args.now c.args.digits (target_of c.in-Some.route)
+    (action.OnToken c.in-OnToken.what)
+    c.in_ok-asker.asker _ (routed _ _ _ _ _ _ c.target.ensures c.in-Some.ensures c.method.ensures
+    c.in-Some-action.ensures c.in-OnToken.is) c.in_ok-asker.ensures.wanted
+    (inl (
       subst IsToken c.as_bytes.ensures.value read.0,
       ap Ok (c.on.ensures.asks ∙ ap (command_on c.in-OnToken.what c.in_ok-asker.asker)
           (read.1 ∙ c.as_bytes.ensures.value)),
-    )))
+    ))
 
 pub returns-in-Audit-clause-wanted : goal.returns-in-Audit-clause-wanted
 returns-in-Audit-clause-wanted c =
-    let target = target_of c.in-Some.route in
-    let found = ap route_of (sym c.target.ensures) ∙ sym c.in-Some.ensures in
-    let takes = ap (action_at target.place) (sym c.method.ensures) ∙ sym c.in-Some-action.ensures
-    ∙ ap Some c.in-Audit.is in
-    wants_of c.args.message.now c.args.now c.args.digits target action.Audit _ found takes
-    (asker_read c.args.message.now target.merchant c.args.now
-    (WantsAction action.Audit target c.args.message.now c.args.digits) c.in_ok-asker.asker _
-    c.in_ok-asker.ensures.wanted
-    refl)
+    wants_by c.args.message.now c.args.now c.args.digits (target_of c.in-Some.route) action.Audit
+    c.in_ok-asker.asker _ (routed _ _ _ _ _ _ c.target.ensures c.in-Some.ensures c.method.ensures
+    c.in-Some-action.ensures c.in-Audit.is) c.in_ok-asker.ensures.wanted refl

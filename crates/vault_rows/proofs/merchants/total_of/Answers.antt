@@ -1,5 +1,5 @@
-use Rattle.std.proofs.Common.{◌≡◌, pos, arith, inl, inr, refl, sym, ap, ◌∙◌, take}
-use Rattle.std.proofs.Math.Seq.{take-length}
+use Rattle.std.proofs.Common.{pos, arith, inl, inr, refl, sym, ap, ◌∙◌}
+use Rattle.std.proofs.lemmas.List.{take_all}
 use Rattle.sqlite.specs.declared.types.Value.TheVariants.{Int}
 use Rattle.sqlite_rules.proofs.ListLemmas.{all_has, all_more, has_at}
 use Rattle.sqlite_rules.specs.Lists.{Has}
@@ -29,10 +29,9 @@ loop-row-preserved c =
 pub returns : goal.returns
 returns c =
     let all = c.args.rows.now in
-    let whole : take c.loop-row.row-index all ≡ all =
-    ap (λ i. take i all)
-    (let last = c.loop-row.auto.row-index-end in let past = c.loop-row-test.false in
-    omega (arith, last, past)) ∙ take-length all in
+    let last = c.loop-row.auto.row-index-end in
+    let past = c.loop-row-test.false in
+    let whole = take_all c.loop-row.row-index all (omega (arith, last, past)) in
     inr (
       refl,
       λ r there is. all_has _ all r (rw whole at c.loop-row.invariant) there

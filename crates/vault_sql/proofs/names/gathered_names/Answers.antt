@@ -1,5 +1,5 @@
-use Rattle.std.proofs.Common.{arith, ap, sym, subst, take, ◌∙◌, ◌≡◌}
-use Rattle.std.proofs.Math.Seq.{take-length}
+use Rattle.std.proofs.Common.{arith, ap, sym, subst, ◌∙◌}
+use Rattle.std.proofs.lemmas.List.{take_all}
 use Rattle.std.specs.BTreeMap.{is_at}
 use Rattle.std.specs.Map.{lookup}
 use Rattle.vault_core.specs.Keys.{bytes_cmp}
@@ -25,9 +25,6 @@ loop-row-preserved c =
 
 pub returns : goal.returns
 returns c =
-    let all = c.args.rows.now in
-    let whole : take c.loop-row.row-index all ≡ all =
-    ap (λ i. take i all)
-    (let last = c.loop-row.auto.row-index-end in let past = c.loop-row-test.false in
-    omega (arith, last, past)) ∙ take-length all in
-    subst (λ l. Gathers bytes_cmp ShowsName l c.loop-row.found) whole c.loop-row.invariant
+    subst (λ l. Gathers bytes_cmp ShowsName l c.loop-row.found)
+    (take_all c.loop-row.row-index c.args.rows.now
+    (omega (arith, c.loop-row.auto.row-index-end, c.loop-row-test.false))) c.loop-row.invariant

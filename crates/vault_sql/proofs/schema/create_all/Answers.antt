@@ -14,6 +14,10 @@ use Rattle.vault_sql.proofs.Making.{begun_blank}
 use Rattle.vault_sql.proofs.schema.create_all.Given.{Over}
 use Rattle.vault_sql.proofs.schema.create_all.Goals as goal
 
+-- what is left is what was committed
+left_is : (g : Over) (c : goal.After-conn-2-1 g) → c.commit.new.self.0 ≡ c.conn-2-1.given.0
+left_is g c = search rules
+
 -- before the commit all tables were made
 made : (g : Over) (c : goal.After-conn-2-1 g) → HasCleanDisk (state g.S.Store c.commit.new.self.0)
     → IsReady (state g.S.Store c.args.conn.now) → (state g.S.Store c.args.conn.now).now.schema ≡ no_schema
@@ -30,21 +34,18 @@ made g c late is blank =
 
 pub returns-clause-done : goal.returns-clause-done
 returns-clause-done g c clean =
-    let end = c.commit.new.self.0 in
-    let same : end ≡ c.conn-2-1.given.0 = search rules in
-    let late : HasCleanDisk (state g.S.Store end) = search rules in
+    let late = subst (λ h. HasCleanDisk (state g.S.Store h)) (sym (left_is g c)) clean in
     let old = state g.S.Store c.args.conn.now in
     subst (λ h. OnOk c.commit.result
-    (IsReady old → old.now.schema ≡ no_schema → Holds (state g.S.Store h) empty_vault)) same
+    (IsReady old → old.now.schema ≡ no_schema → Holds (state g.S.Store h) empty_vault)) (left_is g c)
     (on_ok c.commit.result (c.commit.ensures.ok late) (λ done is blank.
     held_after empty_vault (made g c late is blank) done.1 c.commit.ensures.survives.limit))
 
 pub returns-clause-crash : goal.returns-clause-crash
 returns-clause-crash g c clean is blank db left =
-    let end = c.commit.new.self.0 in
-    let same : end ≡ c.conn-2-1.given.0 = search rules in
-    let late : HasCleanDisk (state g.S.Store end) = search rules in
-    let was : g.S.Store.recovers end.store db = subst (λ h. g.S.Store.recovers h.store db) (sym same) left in
+    let late = subst (λ h. HasCleanDisk (state g.S.Store h)) (sym (left_is g c)) clean in
+    let was : g.S.Store.recovers c.commit.new.self.0.store db =
+    subst (λ h. g.S.Store.recovers h.store db) (sym (left_is g c)) left in
     let middle : HasCleanDisk (state g.S.Store c.create_tables.new.tx.conn.now) =
     omega (arith, c.commit.ensures.survives.clean) in
     elim (c.commit.ensures.survives.crash late db was) [

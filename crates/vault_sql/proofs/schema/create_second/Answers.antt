@@ -1,11 +1,12 @@
-use Rattle.vault_schema.proofs.Version2.Making.{all_made, makes_cards, makes_entries, makes_entries_card}
+use Rattle.vault_schema.proofs.Version2.Making.{makes_second as texts}
 use Rattle.vault_sql.proofs.Making.{as_begun, last_index, table_made}
 use Rattle.vault_sql.proofs.schema.create_second.Goals as goal
 
 pub returns-clause-done : goal.returns-clause-done
 returns-clause-done g c clean =
-    let cards = table_made c.in_ok-step.ensures.steps c.in_ok-step.ensures.ran 6 makes_cards (as_begun _ 6 _)
-    in
-    let pointing = table_made c.in_ok-step-2.ensures.steps c.in_ok-step-2.ensures.ran 7 makes_entries cards in
-    last_index c.step-3.result c.step-3.ensures.steps c.step-3.ensures.ran 8 makes_entries_card all_made
+    let cards = table_made c.in_ok-step.ensures.steps c.in_ok-step.ensures.ran 6
+    texts.for_cards (as_begun _ 6 _) in
+    let pointing = table_made c.in_ok-step-2.ensures.steps c.in_ok-step-2.ensures.ran 7
+    texts.for_entries cards in
+    last_index c.step-3.result c.step-3.ensures.steps c.step-3.ensures.ran 8 texts.for_card texts.all
     pointing clean

@@ -1,13 +1,10 @@
-use Rattle.std.proofs.Common.{◌≡◌, ap, arith, map, sym, take, ◌∙◌}
-use Rattle.std.proofs.Math.Seq.{take-length}
+use Rattle.std.proofs.Common.{ap, arith, map, sym, ◌∙◌}
+use Rattle.std.proofs.lemmas.List.{take_all}
 use Rattle.sqlite.specs.Order.{column}
 use Rattle.vault_sql.proofs.tokens.tokens_of.Goals as goal
 
 pub returns : goal.returns
 returns c =
-    let all = c.args.rows.now in
-    let whole : take c.loop-row.row-index all ≡ all =
-    ap (λ i. take i all)
-    (let last = c.loop-row.auto.row-index-end in let past = c.loop-row-test.false in
-    omega (arith, last, past)) ∙ take-length all in
-    ap (map (λ row. column row 0)) (sym whole) ∙ c.loop-row.invariant
+    ap (map (λ row. column row 0))
+    (sym (take_all c.loop-row.row-index c.args.rows.now
+    (omega (arith, c.loop-row.auto.row-index-end, c.loop-row-test.false)))) ∙ c.loop-row.invariant

@@ -1,4 +1,4 @@
-use Rattle.std.proofs.Common.{◌≡◌, subst, arith, rules, inl, inr, OnOk}
+use Rattle.std.proofs.Common.{◌≡◌, sym, subst, arith, rules, inl, inr, OnOk}
 use Rattle.sqlite.specs.Held.{state}
 use Rattle.sqlite.specs.State.{HasCleanDisk}
 use Rattle.sql_maps.proofs.Calls.{as_ok, on_ok, steps_then}
@@ -15,6 +15,10 @@ use Rattle.vault_schema.specs.Stands.{newest}
 use Rattle.vault_sql.proofs.WrittenPlus.{has_room, written_plus}
 use Rattle.vault_sql.proofs.transaction.write.Given.{Over}
 use Rattle.vault_sql.proofs.transaction.write.Goals as goal
+
+-- what is left is what was committed
+left_is : (g : Over) (c : goal.After-map_err g) → c.commit.new.self.0 ≡ c.conn-2-1.given.0
+left_is g c = search rules
 
 -- before the commit all changes were written
 ready : (g : Over) (c : goal.After-map_err g) → HasCleanDisk (state g.S.Store c.commit.new.self.0)
@@ -40,27 +44,23 @@ ready g c late V h sound fit =
 
 pub returns-clause-done : goal.returns-clause-done
 returns-clause-done g c clean =
-    let end = c.commit.new.self.0 in
-    let same : end ≡ c.conn-2-1.given.0 = search rules in
-    let late : HasCleanDisk (state g.S.Store end) = search rules in
+    let late = subst (λ h. HasCleanDisk (state g.S.Store h)) (sym (left_is g c)) clean in
     let old = state g.S.Store c.args.conn.now in
     subst (λ h. OnOk c.map_err.result
     ((V : Vault) → Holds old V → Sound V → Fit V c.args.ch.now
-    → Holds (state g.S.Store h) (plus V c.args.ch.now))) same
+    → Holds (state g.S.Store h) (plus V c.args.ch.now))) (left_is g c)
     (as_ok _ c.commit.result c.map_err.result c.map_err.ensures.variant
     (on_ok c.commit.result (c.commit.ensures.ok late) (λ done V h sound fit.
     held_after (plus V c.args.ch.now) (ready g c late V h sound fit) done.1 c.commit.ensures.survives.limit)))
 
 pub returns-clause-crash : goal.returns-clause-crash
 returns-clause-crash g c clean V h sound fit =
-    let end = c.commit.new.self.0 in
-    let same : end ≡ c.conn-2-1.given.0 = search rules in
-    let late : HasCleanDisk (state g.S.Store end) = search rules in
+    let late = subst (λ h. HasCleanDisk (state g.S.Store h)) (sym (left_is g c)) clean in
     let old = state g.S.Store c.args.conn.now in
     let both = steps_then c.in_ok-write_merchant.ensures.done.steps c.in_ok-write_caller.ensures.done.steps in
     let middle : HasCleanDisk (state g.S.Store c.write_caller.new.tx.conn.now) =
     omega (arith, c.commit.ensures.survives.clean) in
-    subst (λ x. LeavesEither (state g.S.Store x) V (plus V c.args.ch.now)) same (λ db left.
+    subst (λ x. LeavesEither (state g.S.Store x) V (plus V c.args.ch.now)) (left_is g c) (λ db left.
     elim (c.commit.ensures.survives.crash late db left) [
       | inl before ↦ inl (last_commit old V db h (g.met.S.Store.settled c.args.conn.now.store db h.is_open
           (rw c.transaction-tx.ensures.begun at (both.left middle db before))))

@@ -1,11 +1,10 @@
-use Rattle.std.proofs.Common.{◌≡◌, ◌<◌, ◌∙◌, ◌∷◌, ◌+◌, ◌++◌, List, [], ap, arith, length, map, sym}
+use Rattle.std.proofs.Common.{◌≡◌, ◌<◌, ◌∙◌, ◌∷◌, ◌+◌, ◌++◌, List, [], arith, length, map, sym}
 use Rattle.std.proofs.Common.{subst, take}
-use Rattle.std.proofs.Math.Seq.{take-length}
 use Rattle.std.specs.List.{filter_map}
 use Rattle.vault_verdict.specs.Raw.{card_values}
 use Rattle.vault_verdict.specs.Made.{as_card}
 use Rattle.vault_verdict.specs.Taken.{CardsTaken}
-use Rattle.vault_verdict.proofs.More.{card_more, none_more}
+use Rattle.vault_verdict.proofs.More.{card_more, none_more, of_all}
 use Rattle.vault_verdict.proofs.made.cards.Goals.{in-Some+in_ok-take, in_default}
 use Rattle.vault_verdict.proofs.made.cards.Goals as goal
 use Rattle.vault_rules.specs.declared.index.Index.{Index}
@@ -45,10 +44,9 @@ loop-older-preserved c =
 
 pub returns-clause-made : goal.returns-clause-made
 returns-clause-made c =
-    let all = c.args.olders.now in
-    let inv = c.loop-older.invariant in
-    let whole : take c.loop-older.older-index all ≡ all =
-    ap (λ i. take i all)
-    (let last = c.loop-older.auto.older-index-end in let past = c.loop-older-test.false in
-    omega (arith, last, past)) ∙ take-length all in
-    (inv.0, inv.1, ap (filter_map as_card) (sym whole) ∙ inv.2)
+    let inv = c.loop-older.invariant in (
+      inv.0,
+      inv.1,
+      of_all (filter_map as_card) c.args.olders.now c.loop-older.older-index _
+          (omega (arith, c.loop-older.auto.older-index-end, c.loop-older-test.false)) inv.2,
+    )

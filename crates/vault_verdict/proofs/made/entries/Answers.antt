@@ -1,19 +1,18 @@
-use Rattle.std.proofs.Common.{◌≡◌, ◌<◌, ◌++◌, ◌∷◌, [], ap, arith, length, map, sym, take, ◌∙◌}
+use Rattle.std.proofs.Common.{◌<◌, ◌++◌, ◌∷◌, [], ap, arith, length, map, sym, take, ◌∙◌}
 use Rattle.std.proofs.lemmas.List.{map-append, take_more}
 use Rattle.vault_verdict.specs.Raw.{entry_values}
-use Rattle.std.proofs.Math.Seq.{take-length}
 use Rattle.vault_verdict.specs.Made.{as_entry}
+use Rattle.vault_verdict.proofs.More.{of_all}
 use Rattle.vault_verdict.proofs.made.entries.Goals as goal
 
 pub returns-clause-made : goal.returns-clause-made
 returns-clause-made c =
-    let all = c.args.olders.now in
-    let inv = c.loop-older.invariant in
-    let whole : take c.loop-older.older-index all ≡ all =
-    ap (λ i. take i all)
-    (let last = c.loop-older.auto.older-index-end in let past = c.loop-older-test.false in
-    omega (arith, last, past)) ∙ take-length all in
-    (inv.0, inv.1, ap (map as_entry) (sym whole) ∙ inv.2)
+    let inv = c.loop-older.invariant in (
+      inv.0,
+      inv.1,
+      of_all (map as_entry) c.args.olders.now c.loop-older.older-index _
+          (omega (arith, c.loop-older.auto.older-index-end, c.loop-older-test.false)) inv.2,
+    )
 
 pub loop-older-preserved : goal.loop-older-preserved
 loop-older-preserved c =

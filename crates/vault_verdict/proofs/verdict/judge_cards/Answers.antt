@@ -1,10 +1,15 @@
-use Rattle.std.proofs.Common.{◌∙◌, Ok, Result, arith, ap, inl, inr, refl, sym}
+use Rattle.std.proofs.Common.{◌≡◌, ◌∙◌, [], IfOk, Ok, Result, arith, ap, inl, inr, refl, sym}
 use Rattle.sqlite.specs.Effect.{Database}
 use Rattle.sqlite.specs.Held.{state}
 use Rattle.sqlite.specs.State.{HasCleanDisk}
 use Rattle.vault_verdict.proofs.FirstAndBehind.{all_onward, judges_same, none_of, sizes_failed}
 use Rattle.vault_verdict.proofs.Results.{failed_read}
+use Rattle.vault_rules.specs.Held.{HoldCards}
+use Rattle.vault_schema.specs.Versions.{schema_of}
+use Rattle.vault_verdict.proofs.verdict.judge_cards.Given.{Over}
+use Rattle.vault_verdict.proofs.verdict.judge_cards.Goals.{After-judge_behind}
 use Rattle.vault_verdict.proofs.verdict.judge_cards.Goals as goal
+use Rattle.vault_verdict.specs.Judging.{JudgesAll, sizes_in}
 use Rattle.vault_verdict.specs.declared.fault.OpenFault.{OpenFault}
 use Rattle.vault_verdict.specs.declared.verdict.Judged.{Judged}
 
@@ -13,44 +18,37 @@ returns-in_err-olders-clause-told g c clean has none =
     inl (failed_read c.from_residual.result _ c.from_residual.ensures.1
     (λ store. inr (inr (inl (c.in_err-olders.ensures.refused clean has store)))))
 
-pub returns-in_err-sizes-clause-told : goal.returns-in_err-sizes-clause-told
-returns-in_err-sizes-clause-told g c clean has none =
+-- what came of the rows behind the cards is what comes of all
+all_come : (g : Over) (c : After-judge_behind g) (whole : Result Judged OpenFault)
+    → IfOk whole (λ it. it.olders.items ≡ c.in_ok-olders.field-0.olders.items)
+    → c.judge_behind.result ≡ sizes_in whole → HasCleanDisk (state g.S.Store c.judge_behind.new.conn)
+    → (state g.S.Store c.args.conn.now).now.schema ≡ schema_of c.args.version
+    → HoldCards c.args.index.merchants.now c.args.index.cards []
+    → JudgesAll g.S.Store c.args.version c.args.versions.now c.args.index.merchants.now
+    c.args.index.counts.now whole c.args.conn.now c.judge_behind.new.conn
+all_come g c whole olders sizes clean has none =
     let middle : HasCleanDisk (state g.S.Store c.cards.new.conn) =
     omega (arith, c.judge_behind.ensures.nothing_new.clean, clean) in
     let it = c.in_ok-olders.ensures.told middle has in
     let same = c.in_ok-olders.ensures.reads.kept middle has in
     let held = it.1 none in
     let there = ap (λ (d : Database). d.schema) same.0.now_is ∙ has in
-    let whole = c.from_residual-in_err-sizes.result in
-    let failed = c.from_residual-in_err-sizes.ensures.1 in
     all_onward g.S.Store c.args.version c.args.conn.now c.cards.new.conn c.judge_behind.new.conn same
     c.args.versions.now c.args.index.merchants.now c.args.index.counts.now
-    c.in_ok-olders.field-0.olders.items it.0 it.2
-    whole (none_of whole _ _ failed)
+    c.in_ok-olders.field-0.olders.items it.0 it.2 whole olders
     (judges_same g.S.Store c.args.version c.cards.new.conn c.judge_behind.new.conn c.args.versions.now it.0
-    _ _ _ _ _ _ _ _ (λ j. (held.0 j).now) (λ j. (held.1 j).now)
-    c.deref.ensures.value
-    (c.in_err-sizes.was ∙ sym (sizes_failed whole _ failed))
+    _ _ _ _ _ _ _ _ (λ j. (held.0 j).now) (λ j. (held.1 j).now) c.deref.ensures.value sizes
     (c.judge_behind.ensures.told clean there it.0 held.2))
+
+pub returns-in_err-sizes-clause-told : goal.returns-in_err-sizes-clause-told
+returns-in_err-sizes-clause-told g c clean has none =
+    let whole = c.from_residual-in_err-sizes.result in
+    let failed = c.from_residual-in_err-sizes.ensures.1 in
+    all_come g (goal.at.returns-in_err-sizes-clause-told g c).After-judge_behind whole
+    (none_of whole _ _ failed) (c.in_err-sizes.was ∙ sym (sizes_failed whole _ failed)) clean has none
 
 pub returns-clause-told : goal.returns-clause-told
 returns-clause-told g c clean has none =
-    let middle : HasCleanDisk (state g.S.Store c.cards.new.conn) =
-    omega (arith, c.judge_behind.ensures.nothing_new.clean, clean) in
-    let it = c.in_ok-olders.ensures.told middle has in
-    let same = c.in_ok-olders.ensures.reads.kept middle has in
-    let held = it.1 none in
-    let there = ap (λ (d : Database). d.schema) same.0.now_is ∙ has in
-    let whole : Result Judged OpenFault =
-    Ok (record {
-      sizes = c.in_ok-sizes.sizes;
-      olders = c.in_ok-olders.field-0.olders;
-    }) in
-    all_onward g.S.Store c.args.version c.args.conn.now c.cards.new.conn c.judge_behind.new.conn same
-    c.args.versions.now c.args.index.merchants.now c.args.index.counts.now
-    c.in_ok-olders.field-0.olders.items it.0 it.2
-    whole refl
-    (judges_same g.S.Store c.args.version c.cards.new.conn c.judge_behind.new.conn c.args.versions.now it.0
-    _ _ _ _ _ _ _ _ (λ j. (held.0 j).now) (λ j. (held.1 j).now)
-    c.deref.ensures.value c.in_ok-sizes.was
-    (c.judge_behind.ensures.told clean there it.0 held.2))
+    all_come g (goal.at.returns-clause-told g c).After-judge_behind
+    (Ok (record { sizes = c.in_ok-sizes.sizes; olders = c.in_ok-olders.field-0.olders })) refl
+    c.in_ok-sizes.was clean has none

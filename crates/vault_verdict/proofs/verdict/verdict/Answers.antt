@@ -1,4 +1,4 @@
-use Rattle.std.proofs.Common.{◌≡◌, ◌∙◌, List, None, Result, inl, inr, refl, sym, ap, subst, arith}
+use Rattle.std.proofs.Common.{◌≡◌, ◌∙◌, List, None, Ok, Result, inl, inr, refl, sym, ap, subst, arith}
 use Rattle.sqlite.proofs.Callers.{unchanged_then}
 use Rattle.sqlite.specs.Effect.{Database}
 use Rattle.sqlite.specs.Held.{state}
@@ -7,7 +7,7 @@ use Rattle.vault_schema.specs.Versions.{number_of, schema_of}
 use Rattle.vault_verdict.specs.Faults.{IsJudged}
 use Rattle.vault_verdict.proofs.InVersion.{has_version_in}
 use Rattle.vault_verdict.proofs.Judged.{AreRead, apart_of, by_rowid, olders_in, sound_of}
-use Rattle.vault_verdict.proofs.FirstAndBehind.{judged_err, judged_ok, judges_as, read_onward}
+use Rattle.vault_verdict.proofs.FirstAndBehind.{AreJudged, judged_err, judged_ok, judges_as, read_onward}
 use Rattle.vault_verdict.proofs.Results.{err_where, ok_where, on_where, passed_on}
 use Rattle.vault_verdict.proofs.verdict.verdict.Given.{Over}
 use Rattle.vault_verdict.proofs.verdict.verdict.Goals as goal
@@ -50,6 +50,16 @@ module _ (g : Over) (c : goal.After-drop-versions-2 g)
         _ c.in_ok-versions.versions.items _ _ _ _ c.deref-2.ensures.value refl refl
         (c.judge_first.ensures.told clean (ap (λ (d : Database). d.schema) next ∙ there))
 
+  -- what was judged came of rows that were read
+  judged : (result : Judged) → c.judge_first.result ≡ Ok result
+      → (state g.S.Store c.args.conn.now).now.schema ≡ schema_of c.args.version
+      → AreJudged g.S.Store c.args.version c.in_ok-versions.versions.items
+      c.in_ok-first.first.merchants.items c.in_ok-first.first.counts.items c.read_first.new.conn
+      c.judge_first.new.conn (Ok result)
+  judged result is schema =
+      judged_ok g.S.Store c.args.version c.in_ok-versions.versions.items _ _ c.read_first.new.conn
+      c.judge_first.new.conn result (subst Comes is (came schema))
+
   -- they are those of the file
   read_of : IsFullIn c.args.version (state g.S.Store c.args.conn.now).now → (olders : List OldEntry)
       (rows : Rows) → AreCardsIn c.args.version (state g.S.Store c.read_first.new.conn).now olders rows.cards
@@ -74,8 +84,7 @@ pub returns-clause-sound : goal.returns-clause-sound
 returns-clause-sound g c clean = ok_where c.judge_first.result (λ result is ours.
     let v = c.args.version in
     let db = (state g.S.Store c.args.conn.now).now in
-    let it = judged_ok g.S.Store v c.in_ok-versions.versions.items _ _ c.read_first.new.conn
-    c.judge_first.new.conn result (subst (Comes g c clean) is (came g c clean ours.schema)) in
+    let it = judged g c clean result is ours.schema in
     let rows = it.2 in
     let read = read_of g c clean ours it.1 rows it.3 it.4 in
     subst (IsSoundIn v db) (sym it.5.sizes)
@@ -86,8 +95,7 @@ pub returns-clause-olders : goal.returns-clause-olders
 returns-clause-olders g c clean = ok_where c.judge_first.result (λ result is ours.
     let v = c.args.version in
     let db = (state g.S.Store c.args.conn.now).now in
-    let it = judged_ok g.S.Store v c.in_ok-versions.versions.items _ _ c.read_first.new.conn
-    c.judge_first.new.conn result (subst (Comes g c clean) is (came g c clean ours.schema)) in
+    let it = judged g c clean result is ours.schema in
     subst (AreOldersIn v db.trees) (sym it.6)
     (olders_in v db it.1 it.2 (read_of g c clean ours it.1 it.2 it.3 it.4)))
 
@@ -96,8 +104,7 @@ returns-clause-kept g c clean = on_where c.judge_first.result (λ result is sche
     let v = c.args.version in
     let one = c.in_ok-versions.ensures.kept (early g c clean) (has_version_in v _ schema) in
     let two = c.in_ok-first.ensures.reads.kept (middle g c clean) (there g c clean schema) in
-    let it = judged_ok g.S.Store v c.in_ok-versions.versions.items _ _ c.read_first.new.conn
-    c.judge_first.new.conn result (subst (Comes g c clean) is (came g c clean schema)) in
+    let it = judged g c clean result is schema in
     unchanged_then _ _ _ (unchanged_then _ _ _ one two) it.0)
 
 pub returns-clause-damaged : goal.returns-clause-damaged

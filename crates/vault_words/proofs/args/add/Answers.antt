@@ -7,7 +7,7 @@ use Rattle.vault_words.specs.Rules.{IsApp}
 use Rattle.vault_words.proofs.args.add.Goals as goal
 
 pub returns : goal.returns
-returns c a rule is same local =
+returns c a rule is (same, local) =
     let old = c.in_ok-command.field-0 in
     let at : IsApp old a =
     subst (λ (r : Result Command AllocError). IfOk r (λ k. IsApp k a)) c.in_ok-command.was is in

@@ -15,40 +15,34 @@ use Rattle.vault_core.proofs.decide.redeem.redeemed.Goals as goal
 -- what is yielded in the state that the code found
 of_state : (V : Vault) (m : Bytes) (now : ℕ) (known : Merchant) (row : MerchantRow) (entry : Entry) (at : ℕ)
     (found state : EntryState) (d : Reply × Changes)
-    → row ≡ row_of V m known → at ≡ max row.moment now → found ≡ state_of entry at → found ≡ state
-    → Yields V (redemption V m now known state) d
-    → Yields V (redemption V m now known (state_of entry (time_at known now))) d
-of_state V m now known row entry at found state d row_is at_is found_is state_is yields =
+    → at ≡ max row.moment now → found ≡ state_of entry at → found ≡ state
+    → (row ≡ row_of V m known → Yields V (redemption V m now known state) d)
+    → row ≡ row_of V m known → Yields V (redemption V m now known (state_of entry (time_at known now))) d
+of_state V m now known row entry at found state d at_is found_is state_is yields row_is =
     let moment : at ≡ time_at known now = at_is ∙ ap (λ (r : MerchantRow). max r.moment now) row_is in
     let same : state_of entry (time_at known now) ≡ state = ap (state_of entry) (sym moment) ∙ sym found_is
     ∙ state_is in
-    subst (λ (s : EntryState). Yields V (redemption V m now known s) d) (sym same) yields
+    subst (λ (s : EntryState). Yields V (redemption V m now known s) d) (sym same) (yields row_is)
 
 pub returns-in-Purged-clause-yields : goal.returns-in-Purged-clause-yields
-returns-in-Purged-clause-yields c V known is row =
-    let a = c.args in
-    of_state V a.merchant a.now known a.row.now a.entry.now c.later.result c.state.result _ c.denied.result
-    row c.later.ensures c.state.ensures c.in-Purged.is (c.denied.ensures.yields V known is row)
+returns-in-Purged-clause-yields c V known is =
+    of_state V _ _ known c.args.row.now c.args.entry.now c.later.result c.state.result _ c.denied.result
+    c.later.ensures c.state.ensures c.in-Purged.is (c.denied.ensures.yields V known is)
 
 pub returns-in-Live-clause-yields : goal.returns-in-Live-clause-yields
-returns-in-Live-clause-yields c V known is row =
-    let a = c.args in
-    of_state V a.merchant a.now known a.row.now a.entry.now c.later.result c.state.result _ c.given.result
-    row c.later.ensures c.state.ensures (c.in-Kept.is ∙ ap (Kept c.in-Kept.number) c.in-Live.is)
-    (c.given.ensures.yields V known is row)
+returns-in-Live-clause-yields c V known is =
+    of_state V _ _ known c.args.row.now c.args.entry.now c.later.result c.state.result _ c.given.result
+    c.later.ensures c.state.ensures (c.in-Kept.is ∙ ap (Kept c.in-Kept.number) c.in-Live.is)
+    (c.given.ensures.yields V known is)
 
 pub returns-in-Revoked-clause-yields : goal.returns-in-Revoked-clause-yields
-returns-in-Revoked-clause-yields c V known is row =
-    let a = c.args in
-    of_state V a.merchant a.now known a.row.now a.entry.now c.later.result c.state.result _
-    c.denied-in-Revoked.result
-    row c.later.ensures c.state.ensures (c.in-Kept.is ∙ ap (Kept c.in-Kept.number) c.in-Revoked.is)
-    (c.denied-in-Revoked.ensures.yields V known is row)
+returns-in-Revoked-clause-yields c V known is =
+    of_state V _ _ known c.args.row.now c.args.entry.now c.later.result c.state.result _ _
+    c.later.ensures c.state.ensures (c.in-Kept.is ∙ ap (Kept c.in-Kept.number) c.in-Revoked.is)
+    (c.denied-in-Revoked.ensures.yields V known is)
 
 pub returns-in-Expired-clause-yields : goal.returns-in-Expired-clause-yields
-returns-in-Expired-clause-yields c V known is row =
-    let a = c.args in
-    of_state V a.merchant a.now known a.row.now a.entry.now c.later.result c.state.result _
-    c.denied-in-Expired.result
-    row c.later.ensures c.state.ensures (c.in-Kept.is ∙ ap (Kept c.in-Kept.number) c.in-Expired.is)
-    (c.denied-in-Expired.ensures.yields V known is row)
+returns-in-Expired-clause-yields c V known is =
+    of_state V _ _ known c.args.row.now c.args.entry.now c.later.result c.state.result _ _
+    c.later.ensures c.state.ensures (c.in-Kept.is ∙ ap (Kept c.in-Kept.number) c.in-Expired.is)
+    (c.denied-in-Expired.ensures.yields V known is)

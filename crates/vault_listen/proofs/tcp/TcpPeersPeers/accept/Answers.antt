@@ -1,6 +1,6 @@
 use Rattle.std.proofs.Common.{◌∷◌, [], ◌∙◌, arith}
 use Rattle.vault_listen.specs.Peers.Event.{Lost}
-use Rattle.vault_listen.proofs.Linking.{came_in_both, came_one}
+use Rattle.vault_listen.proofs.ServedConnections.{came_in_both, came_one}
 use Rattle.vault_listen.proofs.tcp.TcpPeersPeers.accept.Goals as goal
 
 pub returns-in-Some-stream-clause-comes : goal.returns-in-Some-stream-clause-comes

@@ -1,6 +1,6 @@
 use Rattle.std.proofs.Common.{[], ◌∷◌, ◌++◌, inl, refl}
 use Rattle.std.proofs.Math.Logic.{∥∥₁_map}
-use Rattle.vault_promise.proofs.Keeping.{agrees_with, stands_after}
+use Rattle.vault_promise.proofs.JoinedRuns.{agrees_with, stands_after}
 use Rattle.vault_promise.proofs.Witnessing.{goes_from, leaves_closed}
 use Rattle.vault_promise.proofs.kept.KeptFiles.again.Goals as goal
 use Rattle.vault_promise.specs.Memory.{MayBeLeftIn, bytes_in}

@@ -1,6 +1,6 @@
 use Rattle.std.proofs.Common.{[], refl}
 use Rattle.vault_core.specs.Vault.{empty_vault}
-use Rattle.vault_promise.proofs.Keeping.{none_came}
+use Rattle.vault_promise.proofs.JoinedRuns.{none_came}
 use Rattle.vault_promise.proofs.kept.KeptFiles.begun.Goals as goal
 use Rattle.vault_promise.specs.Memory.{MayBeLeftIn}
 

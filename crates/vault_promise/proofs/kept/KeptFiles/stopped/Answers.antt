@@ -1,5 +1,5 @@
 use Rattle.std.proofs.Math.Logic.{∥∥₁_map}
-use Rattle.vault_promise.proofs.Keeping.{fewer_left}
+use Rattle.vault_promise.proofs.JoinedRuns.{fewer_left}
 use Rattle.vault_promise.proofs.kept.KeptFiles.stopped.Goals as goal
 
 pub invariant_of-result : goal.invariant_of-result

@@ -1,7 +1,8 @@
 use Rattle.std.proofs.Common.{sym, ap, ◌∙◌, subst, inl, inr, Err}
-use Rattle.vault_core.specs.Changes.{with_entry}
+use Rattle.vault_core.specs.Changes.{plus, with_entry}
 use Rattle.vault_store.specs.Held.{IsHeld}
 use Rattle.vault_store.specs.HeldEntries.{HoldsEntries}
+use Rattle.vault_store.proofs.HeldTables.{beside_entries, whole}
 use Rattle.vault_store.proofs.AddsLemmas.{adds_entry}
 use Rattle.vault_store.proofs.Results.{keeps}
 use Rattle.vault_store.proofs.memory.MemTablesTables.write.Goals as goal
@@ -26,39 +27,16 @@ pub returns-in-Err-clause-kept : goal.returns-in-Err-clause-kept
 returns-in-Err-clause-kept c =
     keeps {X = Unit {0}} (Err c.from.result) (IsHeld c.args.self.now) _
     (λ V held.
-    let x = c.in-Some in
-    let put = c.in_ok-was.ensures in
-    let kept =
-    c.in-Err.ensures.kept V (record {
-      records_are = held.records;
-      others = record { rights_are = held.rights; merchants_are = held.merchants };
-    }) in
-    record {
-      merchants = kept.others.merchants_are;
-      entries =
-          c.put_back.ensures V.entries (put.was ∙ held.entries.rows.at (x.merchant, x.token))
-          (put.ok V.entries held.entries);
-      records = kept.records_are;
-      rights = kept.others.rights_are;
-    })
+    whole _ V (c.in-Err.ensures.kept V (beside_entries c.args.self.now V held))
+    (c.put_back.ensures V.entries (c.in_ok-was.ensures.was ∙ held.entries.rows.at _)
+    (c.in_ok-was.ensures.ok V.entries held.entries)))
 
 pub returns-clause-done : goal.returns-clause-done
 returns-clause-done c _ V held sound fit =
-    let rest =
-    c.in_default-write_record.ensures.done V
-    (record {
-      records_are = held.records;
-      others = record { rights_are = held.rights; merchants_are = held.merchants };
-    })
-    sound fit in
-    record {
-      merchants = rest.others.merchants_are;
-      entries =
-          subst (HoldsEntries c.put.new.self) (sym (ap (with_entry V.entries) c.in-Some.is))
-          (c.in_ok-was.ensures.ok V.entries held.entries);
-      records = rest.records_are;
-      rights = rest.others.rights_are;
-    }
+    whole _ (plus V c.args.ch.now)
+    (c.in_default-write_record.ensures.done V (beside_entries c.args.self.now V held) sound fit)
+    (subst (HoldsEntries c.put.new.self) (sym (ap (with_entry V.entries) c.in-Some.is))
+    (c.in_ok-was.ensures.ok V.entries held.entries))
 
 pub returns-in_err-was-clause-crash : goal.returns-in_err-was-clause-crash
 returns-in_err-was-clause-crash c _ V held sound fit =
@@ -71,36 +49,15 @@ returns-in_err-was-clause-crash c _ V held sound fit =
 
 pub returns-in-Err-clause-crash : goal.returns-in-Err-clause-crash
 returns-in-Err-clause-crash c _ V held sound fit =
-    let x = c.in-Some in
-    let put = c.in_ok-was.ensures in
-    let kept =
-    c.in-Err.ensures.kept V (record {
-      records_are = held.records;
-      others = record { rights_are = held.rights; merchants_are = held.merchants };
-    }) in
-    inl (record {
-      merchants = kept.others.merchants_are;
-      entries =
-          c.put_back.ensures V.entries (put.was ∙ held.entries.rows.at (x.merchant, x.token))
-          (put.ok V.entries held.entries);
-      records = kept.records_are;
-      rights = kept.others.rights_are;
-    })
+    inl
+    (whole _ V (c.in-Err.ensures.kept V (beside_entries c.args.self.now V held))
+    (c.put_back.ensures V.entries (c.in_ok-was.ensures.was ∙ held.entries.rows.at _)
+    (c.in_ok-was.ensures.ok V.entries held.entries)))
 
 pub returns-clause-crash : goal.returns-clause-crash
 returns-clause-crash c _ V held sound fit =
-    let rest =
-    c.in_default-write_record.ensures.done V
-    (record {
-      records_are = held.records;
-      others = record { rights_are = held.rights; merchants_are = held.merchants };
-    })
-    sound fit in
-    inr (record {
-      merchants = rest.others.merchants_are;
-      entries =
-          subst (HoldsEntries c.put.new.self) (sym (ap (with_entry V.entries) c.in-Some.is))
-          (c.in_ok-was.ensures.ok V.entries held.entries);
-      records = rest.records_are;
-      rights = rest.others.rights_are;
-    })
+    inr
+    (whole _ (plus V c.args.ch.now)
+    (c.in_default-write_record.ensures.done V (beside_entries c.args.self.now V held) sound fit)
+    (subst (HoldsEntries c.put.new.self) (sym (ap (with_entry V.entries) c.in-Some.is))
+    (c.in_ok-was.ensures.ok V.entries held.entries)))

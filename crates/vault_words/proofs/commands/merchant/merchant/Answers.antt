@@ -3,10 +3,9 @@ use Rattle.vault_words.proofs.commands.merchant.merchant.Goals as goal
 pub returns : goal.returns
 returns c =
     let h₀ = c.with_notes.ensures _ c.command.ensures in
-    let h₁ = c.add-command.ensures _ _ h₀ c.now.ensures.rule c.now.ensures.local in
-    let h₂ = c.add-command-2.ensures _ _ h₁ c.lead.ensures.rule c.lead.ensures.local in
-    let h₃ = c.add-command-3.ensures _ _ h₂ c.file.ensures.rule c.file.ensures.local in
-    let h₄ = c.add-command-4.ensures _ _ h₃ c.text-name.ensures.rule c.text-name.ensures.local in
-    let h₅ = c.add-command-5.ensures _ _ h₄ c.number-single.ensures.rule c.number-single.ensures.local in
-    let last = c.number-multi.ensures in
-    c.add.ensures _ _ h₅ last.rule last.local
+    let h₁ = c.add-command.ensures _ _ h₀ c.now.ensures in
+    let h₂ = c.add-command-2.ensures _ _ h₁ c.lead.ensures in
+    let h₃ = c.add-command-3.ensures _ _ h₂ c.file.ensures in
+    let h₄ = c.add-command-4.ensures _ _ h₃ c.text-name.ensures in
+    let h₅ = c.add-command-5.ensures _ _ h₄ c.number-single.ensures in
+    c.add.ensures _ _ h₅ c.number-multi.ensures

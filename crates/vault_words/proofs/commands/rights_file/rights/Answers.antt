@@ -3,11 +3,8 @@ use Rattle.vault_words.proofs.commands.rights_file.rights.Goals as goal
 pub returns : goal.returns
 returns c =
     let h₀ = c.with_notes.ensures _ c.command.ensures in
-    let h₁ = c.add-command.ensures _ _ h₀ c.now.ensures.rule c.now.ensures.local in
-    let exact = c.flag-exact.ensures in
-    let h₂ = c.add-command-2.ensures _ _ h₁ exact.rule exact.local in
-    let dry_run = c.flag-dry_run.ensures in
-    let h₃ = c.add-command-3.ensures _ _ h₂ dry_run.rule dry_run.local in
-    let h₄ = c.add-command-4.ensures _ _ h₃ c.file.ensures.rule c.file.ensures.local in
-    let last = c.text-listed.ensures in
-    c.add.ensures _ _ h₄ last.rule last.local
+    let h₁ = c.add-command.ensures _ _ h₀ c.now.ensures in
+    let h₂ = c.add-command-2.ensures _ _ h₁ c.flag-exact.ensures in
+    let h₃ = c.add-command-3.ensures _ _ h₂ c.flag-dry_run.ensures in
+    let h₄ = c.add-command-4.ensures _ _ h₃ c.file.ensures in
+    c.add.ensures _ _ h₄ c.text-listed.ensures

@@ -4,10 +4,9 @@ pub returns : goal.returns
 returns c =
     let h₀ = c.with_notes.ensures _ c.command.ensures in
     let connections = c.number_after-connections.ensures in
-    let h₁ = c.add-command.ensures _ _ h₀ connections.rule connections.local in
+    let h₁ = c.add-command.ensures _ _ h₀ connections in
     let port = c.number_after-port.ensures in
-    let h₂ = c.add-command-2.ensures _ _ h₁ port.rule port.local in
+    let h₂ = c.add-command-2.ensures _ _ h₁ port in
     let rights = c.text_after-rights.ensures in
-    let h₃ = c.add-command-3.ensures _ _ h₂ rights.rule rights.local in
-    let last = c.file.ensures in
-    c.add.ensures _ _ h₃ last.rule last.local
+    let h₃ = c.add-command-3.ensures _ _ h₂ rights in
+    c.add.ensures _ _ h₃ c.file.ensures

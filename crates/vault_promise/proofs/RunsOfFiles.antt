@@ -57,11 +57,11 @@ use Rattle.vault_app.specs.declared.ending.Ending.TheVariants as ending
 use Rattle.vault_app.specs.declared.plan.Plan.{Plan}
 use Rattle.vault_app.specs.declared.plan.Plan.TheVariants as plan
 use Rattle.vault_promise.proofs.Batching.{batch_works}
-use Rattle.vault_promise.proofs.Coming.{perhaps_sound}
-use Rattle.vault_promise.proofs.Piping.{pipe_works}
-use Rattle.vault_promise.proofs.Settling.{listed_serve_works, settle_works, show_works}
+use Rattle.vault_promise.proofs.RunHistories.{perhaps_sound}
+use Rattle.vault_promise.proofs.PipedMessages.{pipe_works}
+use Rattle.vault_promise.proofs.SettledRights.{listed_serve_works, settle_works, show_works}
 use Rattle.vault_promise.proofs.Sweeping.{timed_sweep_works}
-use Rattle.vault_promise.proofs.Working.{Works, change_works, give_works}
+use Rattle.vault_promise.proofs.TaskAnswers.{Works, change_works, give_works}
 use Rattle.vault_promise.specs.Runs.{AreOf, Bear, Comes, EveryRunIsOne, IsFound, IsRun, Leaves}
 use Rattle.vault_promise.specs.Runs.{file_of, Rests, Run, Work, kept_by, perhaps, undecided_by}
 use Rattle.vault_promise.specs.Told.{IsQuiet, Tells}

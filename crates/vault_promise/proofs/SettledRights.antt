@@ -1,25 +1,20 @@
 -- What a task answered that makes rights those of a list, or only says what a vault holds.
-use Rattle.std.proofs.Common.{◌≡◌, ◌⊎◌, ℕ, Bool, true, false, cond, not, List, [], ◌∷◌, ◌++◌, length, map}
+use Rattle.std.proofs.Common.{◌≡◌, ℕ, Bool, true, false, cond, not, List, [], ◌∷◌, ◌++◌, length}
 use Rattle.std.proofs.Common.{Option, Some, None, Result, Ok, Err, inl, inr, refl, sym, ap, subst, ◌∙◌}
 use Rattle.std.specs.FinMap as finmap
 use Rattle.std.specs.Global.{Vec}
-use Rattle.std.specs.List.{filter}
 use Rattle.std.specs.Prelude.{take, ◌+◌}
 use Rattle.sqlite_rules.specs.Lists.{Has}
 use Rattle.std.proofs.Math.Seq.{take-length}
 use Rattle.std.specs.Io.KnownBytes.{Appends}
-use Rattle.vault_core.proofs.Finds.{true-T}
 use Rattle.vault_core.proofs.Maps.{right_total}
-use Rattle.vault_core.specs.Keys.{right_cmp}
 use Rattle.vault_core.specs.Name.{IsName}
-use Rattle.vault_core.specs.Proper.{AllProper, IsProper}
+use Rattle.vault_core.specs.Proper.{AllProper}
 use Rattle.vault_core.specs.Runs.{run}
 use Rattle.vault_core.specs.Scalar.{IsMoment}
 use Rattle.vault_core.specs.Sound.{Sound}
 use Rattle.vault_core.specs.Vault.{Vault as Content}
-use Rattle.vault_core.specs.declared.command.Command.{Command}
 use Rattle.vault_engine.specs.Passing.{IsBefore, Passage}
-use Rattle.vault_listen.specs.Peers.{Link}
 use Rattle.vault_listen.specs.Live.{Turns}
 use Rattle.vault_rights.specs.Named.{Row}
 use Rattle.vault_rows.proofs.Dead.{has_found}
@@ -27,12 +22,11 @@ use Rattle.vault_store.specs.declared.vault.Fault.{Fault}
 use Rattle.vault_store.specs.declared.vault.Fault.TheVariants.{Memory, Store, Reopen}
 use Rattle.vault_jobs.specs.Changes.{AreChangesOf, Held, changes_at, is_held, is_listed, missing_rows}
 use Rattle.vault_jobs.specs.Changes.{rights_of, surplus_rights, withdrawals_at, settled_line}
-use Rattle.vault_jobs.specs.Doing.{FailsToRead, ListEnds, ListedServeEnds, SettleEnds, Settles, ShowEnds}
+use Rattle.vault_jobs.specs.Doing.{FailsToRead, ListEnds, ListedServeEnds, SettleEnds, ShowEnds}
 use Rattle.vault_jobs.specs.Doing.{behind}
-use Rattle.vault_jobs.specs.Grants.{AreDone, CarriesAll, grants_at}
+use Rattle.vault_jobs.specs.Grants.{AreDone, grants_at}
 use Rattle.vault_jobs.specs.Listing.{shown_text}
 use Rattle.vault_jobs.specs.Streams.{Streams}
-use Rattle.vault_jobs.specs.declared.change.Verdict.TheVariants as verdict
 use Rattle.vault_jobs.specs.declared.changes.Changes.{Changes}
 use Rattle.vault_jobs.specs.declared.show.Shown.{Shown}
 use Rattle.vault_jobs.specs.declared.stop.Stop.{Stop}
@@ -42,14 +36,14 @@ use Rattle.vault_jobs.specs.declared.task.Outcome.{Outcome as Ended}
 use Rattle.vault_jobs.specs.declared.task.Outcome.TheVariants as outcome
 use Rattle.vault_jobs.specs.declared.task.Task.{Task}
 use Rattle.vault_jobs.specs.declared.task.Task.TheVariants as task
-use Rattle.vault_promise.proofs.Piping.{run_append}
+use Rattle.vault_promise.proofs.PipedMessages.{run_append}
 use Rattle.vault_promise.proofs.Proper.{proper-append}
 use Rattle.vault_promise.proofs.Serving.{serve_works}
-use Rattle.vault_promise.proofs.Working.{Works, commands_works, first_proper, one_more}
+use Rattle.vault_promise.proofs.TaskAnswers.{Works, commands_works, first_proper, one_more}
 use Rattle.vault_promise.specs.Runs.{perhaps}
-use Rattle.vault_jobs.proofs.Giving.{run_more}
+use Rattle.vault_jobs.proofs.GivenRights.{run_more}
 use Rattle.vault_app.specs.Values.{AreValues}
-use Rattle.vault_promise.specs.Told.{AllAnswer, AllDone, IsQuiet, Tells}
+use Rattle.vault_promise.specs.Told.{AllAnswer, IsQuiet, Tells}
 
 -- grants of some of the rows are proper where those of all are
 some_proper : (now : ℕ) (held : List Held) (rows : List Row) → AllProper (grants_at now rows)

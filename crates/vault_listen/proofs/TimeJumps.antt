@@ -9,8 +9,8 @@ use Rattle.vault_listen.specs.Live.{Turns}
 use Rattle.vault_listen.specs.Peers.{AreLinks, Event, Link, events_of, vault_passing}
 use Rattle.vault_listen.specs.Service.{GoesOn, Leaves}
 use Rattle.vault_listen.specs.declared.fault.ListenFault.TheVariants.{Source}
-use Rattle.vault_listen.proofs.Following.{kept_after}
-use Rattle.vault_listen.proofs.Linking.{links_then, told_then}
+use Rattle.vault_listen.proofs.JoinedConnections.{kept_after}
+use Rattle.vault_listen.proofs.ServedConnections.{links_then, told_then}
 
 module _ {P : Type 0} {T : Type 0} (at : Turns) (honest : T → Type 0) (holds : T → Content → Type 0)
     (leaves : T → Content → Content → Type 0)

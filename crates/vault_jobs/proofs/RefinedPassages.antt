@@ -1,6 +1,6 @@
 -- What a task does in one passage it does in any that refines it: where what was before and what is kept is
 -- said of other things, as of files in place of tables.
-use Rattle.std.proofs.Common.{◌≡◌, ℕ, List, [], Bool, Option, Some, None, Result, Ok, Err, inl, inr}
+use Rattle.std.proofs.Common.{ℕ, List, [], Bool, Option, Result, Ok, Err, inl, inr}
 use Rattle.vault_core.specs.Vault.{Vault as Content}
 use Rattle.vault_core.specs.declared.command.Command.{Command}
 use Rattle.vault_wire.specs.Parts.{Parts}
@@ -24,35 +24,27 @@ use Rattle.vault_listen.specs.Peers.{Link}
 use Rattle.vault_listen.specs.Service.{AllKept, Leaves}
 use Rattle.vault_listen.specs.declared.fault.ListenFault.{ListenFault}
 use Rattle.vault_listen.specs.declared.fault.ListenFault.TheVariants as listen
-use Rattle.vault_core.specs.Runs.{run}
 use Rattle.vault_rights.specs.Named.{Row}
 use Rattle.vault_store.specs.declared.vault.Fault.{Fault}
 use Rattle.vault_store.specs.declared.vault.Fault.TheVariants.{Memory, Store, Reopen}
 use Rattle.vault_jobs.specs.Batched.{StopsBatch}
 use Rattle.vault_jobs.specs.Carried.{Carries}
-use Rattle.vault_jobs.specs.Doing.{BatchEnds, CommandsEnd, Does, FailsToRead, IsUntouched, ListEnds}
-use Rattle.vault_jobs.specs.Doing.{ListedServeEnds, PipeEnds, ServeEnds, SettleEnds, Settles, ShowEnds}
-use Rattle.vault_jobs.specs.Doing.{SweepEnds, TimedSweepEnds, Works, behind}
-use Rattle.vault_jobs.specs.Listing.{shown_text}
-use Rattle.vault_jobs.specs.Grants.{CarriesAll, grants_at}
+use Rattle.vault_jobs.specs.Doing.{CommandsEnd, FailsToRead, IsUntouched, ListEnds}
+use Rattle.vault_jobs.specs.Doing.{ServeEnds, SettleEnds, Settles, ShowEnds}
+use Rattle.vault_jobs.specs.Doing.{SweepEnds, TimedSweepEnds}
+use Rattle.vault_jobs.specs.Grants.{CarriesAll}
 use Rattle.vault_jobs.specs.Piped.{IsPiped, StopsPiping}
-use Rattle.vault_jobs.specs.Streams.{Known, Streams}
+use Rattle.vault_jobs.specs.Streams.{Known}
 use Rattle.vault_jobs.specs.Sweeps.{Sweeps}
 use Rattle.vault_jobs.specs.declared.clock.Giver.{Giver}
 use Rattle.vault_jobs.specs.declared.clock.Giver.TheVariants.{Words, Clock}
-use Rattle.vault_jobs.specs.declared.change.Verdict.{Verdict}
-use Rattle.vault_jobs.specs.declared.change.Verdict.TheVariants.{Done, Refused}
+use Rattle.vault_jobs.specs.Carried.{Verdict}
 use Rattle.vault_jobs.specs.declared.stop.Stop.{Stop}
 use Rattle.vault_jobs.specs.declared.stop.Stop.TheVariants.{Vault, Service, Listener, Rights}
 use Rattle.vault_jobs.specs.declared.stop.Stop.TheVariants as stop
-use Rattle.vault_jobs.specs.declared.sweep.Swept.{Swept}
-use Rattle.vault_jobs.specs.declared.sweep.Swept.TheVariants as swept
 use Rattle.vault_jobs.specs.declared.task.Outcome.{Outcome}
 use Rattle.vault_jobs.specs.declared.task.Outcome.TheVariants as outcome
-use Rattle.vault_jobs.specs.declared.task.Task.{Task}
-use Rattle.vault_jobs.specs.declared.task.Task.TheVariants.{Change, Give, Settle, Sweep, Batch, Pipe, Serve}
-use Rattle.vault_jobs.specs.declared.task.Task.TheVariants.{Show}
-use Rattle.vault_jobs.specs.declared.task.Listed.{Listed}
+use Rattle.vault_jobs.specs.declared.task.Task.TheVariants.{Batch}
 
 -- of the first units this is known too
 first_as : {X : Type 0} {us rest : List X} {K L : List (Asked X) → Type 0}
@@ -68,10 +60,10 @@ module _ (H : Type 0) (O N : Content → Type 0) (L : Content → Content → Ty
     (was : (V : Content) → H → O V → IsBefore w V)
     (kept : H → (V : Content) → Keeps w V → N V × L V V)
     (torn : H → (V W : Content) → w.left_new V W → L V W) where
-  untouched : IsUntouched w → IsUntouched (over H O N L w)
+  pub untouched : IsUntouched w → IsUntouched (over H O N L w)
   untouched same V b = kept b.0 V (same V (was V b.0 b.1))
 
-  carries : (c : Command) (broken : Bool) (r : Result Verdict Fault) → Carries c w broken r
+  pub carries : (c : Command) (broken : Bool) (r : Result Verdict Fault) → Carries c w broken r
       → Carries c (over H O N L w) broken r
   carries c broken (Ok v) h = λ V b. let it = h V (was V b.0 b.1) in (it.0, kept b.0 _ it.1)
   carries c broken (Err Memory) h = λ V b. kept b.0 _ (h V (was V b.0 b.1))
@@ -83,8 +75,8 @@ module _ (H : Type 0) (O N : Content → Type 0) (L : Content → Content → Ty
 
   pub carries_all : (cs : List Command) (broken : Bool) (r : Result Verdict Fault) → CarriesAll cs w broken r
       → CarriesAll cs (over H O N L w) broken r
-  carries_all cs broken (Ok Done) h = λ V b. let it = h V (was V b.0 b.1) in (it.0, kept b.0 _ it.1)
-  carries_all cs broken (Ok (Refused n)) (k, below, h) =
+  carries_all cs broken (Ok (Ok done)) h = λ V b. let it = h V (was V b.0 b.1) in (it.0, kept b.0 _ it.1)
+  carries_all cs broken (Ok (Err n)) (k, below, h) =
       (k, below, λ V b. let it = h V (was V b.0 b.1) in (it.0, kept b.0 _ it.1))
   carries_all cs broken (Err Memory) (k, below, h) =
       (k, below, λ V b. let it = h V (was V b.0 b.1) in (it.0, kept b.0 _ it.1))
@@ -92,11 +84,11 @@ module _ (H : Type 0) (O N : Content → Type 0) (L : Content → Content → Ty
       (k, below, λ V b. let it = h V (was V b.0 b.1) in (it.0, it.1, torn b.0 _ _ it.2))
   carries_all cs broken (Err Reopen) h = absurd h
 
-  sweeps : (who : Asker) (now : ℕ) (broken : Bool) (r : Result Swept Fault) → Sweeps who now w broken r
+  sweeps : (who : Asker) (now : ℕ) (broken : Bool) (r : Result (Result ℕ ℕ) Fault) → Sweeps who now w broken r
       → Sweeps who now (over H O N L w) broken r
-  sweeps who now broken (Ok (swept.Purged count)) (tokens, h) =
+  sweeps who now broken (Ok (Ok count)) (tokens, h) =
       (tokens, λ V b. let it = h V (was V b.0 b.1) in (it.0, it.1, it.2, kept b.0 _ it.3))
-  sweeps who now broken (Ok (swept.Refused n)) (tokens, next, h) =
+  sweeps who now broken (Ok (Err n)) (tokens, next, h) =
       (tokens, next, λ V b. let it = h V (was V b.0 b.1) in (it.0, it.1, it.2, kept b.0 _ it.3))
   sweeps who now broken (Err Memory) (tokens, h) =
       (tokens, λ V b. let it = h V (was V b.0 b.1) in (it.0, kept b.0 _ it.1))
@@ -262,15 +254,15 @@ module _ (H : Type 0) (O N : Content → Type 0) (L : Content → Content → Ty
     stops = stops fault.Memory _ s.stops;
   }
 
-  piped : (old new : Known) → IsPiped old new w → IsPiped old new (over H O N L w)
+  pub piped : (old new : Known) → IsPiped old new w → IsPiped old new (over H O N L w)
   piped old new (n, s) = (n, served old new n s)
 
-  stops_piping : (old new : Known) (e : ServeFault) → StopsPiping old new w e
+  pub stops_piping : (old new : Known) (e : ServeFault) → StopsPiping old new w e
       → StopsPiping old new (over H O N L w) e
   stops_piping old new e (inl s) = inl (stopped old new e s)
   stops_piping old new e (inr (is, s)) = inr (is, piped old new s)
 
-  batched : (left : Known) (who : Asker) (counts : Counts) → batch.IsBatched left w who counts
+  pub batched : (left : Known) (who : Asker) (counts : Counts) → batch.IsBatched left w who counts
       → batch.IsBatched left (over H O N L w) who counts
   batched left who counts s = record {
     rows = s.rows;
@@ -322,7 +314,7 @@ module _ (H : Type 0) (O N : Content → Type 0) (L : Content → Content → Ty
     answered = answered (rows_by who) _ s.rows s.answered;
   }
 
-  stops_batch : (left : Known) (who : Asker) (e : BatchFault) → StopsBatch left w who e
+  pub stops_batch : (left : Known) (who : Asker) (e : BatchFault) → StopsBatch left w who e
       → StopsBatch left (over H O N L w) who e
   stops_batch left who e (inl s) = inl (batch_stops left who e s)
   stops_batch left who e (inr (is, (counts, s))) = inr (is, (counts, batched left who counts s))
@@ -344,7 +336,7 @@ module _ (H : Type 0) (O N : Content → Type 0) (L : Content → Content → Ty
   serve_ends tells port n (Err (Rights f)) unsent old new writer xs a = a
   serve_ends tells port n (Err (stop.Batch f)) unsent old new writer xs a = a
 
-  commands_end : (P Q : Result Verdict Fault → Type 0) → ((r : Result Verdict Fault) → P r → Q r)
+  pub commands_end : (P Q : Result Verdict Fault → Type 0) → ((r : Result Verdict Fault) → P r → Q r)
       → (line : List ℕ) (r : Result Outcome Stop) (unsent : Type 0) (old new : Known) (writer : Bool)
       → CommandsEnd P line r unsent old new writer → CommandsEnd Q line r unsent old new writer
   commands_end P Q step line (Ok outcome.Done) unsent old new writer (calm, wrote, h) =
@@ -368,7 +360,7 @@ module _ (H : Type 0) (O N : Content → Type 0) (L : Content → Content → Ty
   settles now rows broken r (changes, of, h) =
       (changes, λ V b. of V (was V b.0 b.1), carries_all changes.commands.items broken r h)
 
-  settle_ends : (now : ℕ) (rows : List Row) (broken : Bool) (r : Result Outcome Stop) (unsent : Type 0)
+  pub settle_ends : (now : ℕ) (rows : List Row) (broken : Bool) (r : Result Outcome Stop) (unsent : Type 0)
       (old new : Known) (writer : Bool) → SettleEnds now rows w broken r unsent old new writer
       → SettleEnds now rows (over H O N L w) broken r unsent old new writer
   settle_ends now rows broken r unsent old new writer (inl (changes, of, h)) = inl (
@@ -379,7 +371,7 @@ module _ (H : Type 0) (O N : Content → Type 0) (L : Content → Content → Ty
   settle_ends now rows broken r unsent old new writer (inr (f, is, silent, h)) =
       inr (f, is, silent, fails_to_read broken f h)
 
-  show_ends : (text : Content → List ℕ) (broken : Bool) (r : Result Outcome Stop) (unsent : Type 0)
+  pub show_ends : (text : Content → List ℕ) (broken : Bool) (r : Result Outcome Stop) (unsent : Type 0)
       (old new : Known) (writer : Bool) → ShowEnds text w broken r unsent old new writer
       → ShowEnds text (over H O N L w) broken r unsent old new writer
   show_ends text broken (Ok outcome.Done) unsent old new writer (calm, same, h) =
@@ -394,11 +386,11 @@ module _ (H : Type 0) (O N : Content → Type 0) (L : Content → Content → Ty
   show_ends text broken (Err (Rights f)) unsent old new writer h = h
   show_ends text broken (Err (stop.Batch f)) unsent old new writer h = h
 
-  list_ends : (now : ℕ) (rows : List Row) (broken : Bool) (r : Result Outcome Stop) (unsent : Type 0)
+  pub list_ends : (now : ℕ) (rows : List Row) (broken : Bool) (r : Result Outcome Stop) (unsent : Type 0)
       → ListEnds now rows w broken r unsent → ListEnds now rows (over H O N L w) broken r unsent
   list_ends now rows broken (Ok outcome.Done) unsent h = h
   list_ends now rows broken (Ok (outcome.Refused n)) unsent (silent, h) =
-      (silent, settles now rows broken (Ok (Refused n)) h)
+      (silent, settles now rows broken (Ok (Err n)) h)
   list_ends now rows broken (Ok outcome.SomeRefused) unsent h = h
   list_ends now rows broken (Err (Vault f)) unsent (silent, inl h) =
       (silent, inl (settles now rows broken (Err f) h))
@@ -412,19 +404,19 @@ module _ (H : Type 0) (O N : Content → Type 0) (L : Content → Content → Ty
       (old new : Known) (writer : Bool) → SweepEnds who now w broken r unsent old new writer
       → SweepEnds who now (over H O N L w) broken r unsent old new writer
   sweep_ends who now broken (Ok outcome.Done) unsent old new writer (calm, (count, h, wrote)) =
-      (calm, (count, sweeps who now broken (Ok (swept.Purged count)) h, wrote))
+      (calm, (count, sweeps who now broken (Ok (Ok count)) h, wrote))
   sweep_ends who now broken (Ok (outcome.Refused n)) unsent old new writer (silent, h) =
-      (silent, sweeps who now broken (Ok (swept.Refused n)) h)
+      (silent, sweeps who now broken (Ok (Err n)) h)
   sweep_ends who now broken (Ok outcome.SomeRefused) unsent old new writer h = h
   sweep_ends who now broken (Err (Vault f)) unsent old new writer (silent, h) =
       (silent, sweeps who now broken (Err f) h)
   sweep_ends who now broken (Err (Service f)) unsent old new writer (is, failed, (count, h)) =
-      (is, failed, (count, sweeps who now broken (Ok (swept.Purged count)) h))
+      (is, failed, (count, sweeps who now broken (Ok (Ok count)) h))
   sweep_ends who now broken (Err (Listener f)) unsent old new writer h = h
   sweep_ends who now broken (Err (Rights f)) unsent old new writer h = h
   sweep_ends who now broken (Err (stop.Batch f)) unsent old new writer h = h
 
-  timed_sweep_ends : (giver : Giver) (who : Asker) (now : ℕ) (broken : Bool) (r : Result Outcome Stop)
+  pub timed_sweep_ends : (giver : Giver) (who : Asker) (now : ℕ) (broken : Bool) (r : Result Outcome Stop)
       (unsent : Type 0) (old new : Known) (writer : Bool)
       → TimedSweepEnds giver who now w broken r unsent old new writer
       → TimedSweepEnds giver who now (over H O N L w) broken r unsent old new writer
@@ -436,93 +428,3 @@ module _ (H : Type 0) (O N : Content → Type 0) (L : Content → Content → Ty
       inr (inl (is, silent, untouched same, λ V b. far V (was V b.0 b.1)))
   timed_sweep_ends Clock who now broken r unsent old new writer (inr (inr (f, is, silent, h))) =
       inr (inr (f, is, silent, fails_to_read broken f h))
-
-module _ (H : Type 0) (O N : Content → Type 0) (L : Content → Content → Type 0) (w : Passage)
-    (was : (V : Content) → H → O V → IsBefore w V)
-    (kept : H → (V : Content) → Keeps w V → N V × L V V)
-    (torn : H → (V W : Content) → w.left_new V W → L V W) (s : Streams) where
-  -- a service that may begin with a list
-  listed_serve_ends : (tells : Turns) (port n : ℕ) (listed : Option Listed) (broken : Bool)
-      (r : Result Outcome Stop) (unsent : Type 0) (old new : Known) (writer : Bool) (xs : List (Option Link))
-      → ListedServeEnds tells port n listed w broken r unsent old new writer xs
-      → ListedServeEnds tells port n listed (over H O N L w) broken r unsent old new writer xs
-  listed_serve_ends tells port n None broken r unsent old new writer xs h =
-      serve_ends H O N L w was kept torn tells port n r unsent old new writer xs h
-  listed_serve_ends tells port n (Some it) broken r unsent old new writer xs (inl (none, h)) =
-      inl (none, list_ends H O N L w was kept torn it.now it.rights.items broken r unsent h)
-  listed_serve_ends tells port n (Some it) broken r unsent old new writer xs (inr (changes, of, h)) =
-      let cs = changes.commands.items in
-      inr (
-        changes,
-        λ V b. of V (was V b.0 b.1),
-        serve_ends H (λ U. (V : Content) × O V × (U ≡ run cs V)) N L (behind cs w)
-            (λ U honest (V, held, is). let b = was V honest held in (b.0, (V, b.1, is)))
-            kept torn tells port n r unsent old new writer xs h,
-      )
-
-  batch_ends : (tells : Turns) (who : Asker) (now : Option ℕ) (digits : Option (List ℕ))
-      (r : Result Outcome Stop)
-      (unread unsent : Type 0) → BatchEnds tells who now digits w r unread unsent s
-      → BatchEnds tells who now digits (over H O N L w) r unread unsent s
-  batch_ends tells who now digits (Ok outcome.Done) unread unsent
-      (calm, counts, none, end, (pairs, few, fixed, h)) =
-      (calm, counts, none, end, (pairs, few, fixed, batched H O N L _ was kept torn s.left_old who counts h))
-  batch_ends tells who now digits (Ok (outcome.Refused n)) unread unsent h = h
-  batch_ends tells who now digits (Ok outcome.SomeRefused) unread unsent
-      (calm, counts, some, end, (pairs, few, fixed, h)) =
-      (calm, counts, some, end, (pairs, few, fixed, batched H O N L _ was kept torn s.left_old who counts h))
-  batch_ends tells who now digits (Err (Vault f)) unread unsent h = h
-  batch_ends tells who now digits (Err (Service f)) unread unsent h = h
-  batch_ends tells who now digits (Err (Listener f)) unread unsent h = h
-  batch_ends tells who now digits (Err (Rights f)) unread unsent h = h
-  batch_ends tells who now digits (Err (stop.Batch f)) unread unsent (inl (is, calm, silent, same)) =
-      inl (is, calm, silent, untouched H O N L w was kept torn same)
-  batch_ends tells who now digits (Err (stop.Batch f)) unread unsent (inr (pairs, few, fixed, h)) =
-      inr (pairs, few, fixed, stops_batch H O N L _ was kept torn s.left_old who f h)
-
-  pipe_ends : (tells : Turns) (now : Option ℕ) (digits : Option (List ℕ)) (r : Result Outcome Stop)
-      (unread unsent : Type 0) → PipeEnds tells now digits w r unread unsent s
-      → PipeEnds tells now digits (over H O N L w) r unread unsent s
-  pipe_ends tells now digits (Ok outcome.Done) unread unsent (calm, (pairs, few, fixed, h)) =
-      (calm, (pairs, few, fixed, piped H O N L _ was kept torn s.left_old s.left_new h))
-  pipe_ends tells now digits (Ok (outcome.Refused n)) unread unsent h = h
-  pipe_ends tells now digits (Ok outcome.SomeRefused) unread unsent h = h
-  pipe_ends tells now digits (Err (Vault f)) unread unsent h = h
-  pipe_ends tells now digits (Err (Service f)) unread unsent (inl (is, calm, silent, same)) =
-      inl (is, calm, silent, untouched H O N L w was kept torn same)
-  pipe_ends tells now digits (Err (Service f)) unread unsent (inr (pairs, few, fixed, h)) =
-      inr (pairs, few, fixed, stops_piping H O N L _ was kept torn s.left_old s.left_new f h)
-  pipe_ends tells now digits (Err (Listener f)) unread unsent h = h
-  pipe_ends tells now digits (Err (Rights f)) unread unsent h = h
-  pipe_ends tells now digits (Err (stop.Batch f)) unread unsent h = h
-
-  works : (tells : Turns) (task : Task) (broken : Bool) (r : Result Outcome Stop) (unread unsent : Type 0)
-      → Works tells task w broken r unread unsent s
-      → Works tells task (over H O N L w) broken r unread unsent s
-  works tells (Change c) broken r unread unsent h =
-      commands_end H O N L w was kept torn _ _ (carries H O N L w was kept torn c broken) _ r unsent _ _ _ h
-  works tells (Give rows now) broken r unread unsent h =
-      commands_end H O N L w was kept torn _ _
-      (carries_all H O N L w was kept torn (grants_at now rows.items) broken) _ r unsent _ _ _ h
-  works tells (Settle rows now) broken r unread unsent h =
-      settle_ends H O N L w was kept torn now rows.items broken r unsent _ _ _ h
-  works tells (Sweep who now giver) broken r unread unsent h =
-      timed_sweep_ends H O N L w was kept torn giver who now broken r unsent _ _ _ h
-  works tells (Batch who now digits) broken r unread unsent h =
-      batch_ends tells who now digits r unread unsent h
-  works tells (Pipe now digits) broken r unread unsent h = pipe_ends tells now digits r unread unsent h
-  works tells (Serve port connections listed) broken r unread unsent h =
-      listed_serve_ends tells port connections listed broken r unsent _ _ _ _ h
-  works tells (Show it) broken r unread unsent h =
-      show_ends H O N L w was kept torn (shown_text it) broken r unsent _ _ _ h
-
-  pub refined : (tells : Turns) (task : Task) (broken : Bool) (r : Result Outcome Stop)
-      (unread unsent : Type 0) → Does tells task w broken r unread unsent s
-      → Does tells task (over H O N L w) broken r unread unsent s
-  refined tells task broken r unread unsent h = record {
-    works = works tells task broken r unread unsent h.works;
-    begun = h.begun;
-    alone = h.alone;
-    caused = h.caused;
-    breaks = h.breaks;
-  }

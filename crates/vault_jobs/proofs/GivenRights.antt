@@ -1,9 +1,9 @@
 -- Rights that are given one after the other.
-use Rattle.std.proofs.Common.{◌≡◌, ℕ, ◌+◌, ◌<◌, List, [], ◌∷◌, ◌++◌, length, map, take, get_or}
+use Rattle.std.proofs.Common.{◌≡◌, ℕ, ◌+◌, ◌<◌, List, [], ◌∷◌, ◌++◌, length, take}
 use Rattle.std.proofs.Common.{Option, Some, None, Bool, true, false, Ok, Err, sym, ◌∙◌, ap, subst}
 use Rattle.std.proofs.Common.{refl, replicate}
 use Rattle.std.specs.Option.{option_map_or}
-use Rattle.std.proofs.lemmas.List.{length-map, map-append, replicate-append-replicate, take-map, take_more}
+use Rattle.std.proofs.lemmas.List.{replicate-append-replicate}
 use Rattle.vault_core.specs.Runs.{replies, run}
 use Rattle.vault_core.specs.Table.{after, reply}
 use Rattle.vault_core.specs.Merchants.{granting}
@@ -17,15 +17,13 @@ use Rattle.vault_core.specs.declared.reply.Reply.TheVariants as answer
 use Rattle.vault_core.specs.declared.right.Right.{Right}
 use Rattle.vault_engine.specs.Passing.{IsBefore, Passage}
 use Rattle.vault_listen.specs.Peers.{vault_passing}
-use Rattle.vault_rights.specs.Named.{Row}
 use Rattle.vault_store.specs.Applied.{Contains, tables_of}
 use Rattle.vault_store.specs.declared.vault.Fault.{Fault}
 use Rattle.vault_store.specs.declared.vault.Fault.TheVariants.{Memory, Store, Reopen}
 use Rattle.vault_store.specs.declared.vault.Vault.{Vault}
 use Rattle.vault_jobs.specs.Carried.{Carries, reply_of}
-use Rattle.vault_jobs.specs.Grants.{AreDone, CarriesAll, grants_at}
-use Rattle.vault_jobs.specs.declared.change.Verdict.{Verdict}
-use Rattle.vault_jobs.specs.declared.change.Verdict.TheVariants.{Done, Refused}
+use Rattle.vault_jobs.specs.Grants.{AreDone, CarriesAll}
+use Rattle.vault_jobs.specs.Carried.{Verdict}
 
 -- the replies to commands and to one more
 pub replies_more : (cs : List Command) (c : Command) (V : Content)
@@ -38,26 +36,11 @@ pub run_more : (cs : List Command) (c : Command) (V : Content) → run (cs ++ c 
 run_more [] c V = refl
 run_more (d ∷ cs) c V = run_more cs c (after V d)
 
--- the grants up to a row are those before it and its own
-pub grants_more : (now : ℕ) (rows : List Row) (i : ℕ) (row : Row) → row ≡ get_or rows i row → i < length rows
-    → take (i + 1) (grants_at now rows)
-    ≡ take i (grants_at now rows) ++ Grant row.0 row.1 row.2 row.3 now ∷ []
-grants_more now rows i row is below =
-    let f : Row → Command = λ r. Grant r.0 r.1 r.2 r.3 now in
-    take-map f (i + 1) rows ∙ ap (λ rs. map f rs) (take_more rows i row below)
-    ∙ ap (λ r. map f (take i rows ++ r ∷ [])) (sym is)
-    ∙ map-append f (take i rows) (row ∷ []) ∙ ap (λ cs. cs ++ f row ∷ []) (sym (take-map f i rows))
-
 -- what isn't broken where an answer came
 pub unbroken : {X E : Type 0} (broken : Bool) (x : X) (e : E) → (broken ≡ true → Ok x ≡ Err e)
     → broken ≡ false
 unbroken true x e only = absurd (cc (only refl))
 unbroken false x e only = refl
-
--- there is a grant for each row
-pub grants_below : (now : ℕ) (rows : List Row) (i : ℕ) → i < length rows → i < length (grants_at now rows)
-grants_below now rows i below =
-    subst (λ n. i < n) (sym (length-map rows (λ (r : Row). Grant r.0 r.1 r.2 r.3 now))) below
 
 -- a right is given, or refused
 pub granted_or_refused : (caller m : List ℕ) (right : Right) (until : Option ℕ) (now : ℕ) (V : Content)
@@ -71,8 +54,8 @@ granted_or_refused caller m right until now V =
 
     by_merchant : (found : Option Merchant) → merchant_at V m ≡ found
         → (v : Verdict) × (reply V (Grant caller m right until now) ≡ reply_of v)
-    by_merchant None is = (Refused no_merchant, ap answered is)
-    by_merchant (Some merchant) is = (Done, ap answered is)
+    by_merchant None is = (Err no_merchant, ap answered is)
+    by_merchant (Some merchant) is = (Ok tt, ap answered is)
 
 module _ {T : Type 0} (honest : T → Type 0) (holds : T → Content → Type 0)
     (leaves : T → Content → Content → Type 0)
@@ -104,7 +87,7 @@ module _ {T : Type 0} (honest : T → Type 0) (holds : T → Content → Type 0)
   ran V = sym (ap (λ ds. run ds V) more ∙ run_more (take i cs) c V)
 
   -- the command is done
-  pub done_then : Carries c step broken (Ok Done) → (V : Content) → IsBefore whole V
+  pub done_then : Carries c step broken (Ok (Ok tt)) → (V : Content) → IsBefore whole V
       → AreDone (i + 1) cs V × Contains holds v2 (run (take (i + 1) cs) V)
   done_then carried V b =
       let h = carried (run (take i cs) V) (ready V b) in (
@@ -113,8 +96,8 @@ module _ {T : Type 0} (honest : T → Type 0) (holds : T → Content → Type 0)
       )
 
   -- the command is refused
-  pub refused_then : (n : ℕ) → Carries c step broken (Ok (Refused n))
-      → CarriesAll cs whole broken (Ok (Refused n))
+  pub refused_then : (n : ℕ) → Carries c step broken (Ok (Err n))
+      → CarriesAll cs whole broken (Ok (Err n))
   refused_then n carried = (
     i,
     below,

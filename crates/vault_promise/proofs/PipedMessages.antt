@@ -23,7 +23,7 @@ use Rattle.vault_jobs.specs.declared.task.Outcome.{Outcome}
 use Rattle.vault_jobs.specs.declared.task.Task.TheVariants as task
 use Rattle.vault_promise.proofs.Answering.{answers_of}
 use Rattle.vault_promise.proofs.Proper.{proper-first, proper-last}
-use Rattle.vault_promise.proofs.Working.{Works}
+use Rattle.vault_promise.proofs.TaskAnswers.{Works}
 use Rattle.vault_promise.specs.Runs.{perhaps}
 use Rattle.vault_promise.specs.Told.{AreHeard, IsQuiet}
 

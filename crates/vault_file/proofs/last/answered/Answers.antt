@@ -3,8 +3,8 @@ use Rattle.sqlite.specs.Held.{state}
 use Rattle.sqlite.specs.State.{HasCleanDisk}
 use Rattle.vault_schema.specs.Holds.{LeavesEither}
 use Rattle.vault_store.specs.Applied.{tables_of}
-use Rattle.vault_recover.proofs.last.answered.Given.{Over}
-use Rattle.vault_recover.proofs.last.answered.Goals as goal
+use Rattle.vault_file.proofs.last.answered.Given.{Over}
+use Rattle.vault_file.proofs.last.answered.Goals as goal
 use Rattle.vault_recover.proofs.LeftBy.{left_by}
 use Rattle.vault_verdict.proofs.Results.{if_ok}
 

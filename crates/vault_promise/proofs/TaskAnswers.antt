@@ -1,35 +1,31 @@
 -- What a task answered, and what it left undecided.
 use Rattle.std.proofs.Common.{◌≡◌, ℕ, ◌+◌, ◌<◌, zero, suc, List, [], ◌∷◌, ◌++◌, length, take, Option, Some}
 use Rattle.std.proofs.Common.{None, Bool, true, false, Result, Ok, Err, inl, inr, refl, ap, subst, ◌∙◌, arith}
-use Rattle.std.proofs.Common.{nat_lt}
 use Rattle.std.specs.Prelude.{IfSome, codes}
-use Rattle.std.specs.FinMap as map
 use Rattle.std.specs.Global.{Vec}
 use Rattle.vault_rights.specs.Named.{Row}
 use Rattle.vault_core.proofs.Setting.{at_setting, by_set}
-use Rattle.vault_core.proofs.Branches.{by_option, by_test}
-use Rattle.vault_core.specs.Merchants.{granting, set_from, set_to, withdrawal}
+use Rattle.vault_core.proofs.Branches.{by_option}
+use Rattle.vault_core.specs.Merchants.{granting, withdrawal}
 use Rattle.vault_core.specs.Outcome.{Outcome, plain_refusal}
 use Rattle.vault_core.specs.Proper.{AllProper, IsProper}
 use Rattle.vault_core.specs.Refusals.{no_merchant, too_many_merchants}
 use Rattle.vault_core.specs.Runs.{run}
 use Rattle.vault_core.specs.Table.{reply}
-use Rattle.vault_core.specs.Vault.{Merchant, Vault as Content, merchant_at}
+use Rattle.vault_core.specs.Vault.{Vault as Content, merchant_at}
 use Rattle.vault_core.specs.declared.command.Command.{Command}
 use Rattle.vault_core.specs.declared.command.Command.TheVariants.{Grant, Withdraw, Tokenize}
 use Rattle.vault_core.specs.declared.command.Command.TheVariants.{Detokenize, View, Revoke, Purge, Audit}
-use Rattle.vault_core.specs.declared.limit.TheConstants.{MOST_MERCHANTS}
 use Rattle.vault_engine.specs.Passing.{IsBefore, Passage}
 use Rattle.vault_store.specs.declared.vault.Fault.{Fault}
 use Rattle.vault_store.specs.declared.vault.Fault.TheVariants.{Memory, Store, Reopen}
-use Rattle.vault_jobs.proofs.Giving.{run_more}
+use Rattle.vault_jobs.proofs.GivenRights.{run_more}
 use Rattle.vault_jobs.specs.Carried.{Carries, reply_of}
 use Rattle.vault_jobs.specs.Doing.{CommandsEnd}
 use Rattle.vault_jobs.specs.Grants.{AreDone, CarriesAll, grants_at}
 use Rattle.vault_jobs.specs.Streams.{Streams}
 use Rattle.vault_jobs.specs.Tasks.{granted_line}
-use Rattle.vault_jobs.specs.declared.change.Verdict.{Verdict}
-use Rattle.vault_jobs.specs.declared.change.Verdict.TheVariants as verdict
+use Rattle.vault_jobs.specs.Carried.{Verdict}
 use Rattle.vault_jobs.specs.declared.stop.Stop.{Stop}
 use Rattle.vault_jobs.specs.declared.stop.Stop.TheVariants as stop
 use Rattle.vault_jobs.specs.declared.task.Outcome.{Outcome as Ended}
@@ -59,10 +55,10 @@ HasVerdict o = (v : Verdict) × (o.reply ≡ reply_of v)
 own_verdict : (V : Content) (c : Command) → IsOwn c → (v : Verdict) × (reply V c ≡ reply_of v)
 own_verdict V (Grant caller m right until now) own =
     by_option HasVerdict (merchant_at V m) (granting V caller m right until now) (plain_refusal V no_merchant)
-    (λ _ _. (verdict.Done, refl)) (λ _. (verdict.Refused no_merchant, refl))
+    (λ _ _. (Ok tt, refl)) (λ _. (Err no_merchant, refl))
 own_verdict V (Withdraw caller m right now) own =
     by_option HasVerdict (merchant_at V m) (withdrawal V caller m right now) (plain_refusal V no_merchant)
-    (λ _ _. (verdict.Done, refl)) (λ _. (verdict.Refused no_merchant, refl))
+    (λ _ _. (Ok tt, refl)) (λ _. (Err no_merchant, refl))
 own_verdict V (Tokenize caller m request usage pan digits now) own = absurd (cc)
 own_verdict V (Detokenize caller m token now) own = absurd (cc)
 own_verdict V (View caller m token now) own = absurd (cc)
@@ -70,13 +66,13 @@ own_verdict V (Revoke caller m token now) own = absurd (cc)
 own_verdict V (Purge caller m token now) own = absurd (cc)
 own_verdict V (Audit caller m now) own = absurd (cc)
 own_verdict V c own = at_setting (λ set. (v : Verdict) × (reply V set ≡ reply_of v))
-    (λ m x. by_set HasVerdict V m x (merchant_at V m) (λ _. (verdict.Done, refl))
-    (λ _. (verdict.Refused too_many_merchants, refl)) (λ _. (verdict.Done, refl))) c refl
+    (λ m x. by_set HasVerdict V m x (merchant_at V m) (λ _. (Ok tt, refl))
+    (λ _. (Err too_many_merchants, refl)) (λ _. (Ok tt, refl))) c refl
 
 module _ (w : Passage) (V : Content) (b : IsBefore w V) (s : Streams) (unsent : Type 0)
     (quiet : unsent → IsQuiet s) (F : Type 0) where
   module _ (c : Command) (own : IsOwn c) (proper : IsProper c) where
-    change_done : (broken : Bool) → Carries c w broken (Ok verdict.Done) → Works w V (task.Change c) F s
+    change_done : (broken : Bool) → Carries c w broken (Ok (Ok tt)) → Works w V (task.Change c) F s
     change_done broken carried = record {
       answered = c ∷ [];
       undecided = None;
@@ -159,7 +155,7 @@ module _ (w : Passage) (V : Content) (b : IsBefore w V) (s : Streams) (unsent : 
       (told : AreDone (length cs) cs V → Tells t V cs s)
       (silent : (ds : List Command) → IsQuiet s → Tells t V ds s)
       (ended : AreDone (length cs) cs V → AllDone t V cs) where
-    all_works : (broken : Bool) → CarriesAll cs w broken (Ok verdict.Done) → Works w V t F s
+    all_works : (broken : Bool) → CarriesAll cs w broken (Ok (Ok tt)) → Works w V t F s
     all_works broken carried = record {
       answered = cs;
       undecided = None;
@@ -172,7 +168,7 @@ module _ (w : Passage) (V : Content) (b : IsBefore w V) (s : Streams) (unsent : 
 
     -- the first are done and one is refused, or not answered
     pub refused_works : (broken : Bool) (n : ℕ) → ¬ F → IsQuiet s
-        → CarriesAll cs w broken (Ok (verdict.Refused n)) → Works w V t F s
+        → CarriesAll cs w broken (Ok (Err n)) → Works w V t F s
     refused_works broken n never calm h =
         let k = h.0 in
         record {

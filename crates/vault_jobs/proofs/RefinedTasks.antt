@@ -1,0 +1,117 @@
+-- A whole task in one passage, and in any that refines it.
+use Rattle.std.proofs.Common.{◌≡◌, ℕ, List, Bool, Option, Some, None, Result, Ok, Err, inl, inr}
+use Rattle.vault_core.specs.Vault.{Vault as Content}
+use Rattle.vault_engine.specs.Passing.{IsBefore, Keeps, Passage}
+use Rattle.vault_batch.specs.declared.asker.Asker.{Asker}
+use Rattle.vault_listen.specs.Live.{Turns}
+use Rattle.vault_listen.specs.Peers.{Link}
+use Rattle.vault_core.specs.Runs.{run}
+use Rattle.vault_jobs.specs.Doing.{BatchEnds, Does}
+use Rattle.vault_jobs.specs.Doing.{ListedServeEnds, PipeEnds}
+use Rattle.vault_jobs.specs.Doing.{Works, behind}
+use Rattle.vault_jobs.specs.Listing.{shown_text}
+use Rattle.vault_jobs.specs.Grants.{grants_at}
+use Rattle.vault_jobs.specs.Streams.{Known, Streams}
+use Rattle.vault_jobs.specs.declared.stop.Stop.{Stop}
+use Rattle.vault_jobs.specs.declared.stop.Stop.TheVariants.{Vault, Service, Listener, Rights}
+use Rattle.vault_jobs.specs.declared.stop.Stop.TheVariants as stop
+use Rattle.vault_jobs.specs.declared.task.Outcome.{Outcome}
+use Rattle.vault_jobs.specs.declared.task.Outcome.TheVariants as outcome
+use Rattle.vault_jobs.specs.declared.task.Task.{Task}
+use Rattle.vault_jobs.specs.declared.task.Task.TheVariants.{Change, Give, Settle, Sweep, Batch, Pipe, Serve}
+use Rattle.vault_jobs.specs.declared.task.Task.TheVariants.{Show}
+use Rattle.vault_jobs.specs.declared.task.Listed.{Listed}
+use Rattle.vault_jobs.proofs.RefinedPassages.{batched, carries, carries_all, commands_end, list_ends, over}
+use Rattle.vault_jobs.proofs.RefinedPassages.{piped, serve_ends}
+use Rattle.vault_jobs.proofs.RefinedPassages.{settle_ends, show_ends, stops_batch, stops_piping}
+use Rattle.vault_jobs.proofs.RefinedPassages.{timed_sweep_ends, untouched}
+
+module _ (H : Type 0) (O N : Content → Type 0) (L : Content → Content → Type 0) (w : Passage)
+    (was : (V : Content) → H → O V → IsBefore w V)
+    (kept : H → (V : Content) → Keeps w V → N V × L V V)
+    (torn : H → (V W : Content) → w.left_new V W → L V W) (s : Streams) where
+  -- a service that may begin with a list
+  listed_serve_ends : (tells : Turns) (port n : ℕ) (listed : Option Listed) (broken : Bool)
+      (r : Result Outcome Stop) (unsent : Type 0) (old new : Known) (writer : Bool) (xs : List (Option Link))
+      → ListedServeEnds tells port n listed w broken r unsent old new writer xs
+      → ListedServeEnds tells port n listed (over H O N L w) broken r unsent old new writer xs
+  listed_serve_ends tells port n None broken r unsent old new writer xs h =
+      serve_ends H O N L w was kept torn tells port n r unsent old new writer xs h
+  listed_serve_ends tells port n (Some it) broken r unsent old new writer xs (inl (none, h)) =
+      inl (none, list_ends H O N L w was kept torn it.now it.rights.items broken r unsent h)
+  listed_serve_ends tells port n (Some it) broken r unsent old new writer xs (inr (changes, of, h)) =
+      let cs = changes.commands.items in
+      inr (
+        changes,
+        λ V b. of V (was V b.0 b.1),
+        serve_ends H (λ U. (V : Content) × O V × (U ≡ run cs V)) N L (behind cs w)
+            (λ U honest (V, held, is). let b = was V honest held in (b.0, (V, b.1, is)))
+            kept torn tells port n r unsent old new writer xs h,
+      )
+
+  batch_ends : (tells : Turns) (who : Asker) (now : Option ℕ) (digits : Option (List ℕ))
+      (r : Result Outcome Stop)
+      (unread unsent : Type 0) → BatchEnds tells who now digits w r unread unsent s
+      → BatchEnds tells who now digits (over H O N L w) r unread unsent s
+  batch_ends tells who now digits (Ok outcome.Done) unread unsent
+      (calm, counts, none, end, (pairs, few, fixed, h)) =
+      (calm, counts, none, end, (pairs, few, fixed, batched H O N L _ was kept torn s.left_old who counts h))
+  batch_ends tells who now digits (Ok (outcome.Refused n)) unread unsent h = h
+  batch_ends tells who now digits (Ok outcome.SomeRefused) unread unsent
+      (calm, counts, some, end, (pairs, few, fixed, h)) =
+      (calm, counts, some, end, (pairs, few, fixed, batched H O N L _ was kept torn s.left_old who counts h))
+  batch_ends tells who now digits (Err (Vault f)) unread unsent h = h
+  batch_ends tells who now digits (Err (Service f)) unread unsent h = h
+  batch_ends tells who now digits (Err (Listener f)) unread unsent h = h
+  batch_ends tells who now digits (Err (Rights f)) unread unsent h = h
+  batch_ends tells who now digits (Err (stop.Batch f)) unread unsent (inl (is, calm, silent, same)) =
+      inl (is, calm, silent, untouched H O N L w was kept torn same)
+  batch_ends tells who now digits (Err (stop.Batch f)) unread unsent (inr (pairs, few, fixed, h)) =
+      inr (pairs, few, fixed, stops_batch H O N L _ was kept torn s.left_old who f h)
+
+  pipe_ends : (tells : Turns) (now : Option ℕ) (digits : Option (List ℕ)) (r : Result Outcome Stop)
+      (unread unsent : Type 0) → PipeEnds tells now digits w r unread unsent s
+      → PipeEnds tells now digits (over H O N L w) r unread unsent s
+  pipe_ends tells now digits (Ok outcome.Done) unread unsent (calm, (pairs, few, fixed, h)) =
+      (calm, (pairs, few, fixed, piped H O N L _ was kept torn s.left_old s.left_new h))
+  pipe_ends tells now digits (Ok (outcome.Refused n)) unread unsent h = h
+  pipe_ends tells now digits (Ok outcome.SomeRefused) unread unsent h = h
+  pipe_ends tells now digits (Err (Vault f)) unread unsent h = h
+  pipe_ends tells now digits (Err (Service f)) unread unsent (inl (is, calm, silent, same)) =
+      inl (is, calm, silent, untouched H O N L w was kept torn same)
+  pipe_ends tells now digits (Err (Service f)) unread unsent (inr (pairs, few, fixed, h)) =
+      inr (pairs, few, fixed, stops_piping H O N L _ was kept torn s.left_old s.left_new f h)
+  pipe_ends tells now digits (Err (Listener f)) unread unsent h = h
+  pipe_ends tells now digits (Err (Rights f)) unread unsent h = h
+  pipe_ends tells now digits (Err (stop.Batch f)) unread unsent h = h
+
+  works : (tells : Turns) (task : Task) (broken : Bool) (r : Result Outcome Stop) (unread unsent : Type 0)
+      → Works tells task w broken r unread unsent s
+      → Works tells task (over H O N L w) broken r unread unsent s
+  works tells (Change c) broken r unread unsent h =
+      commands_end H O N L w was kept torn _ _ (carries H O N L w was kept torn c broken) _ r unsent _ _ _ h
+  works tells (Give rows now) broken r unread unsent h =
+      commands_end H O N L w was kept torn _ _
+      (carries_all H O N L w was kept torn (grants_at now rows.items) broken) _ r unsent _ _ _ h
+  works tells (Settle rows now) broken r unread unsent h =
+      settle_ends H O N L w was kept torn now rows.items broken r unsent _ _ _ h
+  works tells (Sweep who now giver) broken r unread unsent h =
+      timed_sweep_ends H O N L w was kept torn giver who now broken r unsent _ _ _ h
+  works tells (Batch who now digits) broken r unread unsent h =
+      batch_ends tells who now digits r unread unsent h
+  works tells (Pipe now digits) broken r unread unsent h = pipe_ends tells now digits r unread unsent h
+  works tells (Serve port connections listed) broken r unread unsent h =
+      listed_serve_ends tells port connections listed broken r unsent _ _ _ _ h
+  works tells (Show it) broken r unread unsent h =
+      show_ends H O N L w was kept torn (shown_text it) broken r unsent _ _ _ h
+
+  pub refined : (tells : Turns) (task : Task) (broken : Bool) (r : Result Outcome Stop)
+      (unread unsent : Type 0) → Does tells task w broken r unread unsent s
+      → Does tells task (over H O N L w) broken r unread unsent s
+  refined tells task broken r unread unsent h = record {
+    works = works tells task broken r unread unsent h.works;
+    begun = h.begun;
+    alone = h.alone;
+    caused = h.caused;
+    breaks = h.breaks;
+  }
