@@ -210,9 +210,14 @@ def by_another_site(walk):
     last = [json.loads(it) for it in lines.read("front.log")[before:]]
     asked = {it["status"] for it in last if it["asked"] == "audit"}
     walk.tally.judge("another site's page is refused", unlike(asked, {403}))
-    told = walk.browser.told()
-    refused = any("frame-ancestors" in it for it in told)
-    walk.tally.judge("and has no page in its own", "" if refused else f"{told}"[:300])
+    # the browser tells what was forbidden some time after the frame was answered
+    told = []
+
+    def is_told():
+        told.extend(walk.browser.told())
+        return any("frame-ancestors" in it for it in told)
+
+    walk.tally.judge("and has no page in its own", "" if until(is_told) else f"{told}"[-300:])
     server.shutdown()
 
 
