@@ -1,14 +1,15 @@
 #!/bin/sh
 # again.sh [--port P] COPY [LOG ...]
 #
-# Revokes and purges once more what was revoked and purged after COPY was made, once COPY was restored and its vault
-# serves: a restore brings back what was taken away since. LOG is what a front keeps of both, with whole tokens;
-# it is /var/log/vault/taken.log and the files that it was turned into if left out. Each line is asked of the
-# vault at port P of this machine, 8087 if left out, as its caller asked it, so that caller has to have the right
-# still. A token that is over already counts as taken away again.
+# Revokes and purges once more what was revoked and purged after COPY was made, once COPY was restored and its
+# vault serves: a restore brings back what was taken away since. LOG is what a front keeps of both, with whole
+# tokens; it is /var/log/vault/taken.log and the files that it was turned into if left out. Each line is asked
+# of the vault at port P of this machine, 8087 if left out, as its caller asked it, so that caller has to have
+# the right still. A token that is over already counts as taken away again.
 #
-# A token that was made after COPY isn't in the restored vault, and is counted as `unknown`; so is one of another
-# vault's merchant. The exit status is 1 where a line was refused for another reason, or can't be read.
+# A token that was made after COPY isn't in the restored vault, and is counted as `unknown`; so is one of
+# another vault's merchant. The exit status is 1 where a line was refused for another reason, or can't be
+# read.
 set -eu
 port=8087
 if [ "${1:-}" = --port ]; then
@@ -27,12 +28,14 @@ folder=$(mktemp -d)
 trap 'rm -rf "$folder"' EXIT
 trap 'exit 1' HUP INT TERM
 
-# The lines of the logs in the order of their moments: the second, caller, merchant, token, and what was asked.
+# The lines of the logs in the order of their moments, and of one second first what was revoked: the second,
+# caller, merchant, token, and what was asked.
 it='"\([^"]*\)"'
 form="^{\"time\":$it,\"caller\":$it,\"merchant\":$it,\"token\":$it,\"asked\":$it,\"status\":200}\$"
 zcat -f -- "$@" > "$folder/lines"
 sed -n "s/$form/\1/p" "$folder/lines" | date -f - +%s > "$folder/seconds"
-sed -n "s/$form/\2 \3 \4 \5/p" "$folder/lines" | paste -d ' ' "$folder/seconds" - | sort -sn -k 1,1 > "$folder/told"
+sed -n "s/$form/\2 \3 \4 \5/p" "$folder/lines" | paste -d ' ' "$folder/seconds" - |
+    sort -s -k 1,1n -k 5,5r > "$folder/told"
 refused=$(grep -cv "$form" "$folder/lines" || :)
 [ "$refused" -eq 0 ] || echo "again.sh: $refused lines can't be read" >&2
 

@@ -2,19 +2,19 @@
 # backup.sh [--snapshot] [--keep DAYS] FILE FOLDER
 #
 # Copies a vault's file and its log into FOLDER, under a name with the moment in UTC, which ends in `.db`. Its
-# log stands beside it as `.db-wal`, and what `vault check` says of both as `.db.sound`. That one gets its name
-# last: what has none is no copy. A copy counts only if the check finds it sound, with no fewer merchants, tokens
-# and requests than the copy before, since none of the three ever falls. `restore.sh` leaves the counts of what
-# was restored as FOLDER/restored, and the next copy is compared with those.
+# log stands beside it as `.db-wal`, and what `vault check` says of both as `.db.sound`. That one gets its
+# name last: what has none is no copy. A copy counts only if the check finds it sound, with no fewer
+# merchants, tokens and requests than the copy before, since none of the three ever falls. `restore.sh` leaves
+# the counts of what was restored as FOLDER/restored, and the next copy is compared with those.
 #
 # The service has to be stopped, so that nobody writes FILE meanwhile: a file that is open is refused, and one
-# that changes is told. `backup-now` copies under a service that runs. With `--snapshot`, FILE lies on a snapshot
-# of its volume, which may be read-only: that is a state which a stop of the machine could have left, and any such
-# state opens with all that was answered.
+# that changes is told. `backup-now` copies under a service that runs. With `--snapshot`, FILE lies on a
+# snapshot of its volume, which may be read-only: that is a state which a stop of the machine could have left,
+# and any such state opens with all that was answered.
 #
-# `--keep DAYS` overwrites and removes older copies of FOLDER, once the new one counts.
-# `--bytes FILE PART` copies alone, and `--taken PART FOLDER` does the rest: `backup-now` freezes between the two.
-# VAULT names the program; it is `vault` if left out.
+# `--keep DAYS` overwrites and removes older copies of FOLDER, once the new one counts. `--bytes FILE PART`
+# copies alone, and `--taken PART FOLDER` does the rest: `backup-now` freezes between the two. VAULT names the
+# program; it is `vault` if left out.
 set -eu
 umask 077
 lib=$(cd "$(dirname "$0")" && pwd)
@@ -49,7 +49,8 @@ counts_before() {
     fi
 }
 
-# Checks the copy, and gives its three files their names; each is on the disk before the next one has its name.
+# Checks the copy, and gives its three files their names; each is on the disk before the next one has its
+# name.
 name_copy() {
     counts=$(nice -n 10 "$lib/counted" "$part") || fail "the copy isn't sound"
     before=$(counts_before)
@@ -104,8 +105,8 @@ if [ "$how" != taken ]; then
 fi
 name_copy
 
-# Older copies, and after two hours what is left of one that was cut off. What a disk or a snapshot keeps of them
-# beyond their names is beyond this.
+# Older copies, and after two hours what is left of one that was cut off. What a disk or a snapshot keeps of
+# them beyond their names is beyond this.
 [ -n "$days" ] || exit 0
 cd "$folder"
 find . -maxdepth 1 -type f -name 'vault-[0-9]*Z.db*' ! -name "${copy##*/}*" \

@@ -2,9 +2,9 @@
 # package.sh PROGRAM FOLDER
 #
 # Builds a Debian package of the built program in FOLDER, for amd64 alone, as the program is: the program, its
-# units with their scripts, its man page, completions for bash, the page for the back office, the pages for those
-# who run it, and as examples both fronts, other scripts of this folder and three clients. It prints the package's
-# name. An image without /usr/share/doc lacks nothing but the pages.
+# units with their scripts, its man page, completions for bash, the page for the back office, the pages for
+# those who run it, and as examples both fronts, other scripts of this folder and three clients. It prints the
+# package's name. An image without /usr/share/doc lacks nothing but the pages.
 #
 # The package makes the user `vault` and the folder /var/lib/vault. It starts nothing, and its removal takes
 # away neither the folder nor a vault's file.
@@ -29,8 +29,8 @@ for unit in vault.service vault-failed.service \
     vault-exporter.service; do
     place 644 "$here/$unit" "/lib/systemd/system/$unit"
 done
-for step in pause room port listens answers watch thaw alarm counted backup-now backup.sh restore.sh again.sh \
-    exporter.py; do
+for step in pause room port listens answers watch thaw alarm counted backup-now backup.sh restore.sh \
+    again.sh exporter.py; do
     place 755 "$here/$step" "/usr/lib/vault/$step"
 done
 place 755 "$here/vault-look" /usr/bin/vault-look

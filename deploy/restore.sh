@@ -6,9 +6,9 @@
 # sound, with the merchants, tokens and requests that COPY.sound says: a copy that lost its log would pass as
 # an older vault or an empty one. `--unlisted` takes a copy without COPY.sound as it is.
 #
-# FILE never has a second name, which the program would refuse. A cut of the power leaves FILE whole, or FILE-wal
-# alone without it, which is removed before this is called again. Beside the copy it leaves its counts as
-# `restored`, so that the next copy in that folder may have fewer than the last one.
+# FILE never has a second name, which the program would refuse. A cut of the power leaves FILE whole, or
+# FILE-wal alone without it, which is removed before this is called again. Beside the copy it leaves its
+# counts as `restored`, so that the next copy in that folder may have fewer than the last one.
 #
 # FILE belongs to whoever runs this; `chown vault:vault FILE` gives it to the service's user. The copy stays.
 # VAULT names the program; it is `vault` if left out.
@@ -34,7 +34,8 @@ for name in "$file" "$file-wal"; do
     [ ! -e "$name" ] || fail "$name is there already"
 done
 
-# Gives a part its name, and writes over nothing: `mv -n` leaves it where something has got the name meanwhile.
+# Gives a part its name, and writes over nothing: `mv -n` leaves it where something has got the name
+# meanwhile.
 named() {
     mv -nT -- "$1" "$2"
     [ ! -e "$1" ] || fail "$2 is there already"

@@ -35,14 +35,15 @@ for name in OPERATING.md SCALE.md API.md REFUSALS.md PROVED.md SECURITY.md CHANG
     TRIALS.md; do
     step "$name is in it" "$(holds grep -q " ./usr/share/doc/vault/$name\$" inside)"
 done
-for name in share/vault/examples/nginx.conf share/vault/examples/certificates.sh share/vault/examples/rebuild.sh \
-    share/vault/examples/clients/till.py share/vault/examples/clients/back_office.py \
-    share/vault/examples/clients/batch.py share/vault/examples/haproxy.cfg share/vault/examples/alerts.yaml \
-    share/vault/examples/logs/logrotate share/vault/examples/logs/rsyslog.conf share/vault/examples/logs/who.py \
-    share/vault/office/index.html share/vault/office/office.css share/vault/office/office.js bin/vault-look; do
-    step "$name is in it" "$(holds grep -q " ./usr/$name\$" inside)"
+for name in examples/nginx.conf examples/certificates.sh examples/rebuild.sh examples/clients/till.py \
+    examples/clients/back_office.py examples/clients/batch.py examples/haproxy.cfg examples/alerts.yaml \
+    examples/logs/logrotate examples/logs/rsyslog.conf examples/logs/who.py office/index.html \
+    office/office.css office/office.js; do
+    step "$name is in it" "$(holds grep -q " ./usr/share/vault/$name\$" inside)"
 done
-# What a unit or one of its scripts calls is in it, and isn't among the documents, which an image may leave out.
+step "vault-look is in it" "$(holds grep -q ' ./usr/bin/vault-look$' inside)"
+# What a unit or one of its scripts calls is in it, and isn't among the documents, which an image may leave
+# out.
 sed -n 's#^Exec[A-Za-z]*=[+-]*\(/usr/[^ ]*\).*#\1#p' "$deploy"/*.service | grep /vault > called
 for script in $(sed -n 's#^/usr/lib/vault/##p' called | sort -u); do
     grep -o '/usr/lib/vault/[a-z.-]*\|\$lib/[a-z.-]*' "$deploy/$script" | sed 's#^\$lib#/usr/lib/vault#' || :
@@ -50,7 +51,8 @@ done >> called
 for name in $(sort -u called); do
     step "$name is in it, which a unit calls" "$(holds grep -q " .$name\$" inside)"
 done
-step "no unit needs a document" "$(if grep -q /usr/share/doc called; then echo no; else echo yes; fi)" "$(cat called)"
+documents=$(grep /usr/share/doc called || :)
+step "no unit needs a document" "$([ -z "$documents" ] && echo yes || echo no)" "$documents"
 dpkg-deb -f "$package" > control
 step "its address can be written to" "$(if grep -qi noreply control; then echo no; else echo yes; fi)"
 
@@ -73,8 +75,9 @@ if need systemd-analyze systemd; then
     step "its exposure is at most 1.5" "$small" "$level"
     # one of several vaults has the same rules but for its name, its port and whom it tells
     diff "$deploy/vault.service" "$deploy/vault@.service" | sed -n 's/^[<>] //p' | grep -v '^#' > differs || :
-    own='Description|OnFailure|Environment|EnvironmentFile|ExecStart|ExecStartPre|StateDirectory|RuntimeDirectory'
-    grep -Evx "($own|SocketBindAllow|AssertPathExists|RequiresMountsFor)=.*" differs > others || :
+    own='Description|OnFailure|Environment|EnvironmentFile|ExecStart|ExecStartPre|SocketBindAllow'
+    own="$own|StateDirectory|RuntimeDirectory|AssertPathExists|RequiresMountsFor"
+    grep -Evx "($own)=.*" differs > others || :
     step "one of several vaults has the same rules" "$([ -s others ] && echo no || echo yes)" "$(cat others)"
     diff "$deploy/vault-backup.service" "$deploy/vault-backup@.service" | sed -n 's/^[<>] //p' |
         grep -Ev '^(#.*|(Description|OnFailure|Environment|ExecStopPost)=.*)$' > others || :

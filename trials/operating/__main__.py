@@ -123,7 +123,8 @@ mkdir -p kept; mv vault.db* before.db* kept
 install -m 600 -o vault /srv/older.db $file
 """
     says(tally, machine, "a file of schema 1", instead + "asvault vault check $file", "30 1", well=False)
-    too_old = "! systemctl start vault; journalctl -u vault -o cat --no-pager | tail -n 20; systemctl stop vault"
+    told = "journalctl -u vault -o cat --no-pager | tail -n 20"
+    too_old = f"! systemctl start vault; {told}; systemctl stop vault"
     says(tally, machine, "a start of it says so", too_old, "file not opened 30 1")
     well, told = machine.type(page["Upgrade"][1])
     tally.judge("it is moved", "" if well and "schema 4" in told else told[-400:])
@@ -164,7 +165,7 @@ journalctl -u vault -o cat --no-pager; journalctl -t vault-alarm -t vault -o cat
 rm /var/backups/vault; mv /var/backups/kept /var/backups/vault; sleep 1
 systemctl is-active vault; journalctl -t vault-alarm -o cat --no-pager
 """
-    failed = r"^active$[\s\S]*^vault-backup.service has failed: there is no new copy; vault answers$"
+    failed = r"^active$[\s\S]*^vault-backup.service has failed: there is no new copy; vault.service answers$"
     says(tally, machine, "a copy that fails leaves the service and is told", no_room, failed)
     on_its_way = """systemctl stop vault; mv $file $file.kept; mkdir $file
 systemctl start --no-block vault; sleep 1; systemctl start --no-block vault-backup; sleep 1
@@ -221,7 +222,9 @@ def several(tally, machine):
     says(tally, machine, "a merchant of the second vault", reloaded + audit, '"made":0. 200')
     copy = "systemctl start vault-backup@north && cat /var/backups/vault-north/*.sound"
     says(tally, machine, "a copy of it", copy, r"^sound 1 0 0$")
-    begun = "show() { systemctl show -p InvocationID --value $1; }; north=$(show vault@north); first=$(show vault)\n"
+    begun = """show() { systemctl show -p InvocationID --value $1; }
+north=$(show vault@north); first=$(show vault)
+"""
     killed = f"{begun}kill -9 $(systemctl show -p MainPID --value vault@north)\n"
     says(tally, machine, "a kill of it is a wait", killed + audit, '"made":0. 200')
     says(tally, machine, "it has started again", "[ $(show vault@north) != $north ]", "")

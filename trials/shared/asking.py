@@ -1,5 +1,5 @@
-"""Clients that ask a service on a port for tokens until their input ends: python3 -m shared.asking PORT CALLERS.
-What came of it is printed as JSON. It is a program of its own, since it runs in a machine's network."""
+"""Clients that ask a service on a port for tokens until their input ends. What came of it is printed as JSON. It
+is a program of its own, since it runs in a machine's network: python3 -m shared.asking PORT CALLERS"""
 
 import contextlib
 import json
@@ -89,7 +89,7 @@ class Asked:
 
     @property
     def fault(self):
-        """What isn't as it has to be: a request without an answer, or with another one when it is repeated."""
+        """What isn't as it has to be: a request without an answer, or with another one as it is repeated."""
         lost = self.told.get("faults", ["no end"]) + self.told.get("differ", [])
         return "; ".join(map(str, lost[:3]))
 

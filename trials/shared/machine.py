@@ -14,8 +14,8 @@ FETCHED = (
     *("nginx-light", "openssl", "curl", "sqlite3", "chrony", "nftables", "logrotate", "python3"),
     *("haproxy", "rsyslog", "procps", "python3-prometheus-client", "libjemalloc2"),
 )
-# What begins a machine: it moves itself into groups of processes of its own, so that nothing of another machine
-# is ended with it, and ends with whoever began it.
+# What begins a machine: it moves itself into groups of processes of its own, so that nothing of another
+# machine is ended with it, and ends with whoever began it.
 BEGIN = """for group; do mkdir -p "$group" && echo $$ > "$group/cgroup.procs"; done
 exec setpriv --pdeathsig TERM systemd-nspawn --quiet --register=no --keep-unit --private-network --boot \\
     --kill-signal=SIGKILL --directory="$FOLDER" --machine="$NAME"
@@ -37,7 +37,7 @@ def mirrors():
 
 
 def made_base(folder):
-    """An empty Debian in a folder; several trials copy one that MACHINES names, and the first one makes it."""
+    """An empty Debian in a folder; several trials copy one in MACHINES, and the first one makes it."""
     base = os.path.join(os.environ.get("MACHINES", os.path.dirname(folder)), "base")
     if not os.path.exists(base):
         part = f"{base}.part"

@@ -42,7 +42,7 @@ systemctl start --no-block vault-backup
 END = """{how}
 since=$(date +%s%N); $lib/answers vault; echo answered $((($(date +%s%N) - since) / 1000000))
 for turn in $(seq 100); do
-    case $(systemctl is-active vault-backup) in failed | inactive) break ;; esac
+    case $(systemctl show -p ActiveState --value vault-backup) in failed | inactive) break ;; esac
     sleep 0.1
 done
 echo freezer $(systemctl show -p FreezerState --value vault)
@@ -114,7 +114,7 @@ $lib/answers vault; echo frozen $done
 
 
 def ended(tally, machine, step, *, every):
-    """A copy that is ended at each of its steps: the service answers within a second, and the alarm says so."""
+    """A copy that is ended at each of its steps: the service answers within a second."""
     begun = invocation(machine)
     told = machine.type(STEPS)[1]
     steps = [line for line in told.splitlines() if line.split()[0] in CALLED.split()]
@@ -127,7 +127,7 @@ def ended(tally, machine, step, *, every):
             soon = well and answered and int(answered[1]) < 1000 and "freezer running" in told
             fault = "" if soon and "no copy of" not in told else told[-300:]
             tally.judge(f"{way} at step {at}, {called[:40]}", fault)
-    frozen = next(at for at, called in enumerate(steps, 1) if called.startswith("setpriv") and "--bytes" in called)
+    frozen = next(at for at, called in enumerate(steps, 1) if "--bytes" in called)
     late = """printf '[Service]\\nTimeoutStartSec=2\\n' > /etc/systemd/system/vault-backup.service.d/late.conf
 systemctl daemon-reload
 """
@@ -136,7 +136,8 @@ systemctl daemon-reload
     gone = """rm /etc/systemd/system/vault-backup.service.d/late.conf; systemctl daemon-reload
 echo 0 > /srv/steps/at; systemctl reset-failed vault-backup; alarms
 """
-    step("the alarm says what is so", gone, "vault-backup.service: has failed: there is no new copy; vault answers")
+    so = "vault-backup.service: has failed: there is no new copy; vault.service answers"
+    step("the alarm says what is so", gone, so)
     begin = "PATH=/srv/steps:$PATH FOLDER=$copies DAYS=14 $lib/backup-now > /srv/by-hand 2>&1 & copy=$!"
     by_hand = UP_TO.format(at=frozen, begin=begin) + """kill -9 $copy; sleep 0.5
 systemctl show -p FreezerState --value vault; echo 0 > /srv/steps/at

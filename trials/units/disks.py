@@ -46,8 +46,9 @@ def full(tally, machine, step):
 def read_only(step):
     """A volume that turned read-only."""
     step("a volume", VOLUME.format(size=96 * 1024, inodes="1k") + "systemctl start vault", "")
-    turned = "mount -o remount,ro /var/lib/vault; systemctl kill -s KILL vault\n"
-    step("read-only, it waits", turned + awaited(f"alarms | grep -q '{WAITS} is read-only'", 60), "", seconds=90)
+    turned = "systemctl stop vault; mount -o remount,ro /var/lib/vault; systemctl start --no-block vault\n"
+    told = awaited(f"alarms | grep -q '{WAITS} is read-only'", 60)
+    step("read-only, it waits", turned + told, "", seconds=90)
     again = "mount -o remount,rw /var/lib/vault\n" + awaited("$lib/answers vault", 60)
     step("and serves once it takes writes", again, "", seconds=90)
     step("the volume goes", BACK + "systemctl start vault", "")
@@ -60,7 +61,8 @@ def no_inode(step):
 for name in $(seq 64); do asvault touch /var/lib/vault/$name 2> /dev/null || break; done
 systemctl start --no-block vault
 """
-    step("no inode, it waits", taken + awaited(f"alarms | grep -q '{WAITS} has no inode'", 60), "", seconds=90)
+    told = awaited(f"alarms | grep -q '{WAITS} has no inode'", 60)
+    step("no inode, it waits", taken + told, "", seconds=90)
     again = "rm /var/lib/vault/[1-9]*\n" + awaited("$lib/answers vault", 60)
     step("and serves once there is one", again, "", seconds=90)
     step("the last volume goes", BACK + "systemctl start vault", "")

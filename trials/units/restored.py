@@ -34,7 +34,7 @@ number $one $two
 """
     step("two are taken away after a copy", before, r"(true. 200\n){4}.*15. 410\n.*14. 410")
     log = """mkdir -p /var/log/vault; log() {
-    printf '{"time":"%s","caller":"back","merchant":"shop1","token":"%s","asked":"%s","status":200}\\n' "$1" "$2" "$3"
+    printf '{"time":"%s","caller":"back","merchant":"shop1","token":"%s","asked":"%s","status":200}\\n' "$@"
 }
 now=$(date -u +%Y-%m-%dT%H:%M:%S+00:00)
 { log $now $two purge; log $now $after revoke; } > /var/log/vault/taken.log

@@ -12,7 +12,7 @@ cat > /etc/systemd/system/vault.service.d/deaf.conf <<'END'
 [Service]
 ExecStart=
 ExecStart=/usr/bin/perl -MIO::Socket::INET -e \
-    '$it = IO::Socket::INET->new(Listen => 9, LocalAddr => "127.0.0.1:8087"); sleep'
+    '$$it = IO::Socket::INET->new(Listen => 9, LocalAddr => "127.0.0.1:8087"); sleep'
 END
 systemctl daemon-reload; systemctl restart vault; systemctl is-active vault
 rm /etc/systemd/system/vault.service.d/deaf.conf; systemctl daemon-reload
@@ -49,9 +49,11 @@ systemctl is-active vault-watch@vault.service
 """
     step("the watch runs", sooner, "^active$")
     back = awaited("$lib/answers vault", 90)
-    frozen = "systemctl freeze vault\n" + back + "alarms"
+    frozen = "systemctl freeze vault\n" + back + awaited("alarms | grep 'was frozen'", 10)
     step("one that was left frozen goes on", frozen, "vault.service: was frozen, and goes on", seconds=120)
-    step("one that never answers is started again", DEAF + back + "alarms", "vault.service: is silent", seconds=150)
-    ends = awaited("[ $(systemctl is-active vault-watch@vault.service) = inactive ]", 30)
+    silent = DEAF + awaited("alarms | grep 'is silent'", 60) + back
+    step("one that never answers is started again", silent, "vault.service: is silent", seconds=180)
+    ends = awaited('[ "$(systemctl show -p ActiveState --value vault-watch@vault.service)" = inactive ]', 30)
     step("the watch ends with its service", "systemctl stop vault\n" + ends, "", seconds=60)
-    step("and begins with it", "systemctl start vault; systemctl is-active vault-watch@vault.service", "^active$")
+    begins = "systemctl start vault; systemctl is-active vault-watch@vault.service"
+    step("and begins with it", begins, "^active$")
