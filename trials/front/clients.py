@@ -28,10 +28,11 @@ class Answer(NamedTuple):
 
 
 class Client:
-    """One connection to the front, which is made anew where it was ended."""
+    """One connection to the front, which is made anew where it was ended. No answer takes longer than its
+    patience."""
 
-    def __init__(self, port, caller=None):
-        self.port = port
+    def __init__(self, port, caller=None, patience=60):
+        self.port, self.patience = port, patience
         self.context = ssl.create_default_context(cafile="callers.pem")
         if caller:
             self.context.load_cert_chain(f"{caller}.pem", f"{caller}.key")
@@ -39,7 +40,7 @@ class Client:
 
     def connect(self):
         self.connection = http.client.HTTPSConnection(
-            "localhost", self.port, context=self.context, timeout=60
+            "localhost", self.port, context=self.context, timeout=self.patience
         )
 
     def ask(self, method, target, body=None, **fields):

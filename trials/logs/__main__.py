@@ -10,10 +10,11 @@ import sys
 import time
 
 from front import certificates, forged, guards
-from front.clients import Client
+from front.clients import NUMBER, Client
 from front.services import Front as Nginx
-from front.services import two_vaults
+from front.services import REST, two_vaults
 from haproxy.services import Front
+from logs import taken
 from logs.turned import Syslog, configured, turn
 from shared import lines
 from shared.runs import until
@@ -47,6 +48,7 @@ def by_haproxy(tally, repository, vaults):
             lines.judge(tally, "front.log")
             told = turn("20261102")
             tally.judge("logrotate turns it", told)
+            taken.judge(tally, "HAProxy", front.port, 101)
             asked(front.port, token)
             guards.typed_wrong(tally, front.port)
             forged.of_numbers(tally, front.port)
@@ -71,10 +73,13 @@ def by_nginx(tally, repository, vaults, token):
         time.sleep(0.5)
         asked(front.port, token)
         until(lambda: len(lines.read("front.log")) >= 4)
+        tally.judge("four lines after", unlike(len(lines.read("front.log")), 4))
+        taken.judge(tally, "nginx", front.port, 201)
     finally:
         front.end()
     tally.judge("four lines before", unlike(len(lines.read("front.log-20261104")), 4))
-    tally.judge("four lines after", unlike(len(lines.read("front.log")), 4))
+    turned = os.path.exists("taken.log-20261104") and len(lines.read("taken.log-20261104"))
+    tally.judge("what was taken away is turned too", unlike(turned, 3))
     mode = os.stat("front.log").st_mode & 0o777
     tally.judge("for a few alone", unlike(oct(mode), "0o640"))
 
@@ -142,6 +147,8 @@ def without_numbers(tally):
     for path in sorted(glob.glob("front.log*")):
         faults = [it for it in map(lines.fault_of, lines.read(path)) if it]
         tally.judge(f"no number in {path}", f"{faults[:3]}" if faults else "")
+    for path in sorted(glob.glob("taken.log*")):
+        tally.judge(f"no card number in {path}", "it is there" if NUMBER in open(path).read() else "")
     for path in glob.glob("others.log") + ["haproxy.out", "haproxy.err", "vault-error.log"]:
         found = lines.NUMBER.findall(open(path).read())
         tally.judge(f"no number in {path}", f"{len(found)} of them" if found else "")
@@ -152,6 +159,7 @@ def main(program, repository):
     certificates.make()
     configured(repository)
     with two_vaults(program) as vaults:
+        vaults[0].give(REST)
         token = by_haproxy(tally, repository, vaults)
         by_nginx(tally, repository, vaults, token)
     without_numbers(tally)

@@ -39,9 +39,10 @@ def fault_of(line):
 
 
 def read(path):
-    """The lines of a log, which may be compressed."""
+    """The lines of a log, which may be compressed. What HAProxy writes behind a bar is no part of this log:
+    rsyslog takes it away, and where HAProxy writes its lines itself it is left out here."""
     with (gzip.open if path.endswith(".gz") else open)(path, "rt") as file:
-        return file.read().splitlines()
+        return [line.partition("|")[0] for line in file.read().splitlines()]
 
 
 def judge(tally, path):
