@@ -31,6 +31,7 @@ def forgeries(tally, front, token):
     forged.of_numbers(tally, port)
     guards.typed_wrong(tally, port)
     guards.by_browsers(tally, port)
+    guards.by_ipv6(tally, port)
 
 
 def by_merchant(tally, port):

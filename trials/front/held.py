@@ -118,4 +118,5 @@ def judge_kind(tally, port, name, caller, sent):
         fits = until(all_in_time, 20)
         shown = ", ".join("none" if it is None else f"{it:.1f} s" for it in told)
         tally.judge(f"{MANY} connections {name} leave room for another caller", "" if fits else shown)
-        print(f"{MANY} connections {name}: {len(held.peers)} taken; another caller's slowest {max(it or 9 for it in told):.2f} s", flush=True)
+        slowest = max(it or 99 for it in told)
+        print(f"of {MANY} connections {name} {len(held.peers)} are taken; another waits {slowest:.2f} s", flush=True)

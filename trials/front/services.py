@@ -22,6 +22,15 @@ def free_port():
         return listening.getsockname()[1]
 
 
+def has_ipv6():
+    """Whether this machine has a loopback of IPv6."""
+    try:
+        socket.create_server(("::1", 0), family=socket.AF_INET6).close()
+        return True
+    except OSError:
+        return False
+
+
 class Vault:
     """A vault with one merchant, served on a port of its own; it can be killed and started again."""
 
@@ -113,7 +122,7 @@ class Front(Reloaded):
     """nginx by the file that an installation starts from, with this machine's ports and folders."""
 
     def __init__(self, configuration, first, second):
-        self.port = free_port()
+        self.port, self.health = free_port(), free_port()
         self.folder = folder = os.getcwd()
         os.makedirs("front-files", exist_ok=True)
         for name in ("server.pem", "server.key", "callers.pem", "revoked.pem"):
@@ -127,6 +136,8 @@ class Front(Reloaded):
             ("/run/vault-front", f"{folder}/bodies"),
             ("/usr/share/vault/office", f"{os.path.dirname(os.path.abspath(configuration))}/office"),
             ("listen 8443 ssl", f"listen 127.0.0.1:{self.port} ssl"),
+            ("listen [::]:8443 ssl;", f"listen [::1]:{self.port} ssl;" if has_ipv6() else ""),
+            ("127.0.0.1:8404", f"127.0.0.1:{self.health}"),
             ("127.0.0.1:8087", f"127.0.0.1:{first.port}"),
             ("# ~^/v1/merchants/shop2/ 127.0.0.1:8088", f"~^/v1/merchants/shop2/ 127.0.0.1:{second.port}"),
         ):

@@ -50,6 +50,9 @@ def judge(tally, port):
     certificates.signed("other-back", "/CN=back")
     second = asked(port, "other-back").status
     tally.judge("a second certificate of a caller is its own too", unlike(second, 200))
+    certificates.signed("two-bytes", "/CN=back", letters="MASK:0x800")
+    told = asked(port, "two-bytes").json()
+    tally.judge("a name in letters of two bytes is nobody's", unlike(told, {"front": 403}))
     certificates.signed("front-1", "/CN=back", "serverAuth")
     servers = asked(port, "front-1").json()
     tally.judge("a server's certificate is no caller's", unlike(servers, {"front": 495}))

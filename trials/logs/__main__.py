@@ -1,5 +1,6 @@
 """The whole trial: python3 -m logs PROGRAM REPOSITORY"""
 
+import contextlib
 import datetime
 import glob
 import gzip
@@ -14,7 +15,7 @@ from front.clients import NUMBER, Client
 from front.services import Front as Nginx
 from front.services import REST, two_vaults
 from haproxy.services import Front
-from logs import taken
+from logs import refusals, taken
 from logs.turned import Syslog, configured, turn
 from shared import lines
 from shared.runs import until
@@ -142,6 +143,23 @@ def kept(tally):
     tally.judge("the newest of them", "" if newest in found else f"{found[-3:]}")
 
 
+def refused(tally, name, front, repository, token):
+    """What a front refuses, in a log that begins anew, and the crowd that was refused, as it is summed up."""
+    with contextlib.closing(front):
+        many = refusals.judge(tally, name, front.port, token, by_body=name == "HAProxy")
+    told, _ = who(repository, "shop1")
+    of_back = next((line.split() for line in told if line.startswith("back ")), ["", "0", "0"])
+    counted = int(of_back[2]) >= many > 0
+    tally.judge(f"{name}: who.py counts the refused", "" if counted else f"{many}: {told}")
+    lines.judge(tally, "front.log")
+
+
+def emptied():
+    """The log begins anew."""
+    for path in glob.glob("front.log*"):
+        os.remove(path)
+
+
 def without_numbers(tally):
     """No file of the log has a number of a card, nor has what goes to syslog beside it."""
     for path in sorted(glob.glob("front.log*")):
@@ -162,9 +180,15 @@ def main(program, repository):
         vaults[0].give(REST)
         token = by_haproxy(tally, repository, vaults)
         by_nginx(tally, repository, vaults, token)
-    without_numbers(tally)
-    asked_for(tally, repository)
-    kept(tally)
+        without_numbers(tally)
+        asked_for(tally, repository)
+        kept(tally)
+        emptied()
+        with Syslog(repository):
+            refused(tally, "HAProxy", Front(repository, *vaults, log="haproxy.out"), repository, token)
+        emptied()
+        nginx = Nginx(f"{repository}/deploy/nginx.conf", *vaults)
+        refused(tally, "nginx", nginx, repository, token)
     tally.end()
 
 
