@@ -30,6 +30,7 @@ done
 for step in pause listens backup-now exporter.py; do
     place 755 "$here/$step" "/usr/lib/vault/$step"
 done
+place 755 "$here/reload" /usr/lib/vault/reload
 place 644 "$here/vault.1" /usr/share/man/man1/vault.1
 gzip -9n "$root/usr/share/man/man1/vault.1"
 place 644 "$here/vault.bash-completion" /usr/share/bash-completion/completions/vault

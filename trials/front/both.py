@@ -1,6 +1,6 @@
 """What is judged behind either front."""
 
-from front import forged, guards, subjects
+from front import authorities, forged, guards, subjects
 from front.clients import NUMBER, Client
 from front.load import MESSAGES
 from shared.tally import unlike
@@ -24,7 +24,7 @@ def forgeries(tally, front, token):
     port = front.port
     subjects.judge(tally, port)
     subjects.revoked(tally, port, front)
-    subjects.renewed(tally, port, front)
+    authorities.judge(tally, port, front)
     forged.judge(tally, port)
     forged.by_other_ways(tally, port, token)
     forged.too_large(tally, port)

@@ -125,7 +125,11 @@ def by_ipv6(tally, port):
         return
     client = Client(port, "back", host="::1")
     client.context.check_hostname = False
-    tally.judge("it listens by IPv6", unlike(client.ask("GET", "/v1/merchants/shop1/audit").status, 200))
+    try:
+        told = client.ask("GET", "/v1/merchants/shop1/audit").status
+    except OSError as error:
+        told = type(error).__name__
+    tally.judge("it listens by IPv6", unlike(told, 200))
 
 
 def health(tally, front, vault):

@@ -4,7 +4,6 @@ import contextlib
 import os
 import re
 import shutil
-import signal
 import socket
 import subprocess
 import time
@@ -13,6 +12,7 @@ from shared import shop
 
 # What a back office may do elsewhere, and not at these vaults.
 REST = {"back": ("view", "revoke", "purge")}
+RELOAD = f"{os.path.dirname(os.path.abspath(__file__))}/../../deploy/reload"
 LISTENING = re.compile(rb"listening ([0-9]+)\n")
 
 
@@ -89,29 +89,21 @@ def two_vaults(program):
 class Reloaded:
     """A front whose process has others that answer; by a signal it takes its files anew, with new ones."""
 
-    again = signal.SIGHUP
+    again = "HUP"
 
     def workers(self):
         """The processes that answer just now."""
         with open(f"/proc/{self.process.pid}/task/{self.process.pid}/children") as file:
             return set(file.read().split())
 
-    def has_taken(self, before):
-        """Whether the processes from before are over, and others answer."""
-        now = self.workers()
-        return now and not now & before
-
     def take(self, **files):
-        """Gives it other files, as `take(revoked="revoked.pem")`, and reloads it."""
+        """Gives it other files, as `take(revoked="revoked.pem")`, and reloads it by deploy/reload: what is asked
+        from then on is answered by the new ones."""
         for name, path in files.items():
             shutil.copy(path, f"front-files/{name}.pem")
-        before = self.workers()
-        self.process.send_signal(self.again)
-        for _ in range(200):
-            time.sleep(0.05)
-            if self.has_taken(before):
-                return
-        raise SystemExit("the front didn't reload\n0 passed, 1 failed")
+        pid = str(self.process.pid)
+        if subprocess.run(["sh", RELOAD, pid, "kill", f"-{self.again}", pid]).returncode:
+            raise SystemExit("the front didn't reload\n0 passed, 1 failed")
 
     def close(self):
         """The same as `end`, for a `with`."""

@@ -6,7 +6,7 @@ import sys
 import threading
 import time
 
-from front import both, certificates, guards, held
+from front import both, certificates, forged, guards, held
 from front.clients import NUMBER, Client
 from front.raw import answer, message
 from front.services import two_vaults
@@ -64,9 +64,10 @@ def refused_by_the_front(tally, port):
     # HAProxy has words of its own for what it can't read, which no configuration changes
     tally.judge("two codings are refused", unlike(answer(port, "till-1", twice).status, 422))
     for caller, target in ((None, AUDIT), ("stranger", AUDIT), ("nobody", AUDIT), ("back", "/x")):
-        told = answer(port, caller, message(f"GET {target} HTTP/1.1").replace(b"Connection: close\r\n", b""))
-        ends = told.fields.get("Connection")
-        tally.judge(f"a refusal of {caller} at {target} ends its connection", unlike(ends, "close"))
+        sent = message(f"GET {target} HTTP/1.1").replace(b"Connection: close\r\n", b"")
+        _, told = forged.passed(port, caller, sent)
+        ends = b"connection: close" in told.lower()
+        tally.judge(f"a refusal of {caller} at {target} ends its connection", "" if ends else "it goes on")
 
 
 def trailers(tally, port, vault):

@@ -44,7 +44,7 @@ def backends(vaults):
 class Front(Reloaded):
     """The master and its worker; what they log stands in front.log, and their alarms in haproxy.err."""
 
-    again = signal.SIGUSR2
+    again = "USR2"
 
     def __init__(self, repository, vault, *others, pairs=(), log="front.log"):
         self.port, self.figures, self.health = free_port(), free_port(), free_port()
@@ -91,13 +91,6 @@ class Front(Reloaded):
             time.sleep(0.05)
         self.end()
         raise SystemExit(f"the front didn't start: {open('haproxy.err').read()}\n0 passed, 1 failed")
-
-    def has_taken(self, before):
-        """Whether a new process answers."""
-        if not self.workers() - before:
-            return False
-        time.sleep(0.5)
-        return True
 
     def numbers(self):
         """What its exporter says."""
