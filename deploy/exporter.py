@@ -21,14 +21,16 @@ It asks the front for the counts of each merchant that CONFIGURATION lists, as a
 
 Merchants are asked one after the other all the time, eight at most at once, and a scrape is answered what was
 told last. So it takes no time however many there are, and vaults that hang hold up nobody. One that isn't
-answered within five seconds has `vault_up` 0 and no counts, and why stands on standard error. Certificates are
-read anew for each question. Debian's `python3-prometheus-client` and openssl are all it needs beyond Python 3.11.
+answered within five seconds has `vault_up` 0 and no counts, and why stands on standard error. Certificates
+are read anew for each question. It needs Debian's `python3-prometheus-client` and openssl beyond Python 3.11.
 """
 
+import calendar
 import collections
 import concurrent.futures
 import glob
 import http.client
+import itertools
 import json
 import os
 import re
@@ -49,12 +51,22 @@ MOST = 1000000  # tokens that a merchant has for good
 SECONDS = 5
 AT_ONCE = 8
 LEAST = 0.02  # seconds between two questions
+# How openssl is asked for an end, and how it names whose it is, and the end.
+KINDS = {
+    "x509": (("-enddate", "-subject"), "subject", "notAfter"),
+    "crl": (("-nextupdate", "-issuer"), "issuer", "nextUpdate"),
+}
 # Gauges, since they fall where a vault is restored: a counter that falls would count as one that began anew.
 COUNTS = {
     "made": ("vault_tokens_made", "Tokens made for a merchant, purged ones too."),
     "given": ("vault_numbers_given", "Card numbers that were given to callers."),
     "denied": ("vault_numbers_denied", "Card numbers that were denied to callers."),
 }
+
+
+def gauge(name, words, *labels):
+    """A metric without a value yet."""
+    return GaugeMetricFamily(name, words, labels=labels)
 
 
 def problem(error):
@@ -67,10 +79,11 @@ def problem(error):
 
 
 class Front:
-    """Asks the front, over a connection for each question, by the certificates as they stand then."""
+    """Asks the front, over a connection for each question, by the certificates as they stand then. `end` is of
+    the certificate that the front showed last."""
 
     def __init__(self, settings):
-        self.settings, self.place = settings, urllib.parse.urlsplit(settings["front"])
+        self.settings, self.place, self.end = settings, urllib.parse.urlsplit(settings["front"]), None
 
     def connection(self):
         if self.place.scheme != "https":
@@ -91,6 +104,9 @@ class Front:
         except OSError as error:
             return None, f"the certificates: {error}"
         try:
+            peer.connect()
+            if self.place.scheme == "https":
+                self.end = ssl.cert_time_to_seconds(peer.sock.getpeercert()["notAfter"])
             peer.request("GET", f"/v1/merchants/{merchant}/audit", headers={"Connection": "close"})
             answer = peer.getresponse()
             told = dict(json.loads(answer.read()))
@@ -102,17 +118,8 @@ class Front:
             return told, ""
         if told.get("away"):
             return None, "the vault is away"
-        return None, next((f"{by} {told[by]}" for by in ("refused", "front") if by in told), f"status {answer.status}")
-
-    def end(self):
-        """When the certificate ends that the front shows, or None where it shows none that is taken."""
-        try:
-            peer = self.connection()
-            peer.connect()
-        except (OSError, http.client.HTTPException):
-            return None
-        with peer.sock as sock:
-            return ssl.cert_time_to_seconds(sock.getpeercert()["notAfter"]) if self.place.scheme == "https" else None
+        said = (f"{by} {told[by]}" for by in ("refused", "front") if by in told)
+        return None, next(said, f"status {answer.status}")
 
 
 class Merchants(threading.Thread):
@@ -122,16 +129,16 @@ class Merchants(threading.Thread):
         super().__init__(daemon=True)
         self.front, self.names = front, settings["merchants"]
         self.pause = max(LEAST, settings.get("every", 30) / max(1, len(self.names)))
-        self.told, self.why = {}, {}
+        self.told, self.why, self.all_told = {}, {}, threading.Event()
 
     def run(self):
+        """Asks each in turn, at first without a pause."""
         with concurrent.futures.ThreadPoolExecutor(AT_ONCE) as pool:
             room = threading.Semaphore(AT_ONCE)
-            while True:
-                for name in self.names:
-                    room.acquire()
-                    pool.submit(self.ask, name).add_done_callback(lambda _: room.release())
-                    time.sleep(self.pause)
+            for turn, name in enumerate(itertools.cycle(self.names)):
+                room.acquire()
+                pool.submit(self.ask, name).add_done_callback(lambda _: room.release())
+                time.sleep(LEAST if turn < len(self.names) else self.pause)
 
     def ask(self, name):
         """Asks once. Why there is no answer is written where it is another reason than before."""
@@ -140,13 +147,15 @@ class Merchants(threading.Thread):
             print(f"{name}: {why}", file=sys.stderr, flush=True)
         self.why[name] = why
         self.told[name] = counts, spent
+        if len(self.told) == len(set(self.names)):
+            self.all_told.set()
 
     def collect(self):
         """Each merchant's counts, whether it was answered, and how long that took."""
-        up = GaugeMetricFamily("vault_up", "Whether a merchant's vault answered.", labels=["merchant"])
-        took = GaugeMetricFamily("vault_answer_seconds", "How long an answer took.", labels=["merchant"])
-        full = GaugeMetricFamily("vault_full_ratio", "Tokens made, of those there can be.", labels=["merchant"])
-        known = {name: GaugeMetricFamily(*words, labels=["merchant"]) for name, words in COUNTS.items()}
+        up = gauge("vault_up", "Whether a merchant's vault answered.", "merchant")
+        took = gauge("vault_answer_seconds", "How long an answer took.", "merchant")
+        full = gauge("vault_full_ratio", "Tokens made, of what there can be.", "merchant")
+        known = {name: gauge(*words, "merchant") for name, words in COUNTS.items()}
         for merchant, (told, spent) in sorted(self.told.copy().items()):
             up.add_metric([merchant], 1 if told else 0)
             took.add_metric([merchant], spent)
@@ -163,16 +172,16 @@ def told_by_openssl(kind, words, text):
     return dict(line.partition("=")[::2] for line in ran.stdout.splitlines())
 
 
-def ends_of(path, kind, end, name):
+def ends_of(path, kind):
     """Name and end of each certificate, or list, of a file."""
+    words, name, end = KINDS[kind]
     with open(path) as file:
         parts = re.findall(r"-----BEGIN [^-]+-----.*?-----END [^-]+-----\n", file.read(), re.S)
     for part in parts:
-        told = told_by_openssl(kind, (f"-{end.lower()}", f"-{name}"), part)
+        told = told_by_openssl(kind, words, part)
         found = re.search(r"CN = (.*)", told.get(name, ""))
-        moment = next((value for key, value in told.items() if key.lower() == end.lower() or key == "notAfter"), "")
-        if moment:
-            yield found[1] if found else "-", ssl.cert_time_to_seconds(moment)
+        if end in told:
+            yield found[1] if found else "-", ssl.cert_time_to_seconds(told[end])
 
 
 def ends_of_callers(pattern):
@@ -184,7 +193,7 @@ def ends_of_callers(pattern):
             name = re.fullmatch(r"/CN=([a-z0-9-]{1,16})", subject)
             if state == "V" and name and not re.search(r"(?:[0-9]-?){10}", name[1]):
                 moment = time.strptime(("20" if len(end) == 13 else "") + end, "%Y%m%d%H%M%SZ")
-                found[name[1]] = max(found[name[1]], ssl.cert_time_to_seconds(time.strftime("%b %d %H:%M:%S %Y GMT", moment)))
+                found[name[1]] = max(found[name[1]], calendar.timegm(moment))
     return found.items()
 
 
@@ -195,8 +204,8 @@ class Ends:
         self.front, self.settings = front, settings
 
     def collect(self):
-        ends = GaugeMetricFamily("vault_ends_seconds", "When a certificate or a list ends.", labels=["kind", "name"])
-        seen = GaugeMetricFamily("vault_ends_known", "Whether the ends of a kind can be read.", labels=["kind"])
+        ends = gauge("vault_ends_seconds", "When a certificate or a list ends.", "kind", "name")
+        seen = gauge("vault_ends_known", "Whether a kind's ends can be read.", "kind")
         for kind, source in self.sources().items():
             try:
                 found = list(source())
@@ -210,11 +219,11 @@ class Ends:
 
     def sources(self):
         """Where the ends of each kind are read; of the front, as it shows its certificate."""
-        named = {"front": lambda: [("front", end)] if (end := self.front.end()) else []}
+        named = {"front": lambda: [("front", self.front.end)] if self.front.end else []}
         if "authority" in self.settings:
-            named["authority"] = lambda: ends_of(self.settings["authority"], "x509", "endDate", "subject")
+            named["authority"] = lambda: ends_of(self.settings["authority"], "x509")
         if "revoked" in self.settings:
-            named["list"] = lambda: ends_of(self.settings["revoked"], "crl", "nextUpdate", "issuer")
+            named["list"] = lambda: ends_of(self.settings["revoked"], "crl")
         if "indexes" in self.settings:
             named["caller"] = lambda: ends_of_callers(self.settings["indexes"])
         return named
@@ -233,9 +242,9 @@ class Machine:
         return time.time() - time.clock_gettime(time.CLOCK_BOOTTIME)
 
     def collect(self):
-        room = GaugeMetricFamily("vault_disk_used_ratio", "What is used of a folder's disk.", labels=["folder"])
-        names = GaugeMetricFamily("vault_inodes_used_ratio", "What is used of its inodes.", labels=["folder"])
-        there = GaugeMetricFamily("vault_folder_there", "Whether a folder is there, and mounted.", labels=["folder"])
+        room = gauge("vault_disk_used_ratio", "What is used of a folder's disk.", "folder")
+        names = gauge("vault_inodes_used_ratio", "What is used of its inodes.", "folder")
+        there = gauge("vault_folder_there", "Whether it is there, and mounted.", "folder")
         for folder in self.settings.get("folders", []):
             is_there = os.path.isdir(folder)
             mounted = folder not in self.settings.get("volumes", []) or os.path.ismount(folder)
@@ -244,13 +253,13 @@ class Machine:
                 disk = os.statvfs(folder)
                 room.add_metric([folder], 1 - disk.f_bavail / (disk.f_blocks - disk.f_bfree + disk.f_bavail))
                 names.add_metric([folder], 1 - disk.f_favail / disk.f_files if disk.f_files else 0)
-        clock = GaugeMetricFamily("vault_clock_jumped_seconds", "By how much the clock jumped since a start.")
+        clock = gauge("vault_clock_jumped_seconds", "By how much the clock jumped since a start.")
         clock.add_metric([], self.apart() - self.began)
         return [room, names, there, clock, self.unwatched()]
 
     def unwatched(self):
         """Merchants of the rights files that this doesn't watch."""
-        found = GaugeMetricFamily("vault_unwatched", "A merchant with rights that isn't watched.", labels=["merchant"])
+        found = gauge("vault_unwatched", "A merchant with rights, unwatched.", "merchant")
         named = set()
         for path in self.settings.get("rights", []):
             try:
@@ -282,13 +291,18 @@ def main(path):
     with open(path, "rb") as file:
         settings = tomllib.load(file)
     front, registry = Front(settings), CollectorRegistry(auto_describe=False)
+    try:
+        front.connection()
+    except OSError as error:
+        raise SystemExit(f"the certificates can't be used: {error}") from None
     merchants = Merchants(front, settings)
     for one in (merchants, Ends(front, settings), Machine(settings)):
         registry.register(one)
     port, answering = settings.get("listen", 9187), make_wsgi_app(registry)
     with make_server("127.0.0.1", port, answering, server_class=Server, handler_class=Silent) as server:
-        print(f"listening {server.server_port}", flush=True)
         merchants.start()
+        merchants.all_told.wait(SECONDS)
+        print(f"listening {server.server_port}", flush=True)
         server.serve_forever()
 
 
