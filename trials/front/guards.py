@@ -77,6 +77,10 @@ def page(tally, port):
         tally.judge(f"{target} is what it says", unlike(told.fields.get("X-Content-Type-Options"), "nosniff"))
         stranger = Client(port, "nobody").ask("GET", target)
         tally.judge(f"{target} is not for strangers", unlike(stranger.json(), {"front": 403}))
+    told = Client(port, "back").ask("GET", "/caller").json()
+    tally.judge("the page is told who asks", unlike(told, {"caller": "back"}))
+    told = Client(port, "nobody").ask("GET", "/caller").json()
+    tally.judge("and strangers aren't", unlike(told, {"front": 403}))
     for method, target in (
         ("POST", "/"),
         ("GET", "/index.html"),

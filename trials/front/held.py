@@ -21,11 +21,12 @@ HOLDER = "127.0.0.2"
 WITHIN = 1.0  # seconds in which another caller has its answer
 PROBES = 10
 
-HANGING = "/v1/merchants/shop2/tokens"
+AUDIT = message("GET /v1/merchants/shop2/audit HTTP/1.1").replace(b"Connection: close", b"Connection: keep-alive")
+BODY = message("POST /v1/merchants/shop2/tokens HTTP/1.1", body="x" * 1000)[:-900]
 KINDS = (
-    ("without a certificate", None, message("GET /v1/merchants/shop2/audit HTTP/1.1")),
-    ("of a till", "till-2", message("GET /v1/merchants/shop2/audit HTTP/1.1").replace(b"close", b"keep-alive")),
-    ("that drip", "till-2", message(f"POST {HANGING} HTTP/1.1", body="x" * 1000)[:-900]),
+    ("without a certificate", None, AUDIT),
+    ("of a till", "till-2", AUDIT),
+    ("that drip", "till-2", BODY),
 )
 
 
@@ -43,7 +44,8 @@ class Held:
 
     def __init__(self, port, caller, sent, drips):
         self.port, self.sent, self.drips = port, sent, drips
-        self.context, self.peers, self.over = context_of(caller), [], threading.Event()
+        self.context, self.peers = context_of(caller), []
+        self.over, self.full = threading.Event(), threading.Event()
 
     def __enter__(self):
         with concurrent.futures.ThreadPoolExecutor(AT_ONCE) as pool:
@@ -59,18 +61,22 @@ class Held:
             peer.close()
 
     def begun(self):
-        """One connection with its request, or the beginning of one; nothing where the front doesn't take it."""
+        """One connection with its request, or the beginning of one; nothing where the front refuses it. Once it
+        leaves one waiting, it takes no more, and the others aren't tried."""
+        peer = None
         try:
-            peer = socket.create_connection(("127.0.0.1", self.port), 5, source_address=(HOLDER, 0))
+            if not self.full.is_set():
+                peer = socket.create_connection(("127.0.0.1", self.port), 5, source_address=(HOLDER, 0))
+                peer = self.context.wrap_socket(peer, server_hostname="localhost")
+                peer.sendall(self.sent)
+            return peer
+        except TimeoutError:
+            self.full.set()
         except OSError:
-            return None
-        try:
-            peer = self.context.wrap_socket(peer, server_hostname="localhost")
-            peer.sendall(self.sent)
-        except OSError:
+            pass
+        if peer:
             peer.close()
-            return None
-        return peer
+        return None
 
     def drip(self):
         """A byte more for each connection in a second, where they drip."""

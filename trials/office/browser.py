@@ -118,6 +118,25 @@ class Browser:
         """What a person sees of an element: nothing where it is hidden."""
         return self.ask("GET", f"{self.found(identity)}/text")
 
+    def press(self, identity, key):
+        """Presses one key where an element has the focus."""
+        self.ask("POST", f"{self.found(identity)}/value", {"text": key})
+
+    def put(self, identity, text):
+        """Puts a text as a paste does, its ends of lines too."""
+        made = "it.value = arguments[1]; it.dispatchEvent(new Event('input')); arguments[2]()"
+        self.run(f"const it = document.getElementById(arguments[0]); {made}", identity, text)
+
+    def computed(self, identity, what):
+        """The name or the role that a screen reader has for an element."""
+        return self.ask("GET", f"{self.found(identity)}/computed{what}")
+
+    def seen_as(self, **media):
+        """The page as for a medium, or as in dark."""
+        features = [{"name": "prefers-color-scheme", "value": media.get("scheme", "")}]
+        words = {"media": media.get("media", ""), "features": features}
+        self.ask("POST", "/goog/cdp/execute", {"cmd": "Emulation.setEmulatedMedia", "params": words})
+
     def run(self, script, *words):
         """What a script of the trial's says, which is run in the page."""
         return self.ask("POST", "/execute/async", {"script": script, "args": list(words)})
