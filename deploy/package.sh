@@ -64,6 +64,9 @@ done
 for client in till.py back_office.py batch.py; do
     place 755 "$top/examples/clients/$client" "$doc/examples/clients/$client"
 done
+for client in till.go Till.java till.js; do
+    place 644 "$top/examples/clients/$client" "$doc/examples/clients/$client"
+done
 place 644 "$here/debian/copyright" "$doc/copyright"
 maintainer="Montxugel maintainers <vault@montxugel.example>"
 date=$(LC_ALL=C date -R)

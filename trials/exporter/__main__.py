@@ -63,9 +63,13 @@ class Exporter:
         self.errors.close()
 
     def text(self):
+        """What a scrape is answered: nothing where that takes longer than Prometheus waits."""
         url = f"http://127.0.0.1:{self.port}/metrics"
-        with urllib.request.urlopen(url, timeout=30) as answer:
-            return answer.read().decode()
+        try:
+            with urllib.request.urlopen(url, timeout=10) as answer:
+                return answer.read().decode()
+        except OSError:
+            return ""
 
     def values(self):
         """Each value by its name and label."""

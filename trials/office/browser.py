@@ -51,7 +51,7 @@ def prepare(caller):
 class Browser:
     """One window; it is gone at the end of a `with`, and its folder of a profile stays."""
 
-    def __init__(self, home, size=(780, 830)):
+    def __init__(self, home, size=(780, 1040)):
         self.port, self.profile = free_port(), os.path.abspath("profile")
         words = ["unshare", "-m", "sh", "-c", INSIDE, "sh", os.path.abspath("policies")]
         self.driver = subprocess.Popen(
