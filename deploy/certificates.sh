@@ -199,7 +199,7 @@ sign)
     ;;
 list)
     [ $# -eq 0 ] || usage
-    # a line of the index: V (valid), R or E; its end; when it was revoked; the serial number; the file; the subject
+    # a line of the index: V (valid), R or E; its end; when it was revoked; the serial number; the file; whose it is
     awk -F '\t' -v now="$(date -u +%Y%m%d%H%M%SZ)" '{
         end = (length($2) == 13 ? "20" : "") $2
         state = $1 == "R" ? "revoked" : end < now ? "ended" : "valid"

@@ -190,7 +190,8 @@ async function lookAll(name, all) {
     open.className = "quiet";
     open.textContent = grouped(one);
     open.addEventListener("click", () => look(it));
-    const cells = told ? [told.masked, STATES[told.state] || told.state, moment(told.expires)] : [at("said").textContent, "", ""];
+    const seen = told && [told.masked, STATES[told.state] || told.state, moment(told.expires)];
+    const cells = seen || [at("said").textContent, "", ""];
     for (const content of [open, ...cells]) {
       const cell = document.createElement("td");
       cell.append(content);
@@ -212,7 +213,7 @@ at("asked").addEventListener("submit", (event) => {
   else look({ merchant: name, token: all[0] });
 });
 
-// A line's end of its own is for a column that is typed: with Shift. A column that was pasted shows more lines.
+// Enter looks up; with Shift it begins another line of a column. A column that was pasted shows more lines.
 at("token").addEventListener("keydown", (event) => {
   if (event.key !== "Enter" || event.shiftKey) return;
   event.preventDefault();

@@ -51,7 +51,7 @@ public final class Till {
     private final SSLContext identity;
     private final int tries;
 
-    /** What is told of a request: a line to print, or why there is none and after how many seconds to ask again. */
+    /** What is told of a request: a line to print, or why there is none and after how many seconds to ask. */
     private record Told(String line, String why, long after) {
         boolean isRefused() {
             return line != null && line.startsWith("refused");
@@ -144,7 +144,8 @@ public final class Till {
 
     private static Certificate[] certificates(String path) throws IOException, GeneralSecurityException {
         try (InputStream file = Files.newInputStream(Path.of(path))) {
-            return CertificateFactory.getInstance("X.509").generateCertificates(file).toArray(new Certificate[0]);
+            var found = CertificateFactory.getInstance("X.509").generateCertificates(file);
+            return found.toArray(new Certificate[0]);
         }
     }
 
@@ -165,7 +166,7 @@ public final class Till {
         }
         KeyManagerFactory keys = KeyManagerFactory.getInstance(KeyManagerFactory.getDefaultAlgorithm());
         keys.init(own, new char[0]);
-        TrustManagerFactory trusted = TrustManagerFactory.getInstance(TrustManagerFactory.getDefaultAlgorithm());
+        var trusted = TrustManagerFactory.getInstance(TrustManagerFactory.getDefaultAlgorithm());
         trusted.init(known);
         SSLContext context = SSLContext.getInstance("TLS");
         context.init(keys.getKeyManagers(), trusted.getTrustManagers(), RANDOM);

@@ -7,9 +7,9 @@
 ROWS is what `vault batch` takes, `request,number,use`, and ANSWERS becomes what it prints, line for line:
 `request,answer,detail` in the order of the rows. Where ANSWERS is there already, a run that was stopped goes
 on behind its last whole line. A row that has no line yet is sent again with its request number, whether or
-not it was answered before: the vault answers its first token. A merchant that isn't known is asked for again for
-some seconds where a front is between: its route may be on its way. Rows with the same request number are sent one
-after the other, in their order. There may be any number of rows; the caller is that of the certificate.
+not it was answered before: the vault answers its first token. A merchant that isn't known is asked for again
+for some seconds where a front is between: its route may be on its way. Rows with the same request number are
+sent one after the other, in their order. There may be any number of rows; the caller is that of the certificate.
 
 The exit status is that of `vault batch`: 0, or 1 where a row is refused, or 4 where it stopped at a row that
 isn't three fields (44), at another first line (40) or for want of an answer. A front that refuses the caller

@@ -5,8 +5,8 @@
 //
 // It reads card numbers from standard input, one a line, and prints a token and its end for each, or `refused`
 // and the vault's number, or `refused front` and the front's. Where no answer came, or one that says to come
-// again, the same request is sent again with the same number. A request number is drawn below 2^48, far from where a
-// Number loses its last digits, 2^53. The exit status is 1 where a request was refused or unanswered.
+// again, the same request is sent again with the same number. A request number is drawn below 2^48, far from
+// where a Number loses its last digits, 2^53. The exit status is 1 where a request was refused or unanswered.
 "use strict";
 const crypto = require("crypto");
 const fs = require("fs");
@@ -87,7 +87,8 @@ async function token(till, number) {
     try {
       told = judged(await sent(till, fields, number), unknown >= UNKNOWN_TRIES - 1 || turn === till.tries - 1);
     } catch (error) {
-      if (/CERT|SELF_SIGNED|ISSUER/.test(error.code || "")) end(`the front's certificate isn't trusted: ${error.code}`);
+      const isUntrusted = /CERT|SELF_SIGNED|ISSUER/.test(error.code || "");
+      if (isUntrusted) end(`the front's certificate isn't trusted: ${error.code}`);
       told = { why: error.code || error.message, after: 0 };
     }
     if (told.line) return told;

@@ -7,10 +7,10 @@ It reads card numbers from standard input, one a line, and prints a token and it
 is refused isn't repeated: its line is `refused` and the vault's number, or `refused front` and the front's.
 Each new request has a number of its own, drawn from the system's randomness. Where an answer is lost, the
 vault is away or the front has too many requests, the same request is sent again with the same number, after a
-pause that doubles up to ten seconds: the vault answers its first token, so no request is done twice. A merchant
-that isn't known is asked for again for some seconds where a front is between: its route may be on its way. Each
-request has a reference, by which the front's log has it. The exit status is 1 where a request was refused or has
-no answer.
+pause that doubles up to ten seconds: the vault answers its first token, so no request is done twice. A
+merchant that isn't known is asked for again for some seconds where a front is between: its route may be on its
+way. Each request has a reference, by which the front's log has it. The exit status is 1 where a request was
+refused or has no answer.
 """
 
 import argparse

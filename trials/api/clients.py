@@ -49,7 +49,7 @@ class Examples:
         return subprocess.Popen([*begins, *words], stdin=pipe, stdout=pipe, stderr=pipe, text=True)
 
     def make(self):
-        """The tills in other languages, of which each is there whose tools are; they lie in the first folder."""
+        """The tills in other languages, as far as their tools are there; they lie in the first folder."""
         here = os.getcwd()
         shown = {"stdout": subprocess.DEVNULL, "check": True, "env": {"GOCACHE": f"{here}/go", **os.environ}}
         if shutil.which("node"):
@@ -107,7 +107,7 @@ def tills(tally, examples, port, till="till"):
     ):
         fault = ended(examples.till(port, name=till, **words), 1, f"refused front {number}\n", "refused")
         tally.judge(f"{till} {name} is refused once", fault)
-    told = examples.till(port, shop="nobody", name=till, given=NUMBER)
+    told = examples.till(port, "--tries", "3", shop="nobody", name=till)
     fault = unlike((told.status, told.out), (1, "refused 7\n"))
     often = told.err.count("refused 7") >= 2
     tally.judge(f"{till} asks again for a merchant that isn't known", fault or ("" if often else told.err))

@@ -1,5 +1,4 @@
-"""A front whose first answer is lost, and whose second says that the merchant isn't known: what clients make of
-it."""
+"""A front whose first answer is lost, and whose second says that the merchant isn't known."""
 
 import http.server
 import json
@@ -68,7 +67,9 @@ def judge(tally, examples, port):
         seen = len(front.asked), len(set(front.asked)), made(port) - before, told.status
         tally.judge(f"{name}: an answer that is lost, a route on its way", unlike(seen, (3, 1, 1, 0)))
         token = json.loads(front.answers[-1][1]).get("token", "-") if front.answers else "-"
-        tally.judge(f"{name} has its first token", "" if told.out.startswith(f"{token} ") else told.out + told.err)
+        tally.judge(
+            f"{name} has its first token", "" if told.out.startswith(f"{token} ") else told.out + told.err
+        )
     front = Losing(port)
     with open("lost.csv", "w") as file:
         file.write(f"request,number,use\n400001,{NUMBER},single\n400002,{NUMBER},single\n")
@@ -76,7 +77,9 @@ def judge(tally, examples, port):
     told = examples.run("batch", *words, by="till-1")
     front.end()
     lines = open("lost.out").read().splitlines()
-    tally.judge("a batch asks again too", unlike((told.status, len(lines), "refused" in str(lines)), (0, 3, False)))
+    tally.judge(
+        "a batch asks again too", unlike((told.status, len(lines), "refused" in str(lines)), (0, 3, False))
+    )
     with open("unknown.csv", "w") as file:
         file.write(f"request,number,use\n400003,{NUMBER},single\n400004,{NUMBER},single\n")
     words = (f"https://localhost:{port}", "nobody", "unknown.csv", "unknown.out")

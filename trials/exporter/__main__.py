@@ -48,9 +48,7 @@ class Exporter:
         words = [python, f"{repository}/deploy/exporter.py", "exporter.toml"]
         self.errors = open("exporter.err", "w+")
         more = {"env": {**os.environ, **environment}} if environment else {}
-        self.process = subprocess.Popen(
-            words, stdout=subprocess.PIPE, stderr=self.errors, text=True, **more
-        )
+        self.process = subprocess.Popen(words, stdout=subprocess.PIPE, stderr=self.errors, text=True, **more)
         found = re.fullmatch(r"listening ([0-9]+)\n", self.process.stdout.readline())
         self.port = int(found[1]) if found else 0
 
@@ -73,7 +71,7 @@ class Exporter:
 
     def values(self):
         """Each value by its name and label."""
-        found = re.findall(r'(?m)^([a-z_]+)(?:\{(.*)\})? ([0-9.e+-]+)$', self.text())
+        found = re.findall(r"(?m)^([a-z_]+)(?:\{(.*)\})? ([0-9.e+-]+)$", self.text())
         return {(name, ",".join(re.findall(r'"([^"]*)"', it))): float(value) for name, it, value in found}
 
     def says(self, name, label, wanted, seconds=10):
@@ -121,15 +119,15 @@ def counted(tally, exporter, port):
         ("vault_ends_known", "caller", 1),
     ):
         tally.judge(f"{name} of {label}", unlike(seen.get((name, label)), wanted))
-    tally.judge(
-        "no count of one that isn't known", unlike(("vault_tokens_made", "nobody") in seen, False)
-    )
+    tally.judge("no count of one that isn't known", unlike(("vault_tokens_made", "nobody") in seen, False))
     tally.judge("which it tells", "" if "nobody: refused 7" in exporter.told() else exporter.told())
     used = seen.get(("vault_disk_used_ratio", "."), 0)
     tally.judge("the disk's use", "" if 0 < used < 1 else f"{used}")
     used = seen.get(("vault_inodes_used_ratio", "."), -1)
     tally.judge("its inodes' use", "" if 0 <= used < 1 else f"{used}")
-    tally.judge("the clock didn't jump", "" if abs(seen.get(("vault_clock_jumped_seconds", ""), 9)) < 1 else f"{seen}")
+    tally.judge(
+        "the clock didn't jump", "" if abs(seen.get(("vault_clock_jumped_seconds", ""), 9)) < 1 else f"{seen}"
+    )
     text = exporter.text()
     tally.judge("no number and no token in it", "it is there" if NUMBER in text or first in text else "")
     linted = subprocess.run(["promtool", "check", "metrics"], input=text, capture_output=True, text=True)
@@ -168,25 +166,33 @@ def without(tally, python, repository, front):
 
 
 def ends(tally, exporter):
-    """The ends of certificates: of each caller the one that lasts longest, of the front, authorities and lists."""
+    """The ends of certificates: of each caller the last one, of the front, authorities and lists."""
     exporter.says("vault_ends_known", "front", 1)
     seen, now = exporter.values(), time.time()
     for label, days in (("caller,till-3", 20), ("caller,till-4", 397), ("front,front", 397)):
         left = (seen.get(("vault_ends_seconds", label), 0) - now) / DAY
         tally.judge(f"the end of {label}", "" if days - 1 < left <= days else f"{left} days")
     for kind in ("authority", "list"):
-        found = [value for (metric, label), value in seen.items() if metric == "vault_ends_seconds" and label.startswith(f"{kind},")]
+        found = [
+            value
+            for (metric, label), value in seen.items()
+            if metric == "vault_ends_seconds" and label.startswith(f"{kind},")
+        ]
         late = all(3649 < (it - now) / DAY <= 3650 for it in found)
         tally.judge(f"the ends of two of {kind}", unlike((len(found), late), (2, True)))
-    tally.judge("no end of what was taken back", unlike(("vault_ends_seconds", "caller,till-9") in seen, False))
+    tally.judge(
+        "no end of what was taken back", unlike(("vault_ends_seconds", "caller,till-9") in seen, False)
+    )
 
 
 def hung(tally, python, repository, front, vault):
-    """Sixty merchants of a vault that hangs, and a connection that says nothing: a scrape takes no time, and the
-    other vault's merchant is asked as ever."""
+    """Sixty merchants of a vault that hangs, and a connection that says nothing: a scrape takes no time, and
+    the other vault's merchant is asked as ever."""
     merchants = ["shop2", *(f"many-{it}" for it in range(60))]
     route = open("haproxy.cfg").read()
-    tally.judge("a merchant without a line is the first vault's", "" if "default_backend vault" in route else route)
+    tally.judge(
+        "a merchant without a line is the first vault's", "" if "default_backend vault" in route else route
+    )
     with Exporter(python, repository, front.port, merchants=merchants) as exporter:
         tally.judge("the other vault's merchant is seen", unlike(exporter.says("vault_up", "shop2", 1), True))
         silent = socket.create_connection(("127.0.0.1", exporter.port))
@@ -228,7 +234,11 @@ def jumped(tally, python, repository, port):
         return
     with open("clock", "w") as file:
         file.write("+0")
-    moved = {"LD_PRELOAD": FAKETIME, "FAKETIME_TIMESTAMP_FILE": os.path.abspath("clock"), "FAKETIME_NO_CACHE": "1"}
+    moved = {
+        "LD_PRELOAD": FAKETIME,
+        "FAKETIME_TIMESTAMP_FILE": os.path.abspath("clock"),
+        "FAKETIME_NO_CACHE": "1",
+    }
     with Exporter(python, repository, port, FAKETIME_DONT_FAKE_MONOTONIC="1", **moved) as exporter:
         exporter.values()
         with open("clock", "w") as file:
@@ -265,7 +275,12 @@ def prepare():
     certificates.untaken()
     certificates.by_script("caller", ".", "watch")
     certificates.by_script("authority", "second")
-    for folder, name, days in ((".", "till-3", "20"), (".", "till-4", "20"), ("second", "till-4", "397"), (".", "till-9", "9")):
+    for folder, name, days in (
+        (".", "till-3", "20"),
+        (".", "till-4", "20"),
+        ("second", "till-4", "397"),
+        (".", "till-9", "9"),
+    ):
         os.environ["DAYS"] = days
         certificates.by_script("caller", folder, name)
     del os.environ["DAYS"]

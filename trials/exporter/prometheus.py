@@ -1,4 +1,4 @@
-"""A real Prometheus with the alerts as they are shipped, but for their patience, before a target of the trial's."""
+"""A real Prometheus with the alerts as they are shipped, but for their patience, before a target of its own."""
 
 import http.server
 import json
@@ -113,7 +113,9 @@ class Prometheus:
     def ask(self, target):
         """What its own API answers, or nothing while it starts."""
         try:
-            with urllib.request.urlopen(f"http://127.0.0.1:{self.port}/api/v1/{target}", timeout=10) as answer:
+            with urllib.request.urlopen(
+                f"http://127.0.0.1:{self.port}/api/v1/{target}", timeout=10
+            ) as answer:
                 return json.load(answer)["data"]
         except OSError:
             return {}

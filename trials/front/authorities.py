@@ -56,7 +56,10 @@ def signed(tally):
         file.write(broken)
     words = ["sh", certificates.SCRIPT, "sign", "next", "till-5", "broken.csr"]
     ran = subprocess.run(words, capture_output=True, text=True)
-    tally.judge("a request that its key didn't sign isn't", unlike((ran.returncode, "no request" in ran.stderr), (1, True)))
+    tally.judge(
+        "a request that its key didn't sign isn't",
+        unlike((ran.returncode, "no request" in ran.stderr), (1, True)),
+    )
 
 
 def one_of_several(tally):
@@ -74,7 +77,7 @@ def one_of_several(tally):
 
 
 def renewed(tally, port, front):
-    """Two authorities while one follows the other, and a till of the first is stolen; then the new one alone."""
+    """Two authorities while one follows the other, and a till of the first is stolen; then the new one."""
     os.makedirs("place", exist_ok=True)
     with open("place/callers.pem", "w") as both:
         both.writelines(open(path).read() for path in ("callers.pem", "next/callers.pem"))

@@ -151,7 +151,9 @@ def health(tally, front, vault):
             peer.close()
 
     tally.judge("a vault listens", unlike(told(), (200, {"vault": "listens"})))
-    tally.judge("nothing else is told there", unlike(told("/v1/merchants/shop1/audit"), (404, {"front": 404})))
+    tally.judge(
+        "nothing else is told there", unlike(told("/v1/merchants/shop1/audit"), (404, {"front": 404}))
+    )
     os.kill(vault.process.pid, signal.SIGSTOP)
     try:
         tally.judge("a vault that hangs is silent", unlike(told(), (504, {"vault": "silent"})))

@@ -21,7 +21,9 @@ HOLDER = "127.0.0.2"
 WITHIN = 1.0  # seconds in which another caller has its answer
 PROBES = 10
 
-AUDIT = message("GET /v1/merchants/shop2/audit HTTP/1.1").replace(b"Connection: close", b"Connection: keep-alive")
+AUDIT = message("GET /v1/merchants/shop2/audit HTTP/1.1").replace(
+    b"Connection: close", b"Connection: keep-alive"
+)
 BODY = message("POST /v1/merchants/shop2/tokens HTTP/1.1", body="x" * 1000)[:-900]
 KINDS = (
     ("without a certificate", None, AUDIT),
@@ -31,7 +33,7 @@ KINDS = (
 
 
 def context_of(caller):
-    """What a connection of a caller, or of nobody, begins with. Whoever holds it doesn't ask who the front is."""
+    """What a connection of a caller, or of nobody, begins with. It doesn't ask who the front is."""
     context = ssl.SSLContext(ssl.PROTOCOL_TLS_CLIENT)
     context.check_hostname, context.verify_mode = False, ssl.CERT_NONE
     if caller:
@@ -126,4 +128,7 @@ def judge_kind(tally, port, name, caller, sent):
         shown = ", ".join("none" if it is None else f"{it:.1f} s" for it in told)
         tally.judge(f"{MANY} connections {name} leave room for another caller", "" if fits else shown)
         slowest = max(it or 99 for it in told)
-        print(f"of {MANY} connections {name} {len(held.peers)} are taken; another waits {slowest:.2f} s", flush=True)
+        print(
+            f"of {MANY} connections {name} {len(held.peers)} are taken; another waits {slowest:.2f} s",
+            flush=True,
+        )

@@ -97,8 +97,8 @@ class Reloaded:
             return set(file.read().split())
 
     def take(self, **files):
-        """Gives it other files, as `take(revoked="revoked.pem")`, and reloads it by deploy/reload: what is asked
-        from then on is answered by the new ones."""
+        """Gives it other files, as `take(revoked="revoked.pem")`, and reloads it by deploy/reload: what is
+        asked from then on is answered by the new ones."""
         for name, path in files.items():
             shutil.copy(path, f"front-files/{name}.pem")
         pid = str(self.process.pid)

@@ -74,7 +74,10 @@ def trailers(tally, port, vault):
     """A body in chunks, and what stands behind it, isn't handed on: it is refused also where nobody is there to
     hand it to."""
     vault.kill()
-    sent = message(f"POST {TOKENS} HTTP/1.1", "Transfer-Encoding: chunked") + b"0\r\nX-Vault-Caller: back\r\n\r\n"
+    sent = (
+        message(f"POST {TOKENS} HTTP/1.1", "Transfer-Encoding: chunked")
+        + b"0\r\nX-Vault-Caller: back\r\n\r\n"
+    )
     statuses, _ = forged.passed(port, "guest", sent)
     vault.start()
     tally.judge("a trailer isn't handed on", unlike(statuses, [411]))
@@ -163,7 +166,11 @@ def main(program, repository):
             waits.gone(tally, front.port, first, front)
             waits.crowded(tally, front.port, first)
         # less patience, and fewer requests than a caller may have otherwise
-        less = ("retries 240", "retries 4"), ("rate gt 2000", "rate gt 20"), ("gpc1_rate ge 1000", "gpc1_rate ge 4")
+        less = (
+            ("retries 240", "retries 4"),
+            ("rate gt 2000", "rate gt 20"),
+            ("gpc1_rate ge 1000", "gpc1_rate ge 4"),
+        )
         with at_a_front(repository, vaults, *less) as front:
             by_day(tally, front.port, token)
             floods(tally, front.port)

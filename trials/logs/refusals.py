@@ -22,20 +22,32 @@ def requests(token, purged):
     of_back = {**masked, "caller": "back"}
     by_number = {**of_back, "asked": "detokenize"}
     foreign = {"Sec-Fetch-Site": "cross-site"}
-    yield "ref-foreign", "back", "POST", revoke, foreign, {**of_back, "asked": "revoke", "refused": "front 403"}
+    yield "ref-foreign", "back", "POST", revoke, foreign, {
+        **of_back,
+        "asked": "revoke",
+        "refused": "front 403",
+    }
     yield "ref-expired", "expired", "POST", number, {}, {**by_number, "refused": "front 495 expired"}
     stranger = {**by_number, "caller": "-", "refused": "front 495"}
     yield "ref-stranger", "stranger", "POST", number, {}, stranger
     yield "ref-nobody", None, "POST", number, {}, {**stranger, "refused": "front 496"}
     yield "ref-nameless", "nobody", "POST", number, {}, {**stranger, "refused": "front 403"}
     yield "ref-guest", "guest", "POST", number, {}, {**by_number, "caller": "guest", "refused": "8"}
-    yield "ref-live", "back", "DELETE", f"{TOKENS}/{token}", {}, {**of_back, "asked": "purge", "refused": "17"}
+    yield "ref-live", "back", "DELETE", f"{TOKENS}/{token}", {}, {
+        **of_back,
+        "asked": "purge",
+        "refused": "17",
+    }
     yield "ref-unknown", "back", "GET", f"{TOKENS}/0000000000009999", {}, {"refused": "13"}
     yield "ref-merchant", "back", "GET", "/v1/merchants/nobody/audit", {}, {"refused": "7", "asked": "audit"}
     yield "ref-typed", "back", "GET", f"{TOKENS}/{NUMBER}", {}, {"refused": "3", "token": "****1111"}
     yield "ref-purged", "back", "GET", f"{TOKENS}/{purged}", {}, {"refused": "14", "asked": "view"}
     yield "ref-outside", "back", "GET", "/x", {}, {"refused": "front 404", "caller": "back"}
-    yield "case 17/2026: a chargeback", "back", "POST", number, {}, {**by_number, "refused": "-", "status": 200}
+    yield "case 17/2026: a chargeback", "back", "POST", number, {}, {
+        **by_number,
+        "refused": "-",
+        "status": 200,
+    }
     card = {"caller": "****", "refused": "8"}
     yield "ref-card", NAMED_AS_A_CARD, "GET", "/v1/merchants/shop1/audit", {}, card
     ordered = {"merchant": "shop1", "asked": "tokenize"}

@@ -67,8 +67,8 @@ def looked_up(walk, token):
 
 
 def number_shown(walk):
-    """The number is there for half a minute, and then nowhere in the page, whatever the clock says. The case for
-    which it was brought back stands in the log."""
+    """The number is there for half a minute, and then nowhere in the page, whatever the clock says. The case
+    for which it was brought back stands in the log."""
     walk.browser.type("case", NUMBER)
     before = len(lines.read("front.log"))
     walk.browser.click("number")
@@ -223,7 +223,9 @@ def edges(walk):
     """The edges of fields have three to one against what is around them, in light and in dark."""
     for scheme in ("light", "dark"):
         walk.browser.seen_as(scheme=scheme)
-        styles = "[getComputedStyle(at('merchant')).borderTopColor, getComputedStyle(at('asked')).backgroundColor]"
+        styles = (
+            "[getComputedStyle(at('merchant')).borderTopColor, getComputedStyle(at('asked')).backgroundColor]"
+        )
         dark, light = sorted(luminance(it) for it in walk.browser.value(styles))
         ratio = (light + 0.05) / (dark + 0.05)
         walk.tally.judge(f"the fields' edges in {scheme}", "" if ratio >= 3 else f"{ratio:.1f} to 1")
