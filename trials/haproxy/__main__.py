@@ -165,11 +165,13 @@ def main(program, repository):
             waits.stopped(tally, front.port, first)
             waits.gone(tally, front.port, first, front)
             waits.crowded(tally, front.port, first)
-        # less patience, and fewer requests than a caller may have otherwise
+        # less patience, fewer requests than a caller may have otherwise, and a client that says nothing for longer
+        # than it may otherwise: while it waits for the vault it is none
         less = (
             ("retries 240", "retries 4"),
             ("rate gt 2000", "rate gt 20"),
             ("gpc1_rate ge 1000", "gpc1_rate ge 4"),
+            ("timeout client 15s", "timeout client 1s"),
         )
         with at_a_front(repository, vaults, *less) as front:
             by_day(tally, front.port, token)

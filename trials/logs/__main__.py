@@ -151,6 +151,12 @@ def refused(tally, name, front, repository, token):
     of_back = next((line.split() for line in told if line.startswith("back ")), ["", "0", "0"])
     counted = int(of_back[2]) >= many > 0
     tally.judge(f"{name}: who.py counts the refused", "" if counted else f"{many}: {told}")
+    words = ("--asked", "tokenize", "--each", "--request", "9223372036854775807")
+    found = who(repository, "shop1", *words)[0]
+    fits = (
+        len(found) == 1 and " guest " in found[0] and "request 922337***5807 reference ref-long" in found[0]
+    )
+    tally.judge(f"{name}: a request is found by its number", "" if fits else f"{found}")
     lines.judge(tally, "front.log")
 
 
