@@ -2,8 +2,9 @@
 # package.sh PROGRAM FOLDER
 #
 # Builds a Debian package of the built program in FOLDER, for amd64 alone, as the program is: the program, its
-# units, its man page, completions for bash, the page for the back office, the pages for those who run it, and
-# as examples both fronts, the scripts of this folder and three clients. It prints the package's name.
+# units with their scripts, its man page, completions for bash, the page for the back office, the pages for those
+# who run it, and as examples both fronts, other scripts of this folder and three clients. It prints the package's
+# name. An image without /usr/share/doc lacks nothing but the pages.
 #
 # The package makes the user `vault` and the folder /var/lib/vault. It starts nothing, and its removal takes
 # away neither the folder nor a vault's file.
@@ -24,17 +25,21 @@ place 755 "$program" /usr/bin/vault
 strip --strip-all "$root/usr/bin/vault"
 for unit in vault.service vault-failed.service \
     vault-backup.service vault-backup-failed.service vault-backup.timer \
-    vault@.service vault-failed@.service vault-backup@.service vault-backup@.timer vault-exporter.service; do
+    vault@.service vault-failed@.service vault-backup@.service vault-backup@.timer vault-watch@.service \
+    vault-exporter.service; do
     place 644 "$here/$unit" "/lib/systemd/system/$unit"
 done
-for step in pause listens backup-now exporter.py; do
+for step in pause room port listens answers watch thaw alarm counted backup-now backup.sh restore.sh again.sh \
+    exporter.py; do
     place 755 "$here/$step" "/usr/lib/vault/$step"
 done
+place 755 "$here/vault-look" /usr/bin/vault-look
 place 755 "$here/reload" /usr/lib/vault/reload
 place 644 "$here/vault.1" /usr/share/man/man1/vault.1
 gzip -9n "$root/usr/share/man/man1/vault.1"
 place 644 "$here/vault.bash-completion" /usr/share/bash-completion/completions/vault
 doc=/usr/share/doc/vault
+examples=/usr/share/vault/examples
 for page in OPERATING.md SCALE.md API.md REFUSALS.md PROVED.md MODEL.md DEFINITIONS.md TRIALS.md LIMITS.md \
     DECISIONS.md openapi.yaml; do
     place 644 "$top/docs/$page" "$doc/$page"
@@ -48,24 +53,22 @@ done
 place 644 "$top/SECURITY.md" "$doc/SECURITY.md"
 place 644 "$top/CHANGELOG.md" "$doc/CHANGELOG.md"
 for file in nginx.conf haproxy.cfg alerts.yaml; do
-    place 644 "$here/$file" "$doc/examples/$file"
+    place 644 "$here/$file" "$examples/$file"
 done
 for file in logrotate rsyslog.conf; do
-    place 644 "$here/logs/$file" "$doc/examples/logs/$file"
+    place 644 "$here/logs/$file" "$examples/logs/$file"
 done
-place 755 "$here/logs/who.py" "$doc/examples/logs/who.py"
+place 755 "$here/logs/who.py" "$examples/logs/who.py"
 for file in index.html office.css office.js; do
     place 644 "$here/office/$file" "/usr/share/vault/office/$file"
 done
-place 755 "$top/examples/rebuild.sh" "$doc/examples/rebuild.sh"
-for script in backup.sh restore.sh certificates.sh; do
-    place 755 "$here/$script" "$doc/examples/$script"
-done
+place 755 "$top/examples/rebuild.sh" "$examples/rebuild.sh"
+place 755 "$here/certificates.sh" "$examples/certificates.sh"
 for client in till.py back_office.py batch.py; do
-    place 755 "$top/examples/clients/$client" "$doc/examples/clients/$client"
+    place 755 "$top/examples/clients/$client" "$examples/clients/$client"
 done
 for client in till.go Till.java till.js; do
-    place 644 "$top/examples/clients/$client" "$doc/examples/clients/$client"
+    place 644 "$top/examples/clients/$client" "$examples/clients/$client"
 done
 place 644 "$here/debian/copyright" "$doc/copyright"
 maintainer="Montxugel maintainers <vault@montxugel.example>"

@@ -6,11 +6,15 @@
 # sound, with the merchants, tokens and requests that COPY.sound says: a copy that lost its log would pass as
 # an older vault or an empty one. `--unlisted` takes a copy without COPY.sound as it is.
 #
+# FILE never has a second name, which the program would refuse. A cut of the power leaves FILE whole, or FILE-wal
+# alone without it, which is removed before this is called again. Beside the copy it leaves its counts as
+# `restored`, so that the next copy in that folder may have fewer than the last one.
+#
 # FILE belongs to whoever runs this; `chown vault:vault FILE` gives it to the service's user. The copy stays.
 # VAULT names the program; it is `vault` if left out.
 set -eu
 umask 077
-program=${VAULT:-vault}
+lib=$(cd "$(dirname "$0")" && pwd)
 fail() {
     echo "restore.sh: $1" >&2
     exit 1
@@ -30,23 +34,27 @@ for name in "$file" "$file-wal"; do
     [ ! -e "$name" ] || fail "$name is there already"
 done
 
-# What a check says of a file. That it has a log needn't be said here.
-checked() {
-    said=$("$program" check "$1" 2>&1) || { echo "$said" >&2; return 1; }
-    echo "$said" | sed -n '/^sound /p'
+# Gives a part its name, and writes over nothing: `mv -n` leaves it where something has got the name meanwhile.
+named() {
+    mv -nT -- "$1" "$2"
+    [ ! -e "$1" ] || fail "$2 is there already"
+    sync -- "$(dirname "$2")"
 }
 
 part=$file.part
 trap 'rm -f "$part" "$part-wal"' EXIT
-cp -- "$copy" "$part"
-[ ! -e "$copy-wal" ] || cp -- "$copy-wal" "$part-wal"
-told=$(checked "$part") || fail "the copy isn't sound"
+trap 'exit 1' HUP INT TERM
+cp --reflink=auto -- "$copy" "$part"
+[ ! -e "$copy-wal" ] || cp --reflink=auto -- "$copy-wal" "$part-wal"
+told=$("$lib/counted" "$part") || fail "the copy isn't sound"
 if [ -f "$copy.sound" ] && [ "$told" != "$(cat "$copy.sound")" ]; then
     fail "the copy was $(cat "$copy.sound"), and is $told now: is its log $copy-wal missing?"
 fi
 echo "$told"
-sync
-[ ! -e "$part-wal" ] || mv -- "$part-wal" "$file-wal"
-# a link is refused where something has got the name meanwhile
-ln -- "$part" "$file"
-sync
+sync -- "$part"
+if [ -e "$part-wal" ]; then
+    sync -- "$part-wal"
+    named "$part-wal" "$file-wal"
+fi
+named "$part" "$file"
+echo "$told" 2> /dev/null > "$(dirname "$copy")/restored" || :

@@ -36,6 +36,7 @@ try disk.sh all
 try damage.sh all
 try memory.sh all
 try bytes.sh --streams 3000
+try units.sh 2000 all
 for script in front haproxy office exporter logs batch spread; do
     try "$script.sh"
 done

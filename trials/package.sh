@@ -32,28 +32,38 @@ fi
 dpkg-deb -c "$package" | awk '{ print $1, $6 }' > inside
 step "its root is open" "$(holds grep -qx 'drwxr-xr-x ./' inside)" "$(head -n 1 inside)"
 for name in OPERATING.md SCALE.md API.md REFUSALS.md PROVED.md SECURITY.md CHANGELOG.md openapi.yaml \
-    examples/nginx.conf examples/certificates.sh examples/backup.sh examples/restore.sh examples/rebuild.sh \
-    examples/clients/till.py examples/clients/back_office.py examples/clients/batch.py examples/haproxy.cfg \
-    examples/alerts.yaml examples/logs/logrotate examples/logs/rsyslog.conf \
-    examples/logs/who.py; do
+    TRIALS.md; do
     step "$name is in it" "$(holds grep -q " ./usr/share/doc/vault/$name\$" inside)"
 done
-for name in index.html office.css office.js; do
-    step "$name of the page is in it" "$(holds grep -q " ./usr/share/vault/office/$name\$" inside)"
+for name in share/vault/examples/nginx.conf share/vault/examples/certificates.sh share/vault/examples/rebuild.sh \
+    share/vault/examples/clients/till.py share/vault/examples/clients/back_office.py \
+    share/vault/examples/clients/batch.py share/vault/examples/haproxy.cfg share/vault/examples/alerts.yaml \
+    share/vault/examples/logs/logrotate share/vault/examples/logs/rsyslog.conf share/vault/examples/logs/who.py \
+    share/vault/office/index.html share/vault/office/office.css share/vault/office/office.js bin/vault-look; do
+    step "$name is in it" "$(holds grep -q " ./usr/$name\$" inside)"
 done
+# What a unit or one of its scripts calls is in it, and isn't among the documents, which an image may leave out.
+sed -n 's#^Exec[A-Za-z]*=[+-]*\(/usr/[^ ]*\).*#\1#p' "$deploy"/*.service | grep /vault > called
+for script in $(sed -n 's#^/usr/lib/vault/##p' called | sort -u); do
+    grep -o '/usr/lib/vault/[a-z.-]*\|\$lib/[a-z.-]*' "$deploy/$script" | sed 's#^\$lib#/usr/lib/vault#' || :
+done >> called
+for name in $(sort -u called); do
+    step "$name is in it, which a unit calls" "$(holds grep -q " .$name\$" inside)"
+done
+step "no unit needs a document" "$(if grep -q /usr/share/doc called; then echo no; else echo yes; fi)" "$(cat called)"
 dpkg-deb -f "$package" > control
 step "its address can be written to" "$(if grep -qi noreply control; then echo no; else echo yes; fi)"
 
 # The units, with programs that are there.
 mkdir unit
 for unit in vault vault-failed vault-backup vault-backup-failed vault@ vault-failed@ vault-backup@ \
-    vault-exporter; do
+    vault-watch@ vault-exporter; do
     sed -e "s#/usr/bin/vault#$program#" -e "s#/usr/lib/vault/#$PWD/lib/#" "$deploy/$unit.service" \
         > "unit/$unit.service"
 done
 cp "$deploy/vault-backup.timer" "$deploy/vault-backup@.timer" unit
 mkdir lib
-cp "$deploy/pause" "$deploy/listens" "$deploy/backup-now" "$deploy/exporter.py" lib
+for name in $(sed -n 's#^/usr/lib/vault/##p' called | sort -u); do cp "$deploy/$name" lib; done
 if need systemd-analyze systemd; then
     step "the units are verified" "$(holds systemd-analyze verify --man=no unit/*)" "$(cat said)"
     step "nothing is said of them" "$([ -s said ] && echo no || echo yes)" "$(cat said)"
@@ -63,9 +73,16 @@ if need systemd-analyze systemd; then
     step "its exposure is at most 1.5" "$small" "$level"
     # one of several vaults has the same rules but for its name, its port and whom it tells
     diff "$deploy/vault.service" "$deploy/vault@.service" | sed -n 's/^[<>] //p' | grep -v '^#' > differs || :
-    own='Description|OnFailure|Environment|EnvironmentFile|ExecStart|StateDirectory|RuntimeDirectory'
-    grep -Evx "($own|SocketBindAllow)=.*" differs > others || :
+    own='Description|OnFailure|Environment|EnvironmentFile|ExecStart|ExecStartPre|StateDirectory|RuntimeDirectory'
+    grep -Evx "($own|SocketBindAllow|AssertPathExists|RequiresMountsFor)=.*" differs > others || :
     step "one of several vaults has the same rules" "$([ -s others ] && echo no || echo yes)" "$(cat others)"
+    diff "$deploy/vault-backup.service" "$deploy/vault-backup@.service" | sed -n 's/^[<>] //p' |
+        grep -Ev '^(#.*|(Description|OnFailure|Environment|ExecStopPost)=.*)$' > others || :
+    step "so has a copy of one" "$([ -s others ] && echo no || echo yes)" "$(cat others)"
+    systemd-analyze security --offline=yes unit/vault-backup.service > said
+    level=$(sed -n 's/.*exposure level.*: \([0-9.]*\) .*/\1/p' said)
+    small=$(awk -v it="$level" 'BEGIN { print it != "" && it <= 3.5 ? "yes" : "no" }')
+    step "the exposure of a copy is at most 3.5" "$small" "$level"
 else
     echo "systemd-analyze isn't there: those steps are left out"
 fi

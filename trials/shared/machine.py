@@ -1,7 +1,7 @@
 """An empty Debian that boots beside this machine, and a shell of its root."""
 
 import os
-import signal
+import re
 import subprocess
 
 from shared.runs import until
@@ -9,11 +9,17 @@ from shared.runs import until
 SUITE = "bookworm"
 # What a machine has before anything is typed.
 EMPTY = "systemd-sysv,dbus,adduser,ca-certificates"
-# What the page installs, which comes without a network once it was fetched.
+# What the pages install, which comes without a network once it was fetched.
 FETCHED = (
     *("nginx-light", "openssl", "curl", "sqlite3", "chrony", "nftables", "logrotate", "python3"),
     *("haproxy", "rsyslog", "procps", "python3-prometheus-client", "libjemalloc2"),
 )
+# What begins a machine: it moves itself into groups of processes of its own, so that nothing of another machine
+# is ended with it, and ends with whoever began it.
+BEGIN = """for group; do mkdir -p "$group" && echo $$ > "$group/cgroup.procs"; done
+exec setpriv --pdeathsig TERM systemd-nspawn --quiet --register=no --keep-unit --private-network --boot \\
+    --kill-signal=SIGKILL --directory="$FOLDER" --machine="$NAME"
+"""
 
 
 def must(*words):
@@ -30,25 +36,47 @@ def mirrors():
     return [line.split()[1] for line in told.splitlines() if line.split()[0] == SUITE][:1]
 
 
+def made_base(folder):
+    """An empty Debian in a folder; several trials copy one that MACHINES names, and the first one makes it."""
+    base = os.path.join(os.environ.get("MACHINES", os.path.dirname(folder)), "base")
+    if not os.path.exists(base):
+        part = f"{base}.part"
+        must("debootstrap", "--variant=minbase", f"--include={EMPTY}", SUITE, part, *mirrors())
+        must("chroot", part, "apt-get", "update")
+        must("chroot", part, "apt-get", "install", "-y", "--download-only", *FETCHED)
+        os.rename(part, base)
+    return base
+
+
+def groups(name):
+    """The folders of two groups of processes of this name: the second version's, and systemd's own."""
+    found = []
+    for line in open("/proc/self/mounts"):
+        _, folder, kind, options, *_ = line.split()
+        if kind == "cgroup2" or (kind == "cgroup" and "name=systemd" in options.split(",")):
+            found.append(f"{folder}/{name}")
+    return found
+
+
 class Machine:
     """A booted Debian in a folder, without a network; it is gone at the end of a `with`."""
 
     def __init__(self, folder):
         self.folder = folder
-        must("debootstrap", "--variant=minbase", f"--include={EMPTY}", SUITE, folder, *mirrors())
-        must("chroot", folder, "apt-get", "update")
-        must("chroot", folder, "apt-get", "install", "-y", "--download-only", *FETCHED)
+        must("cp", "-a", "--reflink=auto", made_base(folder), folder)
+        self.groups = groups(f"vault-trial-{os.getpid()}")
         self.boot()
         self.typed = 0
 
     def boot(self):
-        words = ["systemd-nspawn", "--quiet", "--register=no", "--keep-unit", "--private-network", "--boot"]
         self.console = open("console", "w")
+        named = {"FOLDER": self.folder, "NAME": "vault-trial", "SYSTEMD_NSPAWN_UNIFIED_HIERARCHY": "1"}
         self.process = subprocess.Popen(
-            [*words, f"--directory={self.folder}", "--machine=vault-trial"],
+            ["sh", "-c", BEGIN, "sh", *self.groups],
             stdin=subprocess.DEVNULL,
             stdout=self.console,
             stderr=self.console,
+            env={**os.environ, **named},
         )
         self.children = f"/proc/{self.process.pid}/task/{self.process.pid}/children"
         if not until(self.is_up, 180):
@@ -71,6 +99,8 @@ class Machine:
             return False
         self.leader = children[0]
         self.inside = ["nsenter", "-t", self.leader, "-m", "-u", "-i", "-n", "-p", "-r", "-w"]
+        # a program of this machine that shares the network of that one
+        self.beside = ["nsenter", "-t", self.leader, "-n"]
         is_running = [*self.inside, "systemctl", "is-system-running"]
         told = subprocess.run(is_running, capture_output=True, text=True).stdout
         return told in ("running\n", "degraded\n")
@@ -80,9 +110,21 @@ class Machine:
 
     def __exit__(self, *_):
         self.shell.kill()
-        os.kill(int(self.leader), signal.SIGKILL)
+        self.process.terminate()
         self.process.wait()
         self.console.close()
+        for group in self.groups:
+            until(lambda group=group: self.is_gone(group), 20)
+
+    @staticmethod
+    def is_gone(group):
+        """Removes a group of processes with those below it, whose processes have ended."""
+        try:
+            for folder, _, _ in os.walk(group, topdown=False):
+                os.rmdir(folder)
+        except OSError:
+            return False
+        return True
 
     def put(self, name, text):
         """A file on the machine."""
@@ -100,3 +142,10 @@ class Machine:
         done = until(lambda: os.path.exists(ended) and os.path.getsize(ended), seconds)
         told = open(f"{self.folder}{at}.out", errors="replace").read()
         return done and open(ended).read() == "0\n", told if done else f"no end in {seconds} s: {told}"
+
+
+def says(tally, machine, name, text, wanted, well=True, seconds=120):
+    """Types a text, and judges how it ends and what it says: a pattern has to stand in it."""
+    ended, told = machine.type(text, seconds)
+    found = re.search(wanted, told, re.M)
+    tally.judge(name, "" if ended == well and found else f"{ended}: {told[-400:]}")
