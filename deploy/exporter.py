@@ -1,5 +1,5 @@
 #!/usr/bin/python3
-"""The counts of merchants for Prometheus, and whether their vaults answer.
+"""The counts of merchants for Prometheus, whether their vaults answer, and what ends or fills up.
 
     exporter.py CONFIGURATION
 
@@ -12,31 +12,51 @@ It asks the front for the counts of each merchant that CONFIGURATION lists, as a
     authority = "/etc/vault/callers.pem"
     merchants = ["shop1", "shop2"]
     listen = 9187            # on 127.0.0.1 alone
-    folders = ["/var/lib/vault"]
+    every = 30               # seconds in which each merchant is asked once
+    rights = ["/etc/vault/rights.toml"]            # merchants in it that aren't watched are told
+    folders = ["/var/lib/vault"]                   # how full their disks are
+    volumes = ["/var/lib/vault"]                   # which of them have to be mounted
+    revoked = "/etc/vault/revoked.pem"             # whose ends are told, and those of `authority`
+    indexes = "/etc/vault/callers-*.index"         # what the authorities signed, by certificates.sh publish
 
-Each scrape asks anew, for sixteen merchants at a time. A merchant that isn't answered within five seconds has
-`vault_up` 0 and no counts, and why stands on standard error. Debian's `python3-prometheus-client` is all it
-needs beyond Python 3.11.
+Merchants are asked one after the other all the time, eight at most at once, and a scrape is answered what was
+told last. So it takes no time however many there are, and vaults that hang hold up nobody. One that isn't
+answered within five seconds has `vault_up` 0 and no counts, and why stands on standard error. Certificates
+are read anew for each question. It needs Debian's `python3-prometheus-client` and openssl beyond Python 3.11.
 """
 
+import calendar
+import collections
 import concurrent.futures
+import glob
 import http.client
+import itertools
 import json
 import os
+import re
+import socketserver
 import ssl
+import subprocess
 import sys
 import threading
 import time
 import tomllib
 import urllib.parse
-from wsgiref.simple_server import WSGIRequestHandler, make_server
+from wsgiref.simple_server import WSGIRequestHandler, WSGIServer, make_server
 
 from prometheus_client import make_wsgi_app
-from prometheus_client.core import CollectorRegistry, CounterMetricFamily, GaugeMetricFamily
+from prometheus_client.core import CollectorRegistry, GaugeMetricFamily
 
 MOST = 1000000  # tokens that a merchant has for good
 SECONDS = 5
-AT_ONCE = 16
+AT_ONCE = 8
+LEAST = 0.02  # seconds between two questions
+# How openssl is asked for an end, and how it names whose it is, and the end.
+KINDS = {
+    "x509": (("-enddate", "-subject"), "subject", "notAfter"),
+    "crl": (("-nextupdate", "-issuer"), "issuer", "nextUpdate"),
+}
+# Gauges, since they fall where a vault is restored: a counter that falls would count as one that began anew.
 COUNTS = {
     "made": ("vault_tokens_made", "Tokens made for a merchant, purged ones too."),
     "given": ("vault_numbers_given", "Card numbers that were given to callers."),
@@ -44,20 +64,33 @@ COUNTS = {
 }
 
 
+def gauge(name, words, *labels):
+    """A metric without a value yet."""
+    return GaugeMetricFamily(name, words, labels=labels)
+
+
+def problem(error):
+    """What kept an answer from coming, in few words."""
+    if isinstance(error, ssl.SSLCertVerificationError):
+        return f"the front's certificate: {error.verify_message}"
+    if isinstance(error, TimeoutError):
+        return f"no answer within {SECONDS} s"
+    return f"no answer: {getattr(error, 'strerror', None) or type(error).__name__}"
+
+
 class Front:
-    """Asks the front, over a connection for each question."""
+    """Asks the front, over a connection for each question, by the certificates as they stand then. `end` is of
+    the certificate that the front showed last."""
 
     def __init__(self, settings):
-        self.place = urllib.parse.urlsplit(settings["front"])
-        self.context = None
-        if self.place.scheme == "https":
-            self.context = ssl.create_default_context(cafile=settings["authority"])
-            self.context.load_cert_chain(settings["certificate"], settings["key"])
+        self.settings, self.place, self.end = settings, urllib.parse.urlsplit(settings["front"]), None
 
     def connection(self):
-        if self.context is None:
+        if self.place.scheme != "https":
             return http.client.HTTPConnection(self.place.netloc, timeout=SECONDS)
-        return http.client.HTTPSConnection(self.place.netloc, timeout=SECONDS, context=self.context)
+        context = ssl.create_default_context(cafile=self.settings["authority"])
+        context.load_cert_chain(self.settings["certificate"], self.settings["key"])
+        return http.client.HTTPSConnection(self.place.netloc, timeout=SECONDS, context=context)
 
     def counts(self, merchant):
         """A merchant's counts or None, why there are none, and the seconds that it took."""
@@ -65,72 +98,190 @@ class Front:
         return *self.asked(merchant), time.monotonic() - begun
 
     def asked(self, merchant):
-        """A merchant's counts, or None and why: `refused 8`, `status 503`, `no answer`."""
-        peer = self.connection()
+        """A merchant's counts, or None and why: `refused 8`, `front 495`, `no answer within 5 s`."""
         try:
+            peer = self.connection()
+        except OSError as error:
+            return None, f"the certificates: {error}"
+        try:
+            peer.connect()
+            if self.place.scheme == "https":
+                self.end = ssl.cert_time_to_seconds(peer.sock.getpeercert()["notAfter"])
             peer.request("GET", f"/v1/merchants/{merchant}/audit", headers={"Connection": "close"})
             answer = peer.getresponse()
-            told = json.loads(answer.read())
-        except (OSError, http.client.HTTPException, ValueError):
-            return None, "no answer"
+            told = dict(json.loads(answer.read()))
+        except (OSError, http.client.HTTPException, ValueError, TypeError) as error:
+            return None, problem(error)
         finally:
             peer.close()
         if answer.status == 200 and all(isinstance(told.get(name), int) for name in COUNTS):
             return told, ""
-        return None, f"refused {told['refused']}" if "refused" in told else f"status {answer.status}"
+        if told.get("away"):
+            return None, "the vault is away"
+        said = (f"{by} {told[by]}" for by in ("refused", "front") if by in told)
+        return None, next(said, f"status {answer.status}")
 
 
-class Counts:
-    """What a scrape is answered."""
+class Merchants(threading.Thread):
+    """What each merchant was answered last; it asks all the time, evenly."""
 
-    def __init__(self, settings):
-        self.front = Front(settings)
-        self.merchants = settings["merchants"]
-        self.folders = settings.get("folders", [])
-        self.lock = threading.Lock()
+    def __init__(self, front, settings):
+        super().__init__(daemon=True)
+        self.front, self.names = front, settings["merchants"]
+        self.pause = max(LEAST, settings.get("every", 30) / max(1, len(self.names)))
+        self.told, self.why, self.all_told = {}, {}, threading.Event()
+
+    def run(self):
+        """Asks each in turn, at first without a pause."""
+        with concurrent.futures.ThreadPoolExecutor(AT_ONCE) as pool:
+            room = threading.Semaphore(AT_ONCE)
+            for turn, name in enumerate(itertools.cycle(self.names)):
+                room.acquire()
+                pool.submit(self.ask, name).add_done_callback(lambda _: room.release())
+                time.sleep(LEAST if turn < len(self.names) else self.pause)
+
+    def ask(self, name):
+        """Asks once. Why there is no answer is written where it is another reason than before."""
+        counts, why, spent = self.front.counts(name)
+        if why and self.why.get(name) != why:
+            print(f"{name}: {why}", file=sys.stderr, flush=True)
+        self.why[name] = why
+        self.told[name] = counts, spent
+        if len(self.told) == len(set(self.names)):
+            self.all_told.set()
 
     def collect(self):
-        with self.lock:
-            yield from self.of_merchants()
-        yield from self.of_folders()
-
-    def of_merchants(self):
         """Each merchant's counts, whether it was answered, and how long that took."""
-        up = GaugeMetricFamily("vault_up", "Whether a merchant's vault answered.", labels=["merchant"])
-        took = GaugeMetricFamily("vault_answer_seconds", "How long an answer took.", labels=["merchant"])
-        full = GaugeMetricFamily(
-            "vault_full_ratio", "Tokens made, of those there can be.", labels=["merchant"]
-        )
-        known = {name: CounterMetricFamily(*words, labels=["merchant"]) for name, words in COUNTS.items()}
-        with concurrent.futures.ThreadPoolExecutor(AT_ONCE) as pool:
-            answers = list(pool.map(self.front.counts, self.merchants))
-        for merchant, (told, why, spent) in zip(self.merchants, answers, strict=True):
+        up = gauge("vault_up", "Whether a merchant's vault answered.", "merchant")
+        took = gauge("vault_answer_seconds", "How long an answer took.", "merchant")
+        full = gauge("vault_full_ratio", "Tokens made, of what there can be.", "merchant")
+        known = {name: gauge(*words, "merchant") for name, words in COUNTS.items()}
+        for merchant, (told, spent) in sorted(self.told.copy().items()):
             up.add_metric([merchant], 1 if told else 0)
             took.add_metric([merchant], spent)
-            if not told:
-                print(f"{merchant}: {why}", file=sys.stderr, flush=True)
-                continue
-            full.add_metric([merchant], told["made"] / MOST)
-            for name, family in known.items():
-                family.add_metric([merchant], told[name])
+            if told:
+                full.add_metric([merchant], told["made"] / MOST)
+                for name, family in known.items():
+                    family.add_metric([merchant], told[name])
         return [up, took, full, *known.values()]
 
-    def of_folders(self):
-        """How much of the disk is used that has each folder."""
-        used = GaugeMetricFamily(
-            "vault_disk_used_ratio", "What is used of a folder's disk.", labels=["folder"]
-        )
-        for folder in self.folders:
+
+def told_by_openssl(kind, words, text):
+    """What openssl says of one certificate or list."""
+    ran = subprocess.run(["openssl", kind, "-noout", *words], input=text, capture_output=True, text=True)
+    return dict(line.partition("=")[::2] for line in ran.stdout.splitlines())
+
+
+def ends_of(path, kind):
+    """Name and end of each certificate, or list, of a file."""
+    words, name, end = KINDS[kind]
+    with open(path) as file:
+        parts = re.findall(r"-----BEGIN [^-]+-----.*?-----END [^-]+-----\n", file.read(), re.S)
+    for part in parts:
+        told = told_by_openssl(kind, words, part)
+        found = re.search(r"CN = (.*)", told.get(name, ""))
+        if end in told:
+            yield found[1] if found else "-", ssl.cert_time_to_seconds(told[end])
+
+
+def ends_of_callers(pattern):
+    """Of each caller the end of the certificate that lasts longest, by the authorities' indexes."""
+    found = collections.defaultdict(int)
+    for path in glob.glob(pattern):
+        for line in open(path):
+            state, end, _, _, _, subject = line.rstrip("\n").split("\t")
+            name = re.fullmatch(r"/CN=([a-z0-9-]{1,16})", subject)
+            if state == "V" and name and not re.search(r"(?:[0-9]-?){10}", name[1]):
+                moment = time.strptime(("20" if len(end) == 13 else "") + end, "%Y%m%d%H%M%SZ")
+                found[name[1]] = max(found[name[1]], calendar.timegm(moment))
+    return found.items()
+
+
+class Ends:
+    """When certificates and lists of revoked ones end, as their files stand."""
+
+    def __init__(self, front, settings):
+        self.front, self.settings = front, settings
+
+    def collect(self):
+        ends = gauge("vault_ends_seconds", "When a certificate or a list ends.", "kind", "name")
+        seen = gauge("vault_ends_known", "Whether a kind's ends can be read.", "kind")
+        for kind, source in self.sources().items():
             try:
+                found = list(source())
+            except (OSError, ValueError) as error:
+                print(f"the ends of {kind}: {error}", file=sys.stderr, flush=True)
+                found = []
+            seen.add_metric([kind], 1 if found else 0)
+            for name, moment in found:
+                ends.add_metric([kind, name], moment)
+        return [ends, seen]
+
+    def sources(self):
+        """Where the ends of each kind are read; of the front, as it shows its certificate."""
+        named = {"front": lambda: [("front", self.front.end)] if self.front.end else []}
+        if "authority" in self.settings:
+            named["authority"] = lambda: ends_of(self.settings["authority"], "x509")
+        if "revoked" in self.settings:
+            named["list"] = lambda: ends_of(self.settings["revoked"], "crl")
+        if "indexes" in self.settings:
+            named["caller"] = lambda: ends_of_callers(self.settings["indexes"])
+        return named
+
+
+class Machine:
+    """How full disks are, whether volumes are mounted, by how much the clock jumped, and merchants that have
+    rights and aren't watched."""
+
+    def __init__(self, settings):
+        self.settings, self.began = settings, self.apart()
+
+    @staticmethod
+    def apart():
+        """The seconds between the clock and a steady one, which nobody sets."""
+        return time.time() - time.clock_gettime(time.CLOCK_BOOTTIME)
+
+    def collect(self):
+        room = gauge("vault_disk_used_ratio", "What is used of a folder's disk.", "folder")
+        names = gauge("vault_inodes_used_ratio", "What is used of its inodes.", "folder")
+        there = gauge("vault_folder_there", "Whether it is there, and mounted.", "folder")
+        for folder in self.settings.get("folders", []):
+            is_there = os.path.isdir(folder)
+            mounted = folder not in self.settings.get("volumes", []) or os.path.ismount(folder)
+            there.add_metric([folder], 1 if is_there and mounted else 0)
+            if is_there:
                 disk = os.statvfs(folder)
-            except OSError:
-                continue
-            used.add_metric([folder], 1 - disk.f_bavail / (disk.f_blocks - disk.f_bfree + disk.f_bavail))
-        return [used]
+                room.add_metric([folder], 1 - disk.f_bavail / (disk.f_blocks - disk.f_bfree + disk.f_bavail))
+                names.add_metric([folder], 1 - disk.f_favail / disk.f_files if disk.f_files else 0)
+        clock = gauge("vault_clock_jumped_seconds", "By how much the clock jumped since a start.")
+        clock.add_metric([], self.apart() - self.began)
+        return [room, names, there, clock, self.unwatched()]
+
+    def unwatched(self):
+        """Merchants of the rights files that this doesn't watch."""
+        found = gauge("vault_unwatched", "A merchant with rights, unwatched.", "merchant")
+        named = set()
+        for path in self.settings.get("rights", []):
+            try:
+                with open(path, "rb") as file:
+                    named.update(*(rights.keys() for rights in tomllib.load(file).values()))
+            except (OSError, ValueError, AttributeError) as error:
+                print(f"{path}: {error}", file=sys.stderr, flush=True)
+        for merchant in sorted(named - set(self.settings["merchants"])):
+            found.add_metric([merchant], 1)
+        return found
+
+
+class Server(socketserver.ThreadingMixIn, WSGIServer):
+    """Answers each scrape by itself, so one that says nothing holds up no other."""
+
+    daemon_threads = True
 
 
 class Silent(WSGIRequestHandler):
-    """Writes no line for a scrape."""
+    """Writes no line for a scrape, and waits for none longer than this."""
+
+    timeout = 10
 
     def log_message(self, *_):
         pass
@@ -139,11 +290,18 @@ class Silent(WSGIRequestHandler):
 def main(path):
     with open(path, "rb") as file:
         settings = tomllib.load(file)
-    registry = CollectorRegistry(auto_describe=False)
-    counts = Counts(settings)
-    registry.register(counts)
+    front, registry = Front(settings), CollectorRegistry(auto_describe=False)
+    try:
+        front.connection()
+    except OSError as error:
+        raise SystemExit(f"the certificates can't be used: {error}") from None
+    merchants = Merchants(front, settings)
+    for one in (merchants, Ends(front, settings), Machine(settings)):
+        registry.register(one)
     port, answering = settings.get("listen", 9187), make_wsgi_app(registry)
-    with make_server("127.0.0.1", port, answering, handler_class=Silent) as server:
+    with make_server("127.0.0.1", port, answering, server_class=Server, handler_class=Silent) as server:
+        merchants.start()
+        merchants.all_told.wait(SECONDS)
         print(f"listening {server.server_port}", flush=True)
         server.serve_forever()
 

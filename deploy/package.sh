@@ -34,6 +34,7 @@ for step in pause room port listens answers watch thaw alarm counted backup-now 
     place 755 "$here/$step" "/usr/lib/vault/$step"
 done
 place 755 "$here/vault-look" /usr/bin/vault-look
+place 755 "$here/reload" /usr/lib/vault/reload
 place 644 "$here/vault.1" /usr/share/man/man1/vault.1
 gzip -9n "$root/usr/share/man/man1/vault.1"
 place 644 "$here/vault.bash-completion" /usr/share/bash-completion/completions/vault
@@ -65,6 +66,9 @@ place 755 "$top/examples/rebuild.sh" "$examples/rebuild.sh"
 place 755 "$here/certificates.sh" "$examples/certificates.sh"
 for client in till.py back_office.py batch.py; do
     place 755 "$top/examples/clients/$client" "$examples/clients/$client"
+done
+for client in till.go Till.java till.js; do
+    place 644 "$top/examples/clients/$client" "$examples/clients/$client"
 done
 place 644 "$here/debian/copyright" "$doc/copyright"
 maintainer="Montxugel maintainers <vault@montxugel.example>"

@@ -28,6 +28,9 @@ else
 fi
 if need nginx nginx-light && need openssl openssl; then
     parts="$parts front"
+    for tool in go:golang-go javac:default-jdk-headless node:nodejs; do
+        need "${tool%:*}" "${tool#*:}" || echo "${tool%:*} isn't there and can't be installed: its till is left out"
+    done
 else
     echo "nginx or openssl isn't there and can't be installed: what is behind a front is left out"
 fi

@@ -6,6 +6,7 @@ set -eu
 wants haproxy
 wants openssl
 wants promtool prometheus
+need faketime faketime || :
 module=prometheus_client
 python_with $module > /dev/null || need "a module of python3-prometheus-client" python3-prometheus-client || :
 python=$(python_with $module) || leave_out "prometheus_client of Python"

@@ -1,12 +1,14 @@
 #!/usr/bin/env python3
 """Who brought back card numbers of a merchant, by the front's log.
 
-    who.py MERCHANT [--days N] [--until DAY] [--asked WORD] [--each] [--folder FOLDER]
+    who.py MERCHANT [--days N] [--until DAY] [--asked WORD] [--each] [--request N] [--folder FOLDER]
 
 It reads `front.log` of FOLDER and the files that logrotate made of it, compressed or not, and prints a line
 for each caller: how many numbers it got, how many times it was refused, of how many tokens (as far as their
-last four digits tell), and its first and last time. `--each` prints each request in its place. N is 7, counted
-back from now or from the end of DAY, as 2026-11-27, in UTC. WORD is `detokenize`, or another that the log has:
+last four digits tell), and its first and last time. `--each` prints each request in its place, with the number
+that refused it, its request number and its reference, as far as there are. `--request N` takes those of one
+request number alone, of which a log has the first six digits and the last four. N of `--days` is 7, counted back
+from now or from the end of DAY, as 2026-11-27, in UTC. WORD is `detokenize`, or another that the log has:
 `tokenize`, `view`, `revoke`, `purge`, `audit`. A line that isn't the log's is counted on standard error.
 """
 
@@ -16,6 +18,7 @@ import datetime
 import glob
 import gzip
 import json
+import re
 import sys
 
 UTC = datetime.timezone.utc
@@ -52,6 +55,11 @@ def requests(folder, since, until):
         print(f"lines that aren't the log's: {strange}", file=sys.stderr)
 
 
+def logged(request):
+    """A request number as a log has it."""
+    return re.sub(r"^([0-9]{0,6})[0-9]{6,}([0-9]{4})$", r"\1***\2", request)
+
+
 def shown(moment):
     return f"{moment:%Y-%m-%d %H:%M:%S}"
 
@@ -78,6 +86,7 @@ def main():
     parser.add_argument("--until", type=datetime.date.fromisoformat)
     parser.add_argument("--asked", default="detokenize")
     parser.add_argument("--each", action="store_true")
+    parser.add_argument("--request")
     parser.add_argument("--folder", default="/var/log/vault")
     arguments = parser.parse_args()
     until = datetime.datetime.now(UTC) + datetime.timedelta(seconds=1)
@@ -89,11 +98,17 @@ def main():
         told
         for told in requests(arguments.folder, until - datetime.timedelta(days=arguments.days), until)
         if (told["merchant"], told["asked"]) == wanted
+        and (arguments.request is None or told.get("request") == logged(arguments.request))
     ]
     if not arguments.each:
         return summed(found)
     for told in sorted(found, key=lambda it: it["time"]):
-        print(shown(told["time"]), told["caller"], told["token"], told["status"])
+        more = (
+            f"{word} {told[word]}"
+            for word in ("refused", "request", "reference")
+            if told.get(word, "-") != "-"
+        )
+        print(shown(told["time"]), told["caller"], told["token"], told["status"], *more)
 
 
 main()

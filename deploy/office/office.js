@@ -3,6 +3,7 @@
 "use strict";
 
 const SECONDS = 30; // how long a card number is shown
+const MOST = 50; // how many tokens are looked up at a time
 const PATIENCE = 3000; // after so many milliseconds it says that the vault is waited for
 
 // What each number of a refusal means to who sits here.
@@ -38,13 +39,14 @@ const REFUSED = {
 const FRONT = {
   403: "The front doesn't know you: your certificate has no caller's name.",
   408: "The request took too long.",
-  429: "Too many requests. Please wait for a few seconds.",
+  429: "Too many requests, or as many card numbers as you may see in a day. Please wait for a while.",
   495: "Your certificate isn't taken: it has run out, or was taken back.",
   496: "Your browser sent no certificate.",
 };
 const STATES = { live: "live", revoked: "revoked", expired: "expired" };
 const at = (id) => document.getElementById(id);
 let about = null; // the merchant and the token that were looked up
+let asker = null; // the button whose question is open
 let clock = null;
 let busy = 0;
 
@@ -61,8 +63,8 @@ function inWords(status, told) {
   return `There was an answer that this page doesn't know (${status}).`;
 }
 
-// Asks, and answers what was told, or null where that was said already.
-async function ask(method, target) {
+// Asks, and answers what was told, or null where that was said already. A reference stands in the front's log.
+async function ask(method, target, reference) {
   const turn = ++busy;
   say("", false);
   const waits = () => turn === busy && say("The vault is away; this waits for it.", false);
@@ -71,6 +73,7 @@ async function ask(method, target) {
     const answer = await fetch(target, {
       method, cache: "no-store", credentials: "same-origin", mode: "same-origin", redirect: "error",
       referrerPolicy: "no-referrer", signal: AbortSignal.timeout(150000),
+      headers: reference ? { "X-Vault-Reference": reference } : {},
     });
     const told = await answer.json();
     if (turn !== busy) return null;
@@ -85,8 +88,8 @@ async function ask(method, target) {
   return null;
 }
 
-// The digits of what was typed; spaces and hyphens between them don't count.
-const digitsOf = (text) => text.replace(/[ -]/g, "");
+// The digits of what was typed; spaces of any kind and hyphens between them don't count.
+const digitsOf = (text) => text.replace(/[\s\u00ad\u200b-\u200d\u2060\ufeff\u2010-\u2015-]/g, "");
 
 function passesCheck(digits) {
   let total = 0;
@@ -102,7 +105,8 @@ function grouped(digits) {
 }
 
 function moment(seconds) {
-  return new Date(seconds * 1000).toLocaleString("en-GB", { dateStyle: "medium", timeStyle: "short" });
+  const parts = { day: "numeric", month: "short", year: "numeric", hour: "2-digit", minute: "2-digit" };
+  return new Date(seconds * 1000).toLocaleString("en-GB", { ...parts, timeZoneName: "short" });
 }
 
 function hideNumber() {
@@ -114,7 +118,8 @@ function hideNumber() {
 function hideFound() {
   hideNumber();
   about = null;
-  for (const id of ["found", "counts", "sure"]) at(id).hidden = true;
+  for (const id of ["found", "counts", "sure", "many"]) at(id).hidden = true;
+  at("rows").replaceChildren();
   for (const id of ["mask", "state", "of", "use", "birth", "expires"]) at(id).textContent = "";
 }
 
@@ -126,13 +131,29 @@ function merchant() {
   return null;
 }
 
-// The token that was typed, or null. A number that passes the card check isn't sent to anybody.
-function token() {
-  const digits = digitsOf(at("token").value.trim());
-  if (/^[0-9]{10,19}$/.test(digits) && !passesCheck(digits)) return digits;
-  const card = /^[0-9]{10,19}$/.test(digits);
-  say(card ? "This is a card number and no token. It wasn't sent." : REFUSED[3], true);
-  if (card) at("token").value = "";
+// The tokens that were typed, a line each, or null. A number that passes the card check isn't sent to anybody,
+// and doesn't stay in its field.
+function tokens() {
+  const typed = at("token").value.split(/[\r\n\t,;]+/).map(digitsOf).filter((it) => it);
+  if (typed.some((it) => /^[0-9]{10,19}$/.test(it) && passesCheck(it))) {
+    at("token").value = "";
+    say("This is a card number and no token. It wasn't sent.", true);
+  } else if (!typed.length || typed.some((it) => !/^[0-9]{10,19}$/.test(it))) {
+    say(typed.length > 1 ? `Among these is no token. ${REFUSED[3]}` : REFUSED[3], true);
+  } else if (typed.length > MOST) {
+    say(`These are ${typed.length} tokens. At most ${MOST} are looked up at a time.`, true);
+  } else {
+    return typed;
+  }
+  return null;
+}
+
+// What was typed as a case, or null where the front's log wouldn't take it.
+function reference() {
+  const words = at("case").value.trim();
+  const fits = /^[A-Za-z0-9][A-Za-z0-9 ._:/#-]{0,63}$/.test(words) && !/(?:[0-9][ ._:/#-]?){10}/.test(words);
+  if (!words || fits) return words;
+  say("A case has letters, digits, spaces and . _ : / # - and no ten digits in a row.", true);
   return null;
 }
 
@@ -154,12 +175,52 @@ async function look(it) {
   at("found").hidden = false;
 }
 
+// Looks up tokens one after the other; a row of the table opens its token.
+async function lookAll(name, all) {
+  at("many-of").textContent = `${all.length} tokens of ${name}`;
+  at("many").hidden = false;
+  for (const one of all) {
+    const it = { merchant: name, token: one };
+    const turn = busy;
+    const told = await ask("GET", targetOf(it));
+    if (busy !== turn + 1) return;
+    const row = document.createElement("tr");
+    const open = document.createElement("button");
+    open.type = "button";
+    open.className = "quiet";
+    open.textContent = grouped(one);
+    open.addEventListener("click", () => look(it));
+    const seen = told && [told.masked, STATES[told.state] || told.state, moment(told.expires)];
+    const cells = seen || [at("said").textContent, "", ""];
+    for (const content of [open, ...cells]) {
+      const cell = document.createElement("td");
+      cell.append(content);
+      row.append(cell);
+    }
+    at("rows").append(row);
+  }
+  say(`${all.length} tokens were looked up.`, false);
+}
+
 at("asked").addEventListener("submit", (event) => {
   event.preventDefault();
   hideFound();
-  const it = { merchant: merchant(), token: null };
-  if (it.merchant) it.token = token();
-  if (it.token) look(it);
+  const name = merchant();
+  const all = tokens();
+  if (!all) return;
+  if (!name) return say(REFUSED[4], true);
+  if (all.length > 1) lookAll(name, all);
+  else look({ merchant: name, token: all[0] });
+});
+
+// Enter looks up; with Shift it begins another line of a column. A column that was pasted shows more lines.
+at("token").addEventListener("keydown", (event) => {
+  if (event.key !== "Enter" || event.shiftKey) return;
+  event.preventDefault();
+  at("asked").requestSubmit();
+});
+at("token").addEventListener("input", () => {
+  at("token").rows = Math.min(8, at("token").value.split("\n").length);
 });
 
 at("count").addEventListener("click", async () => {
@@ -176,9 +237,9 @@ at("count").addEventListener("click", async () => {
 });
 
 function showNumber(digits) {
-  const ends = Date.now() + SECONDS * 1000;
+  const ends = performance.now() + SECONDS * 1000; // which no change of the clock moves
   const tick = () => {
-    const left = Math.ceil((ends - Date.now()) / 1000);
+    const left = Math.ceil((ends - performance.now()) / 1000);
     at("left").textContent = left;
     if (left <= 0) hideNumber();
   };
@@ -191,7 +252,8 @@ function showNumber(digits) {
 at("number").addEventListener("click", async () => {
   hideNumber();
   const it = about;
-  const told = it && (await ask("POST", `${targetOf(it)}/number`));
+  const why = reference();
+  const told = it && why !== null && (await ask("POST", `${targetOf(it)}/number`, why));
   if (told && it === about && !document.hidden) showNumber(told.number);
 });
 
@@ -201,13 +263,22 @@ function sure(question, yes, done) {
   at("yes").textContent = yes;
   at("yes").onclick = () => {
     at("sure").hidden = true;
-    done();
+    done().then(() => at("said").focus());
   };
+  asker = document.activeElement;
   at("sure").hidden = false;
   at("no").focus();
 }
 
-at("no").addEventListener("click", () => (at("sure").hidden = true));
+// The question goes, and whoever asked it is where they were before.
+function leave() {
+  if (at("sure").hidden) return;
+  at("sure").hidden = true;
+  asker.focus();
+}
+
+at("no").addEventListener("click", leave);
+document.addEventListener("keydown", (event) => event.key === "Escape" && leave());
 
 at("revoke").addEventListener("click", () => {
   const it = about;
@@ -236,3 +307,7 @@ window.addEventListener("pagehide", () => {
   hideFound();
   at("asked").reset();
 });
+fetch("/caller", { cache: "no-store", credentials: "same-origin", redirect: "error" })
+  .then((answer) => answer.json())
+  .then((told) => (at("who").textContent = told.caller ? `as ${told.caller}` : ""))
+  .catch(() => {});

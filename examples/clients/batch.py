@@ -7,8 +7,9 @@
 ROWS is what `vault batch` takes, `request,number,use`, and ANSWERS becomes what it prints, line for line:
 `request,answer,detail` in the order of the rows. Where ANSWERS is there already, a run that was stopped goes
 on behind its last whole line. A row that has no line yet is sent again with its request number, whether or
-not it was answered before: the vault answers its first token. Rows with the same request number are sent one
-after the other, in their order. There may be any number of rows; the caller is that of the certificate.
+not it was answered before: the vault answers its first token. A merchant that isn't known is asked for again
+for some seconds where a front is between: its route may be on its way. Rows with the same request number are
+sent one after the other, in their order. There may be any number of rows; the caller is that of the certificate.
 
 The exit status is that of `vault batch`: 0, or 1 where a row is refused, or 4 where it stopped at a row that
 isn't three fields (44), at another first line (40) or for want of an answer. A front that refuses the caller
@@ -26,12 +27,15 @@ import re
 import ssl
 import sys
 import threading
+import time
 import urllib.parse
 import zlib
 
 HEADER = ["request", "number", "use"]
 FIRST_LINE = b"request,answer,detail\n"
 REQUEST = re.compile(r"[1-9][0-9]{0,18}")
+UNKNOWN = 7  # a merchant that isn't known, which behind a front may be a route that is on its way
+UNKNOWN_SECONDS = 3  # for which it is asked for again, once for the whole batch
 MOST_TEXT = 64  # no number and no use is as long, so what is behind it changes no refusal
 AHEAD = 32  # rows that are under way for each connection
 
@@ -69,6 +73,7 @@ class Front:
 
     def __init__(self, arguments):
         self.arguments, self.mine, self.over = arguments, threading.local(), threading.Event()
+        self.unknown_since = None
         self.place = urllib.parse.urlsplit(arguments.url)
         self.target = f"/v1/merchants/{urllib.parse.quote(arguments.merchant, safe='')}/tokens"
         self.context = None
@@ -112,11 +117,19 @@ class Front:
             told = {}
         if status == 200 and "token" in told:
             return told["token"], told["expires"]
+        if told.get("refused") == UNKNOWN and self.may_be_on_its_way():
+            raise Lost(f"refused {UNKNOWN}")
         if "refused" in told:
             return "refused", told["refused"]
         if 400 <= status < 500 and status not in (408, 429):
             raise Stopped(f"the front refuses this by {told.get('front', status)}", 1)
         raise Lost(f"status {status}")
+
+    def may_be_on_its_way(self):
+        """Whether a merchant that isn't known may yet be: behind a front, in the first seconds."""
+        if self.unknown_since is None:
+            self.unknown_since = time.monotonic()
+        return self.context and time.monotonic() - self.unknown_since < UNKNOWN_SECONDS
 
     def line(self, row):
         """The line of a row, which is asked for until it has an answer."""

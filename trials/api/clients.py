@@ -1,10 +1,13 @@
 """The clients of examples/ behind the front: what they say, and how they end, where they aren't answered."""
 
+import os
 import re
+import shutil
 import subprocess
 import sys
 from typing import NamedTuple
 
+from api import lost
 from api.asked import NUMBER
 from api.shop import SHOP
 from front.clients import Client
@@ -28,14 +31,36 @@ class Examples:
 
     def __init__(self, tally, program, repository, vault):
         self.tally, self.program, self.vault = tally, program, vault
-        self.folder = f"{repository}/examples/clients"
+        self.folder = os.path.abspath(f"{repository}/examples/clients")
+        self.made = {}
+        self.tills = self.make()
 
     def begin(self, name, *words, by):
-        """Starts a client."""
+        """Starts a client; those in Go take what has a name first."""
         keys = ("--certificate", f"{by}.pem", "--key", f"{by}.key") if by else ()
-        words = [sys.executable, f"{self.folder}/{name}.py", *words, *keys, "--authority", "callers.pem"]
+        named = [*keys, "--authority", "callers.pem"]
+        begins = self.made.get(name) or [sys.executable, f"{self.folder}/{name}.py"]
+        if name == "till.go":
+            place = next((it for it, word in enumerate(words) if word.startswith("--")), len(words))
+            words = (*words[place:], *named, *words[:place])
+        else:
+            words = (*words, *named)
         pipe = subprocess.PIPE
-        return subprocess.Popen(words, stdin=pipe, stdout=pipe, stderr=pipe, text=True)
+        return subprocess.Popen([*begins, *words], stdin=pipe, stdout=pipe, stderr=pipe, text=True)
+
+    def make(self):
+        """The tills in other languages, as far as their tools are there; they lie in the first folder."""
+        here = os.getcwd()
+        shown = {"stdout": subprocess.DEVNULL, "check": True, "env": {"GOCACHE": f"{here}/go", **os.environ}}
+        if shutil.which("node"):
+            self.made["till.js"] = ["node", f"{self.folder}/till.js"]
+        if shutil.which("go"):
+            subprocess.run(["go", "build", "-o", f"{here}/till", f"{self.folder}/till.go"], **shown)
+            self.made["till.go"] = [f"{here}/till"]
+        if shutil.which("javac"):
+            subprocess.run(["javac", "-d", here, f"{self.folder}/Till.java"], **shown)
+            self.made["Till.java"] = ["java", "-cp", here, "Till"]
+        return ["till", *self.made]
 
     def run(self, name, *words, by, given=""):
         """One run; its errors are no trace of Python's, and have no card number."""
@@ -48,9 +73,9 @@ class Examples:
         self.tally.judge(f"the errors of {name} by {by}", fault)
         return told
 
-    def till(self, port, *words, by="till-1", shop=SHOP, given=NUMBER):
+    def till(self, port, *words, by="till-1", shop=SHOP, given=NUMBER, name="till"):
         """What a till prints."""
-        return self.run("till", f"https://localhost:{port}", shop, *words, by=by, given=given)
+        return self.run(name, f"https://localhost:{port}", shop, *words, by=by, given=given)
 
     def office(self, port, step, *words, by="back", shop=SHOP):
         """What a back office prints."""
@@ -64,22 +89,28 @@ def ended(told, status, out, err):
     return fault or ("" if err in told.err and bool(err) == bool(told.err) else f"said {told.err!r}")
 
 
-def tills(tally, examples, port):
+def tills(tally, examples, port, till="till"):
     """A till that is answered, and one that the front turns away; what is answered is a token of it."""
-    told = examples.till(port, given=f"{NUMBER}\n4111111111111112\n")
+    told = examples.till(port, given=f"{NUMBER}\n4111111111111112\n", name=till)
     token = told.out.partition(" ")[0]
-    tally.judge("a till has a token and a refusal", "" if TWO.fullmatch(told.out) else told.out or "nothing")
+    said = told.out or told.err or "nothing"
+    tally.judge(f"{till} has a token and a refusal", "" if TWO.fullmatch(told.out) else said)
     tally.judge("its status says so", unlike((told.status, told.err), (1, "requests that were refused: 1\n")))
     for name, words, number in (
         ("with no caller's name", {"by": "nobody"}, 403),
-        ("of another authority", {"by": "stranger"}, 495),
+        # these two show no certificate but of an authority that the front asks for
+        ("of another authority", {"by": "stranger"}, 496 if till in ("till.go", "Till.java") else 495),
         ("without a certificate", {"by": None}, 496),
         ("of a shop outside", {"shop": "../../x"}, 404),
         ("of a shop with a long name", {"shop": "x" * 9000}, 414),
         ("with a long number", {"given": "4" * 5120}, 413),
     ):
-        fault = ended(examples.till(port, **words), 1, f"refused front {number}\n", "refused")
-        tally.judge(f"a till {name} is refused once", fault)
+        fault = ended(examples.till(port, name=till, **words), 1, f"refused front {number}\n", "refused")
+        tally.judge(f"{till} {name} is refused once", fault)
+    told = examples.till(port, "--tries", "3", shop="nobody", name=till)
+    fault = unlike((told.status, told.out), (1, "refused 7\n"))
+    often = told.err.count("refused 7") >= 2
+    tally.judge(f"{till} asks again for a merchant that isn't known", fault or ("" if often else told.err))
     return token
 
 
@@ -118,23 +149,29 @@ def away(tally, examples, port):
     """Clients of a vault that is away, and a till that is patient."""
     told = examples.office(port, "number", "--token", "0000000000001111", "--tries", "2")
     tally.judge("no number while it is away", ended(told, 1, "", "no number came: status 503"))
-    told = examples.till(port, "--tries", "2")
-    tally.judge("no token while it is away", ended(told, 1, "", "send it again with this number"))
-    till = examples.begin("till", f"https://localhost:{port}", SHOP, by="till-1")
-    till.stdin.write(f"{NUMBER}\n")
-    till.stdin.flush()
-    line = till.stderr.readline()
-    tally.judge("a till says so", "" if "status 503" in line else line)
+    waiting = []
+    for name in examples.tills:
+        told = examples.till(port, "--tries", "2", name=name)
+        fault = ended(told, 1, "", "send it again with this number")
+        tally.judge(f"{name}: no token while it is away", fault)
+        till = examples.begin(name, f"https://localhost:{port}", SHOP, by="till-1")
+        till.stdin.write(f"{NUMBER}\n")
+        till.stdin.flush()
+        line = till.stderr.readline()
+        tally.judge(f"{name} says so", "" if "status 503" in line else line)
+        waiting.append((name, till))
     examples.vault.start()
-    out, err = till.communicate(timeout=120)
-    tally.judge("and waits for it", "" if ONE.fullmatch(out) else out + err)
+    for name, till in waiting:
+        out, err = till.communicate(timeout=120)
+        tally.judge(f"{name} waits for it", "" if ONE.fullmatch(out) else out + err)
 
 
 def hurried(tally, examples, port):
     """A till at a front that takes one request a second."""
-    told = examples.till(port, given=f"{NUMBER}\n" * 2)
-    tally.judge("a till waits for its turn", unlike((told.status, len(told.out.splitlines())), (0, 2)))
-    tally.judge("and says so", "" if "status 429" in told.err else told.err)
+    for name in examples.tills:
+        told = examples.till(port, given=f"{NUMBER}\n" * 2, name=name)
+        tally.judge(f"{name} waits for its turn", unlike((told.status, len(told.out.splitlines())), (0, 2)))
+        tally.judge("and says so", "" if "status 429" in told.err else told.err)
 
 
 def rows():
@@ -146,7 +183,8 @@ def rows():
 def clients(tally, examples, port):
     """The clients at one front, whose vault runs before and after."""
     rows()
-    token = tills(tally, examples, port)
+    token = [tills(tally, examples, port, name) for name in examples.tills][0]
+    lost.judge(tally, examples, port)
     offices(tally, examples, port, token)
     examples.vault.kill()
     on_the_file(tally, examples, port)

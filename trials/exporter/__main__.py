@@ -4,36 +4,51 @@ import contextlib
 import json
 import os
 import re
+import shutil
+import signal
+import socket
 import subprocess
 import sys
+import time
 import urllib.request
 
+from exporter import prometheus
 from front import certificates
 from front.clients import NUMBER, Client
 from front.services import two_vaults
 from haproxy.services import Front
 from shared import lines
+from shared.runs import until
 from shared.tally import Tally, unlike
 
 SETTINGS = """front = "https://localhost:{port}"
 certificate = "{caller}.pem"
 key = "{caller}.key"
-authority = "callers.pem"
-merchants = ["shop1", "shop2", "nobody"]
+authority = "place/callers.pem"
+revoked = "place/revoked.pem"
+indexes = "place/callers-*.index"
+rights = ["rights.toml"]
+merchants = {merchants}
 listen = 0
-folders = [".", "/nowhere"]
+every = 0.5
+folders = [".", "/", "/nowhere"]
+volumes = [".", "/"]
 """
+MERCHANTS = ["shop1", "shop2", "nobody"]
+DAY = 86400
+FAKETIME = "/usr/lib/x86_64-linux-gnu/faketime/libfaketime.so.1"
 
 
 class Exporter:
     """The exporter as a process; it is over at the end of a `with`."""
 
-    def __init__(self, python, repository, port, caller="watch"):
+    def __init__(self, python, repository, port, caller="watch", merchants=MERCHANTS, **environment):
         with open("exporter.toml", "w") as file:
-            file.write(SETTINGS.format(port=port, caller=caller))
+            file.write(SETTINGS.format(port=port, caller=caller, merchants=json.dumps(merchants)))
         words = [python, f"{repository}/deploy/exporter.py", "exporter.toml"]
         self.errors = open("exporter.err", "w+")
-        self.process = subprocess.Popen(words, stdout=subprocess.PIPE, stderr=self.errors, text=True)
+        more = {"env": {**os.environ, **environment}} if environment else {}
+        self.process = subprocess.Popen(words, stdout=subprocess.PIPE, stderr=self.errors, text=True, **more)
         found = re.fullmatch(r"listening ([0-9]+)\n", self.process.stdout.readline())
         self.port = int(found[1]) if found else 0
 
@@ -46,14 +61,22 @@ class Exporter:
         self.errors.close()
 
     def text(self):
+        """What a scrape is answered: nothing where that takes longer than Prometheus waits."""
         url = f"http://127.0.0.1:{self.port}/metrics"
-        with urllib.request.urlopen(url, timeout=30) as answer:
-            return answer.read().decode()
+        try:
+            with urllib.request.urlopen(url, timeout=10) as answer:
+                return answer.read().decode()
+        except OSError:
+            return ""
 
     def values(self):
         """Each value by its name and label."""
-        found = re.findall(r'(?m)^([a-z_]+)(?:\{[a-z]+="([^"]*)"\})? ([0-9.e+-]+)$', self.text())
-        return {(name, label): float(value) for name, label, value in found}
+        found = re.findall(r"(?m)^([a-z_]+)(?:\{(.*)\})? ([0-9.e+-]+)$", self.text())
+        return {(name, ",".join(re.findall(r'"([^"]*)"', it))): float(value) for name, it, value in found}
+
+    def says(self, name, label, wanted, seconds=10):
+        """Whether a value becomes the wanted one within so many seconds."""
+        return until(lambda: self.values().get((name, label)) == wanted, seconds)
 
     def told(self):
         return open("exporter.err").read()
@@ -75,25 +98,36 @@ def counted(tally, exporter, port):
     Client(port, "till-2").token("shop2", 1)
     back.ask("POST", f"/v1/merchants/shop1/tokens/{first}/number")
     Client(port, "guest").ask("POST", f"/v1/merchants/shop1/tokens/{first}/number")
+    until(lambda: exporter.values().get(("vault_numbers_denied", "shop1")) == 1)
+    exporter.says("vault_tokens_made", "shop2", 1)
     seen = exporter.values()
     for name, label, wanted in (
         ("vault_up", "shop1", 1),
         ("vault_up", "shop2", 1),
         ("vault_up", "nobody", 0),
-        ("vault_tokens_made_total", "shop1", 2),
-        ("vault_tokens_made_total", "shop2", 1),
-        ("vault_numbers_given_total", "shop1", 1),
-        ("vault_numbers_denied_total", "shop1", 1),
-        ("vault_numbers_given_total", "shop2", 0),
+        ("vault_tokens_made", "shop1", 2),
+        ("vault_tokens_made", "shop2", 1),
+        ("vault_numbers_given", "shop1", 1),
+        ("vault_numbers_denied", "shop1", 1),
+        ("vault_numbers_given", "shop2", 0),
         ("vault_full_ratio", "shop1", 2e-06),
+        ("vault_folder_there", ".", 0),
+        ("vault_folder_there", "/", 1),
+        ("vault_folder_there", "/nowhere", 0),
+        ("vault_unwatched", "shop3", 1),
+        ("vault_unwatched", "shop1", None),
+        ("vault_ends_known", "caller", 1),
     ):
         tally.judge(f"{name} of {label}", unlike(seen.get((name, label)), wanted))
-    tally.judge(
-        "no count of one that isn't known", unlike(("vault_tokens_made_total", "nobody") in seen, False)
-    )
+    tally.judge("no count of one that isn't known", unlike(("vault_tokens_made", "nobody") in seen, False))
     tally.judge("which it tells", "" if "nobody: refused 7" in exporter.told() else exporter.told())
     used = seen.get(("vault_disk_used_ratio", "."), 0)
     tally.judge("the disk's use", "" if 0 < used < 1 else f"{used}")
+    used = seen.get(("vault_inodes_used_ratio", "."), -1)
+    tally.judge("its inodes' use", "" if 0 <= used < 1 else f"{used}")
+    tally.judge(
+        "the clock didn't jump", "" if abs(seen.get(("vault_clock_jumped_seconds", ""), 9)) < 1 else f"{seen}"
+    )
     text = exporter.text()
     tally.judge("no number and no token in it", "it is there" if NUMBER in text or first in text else "")
     linted = subprocess.run(["promtool", "check", "metrics"], input=text, capture_output=True, text=True)
@@ -104,22 +138,113 @@ def counted(tally, exporter, port):
 def away(tally, exporter, vault):
     """A vault that is away, and the other one beside it."""
     vault.kill()
+    gone = exporter.says("vault_up", "shop1", 0)
     seen = exporter.values()
-    tally.judge("a vault that is away", unlike(seen.get(("vault_up", "shop1")), 0))
-    tally.judge("has no counts", unlike(("vault_tokens_made_total", "shop1") in seen, False))
+    tally.judge("a vault that is away", unlike(gone, True))
+    tally.judge("has no counts", unlike(("vault_tokens_made", "shop1") in seen, False))
     tally.judge("the other one has", unlike(seen.get(("vault_up", "shop2")), 1))
-    tally.judge("why is told", "" if "shop1: " in exporter.told() else exporter.told())
+    tally.judge("why is told", "" if "shop1: no answer within 5 s" in exporter.told() else exporter.told())
     vault.start()
-    tally.judge("and back again", unlike(exporter.values().get(("vault_up", "shop1")), 1))
+    tally.judge("and back again", unlike(exporter.says("vault_up", "shop1", 1), True))
 
 
-def without(tally, python, repository, port):
-    """Without the right, and with a certificate that isn't taken."""
-    for caller, wanted in (("guest", "shop1: refused 8"), ("nobody", "shop1: status 403")):
+def without(tally, python, repository, front):
+    """Without the right, with certificates that aren't taken, and with a front's that has ended."""
+    port = front.port
+    for caller, wanted in (
+        ("guest", "shop1: refused 8"),
+        ("nobody", "shop1: front 403"),
+        ("expired", "shop1: front 495"),
+    ):
         with Exporter(python, repository, port, caller) as exporter:
-            seen = exporter.values()
-            tally.judge(f"{caller} sees no vault", unlike(seen.get(("vault_up", "shop1")), 0))
+            is_seen = exporter.says("vault_up", "shop1", 0)
+            tally.judge(f"{caller} sees no vault", unlike(is_seen, True))
             tally.judge("and is told why", "" if wanted in exporter.told() else exporter.told())
+    with Exporter(python, repository, port, "keyless") as exporter:
+        ended = until(lambda: exporter.process.poll() is not None)
+        tally.judge("without its key it ends", unlike((ended, exporter.process.returncode), (True, 1)))
+
+
+def ends(tally, exporter):
+    """The ends of certificates: of each caller the last one, of the front, authorities and lists."""
+    exporter.says("vault_ends_known", "front", 1)
+    seen, now = exporter.values(), time.time()
+    for label, days in (("caller,till-3", 20), ("caller,till-4", 397), ("front,front", 397)):
+        left = (seen.get(("vault_ends_seconds", label), 0) - now) / DAY
+        tally.judge(f"the end of {label}", "" if days - 1 < left <= days else f"{left} days")
+    for kind in ("authority", "list"):
+        found = [
+            value
+            for (metric, label), value in seen.items()
+            if metric == "vault_ends_seconds" and label.startswith(f"{kind},")
+        ]
+        late = all(3649 < (it - now) / DAY <= 3650 for it in found)
+        tally.judge(f"the ends of two of {kind}", unlike((len(found), late), (2, True)))
+    tally.judge(
+        "no end of what was taken back", unlike(("vault_ends_seconds", "caller,till-9") in seen, False)
+    )
+
+
+def hung(tally, python, repository, front, vault):
+    """Sixty merchants of a vault that hangs, and a connection that says nothing: a scrape takes no time, and
+    the other vault's merchant is asked as ever."""
+    merchants = ["shop2", *(f"many-{it}" for it in range(60))]
+    route = open("haproxy.cfg").read()
+    tally.judge(
+        "a merchant without a line is the first vault's", "" if "default_backend vault" in route else route
+    )
+    with Exporter(python, repository, front.port, merchants=merchants) as exporter:
+        tally.judge("the other vault's merchant is seen", unlike(exporter.says("vault_up", "shop2", 1), True))
+        silent = socket.create_connection(("127.0.0.1", exporter.port))
+        os.kill(vault.process.pid, signal.SIGSTOP)
+        try:
+            exporter.says("vault_up", "many-1", 0, 30)
+            begun = time.monotonic()
+            seen = exporter.values()
+            spent = time.monotonic() - begun
+            tally.judge("a scrape of a hung vault is answered", "" if spent < 5 else f"after {spent:.1f} s")
+            tally.judge("with the other vault's merchant", unlike(seen.get(("vault_up", "shop2")), 1))
+            told = "many-1: no answer within 5 s" in exporter.told() or "many-1: refused 7" in exporter.told()
+            tally.judge("and why", "" if told else exporter.told()[-300:])
+        finally:
+            os.kill(vault.process.pid, signal.SIGCONT)
+            silent.close()
+
+
+def renewed(tally, exporter, front):
+    """Another authority in place of the first, while it runs."""
+    certificates.by_script("authority", "third")
+    for caller in ("watch",):
+        certificates.by_script("caller", "third", caller)
+    certificates.by_script("server", "third", "localhost")
+    for name in ("watch.pem", "watch.key"):
+        os.replace(f"third/{name}", name)
+    shutil.copy("third/callers.pem", "place/callers.pem")
+    certificates.by_script("publish", "third", "place")
+    shutil.copy("third/server.key", "front-files/server.pem.key")
+    front.take(callers="third/callers.pem", revoked="third/revoked.pem", server="third/server.pem")
+    until(lambda: exporter.values().get(("vault_up", "shop1")) == 0, 2)
+    tally.judge("a changed authority is taken up", unlike(exporter.says("vault_up", "shop1", 1), True))
+
+
+def jumped(tally, python, repository, port):
+    """A clock that jumps by an hour, before this program alone."""
+    if not os.path.exists(FAKETIME):
+        print("libfaketime isn't there: a clock that jumps is left out")
+        return
+    with open("clock", "w") as file:
+        file.write("+0")
+    moved = {
+        "LD_PRELOAD": FAKETIME,
+        "FAKETIME_TIMESTAMP_FILE": os.path.abspath("clock"),
+        "FAKETIME_NO_CACHE": "1",
+    }
+    with Exporter(python, repository, port, FAKETIME_DONT_FAKE_MONOTONIC="1", **moved) as exporter:
+        exporter.values()
+        with open("clock", "w") as file:
+            file.write("+3600")
+        far = until(lambda: 3500 < exporter.values().get(("vault_clock_jumped_seconds", ""), 0) < 3700)
+        tally.judge("a clock that jumped", unlike(far, True))
 
 
 def no_more(tally, port):
@@ -144,20 +269,52 @@ def alerts(tally, repository):
     tally.judge("each is tested", unlike(set(re.findall(r"alert: (\w+)", open(rules).read())), tested))
 
 
+def prepare():
+    """The certificates, those of two authorities where the front has its files, and a list of rights."""
+    certificates.make()
+    certificates.untaken()
+    certificates.by_script("caller", ".", "watch")
+    certificates.by_script("authority", "second")
+    for folder, name, days in (
+        (".", "till-3", "20"),
+        (".", "till-4", "20"),
+        ("second", "till-4", "397"),
+        (".", "till-9", "9"),
+    ):
+        os.environ["DAYS"] = days
+        certificates.by_script("caller", folder, name)
+    del os.environ["DAYS"]
+    certificates.by_script("revoke", ".", "till-9")
+    os.mkdir("place")
+    with open("place/callers.pem", "w") as both:
+        both.writelines(open(path).read() for path in ("callers.pem", "second/callers.pem"))
+    for folder in (".", "second"):
+        certificates.by_script("publish", folder, "place")
+    shutil.copy("watch.pem", "keyless.pem")
+    with open("rights.toml", "w") as file:
+        file.write("[back]\nshop1 = ['audit']\nshop3 = ['audit']\n")
+
+
 def main(program, repository, python):
     tally = Tally()
     alerts(tally, repository)
-    certificates.make()
-    certificates.by_script("caller", ".", "watch")
+    prometheus.judge(tally, f"{repository}/deploy/alerts.yaml")
+    prepare()
     with two_vaults(program) as vaults:
         for vault in vaults:
             vault.give({"watch": ("audit",)})
         with contextlib.closing(Front(repository, *vaults)) as front:
             with Exporter(python, repository, front.port) as exporter:
                 counted(tally, exporter, front.port)
+                ends(tally, exporter)
                 no_more(tally, front.port)
                 away(tally, exporter, vaults[0])
-            without(tally, python, repository, front.port)
+            jumped(tally, python, repository, front.port)
+            without(tally, python, repository, front)
+            hung(tally, python, repository, front, vaults[0])
+            with Exporter(python, repository, front.port) as exporter:
+                exporter.says("vault_up", "shop1", 1)
+                renewed(tally, exporter, front)
     asked = {json.loads(it)["asked"] for it in lines.read("front.log") if '"caller":"watch"' in it}
     tally.judge("it stands in the front's log", "" if "audit" in asked else f"{asked}")
     tally.end()

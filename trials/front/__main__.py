@@ -6,7 +6,7 @@ import ssl
 import subprocess
 import sys
 
-from front import both, certificates, guards
+from front import both, certificates, guards, held
 from front.clients import NUMBER, Client
 from front.load import MESSAGES, Load
 from front.services import Front, two_vaults
@@ -116,6 +116,7 @@ def guarded(tally, front):
     both.forgeries(tally, front, token)
     guards.bodies(tally, port)
     guards.numbers(tally, port, token)
+    return token
 
 
 def main(program, repository):
@@ -124,7 +125,9 @@ def main(program, repository):
     with two_vaults(program) as vaults:
         first, second = vaults
         with contextlib.closing(Front(f"{repository}/deploy/nginx.conf", first, second)) as front:
-            guarded(tally, front)
+            token = guarded(tally, front)
+            guards.health(tally, front, first)
+            held.judge(tally, front.port, second)
             away(tally, front.port, first)
             under_load(tally, front.port, first)
             examples(tally, front.port, program, repository, first)

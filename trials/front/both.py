@@ -1,6 +1,6 @@
 """What is judged behind either front."""
 
-from front import forged, guards, subjects
+from front import authorities, forged, guards, subjects
 from front.clients import NUMBER, Client
 from front.load import MESSAGES
 from shared.tally import unlike
@@ -24,13 +24,14 @@ def forgeries(tally, front, token):
     port = front.port
     subjects.judge(tally, port)
     subjects.revoked(tally, port, front)
-    subjects.renewed(tally, port, front)
+    authorities.judge(tally, port, front)
     forged.judge(tally, port)
     forged.by_other_ways(tally, port, token)
     forged.too_large(tally, port)
     forged.of_numbers(tally, port)
     guards.typed_wrong(tally, port)
     guards.by_browsers(tally, port)
+    guards.by_ipv6(tally, port)
 
 
 def by_merchant(tally, port):

@@ -21,9 +21,23 @@ def openssl(*words):
     subprocess.run(["openssl", *words], check=True, capture_output=True)
 
 
-def signed(name, subject, purpose="clientAuth"):
+def signed(name, subject, purpose="clientAuth", letters="utf8only"):
     """A certificate by the authority for any subject, as one might be signed that a caller wrote itself."""
-    openssl("req", *CURVE, "-utf8", "-keyout", f"{name}.key", "-out", f"{name}.csr", "-subj", subject)
+    with open("letters.conf", "w") as file:
+        file.write(f"[req]\ndistinguished_name = none\nstring_mask = {letters}\n[none]\n")
+    openssl(
+        "req",
+        "-config",
+        "letters.conf",
+        *CURVE,
+        "-utf8",
+        "-keyout",
+        f"{name}.key",
+        "-out",
+        f"{name}.csr",
+        "-subj",
+        subject,
+    )
     with open(f"{name}.ext", "w") as file:
         file.write(f"extendedKeyUsage = {purpose}\n")
     by = ("-CA", "callers.pem", "-CAkey", "authority.key", "-CAcreateserial", "-days", "2")

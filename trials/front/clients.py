@@ -28,10 +28,12 @@ class Answer(NamedTuple):
 
 
 class Client:
-    """One connection to the front, which is made anew where it was ended."""
+    """One connection to the front, which is made anew where it was ended. No answer takes longer than its
+    patience. It may come from an address of its own, and go to the front's by IPv6."""
 
-    def __init__(self, port, caller=None):
-        self.port = port
+    def __init__(self, port, caller=None, patience=60, address=None, host="localhost"):
+        self.port, self.patience, self.host = port, patience, host
+        self.source = (address, 0) if address else None
         self.context = ssl.create_default_context(cafile="callers.pem")
         if caller:
             self.context.load_cert_chain(f"{caller}.pem", f"{caller}.key")
@@ -39,7 +41,7 @@ class Client:
 
     def connect(self):
         self.connection = http.client.HTTPSConnection(
-            "localhost", self.port, context=self.context, timeout=60
+            self.host, self.port, context=self.context, timeout=self.patience, source_address=self.source
         )
 
     def ask(self, method, target, body=None, **fields):

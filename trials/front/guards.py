@@ -1,13 +1,17 @@
 """What the front keeps from its logs, its disk and strangers' pages, and how fast numbers go out."""
 
 import http.client
+import json
 import os
+import signal
 import ssl
 import threading
 import time
 
 from front.clients import NUMBER, Client
+from front.services import has_ipv6
 from shared import lines
+from shared.runs import until
 from shared.tally import unlike
 
 TOKENS = "/v1/merchants/shop1/tokens"
@@ -73,6 +77,10 @@ def page(tally, port):
         tally.judge(f"{target} is what it says", unlike(told.fields.get("X-Content-Type-Options"), "nosniff"))
         stranger = Client(port, "nobody").ask("GET", target)
         tally.judge(f"{target} is not for strangers", unlike(stranger.json(), {"front": 403}))
+    told = Client(port, "back").ask("GET", "/caller").json()
+    tally.judge("the page is told who asks", unlike(told, {"caller": "back"}))
+    told = Client(port, "nobody").ask("GET", "/caller").json()
+    tally.judge("and strangers aren't", unlike(told, {"front": 403}))
     for method, target in (
         ("POST", "/"),
         ("GET", "/index.html"),
@@ -106,6 +114,55 @@ def by_browsers(tally, port):
         tally.judge(f"a request of {site}", unlike(answer.status, wanted))
         kept = answer.fields.get("Cache-Control")
         tally.judge(f"the answer of {site} isn't kept", unlike(kept, "no-store"))
+    own = f"https://localhost:{port}"
+    for origin, wanted in (("https://evil.example", 403), ("null", 403), (f"{own}0", 403), (own, 200)):
+        answer = back.ask("GET", target, Origin=origin)
+        tally.judge(f"a request of the origin {origin.replace(own, 'own')}", unlike(answer.status, wanted))
+    form = {"Origin": "https://evil.example", "Content-Type": "application/x-www-form-urlencoded"}
+    told = back.ask("POST", f"{TOKENS}/0000000000009999/revoke", "a=b", **form)
+    tally.judge("another site's form revokes nothing", unlike(told.json(), {"front": 403}))
+
+
+def by_ipv6(tally, port):
+    """The front is there by IPv6 too, where the machine has it; its certificate has no such name."""
+    if not has_ipv6():
+        return
+    client = Client(port, "back", host="::1")
+    client.context.check_hostname = False
+    try:
+        told = client.ask("GET", "/v1/merchants/shop1/audit").status
+    except OSError as error:
+        told = type(error).__name__
+    tally.judge("it listens by IPv6", unlike(told, 200))
+
+
+def health(tally, front, vault):
+    """Whether the vault takes connections, told to who has no certificate."""
+
+    def told(target="/health"):
+        peer = http.client.HTTPConnection("127.0.0.1", front.health, timeout=10)
+        try:
+            peer.request("GET", target)
+            answer = peer.getresponse()
+            return answer.status, json.loads(answer.read())
+        except (OSError, http.client.HTTPException, ValueError) as error:
+            return type(error).__name__
+        finally:
+            peer.close()
+
+    tally.judge("a vault listens", unlike(told(), (200, {"vault": "listens"})))
+    tally.judge(
+        "nothing else is told there", unlike(told("/v1/merchants/shop1/audit"), (404, {"front": 404}))
+    )
+    os.kill(vault.process.pid, signal.SIGSTOP)
+    try:
+        tally.judge("a vault that hangs is silent", unlike(told(), (504, {"vault": "silent"})))
+    finally:
+        os.kill(vault.process.pid, signal.SIGCONT)
+    vault.kill()
+    tally.judge("a vault that is away is opening", unlike(told(), (503, {"vault": "opening"})))
+    vault.start()
+    tally.judge("and listens again", "" if until(lambda: told()[0] == 200) else f"{told()}")
 
 
 def numbers(tally, port, token):

@@ -4,7 +4,6 @@ import contextlib
 import os
 import re
 import shutil
-import signal
 import socket
 import subprocess
 import time
@@ -13,6 +12,7 @@ from shared import shop
 
 # What a back office may do elsewhere, and not at these vaults.
 REST = {"back": ("view", "revoke", "purge")}
+RELOAD = f"{os.path.dirname(os.path.abspath(__file__))}/../../deploy/reload"
 LISTENING = re.compile(rb"listening ([0-9]+)\n")
 
 
@@ -20,6 +20,15 @@ def free_port():
     """A port that nobody listens on just now."""
     with socket.create_server(("127.0.0.1", 0)) as listening:
         return listening.getsockname()[1]
+
+
+def has_ipv6():
+    """Whether this machine has a loopback of IPv6."""
+    try:
+        socket.create_server(("::1", 0), family=socket.AF_INET6).close()
+        return True
+    except OSError:
+        return False
 
 
 class Vault:
@@ -80,29 +89,21 @@ def two_vaults(program):
 class Reloaded:
     """A front whose process has others that answer; by a signal it takes its files anew, with new ones."""
 
-    again = signal.SIGHUP
+    again = "HUP"
 
     def workers(self):
         """The processes that answer just now."""
         with open(f"/proc/{self.process.pid}/task/{self.process.pid}/children") as file:
             return set(file.read().split())
 
-    def has_taken(self, before):
-        """Whether the processes from before are over, and others answer."""
-        now = self.workers()
-        return now and not now & before
-
     def take(self, **files):
-        """Gives it other files, as `take(revoked="revoked.pem")`, and reloads it."""
+        """Gives it other files, as `take(revoked="revoked.pem")`, and reloads it by deploy/reload: what is
+        asked from then on is answered by the new ones."""
         for name, path in files.items():
             shutil.copy(path, f"front-files/{name}.pem")
-        before = self.workers()
-        self.process.send_signal(self.again)
-        for _ in range(200):
-            time.sleep(0.05)
-            if self.has_taken(before):
-                return
-        raise SystemExit("the front didn't reload\n0 passed, 1 failed")
+        pid = str(self.process.pid)
+        if subprocess.run(["sh", RELOAD, pid, "kill", f"-{self.again}", pid]).returncode:
+            raise SystemExit("the front didn't reload\n0 passed, 1 failed")
 
     def close(self):
         """The same as `end`, for a `with`."""
@@ -113,7 +114,7 @@ class Front(Reloaded):
     """nginx by the file that an installation starts from, with this machine's ports and folders."""
 
     def __init__(self, configuration, first, second):
-        self.port = free_port()
+        self.port, self.health = free_port(), free_port()
         self.folder = folder = os.getcwd()
         os.makedirs("front-files", exist_ok=True)
         for name in ("server.pem", "server.key", "callers.pem", "revoked.pem"):
@@ -127,6 +128,8 @@ class Front(Reloaded):
             ("/run/vault-front", f"{folder}/bodies"),
             ("/usr/share/vault/office", f"{os.path.dirname(os.path.abspath(configuration))}/office"),
             ("listen 8443 ssl", f"listen 127.0.0.1:{self.port} ssl"),
+            ("listen [::]:8443 ssl;", f"listen [::1]:{self.port} ssl;" if has_ipv6() else ""),
+            ("127.0.0.1:8404", f"127.0.0.1:{self.health}"),
             ("127.0.0.1:8087", f"127.0.0.1:{first.port}"),
             ("# ~^/v1/merchants/shop2/ 127.0.0.1:8088", f"~^/v1/merchants/shop2/ 127.0.0.1:{second.port}"),
         ):

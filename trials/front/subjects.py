@@ -50,6 +50,9 @@ def judge(tally, port):
     certificates.signed("other-back", "/CN=back")
     second = asked(port, "other-back").status
     tally.judge("a second certificate of a caller is its own too", unlike(second, 200))
+    certificates.signed("two-bytes", "/CN=back", letters="MASK:0x800")
+    told = asked(port, "two-bytes").json()
+    tally.judge("a name in letters of two bytes is nobody's", unlike(told, {"front": 403}))
     certificates.signed("front-1", "/CN=back", "serverAuth")
     servers = asked(port, "front-1").json()
     tally.judge("a server's certificate is no caller's", unlike(servers, {"front": 495}))
@@ -64,8 +67,9 @@ def revoked(tally, port, front):
     told = certificates.by_script("revoke", ".", "till-9")
     tally.judge("it is taken back", unlike(told, "revoked 1\n"))
     front.take(revoked="revoked.pem")
-    again = Client(port, "till-9").ask("GET", target)
-    tally.judge("and isn't taken any more", unlike((again.status, again.json()), (400, {"front": 495})))
+    again = [Client(port, "till-9").ask("GET", target) for _ in range(5)]
+    told = {(it.status, it.body) for it in again}
+    tally.judge("and isn't taken any more, once it is reloaded", unlike(told, {(400, b'{"front":495}')}))
     tally.judge("nor over a connection that was open", unlike(answered(open_one, target), False))
     tally.judge("the others are taken as before", unlike(asked(port, "back").status, 200))
 
@@ -77,19 +81,3 @@ def answered(client, target):
     except OSError:
         return False
 
-
-def renewed(tally, port, front):
-    """Two authorities while one follows the other; then the new one alone."""
-    certificates.by_script("authority", "next")
-    certificates.by_script("caller", "next", "back")
-    for name in ("callers.pem", "revoked.pem"):
-        with open(f"both-{name}", "w") as both:
-            both.writelines(open(path).read() for path in (name, f"next/{name}"))
-    front.take(callers="both-callers.pem", revoked="both-revoked.pem")
-    for name in ("back", "next/back"):
-        tally.judge(f"{name} beside two authorities", unlike(asked(port, name).status, 200))
-    front.take(callers="next/callers.pem", revoked="next/revoked.pem")
-    old = asked(port, "back").json()
-    tally.judge("the old authority's caller is turned away", unlike(old, {"front": 495}))
-    tally.judge("the new one's isn't", unlike(asked(port, "next/back").status, 200))
-    front.take(callers="callers.pem", revoked="revoked.pem")

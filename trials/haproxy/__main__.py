@@ -6,7 +6,7 @@ import sys
 import threading
 import time
 
-from front import both, certificates, guards
+from front import both, certificates, forged, guards, held
 from front.clients import NUMBER, Client
 from front.raw import answer, message
 from front.services import two_vaults
@@ -59,7 +59,28 @@ def refused_by_the_front(tally, port):
     tally.judge("no HTTP is refused", unlike(told.status, 400))
     chunks = message(f"POST {TOKENS} HTTP/1.1", "Transfer-Encoding: chunked") + b"0\r\n\r\n"
     told = answer(port, "till-1", chunks)
-    tally.judge("a body in chunks is refused by the vault", unlike(told.json(), {"refused": 53}))
+    tally.judge("a body in chunks is refused as by the vault", unlike(told.json(), {"refused": 53}))
+    twice = message(f"POST {TOKENS} HTTP/1.1", "Transfer-Encoding: gzip, chunked") + b"0\r\n\r\n"
+    # HAProxy has words of its own for what it can't read, which no configuration changes
+    tally.judge("two codings are refused", unlike(answer(port, "till-1", twice).status, 422))
+    for caller, target in ((None, AUDIT), ("stranger", AUDIT), ("nobody", AUDIT), ("back", "/x")):
+        sent = message(f"GET {target} HTTP/1.1").replace(b"Connection: close\r\n", b"")
+        _, told = forged.passed(port, caller, sent)
+        ends = b"connection: close" in told.lower()
+        tally.judge(f"a refusal of {caller} at {target} ends its connection", "" if ends else "it goes on")
+
+
+def trailers(tally, port, vault):
+    """A body in chunks, and what stands behind it, isn't handed on: it is refused also where nobody is there to
+    hand it to."""
+    vault.kill()
+    sent = (
+        message(f"POST {TOKENS} HTTP/1.1", "Transfer-Encoding: chunked")
+        + b"0\r\nX-Vault-Caller: back\r\n\r\n"
+    )
+    statuses, _ = forged.passed(port, "guest", sent)
+    vault.start()
+    tally.judge("a trailer isn't handed on", unlike(statuses, [411]))
 
 
 def slow(port, found):
@@ -90,6 +111,15 @@ def floods(tally, port):
     tally.judge("another caller isn't refused", unlike(Client(port, "back").ask("GET", AUDIT).status, 200))
 
 
+def by_day(tally, port, token):
+    """A caller that brought back as many numbers as it may in a day, here four, is told to come much later."""
+    back = Client(port, "back")
+    told = [back.ask("POST", f"{TOKENS}/{token}/number") for _ in range(6)]
+    tally.judge("a day's numbers have an end", unlike([it.status for it in told], [200] * 4 + [429] * 2))
+    tally.judge("and it is told when", unlike(told[-1].fields.get("Retry-After"), "3600"))
+    tally.judge("other requests of it go on", unlike(back.ask("GET", AUDIT).status, 200))
+
+
 def figures(tally, front):
     """What the exporter says, and to whom."""
     told = front.numbers()
@@ -114,6 +144,7 @@ def guarded(tally, front):
     guards.page(tally, port)
     waiting.join()
     tally.judge("half a request is told in time", unlike(json.loads(late[0].body), {"front": 408}))
+    return token
 
 
 def at_a_front(repository, vaults, *changes):
@@ -125,15 +156,25 @@ def main(program, repository):
     tally = Tally()
     certificates.make()
     with two_vaults(program) as vaults:
-        first, _ = vaults
+        first, second = vaults
         with at_a_front(repository, vaults) as front:
-            guarded(tally, front)
+            token = guarded(tally, front)
+            guards.health(tally, front, first)
+            trailers(tally, front.port, first)
+            held.judge(tally, front.port, second)
             waits.stopped(tally, front.port, first)
             waits.gone(tally, front.port, first, front)
             waits.crowded(tally, front.port, first)
-        # less patience, and fewer requests than a caller may have otherwise
-        less = ("retries 240", "retries 4"), ("rate gt 2000", "rate gt 20")
+        # less patience, fewer requests than a caller may have otherwise, and a client that says nothing for longer
+        # than it may otherwise: while it waits for the vault it is none
+        less = (
+            ("retries 240", "retries 4"),
+            ("rate gt 2000", "rate gt 20"),
+            ("gpc1_rate ge 1000", "gpc1_rate ge 4"),
+            ("timeout client 15s", "timeout client 1s"),
+        )
         with at_a_front(repository, vaults, *less) as front:
+            by_day(tally, front.port, token)
             floods(tally, front.port)
             waits.told_at_last(tally, front.port, first)
         # more requests than a caller may have otherwise

@@ -9,7 +9,7 @@ import subprocess
 import time
 import urllib.request
 
-from front.services import Reloaded, free_port
+from front.services import Reloaded, free_port, has_ipv6
 
 # the log is a file here, and a socket of syslog where it is installed
 TO_FILE = (("log /dev/log local0", "log stdout format raw local0"),)
@@ -44,10 +44,11 @@ def backends(vaults):
 class Front(Reloaded):
     """The master and its worker; what they log stands in front.log, and their alarms in haproxy.err."""
 
-    again = signal.SIGUSR2
+    again = "USR2"
 
     def __init__(self, repository, vault, *others, pairs=(), log="front.log"):
-        self.port, self.figures = free_port(), free_port()
+        self.port, self.figures, self.health = free_port(), free_port(), free_port()
+        by_ipv6 = f",[::1]:{self.port}" if has_ipv6() else ""
         self.log = log
         self.folder = folder = os.getcwd()
         os.makedirs("front-files", exist_ok=True)
@@ -61,7 +62,8 @@ class Front(Reloaded):
             ("/usr/share/vault/office", f"{os.path.abspath(repository)}/deploy/office"),
             ("chroot /var/lib/haproxy", f"chroot {folder}/nowhere"),
             *(TO_FILE if log == "front.log" else ()),
-            ("bind :8443", f"bind 127.0.0.1:{self.port}"),
+            ("bind :8443,[::]:8443", f"bind 127.0.0.1:{self.port}{by_ipv6}"),
+            ("127.0.0.1:8404", f"127.0.0.1:{self.health}"),
             ("127.0.0.1:8405", f"127.0.0.1:{self.figures}"),
             ("127.0.0.1:8087", f"127.0.0.1:{vault.port}"),
             (f"    # {route('shop2', 'north')}", routes(others)),
@@ -89,13 +91,6 @@ class Front(Reloaded):
             time.sleep(0.05)
         self.end()
         raise SystemExit(f"the front didn't start: {open('haproxy.err').read()}\n0 passed, 1 failed")
-
-    def has_taken(self, before):
-        """Whether a new process answers."""
-        if not self.workers() - before:
-            return False
-        time.sleep(0.5)
-        return True
 
     def numbers(self):
         """What its exporter says."""

@@ -11,6 +11,8 @@ from shared.tally import unlike
 # how long a vault is away at most, and what a wait may take beyond that
 AWAY, MORE = 6.0, 4.0
 CROWD = 300
+# the crowd's, of which none may have as many connections
+ADDRESSES = ("127.0.0.2", "127.0.0.3")
 
 
 def stopped(tally, port, vault):
@@ -78,15 +80,15 @@ def crowded(tally, port, vault):
     vault.kill()
     statuses = []
 
-    def one(caller):
-        answer = Client(port, caller).ask("GET", "/v1/merchants/shop1/audit")
+    def one(caller, address):
+        answer = Client(port, caller, address=address).ask("GET", "/v1/merchants/shop1/audit")
         statuses.append((caller, answer.status))
 
-    threads = [threading.Thread(target=one, args=("guest",)) for _ in range(CROWD)]
+    threads = [threading.Thread(target=one, args=("guest", ADDRESSES[it % 2])) for it in range(CROWD)]
     for thread in threads:
         thread.start()
     time.sleep(4)
-    beside = threading.Thread(target=one, args=("back",))
+    beside = threading.Thread(target=one, args=("back", None))
     beside.start()
     vault.start()
     for thread in (*threads, beside):

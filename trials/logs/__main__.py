@@ -1,5 +1,6 @@
 """The whole trial: python3 -m logs PROGRAM REPOSITORY"""
 
+import contextlib
 import datetime
 import glob
 import gzip
@@ -10,10 +11,11 @@ import sys
 import time
 
 from front import certificates, forged, guards
-from front.clients import Client
+from front.clients import NUMBER, Client
 from front.services import Front as Nginx
-from front.services import two_vaults
+from front.services import REST, two_vaults
 from haproxy.services import Front
+from logs import refusals, taken
 from logs.turned import Syslog, configured, turn
 from shared import lines
 from shared.runs import until
@@ -47,6 +49,7 @@ def by_haproxy(tally, repository, vaults):
             lines.judge(tally, "front.log")
             told = turn("20261102")
             tally.judge("logrotate turns it", told)
+            taken.judge(tally, "HAProxy", front.port, 101)
             asked(front.port, token)
             guards.typed_wrong(tally, front.port)
             forged.of_numbers(tally, front.port)
@@ -71,10 +74,13 @@ def by_nginx(tally, repository, vaults, token):
         time.sleep(0.5)
         asked(front.port, token)
         until(lambda: len(lines.read("front.log")) >= 4)
+        tally.judge("four lines after", unlike(len(lines.read("front.log")), 4))
+        taken.judge(tally, "nginx", front.port, 201)
     finally:
         front.end()
     tally.judge("four lines before", unlike(len(lines.read("front.log-20261104")), 4))
-    tally.judge("four lines after", unlike(len(lines.read("front.log")), 4))
+    turned = os.path.exists("taken.log-20261104") and len(lines.read("taken.log-20261104"))
+    tally.judge("what was taken away is turned too", unlike(turned, 3))
     mode = os.stat("front.log").st_mode & 0o777
     tally.judge("for a few alone", unlike(oct(mode), "0o640"))
 
@@ -137,11 +143,36 @@ def kept(tally):
     tally.judge("the newest of them", "" if newest in found else f"{found[-3:]}")
 
 
+def refused(tally, name, front, repository, token):
+    """What a front refuses, in a log that begins anew, and the crowd that was refused, as it is summed up."""
+    with contextlib.closing(front):
+        many = refusals.judge(tally, name, front.port, token, by_body=name == "HAProxy")
+    told, _ = who(repository, "shop1")
+    of_back = next((line.split() for line in told if line.startswith("back ")), ["", "0", "0"])
+    counted = int(of_back[2]) >= many > 0
+    tally.judge(f"{name}: who.py counts the refused", "" if counted else f"{many}: {told}")
+    words = ("--asked", "tokenize", "--each", "--request", "9223372036854775807")
+    found = who(repository, "shop1", *words)[0]
+    fits = (
+        len(found) == 1 and " guest " in found[0] and "request 922337***5807 reference ref-long" in found[0]
+    )
+    tally.judge(f"{name}: a request is found by its number", "" if fits else f"{found}")
+    lines.judge(tally, "front.log")
+
+
+def emptied():
+    """The log begins anew."""
+    for path in glob.glob("front.log*"):
+        os.remove(path)
+
+
 def without_numbers(tally):
     """No file of the log has a number of a card, nor has what goes to syslog beside it."""
     for path in sorted(glob.glob("front.log*")):
         faults = [it for it in map(lines.fault_of, lines.read(path)) if it]
         tally.judge(f"no number in {path}", f"{faults[:3]}" if faults else "")
+    for path in sorted(glob.glob("taken.log*")):
+        tally.judge(f"no card number in {path}", "it is there" if NUMBER in open(path).read() else "")
     for path in glob.glob("others.log") + ["haproxy.out", "haproxy.err", "vault-error.log"]:
         found = lines.NUMBER.findall(open(path).read())
         tally.judge(f"no number in {path}", f"{len(found)} of them" if found else "")
@@ -152,11 +183,18 @@ def main(program, repository):
     certificates.make()
     configured(repository)
     with two_vaults(program) as vaults:
+        vaults[0].give(REST)
         token = by_haproxy(tally, repository, vaults)
         by_nginx(tally, repository, vaults, token)
-    without_numbers(tally)
-    asked_for(tally, repository)
-    kept(tally)
+        without_numbers(tally)
+        asked_for(tally, repository)
+        kept(tally)
+        emptied()
+        with Syslog(repository):
+            refused(tally, "HAProxy", Front(repository, *vaults, log="haproxy.out"), repository, token)
+        emptied()
+        nginx = Nginx(f"{repository}/deploy/nginx.conf", *vaults)
+        refused(tally, "nginx", nginx, repository, token)
     tally.end()
 
 

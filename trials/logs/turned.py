@@ -59,10 +59,11 @@ def configured(repository):
 
 
 def turn(day):
-    """Turns the log as at the end of a day, and names its file by it; what logrotate says."""
+    """Turns the logs as at the end of a day, and names their files by it; what logrotate says."""
     words = ["logrotate", "--force", "--state", f"{os.getcwd()}/logrotate.state", "logrotate.conf"]
     ran = subprocess.run(words, capture_output=True, text=True)
-    today = time.strftime("front.log-%Y%m%d")
-    if os.path.exists(today):
-        shutil.move(today, f"front.log-{day}")
+    for log in ("front.log", "taken.log"):
+        today = time.strftime(f"{log}-%Y%m%d")
+        if os.path.exists(today):
+            shutil.move(today, f"{log}-{day}")
     return ran.stdout + ran.stderr

@@ -36,15 +36,17 @@ def behind_haproxy(tally, repository, home, vaults, screens):
     """The whole walk."""
     front = Front(repository, *vaults)
     try:
-        tokens = walk.tokens(front.port, 2)
+        tokens = walk.tokens(front.port, 3)
         with Browser(home) as browser:
             person = walk.Walk(tally, browser, front.port, screens)
             walk.opened(person)
+            walk.edges(person)
             walk.looked_up(person, tokens[0])
             walk.number_shown(person)
             walk.counted(person)
             walk.ended(person, tokens[1])
             walk.refused(person, unknown_to(tokens))
+            walk.several(person, [tokens[0], tokens[2]], unknown_to(tokens))
             walk.kept(person)
             walk.by_others(person, front.figures)
             walk.by_another_site(person)

@@ -51,7 +51,7 @@ def prepare(caller):
 class Browser:
     """One window; it is gone at the end of a `with`, and its folder of a profile stays."""
 
-    def __init__(self, home, size=(780, 830)):
+    def __init__(self, home, size=(780, 1040)):
         self.port, self.profile = free_port(), os.path.abspath("profile")
         words = ["unshare", "-m", "sh", "-c", INSIDE, "sh", os.path.abspath("policies")]
         self.driver = subprocess.Popen(
@@ -117,6 +117,25 @@ class Browser:
     def text(self, identity):
         """What a person sees of an element: nothing where it is hidden."""
         return self.ask("GET", f"{self.found(identity)}/text")
+
+    def press(self, identity, key):
+        """Presses one key where an element has the focus."""
+        self.ask("POST", f"{self.found(identity)}/value", {"text": key})
+
+    def put(self, identity, text):
+        """Puts a text as a paste does, its ends of lines too."""
+        made = "it.value = arguments[1]; it.dispatchEvent(new Event('input')); arguments[2]()"
+        self.run(f"const it = document.getElementById(arguments[0]); {made}", identity, text)
+
+    def computed(self, identity, what):
+        """The name or the role that a screen reader has for an element."""
+        return self.ask("GET", f"{self.found(identity)}/computed{what}")
+
+    def seen_as(self, **media):
+        """The page as for a medium, or as in dark."""
+        features = [{"name": "prefers-color-scheme", "value": media.get("scheme", "")}]
+        words = {"media": media.get("media", ""), "features": features}
+        self.ask("POST", "/goog/cdp/execute", {"cmd": "Emulation.setEmulatedMedia", "params": words})
 
     def run(self, script, *words):
         """What a script of the trial's says, which is run in the page."""

@@ -3,6 +3,7 @@
 import http.server
 import json
 import os
+import re
 import subprocess
 import threading
 import time
@@ -14,6 +15,7 @@ from shared.tally import unlike
 
 GROUPED = "4111 1111 1111 1111"
 SHOWN = 30
+ESCAPE = "\ue00c"
 
 
 class Walk:
@@ -46,6 +48,7 @@ def opened(walk):
     walk.tally.judge("the browser finds no fault", "; ".join(walk.browser.told())[:300])
     styled = walk.browser.value("getComputedStyle(document.body).maxWidth")
     walk.tally.judge("its style is there", unlike(styled, "704px"))
+    walk.sees("whose certificate it is", "who", "as back")
 
 
 def looked_up(walk, token):
@@ -56,14 +59,40 @@ def looked_up(walk, token):
         walk.sees(f"its {identity}", identity, wanted)
     enabled = walk.browser.value("[number, revoke, purge].map((it) => it.disabled).join()")
     walk.tally.judge("a live token isn't purged", unlike(enabled, "false,false,true"))
+    birth = walk.browser.text("birth")
+    zoned = re.search(r"[0-9]{2}:[0-9]{2} (?:UTC|GMT|[A-Z]{3,4})", birth)
+    walk.tally.judge("its times have a zone", "" if zoned else birth)
+    walk.looks("shop1", f"{token[:4]}\u00a0{token[4:8]}\u202f{token[8:12]}\u2011{token[12:]}")
+    walk.sees("with no-break spaces it is the same", "mask", "411111******1111")
 
 
 def number_shown(walk):
-    """The number is there for half a minute, and then nowhere in the page."""
+    """The number is there for half a minute, and then nowhere in the page, whatever the clock says. The case
+    for which it was brought back stands in the log."""
+    walk.browser.type("case", NUMBER)
+    before = len(lines.read("front.log"))
+    walk.browser.click("number")
+    walk.sees("a card number is no case", "said", "no ten digits in a row")
+    walk.tally.judge("and isn't sent", unlike(len(lines.read("front.log")), before))
+    walk.browser.type("case", "chargeback 4711")
     walk.browser.click("number")
     walk.sees("the number", "digits", GROUPED)
     begun = time.monotonic()
     walk.pictured("number")
+    until(lambda: "chargeback 4711" in lines.read("front.log")[-1], 5)
+    last = json.loads(lines.read("front.log")[-1])
+    told = last.get("asked"), last.get("reference")
+    walk.tally.judge("the case is logged", unlike(told, ("detokenize", "chargeback 4711")))
+    walk.browser.run("const now = Date.now; Date.now = () => now() - 3600000; arguments[0]()")
+    time.sleep(0.5)
+    left = int(walk.browser.text("left"))
+    walk.tally.judge("a clock that is set back changes nothing", "" if left <= SHOWN else f"{left} s")
+    walk.browser.seen_as(media="print")
+    display = walk.browser.value("getComputedStyle(shown).display")
+    walk.browser.seen_as()
+    walk.tally.judge("the number isn't printed", unlike(display, "none"))
+    role = walk.browser.computed("digits", "role")
+    walk.tally.judge("it isn't read aloud by itself", "" if role != "status" else role)
     until(lambda: time.monotonic() - begun > SHOWN - 4, SHOWN)
     walk.sees("it is there for a while", "digits", GROUPED, 0)
     until(lambda: not walk.browser.text("digits"), SHOWN)
@@ -95,8 +124,10 @@ def counted(walk):
     walk.browser.type("merchant", "shop1")
     walk.browser.click("count")
     walk.sees("the counts", "counts-of", "Counts of shop1")
-    walk.sees("tokens made", "made", "2")
+    walk.sees("tokens made", "made", "3")
     walk.sees("how full it is", "room", "0.0 % of the 1,000,000 tokens")
+    name = walk.browser.computed("full", "label")
+    walk.tally.judge("the meter has a name", "" if "1,000,000 tokens" in name else f"{name!r}")
     walk.pictured("counts")
 
 
@@ -106,7 +137,14 @@ def ended(walk, token):
     walk.sees("a live token", "state", "live")
     walk.browser.click("revoke")
     walk.sees("it is asked whether that is meant", "question", "for good")
+    focused = "document.activeElement.id"
+    walk.tally.judge("on no", unlike(walk.browser.value(focused), "no"))
     walk.browser.click("no")
+    walk.tally.judge("and back where it was asked", unlike(walk.browser.value(focused), "revoke"))
+    walk.browser.click("revoke")
+    walk.browser.press("no", ESCAPE)
+    told = walk.browser.text("question"), walk.browser.value(focused)
+    walk.tally.judge("Escape is no too", unlike(told, ("", "revoke")))
     walk.browser.click("look")
     walk.sees("no leaves it live", "state", "live")
     walk.browser.click("revoke")
@@ -147,6 +185,51 @@ def refused(walk, unknown):
     walk.looks("shop1", NUMBER)
     kept = walk.browser.value("document.getElementById('token').value")
     walk.tally.judge("a card number doesn't stay in its field", unlike(kept, ""))
+    walk.looks("Shop 1", NUMBER)
+    kept = walk.browser.value("document.getElementById('token').value")
+    walk.tally.judge("nor beside a wrong merchant", unlike(kept, ""))
+
+
+def several(walk, tokens, unknown):
+    """A column of tokens is looked up, one after the other; with a card number in it none is sent."""
+    walk.browser.type("merchant", "shop1")
+    before = len(lines.read("front.log"))
+    walk.browser.put("token", "\n".join([*tokens, NUMBER]))
+    walk.browser.click("look")
+    walk.sees("a card number among tokens", "said", "a card number and no token")
+    walk.browser.put("token", "\n".join([tokens[0]] * 51))
+    walk.browser.click("look")
+    walk.sees("too many tokens", "said", "At most 50")
+    walk.tally.judge("none of them was sent", unlike(len(lines.read("front.log")), before))
+    walk.browser.put("token", "\r\n".join([*tokens, unknown]))
+    walk.browser.click("look")
+    walk.sees("a column of tokens", "said", f"{len(tokens) + 1} tokens were looked up")
+    found = walk.browser.value("[...rows.rows].map((it) => it.innerText).join('|')")
+    fits = found.count("411111******1111") == len(tokens) and "has no such token" in found
+    walk.tally.judge("each has a row", "" if fits and found.count("|") == len(tokens) else found)
+    walk.pictured("several")
+    walk.browser.value("rows.querySelector('button').click()")
+    walk.sees("a row opens its token", "of", tokens[0][-4:])
+
+
+def luminance(color):
+    """How light a color is, as the guidelines for the web count it."""
+    parts = [int(it) / 255 for it in re.findall(r"[0-9]+", color)[:3]]
+    linear = [it / 12.92 if it <= 0.03928 else ((it + 0.055) / 1.055) ** 2.4 for it in parts]
+    return sum(weight * it for weight, it in zip((0.2126, 0.7152, 0.0722), linear, strict=True))
+
+
+def edges(walk):
+    """The edges of fields have three to one against what is around them, in light and in dark."""
+    for scheme in ("light", "dark"):
+        walk.browser.seen_as(scheme=scheme)
+        styles = (
+            "[getComputedStyle(at('merchant')).borderTopColor, getComputedStyle(at('asked')).backgroundColor]"
+        )
+        dark, light = sorted(luminance(it) for it in walk.browser.value(styles))
+        ratio = (light + 0.05) / (dark + 0.05)
+        walk.tally.judge(f"the fields' edges in {scheme}", "" if ratio >= 3 else f"{ratio:.1f} to 1")
+    walk.browser.seen_as()
 
 
 def kept(walk):

@@ -8,13 +8,15 @@ ASKED = ("tokenize", "detokenize", "view", "revoke", "purge", "audit", "page", "
 SHAPES = {
     "time": r"20[0-9-]{8}T[0-9:]{8}(?:Z|[+-][0-9:]{5})",
     "from": r"[0-9a-f.:]{1,45}",
-    "caller": r"-|[a-z0-9-]{1,16}",
+    "caller": r"-|\*{4}|[a-z0-9-]{1,16}",
     "merchant": r"-|[a-z0-9-]{1,16}",
     "token": r"-|\*{4}[0-9]{0,4}",
     "asked": "-|" + "|".join(ASKED),
     "status": r"[0-9-]{1,3}",
-    "seconds": r"[0-9.]{1,9}",
     "milliseconds": r"[0-9-]{1,9}",
+    "refused": r"-|\?|14 to 16|[0-9]{1,2}|away|front [0-9]{3}(?: expired| early| revoked| list expired)?",
+    "request": r"-|[0-9]{1,9}|[0-9]{0,6}\*{3}[0-9]{4}",
+    "reference": r"-|[A-Za-z0-9][A-Za-z0-9 ._:/#-]{0,63}",
 }
 # what HAProxy says of its own parts as it starts and stops
 OWN = re.compile(r"Proxy [A-Za-z0-9<>]+ (?:started|stopped \(cumulated conns: FE: [0-9]+, BE: [0-9]+\))\.")
@@ -39,9 +41,10 @@ def fault_of(line):
 
 
 def read(path):
-    """The lines of a log, which may be compressed."""
+    """The lines of a log, which may be compressed. What HAProxy writes behind a bar is no part of this log:
+    rsyslog takes it away, and where HAProxy writes its lines itself it is left out here."""
     with (gzip.open if path.endswith(".gz") else open)(path, "rt") as file:
-        return file.read().splitlines()
+        return [line.partition("|")[0] for line in file.read().splitlines()]
 
 
 def judge(tally, path):
