@@ -39,7 +39,8 @@ for turn in $(seq 200); do [ -e /srv/steps/reached ] && break; sleep 0.05; done
 BEGIN = """systemctl reset-failed vault-backup 2> /dev/null || true
 systemctl start --no-block vault-backup
 """
-END = """{how}
+END = """all="systemctl kill -s KILL vault-backup"
+{how}
 since=$(date +%s%N); $lib/answers vault; echo answered $((($(date +%s%N) - since) / 1000000))
 for turn in $(seq 100); do
     case $(systemctl show -p ActiveState --value vault-backup) in failed | inactive) break ;; esac
@@ -52,7 +53,7 @@ ENDS = {
     "TERM": "systemctl kill -s TERM vault-backup",
     "KILL": "systemctl kill -s KILL vault-backup",
     "HUP": "systemctl kill -s HUP vault-backup",
-    "KILL of the script": "systemctl kill --kill-who=main -s KILL vault-backup",
+    "KILL of the script": "systemctl kill --kill-who=main -s KILL vault-backup 2> /dev/null || $all",
     "stop": "systemctl stop vault-backup",
 }
 

@@ -1,11 +1,11 @@
 """What is asked of a copy, what is restored from one, and what is taken away again afterwards."""
 
-LOOK = """sum=$(cat $copies/vault-* | sha256sum)
+LOOK = """newest=$(ls $copies/*.sound | tail -n 1); sum=$(cat ${{newest%.sound}}* | sha256sum)
 vault-look {words}
-[ "$sum" = "$(cat $copies/vault-* | sha256sum)" ]; systemctl is-active vault
+[ "$sum" = "$(cat ${{newest%.sound}}* | sha256sum)" ]; systemctl is-active vault
 """
 ASK = """ask() {
-    curl -s -w ' %{http_code}\\n' -H "X-Vault-Caller: $1" -H "X-Vault-Request: 77$4" ${5:+-d "$5"} -X "$2" \\
+    curl -s -w ' %{http_code}\\n' -H "X-Vault-Caller: $1" -H "X-Vault-Request: 77000000$4" ${5:+-d "$5"} -X "$2" \\
         http://127.0.0.1:8087/v1/merchants/shop1/$3
 }
 body='{"number":"4111111111111111","use":"single"}'
@@ -75,4 +75,4 @@ for at in $(seq 12); do
 done
 echo over
 """
-    step("a restore that is cut off", steps, r"\A((vault: .*\n)?sound 1 .*\n)*over\n\Z")
+    step("a restore that is cut off", steps, r"\A(sound 1 .*\n(vault: .*\n)?)+over\n\Z")
