@@ -151,7 +151,7 @@ function tokens() {
 // What was typed as a case, or null where the front's log wouldn't take it.
 function reference() {
   const words = at("case").value.trim();
-  const fits = /^[A-Za-z0-9][A-Za-z0-9 ._:/#-]{0,63}$/.test(words) && !/(?:[0-9][ ._:/#-]?){10}/.test(words);
+  const fits = /^[A-Za-z0-9][A-Za-z0-9 ._:/#-]{0,63}$/.test(words) && !/(?:[0-9][ ._:/#-]*){10}/.test(words);
   if (!words || fits) return words;
   say("A case has letters, digits, spaces and . _ : / # - and no ten digits in a row.", true);
   return null;

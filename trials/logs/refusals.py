@@ -2,10 +2,12 @@
 
 import json
 import os
+import re
 import threading
 
 from front import certificates
 from front.clients import NUMBER, Client
+from front.raw import answer, message
 from shared import lines
 from shared.runs import until
 from shared.tally import unlike
@@ -81,8 +83,15 @@ def judge(tally, front, port, token, by_body):
     for reference, caller, method, target, fields, _ in asked:
         Client(port, caller).ask(method, target, **{"X-Vault-Reference": reference, **fields})
     back.ask("GET", "/v1/merchants/shop1/audit", **{"X-Vault-Reference": f"case {NUMBER[:8]} {NUMBER[8:]}"})
+    # a number behind another field of that name, and one with two signs between its parts
+    spaced = "  ".join(NUMBER[it : it + 4] for it in range(0, len(NUMBER), 4))
+    fields = "X-Vault-Reference: first", f"X-Vault-Reference: {NUMBER}", "X-Vault-Request: 1"
+    for more in ((*fields, f"X-Vault-Request: {NUMBER}x"), (f"X-Vault-Reference: case {spaced}",)):
+        answer(port, "back", message("GET /v1/merchants/shop1/audit HTTP/1.1", *more))
     until(lambda: told_of(read(), "ref-gone"), 5)
     found = read()
+    digits = "".join(re.sub("[^0-9]", "", str(it.get("reference", ""))) for it in found)
+    tally.judge(f"{front}: no card number as a reference", "it is there" if NUMBER in digits else "")
     for reference, *_, wanted in asked:
         told = told_of(found, reference)
         seen = {name: told.get(name) for name in wanted}
