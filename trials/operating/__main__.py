@@ -7,8 +7,9 @@ import sqlite3
 import subprocess
 import sys
 
-from shared.machine import Machine, says
 from operating.page import blocks
+from shared.asking import Asked
+from shared.machine import Machine, says
 from shared.tally import Tally, unlike
 
 NUMBER = "4111111111111111"
@@ -182,6 +183,21 @@ systemctl is-active vault; [ $(systemctl show -p MainPID --value vault) != $befo
     says(tally, machine, "after a kill it starts again", killed, r"^active$")
 
 
+def under_load(tally, machine, page):
+    """The block of the copy once more, while a till asks: nobody is refused, and nothing lost."""
+    again = """printf '[till-1]\\nshop1 = ["tokenize"]\\n' >> /etc/vault/rights.toml
+rm /var/backups/vault/*; systemctl reset-failed vault; systemctl restart vault
+"""
+    says(tally, machine, "the till has its right again", again, "")
+    with Asked(machine, callers=1) as asked:
+        well, told = machine.type("sleep 1\n" + page["Backup"][0] + "sleep 1\n")
+    tally.judge("a copy while a till asks", "" if well else told[-400:])
+    tally.judge("each request is answered, and again the same", asked.fault)
+    longest = asked.told.get("longest", 60)
+    tally.judge("nobody waits for a copy", "" if longest < 1 else f"{longest} s")
+    print(f"a copy beside {asked.told.get('answered')} requests: the longest wait {longest} s")
+
+
 def removed(tally, machine):
     """After the package's removal nothing starts at a boot, and the file is there."""
     remove = "apt-get remove -y vault && ls $file"
@@ -265,6 +281,7 @@ def main(program, repository):
             typed(tally, machine, page, section)
             if section in afterwards:
                 afterwards[section](tally, machine)
+        under_load(tally, machine, page)
         removed(tally, machine)
     tally.end()
 

@@ -47,7 +47,8 @@ class Asking:
         return None, None
 
     def work(self, caller):
-        request = 0
+        # the pages ask for tokens too, by small numbers
+        request = 10**6
         while not self.stopped.is_set():
             request += 1
             status, token = self.answered(caller, request)
