@@ -76,7 +76,7 @@ told_here V c s more end (inl w, rest) = elim (piped_of V c s w) [
     answered = λ x y replied. inl (has_answer_of s w.opened w.answered it x y replied);
   })
 ]
-told_here V c s more end (inr rests, rest) = inl (inl rests)
+told_here V c s more end (inr rests, rest) = inl (inl rests.0)
 
 -- and in those before it too
 told_in : (between : List Run) (V : Content) (c : Option Command) (s : Run) (more : List Run) (end : Image)
@@ -116,7 +116,7 @@ agree_here between more r s end V c (inl w, rest) stand = elim (piped_of V c r w
     }))
   ]
 ]
-agree_here between more r s end V c (inr rests, rest) stand = inl (inl rests)
+agree_here between more r s end V c (inr rests, rest) stand = inl (inl rests.0)
 
 agree : (rs between more : List Run) (r s : Run) (end : Image) (V : Content) (c : Option Command)
     (come : Come V c (rs ++ r ∷ (between ++ s ∷ more)) end)

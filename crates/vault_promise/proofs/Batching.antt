@@ -1,10 +1,10 @@
 -- What a batch answered, and what it left undecided, as commands.
 use Rattle.std.proofs.Common.{◌≡◌, ◌⊎◌, ℕ, ◌+◌, ◌<◌, List, [], ◌∷◌, ◌++◌, length, take, map, Option}
 use Rattle.std.proofs.Common.{None, Result, Ok, Err, inl, inr, refl, sym, ap, subst, ◌∙◌, append-nil}
-use Rattle.std.proofs.Common.{append_assoc}
+use Rattle.std.proofs.Common.{append_assoc, IfSome}
 use Rattle.std.proofs.Math.Seq.{take-append-add, take-length}
 use Rattle.std.proofs.lemmas.List.{map-append}
-use Rattle.std.proofs.lemmas.List.Elements.{All-nil}
+use Rattle.std.proofs.lemmas.List.Elements.{All-head, All-nil, All-tail}
 use Rattle.std.specs.Io.KnownBytes.{Appends}
 use Rattle.std.specs.Prelude.{All}
 use Rattle.std.specs.Str.Parse.{digits_value}
@@ -83,6 +83,21 @@ has_one s xs x it =
         rows-more [] = refl
         rows-more (z ∷ zs) = ap (λ rs. fields_in z.unit ∷ rs) (rows-more zs)
 
+-- the last of all
+in_last : (P : Asked → Type 0) (xs : List Asked) (x : Asked) → All P (xs ++ x ∷ []) → P x
+in_last P [] x all = All-head P x [] all
+in_last P (y ∷ xs) x all = in_last P xs x (All-tail P y (xs ++ x ∷ []) all)
+
+-- a row that isn't answered asks for its command
+next_row : (who : Asker) (s : Streams) (xs : List Asked) (x : Asked) → Asks who x
+    → BeginRecordsOf s.left_old (records_with (rows_of xs) ++ fields_in x.unit ∷ [])
+    → (w : Wanted Command) → x.wanted ≡ w
+    → IfSome (command_in w) (λ c. (rows : List Asked) × (it : Asked) × (commands_of xs ≡ commands_of rows)
+    × Asks who it × (it.wanted ≡ Ok c)
+    × BeginRecordsOf s.left_old (records_with (rows_of rows) ++ fields_in it.unit ∷ []))
+next_row who s xs x asks came (Ok c) is = (xs, x, refl, asks, is, came)
+next_row who s xs x asks came (Err n) is = tt
+
 module _ (who : Asker) (now : Option ℕ) (digits : Option (List ℕ)) (named : IsName who.caller)
     (at : IsName who.merchant) (w : Passage) (V : Content) (b : IsBefore w V) (s : Streams) (F : Type 0) where
   -- of the lines of these rows so many bytes went out
@@ -136,6 +151,7 @@ module _ (who : Asker) (now : Option ℕ) (digits : Option (List ℕ)) (named : 
       proper = rows_proper xs of asked;
       last_proper = tt;
       tells = (xs, asked, refl, record { records = records; fixed = of }, went);
+      next = tt;
       done = λ _. tt;
       left = subst (λ W. w.left_new W W) (as_run V xs) left;
     }
@@ -166,6 +182,7 @@ module _ (who : Asker) (now : Option ℕ) (digits : Option (List ℕ)) (named : 
         record {
           answered = commands_of xs;
           undecided = command_in x.wanted;
+          next = next_row who s xs x (in_last (Asks who) xs x asked) records x.wanted refl;
           proper = proper-first (commands_of xs) (commands_in x.wanted) proper;
           last_proper = wanted_proper x.wanted (proper-last (commands_of xs) (commands_in x.wanted) proper);
           tells = (

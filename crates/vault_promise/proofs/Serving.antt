@@ -24,12 +24,12 @@ use Rattle.vault_jobs.specs.declared.task.Outcome.{Outcome}
 use Rattle.vault_jobs.specs.declared.task.Outcome.TheVariants as outcome
 use Rattle.vault_jobs.specs.declared.task.Task.TheVariants as task
 use Rattle.vault_promise.proofs.Answering.{Answers, served_answer, stopped_answer}
-use Rattle.vault_promise.proofs.PipedMessages.{as_run, command_in, commands_then, run_append}
+use Rattle.vault_promise.proofs.PipedMessages.{as_run, command_in, commands_then, next_asked, run_append}
 use Rattle.vault_promise.proofs.PipedMessages.{run_then, wanted_proper}
 use Rattle.vault_promise.proofs.Proper.{proper-append, proper-first, proper-last}
 use Rattle.vault_promise.proofs.TaskAnswers.{Works}
 use Rattle.vault_promise.specs.Runs.{perhaps}
-use Rattle.vault_promise.specs.Told.{AllAnswer, AreAnswered, streams_of}
+use Rattle.vault_promise.specs.Told.{AllAnswer, AreAnswered, IsAskedNext, IsLastNext, streams_of}
 
 -- what a connection answered
 answers_in : (tells : Turns) (V W U : Content) (x : Link) → (it : Leads tells V W U x)
@@ -52,11 +52,12 @@ record LinkAnswers (V W U : Content) (x : Link) : Type 0 where
   proper : AllProper answered
   last_proper : IfSome undecided IsProper
   told : AreAnswered None None V answered (streams_of x)
+  next : IfSome undecided (IsAskedNext None None (streams_of x) answered)
   leads : run answered V ≡ W
   other : perhaps W undecided ≡ U
 
 link_answers : (tells : Turns) (V W U : Content) (x : Link) → Leads tells V W U x → LinkAnswers V W U x
-link_answers tells V W U x it = by_more a.undecided a.few a.proper (a.left V b)
+link_answers tells V W U x it = by_more a.undecided a.same a.few a.proper (a.left V b)
   where
     a : Answers None None (link_from V W U it.pairs x) (streams_of x)
     a = answers_in tells V W U x it
@@ -64,18 +65,20 @@ link_answers tells V W U x it = by_more a.undecided a.few a.proper (a.left V b)
     b : IsBefore (link_from V W U it.pairs x) V
     b = (tt, refl)
 
-    by_more : (us : List (Asked Parts)) → length us ≤ 1 → AllProper (commands_of (a.exchanges ++ us))
+    by_more : (us : List (Asked Parts)) → a.heard.more ≡ us → length us ≤ 1
+        → AllProper (commands_of (a.exchanges ++ us))
         → (vault_after V a.exchanges ≡ W) × (vault_after V (a.exchanges ++ us) ≡ U) → LinkAnswers V W U x
-    by_more [] few proper left = record {
+    by_more [] same few proper left = record {
       answered = commands_of a.exchanges;
       undecided = None;
       proper = subst (λ ys. AllProper (commands_of ys)) (append-nil a.exchanges) proper;
       last_proper = tt;
       told = (a.exchanges, refl, a.heard, a.went V b);
+      next = tt;
       leads = sym (as_run V a.exchanges) ∙ left.0;
       other = sym left.0 ∙ ap (vault_after V) (sym (append-nil a.exchanges)) ∙ left.1;
     }
-    by_more (y ∷ []) few proper left =
+    by_more (y ∷ []) same few proper left =
         let both : AllProper (commands_of a.exchanges ++ commands_in y.wanted) =
         subst AllProper (commands_then a.exchanges y) proper in
         record {
@@ -85,11 +88,12 @@ link_answers tells V W U x it = by_more a.undecided a.few a.proper (a.left V b)
           last_proper = wanted_proper y.wanted
               (proper-last (commands_of a.exchanges) (commands_in y.wanted) both);
           told = (a.exchanges, refl, a.heard, a.went V b);
+          next = next_asked None None (streams_of x) a.exchanges y a.heard same y.wanted refl;
           leads = sym (as_run V a.exchanges) ∙ left.0;
           other = ap (λ X. perhaps X (command_in y.wanted)) (sym left.0 ∙ as_run V a.exchanges)
               ∙ sym (run_then V a.exchanges y) ∙ left.1;
         }
-    by_more (y ∷ z ∷ us) few proper left = absurd (omega (arith, few))
+    by_more (y ∷ z ∷ us) same few proper left = absurd (omega (arith, few))
 
 -- the commands that connections answered
 record AllAnswers (V W : Content) (xs : List (Option Link)) : Type 0 where
@@ -142,6 +146,12 @@ answer_then (Some y ∷ xs) x V cs ds (first, more, is, here, rest) one = (
       (ap (λ es. run es V) is ∙ run_append first more V) one),
 )
 
+-- what the last connection asks for
+on_last : (links first : List (Option Link)) (x : Link) → links ≡ first ++ Some x ∷ [] → (cs : List Command)
+    (o : Option Command) → IfSome o (IsAskedNext None None (streams_of x) cs) → IfSome o (IsLastNext links)
+on_last links first x are cs None next = tt
+on_last links first x are cs (Some c) next = (first, x, cs, are, next)
+
 module _ (tells : Turns) (w : Passage) (V : Content) (b : IsBefore w V) (s : Streams)
     (port connections : ℕ) (F : Type 0) where
   abbrev Goal : Type 0
@@ -158,6 +168,7 @@ module _ (tells : Turns) (w : Passage) (V : Content) (b : IsBefore w V) (s : Str
         proper = a.proper;
         last_proper = tt;
         tells = a.told;
+        next = tt;
         done = λ _. tt;
         left = subst (λ X. w.left_new X X) (sym a.leads) it.2.1;
       }
@@ -169,6 +180,7 @@ module _ (tells : Turns) (w : Passage) (V : Content) (b : IsBefore w V) (s : Str
     proper = tt;
     last_proper = tt;
     tells = subst (λ xs. AllAnswer V xs []) (sym none) refl;
+    next = tt;
     done = λ _. tt;
     left = (same V b).1;
   }
@@ -189,6 +201,7 @@ module _ (tells : Turns) (w : Passage) (V : Content) (b : IsBefore w V) (s : Str
         undecided = last.undecided;
         proper = proper-append before.answered last.answered before.proper last.proper;
         last_proper = last.last_proper;
+        next = on_last s.links first x are last.answered last.undecided last.next;
         tells = subst (λ xs. AllAnswer V xs (before.answered ++ last.answered)) (sym are)
             (answer_then first x V before.answered last.answered before.told told);
         done = λ _. tt;

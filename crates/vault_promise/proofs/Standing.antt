@@ -192,7 +192,7 @@ texts_stand (task.Serve port connections (Some it)) W cs s Later stand (inr (mor
     links_stand s.links (run changes W) more Later (later_stand W cs changes more Later is stand) told
 texts_stand t W cs s Later stand told = tt
 
-stand_in : HistoriesLast → (V : Content) (c : Option Command) (rs : List Run) (end : Image)
+pub stand_in : HistoriesLast → (V : Content) (c : Option Command) (rs : List Run) (end : Image)
     (come : Come V c rs end) → Sound V → IsHistory V (history V c rs end come) → Stand V c rs end come
 stand_in lasting V c [] end come sound is = tt
 stand_in lasting V c (r ∷ rs) end (inl w, more) sound is =

@@ -79,6 +79,7 @@ module _ (who : Asker) (now : ℕ) (named : IsName who.caller) (at : IsName who.
         proper = swept_proper tokens (left_dead who now tokens V) V sound swept.0 swept.1;
         last_proper = tt;
         tells = (tokens, refl, swept, told, inr may);
+        next = tt;
         done = λ f. (may, (tokens, refl, none f));
         left = left;
       }
@@ -102,6 +103,7 @@ module _ (who : Asker) (now : ℕ) (named : IsName who.caller) (at : IsName who.
             last_proper = first_proper U token begins.0
                 (stays_sound V (purges_at who now tokens) sound proper) begins.1;
             tells = (tokens, refl, swept, inl calm, inr may);
+            next = (tokens, token, refl, refl, begins);
             done = λ f. absurd (undone f);
             left = subst (λ W. w.left_new U W)
                 (ap (λ ds. run ds V) (map-append (λ t. purge_at who now t) tokens (token ∷ []))

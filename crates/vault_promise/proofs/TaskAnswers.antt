@@ -1,6 +1,7 @@
 -- What a task answered, and what it left undecided.
 use Rattle.std.proofs.Common.{◌≡◌, ℕ, ◌+◌, ◌<◌, zero, suc, List, [], ◌∷◌, ◌++◌, length, take, Option, Some}
-use Rattle.std.proofs.Common.{None, Bool, true, false, Result, Ok, Err, inl, inr, refl, ap, subst, ◌∙◌, arith}
+use Rattle.std.proofs.Common.{None, Bool, true, false, Result, Ok, Err, inl, inr, refl, sym, ap, subst, ◌∙◌}
+use Rattle.std.proofs.Common.{arith}
 use Rattle.std.specs.Prelude.{IfSome, codes}
 use Rattle.std.specs.Global.{Vec}
 use Rattle.vault_rights.specs.Named.{Row}
@@ -33,7 +34,7 @@ use Rattle.vault_jobs.specs.declared.task.Outcome.TheVariants as outcome
 use Rattle.vault_jobs.specs.declared.task.Task.{Task}
 use Rattle.vault_jobs.specs.declared.task.Task.TheVariants as task
 use Rattle.vault_promise.specs.Runs.{perhaps}
-use Rattle.vault_promise.specs.Told.{AllDone, IsQuiet, Tells}
+use Rattle.vault_promise.specs.Told.{AllDone, AreFirst, IsNext, IsQuiet, Tells}
 use Rattle.vault_app.specs.Values.{IsOwn}
 
 -- From this vault a task answered commands, of which alone it told; and of one more at most it isn't known
@@ -44,6 +45,7 @@ pub record Works (w : Passage) (V : Content) (t : Task) (IsDone : Type 0) (s : S
   pub proper : AllProper answered
   pub last_proper : IfSome undecided IsProper
   pub tells : Tells t V answered s
+  pub next : IfSome undecided (IsNext t V answered s)
   pub done : IsDone → AllDone t V answered
   pub left : w.left_new (run answered V) (perhaps (run answered V) undecided)
 
@@ -79,6 +81,7 @@ module _ (w : Passage) (V : Content) (b : IsBefore w V) (s : Streams) (unsent : 
       proper = (proper, tt);
       last_proper = tt;
       tells = inr (refl, (carried V b).0);
+      next = tt;
       done = λ _. (refl, (carried V b).0);
       left = (carried V b).1.1;
     }
@@ -92,7 +95,8 @@ module _ (w : Passage) (V : Content) (b : IsBefore w V) (s : Streams) (unsent : 
       undecided = None;
       proper = (proper, tt);
       last_proper = tt;
-      tells = inl (quiet h.0);
+      tells = inl (quiet h.0, (1, refl));
+      next = tt;
       done = λ f. absurd (cc (fin f));
       left = (h.1 V b).1.1;
     }
@@ -102,7 +106,8 @@ module _ (w : Passage) (V : Content) (b : IsBefore w V) (s : Streams) (unsent : 
       undecided = None;
       proper = tt;
       last_proper = tt;
-      tells = inl (quiet h.0);
+      tells = inl (quiet h.0, (0, refl));
+      next = tt;
       done = λ f. absurd (cc (fin f));
       left = (h.1 V b).1;
     }
@@ -111,7 +116,8 @@ module _ (w : Passage) (V : Content) (b : IsBefore w V) (s : Streams) (unsent : 
       undecided = Some c;
       proper = tt;
       last_proper = proper;
-      tells = inl (quiet h.0);
+      tells = inl (quiet h.0, (0, refl));
+      next = refl;
       done = λ f. absurd (cc (fin f));
       left = h.1.0 refl V b;
     }
@@ -153,7 +159,8 @@ module _ (w : Passage) (V : Content) (b : IsBefore w V) (s : Streams) (unsent : 
   -- commands of which the task tells alone that all are done
   module _ (t : Task) (cs : List Command) (line : List ℕ) (proper : AllProper cs)
       (told : AreDone (length cs) cs V → Tells t V cs s)
-      (silent : (ds : List Command) → IsQuiet s → Tells t V ds s)
+      (silent : (k : ℕ) → IsQuiet s → Tells t V (take k cs) s)
+      (asked : (ds : List Command) (x : Command) → AreFirst (ds ++ x ∷ []) cs → IsNext t V ds s x)
       (ended : AreDone (length cs) cs V → AllDone t V cs) where
     all_works : (broken : Bool) → CarriesAll cs w broken (Ok (Ok tt)) → Works w V t F s
     all_works broken carried = record {
@@ -162,6 +169,7 @@ module _ (w : Passage) (V : Content) (b : IsBefore w V) (s : Streams) (unsent : 
       proper = proper;
       last_proper = tt;
       tells = told (carried V b).0;
+      next = tt;
       done = λ _. ended (carried V b).0;
       left = (carried V b).1.1;
     }
@@ -176,7 +184,8 @@ module _ (w : Passage) (V : Content) (b : IsBefore w V) (s : Streams) (unsent : 
           undecided = None;
           proper = first_proper (k + 1) cs proper;
           last_proper = tt;
-          tells = silent (take (k + 1) cs) calm;
+          tells = silent (k + 1) calm;
+          next = tt;
           done = λ f. absurd (never f);
           left = (h.2 V b).1.1;
         }
@@ -190,7 +199,8 @@ module _ (w : Passage) (V : Content) (b : IsBefore w V) (s : Streams) (unsent : 
           undecided = None;
           proper = first_proper k cs proper;
           last_proper = tt;
-          tells = silent (take k cs) calm;
+          tells = silent k calm;
+          next = tt;
           done = λ f. absurd (never f);
           left = (h.2 V b).1.1;
         }
@@ -202,7 +212,8 @@ module _ (w : Passage) (V : Content) (b : IsBefore w V) (s : Streams) (unsent : 
           undecided = Some more.one;
           proper = first_proper k cs proper;
           last_proper = more.proper proper;
-          tells = silent (take k cs) calm;
+          tells = silent k calm;
+          next = asked (take k cs) more.one (k + 1, sym more.is);
           done = λ f. absurd (never f);
           left = subst (λ W. w.left_new (run (take k cs) V) W)
               (ap (λ ds. run ds V) more.is ∙ run_more (take k cs) more.one V) (h.2 V b).2;
@@ -228,4 +239,5 @@ module _ (w : Passage) (V : Content) (b : IsBefore w V) (s : Streams) (unsent : 
       unsent s.sent_old s.sent_new s.writer → Works w V (task.Give rights now) F s
   give_works rights now proper broken r fin h =
       commands_works (task.Give rights now) (grants_at now rights.items) (granted_line (length rights.items))
-      proper (λ done. inr (refl, done)) (λ ds calm. inl calm) (λ done. (refl, done)) broken r fin h
+      proper (λ done. inr (refl, done)) (λ k calm. inl (calm, (k, refl))) (λ ds x first. first)
+      (λ done. (refl, done)) broken r fin h

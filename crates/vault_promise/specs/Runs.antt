@@ -16,6 +16,7 @@ use Rattle.vault_core.specs.Sound.{Sound}
 use Rattle.vault_core.specs.Table.{after, reply}
 use Rattle.vault_core.specs.Vault.{Vault as Content, empty_vault}
 use Rattle.vault_core.specs.declared.command.Command.{Command}
+use Rattle.vault_file.specs.Found.{IsNoVerdict}
 use Rattle.vault_file.specs.Reopened.{KeepsSome}
 use Rattle.vault_recover.specs.Crashed.{AreBlank, KeepsEither, KeepsFirst, MayFind}
 use Rattle.vault_schema.specs.Stands.{lookups_of}
@@ -32,13 +33,13 @@ use Rattle.vault_words.specs.declared.jobs.Job.{Job}
 use Rattle.vault_app.specs.Jobs.{RunsAs}
 use Rattle.vault_app.specs.Plans.{EndsPlanless, IsTaskOf, saying}
 use Rattle.vault_app.specs.Asked.{AsksFor}
-use Rattle.vault_app.specs.Saying.{IsBeside, path_of}
+use Rattle.vault_app.specs.Saying.{IsBeside, OfMove, Purpose, path_of}
 use Rattle.vault_app.specs.World.{anything, world_of}
 use Rattle.vault_app.specs.declared.ending.Ending.{Ending}
 use Rattle.vault_app.specs.declared.ending.Ending.TheVariants.{Done, NotOpened}
 use Rattle.vault_file.specs.declared.fault.NotOpened.{NotOpened as FileFault}
 use Rattle.vault_promise.specs.SoundHistories.{Lasts}
-use Rattle.vault_promise.specs.Told.{AllDone, IsQuiet, Tells}
+use Rattle.vault_promise.specs.Told.{AllDone, IsNext, IsQuiet, Tells}
 
 -- a run: the bytes that the files had before it, its words, how it ended, and what came in and went out, with
 -- its connections, but for the line that says how it ended
@@ -59,6 +60,11 @@ perhaps V (Some c) = after V c
 abbrev pub AreOf : Image → Content → Option Command → Type 0
 AreOf image V c = KeepsEither image V (perhaps V c)
     ⊎ (c ≡ None) × KeepsSome image V
+    ⊎ (c ≡ None) × (V ≡ empty_vault) × ((before : Trees) × AreBlank before × KeepsFirst image before)
+
+-- so in the newest schema, or with no table yet
+abbrev pub AreNew : Image → Content → Option Command → Type 0
+AreNew image V c = KeepsEither image V (perhaps V c)
     ⊎ (c ≡ None) × (V ≡ empty_vault) × ((before : Trees) × AreBlank before × KeepsFirst image before)
 
 -- the bytes hold the vault, in some schema; or no table, where it is the empty one
@@ -93,6 +99,23 @@ Rests r = EndsPlanless anything r.words r.ending (IsQuiet r.streams)
     ⊎ ((why : FileFault) × (r.ending ≡ NotOpened why)) × IsQuiet r.streams
     ⊎ AsksFor r.words IsAside
 
+-- the words ask for a move to the newest schema
+abbrev pub IsMoving : Purpose → Type 0
+IsMoving (OfMove path) = Unit {0}
+IsMoving purpose = ⊥
+
+abbrev pub AsksMove : List Text → Type 0
+AsksMove words = AsksFor words (λ job. IsMoving (saying job).purpose)
+
+-- if the file isn't opened, that isn't for its schema or its rows: it is refused by neither 30 nor 31
+abbrev pub IsSpared : Run → Type 0
+IsSpared r = (why : FileFault) → r.ending ≡ NotOpened why → IsNoVerdict why
+
+-- What those before a run leave isn't refused so: in the newest schema by no run, and by a move in none.
+pub record Spared (V : Content) (c : Option Command) (r : Run) : Type 0 where
+  pub newest : AreNew r.begins V c → IsSpared r
+  pub moving : AreOf r.begins V c → AsksMove r.words → IsSpared r
+
 -- The words of a run ask for a task. It opened the vault V, or the one after the command that was undecided:
 -- the one that the bytes hold. From there commands were answered, one after the other, and then the store
 -- failed at one more at most. What went out tells of those answered; and so does the end, where it is done.
@@ -107,11 +130,13 @@ pub record Work (V : Content) (c : Option Command) (r : Run) : Type 0 where
   pub proper : AllProper answered
   pub last_proper : IfSome undecided IsProper
   pub tells : Tells task opened answered r.streams
+  pub next : IfSome undecided (IsNext task opened answered r.streams)
   pub done : r.ending ≡ Done → AllDone task opened answered
+  pub opens : (why : FileFault) → ¬ (r.ending ≡ NotOpened why)
 
--- it worked so, or it rests
+-- it worked so, or it rests, and its file is spared
 abbrev pub Comes : Content → Option Command → Run → Type 0
-Comes V c r = Work V c r ⊎ Rests r
+Comes V c r = Work V c r ⊎ Rests r × Spared V c r
 
 -- the vault that it leaves, and the command that it leaves undecided
 abbrev pub kept_by : (V : Content) (c : Option Command) (r : Run) → Comes V c r → Content
@@ -122,11 +147,23 @@ abbrev pub undecided_by : (V : Content) (c : Option Command) (r : Run) → Comes
 undecided_by V c r (inl w) = w.undecided
 undecided_by V c r (inr rests) = c
 
--- A run up to these bytes: from each sound vault that those before it are of it comes to something, and these
--- are of what it leaves.
+-- it worked; or it moved the file to the newest schema, and is done
+abbrev pub MakesNew : (V : Content) (c : Option Command) (r : Run) → Comes V c r → Type 0
+MakesNew V c r (inl w) = Unit {0}
+MakesNew V c r (inr rests) = (r.ending ≡ Done) × AsksMove r.words
+
+-- A run that comes to this leads on to these bytes: they are of the vault that it leaves, and in the newest
+-- schema where it makes them so, or found them so.
+pub record Leads (V : Content) (c : Option Command) (r : Run) (it : Comes V c r) (next : Image) : Type 0 where
+  pub of : AreOf next (kept_by V c r it) (undecided_by V c r it)
+  pub newest : MakesNew V c r it ⊎ AreNew r.begins V c
+      → AreNew next (kept_by V c r it) (undecided_by V c r it)
+
+-- A run up to these bytes: from each sound vault that those before it are of it comes to something, and leads
+-- on to these.
 abbrev pub IsRun : Run → Image → Type 0
 IsRun r next = (V : Content) (c : Option Command) → Sound V → IfSome c IsProper → AreOf r.begins V c
-    → ∥ ((it : Comes V c r) × AreOf next (kept_by V c r it) (undecided_by V c r it)) ∥₁
+    → ∥ ((it : Comes V c r) × Leads V c r it next) ∥₁
 
 -- the path of the file with which a job works, if it works with one
 abbrev pub file_of : Job → Option (List ℕ)
@@ -169,6 +206,14 @@ abbrev pub Come : Content → Option Command → List Run → Image → Type 0
 Come V c [] end = AreOf end V c
 Come V c (r ∷ rs) end = (it : Comes V c r) × Come (kept_by V c r it) (undecided_by V c r it) rs end
 
+-- The bytes with which each of them begins are of the vault that those before it leave, and each leads on to
+-- those of the next.
+abbrev pub Follow : (V : Content) (c : Option Command) (rs : List Run) (end : Image) → Come V c rs end
+    → Type 0
+Follow V c [] end come = Unit {0}
+Follow V c (r ∷ rs) end (it, more) = AreOf r.begins V c × Leads V c r it (before rs end)
+    × Follow (kept_by V c r it) (undecided_by V c r it) rs end more
+
 -- commands are answered from a vault
 abbrev pub answers : Content → List Command → List (Step × Content)
 answers V [] = []
@@ -195,4 +240,4 @@ abbrev pub RunsComeToHistories : Type 0
 RunsComeToHistories =
     (rs : List Run) (end : Image) (V : Content) → Sound V → AreOf (before rs end) V None → Runs rs end
     → ∥ ((come : Come V None rs end) × IsHistory V (history V None rs end come)
-    × Lasts V (history V None rs end come)) ∥₁
+    × Lasts V (history V None rs end come) × Follow V None rs end come) ∥₁

@@ -1,6 +1,6 @@
 -- What goes out of a task tells of commands that were answered.
 use Rattle.std.specs.Prelude.{◌≡◌, ◌⊎◌, ◌≤◌, ℕ, List, [], ◌∷◌, ◌++◌, All, Option, Some, None, length, take}
-use Rattle.std.specs.Prelude.{true}
+use Rattle.std.specs.Prelude.{true, Ok}
 use Rattle.std.specs.Io.KnownBytes.{Appends, Consumes}
 use Rattle.vault_core.specs.Keys.{Bytes}
 use Rattle.vault_core.specs.Runs.{run}
@@ -21,14 +21,14 @@ use Rattle.vault_batch.specs.Batched.{lines, rows_of}
 use Rattle.vault_batch.specs.Lines.{first_line}
 use Rattle.vault_engine.specs.Answered.{pairs_of, units_of}
 use Rattle.vault_engine.specs.Asking as engine
-use Rattle.vault_batch.specs.Rows.{AreRecordsOf, BeginRecordsOf, Fields, records_with}
+use Rattle.vault_batch.specs.Rows.{AreRecordsOf, BeginRecordsOf, Fields, fields_in, records_with}
 use Rattle.vault_listen.specs.Peers.{Link}
 use Rattle.vault_jobs.specs.Ahead.{MaySweep}
 use Rattle.vault_jobs.specs.Changes.{changes_at, rights_of}
 use Rattle.vault_jobs.specs.Grants.{AreDone, grants_at}
 use Rattle.vault_jobs.specs.Listing.{shown_text}
 use Rattle.vault_jobs.specs.Streams.{Streams}
-use Rattle.vault_jobs.specs.Sweeps.{AreSwept, left_dead, purges_at}
+use Rattle.vault_jobs.specs.Sweeps.{AreSwept, Begin, left_dead, purge_at, purges_at}
 use Rattle.vault_jobs.specs.declared.task.Task.{Task}
 use Rattle.vault_jobs.specs.declared.task.Task.TheVariants.{Change, Give, Settle, Sweep, Batch, Pipe, Serve}
 use Rattle.vault_jobs.specs.declared.task.Task.TheVariants.{Show}
@@ -104,6 +104,10 @@ AllAnswer V (None ∷ xs) cs = AllAnswer V xs cs
 AllAnswer V (Some x ∷ xs) cs = (first more : List Command) × (cs ≡ first ++ more)
     × AreAnswered None None V first (streams_of x) × AllAnswer (run first V) xs more
 
+-- these commands are the first of those
+abbrev pub AreFirst : List Command → List Command → Type 0
+AreFirst cs all = (k : ℕ) × (cs ≡ take k all)
+
 -- Commands were answered from the vault V, one after the other, and what went out tells of these alone. A
 -- line of `done`, of rights or of numbers that are purged, or a part of it, says that all are done; where a
 -- sweep may not begin, no number is purged, and none of that line went out. Lines of rows and texts of
@@ -112,11 +116,12 @@ AllAnswer V (Some x ∷ xs) cs = (first more : List Command) × (cs ≡ first ++
 -- make the rights the list's, and no connection is answered before they are done. What a vault is said to
 -- hold is the text of it, or the first bytes of that.
 abbrev pub Tells : Task → Content → List Command → Streams → Type 0
-Tells (Change c) V cs s = IsQuiet s ⊎ (cs ≡ c ∷ []) × (reply V c ≡ Done)
-Tells (Give rights now) V cs s =
-    IsQuiet s ⊎ (cs ≡ grants_at now rights.items) × AreDone (length cs) cs V
+Tells (Change c) V cs s = IsQuiet s × AreFirst cs (c ∷ []) ⊎ (cs ≡ c ∷ []) × (reply V c ≡ Done)
+Tells (Give rights now) V cs s = IsQuiet s × AreFirst cs (grants_at now rights.items)
+    ⊎ (cs ≡ grants_at now rights.items) × AreDone (length cs) cs V
 Tells (Settle rights now) V cs s =
-    IsQuiet s ⊎ (cs ≡ changes_at true now rights.items (rights_of V)) × AreDone (length cs) cs V
+    IsQuiet s × AreFirst cs (changes_at true now rights.items (rights_of V))
+    ⊎ (cs ≡ changes_at true now rights.items (rights_of V)) × AreDone (length cs) cs V
 Tells (Sweep who now giver) V cs s = (tokens : List Bytes) × (cs ≡ purges_at who now tokens)
     × AreSwept who now tokens V × (IsQuiet s ⊎ (left_dead who now tokens V ≡ []))
     × ((tokens ≡ []) × IsQuiet s ⊎ MaySweep giver V who.merchant now)
@@ -132,3 +137,34 @@ Tells (Serve port connections (Some it)) V cs s =
     × AllAnswer (run changes V) s.links more))
 Tells (Show it) V cs s =
     (cs ≡ []) × ((sent : ℕ) × Appends s.sent_old s.sent_new (take sent (shown_text it V)))
+
+-- The message behind those of these commands asks for this one: it was read, and isn't answered.
+abbrev pub IsAskedNext : Option ℕ → Option (List ℕ) → Streams → List Command → Command → Type 0
+IsAskedNext now digits s cs x = (xs : List (engine.Asked Parts)) × (it : engine.Asked Parts)
+    × (cs ≡ commands_of xs) × (it.wanted ≡ Ok x)
+    × ((heard : AreHeard now digits s xs) × (heard.more ≡ it ∷ []))
+
+-- so on the last connection
+abbrev pub IsLastNext : List (Option Link) → Command → Type 0
+IsLastNext links x = (first : List (Option Link)) × (link : Link) × (cs : List Command)
+    × (links ≡ first ++ Some link ∷ []) × IsAskedNext None None (streams_of link) cs x
+
+-- A command that a task didn't answer, and that may be done: it was asked for. It is the one of the words,
+-- the next one of a list, or the purge of the next dead token; or the next row that came in, or message, asks
+-- for it.
+abbrev pub IsNext : Task → Content → List Command → Streams → Command → Type 0
+IsNext (Change c) V cs s x = x ≡ c
+IsNext (Give rights now) V cs s x = AreFirst (cs ++ x ∷ []) (grants_at now rights.items)
+IsNext (Settle rights now) V cs s x =
+    AreFirst (cs ++ x ∷ []) (changes_at true now rights.items (rights_of V))
+IsNext (Sweep who now giver) V cs s x = (tokens : List Bytes) × (token : Bytes)
+    × (cs ≡ purges_at who now tokens) × (x ≡ purge_at who now token)
+    × Begin (token ∷ []) (left_dead who now tokens V)
+IsNext (Batch who now digits) V cs s x = (rows : List Asked) × (it : Asked) × (cs ≡ commands_of rows)
+    × Asks who it × (it.wanted ≡ Ok x)
+    × BeginRecordsOf s.left_old (records_with (rows_of rows) ++ fields_in it.unit ∷ [])
+IsNext (Pipe now digits) V cs s x = IsAskedNext now digits s cs x
+IsNext (Serve port connections None) V cs s x = IsLastNext s.links x
+IsNext (Serve port connections (Some it)) V cs s x =
+    AreFirst (cs ++ x ∷ []) (changes_at true it.now it.rights.items (rights_of V)) ⊎ IsLastNext s.links x
+IsNext (Show it) V cs s x = ⊥
