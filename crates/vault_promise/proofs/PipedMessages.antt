@@ -66,21 +66,22 @@ module _ {X : Type 0} where
       ∙ run_append (commands_of xs) (commands_in x.wanted) V ∙ wanted_run x.wanted (run (commands_of xs) V)
 
 -- a message that isn't answered asks for its command
-pub next_asked : (now : Option ℕ) (digits : Option (List ℕ)) (s : Streams) (xs : List (Asked Parts))
-    (x : Asked Parts) (heard : AreHeard now digits s xs) → (heard.more ≡ x ∷ []) → (w : Wanted Command)
-    → x.wanted ≡ w → IfSome (command_in w) (IsAskedNext now digits s (commands_of xs))
-next_asked now digits s xs x heard same (Ok c) is = (xs, x, refl, is, (heard, same))
-next_asked now digits s xs x heard same (Err n) is = tt
+pub next_asked : (tells : Turns) (now : Option ℕ) (digits : Option (List ℕ)) (s : Streams)
+    (xs : List (Asked Parts)) (x : Asked Parts) (heard : AreHeard tells now digits s xs)
+    → (heard.more ≡ x ∷ []) → (w : Wanted Command) → x.wanted ≡ w
+    → IfSome (command_in w) (IsAskedNext tells now digits s (commands_of xs))
+next_asked tells now digits s xs x heard same (Ok c) is = (xs, x, refl, is, (heard, same))
+next_asked tells now digits s xs x heard same (Err n) is = tt
 
-module _ (now : Option ℕ) (digits : Option (List ℕ)) (w : Passage) (V : Content) (b : IsBefore w V)
-    (s : Streams) (F : Type 0) where
-  answered : (xs us : List (Asked Parts)) (heard : AreHeard now digits s xs) → (heard.more ≡ us)
+module _ (tells : Turns) (now : Option ℕ) (digits : Option (List ℕ)) (w : Passage) (V : Content)
+    (b : IsBefore w V) (s : Streams) (F : Type 0) where
+  answered : (xs us : List (Asked Parts)) (heard : AreHeard tells now digits s xs) → (heard.more ≡ us)
       → length us ≤ 1
       → AllProper (commands_of (xs ++ us))
       → w.left_new (vault_after V xs) (vault_after V (xs ++ us))
       → (e : Option WireFault) × (sent : ℕ)
       × Appends s.sent_old s.sent_new (take sent (texts answer_for V xs ++ last_text e))
-      → Works w V (task.Pipe now digits) F s
+      → Works tells w V (task.Pipe now digits) F s
   answered xs [] heard same few proper left went = record {
     answered = commands_of xs;
     undecided = None;
@@ -101,16 +102,16 @@ module _ (now : Option ℕ) (digits : Option (List ℕ)) (w : Passage) (V : Cont
         proper = proper-first (commands_of xs) (commands_in x.wanted) both;
         last_proper = wanted_proper x.wanted (proper-last (commands_of xs) (commands_in x.wanted) both);
         tells = (xs, refl, heard, went);
-        next = next_asked now digits s xs x heard same x.wanted refl;
+        next = next_asked tells now digits s xs x heard same x.wanted refl;
         done = λ _. tt;
         left = subst (λ W. w.left_new W (perhaps (run (commands_of xs) V) (command_in x.wanted)))
             (as_run V xs) (subst (λ W. w.left_new (vault_after V xs) W) (run_then V xs x) left);
       }
   answered xs (x ∷ y ∷ us) heard same few proper left went = absurd (omega (arith, few))
 
-  pub pipe_works : (tells : Turns) (r : Result Outcome Stop) (unread unsent : Type 0)
+  pub pipe_works : (r : Result Outcome Stop) (unread unsent : Type 0)
       → (unread → Consumes s.left_old s.left_new []) → (unsent → IsQuiet s)
-      → PipeEnds tells now digits w r unread unsent s → Works w V (task.Pipe now digits) F s
-  pipe_works tells r unread unsent still quiet h =
+      → PipeEnds tells now digits w r unread unsent s → Works tells w V (task.Pipe now digits) F s
+  pipe_works r unread unsent still quiet h =
       let a = answers_of tells now digits w s r unread unsent still quiet h in
       answered a.exchanges a.undecided a.heard a.same a.few a.proper (a.left V b) (a.went V b)

@@ -39,10 +39,9 @@ use Rattle.vault_words.specs.declared.jobs.Job.{Job}
 use Rattle.vault_words.specs.declared.jobs.Job.TheVariants as job
 use Rattle.vault_app.specs.Jobs.{Does as DoesWords, DoesPlan, IsChecked, IsMoved}
 use Rattle.vault_app.specs.Plans.{IsPlanOf, IsProperPlan, IsTaskOf, saying}
-use Rattle.vault_app.specs.Saying.{IsPlanFor, OfCheck, OfMove, OfTask, OfTrial, Purpose, path_of}
 use Rattle.vault_app.specs.Asked.{AsksFor, schema_line, sound_line}
 use Rattle.vault_app.specs.Values.{AreValues}
-use Rattle.vault_app.specs.World.{World, anything, world_of}
+use Rattle.vault_app.specs.World.{World, world_of}
 use Rattle.vault_file.specs.Moved.{MovesAs, StaysOld}
 use Rattle.vault_app.specs.Commands.Check.{TellsSizes}
 use Rattle.vault_app.specs.Commands.Migrate.{TellsMoved}
@@ -53,6 +52,7 @@ use Rattle.vault_app.specs.declared.ending.Ending.TheVariants as ending
 use Rattle.vault_app.specs.declared.plan.Plan.{Plan}
 use Rattle.vault_app.specs.declared.plan.Plan.TheVariants as plan
 use Rattle.vault_promise.proofs.Batching.{batch_works}
+use Rattle.vault_promise.proofs.MoreTold.{some_more, tells_more}
 use Rattle.vault_promise.proofs.OneKind.{only_move}
 use Rattle.vault_promise.proofs.PipedMessages.{pipe_works}
 use Rattle.vault_promise.proofs.RunHistories.{perhaps_sound}
@@ -61,9 +61,10 @@ use Rattle.vault_promise.proofs.Spared.{early_free, left_alone, line_free, besid
 use Rattle.vault_promise.proofs.Spared.{none_checked, none_moved, spared_by, trial_free, unasked_free}
 use Rattle.vault_promise.proofs.Sweeping.{timed_sweep_works}
 use Rattle.vault_promise.proofs.TaskAnswers.{Works, change_works, give_works}
-use Rattle.vault_promise.proofs.Unplanned.{Fits, any_early, fits, unasked}
+use Rattle.vault_promise.proofs.Unplanned.{Fits, IsAt, any_early, fits, found_at, unasked}
 use Rattle.vault_promise.specs.Runs.{AreNew, AreOf, AsksMove, Bear, Comes, EveryRunIsOne, IsFound, IsRun}
-use Rattle.vault_promise.specs.Runs.{IsSpared, Leads, Leaves, Spared, file_of, Rests, Run, Work, perhaps}
+use Rattle.vault_promise.specs.Runs.{IsSpared, Leads, Leaves, Moments, Spared, file_of, Rests, Run, Work}
+use Rattle.vault_promise.specs.Runs.{at_moments, perhaps, told_by}
 use Rattle.vault_promise.specs.Told.{IsNext, IsQuiet, Tells}
 
 -- nothing came in
@@ -74,45 +75,26 @@ IsStill s = Consumes s.left_old s.left_new []
 works : (tells : Turns) (t : Task) (w : Passage) (V : Content) (b : IsBefore w V) → Sound V → (s : Streams)
     (broken : Bool) (r : Result Outcome Stop) (unread unsent : Type 0) → (unread → IsStill s)
     → (unsent → IsQuiet s) → AreValues t
-    → (F : Type 0) → (F → r ≡ Ok outcome.Done) → Does tells t w broken r unread unsent s → Works w V t F s
+    → (F : Type 0) → (F → r ≡ Ok outcome.Done) → Does tells t w broken r unread unsent s
+    → Works tells w V t F s
 works tells (task.Change c) w V b sound s broken r unread unsent still quiet values F fin h =
-    change_works w V b s unsent quiet F c values.0 values.1 broken r fin h.works
+    change_works tells w V b s unsent quiet F c values.0 values.1 broken r fin h.works
 works tells (task.Give rights now) w V b sound s broken r unread unsent still quiet values F fin h =
-    give_works w V b s unsent quiet F rights now values broken r fin h.works
+    give_works tells w V b s unsent quiet F rights now values broken r fin h.works
 works tells (task.Settle rights now) w V b sound s broken r unread unsent still quiet values F fin h =
-    settle_works w V b sound s unsent quiet F rights now values.0 values.1 broken r fin h.works
+    settle_works tells w V b sound s unsent quiet F rights now values.0 values.1 broken r fin h.works
 works tells (task.Sweep who now giver) w V b sound s broken r unread unsent still quiet values F fin h =
-    timed_sweep_works who now values.0 values.1 values.2 w V b sound s unsent quiet F giver broken r fin
+    timed_sweep_works who now values.0 values.1 values.2 tells w V b sound s unsent quiet F giver broken r fin
     h.works
 works tells (task.Batch who now digits) w V b sound s broken r unread unsent still quiet values F fin h =
-    batch_works who now digits values.0 values.1 w V b s F tells r unread unsent quiet h.works
+    batch_works tells who now digits values.0 values.1 w V b s F r unread unsent quiet h.works
 works tells (task.Pipe now digits) w V b sound s broken r unread unsent still quiet values F fin h =
-    pipe_works now digits w V b s F tells r unread unsent still quiet h.works
+    pipe_works tells now digits w V b s F r unread unsent still quiet h.works
 works tells (task.Serve port connections listed) w V b sound s broken r unread unsent still quiet values F fin
     h =
-    listed_serve_works w V b sound s unsent quiet F tells port connections listed values broken r fin h.works
+    listed_serve_works tells w V b sound s unsent quiet F port connections listed values broken r fin h.works
 works tells (task.Show it) w V b sound s broken r unread unsent still quiet values F fin h =
-    show_works w V b sound s unsent quiet F it broken r fin h.works
-
--- the bytes that the files of a plan hold
-abbrev IsAt : World → Image → Plan → Type 0
-IsAt world image (plan.Trial t) = Unit {0}
-IsAt world image (plan.Check path) = world.holds path.now image
-IsAt world image (plan.Migrate path) = world.holds path.now image
-IsAt world image (plan.Do path t) = world.holds path.now image
-
-found_for : (world : World) (image : Image) (it : Purpose) (p : Plan) → IsPlanFor it world p
-    → ((path : List ℕ) → path_of it ≡ Some path → world.holds path image) → IsAt world image p
-found_for world image (OfTrial Is) p (t, is, same) at = subst (IsAt world image) (sym same) tt
-found_for world image (OfCheck path) p same at = subst (IsAt world image) (sym same) (at path.now refl)
-found_for world image (OfMove path) p same at = subst (IsAt world image) (sym same) (at path.now refl)
-found_for world image (OfTask path Is) p (t, is, same) at =
-    subst (IsAt world image) (sym same) (at path.now refl)
-
--- are those at the path of its job
-found_at : (world : World) (image : Image) (job : Job) (p : Plan) → IsPlanOf world job p
-    → ((path : List ℕ) → file_of job ≡ Some path → world.holds path image) → IsAt world image p
-found_at world image job = found_for world image (saying job).purpose
+    show_works tells w V b sound s unsent quiet F it broken r fin h.works
 
 -- who finds no more finds what was found
 finds_less : (image next : Image) (Are : Trees → Type 0)
@@ -168,7 +150,13 @@ abbrev IsFrom : Image → Run → Image → Type 0
 IsFrom image r next = (V : Content) (c : Option Command) → Sound V → IfSome c IsProper → AreOf image V c
     → ∥ ((it : Comes V c r) × Leads V c r it next) ∥₁
 
-module _ {D : Type 0} {g : Ghosts D} (world : World) (image next : Image) where
+-- a run from these bytes, at these moments
+abbrev run_of : Image → Moments → List Text → Ending → Streams → Run
+run_of image moments words end s =
+    record { begins = image; words = words; moments = moments; ending = end; streams = s }
+
+module _ {D : Type 0} {g : Ghosts D} (world : World) (image next : Image) (moments : Moments)
+    (so : (turn now : ℕ) → world.tells turn now → told_by moments turn now) where
   -- files that keep what they kept
   stays_of : (left : FileStore D g) → Leaves image (Some left) next → Stays image left → (V : Content)
       (c : Option Command) → AreOf image V c → AreOf next V c
@@ -287,23 +275,24 @@ module _ {D : Type 0} {g : Ghosts D} (world : World) (image next : Image) where
   module _ (path : List ℕ) (at : world.holds path image) (left : FileStore D g)
       (may : Leaves image (Some left) next) (t : Task) (end : Ending)
       (s : Streams) (values : AreValues t) (r : Run) (ends : r.ending ≡ end)
-      (asked : AsksFor r.words (λ job. IsTaskOf anything job t))
-      (of : (X : Content) (cs : List Command) → Tells t X cs s → Tells t X cs r.streams)
-      (of_next : (X : Content) (cs : List Command) (o : Option Command) → IfSome o (IsNext t X cs s)
-      → IfSome o (IsNext t X cs r.streams))
+      (asked : AsksFor r.words (λ job. IsTaskOf (at_moments r.moments) job t))
+      (of : (X : Content) (cs : List Command) → Tells world.tells t X cs s
+      → Tells (told_by r.moments) t X cs r.streams)
+      (of_next : (X : Content) (cs : List Command) (o : Option Command)
+      → IfSome o (IsNext world.tells t X cs s) → IfSome o (IsNext (told_by r.moments) t X cs r.streams))
       (calm : (why : FileFault) → end ≡ ending.NotOpened why → IsQuiet s → Rests r)
       (same : r.begins ≡ image) where
     bear : (X : Content) → Bear image X → Bear r.begins X
     bear X held = subst (λ x. Bear x X) (sym same) held
 
     other : AsksMove r.words → ⊥
-    other asks = no_task (saying asked.0).purpose t asked.2
+    other asks = no_task (at_moments r.moments) (saying asked.0).purpose t asked.2
         (only_move r.words asks.0 asked.0 asks.1 asked.1 asks.2)
 
     -- a task that worked on the vault W comes to this
     work_on : (V : Content) (c : Option Command) (W : Content) → (W ≡ V) ⊎ (W ≡ perhaps V c)
         → Bear image W → (w : Passage)
-        → Works w W t (r.ending ≡ ending.Done) s
+        → Works world.tells w W t (r.ending ≡ ending.Done) s
         → ((why : FileFault) → r.ending ≡ ending.NotOpened why → ⊥)
         → ((A B : Content) → w.left_new A B → KeepsEither next A B)
         → (it : Comes V c r) × Leads V c r it next
@@ -414,50 +403,47 @@ module _ {D : Type 0} {g : Ghosts D} (world : World) (image next : Image) where
 
   -- a run whose words ask for a job with this plan
   each : (left : Option (FileStore D g)) (words : List Text) (job : Job) → IsAsked program_app words job
-      → (p : Plan) → Fits job p → (end : Ending) (s : Streams) (unread unsent : Type 0)
+      → (p : Plan) → Fits moments job p → (end : Ending) (s : Streams) (unread unsent : Type 0)
       → (unread → IsStill s) → (unsent → IsQuiet s) → IsProperPlan p
       → DoesPlan world left p end unread unsent s
       → IsAt world image p → Leaves image left next
-      → IsRun (record { begins = image; words = words; ending = end; streams = s }) next
+      → IsRun (run_of image moments words end s) next
   each left words job asked (plan.Trial t) asks end s unread unsent still quiet values h at leaves =
-      rests next (record { begins = image; words = words; ending = end; streams = s })
+      rests next (run_of image moments words end s)
       (inr (inr (job, asked, asks.0)))
       (λ why is. absurd (trial_free world t end s h.1 why is))
       (λ d moves. asks.1 (only_move words moves.0 job moves.1 asked moves.2))
       (subst (λ l. Leaves image l next) h.0 leaves)
   each (Some left) words job asked (plan.Check path) asks end s unread unsent still quiet values h at leaves =
-      checks_run path.now at left h.1.0 h.1.1 leaves
-      (record { begins = image; words = words; ending = end; streams = s })
+      checks_run path.now at left h.1.0 h.1.1 leaves (run_of image moments words end s)
       (inr (inr (job, asked, asks.0))) refl
       (λ moves. asks.1 (only_move words moves.0 job moves.1 asked moves.2))
       h.1.2.0 unsent s.sent_old s.sent_new s.writer h.1.2.2
   each None words job asked (plan.Check path) asks end s unread unsent still quiet values h at leaves =
-      rests next (record { begins = image; words = words; ending = end; streams = s })
+      rests next (run_of image moments words end s)
       (inr (inr (job, asked, asks.0)))
-      (none_checked g world h.1.0 path.now h.1.1
-      (record { begins = image; words = words; ending = end; streams = s })
-      h.1.2.0 unsent s.sent_old s.sent_new s.writer h.1.2.2)
+      (none_checked g world h.1.0 path.now h.1.1 (run_of image moments words end s) h.1.2.0 unsent
+      s.sent_old s.sent_new s.writer h.1.2.2)
       (λ d moves. asks.1 (only_move words moves.0 job moves.1 asked moves.2)) leaves
   each (Some left) words job asked (plan.Migrate path) asks end s unread unsent still quiet values
       h at leaves =
-      moved path.now at left h.1.0 h.1.1 leaves
-      (record { begins = image; words = words; ending = end; streams = s })
+      moved path.now at left h.1.0 h.1.1 leaves (run_of image moments words end s)
       (inr (inr (job, asked, asks))) refl unsent s.sent_old s.sent_new s.writer h.1.2
   each None words job asked (plan.Migrate path) asks end s unread unsent still quiet values h at leaves =
-      let r : Run = record { begins = image; words = words; ending = end; streams = s } in
+      let r : Run = run_of image moments words end s in
       let free = none_moved g world h.1.0 path.now h.1.1 r unsent s.sent_old s.sent_new s.writer h.1.2 in
       rests next r (inr (inr (job, asked, asks))) free.0 free.1 leaves
   each (Some left) words job asked (plan.Do path t) asks end s unread unsent still quiet values h at leaves =
-      on_some path.now at left leaves t end s values
-      (record { begins = image; words = words; ending = end; streams = s })
-      refl (job, asked, asks) (λ X cs told. told) (λ X cs o next. next)
+      on_some path.now at left leaves t end s values (run_of image moments words end s)
+      refl (job, asked, asks) (λ X cs told. tells_more world.tells (told_by moments) so t X cs s told)
+      (λ X cs o next. some_more world.tells (told_by moments) so t X cs s o next)
       (λ why is silent. inr (inl ((why, is), silent)))
       refl unread unsent still quiet h
   each None words job asked (plan.Do path t) asks end s unread unsent still quiet values h at leaves =
-      let r : Run = record { begins = image; words = words; ending = end; streams = s } in
+      let r : Run = run_of image moments words end s in
       rests next r (inr (inl ((h.0, h.1), quiet h.4)))
       (spared_by r h.0 h.1 (left_alone world path.now t h.0 h.2))
-      (λ d moves. no_task (saying job).purpose t asks
+      (λ d moves. no_task (at_moments moments) (saying job).purpose t asks
       (only_move words moves.0 job moves.1 asked moves.2)) leaves
 
   -- and whatever words it has
@@ -465,20 +451,20 @@ module _ {D : Type 0} {g : Ghosts D} (world : World) (image next : Image) where
       (unread unsent : Type 0) → (unread → IsStill s) → (unsent → IsQuiet s)
       → DoesWords world left words end unread unsent s
       → IsFound words (λ path. world.holds path image) → Leaves image left next
-      → IsRun (record { begins = image; words = words; ending = end; streams = s }) next
+      → IsRun (run_of image moments words end s) next
   all left words end s unread unsent still quiet (inl (job, asked, inl (p, is, proper, h))) at leaves =
-      each left words job asked p (fits world job p is) end s unread unsent still quiet proper h
+      each left words job asked p (fits world moments so job p is) end s unread unsent still quiet proper h
       (found_at world image job p is (λ path named. at job path asked named)) leaves
   all left words end s unread unsent still quiet
       (inl (job, asked, inr (why, none, calm, silent))) at leaves =
       let free = early_free world job end why in
-      rests next (record { begins = image; words = words; ending = end; streams = s })
+      rests next (run_of image moments words end s)
       (inl (inl ((job, asked, any_early world job end why), quiet silent)))
       (λ fault is. absurd (free.0 fault is)) (λ d moves. free.1 d)
       (subst (λ l. Leaves image l next) none leaves)
   all left words end s unread unsent still quiet (inr (none, without)) at leaves =
       let free = unasked_free words end unread unsent without in
-      rests next (record { begins = image; words = words; ending = end; streams = s })
+      rests next (run_of image moments words end s)
       (inl (inr (unasked words end unread unsent (IsQuiet s) quiet without)))
       (λ fault is. absurd (free.0 fault is)) free.1
       (subst (λ l. Leaves image l next) none leaves)
@@ -489,10 +475,10 @@ pub each_is_run : {D R W E K P : Type 0} (g : Ghosts D) (remaining : R → Known
     (logs : P → List ℕ → Bool → Type 0)
     → EveryRunIsOne g remaining contents said tells holds lacks refuses says logs
 each_is_run g remaining contents said tells holds lacks refuses says logs image next left words status time
-    paths links i i' o told o' e e' h at leaves =
+    paths moments links i i' o told o' e e' so h at leaves =
     let world : World =
     world_of (tells time) (holds paths) (lacks paths) (refuses paths) (says paths) (logs paths) in
-    all world image next left words h.ending
+    all world image next moments so left words h.ending
     (with_links (streams remaining i i' contents o told) links) (i' ≡ i) (told ≡ o)
     (λ same. subst (λ u. Consumes (remaining i.inner) (remaining u.inner) []) (sym same)
     (consumes_nothing (remaining i.inner)))

@@ -1,6 +1,6 @@
 -- The sentences of the headline follow from the promise.
-use Rattle.std.proofs.Common.{◌≡◌, ◌⊎◌, ◌≤◌, ◌+◌, ◌&&◌, ℕ, Bool, List, [], ◌∷◌, ◌++◌, Option, Some, None}
-use Rattle.std.proofs.Common.{inl, inr, refl, sym, ap, subst, ◌∙◌, append_assoc, arith, cond, Ok}
+use Rattle.std.proofs.Common.{◌≡◌, ◌⊎◌, ◌≤◌, ◌+◌, ◌&&◌, ℕ, Bool, List, [], ◌∷◌, ◌++◌, Option, Some, None, inl}
+use Rattle.std.proofs.Common.{inr, refl, sym, ap, subst, ◌∙◌, append_assoc, arith, cond, Ok}
 use Rattle.std.proofs.Math.Logic.{∥∥₁_map}
 use Rattle.std.specs.Prelude.{All, IfSome}
 use Rattle.std.proofs.lemmas.List.Elements.{All-head, All-tail}
@@ -21,8 +21,9 @@ use Rattle.vault_batch.specs.Asking.{Asks, Wants}
 use Rattle.vault_batch.specs.Rows.{Row}
 use Rattle.vault_batch.specs.declared.asker.Asker.{Asker}
 use Rattle.vault_engine.specs.Asking.{Asked, Pair, Wanted, vault_after}
-use Rattle.vault_recover.specs.Histories.{GivenIsWithin, IsHistory, RequestsAnswerOnce, Step}
-use Rattle.vault_recover.specs.Histories.{answers_number, how_many, last, leaves_number}
+use Rattle.vault_recover.specs.Histories.{GivenIsWithin, IsHistory, RequestsAnswerOnce, Step, answers_number}
+use Rattle.vault_recover.specs.Histories.{how_many, last, leaves_number}
+use Rattle.vault_listen.specs.Live.{Turns}
 use Rattle.vault_listen.specs.Peers.{Link}
 use Rattle.vault_jobs.specs.Streams.{Streams}
 use Rattle.vault_jobs.specs.declared.task.Task.{Task}
@@ -31,29 +32,29 @@ use Rattle.vault_app.specs.Asked.{AsksFor, AsksHelp}
 use Rattle.clap.specs.Words.{IsAmong, Text}
 use Rattle.clap.specs.declared.error.kind.ErrorKind.TheVariants.{DisplayHelp}
 use Rattle.vault_app.specs.Plans.{EndsBefore, saying}
-use Rattle.vault_app.specs.Saying.{IsTaskFor, OfCheck, OfMove, OfTask, OfTrial, Purpose}
 use Rattle.vault_app.specs.World.{anything}
 use Rattle.vault_app.specs.declared.ending.Ending.{Ending}
 use Rattle.vault_app.specs.declared.ending.Ending.TheVariants as ending
 use Rattle.vault_promise.proofs.OneKind.{only_move, only_task}
+use Rattle.vault_promise.proofs.PipedMessages.{run_append}
 use Rattle.vault_promise.proofs.RunHistories.{answers_last, opening_last}
 use Rattle.vault_promise.proofs.SoundHistories.{last-append, parts}
+use Rattle.vault_promise.proofs.Spared.{no_task}
 use Rattle.vault_promise.proofs.Standing.{stand_in}
-use Rattle.vault_promise.proofs.PipedMessages.{run_append}
+use Rattle.vault_promise.proofs.ToldMoments.{all_told}
 use Rattle.vault_promise.proofs.WentOut.{EachOf, went_out}
 use Rattle.vault_promise.specs.DueNumbers.{EachIsDue, FaultsTellNoNumber, OnlyDueIsGiven}
 use Rattle.vault_promise.specs.Sentences.{CountsAreWithin, RequestsAnswerOnceEver, SentencesHoldTogether}
 use Rattle.vault_promise.specs.Sentences.{AllSpared, AsksTask, MovesKeep, MovesKeepTheVault, StopsAreSpared}
 use Rattle.vault_promise.specs.Sentences.{AnswersAreKept, AreDue, AreDueLinks, AreDueTexts, AreWhole}
-use Rattle.vault_promise.specs.Sentences.{ChangesAreWhole, DidWhole, DoneIsDone, GivesDue}
-use Rattle.vault_promise.specs.Sentences.{IsKept, Kept, LeadsTo, LinksTell, NeverShared, NoneElse}
-use Rattle.vault_promise.specs.Sentences.{NonePasses, NumbersAreCounted, NumbersGoToNobodyElse}
-use Rattle.vault_promise.specs.Sentences.{NumbersStayApart, Steps, TextsTell, TokensYield, WentOut}
-use Rattle.vault_promise.specs.Sentences.{given_in, left_by}
+use Rattle.vault_promise.specs.Sentences.{ChangesAreWhole, DidWhole, DoneIsDone, GivesDue, IsKept, Kept}
+use Rattle.vault_promise.specs.Sentences.{LeadsTo, LinksTell, NeverShared, NoneElse, NonePasses}
+use Rattle.vault_promise.specs.Sentences.{NumbersAreCounted, NumbersGoToNobodyElse, NumbersStayApart, Steps}
+use Rattle.vault_promise.specs.Sentences.{TextsTell, TokensYield, WentOut, given_in, left_by}
 use Rattle.vault_promise.specs.SoundHistories.{HistoriesLast}
-use Rattle.vault_promise.specs.Runs.{AreNew, AreOf, AsksMove, Come, Comes, Follow, IsAside, IsMoving}
-use Rattle.vault_promise.specs.Runs.{IsSpared, MakesNew, Rests, Run, RunsComeToHistories, Work, answers}
-use Rattle.vault_promise.specs.Runs.{before, history, kept_by, opening, perhaps, undecided_by}
+use Rattle.vault_promise.specs.Runs.{AreNew, AreOf, AsksMove, Come, Comes, Follow, IsAside, IsSpared}
+use Rattle.vault_promise.specs.Runs.{MakesNew, Rests, Run, RunsComeToHistories, Work, answers, at_moments}
+use Rattle.vault_promise.specs.Runs.{before, history, kept_by, opening, perhaps, told_by, undecided_by}
 use Rattle.vault_promise.specs.Told.{IsNext, IsQuiet, streams_of}
 
 -- ---- places on the way
@@ -124,9 +125,9 @@ quiet_rest r (inr (inl (why, quiet))) = inl quiet
 quiet_rest r (inr (inr aside)) = inr (inr aside)
 
 module _ (due : OnlyDueIsGiven) (texts : EachIsDue) (faults : FaultsTellNoNumber) where
-  due_texts : (now : Option ℕ) (digits : Option (List ℕ)) (W : Content) (s : Streams)
-      (it : TextsTell now digits W s GivesDue) → AreDueTexts now digits W s it
-  due_texts now digits W s it = (
+  due_texts : (tells : Turns) (now : Option ℕ) (digits : Option (List ℕ)) (W : Content) (s : Streams)
+      (it : TextsTell tells now digits W s GivesDue) → AreDueTexts tells now digits W s it
+  due_texts tells now digits W s it = (
     λ first more x number close is reads.
         (texts W (it.exchanges ++ it.heard.more) first (more ++ it.heard.more) x number close
         (ap (λ l. l ++ it.heard.more) is ∙ append_assoc first (x ∷ more) it.heard.more) it.heard.asked
@@ -134,28 +135,30 @@ module _ (due : OnlyDueIsGiven) (texts : EachIsDue) (faults : FaultsTellNoNumber
     λ e is number close reads. faults e number close reads,
   )
 
-  due_links : (W : Content) (xs : List (Option Link)) (it : LinksTell W xs GivesDue) → AreDueLinks W xs it
-  due_links W [] it = tt
-  due_links W (None ∷ xs) it = due_links W xs it
-  due_links W (Some x ∷ xs) (it, all) =
-      (due_texts None None W (streams_of x) it, due_links (vault_after W it.exchanges) xs all)
+  due_links : (tells : Turns) (W : Content) (xs : List (Option Link)) (it : LinksTell tells W xs GivesDue)
+      → AreDueLinks tells W xs it
+  due_links tells W [] it = tt
+  due_links tells W (None ∷ xs) it = due_links tells W xs it
+  due_links tells W (Some x ∷ xs) (it, all) =
+      (due_texts tells None None W (streams_of x) it, due_links tells (vault_after W it.exchanges) xs all)
 
-  are_due : (t : Task) (W : Content) (cs : List Command) (s : Streams) (it : WentOut t W cs s GivesDue)
-      → AreDue t W cs s it
-  are_due (task.Change c) W cs s it = tt
-  are_due (task.Give rights now) W cs s it = tt
-  are_due (task.Settle rights now) W cs s it = tt
-  are_due (task.Sweep who now giver) W cs s it = tt
-  are_due (task.Batch who now digits) W cs s it = λ first more row x is wanted number replied.
+  are_due : (tells : Turns) (t : Task) (W : Content) (cs : List Command) (s : Streams)
+      (it : WentOut tells t W cs s GivesDue) → AreDue tells t W cs s it
+  are_due tells (task.Change c) W cs s it = tt
+  are_due tells (task.Give rights now) W cs s it = tt
+  are_due tells (task.Settle rights now) W cs s it = tt
+  are_due tells (task.Sweep who now giver) W cs s it = tt
+  are_due tells (task.Batch who now digits) W cs s it = λ first more row x is wanted number replied.
       let gives = it.each first more row x is wanted number replied in
       row_is who row.unit row.pair row.wanted
       (in_all (Asks who) first more row (subst (All (Asks who)) is it.asked))
       gives.caller gives.merchant gives.token gives.now (wanted ∙ ap Ok gives.asks)
-  are_due (task.Pipe now digits) W cs s it = due_texts now digits W s it
-  are_due (task.Serve port connections None) W cs s it = due_links W s.links it
-  are_due (task.Serve port connections (Some list)) W cs s (inl none) = tt
-  are_due (task.Serve port connections (Some list)) W cs s (inr (done, it)) = due_links _ s.links it
-  are_due (task.Show it) W cs s shown = tt
+  are_due tells (task.Pipe now digits) W cs s it = due_texts tells now digits W s it
+  are_due tells (task.Serve port connections None) W cs s it = due_links tells W s.links it
+  are_due tells (task.Serve port connections (Some list)) W cs s (inl none) = tt
+  are_due tells (task.Serve port connections (Some list)) W cs s (inr (done, it)) =
+      due_links tells _ s.links it
+  are_due tells (task.Show it) W cs s shown = tt
 
   none_else : (V : Content) (c : Option Command) (rs : List Run) (end : Image) (come : Come V c rs end)
       → NoneElse V c rs end come
@@ -163,9 +166,9 @@ module _ (due : OnlyDueIsGiven) (texts : EachIsDue) (faults : FaultsTellNoNumber
   none_else V c (r ∷ rs) end (inl w, more) =
       let each : EachOf w.opened w.answered GivesDue =
       λ first rest x is number replied. due (run first w.opened) x number replied in
-      let went = went_out w.task w.opened w.answered r.streams GivesDue each w.tells in (
+      let went = went_out (told_by r.moments) w.task w.opened w.answered r.streams GivesDue each w.tells in (
         each,
-        (went, are_due w.task w.opened w.answered r.streams went),
+        (went, are_due (told_by r.moments) w.task w.opened w.answered r.streams went),
         none_else (run w.answered w.opened) w.undecided rs end more,
       )
   none_else V c (r ∷ rs) end (inr rests, more) = (quiet_rest r rests.0, none_else V c rs end more)
@@ -305,8 +308,8 @@ kept_all V c (r ∷ rs) end (inl w, more) =
       ap (λ cs. run cs W) same ∙ run_append first (x ∷ rest) W,
     ) w.last_proper in (
       each,
-      went_out w.task W w.answered r.streams (λ X x. IsKept (after X x) U w.undecided rs end more) each
-          w.tells,
+      went_out (told_by r.moments) w.task W w.answered r.streams
+          (λ X x. IsKept (after X x) U w.undecided rs end more) each w.tells,
       kept_all U w.undecided rs end more,
     )
 kept_all V c (r ∷ rs) end (inr rests, more) = kept_all V c rs end more
@@ -330,9 +333,9 @@ rested r (inl (inr (inr (inr (is, calm, silent))))) done = absurd (cc (is, done)
 rested r (inr (inl ((why, is), quiet))) done = absurd (cc (is, done))
 rested r (inr (inr aside)) done = inr aside
 
-no_task : (words : List Text) → AsksTask words → AsksHelp words ⊎ AsksFor words IsAside → ⊥
-no_task words asks (inl help) = subst (IsAmong DisplayHelp) asks.1.taken help
-no_task words (a, x, (t, is)) (inr (b, y, aside)) = only_task words a b t x y is aside
+none_asked : (words : List Text) → AsksTask words → AsksHelp words ⊎ AsksFor words IsAside → ⊥
+none_asked words asks (inl help) = subst (IsAmong DisplayHelp) asks.1.taken help
+none_asked words (a, x, (t, is)) (inr (b, y, aside)) = only_task anything words a b t x y is aside
 
 did_whole : (V : Content) (c : Option Command) (rs : List Run) (end : Image) (come : Come V c rs end)
     → DidWhole V c rs end come
@@ -341,7 +344,7 @@ did_whole V c (r ∷ rs) end (inl w, more) =
     (w.done, did_whole (run w.answered w.opened) w.undecided rs end more)
 did_whole V c (r ∷ rs) end (inr rests, more) = (
   rested r rests.0,
-  λ done asks. no_task r.words asks (rested r rests.0 done),
+  λ done asks. none_asked r.words asks (rested r rests.0 done),
   did_whole V c rs end more,
 )
 
@@ -364,8 +367,8 @@ are_whole WasAsked V c [] end come asked = tt
 are_whole WasAsked V c (r ∷ rs) end (inl w, more) asked = (
   whole_or_not WasAsked V w.opened c asked w.is,
   w.holds,
-  are_whole (IsNext w.task w.opened w.answered r.streams) (run w.answered w.opened) w.undecided rs end more
-      w.next,
+  are_whole (IsNext (told_by r.moments) w.task w.opened w.answered r.streams) (run w.answered w.opened)
+      w.undecided rs end more w.next,
 )
 are_whole WasAsked V c (r ∷ rs) end (inr rests, more) asked = are_whole WasAsked V c rs end more asked
 
@@ -410,17 +413,11 @@ stops_spared come rs end V sound of runs =
 
 -- ---- moves keep the vault
 
-no_move : (it : Purpose) (t : Task) → IsTaskFor it anything t → IsMoving it → ⊥
-no_move (OfTrial Is) t is moves = is
-no_move (OfCheck path) t is moves = is
-no_move (OfMove path) t is moves = is
-no_move (OfTask path Is) t is moves = moves
-
 moves_keep : (V : Content) (c : Option Command) (rs : List Run) (end : Image) (come : Come V c rs end)
     → Follow V c rs end come → MovesKeep V c rs end come
 moves_keep V c [] end come follow = tt
 moves_keep V c (r ∷ rs) end (inl w, more) (of, leads, follow) = (
-  λ asks. no_move (saying w.asked.0).purpose w.task w.asked.2
+  λ asks. no_task (at_moments r.moments) (saying w.asked.0).purpose w.task w.asked.2
       (only_move r.words asks.0 w.asked.0 asks.1 w.asked.1 asks.2),
   moves_keep (run w.answered w.opened) w.undecided rs end more follow,
 )
@@ -446,6 +443,7 @@ together come lasting due texts faults rs end V sound of runs =
         checked = none_passes lasting V sound _ it.1;
         yields = λ first more same. (lasting V first sound (first_is V _ first more it.1 same)).yields;
         nobody_else = none_else due texts faults V None rs end it.0;
+        told = all_told V None rs end it.0;
         counted = counted lasting V rs end it.0 sound it.1;
         stand = stand_in lasting V None rs end it.0 sound it.1;
         kept = kept_all V None rs end it.0;

@@ -91,11 +91,11 @@ changes_proper now rows V sound moment proper =
     (some_proper now (rights_of V) rows proper)
     (withdrawn_proper now rows moment (rights_of V) (named_in V sound))
 
-module _ (w : Passage) (V : Content) (b : IsBefore w V) (sound : Sound V) (s : Streams) (unsent : Type 0)
-    (quiet : unsent → IsQuiet s) (F : Type 0) where
+module _ (tells : Turns) (w : Passage) (V : Content) (b : IsBefore w V) (sound : Sound V) (s : Streams)
+    (unsent : Type 0) (quiet : unsent → IsQuiet s) (F : Type 0) where
   -- nothing was answered
-  pub unread_works : (t : _) → Tells t V [] s → ¬ F → (broken : Bool) (f : Fault) → FailsToRead w broken f
-      → Works w V t F s
+  pub unread_works : (t : _) → Tells tells t V [] s → ¬ F → (broken : Bool) (f : Fault)
+      → FailsToRead w broken f → Works tells w V t F s
   unread_works t told never broken Memory same = record {
     answered = [];
     undecided = None;
@@ -121,10 +121,10 @@ module _ (w : Passage) (V : Content) (b : IsBefore w V) (sound : Sound V) (s : S
   pub settle_works : (rights : Vec Row) (now : ℕ) → IsMoment now → AllProper (grants_at now rights.items)
       → (broken : Bool) (r : Result Ended Stop) → (F → r ≡ Ok outcome.Done)
       → SettleEnds now rights.items w broken r unsent s.sent_old s.sent_new s.writer
-      → Works w V (task.Settle rights now) F s
+      → Works tells w V (task.Settle rights now) F s
   settle_works rights now moment proper broken r fin (inl (changes, of, h)) =
       let is = (of V b).commands in
-      commands_works w V b s unsent quiet F (task.Settle rights now) changes.commands.items
+      commands_works tells w V b s unsent quiet F (task.Settle rights now) changes.commands.items
       (settled_line changes)
       (subst AllProper (sym is) (changes_proper now rights.items V sound moment proper))
       (λ done. inr (is, done)) (λ k calm. inl (calm, (k, ap (take k) is)))
@@ -134,7 +134,7 @@ module _ (w : Passage) (V : Content) (b : IsBefore w V) (sound : Sound V) (s : S
 
   pub show_works : (it : Shown) (broken : Bool) (r : Result Ended Stop) → (F → r ≡ Ok outcome.Done)
       → ShowEnds (shown_text it) w broken r unsent s.sent_old s.sent_new s.writer
-      → Works w V (task.Show it) F s
+      → Works tells w V (task.Show it) F s
   show_works it broken (Ok outcome.Done) fin (calm, same, h) = record {
     answered = [];
     undecided = None;
@@ -173,7 +173,7 @@ module _ (w : Passage) (V : Content) (b : IsBefore w V) (sound : Sound V) (s : S
   list_works : (port connections : ℕ) (it : Listed) → IsMoment it.now
       → AllProper (grants_at it.now it.rights.items) → s.links ≡ [] → (broken : Bool) (r : Result Ended Stop)
       → (F → r ≡ Ok outcome.Done) → ListEnds it.now it.rights.items w broken r unsent
-      → Works w V (task.Serve port connections (Some it)) F s
+      → Works tells w V (task.Serve port connections (Some it)) F s
   list_works port connections it moment proper none broken r fin h = by_end r fin h
     where
       t : Task
@@ -185,7 +185,7 @@ module _ (w : Passage) (V : Content) (b : IsBefore w V) (sound : Sound V) (s : S
           subst AllProper (sym of.commands) (changes_proper it.now it.rights.items V sound moment proper)
 
       by_end : (r : Result Ended Stop) → (F → r ≡ Ok outcome.Done)
-          → ListEnds it.now it.rights.items w broken r unsent → Works w V t F s
+          → ListEnds it.now it.rights.items w broken r unsent → Works tells w V t F s
       by_end (Ok outcome.Done) fin h = absurd h
       by_end (Ok (outcome.Refused n)) fin (silent, (changes, of, (k, below, h))) =
           let is = (of V b).commands in
@@ -242,16 +242,16 @@ module _ (w : Passage) (V : Content) (b : IsBefore w V) (sound : Sound V) (s : S
   next_listed (Some x) First Last next = inr next
 
   -- a service that may begin with a list
-  pub listed_serve_works : (tells : Turns) (port connections : ℕ) (listed : Option Listed)
+  pub listed_serve_works : (port connections : ℕ) (listed : Option Listed)
       → AreValues (task.Serve port connections listed) → (broken : Bool) (r : Result Ended Stop)
       → (F → r ≡ Ok outcome.Done)
       → ListedServeEnds tells port connections listed w broken r unsent s.sent_old s.sent_new s.writer s.links
-      → Works w V (task.Serve port connections listed) F s
-  listed_serve_works tells port connections None values broken r fin h =
+      → Works tells w V (task.Serve port connections listed) F s
+  listed_serve_works port connections None values broken r fin h =
       serve_works tells w V b s port connections F r unsent h
-  listed_serve_works tells port connections (Some it) values broken r fin (inl (none, h)) =
+  listed_serve_works port connections (Some it) values broken r fin (inl (none, h)) =
       list_works port connections it values.0 values.1 none broken r fin h
-  listed_serve_works tells port connections (Some it) values broken r fin (inr (changes, of, h)) =
+  listed_serve_works port connections (Some it) values broken r fin (inr (changes, of, h)) =
       let cs = changes.commands.items in
       let is = (of V b).0.commands in
       let inner = serve_works tells (behind cs w) (run cs V) (b.0, (V, b.1, refl)) s port connections F r
@@ -269,7 +269,7 @@ module _ (w : Passage) (V : Content) (b : IsBefore w V) (sound : Sound V) (s : S
           inner.answered,
           ap (λ ds. ds ++ inner.answered) is,
           subst (λ ds. AreDone (length ds) ds V) is (of V b).1,
-          subst (λ ds. AllAnswer (run ds V) s.links inner.answered) is inner.tells,
+          subst (λ ds. AllAnswer tells (run ds V) s.links inner.answered) is inner.tells,
         );
         done = λ _. tt;
         left = subst (λ X. w.left_new X (perhaps X inner.undecided)) (sym (run_append cs inner.answered V))

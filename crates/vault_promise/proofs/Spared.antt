@@ -17,7 +17,7 @@ use Rattle.vault_app.specs.Jobs.{IsChecked, IsMoved}
 use Rattle.vault_app.specs.Plans.{EndsBefore}
 use Rattle.vault_app.specs.Saying.{IsTaskFor, OfCheck, OfMove, OfTask, OfTrial, Purpose}
 use Rattle.vault_app.specs.Asked.{Unasked, sound_line}
-use Rattle.vault_app.specs.World.{World, anything}
+use Rattle.vault_app.specs.World.{World}
 use Rattle.vault_app.specs.Endings.{LineEnds}
 use Rattle.vault_app.specs.Files.{LeavesAlone}
 use Rattle.vault_app.specs.Commands.Check.{TellsSizes, beside}
@@ -35,11 +35,11 @@ use Rattle.vault_promise.proofs.RunHistories.{perhaps_sound}
 use Rattle.vault_promise.specs.Runs.{AreNew, AsksMove, IsMoving, IsSpared, Run, perhaps}
 
 -- a task is no move
-pub no_task : (it : Purpose) (t : Task) → IsTaskFor it anything t → IsMoving it → ⊥
-no_task (OfTrial Is) t is moves = is
-no_task (OfCheck path) t is moves = is
-no_task (OfMove path) t is moves = is
-no_task (OfTask path Is) t is moves = moves
+pub no_task : (world : World) (it : Purpose) (t : Task) → IsTaskFor it world t → IsMoving it → ⊥
+no_task world (OfTrial Is) t is moves = is
+no_task world (OfCheck path) t is moves = is
+no_task world (OfMove path) t is moves = is
+no_task world (OfTask path Is) t is moves = moves
 
 -- what a refusal isn't, no refusal of the run is
 pub spared_by : (r : Run) (why : FileFault) → r.ending ≡ ending.NotOpened why → IsNoVerdict why → IsSpared r

@@ -20,6 +20,7 @@ use Rattle.vault_core.specs.declared.command.Command.TheVariants.{Detokenize, Vi
 use Rattle.vault_engine.specs.Passing.{IsBefore, Passage}
 use Rattle.vault_store.specs.declared.vault.Fault.{Fault}
 use Rattle.vault_store.specs.declared.vault.Fault.TheVariants.{Memory, Store, Reopen}
+use Rattle.vault_listen.specs.Live.{Turns}
 use Rattle.vault_jobs.proofs.GivenRights.{run_more}
 use Rattle.vault_jobs.specs.Carried.{Carries, reply_of}
 use Rattle.vault_jobs.specs.Doing.{CommandsEnd}
@@ -39,13 +40,14 @@ use Rattle.vault_app.specs.Values.{IsOwn}
 
 -- From this vault a task answered commands, of which alone it told; and of one more at most it isn't known
 -- whether it is done. Where the task is done, it tells so.
-pub record Works (w : Passage) (V : Content) (t : Task) (IsDone : Type 0) (s : Streams) : Type 0 where
+pub record Works (turns : Turns) (w : Passage) (V : Content) (t : Task) (IsDone : Type 0) (s : Streams)
+    : Type 0 where
   pub answered : List Command
   pub undecided : Option Command
   pub proper : AllProper answered
   pub last_proper : IfSome undecided IsProper
-  pub tells : Tells t V answered s
-  pub next : IfSome undecided (IsNext t V answered s)
+  pub tells : Tells turns t V answered s
+  pub next : IfSome undecided (IsNext turns t V answered s)
   pub done : IsDone → AllDone t V answered
   pub left : w.left_new (run answered V) (perhaps (run answered V) undecided)
 
@@ -71,10 +73,10 @@ own_verdict V c own = at_setting (λ set. (v : Verdict) × (reply V set ≡ repl
     (λ m x. by_set HasVerdict V m x (merchant_at V m) (λ _. (Ok tt, refl))
     (λ _. (Err too_many_merchants, refl)) (λ _. (Ok tt, refl))) c refl
 
-module _ (w : Passage) (V : Content) (b : IsBefore w V) (s : Streams) (unsent : Type 0)
+module _ (tells : Turns) (w : Passage) (V : Content) (b : IsBefore w V) (s : Streams) (unsent : Type 0)
     (quiet : unsent → IsQuiet s) (F : Type 0) where
   module _ (c : Command) (own : IsOwn c) (proper : IsProper c) where
-    change_done : (broken : Bool) → Carries c w broken (Ok (Ok tt)) → Works w V (task.Change c) F s
+    change_done : (broken : Bool) → Carries c w broken (Ok (Ok tt)) → Works tells w V (task.Change c) F s
     change_done broken carried = record {
       answered = c ∷ [];
       undecided = None;
@@ -88,7 +90,7 @@ module _ (w : Passage) (V : Content) (b : IsBefore w V) (s : Streams) (unsent : 
 
     pub change_works : (broken : Bool) (r : Result Ended Stop) → (F → r ≡ Ok outcome.Done)
         → CommandsEnd (Carries c w broken) (codes "done\n") r unsent s.sent_old s.sent_new s.writer
-        → Works w V (task.Change c) F s
+        → Works tells w V (task.Change c) F s
     change_works broken (Ok outcome.Done) fin h = change_done broken h.2
     change_works broken (Ok (outcome.Refused n)) fin h = record {
       answered = c ∷ [];
@@ -154,15 +156,15 @@ one_more (suc k) (c ∷ cs) below =
       proper = λ p. it.proper p.1;
     }
 
-module _ (w : Passage) (V : Content) (b : IsBefore w V) (s : Streams) (unsent : Type 0)
+module _ (tells : Turns) (w : Passage) (V : Content) (b : IsBefore w V) (s : Streams) (unsent : Type 0)
     (quiet : unsent → IsQuiet s) (F : Type 0) where
   -- commands of which the task tells alone that all are done
   module _ (t : Task) (cs : List Command) (line : List ℕ) (proper : AllProper cs)
-      (told : AreDone (length cs) cs V → Tells t V cs s)
-      (silent : (k : ℕ) → IsQuiet s → Tells t V (take k cs) s)
-      (asked : (ds : List Command) (x : Command) → AreFirst (ds ++ x ∷ []) cs → IsNext t V ds s x)
+      (told : AreDone (length cs) cs V → Tells tells t V cs s)
+      (silent : (k : ℕ) → IsQuiet s → Tells tells t V (take k cs) s)
+      (asked : (ds : List Command) (x : Command) → AreFirst (ds ++ x ∷ []) cs → IsNext tells t V ds s x)
       (ended : AreDone (length cs) cs V → AllDone t V cs) where
-    all_works : (broken : Bool) → CarriesAll cs w broken (Ok (Ok tt)) → Works w V t F s
+    all_works : (broken : Bool) → CarriesAll cs w broken (Ok (Ok tt)) → Works tells w V t F s
     all_works broken carried = record {
       answered = cs;
       undecided = None;
@@ -176,7 +178,7 @@ module _ (w : Passage) (V : Content) (b : IsBefore w V) (s : Streams) (unsent : 
 
     -- the first are done and one is refused, or not answered
     pub refused_works : (broken : Bool) (n : ℕ) → ¬ F → IsQuiet s
-        → CarriesAll cs w broken (Ok (Err n)) → Works w V t F s
+        → CarriesAll cs w broken (Ok (Err n)) → Works tells w V t F s
     refused_works broken n never calm h =
         let k = h.0 in
         record {
@@ -191,7 +193,7 @@ module _ (w : Passage) (V : Content) (b : IsBefore w V) (s : Streams) (unsent : 
         }
 
     pub stopped_works : (broken : Bool) (f : Fault) → ¬ F → IsQuiet s → CarriesAll cs w broken (Err f)
-        → Works w V t F s
+        → Works tells w V t F s
     stopped_works broken Memory never calm h =
         let k = h.0 in
         record {
@@ -221,7 +223,8 @@ module _ (w : Passage) (V : Content) (b : IsBefore w V) (s : Streams) (unsent : 
     stopped_works broken Reopen never calm h = absurd h
 
     pub commands_works : (broken : Bool) (r : Result Ended Stop) → (F → r ≡ Ok outcome.Done)
-        → CommandsEnd (CarriesAll cs w broken) line r unsent s.sent_old s.sent_new s.writer → Works w V t F s
+        → CommandsEnd (CarriesAll cs w broken) line r unsent s.sent_old s.sent_new s.writer
+        → Works tells w V t F s
     commands_works broken (Ok outcome.Done) fin h = all_works broken h.2
     commands_works broken (Ok (outcome.Refused n)) fin h =
         refused_works broken n (λ f. cc (fin f)) (quiet h.0) h.1
@@ -236,7 +239,7 @@ module _ (w : Passage) (V : Content) (b : IsBefore w V) (s : Streams) (unsent : 
   pub give_works : (rights : Vec Row) (now : ℕ) → AllProper (grants_at now rights.items) → (broken : Bool)
       (r : Result Ended Stop) → (F → r ≡ Ok outcome.Done)
       → CommandsEnd (CarriesAll (grants_at now rights.items) w broken) (granted_line (length rights.items)) r
-      unsent s.sent_old s.sent_new s.writer → Works w V (task.Give rights now) F s
+      unsent s.sent_old s.sent_new s.writer → Works tells w V (task.Give rights now) F s
   give_works rights now proper broken r fin h =
       commands_works (task.Give rights now) (grants_at now rights.items) (granted_line (length rights.items))
       proper (λ done. inr (refl, done)) (λ k calm. inl (calm, (k, refl))) (λ ds x first. first)

@@ -1,7 +1,7 @@
 -- Runs of the program over one file, one after the other, each with the bytes that the one before it left or
 -- that a stop may leave of these.
 use Rattle.std.proofs.Common.{inl, inr}
-use Rattle.std.specs.Prelude.{◌≡◌, ◌⊎◌, ℕ, Bool, List, [], ◌∷◌, ◌++◌, IfSome, Option, Some, None}
+use Rattle.std.specs.Prelude.{◌≡◌, ◌⊎◌, ℕ, Bool, List, [], ◌∷◌, ◌++◌, IfSome, Option, Some, None, true}
 use Rattle.clap.specs.Words.{Text}
 use Rattle.sqlite.specs.View.{IsClean}
 use Rattle.sqlite_disk.specs.declared.Disk.{Ghosts}
@@ -34,18 +34,30 @@ use Rattle.vault_app.specs.Jobs.{RunsAs}
 use Rattle.vault_app.specs.Plans.{EndsPlanless, IsTaskOf, saying}
 use Rattle.vault_app.specs.Asked.{AsksFor}
 use Rattle.vault_app.specs.Saying.{IsBeside, OfMove, Purpose, path_of}
-use Rattle.vault_app.specs.World.{anything, world_of}
+use Rattle.vault_app.specs.World.{World, anything, world_of}
 use Rattle.vault_app.specs.declared.ending.Ending.{Ending}
 use Rattle.vault_app.specs.declared.ending.Ending.TheVariants.{Done, NotOpened}
 use Rattle.vault_file.specs.declared.fault.NotOpened.{NotOpened as FileFault}
 use Rattle.vault_promise.specs.SoundHistories.{Lasts}
 use Rattle.vault_promise.specs.Told.{AllDone, IsNext, IsQuiet, Tells}
 
--- a run: the bytes that the files had before it, its words, how it ended, and what came in and went out, with
--- its connections, but for the line that says how it ended
+-- which moments a clock may tell at which turn: those of which this is true
+abbrev pub Moments : Type 0
+Moments = ℕ → ℕ → Bool
+
+abbrev pub told_by : Moments → Turns
+told_by moments turn now = moments turn now ≡ true
+
+-- a world in which these moments may be told, and anything else
+abbrev pub at_moments : Moments → World
+at_moments moments = record anything { tells = told_by moments }
+
+-- a run: the bytes that the files had before it, its words, the moments that its clock may tell, how it
+-- ended, and what came in and went out, with its connections, but for the line that says how it ended
 pub record Run : Type 0 where
   pub begins : Image
   pub words : List Text
+  pub moments : Moments
   pub ending : Ending
   pub streams : Streams
 
@@ -116,12 +128,13 @@ pub record Spared (V : Content) (c : Option Command) (r : Run) : Type 0 where
   pub newest : AreNew r.begins V c → IsSpared r
   pub moving : AreOf r.begins V c → AsksMove r.words → IsSpared r
 
--- The words of a run ask for a task. It opened the vault V, or the one after the command that was undecided:
--- the one that the bytes hold. From there commands were answered, one after the other, and then the store
--- failed at one more at most. What went out tells of those answered; and so does the end, where it is done.
+-- The words of a run ask for a task, at a moment that they fix or that was told. It opened the vault V, or
+-- the one after the command that was undecided: the one that the bytes hold. From there commands were
+-- answered, one after the other, and then the store failed at one more at most. What went out tells of those
+-- answered; and so does the end, where it is done.
 pub record Work (V : Content) (c : Option Command) (r : Run) : Type 0 where
   pub task : Task
-  pub asked : AsksFor r.words (λ job. IsTaskOf anything job task)
+  pub asked : AsksFor r.words (λ job. IsTaskOf (at_moments r.moments) job task)
   pub opened : Content
   pub is : (opened ≡ V) ⊎ (opened ≡ perhaps V c)
   pub holds : Bear r.begins opened
@@ -129,8 +142,8 @@ pub record Work (V : Content) (c : Option Command) (r : Run) : Type 0 where
   pub undecided : Option Command
   pub proper : AllProper answered
   pub last_proper : IfSome undecided IsProper
-  pub tells : Tells task opened answered r.streams
-  pub next : IfSome undecided (IsNext task opened answered r.streams)
+  pub tells : Tells (told_by r.moments) task opened answered r.streams
+  pub next : IfSome undecided (IsNext (told_by r.moments) task opened answered r.streams)
   pub done : r.ending ≡ Done → AllDone task opened answered
   pub opens : (why : FileFault) → ¬ (r.ending ≡ NotOpened why)
 
@@ -175,7 +188,8 @@ IsFound words Holding = (job : Job) (path : List ℕ) → IsAsked program_app wo
     → file_of job ≡ Some path → Holding path
 
 -- Whatever a run of the program does, by the clause `does` of `run`, in a world where the files at the path
--- of its words hold these bytes; and with whatever bytes the next one begins: it is a run up to these.
+-- of its words hold these bytes, and its clock tells no other moments than these; and with whatever bytes the
+-- next one begins: it is a run up to these.
 module _ {D R W E K P : Type 0} (g : Ghosts D) (remaining : R → Known) (contents : W → Known)
     (said : E → Known) (tells : K → Turns) (holds : P → List ℕ → Image → Type 0)
     (lacks refuses : P → List ℕ → Type 0) (says : P → List ℕ → List ℕ → Type 0)
@@ -183,13 +197,20 @@ module _ {D R W E K P : Type 0} (g : Ghosts D) (remaining : R → Known) (conten
   abbrev pub EveryRunIsOne : Type 0
   EveryRunIsOne =
       (image next : Image) (left : Option (FileStore D g)) (words : List Text) (status : ℕ) (time : K)
-      (paths : P) (links : List (Option Link)) (i i' : Watched R) (o told o' : Watched W) (e e' : Watched E)
+      (paths : P) (moments : Moments) (links : List (Option Link)) (i i' : Watched R) (o told o' : Watched W)
+      (e e' : Watched E) → ((turn now : ℕ) → tells time turn now → told_by moments turn now)
       → (it : RunsAs remaining contents said
       (world_of (tells time) (holds paths) (lacks paths) (refuses paths) (says paths) (logs paths)) left words
       status links i i' o told o' e e')
       → IsFound words (λ path. holds paths path image) → Leaves image left next
       → (let s : Streams = with_links (streams remaining i i' contents o told) links in
-      IsRun (record { begins = image; words = words; ending = it.ending; streams = s }) next)
+      IsRun (record {
+        begins = image;
+        words = words;
+        moments = moments;
+        ending = it.ending;
+        streams = s;
+      }) next)
 
 -- the bytes with which the first of runs begins, or those at the end where there is none
 abbrev pub before : List Run → Image → Image

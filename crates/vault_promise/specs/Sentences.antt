@@ -26,6 +26,7 @@ use Rattle.vault_http.specs.Exchanges.{answer_for, fault_text, last_text}
 use Rattle.vault_wire.specs.declared.fault.WireFault.{WireFault}
 use Rattle.vault_wire.specs.Parts.{Parts}
 use Rattle.vault_engine.specs.Asking.{Asked, text_at, texts, vault_after}
+use Rattle.vault_listen.specs.Live.{Turns}
 use Rattle.vault_listen.specs.Peers.{Link}
 use Rattle.vault_jobs.specs.Changes.{changes_at, rights_of}
 use Rattle.vault_jobs.specs.Grants.{AreDone, grants_at}
@@ -43,7 +44,7 @@ use Rattle.vault_app.specs.World.{anything}
 use Rattle.vault_app.specs.declared.ending.Ending.TheVariants.{Done}
 use Rattle.vault_promise.specs.DueNumbers.{AsksForDue, IsAskedWhereDue, number_text}
 use Rattle.vault_promise.specs.Runs.{AreNew, AreOf, AsksMove, Bear, Come, IsAside, IsSpared, MakesNew, Run}
-use Rattle.vault_promise.specs.Runs.{Runs, Work, before, history, kept_by, undecided_by}
+use Rattle.vault_promise.specs.Runs.{Runs, Work, at_moments, before, history, kept_by, told_by, undecided_by}
 use Rattle.vault_promise.specs.SoundHistories.{LiveTokensYieldIn, TokensFailIn}
 use Rattle.vault_promise.specs.Standing.{Stand}
 use Rattle.vault_promise.specs.Told.{AllDone, AreFirst, AreHeard, AreRead, IsNext, IsQuiet, streams_of}
@@ -92,53 +93,53 @@ abbrev pub EachAsked : {X : Type 0} → Content → List (Asked X) → (Content 
 EachAsked W xs Is = (first more : List (Asked _)) (it : Asked _) (x : Command) → xs ≡ first ++ it ∷ more
     → it.wanted ≡ Ok x → Is (vault_after W first) x
 
--- What went out of messages: the texts that answer those that were read, up to some byte; and of each
--- command that they ask for this is true.
-pub record TextsTell (now : Option ℕ) (digits : Option (List ℕ)) (W : Content) (s : Streams)
-    (Is : Content → Command → Type 0) : Type 0 where
+-- What went out of messages: the texts that answer those that were read, each at a moment that is fixed or
+-- was told for it, up to some byte; and of each command that they ask for this is true.
+pub record TextsTell (tells : Turns) (now : Option ℕ) (digits : Option (List ℕ)) (W : Content)
+    (s : Streams) (Is : Content → Command → Type 0) : Type 0 where
   pub exchanges : List (Asked Parts)
-  pub heard : AreHeard now digits s exchanges
+  pub heard : AreHeard tells now digits s exchanges
   pub fault : Option WireFault
   pub sent : ℕ
   pub went : Appends s.sent_old s.sent_new (take sent (texts answer_for W exchanges ++ last_text fault))
   pub each : EachAsked W exchanges Is
 
 -- what went out of rows: the lines that answer those that came in, up to some byte
-pub record LinesTell (who : Asker) (now : Option ℕ) (digits : Option (List ℕ)) (W : Content) (s : Streams)
-    (Is : Content → Command → Type 0) : Type 0 where
+pub record LinesTell (tells : Turns) (who : Asker) (now : Option ℕ) (digits : Option (List ℕ)) (W : Content)
+    (s : Streams) (Is : Content → Command → Type 0) : Type 0 where
   pub rows : List (Asked Row)
   pub asked : All (Asks who) rows
-  pub read : AreRead now digits s rows
+  pub read : AreRead tells now digits s rows
   pub sent : ℕ
   pub went : Appends s.sent_old s.sent_new (take sent (first_line ++ lines W rows))
   pub each : EachAsked W rows Is
 
 -- what went out of connections: the texts of each, from the vault that those before it leave
-abbrev pub LinksTell : Content → List (Option Link) → (Content → Command → Type 0) → Type 0
-LinksTell W [] Is = Unit {0}
-LinksTell W (None ∷ xs) Is = LinksTell W xs Is
-LinksTell W (Some x ∷ xs) Is = (it : TextsTell None None W (streams_of x) Is)
-    × LinksTell (vault_after W it.exchanges) xs Is
+abbrev pub LinksTell : Turns → Content → List (Option Link) → (Content → Command → Type 0) → Type 0
+LinksTell tells W [] Is = Unit {0}
+LinksTell tells W (None ∷ xs) Is = LinksTell tells W xs Is
+LinksTell tells W (Some x ∷ xs) Is = (it : TextsTell tells None None W (streams_of x) Is)
+    × LinksTell tells (vault_after W it.exchanges) xs Is
 
 -- What went out of a task. A line of one that isn't asked message by message says that all is done; no
 -- connection is answered before the rights are those of the list; a sweep purges dead tokens alone; and of a
 -- list, it is the text of the vault.
-abbrev pub WentOut : Task → Content → List Command → Streams → (Content → Command → Type 0) → Type 0
-WentOut (Batch who now digits) W cs s Is = LinesTell who now digits W s Is
-WentOut (Pipe now digits) W cs s Is = TextsTell now digits W s Is
-WentOut (Serve port connections None) W cs s Is = LinksTell W s.links Is
-WentOut (Serve port connections (Some it)) W cs s Is =
+abbrev pub WentOut : Turns → Task → Content → List Command → Streams → (Content → Command → Type 0) → Type 0
+WentOut tells (Batch who now digits) W cs s Is = LinesTell tells who now digits W s Is
+WentOut tells (Pipe now digits) W cs s Is = TextsTell tells now digits W s Is
+WentOut tells (Serve port connections None) W cs s Is = LinksTell tells W s.links Is
+WentOut tells (Serve port connections (Some it)) W cs s Is =
     (let changes = changes_at true it.now it.rights.items (rights_of W) in
-    (s.links ≡ []) ⊎ AreDone (length changes) changes W × LinksTell (run changes W) s.links Is)
-WentOut (Sweep who now giver) W cs s Is = (IsQuiet s ⊎ AllDone (Sweep who now giver) W cs)
+    (s.links ≡ []) ⊎ AreDone (length changes) changes W × LinksTell tells (run changes W) s.links Is)
+WentOut tells (Sweep who now giver) W cs s Is = (IsQuiet s ⊎ AllDone (Sweep who now giver) W cs)
     × ((tokens : List Bytes) × (cs ≡ purges_at who now tokens) × AreSwept who now tokens W
     × ((tokens ≡ []) ⊎ MaySweep giver W who.merchant now))
-WentOut (Show it) W cs s Is =
+WentOut tells (Show it) W cs s Is =
     (cs ≡ []) × ((sent : ℕ) × Appends s.sent_old s.sent_new (take sent (shown_text it W)))
-WentOut (Change c) W cs s Is = (IsQuiet s ⊎ AllDone (Change c) W cs) × AreFirst cs (c ∷ [])
-WentOut (Give rights now) W cs s Is =
+WentOut tells (Change c) W cs s Is = (IsQuiet s ⊎ AllDone (Change c) W cs) × AreFirst cs (c ∷ [])
+WentOut tells (Give rights now) W cs s Is =
     (IsQuiet s ⊎ AllDone (Give rights now) W cs) × AreFirst cs (grants_at now rights.items)
-WentOut (Settle rights now) W cs s Is = (IsQuiet s ⊎ AllDone (Settle rights now) W cs)
+WentOut tells (Settle rights now) W cs s Is = (IsQuiet s ⊎ AllDone (Settle rights now) W cs)
     × AreFirst cs (changes_at true now rights.items (rights_of W))
 
 -- of each command that a run answered this is true, at the vault that those before it leave
@@ -165,43 +166,88 @@ FaultIsNone fault = (e : WireFault) → fault ≡ Some e
     → (number : Bytes) (close : Bool) → ¬ (fault_text e ≡ number_text number close)
 
 -- so of all that went out of messages
-abbrev pub AreDueTexts : (now : Option ℕ) (digits : Option (List ℕ)) (W : Content) (s : Streams)
-    → TextsTell now digits W s GivesDue → Type 0
-AreDueTexts now digits W s it = TextsAreDue W it.exchanges × FaultIsNone it.fault
+abbrev pub AreDueTexts : (tells : Turns) (now : Option ℕ) (digits : Option (List ℕ)) (W : Content)
+    (s : Streams) → TextsTell tells now digits W s GivesDue → Type 0
+AreDueTexts tells now digits W s it = TextsAreDue W it.exchanges × FaultIsNone it.fault
 
 -- and of connections
-abbrev pub AreDueLinks : (W : Content) (xs : List (Option Link)) → LinksTell W xs GivesDue → Type 0
-AreDueLinks W [] all = Unit {0}
-AreDueLinks W (None ∷ xs) all = AreDueLinks W xs all
-AreDueLinks W (Some x ∷ xs) (it, all) =
-    AreDueTexts None None W (streams_of x) it × AreDueLinks (vault_after W it.exchanges) xs all
+abbrev pub AreDueLinks : (tells : Turns) (W : Content) (xs : List (Option Link))
+    → LinksTell tells W xs GivesDue → Type 0
+AreDueLinks tells W [] all = Unit {0}
+AreDueLinks tells W (None ∷ xs) all = AreDueLinks tells W xs all
+AreDueLinks tells W (Some x ∷ xs) (it, all) =
+    AreDueTexts tells None None W (streams_of x) it × AreDueLinks tells (vault_after W it.exchanges) xs all
 
-abbrev pub AreDue : (t : Task) (W : Content) (cs : List Command) (s : Streams) → WentOut t W cs s GivesDue
-    → Type 0
-AreDue (Batch who now digits) W cs s it =
+abbrev pub AreDue : (tells : Turns) (t : Task) (W : Content) (cs : List Command) (s : Streams)
+    → WentOut tells t W cs s GivesDue → Type 0
+AreDue tells (Batch who now digits) W cs s it =
     EachAsked W it.rows (λ U x. (number : Bytes) → ¬ (reply U x ≡ Number number))
-AreDue (Pipe now digits) W cs s it = AreDueTexts now digits W s it
-AreDue (Serve port connections None) W cs s it = AreDueLinks W s.links it
-AreDue (Serve port connections (Some list)) W cs s (inl none) = Unit {0}
-AreDue (Serve port connections (Some list)) W cs s (inr (done, it)) =
-    AreDueLinks (run (changes_at true list.now list.rights.items (rights_of W)) W) s.links it
-AreDue t W cs s it = Unit {0}
+AreDue tells (Pipe now digits) W cs s it = AreDueTexts tells now digits W s it
+AreDue tells (Serve port connections None) W cs s it = AreDueLinks tells W s.links it
+AreDue tells (Serve port connections (Some list)) W cs s (inl none) = Unit {0}
+AreDue tells (Serve port connections (Some list)) W cs s (inr (done, it)) =
+    AreDueLinks tells (run (changes_at true list.now list.rights.items (rights_of W)) W) s.links it
+AreDue tells t W cs s it = Unit {0}
 
 abbrev pub NoneElse : (V : Content) (c : Option Command) (rs : List Run) (end : Image) → Come V c rs end
     → Type 0
 NoneElse V c [] end come = Unit {0}
 NoneElse V c (r ∷ rs) end (inl w, more) = EachAnswered w GivesDue
-    × ((it : WentOut w.task w.opened w.answered r.streams GivesDue)
-    × AreDue w.task w.opened w.answered r.streams it)
+    × ((it : WentOut (told_by r.moments) w.task w.opened w.answered r.streams GivesDue)
+    × AreDue (told_by r.moments) w.task w.opened w.answered r.streams it)
     × NoneElse (run w.answered w.opened) w.undecided rs end more
 NoneElse V c (r ∷ rs) end (inr rests, more) =
     (IsQuiet r.streams ⊎ (AsksHelp r.words ⊎ AsksFor r.words IsAside)) × NoneElse V c rs end more
 
--- A number that a run gave, or that it told, was asked for, of a live token, by a caller that was entitled.
+-- A number that a run gave, or that it told, was asked for, of a live token, by a caller that was entitled,
+-- at a moment that the words fix, or that was told for the message that asks.
 -- The lines of a batch tell none; and of a run that rests nothing goes out but help, if it is no trial, check
 -- or move.
 abbrev pub NumbersGoToNobodyElse : Type 0
 NumbersGoToNobodyElse = OfAnyRuns (λ V rs end come. NoneElse V None rs end come)
+
+-- ---- moments are told
+
+-- each of these was asked at a moment that was told at its turn, where none is fixed
+abbrev pub EachTold : {X : Type 0} → Turns → Option ℕ → List (Asked X) → Type 0
+EachTold tells now xs = now ≡ None → (first more : List (Asked _)) (it : Asked _) → xs ≡ first ++ it ∷ more
+    → tells (length first) it.pair.0
+
+-- of whatever commands
+abbrev pub IsAnything : Content → Command → Type 0
+IsAnything W x = Unit {0}
+
+-- so of each connection, whose turns are its own
+abbrev pub LinksTold : (tells : Turns) (W : Content) (xs : List (Option Link))
+    → LinksTell tells W xs IsAnything → Type 0
+LinksTold tells W [] all = Unit {0}
+LinksTold tells W (None ∷ xs) all = LinksTold tells W xs all
+LinksTold tells W (Some x ∷ xs) (it, all) =
+    EachTold tells None it.exchanges × LinksTold tells (vault_after W it.exchanges) xs all
+
+abbrev pub TaskTold : (tells : Turns) (t : Task) (W : Content) (cs : List Command) (s : Streams)
+    → WentOut tells t W cs s IsAnything → Type 0
+TaskTold tells (Batch who now digits) W cs s it = EachTold tells now it.rows
+TaskTold tells (Pipe now digits) W cs s it = EachTold tells now it.exchanges
+TaskTold tells (Serve port connections None) W cs s it = LinksTold tells W s.links it
+TaskTold tells (Serve port connections (Some list)) W cs s (inl none) = Unit {0}
+TaskTold tells (Serve port connections (Some list)) W cs s (inr (done, it)) =
+    LinksTold tells (run (changes_at true list.now list.rights.items (rights_of W)) W) s.links it
+TaskTold tells t W cs s it = Unit {0}
+
+abbrev pub AllTold : (V : Content) (c : Option Command) (rs : List Run) (end : Image) → Come V c rs end
+    → Type 0
+AllTold V c [] end come = Unit {0}
+AllTold V c (r ∷ rs) end (inl w, more) = AsksFor r.words (λ job. IsTaskOf (at_moments r.moments) job w.task)
+    × ((it : WentOut (told_by r.moments) w.task w.opened w.answered r.streams IsAnything)
+    × TaskTold (told_by r.moments) w.task w.opened w.answered r.streams it)
+    × AllTold (run w.answered w.opened) w.undecided rs end more
+AllTold V c (r ∷ rs) end (inr rests, more) = AllTold V c rs end more
+
+-- A run that works does the task that its words ask for, at a moment that they fix, or else at one that its
+-- clock told. So it answers each message and each row: at a moment that was told for it alone.
+abbrev pub MomentsAreTold : Type 0
+MomentsAreTold = OfAnyRuns (λ V rs end come. AllTold V None rs end come)
 
 -- ---- each is counted
 
@@ -270,7 +316,7 @@ abbrev pub Kept : (V : Content) (c : Option Command) (rs : List Run) (end : Imag
 Kept V c [] end come = Unit {0}
 Kept V c (r ∷ rs) end (inl w, more) =
     EachAnswered w (λ W x. IsKept (after W x) (run w.answered w.opened) w.undecided rs end more)
-    × WentOut w.task w.opened w.answered r.streams
+    × WentOut (told_by r.moments) w.task w.opened w.answered r.streams
     (λ W x. IsKept (after W x) (run w.answered w.opened) w.undecided rs end more)
     × Kept (run w.answered w.opened) w.undecided rs end more
 Kept V c (r ∷ rs) end (inr rests, more) = Kept V c rs end more
@@ -309,7 +355,8 @@ AreWhole WasAsked V c [] end come = Unit {0}
 AreWhole WasAsked V c (r ∷ rs) end (inl w, more) =
     ((w.opened ≡ V) ⊎ (x : Command) × (c ≡ Some x) × WasAsked x × (w.opened ≡ after V x))
     × Bear r.begins w.opened
-    × AreWhole (IsNext w.task w.opened w.answered r.streams) (run w.answered w.opened) w.undecided rs end more
+    × AreWhole (IsNext (told_by r.moments) w.task w.opened w.answered r.streams) (run w.answered w.opened)
+    w.undecided rs end more
 AreWhole WasAsked V c (r ∷ rs) end (inr rests, more) = AreWhole WasAsked V c rs end more
 
 abbrev pub ChangesAreWhole : Type 0
@@ -354,6 +401,7 @@ pub record Together (V : Content) (rs : List Run) (end : Image) (come : Come V N
   pub yields : (first more : Steps) → history V None rs end come ≡ first ++ more
       → LiveTokensYieldIn (last V first)
   pub nobody_else : NoneElse V None rs end come
+  pub told : AllTold V None rs end come
   pub counted : (m : Bytes) → given_by V m + given_in m V None rs end come
       ≤ given_by (left_by V None rs end come) m
   pub stand : Stand V None rs end come

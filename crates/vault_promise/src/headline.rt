@@ -1,8 +1,10 @@
 //! The sentences of the headline, of any runs of the program on one file: what each says follows from the
 //! promise, whose clauses are all that its proof takes of the program.
+ghost use Rattle.vault_promise.specs.OpenedSound.{FilesOpenSound};
 ghost use Rattle.vault_promise.specs.Sentences.{AnswersAreKept, ChangesAreWhole, CountsAreWithin, DoneIsDone};
-ghost use Rattle.vault_promise.specs.Sentences.{MovesKeepTheVault, NumbersAreCounted, NumbersGoToNobodyElse};
-ghost use Rattle.vault_promise.specs.Sentences.{NumbersStayApart, RequestsAnswerOnceEver, StopsAreSpared};
+ghost use Rattle.vault_promise.specs.Sentences.{MomentsAreTold, MovesKeepTheVault, NumbersAreCounted};
+ghost use Rattle.vault_promise.specs.Sentences.{NumbersGoToNobodyElse, NumbersStayApart};
+ghost use Rattle.vault_promise.specs.Sentences.{RequestsAnswerOnceEver, StopsAreSpared};
 ghost use Rattle.vault_promise.specs.Sentences.{SentencesHoldTogether, TokensYield};
 
 use crate::laws::{each_is_due, faults_tell_no_number, only_due_is_given};
@@ -37,6 +39,14 @@ pub fn numbers_go_to_nobody_else<P: Paths, K: Timekeeper, R: Read, W: Write, E: 
     only_due_is_given();
     each_is_due();
     faults_tell_no_number();
+    promise_is_kept::<P, K, R, W, E>()
+}
+
+/// Moments are told: a run's task is done at a moment that its words fix, or that its clock told; and each
+/// message or row is answered at one that was told for it alone.
+pub fn moments_are_told<P: Paths, K: Timekeeper, R: Read, W: Write, E: Write>()
+    ensures { MomentsAreTold }
+{
     promise_is_kept::<P, K, R, W, E>()
 }
 
@@ -82,6 +92,14 @@ pub fn moves_keep_the_vault<P: Paths, K: Timekeeper, R: Read, W: Write, E: Write
 {
     promise_is_kept::<P, K, R, W, E>()
 }
+
+/// A file is opened only where its rows are those of a sound vault, or where it has no table.
+///
+/// It is a law of `run`, whatever the bytes are: those above are of runs from a sound vault on.
+pub fn files_open_where_sound<P: Paths, K: Timekeeper, R: Read, W: Write, E: Write>()
+    ensures { FilesOpenSound P.Disk.Disk R.remaining W.contents E.contents K.tells P.holds P.lacks P.refuses
+        P.says P.logs }
+{}
 
 /// Where the vault was once empty, a merchant's count lies between the numbers answered since then and those
 /// that may have been given.
