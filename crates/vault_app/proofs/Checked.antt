@@ -39,7 +39,7 @@ module _ {D : Type 0} {g : Ghosts D} (world : World) (left : Option (FileStore D
   file_logs : (path : List ℕ) (left : Option (FileStore D g)) (t : Task)
       → ¬ (EndsOnFile world path left t DoneWithLog unread unsent s)
   file_logs path (Some it) t h = h
-  file_logs path None t h = let is = h.0 in absurd (cc (is))
+  file_logs path None t h = let is = h.1 in absurd (cc (is))
 
   plan_logs : (p : Plan) → DoesPlan world left p DoneWithLog unread unsent s → Checks p
   plan_logs (plan.Trial t) h = absurd h.1

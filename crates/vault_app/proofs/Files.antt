@@ -1,6 +1,6 @@
 -- A task on the vault in files, said of the files.
-use Rattle.std.proofs.Common.{◌≡◌, ◌≢◌, ◌↔◌, ℕ, List, Bool, Option, Some, None, Result, Ok, Err, false}
-use Rattle.std.proofs.Common.{◌≤◌, ap, arith, inl, refl, subst, sym}
+use Rattle.std.proofs.Common.{◌≡◌, ◌≢◌, ◌↔◌, ◌⊎◌, ℕ, List, Bool, Option, Some, None, Result, Ok, Err, false}
+use Rattle.std.proofs.Common.{◌≤◌, ap, arith, inl, inr, refl, subst, sym}
 use Rattle.std.specs.Prelude.{ℤ, IfErr, IfOk, IfSome}
 use Rattle.sqlite.specs.Files.{file_state}
 use Rattle.sqlite.specs.Held.{Held}
@@ -17,7 +17,7 @@ use Rattle.vault_file.specs.Found.{ChecksAs, MayFindNone, OpensFrom, SparesStopp
 use Rattle.vault_file.specs.Paths.{Each}
 use Rattle.vault_file.specs.Found.{StaysWhole, TellsFound}
 use Rattle.vault_file.specs.Moved.{MayFindOlder, MovesAs, StaysOld, TellsOld}
-use Rattle.vault_verdict.specs.declared.fault.OpenFault.TheVariants.{Store}
+use Rattle.vault_verdict.specs.declared.fault.OpenFault.TheVariants.{Memory, Store}
 use Rattle.vault_file.specs.declared.fault.NotOpened.{NotOpened as FileFault}
 use Rattle.vault_file.specs.declared.fault.NotOpened.TheVariants as file
 use Rattle.vault_jobs.proofs.RefinedTasks.{refined}
@@ -102,15 +102,21 @@ module _ {D : Type 0} {g : Ghosts D} (world : World) (path : List ℕ) (unread u
         → IfSome left (λ it. Each (world.holds path) (λ image. ¬ MayFindNone image → StaysWhole image it))
         → unread → unsent → EndsOnFile world path left task (NotOpened why) unread unsent s
     refused_file None task why is there never tells stays same calm silent =
-        (ap (λ f. NotOpened f) (is.1 refl), inl (there (is.1 refl)), calm, silent)
+        (why, refl, inl (is.1 refl, inl (there (is.1 refl))), calm, silent)
     refused_file (Some left) task why is there never tells stays same calm silent =
         (record { spared = never; tells = tells; stays = stays; same = same }, calm, silent)
+
+-- what holds, holds where there is no error
+pub if_ok : {A E P : Type 0} (r : Result A E) → P → IfOk r (λ it. P)
+if_ok (Ok it) p = p
+if_ok (Err e) p = tt
 
 module _ {D : Type 0} {g : Ghosts D} (world : World) (path : List ℕ) where
   -- what a check comes to
   pub checked : (left : Option (FileStore D g)) (r : Result Sizes FileFault)
       → (left ≡ None → IfOk r (λ sizes. (sizes ≡ sizes_of empty_vault) × world.lacks path))
-      → IfErr r (λ why. (left ≡ None) ↔ (why ≡ file.Refused))
+      → IfErr r (λ why. (why ≡ file.Refused → left ≡ None)
+      × (left ≡ None → (why ≡ file.Refused) ⊎ (why ≡ file.Fault Memory)))
       → (r ≡ Err file.Refused → world.refuses path)
       → IfOk r (λ sizes. IfSome left (λ it. Each (world.holds path) (λ image. ChecksAs image it sizes)))
       → IfErr r (λ why. IfSome left
@@ -122,7 +128,10 @@ module _ {D : Type 0} {g : Ghosts D} (world : World) (path : List ℕ) where
       → IsChecked world path left r
   checked None (Ok sizes) empty refused there sound never tells same stays = empty refl
   checked None (Err why) empty refused there sound never tells same stays =
-      let is : why ≡ file.Refused = refused.0 refl in (is, there (ap Err is))
+      elim (refused.1 refl) [
+        | inl is ↦ inl (is, there (ap Err is))
+        | inr starved ↦ inr starved
+      ]
   checked (Some left) (Ok sizes) empty refused there sound never tells same stays =
       λ image at. (sound image at, same image at, stays image at)
   checked (Some left) (Err why) empty refused there sound never tells same stays =

@@ -151,7 +151,7 @@ module _ {D : Type 0} {g : Ghosts D} (world : World) (left : Option (FileStore D
   file_bad : (path : List ℕ) (left : Option (FileStore D g)) (t : Task)
       → ¬ (EndsOnFile world path left t BadWords unread unsent s)
   file_bad path (Some it) t h = h
-  file_bad path None t h = let is = h.0 in absurd (cc (is))
+  file_bad path None t h = let is = h.1 in absurd (cc (is))
 
   plan_bad : (p : Plan) → ¬ (DoesPlan world left p BadWords unread unsent s)
   plan_bad (plan.Trial t) h = h.1
@@ -173,7 +173,7 @@ module _ {D : Type 0} {g : Ghosts D} (world : World) (left : Option (FileStore D
   file_closed : (path : List ℕ) (left : Option (FileStore D g)) (t : Task) (f : FileFault)
       → EndsOnFile world path left t (NotOpened f) unread unsent s → unread × unsent
   file_closed path (Some it) t f h = (h.1, h.2)
-  file_closed path None t f h = (h.2, h.3)
+  file_closed path None t f h = (h.3, h.4)
 
   plan_closed : (p : Plan) (f : FileFault) → DoesPlan world left p (NotOpened f) unread unsent s
       → unread × unsent
@@ -186,7 +186,7 @@ module _ {D : Type 0} {g : Ghosts D} (world : World) (left : Option (FileStore D
   file_refused : (path : List ℕ) (left : Option (FileStore D g)) (t : Task) (n : ℕ)
       → EndsOnFile world path left t (Refused n) unread unsent s → unread
   file_refused path (Some it) t n h = unread_by world.tells unread unsent s t _ h.broken n h.done
-  file_refused path None t n h = h.2
+  file_refused path None t n h = h.3
 
   plan_refused : (p : Plan) (n : ℕ) → DoesPlan world left p (Refused n) unread unsent s → unread
   plan_refused (plan.Trial t) n h = absurd h.1
@@ -208,7 +208,7 @@ module _ {D : Type 0} {g : Ghosts D} (world : World) (left : Option (FileStore D
   file_part : (path : List ℕ) (left : Option (FileStore D g)) (t : Task)
       → EndsOnFile world path left t SomeRefused unread unsent s → IsOfRows t
   file_part path (Some it) t h = rows_of world.tells unread unsent s t _ h.broken h.done.works
-  file_part path None t h = let is = h.0 in absurd (cc (is))
+  file_part path None t h = let is = h.1 in absurd (cc (is))
 
   -- a plan that may be refused in part is a task of rows
   abbrev IsPart : Plan → Type 0

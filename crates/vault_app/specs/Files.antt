@@ -16,6 +16,7 @@ use Rattle.vault_file.specs.Found.{TellsFound}
 use Rattle.vault_file.specs.Paths.{Each}
 use Rattle.vault_file.specs.declared.fault.NotOpened.{NotOpened as FileFault}
 use Rattle.vault_file.specs.declared.fault.NotOpened.TheVariants as file
+use Rattle.vault_verdict.specs.declared.fault.OpenFault.TheVariants.{Memory}
 use Rattle.vault_engine.specs.Passing.{Passage}
 use Rattle.vault_listen.specs.Live.{Turns}
 use Rattle.vault_jobs.specs.Doing.{Does}
@@ -42,6 +43,13 @@ ending_for (Err stop) = Stopped stop
 -- the task only says what a vault holds
 abbrev pub IsShow : Task → Type 0
 IsShow t = (it : Shown) × (t ≡ Show it)
+
+-- Why the files at a path aren't opened where none are left: an open of the path may fail; or the task only
+-- says what is there, and nothing is, or memory was refused while that was looked at.
+abbrev pub LeavesAlone : World → List ℕ → Task → FileFault → Type 0
+LeavesAlone world path task why =
+    (why ≡ file.Refused) × (world.refuses path ⊎ IsShow task × world.lacks path)
+    ⊎ (why ≡ file.Fault Memory) × IsShow task
 
 module _ {D : Type 0} {g : Ghosts D} where
   -- The passage of the vault in files that were opened by this connection, and are left, closed. All of it
@@ -92,11 +100,10 @@ module _ {D : Type 0} {g : Ghosts D} where
         stopped = λ stop. works (Err stop);
       }) ending
 
-  -- The same at a path, where files are left only if they were opened, or refused with a connection: none are
-  -- where an open of the path may fail; nor where nothing is there, and the task only says what is.
+  -- The same at a path, where files are left only if they were opened, or refused with a connection.
   abbrev pub EndsOnFile : World → List ℕ → Option (FileStore D g) → Task → Ending → Type 0 → Type 0 → Streams
       → Type 0
   EndsOnFile world path (Some left) task ending unread unsent s =
       DoesOnFile world.tells (world.holds path) left task ending unread unsent s
-  EndsOnFile world path None task ending unread unsent s = (ending ≡ NotOpened file.Refused)
-      × (world.refuses path ⊎ IsShow task × world.lacks path) × unread × unsent
+  EndsOnFile world path None task ending unread unsent s = (why : FileFault) × (ending ≡ NotOpened why)
+      × LeavesAlone world path task why × unread × unsent

@@ -1,5 +1,5 @@
 -- What a run does with its file.
-use Rattle.std.specs.Prelude.{◌≡◌, ◌≢◌, ◌⊎◌, ℕ, ℤ, List, Option, Some, None, Result, Ok, Err, Bool}
+use Rattle.std.specs.Prelude.{◌≡◌, ◌≢◌, ◌⊎◌, ℕ, ℤ, List, Option, Some, None, Result, Ok, Err, Bool, IfOk}
 use Rattle.clap.specs.Words.{Text}
 use Rattle.sqlite.specs.View.{IsClean}
 use Rattle.sqlite_disk.specs.declared.Disk.{Ghosts}
@@ -10,7 +10,7 @@ use Rattle.vault_file.specs.Found.{ChecksAs, MayFindNone, SparesStopped, Stays, 
 use Rattle.vault_file.specs.Found.{TellsFound}
 use Rattle.vault_file.specs.Paths.{Each}
 use Rattle.vault_file.specs.Moved.{MayFindOlder, MovesAs, StaysOld, TellsOld}
-use Rattle.vault_verdict.specs.declared.fault.OpenFault.TheVariants.{Store}
+use Rattle.vault_verdict.specs.declared.fault.OpenFault.TheVariants.{Memory, Store}
 use Rattle.vault_file.specs.declared.fault.NotOpened.{NotOpened as FileFault}
 use Rattle.vault_file.specs.declared.fault.NotOpened.TheVariants as file
 use Rattle.vault_verdict.specs.Sizes.{sizes_of}
@@ -36,8 +36,10 @@ use Rattle.vault_app.specs.declared.plan.Plan.TheVariants as plan
 
 module _ {D : Type 0} {g : Ghosts D} where
   -- What a check of the files at a path comes to. The sizes are those of the vault there, which is kept, and
-  -- of the empty one where nothing is there. What a stop leaves of a sound vault isn't refused for its schema
-  -- or its rows, and what is refused so is told by what the file holds; and whatever is in the files stays.
+  -- of the empty one where nothing is there. Without files, an open of the path may fail, or memory was
+  -- refused while it was looked what is there, or whether there is a log. What a stop leaves of a sound vault
+  -- isn't refused for its schema or its rows, and what is refused so is told by what the file holds; and
+  -- whatever is in the files stays.
   abbrev pub IsChecked : World → List ℕ → Option (FileStore D g) → Result Sizes FileFault → Type 0
   IsChecked world path (Some left) (Ok sizes) =
       Each (world.holds path) (λ image. ChecksAs image left sizes × StaysWhole image left × Stays image left)
@@ -45,7 +47,8 @@ module _ {D : Type 0} {g : Ghosts D} where
       (λ image. (IsClean (view left) → SparesStopped image why × TellsFound image why)
       × StaysWhole image left × Stays image left)
   IsChecked world path None (Ok sizes) = (sizes ≡ sizes_of empty_vault) × world.lacks path
-  IsChecked world path None (Err why) = (why ≡ file.Refused) × world.refuses path
+  IsChecked world path None (Err why) =
+      (why ≡ file.Refused) × world.refuses path ⊎ (why ≡ file.Fault Memory)
 
   -- What a migration of them comes to. One that is refused by another number than 33 leaves whatever is in
   -- the files, and so does one by 33 where there is no older version's table.
@@ -62,7 +65,7 @@ module _ {D : Type 0} {g : Ghosts D} where
   abbrev pub DoesPlan : World → Option (FileStore D g) → Plan → Ending → Type 0 → Type 0 → Streams → Type 0
   DoesPlan world left (plan.Trial t) ending unread unsent s = (left ≡ None) × TrialEnds world.tells t ending s
   DoesPlan world left (plan.Check path) ending unread unsent s = unread × ((told : Result Sizes FileFault)
-      × IsChecked world path.now left told × ((log : Bool) × world.logs path.now log
+      × IsChecked world path.now left told × ((log : Bool) × IfOk told (λ sizes. world.logs path.now log)
       × TellsSizes log told ending unsent s.sent_old s.sent_new s.writer))
   DoesPlan world left (plan.Migrate path) ending unread unsent s = unread × ((told : Result ℤ FileFault)
       × IsMoved world path.now left told × TellsMoved told ending unsent s.sent_old s.sent_new s.writer)

@@ -18,6 +18,7 @@ use vault_jobs::task::{Outcome, Task, do_task};
 use vault_listen::network::Network;
 use vault_listen::time::Timekeeper;
 use vault_recover::options::Cache;
+use vault_verdict::fault::OpenFault;
 use vault_wire::watched::Watched;
 
 /// How a job ends whose task came to this.
@@ -53,7 +54,8 @@ fn only_shows(task: &Task) -> bool
 }
 
 /// Opens the vault in the file at a path, does a task with it, and closes the files. Where the task only says
-/// what the file holds, one that isn't there isn't made: it is refused by 34.
+/// what the file holds, one that isn't there isn't made, and one without a byte isn't written: it is refused
+/// by 34, and by 32 where memory is refused while that is looked at.
 pub(crate) fn do_on_file<P: Paths, K: Timekeeper, N: Network, R: Read, W: Write>(
     rt: &HostRuntime,
     path: &str,
@@ -75,8 +77,12 @@ pub(crate) fn do_on_file<P: Paths, K: Timekeeper, N: Network, R: Read, W: Write>
         × EndsOnFile world path.now result.1 task.now result.0 (input.new ≡ input.old)
         (output.new ≡ output.old) (with_links s links) }
 {
-    if only_shows(task) && paths.is_missing(rt, path) {
-        return (Ending::NotOpened(NotOpened::Refused), None);
+    if only_shows(task) {
+        match paths.is_empty(rt, path) {
+            Ok(true) => return (Ending::NotOpened(NotOpened::Refused), None),
+            Ok(false) => {}
+            Err(_) => return (Ending::NotOpened(NotOpened::Fault(OpenFault::Memory)), None),
+        }
     }
     let mut vault = match open_vault(rt, path, paths, cache_for(task)) {
         Ok(vault) => vault,

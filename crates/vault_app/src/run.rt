@@ -26,6 +26,7 @@ use std::alloc::Global;
 use std::convert::AsStr;
 use std::io::{Error, ErrorKind, Read, Write};
 use vault_file::check::check_file;
+use vault_file::fault::NotOpened;
 use vault_file::migrate::migrate_file;
 use vault_file::paths::Paths;
 use vault_jobs::stop::Stop;
@@ -33,6 +34,7 @@ use vault_jobs::told::tell;
 use vault_listen::network::Network;
 use vault_listen::time::Timekeeper;
 use vault_store::vault::Fault;
+use vault_verdict::fault::OpenFault;
 use vault_wire::watched::Watched;
 use vault_words::job::job;
 use vault_words::jobs::JobFault;
@@ -92,7 +94,10 @@ fn carry_out<P: Paths, K: Timekeeper, N: Network, R: Read, W: Write>(
     match plan {
         Plan::Trial(trial) => (trial::serve(rt, time, &trial, input, output), None),
         Plan::Check(path) => {
-            let has_log = paths.has_log(rt, path);
+            let Ok(has_log) = paths.has_log(rt, path) else {
+                let fault = NotOpened::Fault(OpenFault::Memory);
+                return (Ending::NotOpened(fault), None);
+            };
             let (checked, left) = check_file(rt, path, paths);
             (tell_sizes(checked, has_log, output), left)
         }

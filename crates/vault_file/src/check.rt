@@ -1,5 +1,5 @@
 //! The whole check of the file at a path.
-ghost use Rattle.std.specs.Prelude.{◌≡◌, ◌↔◌, ℕ, None, Err, IfOk, IfErr, IfSome};
+ghost use Rattle.std.specs.Prelude.{◌≡◌, ◌⊎◌, ℕ, None, Err, IfOk, IfErr, IfSome};
 ghost use Rattle.sqlite.specs.Files.{file_state};
 ghost use Rattle.sqlite.specs.State.{HasCleanDisk};
 ghost use Rattle.sqlite.specs.View.{IsClean};
@@ -84,15 +84,18 @@ const EMPTY: Sizes = Sizes {
 };
 
 /// Checks the file at a path whole, as `check_from` does, and hands out the files, closed, where there are
-/// some. But a file that isn't there, in a folder that is, is the empty vault, and nothing is made.
+/// some. But a file that isn't there, in a folder that is, or has no byte and no log, is the empty vault, and
+/// nothing is made or written. Refused by 32 also where memory is refused while that is looked at.
 pub fn check_file<P: Paths>(rt: &HostRuntime, path: &str, paths: P) -> Closed<P, Sizes>
     // words that name no file are refused by 34
     ensures no_path { IsNoPath path.now → result.0 ≡ Err NotOpened.Refused }
-    // with Ok and no files, nothing has the name, and the sizes are those of the empty vault
+    // with Ok and no files, there is no file, or one without a byte and a log, and the sizes are those of the
+    // empty vault
     ensures empty { result.1 ≡ None
         → IfOk result.0 (λ sizes. (sizes ≡ sizes_of empty_vault) × P.lacks paths path.now) }
-    // 34, and no other refusal, gives no files
-    ensures refused { IfErr result.0 (λ why. (result.1 ≡ None) ↔ (why ≡ NotOpened.Refused)) }
+    // 34 gives no files, and no other refusal but 32 for want of memory does
+    ensures refused { IfErr result.0 (λ why. (why ≡ NotOpened.Refused → result.1 ≡ None)
+        × (result.1 ≡ None → (why ≡ NotOpened.Refused) ⊎ (why ≡ NotOpened.Fault OpenFault.Memory))) }
     // 34 comes only where an open of the files at the path may fail
     ensures refused_there { result.0 ≡ Err NotOpened.Refused → P.refuses paths path.now }
     // with Ok and files, on an honest disk, the sizes are the vault's, if its rows are full, and a sound one
@@ -117,8 +120,12 @@ pub fn check_file<P: Paths>(rt: &HostRuntime, path: &str, paths: P) -> Closed<P,
     ensures same { IfSome result.1
         (λ left. Each (P.holds paths path.now) (λ image. StaysWhole image left)) }
 {
-    if !is_no_path(path) && paths.is_missing(rt, path) {
-        return (Ok(EMPTY), None);
+    if !is_no_path(path) {
+        match paths.is_empty(rt, path) {
+            Ok(true) => return (Ok(EMPTY), None),
+            Ok(false) => {}
+            Err(_) => return (Err(NotOpened::Fault(OpenFault::Memory)), None),
+        }
     }
     match check_from(rt, path, paths) {
         Ok((sizes, conn)) => (Ok(sizes), Some(close(conn))),

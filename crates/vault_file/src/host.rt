@@ -1,8 +1,9 @@
 //! The paths of the host that the program runs on.
 use crate::blank::log::has_log;
-use crate::blank::make::{is_missing, make_blank};
+use crate::blank::make::{is_empty, make_blank};
 use crate::paths::{Paths, is_no_path};
 use sqlite::{Connection, FileFrom, FileStore, Start};
+use std::alloc::AllocError;
 use std::{fs, io};
 use vault_recover::options::Cache;
 use vault_recover::reopen::open_path;
@@ -39,11 +40,11 @@ impl<S: Start> Paths for HostPaths<S> {
 
     ghost logs = { λ _ _ _. Unit {0} };
 
-    fn is_missing(&self, rt: &HostRuntime, path: &str) -> bool {
-        is_missing(rt, path)
+    fn is_empty(&self, rt: &HostRuntime, path: &str) -> Result<bool, AllocError> {
+        is_empty(rt, path)
     }
 
-    fn has_log(&self, rt: &HostRuntime, path: &str) -> bool {
+    fn has_log(&self, rt: &HostRuntime, path: &str) -> Result<bool, AllocError> {
         has_log(rt, path)
     }
 

@@ -13,6 +13,7 @@ ghost use Rattle.vault_schema.specs.Holds.{Holds};
 use crate::fault::NotOpened;
 use sqlite::{Connection, FileStore};
 use sqlite_disk::Disk;
+use std::alloc::AllocError;
 use std::io;
 use vault_recover::options::Cache;
 
@@ -35,8 +36,8 @@ pub type Closed<P, X> = (Result<X, NotOpened>, Option<FileStore<<P as Paths>::Di
 
 /// The paths of a host, and what stands at them.
 ///
-/// Contracts see what is told of a path: which bytes its database file and its log hold, that nothing has its
-/// name, that its files may not be opened, which text its file is, and whether it has a log. Code over any
+/// Contracts see what is told of a path: which bytes its database file and its log hold, that it has no file
+/// or one without a byte, that its files may not be opened, which text its file is, and whether it has a log. Code over any
 /// `Paths` is told each of these by a call for this very path alone.
 pub trait Paths: Drop {
     ghost use Rattle.std.specs.Prelude.{ℕ, Bool, List};
@@ -47,7 +48,7 @@ pub trait Paths: Drop {
     // the database file at a path and its log hold such bytes
     ghost holds: { Self → List ℕ → Image → Type 0 };
 
-    // nothing has the name, in a folder that is there
+    // nothing has the name, in a folder that is there, or a file without a byte and without a log has it
     ghost lacks: { Self → List ℕ → Type 0 };
 
     // an open of the files at a path may fail
@@ -59,14 +60,15 @@ pub trait Paths: Drop {
     // it is said whether something stands in the log beside the file at a path
     ghost logs: { Self → List ℕ → Bool → Type 0 };
 
-    /// Whether nothing has the name, in a folder that is there.
-    fn is_missing(&self, rt: &HostRuntime, path: &str) -> bool
-        ensures { IsTrue result → lacks self.now path.now };
+    /// Whether nothing has the name, in a folder that is there, or a file without a byte and without a log has
+    /// it. It fails where memory is refused.
+    fn is_empty(&self, rt: &HostRuntime, path: &str) -> Result<bool, AllocError>
+        ensures { IfOk result (λ empty. IsTrue empty → lacks self.now path.now) };
 
     /// Whether something stands in the log beside the file at a path. Where that can't be told, it is taken
-    /// to.
-    fn has_log(&self, rt: &HostRuntime, path: &str) -> bool
-        ensures { logs self.now path.now result };
+    /// to; but it fails where memory is refused.
+    fn has_log(&self, rt: &HostRuntime, path: &str) -> Result<bool, AllocError>
+        ensures { IfOk result (λ has. logs self.now path.now has) };
 
     /// The bytes of the file at a path.
     fn read(&self, rt: &HostRuntime, path: &str) -> io::Result<Vec<u8>>

@@ -14,10 +14,9 @@ use Rattle.vault_jobs.specs.declared.task.Task.{Task}
 use Rattle.vault_jobs.specs.declared.task.Task.TheVariants as task
 use Rattle.vault_app.specs.Asked.{AsksFor}
 use Rattle.vault_app.specs.Plans.{IsTaskOf}
-use Rattle.vault_app.specs.World.{anything}
 use Rattle.vault_promise.proofs.PipedMessages.{as_run, commands-append}
 use Rattle.vault_promise.specs.Again.{DidNoPipe, Piped, PipesAgree, RunsAnswerAgain}
-use Rattle.vault_promise.specs.Runs.{Come, Run, Work}
+use Rattle.vault_promise.specs.Runs.{Come, Run, Work, at_moments, told_by}
 use Rattle.vault_promise.specs.Standing.{AnsweredIn, AnswersStand, IsRepliedIn, Stand}
 use Rattle.vault_promise.specs.Told.{Tells}
 
@@ -29,7 +28,8 @@ record ArePiped (r : Run) (W : Content) (cs : List Command) : Type 0 where
 
 -- a task answered messages, or it is another
 by_task : (r : Run) (W : Content) (cs : List Command) (t : Task)
-    → AsksFor r.words (λ job. IsTaskOf anything job t) → Tells t W cs r.streams
+    → AsksFor r.words (λ job. IsTaskOf (at_moments r.moments) job t)
+    → Tells (told_by r.moments) t W cs r.streams
     → DidNoPipe r ⊎ ArePiped r W cs
 by_task r W cs (task.Pipe now digits) asked (xs, are, heard, (fault, sent, went)) = inr (record {
   xs = xs;
@@ -76,7 +76,7 @@ told_here V c s more end (inl w, rest) = elim (piped_of V c s w) [
     answered = λ x y replied. inl (has_answer_of s w.opened w.answered it x y replied);
   })
 ]
-told_here V c s more end (inr rests, rest) = inl (inl rests)
+told_here V c s more end (inr rests, rest) = inl (inl rests.0)
 
 -- and in those before it too
 told_in : (between : List Run) (V : Content) (c : Option Command) (s : Run) (more : List Run) (end : Image)
@@ -116,7 +116,7 @@ agree_here between more r s end V c (inl w, rest) stand = elim (piped_of V c r w
     }))
   ]
 ]
-agree_here between more r s end V c (inr rests, rest) stand = inl (inl rests)
+agree_here between more r s end V c (inr rests, rest) stand = inl (inl rests.0)
 
 agree : (rs between more : List Run) (r s : Run) (end : Image) (V : Content) (c : Option Command)
     (come : Come V c (rs ++ r ∷ (between ++ s ∷ more)) end)

@@ -1,10 +1,10 @@
 -- What a batch answered, and what it left undecided, as commands.
 use Rattle.std.proofs.Common.{◌≡◌, ◌⊎◌, ℕ, ◌+◌, ◌<◌, List, [], ◌∷◌, ◌++◌, length, take, map, Option}
 use Rattle.std.proofs.Common.{None, Result, Ok, Err, inl, inr, refl, sym, ap, subst, ◌∙◌, append-nil}
-use Rattle.std.proofs.Common.{append_assoc}
+use Rattle.std.proofs.Common.{append_assoc, IfSome}
 use Rattle.std.proofs.Math.Seq.{take-append-add, take-length}
 use Rattle.std.proofs.lemmas.List.{map-append}
-use Rattle.std.proofs.lemmas.List.Elements.{All-nil}
+use Rattle.std.proofs.lemmas.List.Elements.{All-head, All-nil, All-tail}
 use Rattle.std.specs.Io.KnownBytes.{Appends}
 use Rattle.std.specs.Prelude.{All}
 use Rattle.std.specs.Str.Parse.{digits_value}
@@ -28,7 +28,7 @@ use Rattle.vault_core.specs.Vault.{Vault as Content}
 use Rattle.vault_core.specs.declared.command.Command.{Command}
 use Rattle.vault_core.specs.declared.command.Command.TheVariants.{Tokenize}
 use Rattle.vault_engine.specs.Passing.{IsBefore, Passage, Takes}
-use Rattle.vault_listen.specs.Live.{IsPairOf, Turns}
+use Rattle.vault_listen.specs.Live.{AreGiven, IsPairOf, Turns}
 use Rattle.vault_pan.specs.CardText.{digits_of}
 use Rattle.vault_routes.specs.Wanted.{Wanted}
 use Rattle.vault_jobs.specs.Doing.{BatchEnds, along}
@@ -39,6 +39,7 @@ use Rattle.vault_jobs.specs.declared.task.Outcome.{Outcome}
 use Rattle.vault_jobs.specs.declared.task.Outcome.TheVariants as outcome
 use Rattle.vault_jobs.specs.declared.task.Task.TheVariants as task
 use Rattle.vault_promise.proofs.PipedMessages.{as_run, command_in, commands_then, run_then, wanted_proper}
+use Rattle.vault_promise.proofs.GivenPairs.{given_first, none_given}
 use Rattle.vault_promise.proofs.Proper.{IsFine, all_first, asked_proper, fine_by, proper-first, proper-last}
 use Rattle.vault_promise.proofs.Proper.{refused}
 use Rattle.vault_promise.proofs.TaskAnswers.{Works}
@@ -83,14 +84,29 @@ has_one s xs x it =
         rows-more [] = refl
         rows-more (z ∷ zs) = ap (λ rs. fields_in z.unit ∷ rs) (rows-more zs)
 
-module _ (who : Asker) (now : Option ℕ) (digits : Option (List ℕ)) (named : IsName who.caller)
+-- the last of all
+in_last : (P : Asked → Type 0) (xs : List Asked) (x : Asked) → All P (xs ++ x ∷ []) → P x
+in_last P [] x all = All-head P x [] all
+in_last P (y ∷ xs) x all = in_last P xs x (All-tail P y (xs ++ x ∷ []) all)
+
+-- a row that isn't answered asks for its command
+next_row : (who : Asker) (s : Streams) (xs : List Asked) (x : Asked) → Asks who x
+    → BeginRecordsOf s.left_old (records_with (rows_of xs) ++ fields_in x.unit ∷ [])
+    → (w : Wanted Command) → x.wanted ≡ w
+    → IfSome (command_in w) (λ c. (rows : List Asked) × (it : Asked) × (commands_of xs ≡ commands_of rows)
+    × Asks who it × (it.wanted ≡ Ok c)
+    × BeginRecordsOf s.left_old (records_with (rows_of rows) ++ fields_in it.unit ∷ []))
+next_row who s xs x asks came (Ok c) is = (xs, x, refl, asks, is, came)
+next_row who s xs x asks came (Err n) is = tt
+
+module _ (tells : Turns) (who : Asker) (now : Option ℕ) (digits : Option (List ℕ)) (named : IsName who.caller)
     (at : IsName who.merchant) (w : Passage) (V : Content) (b : IsBefore w V) (s : Streams) (F : Type 0) where
   -- of the lines of these rows so many bytes went out
   abbrev Went : List Asked → Type 0
   Went xs = (sent : ℕ) × Appends s.sent_old s.sent_new (take sent (first_line ++ lines V xs))
 
   abbrev Goal : Type 0
-  Goal = Works w V (task.Batch who now digits) F s
+  Goal = Works tells w V (task.Batch who now digits) F s
 
   all_went : (xs : List Asked) → Appends s.sent_old s.sent_new (first_line ++ lines V xs) → Went xs
   all_went xs went = (
@@ -114,10 +130,10 @@ module _ (who : Asker) (now : Option ℕ) (digits : Option (List ℕ)) (named : 
       ∙ append_assoc first_line (lines V xs) (take n line) in
       (length so_far + n, subst (λ t. Appends s.sent_old s.sent_new t) (sym cut) went)
 
-  module _ (pairs : List Pair) (fixed : All (IsPairOf now digits) pairs) where
+  module _ (pairs : List Pair) (given : AreGiven tells now digits pairs) where
     -- the pairs that rows took are these
-    fits : (ds : List Pair) → Takes (along w s pairs) ds → All (IsPairOf now digits) ds
-    fits ds taken = subst (λ (es : List Pair). All (IsPairOf now digits) es) taken fixed
+    fits : (ds : List Pair) → Takes (along w s pairs) ds → AreGiven tells now digits ds
+    fits ds taken = subst (λ (es : List Pair). AreGiven tells now digits es) taken given
 
     rows_proper : (xs : List Asked) → All (IsPairOf now digits) (pairs_of xs) → All (Asks who) xs
         → AllProper (commands_of xs)
@@ -128,14 +144,15 @@ module _ (who : Asker) (now : Option ℕ) (digits : Option (List ℕ)) (named : 
     -- rows that are answered
     answered : (xs : List Asked)
         → (xs ≡ []) ⊎ ((more : List Fields) × CameIn s (records_with (rows_of xs) ++ more))
-        → All (IsPairOf now digits) (pairs_of xs) → All (Asks who) xs → Went xs
+        → AreGiven tells now digits (pairs_of xs) → All (Asks who) xs → Went xs
         → w.left_new (vault_after V xs) (vault_after V xs) → Goal
     answered xs records of asked went left = record {
       answered = commands_of xs;
       undecided = None;
-      proper = rows_proper xs of asked;
+      proper = rows_proper xs of.each asked;
       last_proper = tt;
-      tells = (xs, asked, refl, record { records = records; fixed = of }, went);
+      tells = (xs, asked, refl, record { records = records; given = of }, went);
+      next = tt;
       done = λ _. tt;
       left = subst (λ W. w.left_new W W) (as_run V xs) left;
     }
@@ -143,7 +160,7 @@ module _ (who : Asker) (now : Option ℕ) (digits : Option (List ℕ)) (named : 
     -- no row at all
     none : Went [] → w.left_new V V → Goal
     none went left =
-        answered [] (inl refl) (All-nil (IsPairOf now digits)) (All-nil (Asks who)) went
+        answered [] (inl refl) (none_given tells now digits) (All-nil (Asks who)) went
         (subst (λ W. w.left_new W W) (sym (vault_after-nil Row V)) left)
 
     quiet_went : Appends s.sent_old s.sent_new [] → Went []
@@ -157,15 +174,16 @@ module _ (who : Asker) (now : Option ℕ) (digits : Option (List ℕ)) (named : 
     -- some rows are answered, and one more is undecided
     torn : (xs : List Asked) (x : Asked)
         → BeginRecordsOf s.left_old (records_with (rows_of xs) ++ fields_in x.unit ∷ [])
-        → All (IsPairOf now digits) (pairs_of (xs ++ x ∷ []))
+        → AreGiven tells now digits (pairs_of (xs ++ x ∷ []))
         → All (Asks who) (xs ++ x ∷ []) → Appends s.sent_old s.sent_new (first_line ++ lines V xs)
         → w.left_new (vault_after V xs) (vault_after V (xs ++ x ∷ [])) → Goal
     torn xs x records of asked went left =
         let proper : AllProper (commands_of xs ++ commands_in x.wanted) =
-        subst AllProper (commands_then xs x) (rows_proper (xs ++ x ∷ []) of asked) in
+        subst AllProper (commands_then xs x) (rows_proper (xs ++ x ∷ []) of.each asked) in
         record {
           answered = commands_of xs;
           undecided = command_in x.wanted;
+          next = next_row who s xs x (in_last (Asks who) xs x asked) records x.wanted refl;
           proper = proper-first (commands_of xs) (commands_in x.wanted) proper;
           last_proper = wanted_proper x.wanted (proper-last (commands_of xs) (commands_in x.wanted) proper);
           tells = (
@@ -174,9 +192,9 @@ module _ (who : Asker) (now : Option ℕ) (digits : Option (List ℕ)) (named : 
             refl,
             record {
               records = inr (fields_in x.unit ∷ [], inr records);
-              fixed =
-                  all_first (IsPairOf now digits) (pairs_of xs) (x.pair ∷ [])
-                  (subst (All (IsPairOf now digits))
+              given =
+                  given_first tells now digits (pairs_of xs) (x.pair ∷ [])
+                  (subst (AreGiven tells now digits)
                   (map-append (λ (y : Asked). y.pair) xs (x ∷ [])) of);
             },
             all_went xs went,
@@ -215,7 +233,7 @@ module _ (who : Asker) (now : Option ℕ) (digits : Option (List ℕ)) (named : 
     stopped fault.Memory (inr (inl (rows, records, q))) =
         let it = q.answered V b in
         answered rows (has_rows s rows (inr records))
-        (all_first (IsPairOf now digits) (pairs_of rows) q.unused (fits _ q.taken)) q.asked
+        (given_first tells now digits (pairs_of rows) q.unused (fits _ q.taken)) q.asked
         (all_went rows it.0) it.1.1
     stopped fault.Memory (inr (inr (rows, next, records, q))) =
         let it = q.answered V b in
@@ -228,23 +246,23 @@ module _ (who : Asker) (now : Option ℕ) (digits : Option (List ℕ)) (named : 
         answered q.rows (inr (fields_in q.next ∷ [], inr q.records)) (fits (pairs_of q.rows) q.answered.taken)
         q.answered.asked (all_went q.rows it.0) it.1.1
 
-  pub batch_works : (tells : Turns) (r : Result Outcome Stop) (unread unsent : Type 0) → (unsent → IsQuiet s)
+  pub batch_works : (r : Result Outcome Stop) (unread unsent : Type 0) → (unsent → IsQuiet s)
       → BatchEnds tells who now digits w r unread unsent s → Goal
-  batch_works tells (Ok outcome.Done) unread unsent quiet (calm, counts, none, end, (pairs, few, given, q)) =
-      whole pairs given.each counts q
-  batch_works tells (Ok (outcome.Refused n)) unread unsent quiet h = absurd h
-  batch_works tells (Ok outcome.SomeRefused) unread unsent quiet
+  batch_works (Ok outcome.Done) unread unsent quiet (calm, counts, none, end, (pairs, few, given, q)) =
+      whole pairs given counts q
+  batch_works (Ok (outcome.Refused n)) unread unsent quiet h = absurd h
+  batch_works (Ok outcome.SomeRefused) unread unsent quiet
       (calm, counts, some, end, (pairs, few, given, q)) =
-      whole pairs given.each counts q
-  batch_works tells (Err (stop.Vault f)) unread unsent quiet h = absurd h
-  batch_works tells (Err (stop.Service f)) unread unsent quiet h = absurd h
-  batch_works tells (Err (stop.Listener f)) unread unsent quiet h = absurd h
-  batch_works tells (Err (stop.Rights f)) unread unsent quiet h = absurd h
-  batch_works tells (Err (stop.Batch f)) unread unsent quiet (inl (is, calm, silent, same)) =
-      let nil : All (IsPairOf now digits) [] = All-nil (IsPairOf now digits) in
+      whole pairs given counts q
+  batch_works (Err (stop.Vault f)) unread unsent quiet h = absurd h
+  batch_works (Err (stop.Service f)) unread unsent quiet h = absurd h
+  batch_works (Err (stop.Listener f)) unread unsent quiet h = absurd h
+  batch_works (Err (stop.Rights f)) unread unsent quiet h = absurd h
+  batch_works (Err (stop.Batch f)) unread unsent quiet (inl (is, calm, silent, same)) =
+      let nil : AreGiven tells now digits [] = none_given tells now digits in
       none [] nil (quiet_went [] nil (quiet silent)) (same V b).1
-  batch_works tells (Err (stop.Batch f)) unread unsent quiet (inr (pairs, few, given, inl q)) =
-      stopped pairs given.each f q
-  batch_works tells (Err (stop.Batch f)) unread unsent quiet
+  batch_works (Err (stop.Batch f)) unread unsent quiet (inr (pairs, few, given, inl q)) =
+      stopped pairs given f q
+  batch_works (Err (stop.Batch f)) unread unsent quiet
       (inr (pairs, few, given, inr (is, (counts, q)))) =
-      whole pairs given.each counts q
+      whole pairs given counts q

@@ -25,7 +25,7 @@ use Rattle.vault_promise.proofs.Answering.{answers_of}
 use Rattle.vault_promise.proofs.Proper.{proper-first, proper-last}
 use Rattle.vault_promise.proofs.TaskAnswers.{Works}
 use Rattle.vault_promise.specs.Runs.{perhaps}
-use Rattle.vault_promise.specs.Told.{AreHeard, IsQuiet}
+use Rattle.vault_promise.specs.Told.{AreHeard, IsAskedNext, IsQuiet}
 
 -- the command that is wanted, where there is one
 abbrev pub command_in : Wanted Command → Option Command
@@ -65,25 +65,35 @@ module _ {X : Type 0} where
       as_run V (xs ++ x ∷ []) ∙ ap (λ cs. run cs V) (commands_then xs x)
       ∙ run_append (commands_of xs) (commands_in x.wanted) V ∙ wanted_run x.wanted (run (commands_of xs) V)
 
-module _ (now : Option ℕ) (digits : Option (List ℕ)) (w : Passage) (V : Content) (b : IsBefore w V)
-    (s : Streams) (F : Type 0) where
-  answered : (xs us : List (Asked Parts)) → AreHeard now digits s xs → length us ≤ 1
+-- a message that isn't answered asks for its command
+pub next_asked : (tells : Turns) (now : Option ℕ) (digits : Option (List ℕ)) (s : Streams)
+    (xs : List (Asked Parts)) (x : Asked Parts) (heard : AreHeard tells now digits s xs)
+    → (heard.more ≡ x ∷ []) → (w : Wanted Command) → x.wanted ≡ w
+    → IfSome (command_in w) (IsAskedNext tells now digits s (commands_of xs))
+next_asked tells now digits s xs x heard same (Ok c) is = (xs, x, refl, is, (heard, same))
+next_asked tells now digits s xs x heard same (Err n) is = tt
+
+module _ (tells : Turns) (now : Option ℕ) (digits : Option (List ℕ)) (w : Passage) (V : Content)
+    (b : IsBefore w V) (s : Streams) (F : Type 0) where
+  answered : (xs us : List (Asked Parts)) (heard : AreHeard tells now digits s xs) → (heard.more ≡ us)
+      → length us ≤ 1
       → AllProper (commands_of (xs ++ us))
       → w.left_new (vault_after V xs) (vault_after V (xs ++ us))
       → (e : Option WireFault) × (sent : ℕ)
       × Appends s.sent_old s.sent_new (take sent (texts answer_for V xs ++ last_text e))
-      → Works w V (task.Pipe now digits) F s
-  answered xs [] heard few proper left went = record {
+      → Works tells w V (task.Pipe now digits) F s
+  answered xs [] heard same few proper left went = record {
     answered = commands_of xs;
     undecided = None;
     proper = subst (λ ys. AllProper (commands_of ys)) (append-nil xs) proper;
     last_proper = tt;
     tells = (xs, refl, heard, went);
+    next = tt;
     done = λ _. tt;
     left = subst (λ W. w.left_new W W) (as_run V xs)
         (subst (λ ys. w.left_new (vault_after V xs) (vault_after V ys)) (append-nil xs) left);
   }
-  answered xs (x ∷ []) heard few proper left went =
+  answered xs (x ∷ []) heard same few proper left went =
       let both : AllProper (commands_of xs ++ commands_in x.wanted) =
       subst AllProper (commands_then xs x) proper in
       record {
@@ -92,15 +102,16 @@ module _ (now : Option ℕ) (digits : Option (List ℕ)) (w : Passage) (V : Cont
         proper = proper-first (commands_of xs) (commands_in x.wanted) both;
         last_proper = wanted_proper x.wanted (proper-last (commands_of xs) (commands_in x.wanted) both);
         tells = (xs, refl, heard, went);
+        next = next_asked tells now digits s xs x heard same x.wanted refl;
         done = λ _. tt;
         left = subst (λ W. w.left_new W (perhaps (run (commands_of xs) V) (command_in x.wanted)))
             (as_run V xs) (subst (λ W. w.left_new (vault_after V xs) W) (run_then V xs x) left);
       }
-  answered xs (x ∷ y ∷ us) heard few proper left went = absurd (omega (arith, few))
+  answered xs (x ∷ y ∷ us) heard same few proper left went = absurd (omega (arith, few))
 
-  pub pipe_works : (tells : Turns) (r : Result Outcome Stop) (unread unsent : Type 0)
+  pub pipe_works : (r : Result Outcome Stop) (unread unsent : Type 0)
       → (unread → Consumes s.left_old s.left_new []) → (unsent → IsQuiet s)
-      → PipeEnds tells now digits w r unread unsent s → Works w V (task.Pipe now digits) F s
-  pipe_works tells r unread unsent still quiet h =
+      → PipeEnds tells now digits w r unread unsent s → Works tells w V (task.Pipe now digits) F s
+  pipe_works r unread unsent still quiet h =
       let a = answers_of tells now digits w s r unread unsent still quiet h in
-      answered a.exchanges a.undecided a.heard a.few a.proper (a.left V b) (a.went V b)
+      answered a.exchanges a.undecided a.heard a.same a.few a.proper (a.left V b) (a.went V b)

@@ -24,58 +24,62 @@ use Rattle.vault_jobs.specs.declared.task.Outcome.{Outcome}
 use Rattle.vault_jobs.specs.declared.task.Outcome.TheVariants as outcome
 use Rattle.vault_jobs.specs.declared.task.Task.TheVariants as task
 use Rattle.vault_promise.proofs.Answering.{Answers, served_answer, stopped_answer}
-use Rattle.vault_promise.proofs.PipedMessages.{as_run, command_in, commands_then, run_append}
+use Rattle.vault_promise.proofs.PipedMessages.{as_run, command_in, commands_then, next_asked, run_append}
 use Rattle.vault_promise.proofs.PipedMessages.{run_then, wanted_proper}
 use Rattle.vault_promise.proofs.Proper.{proper-append, proper-first, proper-last}
 use Rattle.vault_promise.proofs.TaskAnswers.{Works}
 use Rattle.vault_promise.specs.Runs.{perhaps}
-use Rattle.vault_promise.specs.Told.{AllAnswer, AreAnswered, streams_of}
+use Rattle.vault_promise.specs.Told.{AllAnswer, AreAnswered, IsAskedNext, IsLastNext, streams_of}
 
 -- what a connection answered
 answers_in : (tells : Turns) (V W U : Content) (x : Link) → (it : Leads tells V W U x)
-    → Answers None None (link_from V W U it.pairs x) (streams_of x)
+    → Answers tells None None (link_from V W U it.pairs x) (streams_of x)
 answers_in tells V W U x it = by_end x.ended it.answered
   where
     by_end : (r : Result Served ServeFault)
         → MatchResult r (IsServed x.came x.left (link_from V W U it.pairs x))
         (IsStopped x.came x.left (link_from V W U it.pairs x))
-        → Answers None None (link_from V W U it.pairs x) (streams_of x)
+        → Answers tells None None (link_from V W U it.pairs x) (streams_of x)
     by_end (Ok n) q =
-        served_answer None None (link_from V W U it.pairs x) (streams_of x) it.pairs it.own.each n q
+        served_answer tells None None (link_from V W U it.pairs x) (streams_of x) it.pairs it.own n q
     by_end (Err e) q =
-        stopped_answer None None (link_from V W U it.pairs x) (streams_of x) it.pairs it.own.each e q
+        stopped_answer tells None None (link_from V W U it.pairs x) (streams_of x) it.pairs it.own e q
 
 -- the commands that a connection answered
-record LinkAnswers (V W U : Content) (x : Link) : Type 0 where
+record LinkAnswers (tells : Turns) (V W U : Content) (x : Link) : Type 0 where
   answered : List Command
   undecided : Option Command
   proper : AllProper answered
   last_proper : IfSome undecided IsProper
-  told : AreAnswered None None V answered (streams_of x)
+  told : AreAnswered tells None None V answered (streams_of x)
+  next : IfSome undecided (IsAskedNext tells None None (streams_of x) answered)
   leads : run answered V ≡ W
   other : perhaps W undecided ≡ U
 
-link_answers : (tells : Turns) (V W U : Content) (x : Link) → Leads tells V W U x → LinkAnswers V W U x
-link_answers tells V W U x it = by_more a.undecided a.few a.proper (a.left V b)
+link_answers : (tells : Turns) (V W U : Content) (x : Link) → Leads tells V W U x → LinkAnswers tells V W U x
+link_answers tells V W U x it = by_more a.undecided a.same a.few a.proper (a.left V b)
   where
-    a : Answers None None (link_from V W U it.pairs x) (streams_of x)
+    a : Answers tells None None (link_from V W U it.pairs x) (streams_of x)
     a = answers_in tells V W U x it
 
     b : IsBefore (link_from V W U it.pairs x) V
     b = (tt, refl)
 
-    by_more : (us : List (Asked Parts)) → length us ≤ 1 → AllProper (commands_of (a.exchanges ++ us))
-        → (vault_after V a.exchanges ≡ W) × (vault_after V (a.exchanges ++ us) ≡ U) → LinkAnswers V W U x
-    by_more [] few proper left = record {
+    by_more : (us : List (Asked Parts)) → a.heard.more ≡ us → length us ≤ 1
+        → AllProper (commands_of (a.exchanges ++ us))
+        → (vault_after V a.exchanges ≡ W) × (vault_after V (a.exchanges ++ us) ≡ U)
+        → LinkAnswers tells V W U x
+    by_more [] same few proper left = record {
       answered = commands_of a.exchanges;
       undecided = None;
       proper = subst (λ ys. AllProper (commands_of ys)) (append-nil a.exchanges) proper;
       last_proper = tt;
       told = (a.exchanges, refl, a.heard, a.went V b);
+      next = tt;
       leads = sym (as_run V a.exchanges) ∙ left.0;
       other = sym left.0 ∙ ap (vault_after V) (sym (append-nil a.exchanges)) ∙ left.1;
     }
-    by_more (y ∷ []) few proper left =
+    by_more (y ∷ []) same few proper left =
         let both : AllProper (commands_of a.exchanges ++ commands_in y.wanted) =
         subst AllProper (commands_then a.exchanges y) proper in
         record {
@@ -85,21 +89,22 @@ link_answers tells V W U x it = by_more a.undecided a.few a.proper (a.left V b)
           last_proper = wanted_proper y.wanted
               (proper-last (commands_of a.exchanges) (commands_in y.wanted) both);
           told = (a.exchanges, refl, a.heard, a.went V b);
+          next = next_asked tells None None (streams_of x) a.exchanges y a.heard same y.wanted refl;
           leads = sym (as_run V a.exchanges) ∙ left.0;
           other = ap (λ X. perhaps X (command_in y.wanted)) (sym left.0 ∙ as_run V a.exchanges)
               ∙ sym (run_then V a.exchanges y) ∙ left.1;
         }
-    by_more (y ∷ z ∷ us) few proper left = absurd (omega (arith, few))
+    by_more (y ∷ z ∷ us) same few proper left = absurd (omega (arith, few))
 
 -- the commands that connections answered
-record AllAnswers (V W : Content) (xs : List (Option Link)) : Type 0 where
+record AllAnswers (tells : Turns) (V W : Content) (xs : List (Option Link)) : Type 0 where
   answered : List Command
   proper : AllProper answered
-  told : AllAnswer V xs answered
+  told : AllAnswer tells V xs answered
   leads : run answered V ≡ W
 
 all_answers : (tells : Turns) (xs : List (Option Link)) (V W : Content) → AllLead tells V xs W
-    → AllAnswers V W xs
+    → AllAnswers tells V W xs
 all_answers tells [] V W same = record { answered = []; proper = tt; told = refl; leads = sym same }
 all_answers tells (None ∷ xs) V W leads =
     let rest = all_answers tells xs V W leads in
@@ -115,37 +120,46 @@ all_answers tells (Some x ∷ xs) V W (M, one, leads) =
         rest.answered,
         refl,
         first.told,
-        subst (λ X. AllAnswer X xs rest.answered) (sym first.leads) rest.told,
+        subst (λ X. AllAnswer tells X xs rest.answered) (sym first.leads) rest.told,
       );
       leads = run_append first.answered rest.answered V ∙ ap (run rest.answered) first.leads ∙ rest.leads;
     }
 
 -- connections, and then one more
-answer_then : (xs : List (Option Link)) (x : Link) (V : Content) (cs ds : List Command) → AllAnswer V xs cs
-    → AreAnswered None None (run cs V) ds (streams_of x) → AllAnswer V (xs ++ Some x ∷ []) (cs ++ ds)
-answer_then [] x V cs ds none one =
-    subst (λ es. AllAnswer V (Some x ∷ []) (es ++ ds)) (sym none) (
+answer_then : (tells : Turns) (xs : List (Option Link)) (x : Link) (V : Content) (cs ds : List Command)
+    → AllAnswer tells V xs cs
+    → AreAnswered tells None None (run cs V) ds (streams_of x)
+    → AllAnswer tells V (xs ++ Some x ∷ []) (cs ++ ds)
+answer_then tells [] x V cs ds none one =
+    subst (λ es. AllAnswer tells V (Some x ∷ []) (es ++ ds)) (sym none) (
       ds,
       [],
       sym (append-nil ds),
-      subst (λ es. AreAnswered None None (run es V) ds (streams_of x)) none one,
+      subst (λ es. AreAnswered tells None None (run es V) ds (streams_of x)) none one,
       refl,
     )
-answer_then (None ∷ xs) x V cs ds told one = answer_then xs x V cs ds told one
-answer_then (Some y ∷ xs) x V cs ds (first, more, is, here, rest) one = (
+answer_then tells (None ∷ xs) x V cs ds told one = answer_then tells xs x V cs ds told one
+answer_then tells (Some y ∷ xs) x V cs ds (first, more, is, here, rest) one = (
   first,
   more ++ ds,
   ap (λ es. es ++ ds) is ∙ append_assoc first more ds,
   here,
-  answer_then xs x (run first V) more ds rest
-      (subst (λ X. AreAnswered None None X ds (streams_of x))
+  answer_then tells xs x (run first V) more ds rest
+      (subst (λ X. AreAnswered tells None None X ds (streams_of x))
       (ap (λ es. run es V) is ∙ run_append first more V) one),
 )
+
+-- what the last connection asks for
+on_last : (tells : Turns) (links first : List (Option Link)) (x : Link) → links ≡ first ++ Some x ∷ []
+    → (cs : List Command) (o : Option Command) → IfSome o (IsAskedNext tells None None (streams_of x) cs)
+    → IfSome o (IsLastNext tells links)
+on_last tells links first x are cs None next = tt
+on_last tells links first x are cs (Some c) next = (first, x, cs, are, next)
 
 module _ (tells : Turns) (w : Passage) (V : Content) (b : IsBefore w V) (s : Streams)
     (port connections : ℕ) (F : Type 0) where
   abbrev Goal : Type 0
-  Goal = Works w V (task.Serve port connections None) F s
+  Goal = Works tells w V (task.Serve port connections None) F s
 
   -- connections that are all answered
   all_kept : AllKept tells s.links w → Goal
@@ -158,6 +172,7 @@ module _ (tells : Turns) (w : Passage) (V : Content) (b : IsBefore w V) (s : Str
         proper = a.proper;
         last_proper = tt;
         tells = a.told;
+        next = tt;
         done = λ _. tt;
         left = subst (λ X. w.left_new X X) (sym a.leads) it.2.1;
       }
@@ -168,7 +183,8 @@ module _ (tells : Turns) (w : Passage) (V : Content) (b : IsBefore w V) (s : Str
     undecided = None;
     proper = tt;
     last_proper = tt;
-    tells = subst (λ xs. AllAnswer V xs []) (sym none) refl;
+    tells = subst (λ xs. AllAnswer tells V xs []) (sym none) refl;
+    next = tt;
     done = λ _. tt;
     left = (same V b).1;
   }
@@ -180,8 +196,8 @@ module _ (tells : Turns) (w : Passage) (V : Content) (b : IsBefore w V) (s : Str
       let it = torn V b in
       let before = all_answers tells first V it.0 it.3 in
       let last = link_answers tells it.0 it.1 it.2 x it.4 in
-      let told : AreAnswered None None (run before.answered V) last.answered (streams_of x) =
-      subst (λ X. AreAnswered None None X last.answered (streams_of x)) (sym before.leads) last.told in
+      let told : AreAnswered tells None None (run before.answered V) last.answered (streams_of x) =
+      subst (λ X. AreAnswered tells None None X last.answered (streams_of x)) (sym before.leads) last.told in
       let leads : run (before.answered ++ last.answered) V ≡ it.1 =
       run_append before.answered last.answered V ∙ ap (run last.answered) before.leads ∙ last.leads in
       record {
@@ -189,8 +205,9 @@ module _ (tells : Turns) (w : Passage) (V : Content) (b : IsBefore w V) (s : Str
         undecided = last.undecided;
         proper = proper-append before.answered last.answered before.proper last.proper;
         last_proper = last.last_proper;
-        tells = subst (λ xs. AllAnswer V xs (before.answered ++ last.answered)) (sym are)
-            (answer_then first x V before.answered last.answered before.told told);
+        next = on_last tells s.links first x are last.answered last.undecided last.next;
+        tells = subst (λ xs. AllAnswer tells V xs (before.answered ++ last.answered)) (sym are)
+            (answer_then tells first x V before.answered last.answered before.told told);
         done = λ _. tt;
         left = subst (λ X. w.left_new X (perhaps X last.undecided)) (sym leads)
             (subst (λ Y. w.left_new it.1 Y) (sym last.other) it.5);

@@ -1,4 +1,5 @@
 -- What a task answered that makes rights those of a list, or only says what a vault holds.
+use Rattle.std.proofs.Common.{IfSome, ◌⊎◌}
 use Rattle.std.proofs.Common.{◌≡◌, ℕ, Bool, true, false, cond, not, List, [], ◌∷◌, ◌++◌, length}
 use Rattle.std.proofs.Common.{Option, Some, None, Result, Ok, Err, inl, inr, refl, sym, ap, subst, ◌∙◌}
 use Rattle.std.specs.FinMap as finmap
@@ -14,6 +15,7 @@ use Rattle.vault_core.specs.Runs.{run}
 use Rattle.vault_core.specs.Scalar.{IsMoment}
 use Rattle.vault_core.specs.Sound.{Sound}
 use Rattle.vault_core.specs.Vault.{Vault as Content}
+use Rattle.vault_core.specs.declared.command.Command.{Command}
 use Rattle.vault_engine.specs.Passing.{IsBefore, Passage}
 use Rattle.vault_listen.specs.Live.{Turns}
 use Rattle.vault_rights.specs.Named.{Row}
@@ -89,17 +91,18 @@ changes_proper now rows V sound moment proper =
     (some_proper now (rights_of V) rows proper)
     (withdrawn_proper now rows moment (rights_of V) (named_in V sound))
 
-module _ (w : Passage) (V : Content) (b : IsBefore w V) (sound : Sound V) (s : Streams) (unsent : Type 0)
-    (quiet : unsent → IsQuiet s) (F : Type 0) where
+module _ (tells : Turns) (w : Passage) (V : Content) (b : IsBefore w V) (sound : Sound V) (s : Streams)
+    (unsent : Type 0) (quiet : unsent → IsQuiet s) (F : Type 0) where
   -- nothing was answered
-  pub unread_works : (t : _) → Tells t V [] s → ¬ F → (broken : Bool) (f : Fault) → FailsToRead w broken f
-      → Works w V t F s
+  pub unread_works : (t : _) → Tells tells t V [] s → ¬ F → (broken : Bool) (f : Fault)
+      → FailsToRead w broken f → Works tells w V t F s
   unread_works t told never broken Memory same = record {
     answered = [];
     undecided = None;
     proper = tt;
     last_proper = tt;
     tells = told;
+    next = tt;
     done = λ f. absurd (never f);
     left = (same V b).1;
   }
@@ -109,6 +112,7 @@ module _ (w : Passage) (V : Content) (b : IsBefore w V) (sound : Sound V) (s : S
     proper = tt;
     last_proper = tt;
     tells = told;
+    next = tt;
     done = λ f. absurd (never f);
     left = h V b;
   }
@@ -117,19 +121,20 @@ module _ (w : Passage) (V : Content) (b : IsBefore w V) (sound : Sound V) (s : S
   pub settle_works : (rights : Vec Row) (now : ℕ) → IsMoment now → AllProper (grants_at now rights.items)
       → (broken : Bool) (r : Result Ended Stop) → (F → r ≡ Ok outcome.Done)
       → SettleEnds now rights.items w broken r unsent s.sent_old s.sent_new s.writer
-      → Works w V (task.Settle rights now) F s
+      → Works tells w V (task.Settle rights now) F s
   settle_works rights now moment proper broken r fin (inl (changes, of, h)) =
       let is = (of V b).commands in
-      commands_works w V b s unsent quiet F (task.Settle rights now) changes.commands.items
+      commands_works tells w V b s unsent quiet F (task.Settle rights now) changes.commands.items
       (settled_line changes)
       (subst AllProper (sym is) (changes_proper now rights.items V sound moment proper))
-      (λ done. inr (is, done)) (λ ds calm. inl calm) (λ done. (is, done)) broken r fin h
+      (λ done. inr (is, done)) (λ k calm. inl (calm, (k, ap (take k) is)))
+      (λ ds x first. (first.0, first.1 ∙ ap (take first.0) is)) (λ done. (is, done)) broken r fin h
   settle_works rights now moment proper broken r fin (inr (f, is, silent, h)) =
-      unread_works (task.Settle rights now) (inl (quiet silent)) (λ d. cc (fin d, is)) broken f h
+      unread_works (task.Settle rights now) (inl (quiet silent, (0, refl))) (λ d. cc (fin d, is)) broken f h
 
   pub show_works : (it : Shown) (broken : Bool) (r : Result Ended Stop) → (F → r ≡ Ok outcome.Done)
       → ShowEnds (shown_text it) w broken r unsent s.sent_old s.sent_new s.writer
-      → Works w V (task.Show it) F s
+      → Works tells w V (task.Show it) F s
   show_works it broken (Ok outcome.Done) fin (calm, same, h) = record {
     answered = [];
     undecided = None;
@@ -142,6 +147,7 @@ module _ (w : Passage) (V : Content) (b : IsBefore w V) (sound : Sound V) (s : S
         subst (λ (t : List ℕ). Appends s.sent_old s.sent_new t) (sym (take-length (shown_text it V))) (h V b),
       ),
     );
+    next = tt;
     done = λ _. refl;
     left = (same V b).1;
   }
@@ -155,6 +161,7 @@ module _ (w : Passage) (V : Content) (b : IsBefore w V) (sound : Sound V) (s : S
     proper = tt;
     last_proper = tt;
     tells = (refl, h V b);
+    next = tt;
     done = λ f. absurd (cc (fin f));
     left = (same V b).1;
   }
@@ -166,7 +173,7 @@ module _ (w : Passage) (V : Content) (b : IsBefore w V) (sound : Sound V) (s : S
   list_works : (port connections : ℕ) (it : Listed) → IsMoment it.now
       → AllProper (grants_at it.now it.rights.items) → s.links ≡ [] → (broken : Bool) (r : Result Ended Stop)
       → (F → r ≡ Ok outcome.Done) → ListEnds it.now it.rights.items w broken r unsent
-      → Works w V (task.Serve port connections (Some it)) F s
+      → Works tells w V (task.Serve port connections (Some it)) F s
   list_works port connections it moment proper none broken r fin h = by_end r fin h
     where
       t : Task
@@ -178,7 +185,7 @@ module _ (w : Passage) (V : Content) (b : IsBefore w V) (sound : Sound V) (s : S
           subst AllProper (sym of.commands) (changes_proper it.now it.rights.items V sound moment proper)
 
       by_end : (r : Result Ended Stop) → (F → r ≡ Ok outcome.Done)
-          → ListEnds it.now it.rights.items w broken r unsent → Works w V t F s
+          → ListEnds it.now it.rights.items w broken r unsent → Works tells w V t F s
       by_end (Ok outcome.Done) fin h = absurd h
       by_end (Ok (outcome.Refused n)) fin (silent, (changes, of, (k, below, h))) =
           let is = (of V b).commands in
@@ -188,6 +195,7 @@ module _ (w : Passage) (V : Content) (b : IsBefore w V) (sound : Sound V) (s : S
             proper = first_proper (k + 1) changes.commands.items (fine changes (of V b));
             last_proper = tt;
             tells = inl (k + 1, ap (take (k + 1)) is, none);
+            next = tt;
             done = λ f. absurd (cc (fin f));
             left = (h V b).1.1;
           }
@@ -202,6 +210,7 @@ module _ (w : Passage) (V : Content) (b : IsBefore w V) (sound : Sound V) (s : S
             proper = first_proper k changes.commands.items (fine changes (of V b));
             last_proper = tt;
             tells = inl (k, ap (take k) is, none);
+            next = tt;
             done = λ f. absurd (cc (fin f));
             left = (h V b).1.1;
           }
@@ -215,6 +224,7 @@ module _ (w : Passage) (V : Content) (b : IsBefore w V) (sound : Sound V) (s : S
             proper = first_proper k cs (fine changes (of V b));
             last_proper = more.proper (fine changes (of V b));
             tells = inl (k, ap (take k) is, none);
+            next = inl (k + 1, sym more.is ∙ ap (take (k + 1)) is);
             done = λ f. absurd (cc (fin f));
             left = subst (λ W. w.left_new (run (take k cs) V) W)
                 (ap (λ ds. run ds V) more.is ∙ run_more (take k cs) more.one V) (h V b).2;
@@ -225,17 +235,23 @@ module _ (w : Passage) (V : Content) (b : IsBefore w V) (sound : Sound V) (s : S
       by_end (Err (stop.Rights f)) fin h = absurd h
       by_end (Err (stop.Batch f)) fin h = absurd h
 
+  -- what is asked of the connections of a service with a list
+  next_listed : (o : Option Command) (First Last : Command → Type 0) → IfSome o Last
+      → IfSome o (λ x. First x ⊎ Last x)
+  next_listed None First Last next = tt
+  next_listed (Some x) First Last next = inr next
+
   -- a service that may begin with a list
-  pub listed_serve_works : (tells : Turns) (port connections : ℕ) (listed : Option Listed)
+  pub listed_serve_works : (port connections : ℕ) (listed : Option Listed)
       → AreValues (task.Serve port connections listed) → (broken : Bool) (r : Result Ended Stop)
       → (F → r ≡ Ok outcome.Done)
       → ListedServeEnds tells port connections listed w broken r unsent s.sent_old s.sent_new s.writer s.links
-      → Works w V (task.Serve port connections listed) F s
-  listed_serve_works tells port connections None values broken r fin h =
+      → Works tells w V (task.Serve port connections listed) F s
+  listed_serve_works port connections None values broken r fin h =
       serve_works tells w V b s port connections F r unsent h
-  listed_serve_works tells port connections (Some it) values broken r fin (inl (none, h)) =
+  listed_serve_works port connections (Some it) values broken r fin (inl (none, h)) =
       list_works port connections it values.0 values.1 none broken r fin h
-  listed_serve_works tells port connections (Some it) values broken r fin (inr (changes, of, h)) =
+  listed_serve_works port connections (Some it) values broken r fin (inr (changes, of, h)) =
       let cs = changes.commands.items in
       let is = (of V b).0.commands in
       let inner = serve_works tells (behind cs w) (run cs V) (b.0, (V, b.1, refl)) s port connections F r
@@ -248,11 +264,12 @@ module _ (w : Passage) (V : Content) (b : IsBefore w V) (sound : Sound V) (s : S
             (subst AllProper (sym is) (changes_proper it.now it.rights.items V sound values.0 values.1))
             inner.proper;
         last_proper = inner.last_proper;
+        next = next_listed inner.undecided _ _ inner.next;
         tells = inr (
           inner.answered,
           ap (λ ds. ds ++ inner.answered) is,
           subst (λ ds. AreDone (length ds) ds V) is (of V b).1,
-          subst (λ ds. AllAnswer (run ds V) s.links inner.answered) is inner.tells,
+          subst (λ ds. AllAnswer tells (run ds V) s.links inner.answered) is inner.tells,
         );
         done = λ _. tt;
         left = subst (λ X. w.left_new X (perhaps X inner.undecided)) (sym (run_append cs inner.answered V))

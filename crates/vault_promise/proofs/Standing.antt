@@ -15,6 +15,7 @@ use Rattle.vault_core.specs.declared.reply.Reply.{Reply}
 use Rattle.vault_core.specs.declared.reply.Reply.TheVariants.{Token}
 use Rattle.vault_engine.specs.Asking.{Asked, commands_in, commands_of}
 use Rattle.vault_recover.specs.Histories.{Answered, IsHistory, Step, last}
+use Rattle.vault_listen.specs.Live.{Turns}
 use Rattle.vault_listen.specs.Peers.{Link}
 use Rattle.vault_jobs.specs.Changes.{changes_at, rights_of}
 use Rattle.vault_jobs.specs.Streams.{Streams}
@@ -24,7 +25,7 @@ use Rattle.vault_promise.proofs.RunHistories.{answers_last, opening_last}
 use Rattle.vault_promise.proofs.SoundHistories.{last-append, parts}
 use Rattle.vault_promise.proofs.PipedMessages.{as_run, commands-append, run_append}
 use Rattle.vault_promise.specs.SoundHistories.{HistoriesLast}
-use Rattle.vault_promise.specs.Runs.{Come, Run, RunsComeToHistories, answers, history, opening}
+use Rattle.vault_promise.specs.Runs.{Come, Run, RunsComeToHistories, answers, history, opening, told_by}
 use Rattle.vault_promise.specs.Standing.{AnsweredIn, Answers, AnswersStand, Stand, TellsStanding}
 use Rattle.vault_promise.specs.Standing.{IsRepliedIn, LinksStand, TextsStand, TokensStand}
 use Rattle.vault_promise.specs.Told.{AllAnswer, AreAnswered, Tells, streams_of}
@@ -128,10 +129,10 @@ replies_stand W cs xs Later stand are =
     ) same later
 
 -- the texts of messages stand
-messages_stand : (now : Option ℕ) (digits : Option (List ℕ)) (W : Content) (cs : List Command) (s : Streams)
-    (Later : Command → Reply → Type 0) → TokensStand (AnswersIn W cs) Later
-    → (it : AreAnswered now digits W cs s) → TextsStand now digits W s Later
-messages_stand now digits W cs s Later stand (xs, are, heard, (fault, sent, went)) = record {
+messages_stand : (tells : Turns) (now : Option ℕ) (digits : Option (List ℕ)) (W : Content)
+    (cs : List Command) (s : Streams) (Later : Command → Reply → Type 0) → TokensStand (AnswersIn W cs) Later
+    → (it : AreAnswered tells now digits W cs s) → TextsStand tells now digits W s Later
+messages_stand tells now digits W cs s Later stand (xs, are, heard, (fault, sent, went)) = record {
   exchanges = xs;
   heard = heard;
   fault = fault;
@@ -153,13 +154,14 @@ later_stand W cs first more Later is stand = λ a again token expires y (front, 
     )
 
 -- and so those of connections
-links_stand : (xs : List (Option Link)) (W : Content) (cs : List Command) (Later : Command → Reply → Type 0)
-    → TokensStand (AnswersIn W cs) Later → AllAnswer W xs cs → LinksStand W xs Later
+links_stand : (tells : Turns) (xs : List (Option Link)) (W : Content) (cs : List Command)
+    (Later : Command → Reply → Type 0) → TokensStand (AnswersIn W cs) Later → AllAnswer tells W xs cs
+    → LinksStand tells W xs Later
 unfolding messages_stand
-links_stand [] W cs Later stand told = tt
-links_stand (None ∷ xs) W cs Later stand told = links_stand xs W cs Later stand told
-links_stand (Some x ∷ xs) W cs Later stand (first, more, is, here, rest) = (
-  messages_stand None None W first (streams_of x) Later
+links_stand tells [] W cs Later stand told = tt
+links_stand tells (None ∷ xs) W cs Later stand told = links_stand tells xs W cs Later stand told
+links_stand tells (Some x ∷ xs) W cs Later stand (first, more, is, here, rest) = (
+  messages_stand tells None None W first (streams_of x) Later
       (λ a again token expires y (front, behind, same, replied).
       stand a again token expires y (
         front,
@@ -167,32 +169,34 @@ links_stand (Some x ∷ xs) W cs Later stand (first, more, is, here, rest) = (
         is ∙ ap (λ ds. ds ++ more) same ∙ append_assoc front (command_of a ∷ behind) more,
         replied,
       )) here,
-  subst (λ U. LinksStand U xs Later) (ap (λ ds. run ds W) here.1 ∙ sym (as_run W here.0))
-      (links_stand xs (run first W) more Later (later_stand W cs first more Later is stand) rest),
+  subst (λ U. LinksStand tells U xs Later) (ap (λ ds. run ds W) here.1 ∙ sym (as_run W here.0))
+      (links_stand tells xs (run first W) more Later (later_stand W cs first more Later is stand) rest),
 )
 
 -- what went out of a task stands
-texts_stand : (t : Task) (W : Content) (cs : List Command) (s : Streams) (Later : Command → Reply → Type 0)
-    → TokensStand (AnswersIn W cs) Later → Tells t W cs s → TellsStanding t W s Later
-texts_stand (task.Batch who now digits) W cs s Later stand (xs, asked, are, read, (sent, went)) = record {
+texts_stand : (tells : Turns) (t : Task) (W : Content) (cs : List Command) (s : Streams)
+    (Later : Command → Reply → Type 0) → TokensStand (AnswersIn W cs) Later → Tells tells t W cs s
+    → TellsStanding tells t W s Later
+texts_stand tells (task.Batch who now digits) W cs s Later stand (xs, asked, are, read, went) = record {
   rows = xs;
   read = read;
-  sent = sent;
-  went = went;
+  sent = went.0;
+  went = went.1;
   stand = replies_stand W cs xs Later stand are;
 }
-texts_stand (task.Pipe now digits) W cs s Later stand told = messages_stand now digits W cs s Later stand told
-texts_stand (task.Serve port connections None) W cs s Later stand told =
-    links_stand s.links W cs Later stand told
-texts_stand (task.Serve port connections (Some it)) W cs s Later stand (inl (k, is, none)) =
-    subst (λ xs. LinksStand (run (changes_at true it.now it.rights.items (rights_of W)) W) xs Later)
+texts_stand tells (task.Pipe now digits) W cs s Later stand told =
+    messages_stand tells now digits W cs s Later stand told
+texts_stand tells (task.Serve port connections None) W cs s Later stand told =
+    links_stand tells s.links W cs Later stand told
+texts_stand tells (task.Serve port connections (Some it)) W cs s Later stand (inl (k, is, none)) =
+    subst (λ xs. LinksStand tells (run (changes_at true it.now it.rights.items (rights_of W)) W) xs Later)
     (sym none) tt
-texts_stand (task.Serve port connections (Some it)) W cs s Later stand (inr (more, is, done, told)) =
+texts_stand tells (task.Serve port connections (Some it)) W cs s Later stand (inr (more, is, done, told)) =
     let changes : List Command = changes_at true it.now it.rights.items (rights_of W) in
-    links_stand s.links (run changes W) more Later (later_stand W cs changes more Later is stand) told
-texts_stand t W cs s Later stand told = tt
+    links_stand tells s.links (run changes W) more Later (later_stand W cs changes more Later is stand) told
+texts_stand tells t W cs s Later stand told = tt
 
-stand_in : HistoriesLast → (V : Content) (c : Option Command) (rs : List Run) (end : Image)
+pub stand_in : HistoriesLast → (V : Content) (c : Option Command) (rs : List Run) (end : Image)
     (come : Come V c rs end) → Sound V → IsHistory V (history V c rs end come) → Stand V c rs end come
 stand_in lasting V c [] end come sound is = tt
 stand_in lasting V c (r ∷ rs) end (inl w, more) sound is =
@@ -215,7 +219,8 @@ stand_in lasting V c (r ∷ rs) end (inl w, more) sound is =
     replied))
     is_same (has_in U w.undecided rs end more (command_of again) y later) in (
       stand,
-      texts_stand w.task W w.answered r.streams (AnsweredIn U w.undecided rs end more) stand w.tells,
+      texts_stand (told_by r.moments) w.task W w.answered r.streams
+          (AnsweredIn U w.undecided rs end more) stand w.tells,
       stand_in lasting U w.undecided rs end more
           (subst Sound ends (lasting V own sound both.0).sound)
           (subst (λ X. IsHistory X rest) ends both.1),

@@ -19,6 +19,7 @@ use Rattle.vault_core.specs.declared.reply.Reply.TheVariants as answer
 use Rattle.vault_batch.specs.declared.asker.Asker.{Asker}
 use Rattle.vault_engine.specs.Passing.{IsBefore, Passage}
 use Rattle.vault_store.specs.declared.vault.Fault.TheVariants.{Memory, Store, Reopen}
+use Rattle.vault_listen.specs.Live.{Turns}
 use Rattle.vault_jobs.proofs.GivenRights.{run_more}
 use Rattle.vault_jobs.proofs.Purging.{first_dead, purged_first}
 use Rattle.vault_jobs.specs.Ahead.{MaySweep}
@@ -64,21 +65,22 @@ module _ (who : Asker) (now : ℕ) (named : IsName who.caller) (at : IsName who.
             (purged_first V who.caller who.merchant token now (tokens ++ rest) dead both.0),
       )
 
-  module _ (w : Passage) (V : Content) (b : IsBefore w V) (sound : Sound V) (s : Streams) (unsent : Type 0)
-      (quiet : unsent → IsQuiet s) (F : Type 0) where
+  module _ (tells : Turns) (w : Passage) (V : Content) (b : IsBefore w V) (sound : Sound V) (s : Streams)
+      (unsent : Type 0) (quiet : unsent → IsQuiet s) (F : Type 0) where
     -- a sweep that may begin
     module _ (giver : Giver) (may : MaySweep giver V who.merchant now) where
       -- purges that are done, and nothing else
       purged : (tokens : List Bytes) → AreSwept who now tokens V
           → w.left_new (swept_vault who now tokens V) (swept_vault who now tokens V)
           → IsQuiet s ⊎ (left_dead who now tokens V ≡ []) → (F → left_dead who now tokens V ≡ [])
-          → Works w V (task.Sweep who now giver) F s
+          → Works tells w V (task.Sweep who now giver) F s
       purged tokens swept left told none = record {
         answered = purges_at who now tokens;
         undecided = None;
         proper = swept_proper tokens (left_dead who now tokens V) V sound swept.0 swept.1;
         last_proper = tt;
         tells = (tokens, refl, swept, told, inr may);
+        next = tt;
         done = λ f. (may, (tokens, refl, none f));
         left = left;
       }
@@ -87,7 +89,7 @@ module _ (who : Asker) (now : ℕ) (named : IsName who.caller) (at : IsName who.
       torn : (tokens next : List Bytes) → length next ≤ 1 → AreSwept who now tokens V
           → Begin next (left_dead who now tokens V)
           → w.left_new (swept_vault who now tokens V) (swept_vault who now (tokens ++ next) V) → IsQuiet s
-          → ¬ F → Works w V (task.Sweep who now giver) F s
+          → ¬ F → Works tells w V (task.Sweep who now giver) F s
       torn tokens [] few swept begins left calm undone =
           purged tokens swept
           (subst (λ ts. w.left_new (swept_vault who now tokens V) (swept_vault who now ts V))
@@ -102,6 +104,7 @@ module _ (who : Asker) (now : ℕ) (named : IsName who.caller) (at : IsName who.
             last_proper = first_proper U token begins.0
                 (stays_sound V (purges_at who now tokens) sound proper) begins.1;
             tells = (tokens, refl, swept, inl calm, inr may);
+            next = (tokens, token, refl, refl, begins);
             done = λ f. absurd (undone f);
             left = subst (λ W. w.left_new U W)
                 (ap (λ ds. run ds V) (map-append (λ t. purge_at who now t) tokens (token ∷ []))
@@ -111,7 +114,7 @@ module _ (who : Asker) (now : ℕ) (named : IsName who.caller) (at : IsName who.
 
       sweep_works : (broken : Bool) (r : Result Ended Stop) → (F → r ≡ Ok outcome.Done)
           → SweepEnds who now w broken r unsent s.sent_old s.sent_new s.writer
-          → Works w V (task.Sweep who now giver) F s
+          → Works tells w V (task.Sweep who now giver) F s
       sweep_works broken (Ok outcome.Done) fin h =
           let it = h.1.1.1 V b in
           purged h.1.1.0 it.0 it.3.1 (inr it.1) (λ _. it.1)
@@ -134,18 +137,18 @@ module _ (who : Asker) (now : ℕ) (named : IsName who.caller) (at : IsName who.
       sweep_works broken (Err (stop.Batch f)) fin h = absurd h
 
     -- one that may not, or whose merchant wasn't read
-    none_swept : (giver : Giver) → unsent → Tells (task.Sweep who now giver) V [] s
+    none_swept : (giver : Giver) → unsent → Tells tells (task.Sweep who now giver) V [] s
     none_swept giver silent = ([], refl, (refl, refl), inl (quiet silent), inl (refl, quiet silent))
 
     pub timed_sweep_works : (giver : Giver) (broken : Bool) (r : Result Ended Stop)
         → (F → r ≡ Ok outcome.Done)
         → TimedSweepEnds giver who now w broken r unsent s.sent_old s.sent_new s.writer
-        → Works w V (task.Sweep who now giver) F s
+        → Works tells w V (task.Sweep who now giver) F s
     timed_sweep_works Words broken r fin h = sweep_works Words tt broken r fin h
     timed_sweep_works Clock broken r fin (inl (near, h)) = sweep_works Clock (near V b) broken r fin h
     timed_sweep_works Clock broken r fin (inr (inl (is, silent, same, far))) =
-        unread_works w V b sound s unsent quiet F (task.Sweep who now Clock) (none_swept Clock silent)
+        unread_works tells w V b sound s unsent quiet F (task.Sweep who now Clock) (none_swept Clock silent)
         (λ f. cc (is, fin f)) broken Memory same
     timed_sweep_works Clock broken r fin (inr (inr (f, is, silent, h))) =
-        unread_works w V b sound s unsent quiet F (task.Sweep who now Clock) (none_swept Clock silent)
+        unread_works tells w V b sound s unsent quiet F (task.Sweep who now Clock) (none_swept Clock silent)
         (λ d. cc (is, fin d)) broken f h

@@ -1,6 +1,7 @@
 -- What a task answered, and what it left undecided.
 use Rattle.std.proofs.Common.{◌≡◌, ℕ, ◌+◌, ◌<◌, zero, suc, List, [], ◌∷◌, ◌++◌, length, take, Option, Some}
-use Rattle.std.proofs.Common.{None, Bool, true, false, Result, Ok, Err, inl, inr, refl, ap, subst, ◌∙◌, arith}
+use Rattle.std.proofs.Common.{None, Bool, true, false, Result, Ok, Err, inl, inr, refl, sym, ap, subst, ◌∙◌}
+use Rattle.std.proofs.Common.{arith}
 use Rattle.std.specs.Prelude.{IfSome, codes}
 use Rattle.std.specs.Global.{Vec}
 use Rattle.vault_rights.specs.Named.{Row}
@@ -19,6 +20,7 @@ use Rattle.vault_core.specs.declared.command.Command.TheVariants.{Detokenize, Vi
 use Rattle.vault_engine.specs.Passing.{IsBefore, Passage}
 use Rattle.vault_store.specs.declared.vault.Fault.{Fault}
 use Rattle.vault_store.specs.declared.vault.Fault.TheVariants.{Memory, Store, Reopen}
+use Rattle.vault_listen.specs.Live.{Turns}
 use Rattle.vault_jobs.proofs.GivenRights.{run_more}
 use Rattle.vault_jobs.specs.Carried.{Carries, reply_of}
 use Rattle.vault_jobs.specs.Doing.{CommandsEnd}
@@ -33,17 +35,19 @@ use Rattle.vault_jobs.specs.declared.task.Outcome.TheVariants as outcome
 use Rattle.vault_jobs.specs.declared.task.Task.{Task}
 use Rattle.vault_jobs.specs.declared.task.Task.TheVariants as task
 use Rattle.vault_promise.specs.Runs.{perhaps}
-use Rattle.vault_promise.specs.Told.{AllDone, IsQuiet, Tells}
+use Rattle.vault_promise.specs.Told.{AllDone, AreFirst, IsNext, IsQuiet, Tells}
 use Rattle.vault_app.specs.Values.{IsOwn}
 
 -- From this vault a task answered commands, of which alone it told; and of one more at most it isn't known
 -- whether it is done. Where the task is done, it tells so.
-pub record Works (w : Passage) (V : Content) (t : Task) (IsDone : Type 0) (s : Streams) : Type 0 where
+pub record Works (turns : Turns) (w : Passage) (V : Content) (t : Task) (IsDone : Type 0) (s : Streams)
+    : Type 0 where
   pub answered : List Command
   pub undecided : Option Command
   pub proper : AllProper answered
   pub last_proper : IfSome undecided IsProper
-  pub tells : Tells t V answered s
+  pub tells : Tells turns t V answered s
+  pub next : IfSome undecided (IsNext turns t V answered s)
   pub done : IsDone → AllDone t V answered
   pub left : w.left_new (run answered V) (perhaps (run answered V) undecided)
 
@@ -69,30 +73,32 @@ own_verdict V c own = at_setting (λ set. (v : Verdict) × (reply V set ≡ repl
     (λ m x. by_set HasVerdict V m x (merchant_at V m) (λ _. (Ok tt, refl))
     (λ _. (Err too_many_merchants, refl)) (λ _. (Ok tt, refl))) c refl
 
-module _ (w : Passage) (V : Content) (b : IsBefore w V) (s : Streams) (unsent : Type 0)
+module _ (tells : Turns) (w : Passage) (V : Content) (b : IsBefore w V) (s : Streams) (unsent : Type 0)
     (quiet : unsent → IsQuiet s) (F : Type 0) where
   module _ (c : Command) (own : IsOwn c) (proper : IsProper c) where
-    change_done : (broken : Bool) → Carries c w broken (Ok (Ok tt)) → Works w V (task.Change c) F s
+    change_done : (broken : Bool) → Carries c w broken (Ok (Ok tt)) → Works tells w V (task.Change c) F s
     change_done broken carried = record {
       answered = c ∷ [];
       undecided = None;
       proper = (proper, tt);
       last_proper = tt;
       tells = inr (refl, (carried V b).0);
+      next = tt;
       done = λ _. (refl, (carried V b).0);
       left = (carried V b).1.1;
     }
 
     pub change_works : (broken : Bool) (r : Result Ended Stop) → (F → r ≡ Ok outcome.Done)
         → CommandsEnd (Carries c w broken) (codes "done\n") r unsent s.sent_old s.sent_new s.writer
-        → Works w V (task.Change c) F s
+        → Works tells w V (task.Change c) F s
     change_works broken (Ok outcome.Done) fin h = change_done broken h.2
     change_works broken (Ok (outcome.Refused n)) fin h = record {
       answered = c ∷ [];
       undecided = None;
       proper = (proper, tt);
       last_proper = tt;
-      tells = inl (quiet h.0);
+      tells = inl (quiet h.0, (1, refl));
+      next = tt;
       done = λ f. absurd (cc (fin f));
       left = (h.1 V b).1.1;
     }
@@ -102,7 +108,8 @@ module _ (w : Passage) (V : Content) (b : IsBefore w V) (s : Streams) (unsent : 
       undecided = None;
       proper = tt;
       last_proper = tt;
-      tells = inl (quiet h.0);
+      tells = inl (quiet h.0, (0, refl));
+      next = tt;
       done = λ f. absurd (cc (fin f));
       left = (h.1 V b).1;
     }
@@ -111,7 +118,8 @@ module _ (w : Passage) (V : Content) (b : IsBefore w V) (s : Streams) (unsent : 
       undecided = Some c;
       proper = tt;
       last_proper = proper;
-      tells = inl (quiet h.0);
+      tells = inl (quiet h.0, (0, refl));
+      next = refl;
       done = λ f. absurd (cc (fin f));
       left = h.1.0 refl V b;
     }
@@ -148,27 +156,29 @@ one_more (suc k) (c ∷ cs) below =
       proper = λ p. it.proper p.1;
     }
 
-module _ (w : Passage) (V : Content) (b : IsBefore w V) (s : Streams) (unsent : Type 0)
+module _ (tells : Turns) (w : Passage) (V : Content) (b : IsBefore w V) (s : Streams) (unsent : Type 0)
     (quiet : unsent → IsQuiet s) (F : Type 0) where
   -- commands of which the task tells alone that all are done
   module _ (t : Task) (cs : List Command) (line : List ℕ) (proper : AllProper cs)
-      (told : AreDone (length cs) cs V → Tells t V cs s)
-      (silent : (ds : List Command) → IsQuiet s → Tells t V ds s)
+      (told : AreDone (length cs) cs V → Tells tells t V cs s)
+      (silent : (k : ℕ) → IsQuiet s → Tells tells t V (take k cs) s)
+      (asked : (ds : List Command) (x : Command) → AreFirst (ds ++ x ∷ []) cs → IsNext tells t V ds s x)
       (ended : AreDone (length cs) cs V → AllDone t V cs) where
-    all_works : (broken : Bool) → CarriesAll cs w broken (Ok (Ok tt)) → Works w V t F s
+    all_works : (broken : Bool) → CarriesAll cs w broken (Ok (Ok tt)) → Works tells w V t F s
     all_works broken carried = record {
       answered = cs;
       undecided = None;
       proper = proper;
       last_proper = tt;
       tells = told (carried V b).0;
+      next = tt;
       done = λ _. ended (carried V b).0;
       left = (carried V b).1.1;
     }
 
     -- the first are done and one is refused, or not answered
     pub refused_works : (broken : Bool) (n : ℕ) → ¬ F → IsQuiet s
-        → CarriesAll cs w broken (Ok (Err n)) → Works w V t F s
+        → CarriesAll cs w broken (Ok (Err n)) → Works tells w V t F s
     refused_works broken n never calm h =
         let k = h.0 in
         record {
@@ -176,13 +186,14 @@ module _ (w : Passage) (V : Content) (b : IsBefore w V) (s : Streams) (unsent : 
           undecided = None;
           proper = first_proper (k + 1) cs proper;
           last_proper = tt;
-          tells = silent (take (k + 1) cs) calm;
+          tells = silent (k + 1) calm;
+          next = tt;
           done = λ f. absurd (never f);
           left = (h.2 V b).1.1;
         }
 
     pub stopped_works : (broken : Bool) (f : Fault) → ¬ F → IsQuiet s → CarriesAll cs w broken (Err f)
-        → Works w V t F s
+        → Works tells w V t F s
     stopped_works broken Memory never calm h =
         let k = h.0 in
         record {
@@ -190,7 +201,8 @@ module _ (w : Passage) (V : Content) (b : IsBefore w V) (s : Streams) (unsent : 
           undecided = None;
           proper = first_proper k cs proper;
           last_proper = tt;
-          tells = silent (take k cs) calm;
+          tells = silent k calm;
+          next = tt;
           done = λ f. absurd (never f);
           left = (h.2 V b).1.1;
         }
@@ -202,7 +214,8 @@ module _ (w : Passage) (V : Content) (b : IsBefore w V) (s : Streams) (unsent : 
           undecided = Some more.one;
           proper = first_proper k cs proper;
           last_proper = more.proper proper;
-          tells = silent (take k cs) calm;
+          tells = silent k calm;
+          next = asked (take k cs) more.one (k + 1, sym more.is);
           done = λ f. absurd (never f);
           left = subst (λ W. w.left_new (run (take k cs) V) W)
               (ap (λ ds. run ds V) more.is ∙ run_more (take k cs) more.one V) (h.2 V b).2;
@@ -210,7 +223,8 @@ module _ (w : Passage) (V : Content) (b : IsBefore w V) (s : Streams) (unsent : 
     stopped_works broken Reopen never calm h = absurd h
 
     pub commands_works : (broken : Bool) (r : Result Ended Stop) → (F → r ≡ Ok outcome.Done)
-        → CommandsEnd (CarriesAll cs w broken) line r unsent s.sent_old s.sent_new s.writer → Works w V t F s
+        → CommandsEnd (CarriesAll cs w broken) line r unsent s.sent_old s.sent_new s.writer
+        → Works tells w V t F s
     commands_works broken (Ok outcome.Done) fin h = all_works broken h.2
     commands_works broken (Ok (outcome.Refused n)) fin h =
         refused_works broken n (λ f. cc (fin f)) (quiet h.0) h.1
@@ -225,7 +239,8 @@ module _ (w : Passage) (V : Content) (b : IsBefore w V) (s : Streams) (unsent : 
   pub give_works : (rights : Vec Row) (now : ℕ) → AllProper (grants_at now rights.items) → (broken : Bool)
       (r : Result Ended Stop) → (F → r ≡ Ok outcome.Done)
       → CommandsEnd (CarriesAll (grants_at now rights.items) w broken) (granted_line (length rights.items)) r
-      unsent s.sent_old s.sent_new s.writer → Works w V (task.Give rights now) F s
+      unsent s.sent_old s.sent_new s.writer → Works tells w V (task.Give rights now) F s
   give_works rights now proper broken r fin h =
       commands_works (task.Give rights now) (grants_at now rights.items) (granted_line (length rights.items))
-      proper (λ done. inr (refl, done)) (λ ds calm. inl calm) (λ done. (refl, done)) broken r fin h
+      proper (λ done. inr (refl, done)) (λ k calm. inl (calm, (k, refl))) (λ ds x first. first)
+      (λ done. (refl, done)) broken r fin h

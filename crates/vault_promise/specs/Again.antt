@@ -12,8 +12,7 @@ use Rattle.vault_jobs.specs.declared.task.Task.{Task}
 use Rattle.vault_jobs.specs.declared.task.Task.TheVariants.{Pipe}
 use Rattle.vault_app.specs.Asked.{AsksFor}
 use Rattle.vault_app.specs.Plans.{IsTaskOf}
-use Rattle.vault_app.specs.World.{anything}
-use Rattle.vault_promise.specs.Runs.{AreOf, Rests, Run, Runs, before}
+use Rattle.vault_promise.specs.Runs.{AreOf, Rests, Run, Runs, at_moments, before, told_by}
 use Rattle.vault_promise.specs.Standing.{IsRepliedIn, TokensStand}
 use Rattle.vault_promise.specs.Told.{AreHeard}
 
@@ -24,14 +23,15 @@ IsNoPipe task = Unit {0}
 
 -- the run answered no messages of its input: it rests, or its words ask for another task
 abbrev pub DidNoPipe : Run → Type 0
-DidNoPipe r = Rests r ⊎ (t : Task) × AsksFor r.words (λ job. IsTaskOf anything job t) × IsNoPipe t
+DidNoPipe r = Rests r
+    ⊎ (t : Task) × AsksFor r.words (λ job. IsTaskOf (at_moments r.moments) job t) × IsNoPipe t
 
 -- The run answered these messages of its input, from this vault: what went out are the texts that answer
 -- them, up to some byte.
 pub record Piped (r : Run) (W : Content) (xs : List (Asked Parts)) : Type 0 where
   pub now : Option ℕ
   pub digits : Option (List ℕ)
-  pub heard : AreHeard now digits r.streams xs
+  pub heard : AreHeard (told_by r.moments) now digits r.streams xs
   pub fault : Option WireFault
   pub sent : ℕ
   pub went : Appends r.streams.sent_old r.streams.sent_new

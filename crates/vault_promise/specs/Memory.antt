@@ -20,8 +20,8 @@ MayBeLeftOf m = MayLeave false m.bytes.items m.synced.items (steps_of m.steps.it
 abbrev pub MayBeLeftIn : Files Memory → Image → Type 0
 MayBeLeftIn files image = MayBeLeftOf files.log image.log × MayBeLeftOf files.db image.db
 
--- At every path the files hold these bytes, and nothing else is told but moments.
+-- At every path the files hold these bytes, no path lacks them, and nothing else is told but moments.
 abbrev pub memory_world : Turns → Image → World
 memory_world tells image =
-    world_of tells (λ path found. found ≡ image) (λ path. Unit {0}) (λ path. Unit {0}) (λ path text. Unit {0})
+    world_of tells (λ path found. found ≡ image) (λ path. ⊥) (λ path. Unit {0}) (λ path text. Unit {0})
     (λ path log. Unit {0})

@@ -1,7 +1,7 @@
 -- Runs of the program over one file, one after the other, each with the bytes that the one before it left or
 -- that a stop may leave of these.
 use Rattle.std.proofs.Common.{inl, inr}
-use Rattle.std.specs.Prelude.{◌≡◌, ◌⊎◌, ℕ, Bool, List, [], ◌∷◌, ◌++◌, IfSome, Option, Some, None}
+use Rattle.std.specs.Prelude.{◌≡◌, ◌⊎◌, ℕ, Bool, List, [], ◌∷◌, ◌++◌, IfSome, Option, Some, None, true}
 use Rattle.clap.specs.Words.{Text}
 use Rattle.sqlite.specs.View.{IsClean}
 use Rattle.sqlite_disk.specs.declared.Disk.{Ghosts}
@@ -16,6 +16,7 @@ use Rattle.vault_core.specs.Sound.{Sound}
 use Rattle.vault_core.specs.Table.{after, reply}
 use Rattle.vault_core.specs.Vault.{Vault as Content, empty_vault}
 use Rattle.vault_core.specs.declared.command.Command.{Command}
+use Rattle.vault_file.specs.Found.{IsNoVerdict}
 use Rattle.vault_file.specs.Reopened.{KeepsSome}
 use Rattle.vault_recover.specs.Crashed.{AreBlank, KeepsEither, KeepsFirst, MayFind}
 use Rattle.vault_schema.specs.Stands.{lookups_of}
@@ -32,19 +33,31 @@ use Rattle.vault_words.specs.declared.jobs.Job.{Job}
 use Rattle.vault_app.specs.Jobs.{RunsAs}
 use Rattle.vault_app.specs.Plans.{EndsPlanless, IsTaskOf, saying}
 use Rattle.vault_app.specs.Asked.{AsksFor}
-use Rattle.vault_app.specs.Saying.{IsBeside, path_of}
-use Rattle.vault_app.specs.World.{anything, world_of}
+use Rattle.vault_app.specs.Saying.{IsBeside, OfMove, Purpose, path_of}
+use Rattle.vault_app.specs.World.{World, anything, world_of}
 use Rattle.vault_app.specs.declared.ending.Ending.{Ending}
 use Rattle.vault_app.specs.declared.ending.Ending.TheVariants.{Done, NotOpened}
 use Rattle.vault_file.specs.declared.fault.NotOpened.{NotOpened as FileFault}
 use Rattle.vault_promise.specs.SoundHistories.{Lasts}
-use Rattle.vault_promise.specs.Told.{AllDone, IsQuiet, Tells}
+use Rattle.vault_promise.specs.Told.{AllDone, IsNext, IsQuiet, Tells}
 
--- a run: the bytes that the files had before it, its words, how it ended, and what came in and went out, with
--- its connections, but for the line that says how it ended
+-- which moments a clock may tell at which turn: those of which this is true
+abbrev pub Moments : Type 0
+Moments = ℕ → ℕ → Bool
+
+abbrev pub told_by : Moments → Turns
+told_by moments turn now = moments turn now ≡ true
+
+-- a world in which these moments may be told, and anything else
+abbrev pub at_moments : Moments → World
+at_moments moments = record anything { tells = told_by moments }
+
+-- a run: the bytes that the files had before it, its words, the moments that its clock may tell, how it
+-- ended, and what came in and went out, with its connections, but for the line that says how it ended
 pub record Run : Type 0 where
   pub begins : Image
   pub words : List Text
+  pub moments : Moments
   pub ending : Ending
   pub streams : Streams
 
@@ -59,6 +72,11 @@ perhaps V (Some c) = after V c
 abbrev pub AreOf : Image → Content → Option Command → Type 0
 AreOf image V c = KeepsEither image V (perhaps V c)
     ⊎ (c ≡ None) × KeepsSome image V
+    ⊎ (c ≡ None) × (V ≡ empty_vault) × ((before : Trees) × AreBlank before × KeepsFirst image before)
+
+-- so in the newest schema, or with no table yet
+abbrev pub AreNew : Image → Content → Option Command → Type 0
+AreNew image V c = KeepsEither image V (perhaps V c)
     ⊎ (c ≡ None) × (V ≡ empty_vault) × ((before : Trees) × AreBlank before × KeepsFirst image before)
 
 -- the bytes hold the vault, in some schema; or no table, where it is the empty one
@@ -93,12 +111,30 @@ Rests r = EndsPlanless anything r.words r.ending (IsQuiet r.streams)
     ⊎ ((why : FileFault) × (r.ending ≡ NotOpened why)) × IsQuiet r.streams
     ⊎ AsksFor r.words IsAside
 
--- The words of a run ask for a task. It opened the vault V, or the one after the command that was undecided:
--- the one that the bytes hold. From there commands were answered, one after the other, and then the store
--- failed at one more at most. What went out tells of those answered; and so does the end, where it is done.
+-- the words ask for a move to the newest schema
+abbrev pub IsMoving : Purpose → Type 0
+IsMoving (OfMove path) = Unit {0}
+IsMoving purpose = ⊥
+
+abbrev pub AsksMove : List Text → Type 0
+AsksMove words = AsksFor words (λ job. IsMoving (saying job).purpose)
+
+-- if the file isn't opened, that isn't for its schema or its rows: it is refused by neither 30 nor 31
+abbrev pub IsSpared : Run → Type 0
+IsSpared r = (why : FileFault) → r.ending ≡ NotOpened why → IsNoVerdict why
+
+-- What those before a run leave isn't refused so: in the newest schema by no run, and by a move in none.
+pub record Spared (V : Content) (c : Option Command) (r : Run) : Type 0 where
+  pub newest : AreNew r.begins V c → IsSpared r
+  pub moving : AreOf r.begins V c → AsksMove r.words → IsSpared r
+
+-- The words of a run ask for a task, at a moment that they fix or that was told. It opened the vault V, or
+-- the one after the command that was undecided: the one that the bytes hold. From there commands were
+-- answered, one after the other, and then the store failed at one more at most. What went out tells of those
+-- answered; and so does the end, where it is done.
 pub record Work (V : Content) (c : Option Command) (r : Run) : Type 0 where
   pub task : Task
-  pub asked : AsksFor r.words (λ job. IsTaskOf anything job task)
+  pub asked : AsksFor r.words (λ job. IsTaskOf (at_moments r.moments) job task)
   pub opened : Content
   pub is : (opened ≡ V) ⊎ (opened ≡ perhaps V c)
   pub holds : Bear r.begins opened
@@ -106,12 +142,14 @@ pub record Work (V : Content) (c : Option Command) (r : Run) : Type 0 where
   pub undecided : Option Command
   pub proper : AllProper answered
   pub last_proper : IfSome undecided IsProper
-  pub tells : Tells task opened answered r.streams
+  pub tells : Tells (told_by r.moments) task opened answered r.streams
+  pub next : IfSome undecided (IsNext (told_by r.moments) task opened answered r.streams)
   pub done : r.ending ≡ Done → AllDone task opened answered
+  pub opens : (why : FileFault) → ¬ (r.ending ≡ NotOpened why)
 
--- it worked so, or it rests
+-- it worked so, or it rests, and its file is spared
 abbrev pub Comes : Content → Option Command → Run → Type 0
-Comes V c r = Work V c r ⊎ Rests r
+Comes V c r = Work V c r ⊎ Rests r × Spared V c r
 
 -- the vault that it leaves, and the command that it leaves undecided
 abbrev pub kept_by : (V : Content) (c : Option Command) (r : Run) → Comes V c r → Content
@@ -122,11 +160,23 @@ abbrev pub undecided_by : (V : Content) (c : Option Command) (r : Run) → Comes
 undecided_by V c r (inl w) = w.undecided
 undecided_by V c r (inr rests) = c
 
--- A run up to these bytes: from each sound vault that those before it are of it comes to something, and these
--- are of what it leaves.
+-- it worked; or it moved the file to the newest schema, and is done
+abbrev pub MakesNew : (V : Content) (c : Option Command) (r : Run) → Comes V c r → Type 0
+MakesNew V c r (inl w) = Unit {0}
+MakesNew V c r (inr rests) = (r.ending ≡ Done) × AsksMove r.words
+
+-- A run that comes to this leads on to these bytes: they are of the vault that it leaves, and in the newest
+-- schema where it makes them so, or found them so.
+pub record Leads (V : Content) (c : Option Command) (r : Run) (it : Comes V c r) (next : Image) : Type 0 where
+  pub of : AreOf next (kept_by V c r it) (undecided_by V c r it)
+  pub newest : MakesNew V c r it ⊎ AreNew r.begins V c
+      → AreNew next (kept_by V c r it) (undecided_by V c r it)
+
+-- A run up to these bytes: from each sound vault that those before it are of it comes to something, and leads
+-- on to these.
 abbrev pub IsRun : Run → Image → Type 0
 IsRun r next = (V : Content) (c : Option Command) → Sound V → IfSome c IsProper → AreOf r.begins V c
-    → ∥ ((it : Comes V c r) × AreOf next (kept_by V c r it) (undecided_by V c r it)) ∥₁
+    → ∥ ((it : Comes V c r) × Leads V c r it next) ∥₁
 
 -- the path of the file with which a job works, if it works with one
 abbrev pub file_of : Job → Option (List ℕ)
@@ -138,7 +188,8 @@ IsFound words Holding = (job : Job) (path : List ℕ) → IsAsked program_app wo
     → file_of job ≡ Some path → Holding path
 
 -- Whatever a run of the program does, by the clause `does` of `run`, in a world where the files at the path
--- of its words hold these bytes; and with whatever bytes the next one begins: it is a run up to these.
+-- of its words hold these bytes, and its clock tells no other moments than these; and with whatever bytes the
+-- next one begins: it is a run up to these.
 module _ {D R W E K P : Type 0} (g : Ghosts D) (remaining : R → Known) (contents : W → Known)
     (said : E → Known) (tells : K → Turns) (holds : P → List ℕ → Image → Type 0)
     (lacks refuses : P → List ℕ → Type 0) (says : P → List ℕ → List ℕ → Type 0)
@@ -146,13 +197,20 @@ module _ {D R W E K P : Type 0} (g : Ghosts D) (remaining : R → Known) (conten
   abbrev pub EveryRunIsOne : Type 0
   EveryRunIsOne =
       (image next : Image) (left : Option (FileStore D g)) (words : List Text) (status : ℕ) (time : K)
-      (paths : P) (links : List (Option Link)) (i i' : Watched R) (o told o' : Watched W) (e e' : Watched E)
+      (paths : P) (moments : Moments) (links : List (Option Link)) (i i' : Watched R) (o told o' : Watched W)
+      (e e' : Watched E) → ((turn now : ℕ) → tells time turn now → told_by moments turn now)
       → (it : RunsAs remaining contents said
       (world_of (tells time) (holds paths) (lacks paths) (refuses paths) (says paths) (logs paths)) left words
       status links i i' o told o' e e')
       → IsFound words (λ path. holds paths path image) → Leaves image left next
       → (let s : Streams = with_links (streams remaining i i' contents o told) links in
-      IsRun (record { begins = image; words = words; ending = it.ending; streams = s }) next)
+      IsRun (record {
+        begins = image;
+        words = words;
+        moments = moments;
+        ending = it.ending;
+        streams = s;
+      }) next)
 
 -- the bytes with which the first of runs begins, or those at the end where there is none
 abbrev pub before : List Run → Image → Image
@@ -168,6 +226,14 @@ Runs (r ∷ rs) end = IsRun r (before rs end) × Runs rs end
 abbrev pub Come : Content → Option Command → List Run → Image → Type 0
 Come V c [] end = AreOf end V c
 Come V c (r ∷ rs) end = (it : Comes V c r) × Come (kept_by V c r it) (undecided_by V c r it) rs end
+
+-- The bytes with which each of them begins are of the vault that those before it leave, and each leads on to
+-- those of the next.
+abbrev pub Follow : (V : Content) (c : Option Command) (rs : List Run) (end : Image) → Come V c rs end
+    → Type 0
+Follow V c [] end come = Unit {0}
+Follow V c (r ∷ rs) end (it, more) = AreOf r.begins V c × Leads V c r it (before rs end)
+    × Follow (kept_by V c r it) (undecided_by V c r it) rs end more
 
 -- commands are answered from a vault
 abbrev pub answers : Content → List Command → List (Step × Content)
@@ -195,4 +261,4 @@ abbrev pub RunsComeToHistories : Type 0
 RunsComeToHistories =
     (rs : List Run) (end : Image) (V : Content) → Sound V → AreOf (before rs end) V None → Runs rs end
     → ∥ ((come : Come V None rs end) × IsHistory V (history V None rs end come)
-    × Lasts V (history V None rs end come)) ∥₁
+    × Lasts V (history V None rs end come) × Follow V None rs end come) ∥₁

@@ -20,12 +20,13 @@ use Rattle.vault_http.specs.Exchanges.{answer_for, last_text}
 use Rattle.vault_wire.specs.declared.fault.WireFault.{WireFault}
 use Rattle.vault_wire.specs.Parts.{Parts}
 use Rattle.vault_engine.specs.Asking.{Asked, texts, vault_after}
+use Rattle.vault_listen.specs.Live.{Turns}
 use Rattle.vault_listen.specs.Peers.{Link}
 use Rattle.vault_jobs.specs.Changes.{changes_at, rights_of}
 use Rattle.vault_jobs.specs.Streams.{Streams}
 use Rattle.vault_jobs.specs.declared.task.Task.{Task}
 use Rattle.vault_jobs.specs.declared.task.Task.TheVariants.{Batch, Pipe, Serve}
-use Rattle.vault_promise.specs.Runs.{AreOf, Come, Run, Runs, Work, before}
+use Rattle.vault_promise.specs.Runs.{AreOf, Come, Run, Runs, Work, before, told_by}
 use Rattle.vault_promise.specs.Told.{AreHeard, AreRead, streams_of}
 
 -- a run that worked answered this command so
@@ -56,46 +57,47 @@ IsRepliedIn W xs x y = (first more : List (Asked _)) × (it : Asked _) × (xs �
 -- What went out of messages stands. It is the texts that answer those that were read, up to some byte. If one
 -- of these texts answers a request a token, and a later run answers the request again, that answer is the
 -- token too.
-pub record TextsStand (now : Option ℕ) (digits : Option (List ℕ)) (W : Content) (s : Streams)
+pub record TextsStand (tells : Turns) (now : Option ℕ) (digits : Option (List ℕ)) (W : Content) (s : Streams)
     (Later : Command → Reply → Type 0) : Type 0 where
   pub exchanges : List (Asked Parts)
-  pub heard : AreHeard now digits s exchanges
+  pub heard : AreHeard tells now digits s exchanges
   pub fault : Option WireFault
   pub sent : ℕ
   pub went : Appends s.sent_old s.sent_new (take sent (texts answer_for W exchanges ++ last_text fault))
   pub stand : TokensStand (IsRepliedIn W exchanges) Later
 
 -- and so what went out of rows: it is the lines that answer those that came in, up to some byte
-pub record LinesStand (now : Option ℕ) (digits : Option (List ℕ)) (W : Content) (s : Streams)
+pub record LinesStand (tells : Turns) (now : Option ℕ) (digits : Option (List ℕ)) (W : Content) (s : Streams)
     (Later : Command → Reply → Type 0) : Type 0 where
   pub rows : List (Asked Row)
-  pub read : AreRead now digits s rows
+  pub read : AreRead tells now digits s rows
   pub sent : ℕ
   pub went : Appends s.sent_old s.sent_new (take sent (first_line ++ lines W rows))
   pub stand : TokensStand (IsRepliedIn W rows) Later
 
 -- and so the texts of each connection, from the vault that those before it leave
-abbrev pub LinksStand : Content → List (Option Link) → (Command → Reply → Type 0) → Type 0
-LinksStand W [] Later = Unit {0}
-LinksStand W (None ∷ xs) Later = LinksStand W xs Later
-LinksStand W (Some x ∷ xs) Later = (it : TextsStand None None W (streams_of x) Later)
-    × LinksStand (vault_after W it.exchanges) xs Later
+abbrev pub LinksStand : Turns → Content → List (Option Link) → (Command → Reply → Type 0) → Type 0
+LinksStand tells W [] Later = Unit {0}
+LinksStand tells W (None ∷ xs) Later = LinksStand tells W xs Later
+LinksStand tells W (Some x ∷ xs) Later = (it : TextsStand tells None None W (streams_of x) Later)
+    × LinksStand tells (vault_after W it.exchanges) xs Later
 
 -- so of a run that answered the messages or the rows of its input, or those of connections
-abbrev pub TellsStanding : Task → Content → Streams → (Command → Reply → Type 0) → Type 0
-TellsStanding (Batch who now digits) W s Later = LinesStand now digits W s Later
-TellsStanding (Pipe now digits) W s Later = TextsStand now digits W s Later
-TellsStanding (Serve port connections None) W s Later = LinksStand W s.links Later
-TellsStanding (Serve port connections (Some it)) W s Later =
-    LinksStand (run (changes_at true it.now it.rights.items (rights_of W)) W) s.links Later
-TellsStanding task W s Later = Unit {0}
+abbrev pub TellsStanding : Turns → Task → Content → Streams → (Command → Reply → Type 0) → Type 0
+TellsStanding tells (Batch who now digits) W s Later = LinesStand tells now digits W s Later
+TellsStanding tells (Pipe now digits) W s Later = TextsStand tells now digits W s Later
+TellsStanding tells (Serve port connections None) W s Later = LinksStand tells W s.links Later
+TellsStanding tells (Serve port connections (Some it)) W s Later =
+    LinksStand tells (run (changes_at true it.now it.rights.items (rights_of W)) W) s.links Later
+TellsStanding tells task W s Later = Unit {0}
 
 -- and of each of the runs, with those after it
 abbrev pub Stand : (V : Content) (c : Option Command) (rs : List Run) (end : Image) → Come V c rs end → Type 0
 Stand V c [] end come = Unit {0}
 Stand V c (r ∷ rs) end (inl w, more) =
     TokensStand (Answers w) (AnsweredIn (run w.answered w.opened) w.undecided rs end more)
-    × TellsStanding w.task w.opened r.streams (AnsweredIn (run w.answered w.opened) w.undecided rs end more)
+    × TellsStanding (told_by r.moments) w.task w.opened r.streams
+    (AnsweredIn (run w.answered w.opened) w.undecided rs end more)
     × Stand (run w.answered w.opened) w.undecided rs end more
 Stand V c (r ∷ rs) end (inr rests, more) = Stand V c rs end more
 

@@ -1,6 +1,6 @@
 -- What goes out of a task tells of commands that were answered.
 use Rattle.std.specs.Prelude.{◌≡◌, ◌⊎◌, ◌≤◌, ℕ, List, [], ◌∷◌, ◌++◌, All, Option, Some, None, length, take}
-use Rattle.std.specs.Prelude.{true}
+use Rattle.std.specs.Prelude.{true, Ok}
 use Rattle.std.specs.Io.KnownBytes.{Appends, Consumes}
 use Rattle.vault_core.specs.Keys.{Bytes}
 use Rattle.vault_core.specs.Runs.{run}
@@ -13,7 +13,7 @@ use Rattle.vault_wire.specs.Parts.{Parts}
 use Rattle.vault_engine.specs.Asking.{commands_of, texts}
 use Rattle.vault_http.specs.Exchanges.{up_to_close}
 use Rattle.vault_http.specs.Served.{Begins}
-use Rattle.vault_listen.specs.Live.{IsPairOf}
+use Rattle.vault_listen.specs.Live.{AreGiven, Turns}
 use Rattle.vault_wire.specs.Messages.{Request}
 use Rattle.vault_wire.specs.declared.fault.WireFault.{WireFault}
 use Rattle.vault_batch.specs.Asking.{Asked, Asks}
@@ -21,14 +21,14 @@ use Rattle.vault_batch.specs.Batched.{lines, rows_of}
 use Rattle.vault_batch.specs.Lines.{first_line}
 use Rattle.vault_engine.specs.Answered.{pairs_of, units_of}
 use Rattle.vault_engine.specs.Asking as engine
-use Rattle.vault_batch.specs.Rows.{AreRecordsOf, BeginRecordsOf, Fields, records_with}
+use Rattle.vault_batch.specs.Rows.{AreRecordsOf, BeginRecordsOf, Fields, fields_in, records_with}
 use Rattle.vault_listen.specs.Peers.{Link}
 use Rattle.vault_jobs.specs.Ahead.{MaySweep}
 use Rattle.vault_jobs.specs.Changes.{changes_at, rights_of}
 use Rattle.vault_jobs.specs.Grants.{AreDone, grants_at}
 use Rattle.vault_jobs.specs.Listing.{shown_text}
 use Rattle.vault_jobs.specs.Streams.{Streams}
-use Rattle.vault_jobs.specs.Sweeps.{AreSwept, left_dead, purges_at}
+use Rattle.vault_jobs.specs.Sweeps.{AreSwept, Begin, left_dead, purge_at, purges_at}
 use Rattle.vault_jobs.specs.declared.task.Task.{Task}
 use Rattle.vault_jobs.specs.declared.task.Task.TheVariants.{Change, Give, Settle, Sweep, Batch, Pipe, Serve}
 use Rattle.vault_jobs.specs.declared.task.Task.TheVariants.{Show}
@@ -39,8 +39,9 @@ IsQuiet s = Appends s.sent_old s.sent_new []
 
 -- The exchanges are of what came in: the bytes that were read begin with messages, and of these, up to the
 -- first that closes the connection, the first are asked in the exchanges, and one more at most that isn't
--- answered; each with a pair of its own, which has this moment and these digits, where they are fixed.
-pub record AreHeard (now : Option ℕ) (digits : Option (List ℕ)) (s : Streams)
+-- answered; each with a pair of its own, which has this moment and these digits, where they are fixed, and
+-- else a moment that was told for it.
+pub record AreHeard (tells : Turns) (now : Option ℕ) (digits : Option (List ℕ)) (s : Streams)
     (exchanges : List (engine.Asked Parts)) : Type 0 where
   pub bytes : List ℕ
   pub messages : List Request
@@ -48,7 +49,7 @@ pub record AreHeard (now : Option ℕ) (digits : Option (List ℕ)) (s : Streams
   pub rest : List Parts
   pub read : Consumes s.left_old s.left_new bytes
   pub begins : Begins bytes messages
-  pub fixed : All (IsPairOf now digits) (pairs_of (exchanges ++ more))
+  pub given : AreGiven tells now digits (pairs_of (exchanges ++ more))
   pub asked : All (engine.Asks message_kind) (exchanges ++ more)
   pub first : up_to_close (shown messages) ≡ units_of (exchanges ++ more) ++ rest
   pub few : length more ≤ 1
@@ -58,11 +59,12 @@ abbrev pub CameIn : Streams → List Fields → Type 0
 CameIn s records = AreRecordsOf s.left_old records ⊎ BeginRecordsOf s.left_old records
 
 -- The rows are of what came in: where there are some, it begins with the header and these rows. Each has a
--- pair of its own, which has this moment and these digits, where they are fixed.
-pub record AreRead (now : Option ℕ) (digits : Option (List ℕ)) (s : Streams)
+-- pair of its own, which has this moment and these digits, where they are fixed, and else a moment that was
+-- told for it.
+pub record AreRead (tells : Turns) (now : Option ℕ) (digits : Option (List ℕ)) (s : Streams)
     (rows : List Asked) : Type 0 where
   pub records : (rows ≡ []) ⊎ ((more : List Fields) × CameIn s (records_with (rows_of rows) ++ more))
-  pub fixed : All (IsPairOf now digits) (pairs_of rows)
+  pub given : AreGiven tells now digits (pairs_of rows)
 
 -- what a task tells by being done: its command is done, or all its rights are given, or all changes are done
 -- that make the rights those of its list, or no dead token is left and the sweep of them might begin
@@ -78,9 +80,9 @@ AllDone task V cs = Unit {0}
 
 -- Messages answered commands from the vault V: they were read, and what went out are the texts that answer
 -- them, or the first bytes of these and of the text that answers a fault.
-abbrev pub AreAnswered : Option ℕ → Option (List ℕ) → Content → List Command → Streams → Type 0
-AreAnswered now digits V cs s = (xs : List (engine.Asked Parts)) × (cs ≡ commands_of xs)
-    × AreHeard now digits s xs
+abbrev pub AreAnswered : Turns → Option ℕ → Option (List ℕ) → Content → List Command → Streams → Type 0
+AreAnswered tells now digits V cs s = (xs : List (engine.Asked Parts)) × (cs ≡ commands_of xs)
+    × AreHeard tells now digits s xs
     × ((fault : Option WireFault) × (sent : ℕ)
     × Appends s.sent_old s.sent_new (take sent (texts answer_for V xs ++ last_text fault)))
 
@@ -98,11 +100,15 @@ streams_of x = record {
 
 -- Connections answered commands from the vault V, one connection after the other: those of each are answered
 -- to its own messages, from the vault that those before it leave.
-abbrev pub AllAnswer : Content → List (Option Link) → List Command → Type 0
-AllAnswer V [] cs = cs ≡ []
-AllAnswer V (None ∷ xs) cs = AllAnswer V xs cs
-AllAnswer V (Some x ∷ xs) cs = (first more : List Command) × (cs ≡ first ++ more)
-    × AreAnswered None None V first (streams_of x) × AllAnswer (run first V) xs more
+abbrev pub AllAnswer : Turns → Content → List (Option Link) → List Command → Type 0
+AllAnswer tells V [] cs = cs ≡ []
+AllAnswer tells V (None ∷ xs) cs = AllAnswer tells V xs cs
+AllAnswer tells V (Some x ∷ xs) cs = (first more : List Command) × (cs ≡ first ++ more)
+    × AreAnswered tells None None V first (streams_of x) × AllAnswer tells (run first V) xs more
+
+-- these commands are the first of those
+abbrev pub AreFirst : List Command → List Command → Type 0
+AreFirst cs all = (k : ℕ) × (cs ≡ take k all)
 
 -- Commands were answered from the vault V, one after the other, and what went out tells of these alone. A
 -- line of `done`, of rights or of numbers that are purged, or a part of it, says that all are done; where a
@@ -111,24 +117,57 @@ AllAnswer V (Some x ∷ xs) cs = (first more : List Command) × (cs ≡ first ++
 -- each connection of a service. Where that begins with a list of rights, the first commands are those that
 -- make the rights the list's, and no connection is answered before they are done. What a vault is said to
 -- hold is the text of it, or the first bytes of that.
-abbrev pub Tells : Task → Content → List Command → Streams → Type 0
-Tells (Change c) V cs s = IsQuiet s ⊎ (cs ≡ c ∷ []) × (reply V c ≡ Done)
-Tells (Give rights now) V cs s =
-    IsQuiet s ⊎ (cs ≡ grants_at now rights.items) × AreDone (length cs) cs V
-Tells (Settle rights now) V cs s =
-    IsQuiet s ⊎ (cs ≡ changes_at true now rights.items (rights_of V)) × AreDone (length cs) cs V
-Tells (Sweep who now giver) V cs s = (tokens : List Bytes) × (cs ≡ purges_at who now tokens)
+abbrev pub Tells : Turns → Task → Content → List Command → Streams → Type 0
+Tells tells (Change c) V cs s = IsQuiet s × AreFirst cs (c ∷ []) ⊎ (cs ≡ c ∷ []) × (reply V c ≡ Done)
+Tells tells (Give rights now) V cs s = IsQuiet s × AreFirst cs (grants_at now rights.items)
+    ⊎ (cs ≡ grants_at now rights.items) × AreDone (length cs) cs V
+Tells tells (Settle rights now) V cs s =
+    IsQuiet s × AreFirst cs (changes_at true now rights.items (rights_of V))
+    ⊎ (cs ≡ changes_at true now rights.items (rights_of V)) × AreDone (length cs) cs V
+Tells tells (Sweep who now giver) V cs s = (tokens : List Bytes) × (cs ≡ purges_at who now tokens)
     × AreSwept who now tokens V × (IsQuiet s ⊎ (left_dead who now tokens V ≡ []))
     × ((tokens ≡ []) × IsQuiet s ⊎ MaySweep giver V who.merchant now)
-Tells (Batch who now digits) V cs s = (asked : List Asked) × All (Asks who) asked
-    × (cs ≡ commands_of asked) × AreRead now digits s asked
+Tells tells (Batch who now digits) V cs s = (asked : List Asked) × All (Asks who) asked
+    × (cs ≡ commands_of asked) × AreRead tells now digits s asked
     × ((sent : ℕ) × Appends s.sent_old s.sent_new (take sent (first_line ++ lines V asked)))
-Tells (Pipe now digits) V cs s = AreAnswered now digits V cs s
-Tells (Serve port connections None) V cs s = AllAnswer V s.links cs
-Tells (Serve port connections (Some it)) V cs s =
+Tells tells (Pipe now digits) V cs s = AreAnswered tells now digits V cs s
+Tells tells (Serve port connections None) V cs s = AllAnswer tells V s.links cs
+Tells tells (Serve port connections (Some it)) V cs s =
     (let changes = changes_at true it.now it.rights.items (rights_of V) in
     ((k : ℕ) × (cs ≡ take k changes) × (s.links ≡ []))
     ⊎ ((more : List Command) × (cs ≡ changes ++ more) × AreDone (length changes) changes V
-    × AllAnswer (run changes V) s.links more))
-Tells (Show it) V cs s =
+    × AllAnswer tells (run changes V) s.links more))
+Tells tells (Show it) V cs s =
     (cs ≡ []) × ((sent : ℕ) × Appends s.sent_old s.sent_new (take sent (shown_text it V)))
+
+-- The message behind those of these commands asks for this one: it was read, and isn't answered.
+abbrev pub IsAskedNext : Turns → Option ℕ → Option (List ℕ) → Streams → List Command → Command → Type 0
+IsAskedNext tells now digits s cs x = (xs : List (engine.Asked Parts)) × (it : engine.Asked Parts)
+    × (cs ≡ commands_of xs) × (it.wanted ≡ Ok x)
+    × ((heard : AreHeard tells now digits s xs) × (heard.more ≡ it ∷ []))
+
+-- so on the last connection
+abbrev pub IsLastNext : Turns → List (Option Link) → Command → Type 0
+IsLastNext tells links x = (first : List (Option Link)) × (link : Link) × (cs : List Command)
+    × (links ≡ first ++ Some link ∷ []) × IsAskedNext tells None None (streams_of link) cs x
+
+-- A command that a task didn't answer, and that may be done: it was asked for. It is the one of the words,
+-- the next one of a list, or the purge of the next dead token; or the next row that came in, or message, asks
+-- for it.
+abbrev pub IsNext : Turns → Task → Content → List Command → Streams → Command → Type 0
+IsNext tells (Change c) V cs s x = x ≡ c
+IsNext tells (Give rights now) V cs s x = AreFirst (cs ++ x ∷ []) (grants_at now rights.items)
+IsNext tells (Settle rights now) V cs s x =
+    AreFirst (cs ++ x ∷ []) (changes_at true now rights.items (rights_of V))
+IsNext tells (Sweep who now giver) V cs s x = (tokens : List Bytes) × (token : Bytes)
+    × (cs ≡ purges_at who now tokens) × (x ≡ purge_at who now token)
+    × Begin (token ∷ []) (left_dead who now tokens V)
+IsNext tells (Batch who now digits) V cs s x = (rows : List Asked) × (it : Asked) × (cs ≡ commands_of rows)
+    × Asks who it × (it.wanted ≡ Ok x)
+    × BeginRecordsOf s.left_old (records_with (rows_of rows) ++ fields_in it.unit ∷ [])
+IsNext tells (Pipe now digits) V cs s x = IsAskedNext tells now digits s cs x
+IsNext tells (Serve port connections None) V cs s x = IsLastNext tells s.links x
+IsNext tells (Serve port connections (Some it)) V cs s x =
+    AreFirst (cs ++ x ∷ []) (changes_at true it.now it.rights.items (rights_of V))
+    ⊎ IsLastNext tells s.links x
+IsNext tells (Show it) V cs s x = ⊥

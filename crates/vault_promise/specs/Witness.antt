@@ -9,11 +9,12 @@ use Rattle.vault_wire.specs.declared.watched.Watched.{Watched}
 use Rattle.vault_jobs.specs.Streams.{Known, streams, with_links}
 use Rattle.vault_app.specs.Jobs.{RunsAs}
 use Rattle.vault_app.specs.World.{World}
-use Rattle.vault_promise.specs.Runs.{IsFound, Leaves, Run}
+use Rattle.vault_promise.specs.Runs.{IsFound, Leaves, Run, told_by}
 
 -- The run is what a call with these words, over these streams, in this world, did by the clause of `run`. Its
--- file held the bytes with which the run begins, and what may be left now may be left of the files that it
--- left. It ended with this status, and the network told its connections.
+-- clock tells no other moments than the run's. Its file held the bytes with which the run begins, and what
+-- may be left now may be left of the files that it left. It ended with this status, and the network told its
+-- connections.
 module _ {D R W E : Type 0} (g : Ghosts D) (remaining : R → Known) (contents : W → Known) (said : E → Known)
     (told_old told_new : List Event → Type 0) (world : World) (words : List Text) (status : ℕ)
     (i i' : Watched R) (o o' : Watched W) (e e' : Watched E) where
@@ -26,8 +27,10 @@ module _ {D R W E : Type 0} (g : Ghosts D) (remaining : R → Known) (contents :
     pub is : r ≡ record {
       begins = r.begins;
       words = words;
+      moments = r.moments;
       ending = does.ending;
       streams = with_links (streams remaining i i' contents o told) links;
     }
+    pub tells : (turn now : ℕ) → world.tells turn now → told_by r.moments turn now
     pub found : IsFound words (λ path. world.holds path r.begins)
     pub leaves : (next : Image) → MayBeLeft next → Leaves r.begins left next

@@ -2,6 +2,7 @@
 
 use sqlite::{Connection, FileStore, Files};
 use sqlite_disk::Memory;
+use std::alloc::AllocError;
 use std::io;
 use std::io::ErrorKind;
 use vault_file::paths::{Paths, is_no_path};
@@ -14,7 +15,7 @@ pub struct MemoryPaths {
     pub(crate) files: Files<Memory>,
 }
 
-/// The bytes are those of the files, whichever path is named; and nothing else is told.
+/// The bytes are those of the files, whichever path is named, and no path lacks them; nothing else is told.
 impl Paths for MemoryPaths {
     ghost use Rattle.std.specs.Prelude.{◌≡◌};
     ghost use Rattle.vault_promise.specs.Memory.{bytes_in};
@@ -23,7 +24,7 @@ impl Paths for MemoryPaths {
 
     ghost holds = { λ paths _ image. image ≡ bytes_in paths.files };
 
-    ghost lacks = { λ _ _. Unit {0} };
+    ghost lacks = { λ _ _. ⊥ };
 
     ghost refuses = { λ _ _. Unit {0} };
 
@@ -31,12 +32,12 @@ impl Paths for MemoryPaths {
 
     ghost logs = { λ _ _ _. Unit {0} };
 
-    fn is_missing(&self, _rt: &HostRuntime, _path: &str) -> bool {
-        false
+    fn is_empty(&self, _rt: &HostRuntime, _path: &str) -> Result<bool, AllocError> {
+        Ok(false)
     }
 
-    fn has_log(&self, _rt: &HostRuntime, _path: &str) -> bool {
-        true
+    fn has_log(&self, _rt: &HostRuntime, _path: &str) -> Result<bool, AllocError> {
+        Ok(true)
     }
 
     fn read(&self, _rt: &HostRuntime, _path: &str) -> io::Result<Vec<u8>> {

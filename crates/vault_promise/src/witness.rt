@@ -1,12 +1,12 @@
 //! A call of the program, after the runs before it.
-ghost use Rattle.std.specs.Prelude.{◌≡◌, IfSome, map};
+ghost use Rattle.std.specs.Prelude.{◌≡◌, ℕ, IfSome, map};
 ghost use Rattle.sqlite_wal.specs.Recovery.{Image};
 ghost use Rattle.vault_app.specs.World.{World, world_of};
 ghost use Rattle.vault_core.specs.Vault.{Vault};
 ghost use Rattle.vault_promise.specs.Between.{files_kept};
 ghost use Rattle.vault_promise.specs.Kept.{AgreesWith, GoesOn, StandsAfter};
 ghost use Rattle.vault_promise.specs.Memory.{MayBeLeftIn, bytes_in, memory_world};
-ghost use Rattle.vault_promise.specs.Runs.{IsFound, IsRun, Leaves, Run};
+ghost use Rattle.vault_promise.specs.Runs.{IsFound, IsRun, Leaves, Moments, Run, told_by};
 ghost use Rattle.vault_promise.specs.Witness.{IsCallOf};
 
 use crate::kept::{KeptFiles, files_of};
@@ -24,8 +24,8 @@ use vault_wire::watched::Watched;
 
 /// Runs the program, and answers its exit status and the files that it leaves.
 ///
-/// By the promise this call is a run: from whatever bytes its file holds, up to whatever bytes may be left of
-/// the files.
+/// By the promise this call is a run: from whatever bytes its file holds, with whatever moments its clock
+/// tells, up to whatever bytes may be left of the files.
 pub fn run_again<P: Paths, K: Timekeeper, N: Network, A: AsStr, R: Read, W: Write, E: Write>(
     rt: &HostRuntime,
     paths: P,
@@ -39,8 +39,10 @@ pub fn run_again<P: Paths, K: Timekeeper, N: Network, A: AsStr, R: Read, W: Writ
     ensures { let world : World =
         world_of (K.tells time.now) (P.holds paths) (P.lacks paths) (P.refuses paths) (P.says paths)
         (P.logs paths) in
-        (image : Image) → IsFound (map A.text words.now) (λ path. P.holds paths path image)
-        → (r : Run) × (r.begins ≡ image)
+        (image : Image) (moments : Moments)
+        → ((turn now : ℕ) → K.tells time.now turn now → told_by moments turn now)
+        → IsFound (map A.text words.now) (λ path. P.holds paths path image)
+        → (r : Run) × (r.begins ≡ image) × (r.moments ≡ moments)
         × IsCallOf P.Disk.Disk R.remaining W.contents E.contents (N.tells network.old) (N.tells network.new)
         world (map A.text words.now) result.0 input.old input.new output.old output.new errors.old
         errors.new (Leaves image result.1) r

@@ -1,6 +1,6 @@
 //! The log beside a file.
 use crate::blank::names::log_name;
-use std::alloc::Alloc;
+use std::alloc::{Alloc, AllocError};
 use std::fs::Files;
 use std::io::ErrorKind;
 use std::{fs, io};
@@ -15,10 +15,15 @@ fn log_length<R: Files + Alloc>(rt: &R, path: &str) -> io::Result<u64> {
     Ok(fs::symlink_metadata(rt, name.as_str())?.len())
 }
 
-/// Whether something stands in the log beside the file at a path. Where that can't be told, it is taken to.
-pub fn has_log<R: Files + Alloc>(rt: &R, path: &str) -> bool {
+/// Whether something stands in the log beside the file at a path. Where that can't be told, it is taken to;
+/// but it fails where memory is refused.
+pub fn has_log<R: Files + Alloc>(rt: &R, path: &str) -> Result<bool, AllocError> {
     match log_length(rt, path) {
-        Ok(length) => length > 0,
-        Err(error) => error.kind() != ErrorKind::NotFound,
+        Ok(length) => Ok(length > 0),
+        Err(error) => match error.kind() {
+            ErrorKind::NotFound => Ok(false),
+            ErrorKind::OutOfMemory => Err(AllocError),
+            _ => Ok(true),
+        },
     }
 }

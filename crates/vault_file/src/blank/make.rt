@@ -9,9 +9,10 @@ ghost use Rattle.std.specs.Fs.{permissions_mode};
 ghost use Rattle.std.specs.IoError.{error_kind};
 
 use crate::blank::lock::Lock;
+use crate::blank::log::has_log;
 use crate::blank::names::{folder_of, second_name};
 use crate::blank::page::write_blank;
-use std::alloc::Alloc;
+use std::alloc::{Alloc, AllocError};
 use std::fs::{Files, Metadata, OpenFile, OpenOptions, Permissions};
 use std::io::ErrorKind;
 use std::os::unix::fs::{MetadataExt, OpenOptionsExt, PermissionsExt};
@@ -48,14 +49,24 @@ fn named<R: Files>(files: &R, name: &str) -> io::Result<Option<Metadata>> {
     }
 }
 
-/// Whether nothing has the name, in a folder that is there.
-pub fn is_missing<R: Files>(files: &R, path: &str) -> bool {
-    match named(files, path) {
-        Ok(None) => match fs::metadata(files, folder_of(path)) {
-            Ok(folder) => folder.is_dir(),
-            Err(_) => false,
+/// Whether nothing has the name, in a folder that is there; or a file without a byte and without a log has it,
+/// or stands where a link of this name leads.
+fn has_no_byte<R: Files + Alloc>(rt: &R, path: &str) -> io::Result<bool> {
+    if named(rt, path)?.is_none() {
+        return Ok(fs::metadata(rt, folder_of(path))?.is_dir());
+    }
+    let found = fs::metadata(rt, path)?;
+    Ok(found.is_file() && found.len() == 0 && !has_log(rt, path)?)
+}
+
+/// The same, and false where it can't be told; but it fails where memory is refused.
+pub fn is_empty<R: Files + Alloc>(rt: &R, path: &str) -> Result<bool, AllocError> {
+    match has_no_byte(rt, path) {
+        Ok(empty) => Ok(empty),
+        Err(error) => match error.kind() {
+            ErrorKind::OutOfMemory => Err(AllocError),
+            _ => Ok(false),
         },
-        Ok(Some(_)) | Err(_) => false,
     }
 }
 

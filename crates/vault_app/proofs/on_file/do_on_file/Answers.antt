@@ -1,4 +1,6 @@
-use Rattle.std.proofs.Common.{◌≡◌, [], Some, ap, inr, refl, subst, sym, ◌∙◌}
+use Rattle.std.proofs.Common.{◌≡◌, [], Some, ap, inl, inr, refl, subst, sym, ◌∙◌}
+use Rattle.vault_file.specs.declared.fault.NotOpened.TheVariants as file
+use Rattle.vault_verdict.specs.declared.fault.OpenFault.TheVariants.{Memory}
 use Rattle.vault_jobs.proofs.Parts.{unlinked}
 use Rattle.vault_jobs.specs.Streams.{Streams, streams, with_links}
 use Rattle.vault_listen.proofs.ServedConnections.{none_then}
@@ -9,28 +11,48 @@ use Rattle.vault_app.specs.Files.{EndsOnFile}
 use Rattle.vault_app.specs.World.{World, world_at}
 use Rattle.vault_app.proofs.on_file.do_on_file.Goals as goal
 
-pub returns-in-Err : goal.returns-in-Err
-returns-in-Err g c =
+pub returns-in-Err-open_vault : goal.returns-in-Err-open_vault
+returns-in-Err-open_vault g c =
     let world : World = world_at g.P.Paths (g.K.Timekeeper.tells c.args.time.now) c.args.paths in
     let s : Streams = with_links (streams g.R.Read.remaining c.args.input.now c.args.input.now
     g.W.Write.contents c.args.output.now c.args.output.now) [] in
-    let told = c.in-Err.ensures in
+    let told = c.in-Err-open_vault.ensures in
     record {
       does = unlinked (g.N.Network.tells c.args.network.now) _ (refused_file world c.args.path.now
-          (c.args.input.now ≡ c.args.input.now) (c.args.output.now ≡ c.args.output.now) s c.in-Err.left
-          c.args.task.now c.in-Err.fault told.refused told.refused_there told.spared told.tells told.left
+          (c.args.input.now ≡ c.args.input.now) (c.args.output.now ≡ c.args.output.now) s c.in-Err-open_vault.left
+          c.args.task.now c.in-Err-open_vault.fault told.refused told.refused_there told.spared told.tells told.left
           told.same refl refl);
     }
 
-pub returns-then-is_missing : goal.returns-then-is_missing
-returns-then-is_missing g c =
+pub returns-in-Ok-true : goal.returns-in-Ok-true
+returns-in-Ok-true g c =
     record {
       does = (
         [],
         none_then (g.N.Network.tells c.args.network.now),
         (
+          file.Refused,
           refl,
-          inr (c.only_shows.ensures c.if-only_shows.true, c.is_missing.ensures c.if-is_missing.true),
+          inl (
+            refl,
+            inr (c.only_shows.ensures c.if-only_shows.true, c.in-Ok-true.ensures c.in-Ok-true.field-0-test),
+          ),
+          refl,
+          refl,
+        ),
+      );
+    }
+
+pub returns-in-Err : goal.returns-in-Err
+returns-in-Err g c =
+    record {
+      does = (
+        [],
+        none_then (g.N.Network.tells c.args.network.now),
+        (
+          file.Fault Memory,
+          refl,
+          inr (refl, c.only_shows.ensures c.if-only_shows.true),
           refl,
           refl,
         ),

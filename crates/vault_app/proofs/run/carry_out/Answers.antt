@@ -1,11 +1,13 @@
-use Rattle.std.proofs.Common.{refl}
+use Rattle.std.proofs.Common.{Err, inr, refl, true}
+use Rattle.vault_file.specs.declared.fault.NotOpened.TheVariants as file
+use Rattle.vault_verdict.specs.declared.fault.OpenFault.TheVariants.{Memory}
 use Rattle.vault_jobs.proofs.Parts.{unlinked}
-use Rattle.vault_app.proofs.Files.{checked, moved}
+use Rattle.vault_app.proofs.Files.{checked, if_ok, moved}
 use Rattle.vault_app.specs.World.{World, world_at}
 use Rattle.vault_app.proofs.run.carry_out.Goals as goal
 
-pub returns-in-Check : goal.returns-in-Check
-returns-in-Check g c =
+pub returns-in-Ok : goal.returns-in-Ok
+returns-in-Ok g c =
     let world : World = world_at g.P.Paths (g.K.Timekeeper.tells c.args.time.now) c.args.paths in
     let told = c.check_file-checked.ensures in
     let is = checked world c.in-Check.path.now c.check_file-checked.result.1 c.check_file-checked.result.0
@@ -16,9 +18,16 @@ returns-in-Check g c =
         (
           c.check_file-checked.result.0,
           is,
-          (c.has_log-has_log.result, c.has_log-has_log.ensures, c.tell_sizes.ensures),
+          (c.in-Ok.has_log, if_ok c.check_file-checked.result.0 c.in-Ok.ensures, c.tell_sizes.ensures),
         ),
       );
+    })
+
+pub returns-in_default : goal.returns-in_default
+returns-in_default g c =
+    rw c.in-Check.is (record {
+      does = unlinked (g.N.Network.tells c.args.network.now) _
+          (refl, (Err (file.Fault Memory), inr refl, (true, tt, (refl, refl))));
     })
 
 pub returns-in-Migrate : goal.returns-in-Migrate

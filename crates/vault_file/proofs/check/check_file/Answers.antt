@@ -30,8 +30,8 @@ returns-in-Err-default-Some-clause-spared g c image holds clean =
     omega (arith, c.close-in-Err-default-Some.ensures.clean, clean) in
     (rw c.in-Err-default-Some.field-0-1-is at c.in-Err-default-Some.ensures.spared) image holds was
 
-pub returns-then-is_missing-clause-empty : goal.returns-then-is_missing-clause-empty
-returns-then-is_missing-clause-empty g c = λ _. (no_sizes, c.is_missing.ensures c.if-is_missing.true)
+pub returns-in-Ok-true-clause-empty : goal.returns-in-Ok-true-clause-empty
+returns-in-Ok-true-clause-empty g c = λ _. (no_sizes, c.in-Ok-true.ensures c.in-Ok-true.field-0-test)
 
 pub returns-in-Ok-clause-same : goal.returns-in-Ok-clause-same
 returns-in-Ok-clause-same g c image holds =

@@ -1,4 +1,4 @@
-use Rattle.std.proofs.Common.{[], ◌∷◌, ◌++◌, inl, refl}
+use Rattle.std.proofs.Common.{[], ◌∷◌, ◌++◌, inl, refl, true}
 use Rattle.std.proofs.Math.Logic.{∥∥₁_map}
 use Rattle.vault_promise.proofs.JoinedRuns.{agrees_with, stands_after}
 use Rattle.vault_promise.proofs.Witnessing.{goes_from, leaves_closed}
@@ -10,7 +10,8 @@ returns-in-Some-clause-follows g c =
     let image = bytes_in c.args.self.files in
     let leaves = leaves_closed image c.run_again-status.result.1 c.in-Some.store c.in-Some.is
     (c.files_of.ensures.clean refl) (MayBeLeftIn c.files_of.result) (c.files_of.ensures.left refl) in
-    let (r, begins, call, is_run) = c.run_again-status.ensures image (λ job path asked named. refl) in
+    let (r, begins, moments, call, is_run) = c.run_again-status.ensures image (λ turn now. true)
+    (λ turn now told. refl) (λ job path asked named. refl) in
     let goes = goes_from (MayBeLeftIn c.args.self.files) (MayBeLeftIn c.files_of.result) image r begins
     (inl refl, inl refl) (λ next may. is_run next (leaves next may)) in (
       r,
@@ -22,6 +23,7 @@ returns-in-Some-clause-follows g c =
         came = call.came;
         does = call.does;
         is = call.is;
+        tells = call.tells;
         found = call.found;
         leaves = λ next may. call.leaves next (leaves next may);
       },
@@ -34,7 +36,8 @@ invariant_of-result g c =
     let image = bytes_in c.args.self.files in
     let leaves = leaves_closed image c.run_again-status.result.1 c.in-Some.store c.in-Some.is
     (c.files_of.ensures.clean refl) (MayBeLeftIn c.files_of.result) (c.files_of.ensures.left refl) in
-    let (r, begins, call, is_run) = c.run_again-status.ensures image (λ job path asked named. refl) in
+    let (r, begins, moments, call, is_run) = c.run_again-status.ensures image (λ turn now. true)
+    (λ turn now told. refl) (λ job path asked named. refl) in
     let goes = goes_from (MayBeLeftIn c.args.self.files) (MayBeLeftIn c.files_of.result) image r begins
     (inl refl, inl refl) (λ next may. is_run next (leaves next may)) in
     record { kept = ∥∥₁_map c.args.self.kept (λ (V, rs, have). (V, rs ++ r ∷ [], goes V rs have)) }

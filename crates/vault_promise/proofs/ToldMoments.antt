@@ -1,0 +1,76 @@
+-- What is answered is answered at moments that were told.
+use Rattle.std.proofs.Common.{◌≡◌, ◌+◌, ℕ, List, [], ◌∷◌, ◌++◌, Option, Some, None, inl, inr, sym, ap, subst}
+use Rattle.std.proofs.Common.{◌∙◌, append-nil, append_assoc, arith, length, suc}
+use Rattle.std.proofs.Math.Logic.{∥∥₁_map}
+use Rattle.sqlite_wal.specs.Recovery.{Image}
+use Rattle.vault_core.specs.Runs.{run}
+use Rattle.vault_core.specs.Vault.{Vault as Content}
+use Rattle.vault_core.specs.declared.command.Command.{Command}
+use Rattle.vault_engine.specs.Answered.{pairs_of}
+use Rattle.vault_engine.specs.Asking.{Asked, vault_after}
+use Rattle.vault_listen.specs.Live.{AreGiven, AreTold, Turns}
+use Rattle.vault_listen.specs.Peers.{Link}
+use Rattle.vault_jobs.specs.Streams.{Streams}
+use Rattle.vault_jobs.specs.declared.task.Task.{Task}
+use Rattle.vault_jobs.specs.declared.task.Task.TheVariants as task
+use Rattle.vault_promise.proofs.WentOut.{went_out}
+use Rattle.vault_promise.specs.Sentences.{AllTold, EachTold, IsAnything, LinksTold, MomentsAreTold, TaskTold}
+use Rattle.vault_promise.specs.Sentences.{LinksTell, WentOut}
+use Rattle.vault_promise.specs.Runs.{Come, Run, RunsComeToHistories, told_by}
+
+told_at : {X : Type 0} (tells : Turns) (turn : ℕ) (first more : List (Asked X)) (x : Asked X)
+    → AreTold tells turn (pairs_of (first ++ x ∷ more)) → tells (turn + length first) x.pair.0
+told_at tells turn [] more x told =
+    let same : turn ≡ turn + 0 = omega arith in subst (λ n. tells n x.pair.0) same told.0
+told_at tells turn (y ∷ first) more x told =
+    let same : turn + 1 + length first ≡ turn + suc (length first) = omega arith in
+    subst (λ n. tells n x.pair.0) same (told_at tells (turn + 1) first more x told.1)
+
+each_told : {X : Type 0} (tells : Turns) (now : Option ℕ) (digits : Option (List ℕ))
+    (xs rest : List (Asked X)) → AreGiven tells now digits (pairs_of (xs ++ rest)) → EachTold tells now xs
+each_told tells now digits xs rest given = λ free first more x is.
+    let told = told_at tells 0 first (more ++ rest) x
+    (subst (λ ys. AreTold tells 0 (pairs_of ys))
+    (ap (λ ys. ys ++ rest) is ∙ append_assoc first (x ∷ more) rest) (given.told free)) in
+    let same : 0 + length first ≡ length first = omega arith in subst (λ n. tells n x.pair.0) same told
+
+links_told : (tells : Turns) (W : Content) (xs : List (Option Link)) (it : LinksTell tells W xs IsAnything)
+    → LinksTold tells W xs it
+links_told tells W [] it = tt
+links_told tells W (None ∷ xs) it = links_told tells W xs it
+links_told tells W (Some x ∷ xs) (it, all) = (
+  each_told tells None None it.exchanges it.heard.more it.heard.given,
+  links_told tells (vault_after W it.exchanges) xs all,
+)
+
+task_told : (tells : Turns) (t : Task) (W : Content) (cs : List Command) (s : Streams)
+    (it : WentOut tells t W cs s IsAnything) → TaskTold tells t W cs s it
+task_told tells (task.Change c) W cs s it = tt
+task_told tells (task.Give rights now) W cs s it = tt
+task_told tells (task.Settle rights now) W cs s it = tt
+task_told tells (task.Sweep who now giver) W cs s it = tt
+task_told tells (task.Batch who now digits) W cs s it = each_told tells now digits it.rows []
+    (subst (λ xs. AreGiven tells now digits (pairs_of xs)) (sym (append-nil it.rows)) it.read.given)
+task_told tells (task.Pipe now digits) W cs s it =
+    each_told tells now digits it.exchanges it.heard.more it.heard.given
+task_told tells (task.Serve port connections None) W cs s it = links_told tells W s.links it
+task_told tells (task.Serve port connections (Some list)) W cs s (inl none) = tt
+task_told tells (task.Serve port connections (Some list)) W cs s (inr (done, it)) =
+    links_told tells _ s.links it
+task_told tells (task.Show it) W cs s shown = tt
+
+pub all_told : (V : Content) (c : Option Command) (rs : List Run) (end : Image) (come : Come V c rs end)
+    → AllTold V c rs end come
+all_told V c [] end come = tt
+all_told V c (r ∷ rs) end (inl w, more) =
+    let went = went_out (told_by r.moments) w.task w.opened w.answered r.streams IsAnything
+    (λ first rest x is. tt) w.tells in (
+      w.asked,
+      (went, task_told (told_by r.moments) w.task w.opened w.answered r.streams went),
+      all_told (run w.answered w.opened) w.undecided rs end more,
+    )
+all_told V c (r ∷ rs) end (inr rests, more) = all_told V c rs end more
+
+pub moments_told : RunsComeToHistories → MomentsAreTold
+moments_told come rs end V sound of runs =
+    ∥∥₁_map (come rs end V sound of runs) (λ it. (it.0, all_told V None rs end it.0))

@@ -1,0 +1,106 @@
+-- What went out of a task, by the commands that it answered.
+use Rattle.std.proofs.Common.{◌≡◌, ℕ, List, [], ◌∷◌, ◌++◌, Option, Some, None}
+use Rattle.std.proofs.Common.{inl, inr, sym, ap, subst, ◌∙◌, append_assoc, true, length}
+use Rattle.std.proofs.Math.Seq.{take-length}
+use Rattle.vault_core.specs.Runs.{run}
+use Rattle.vault_core.specs.Vault.{Vault as Content}
+use Rattle.vault_core.specs.declared.command.Command.{Command}
+use Rattle.vault_engine.specs.Asking.{Asked, commands_in, commands_of}
+use Rattle.vault_listen.specs.Live.{Turns}
+use Rattle.vault_listen.specs.Peers.{Link}
+use Rattle.vault_jobs.specs.Changes.{changes_at, rights_of}
+use Rattle.vault_jobs.specs.Streams.{Streams}
+use Rattle.vault_jobs.specs.declared.task.Task.{Task}
+use Rattle.vault_jobs.specs.declared.task.Task.TheVariants as task
+use Rattle.vault_promise.proofs.PipedMessages.{as_run, commands-append, run_append}
+use Rattle.vault_promise.specs.Sentences.{EachAsked, LinksTell, TextsTell, WentOut}
+use Rattle.vault_promise.specs.Told.{AllAnswer, AreAnswered, AreFirst, Tells, streams_of}
+
+-- of each of these commands this is true, at the vault that those before it leave
+abbrev pub EachOf : Content → List Command → (Content → Command → Type 0) → Type 0
+EachOf W cs Is = (first more : List Command) (x : Command) → cs ≡ first ++ x ∷ more → Is (run first W) x
+
+each_asked : {X : Type 0} (W : Content) (cs : List Command) (xs : List (Asked X))
+    (Is : Content → Command → Type 0) → EachOf W cs Is → cs ≡ commands_of xs → EachAsked W xs Is
+each_asked W cs xs Is each are = λ first more it x is wanted.
+    subst (λ U. Is U x) (sym (as_run W first))
+    (each (commands_of first) (commands_of more) x
+    (are ∙ ap commands_of is ∙ commands-append first (it ∷ more)
+    ∙ ap (λ w. commands_of first ++ (commands_in w ++ commands_of more)) wanted))
+
+-- so of the first ones
+each_first : (W : Content) (cs first more : List Command) (Is : Content → Command → Type 0)
+    → cs ≡ first ++ more → EachOf W cs Is → EachOf W first Is
+each_first W cs first more Is is each = λ front behind x here.
+    each front (behind ++ more) x (is ∙ ap (λ ds. ds ++ more) here ∙ append_assoc front (x ∷ behind) more)
+
+-- and of the later ones
+each_later : (W : Content) (cs first more : List Command) (Is : Content → Command → Type 0)
+    → cs ≡ first ++ more → EachOf W cs Is → EachOf (run first W) more Is
+each_later W cs first more Is is each = λ front behind x here.
+    subst (λ U. Is U x) (run_append first front W)
+    (each (first ++ front) behind x
+    (is ∙ ap (λ ds. first ++ ds) here ∙ sym (append_assoc first front (x ∷ behind))))
+
+texts_tell : (tells : Turns) (now : Option ℕ) (digits : Option (List ℕ)) (W : Content) (cs : List Command)
+    (s : Streams) (Is : Content → Command → Type 0) → EachOf W cs Is
+    → (it : AreAnswered tells now digits W cs s) → TextsTell tells now digits W s Is
+texts_tell tells now digits W cs s Is each (xs, are, heard, (fault, sent, went)) = record {
+  exchanges = xs;
+  heard = heard;
+  fault = fault;
+  sent = sent;
+  went = went;
+  each = each_asked W cs xs Is each are;
+}
+
+links_tell : (tells : Turns) (xs : List (Option Link)) (W : Content) (cs : List Command)
+    (Is : Content → Command → Type 0) → EachOf W cs Is → AllAnswer tells W xs cs → LinksTell tells W xs Is
+unfolding texts_tell
+links_tell tells [] W cs Is each told = tt
+links_tell tells (None ∷ xs) W cs Is each told = links_tell tells xs W cs Is each told
+links_tell tells (Some x ∷ xs) W cs Is each (first, more, is, here, rest) = (
+  texts_tell tells None None W first (streams_of x) Is (each_first W cs first more Is is each) here,
+  subst (λ U. LinksTell tells U xs Is) (ap (λ ds. run ds W) here.1 ∙ sym (as_run W here.0))
+      (links_tell tells xs (run first W) more Is (each_later W cs first more Is is each) rest),
+)
+
+-- all are the first so many
+all_first : (cs all : List Command) → cs ≡ all → AreFirst cs all
+all_first cs all is = (length all, is ∙ sym (take-length all))
+
+pub went_out : (tells : Turns) (t : Task) (W : Content) (cs : List Command) (s : Streams)
+    (Is : Content → Command → Type 0) → EachOf W cs Is → Tells tells t W cs s → WentOut tells t W cs s Is
+went_out tells (task.Change c) W cs s Is each (inl (quiet, first)) = (inl quiet, first)
+went_out tells (task.Change c) W cs s Is each (inr (is, done)) = (inr (is, done), (1, is))
+went_out tells (task.Give rights now) W cs s Is each (inl (quiet, first)) = (inl quiet, first)
+went_out tells (task.Give rights now) W cs s Is each (inr (is, done)) = (inr (is, done), all_first cs _ is)
+went_out tells (task.Settle rights now) W cs s Is each (inl (quiet, first)) = (inl quiet, first)
+went_out tells (task.Settle rights now) W cs s Is each (inr (is, done)) = (inr (is, done), all_first cs _ is)
+went_out tells (task.Sweep who now giver) W cs s Is each (tokens, is, swept, inl quiet, inl (few, calm)) =
+    (inl quiet, (tokens, is, swept, inl few))
+went_out tells (task.Sweep who now giver) W cs s Is each (tokens, is, swept, inl quiet, inr may) =
+    (inl quiet, (tokens, is, swept, inr may))
+went_out tells (task.Sweep who now giver) W cs s Is each (tokens, is, swept, inr none, inl (few, calm)) =
+    (inl calm, (tokens, is, swept, inl few))
+went_out tells (task.Sweep who now giver) W cs s Is each (tokens, is, swept, inr none, inr may) =
+    (inr (may, (tokens, is, none)), (tokens, is, swept, inr may))
+went_out tells (task.Batch who now digits) W cs s Is each (xs, asked, are, read, (sent, went)) = record {
+  rows = xs;
+  asked = asked;
+  read = read;
+  sent = sent;
+  went = went;
+  each = each_asked W cs xs Is each are;
+}
+went_out tells (task.Pipe now digits) W cs s Is each told = texts_tell tells now digits W cs s Is each told
+went_out tells (task.Serve port connections None) W cs s Is each told =
+    links_tell tells s.links W cs Is each told
+went_out tells (task.Serve port connections (Some it)) W cs s Is each (inl (k, is, none)) = inl none
+went_out tells (task.Serve port connections (Some it)) W cs s Is each (inr (more, is, done, told)) =
+    let changes : List Command = changes_at true it.now it.rights.items (rights_of W) in
+    inr (
+      done,
+      links_tell tells s.links (run changes W) more Is (each_later W cs changes more Is is each) told,
+    )
+went_out tells (task.Show it) W cs s Is each told = told
