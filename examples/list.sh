@@ -15,6 +15,12 @@ step "and isn't made" 'no' "$([ -e none.db ] && echo yes || echo no)"
 step "nor is it compared with a list" 'vault: file not opened 34 (3)' \
     "$(: > empty.toml; told "$program" rights --dry-run none.db empty.toml)"
 
+: > blank.db
+step "one without a byte isn't listed" 'vault: file not opened 34 (3)' "$(told "$program" list blank.db)"
+step "nor compared with a list" 'vault: file not opened 34 (3)' \
+    "$(told "$program" rights --dry-run blank.db empty.toml)"
+step "and stays without a byte, and without a log" 'blank.db 0' "$(echo blank.db*) $(wc -c < blank.db)"
+
 step "two merchants" 'done (0)' "$(told "$program" merchant --now 1000 vault.db shop2 60 0)"
 step "in no order" 'done (0)' "$(told "$program" merchant --now 2000 --lead 8 vault.db shop1 60 120)"
 cat > rights.toml << 'END_OF_RIGHTS'

@@ -20,6 +20,9 @@ mode() {
 # 0
 step "0: a file that isn't there" 'sound 0 0 0 (0)' "$(checked new.db)"
 step "0: and still isn't" 'no' "$([ -e new.db ] && echo yes || echo no)"
+: > blank.db
+step "0: a file without a byte" 'sound 0 0 0 (0)' "$(checked blank.db)"
+step "0: which isn't written, and gets no log" 'blank.db 0' "$(echo blank.db*) $(wc -c < blank.db)"
 step "0: it is made" 'schema 4 (0)' "$(told "$program" migrate new.db)"
 step "0: help" 'Keeps card numbers*' "$(told "$program" help)"
 step "0: the version" 'vault 0.4.0, schema 4 (0)' "$(told "$program" --version)"
@@ -120,8 +123,8 @@ for mask in 000 0777; do
 done
 : > open.db
 chmod 644 open.db
-step "an existing file keeps its mode" 'sound 0 0 0 -rw-r--r--' \
-    "$("$program" check open.db) $(mode open.db)"
+step "an existing file keeps its mode" 'schema 4 -rw-r--r--' \
+    "$("$program" migrate open.db) $(mode open.db)"
 
 # The log of a file
 step "a file alone says nothing of a log" 'sound 0 0 0 (0)' \
