@@ -37,8 +37,8 @@ pub type Closed<P, X> = (Result<X, NotOpened>, Option<FileStore<<P as Paths>::Di
 /// The paths of a host, and what stands at them.
 ///
 /// Contracts see what is told of a path: which bytes its database file and its log hold, that it has no file
-/// or one without a byte, that its files may not be opened, which text its file is, and whether it has a log. Code over any
-/// `Paths` is told each of these by a call for this very path alone.
+/// or one without a byte, that its files may not be opened, which text its file is, and whether it has a log.
+/// Code over any `Paths` is told each of these by a call for this very path alone.
 pub trait Paths: Drop {
     ghost use Rattle.std.specs.Prelude.{ℕ, Bool, List};
     ghost use Rattle.sqlite_wal.specs.Recovery.{Image};
