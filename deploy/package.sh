@@ -29,8 +29,8 @@ for unit in vault.service vault-failed.service \
     vault-exporter.service; do
     place 644 "$here/$unit" "/lib/systemd/system/$unit"
 done
-for step in pause room port listens answers watch thaw alarm counted backup-now backup.sh restore.sh \
-    again.sh exporter.py; do
+for step in pause jumped room port listens answers watch thaw alarm counted moments backup-now backup.sh \
+    restore.sh again.sh exporter.py; do
     place 755 "$here/$step" "/usr/lib/vault/$step"
 done
 place 755 "$here/vault-look" /usr/bin/vault-look

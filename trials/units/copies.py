@@ -158,6 +158,20 @@ sleep 2; answers 5; ! wait $copy; [ $(ls $copies/*.sound | wc -l) = $before ]
     step("a copy that takes too long", slow, "ran while it was copied")
 
 
+def ahead(step):
+    """A merchant whose moment is ahead of the clock is told with the next copy."""
+    grant = "asvault vault grant --now $(($(date +%s) + 864000)) $file back shop1 tokenize"
+    moved = f"""systemctl stop vault; cp -a /var/lib/vault /srv/kept; {grant}
+systemctl start vault-backup; systemctl start vault; systemctl start vault-backup; alarms | grep moment
+"""
+    told = r"(^vault: has a moment more than a day ahead of the clock: shop1\n){2}"
+    step("a moment that is ahead is told", moved, told)
+    back = """systemctl stop vault; rm /var/lib/vault/* $copies/*
+cp -a /srv/kept/. /var/lib/vault/; rm -r /srv/kept; systemctl start vault; systemctl start vault-backup; alarms | grep -c moment
+"""
+    step("one that isn't is not", back, "^2$")
+
+
 def fewer(step):
     """A copy with fewer tokens than the one before isn't one, but after a restore."""
     more = """last=$(ls $copies/*.sound | tail -n 1); sed -i 's/^sound 1 /sound 2 /' $last

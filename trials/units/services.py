@@ -19,6 +19,23 @@ rm /etc/systemd/system/vault.service.d/deaf.conf; systemctl daemon-reload
 """
 
 
+def jumped(step):
+    """A run that a clock ended is told as the next one starts."""
+    drop = "/etc/systemd/system/vault.service.d"
+    ended = f"""mkdir -p {drop}
+cat > {drop}/ended.conf <<'END'
+[Service]
+ExecStart=
+ExecStart=/bin/sh -c 'echo vault: stopped 60 >&2; exit 4'
+END
+systemctl daemon-reload; ! systemctl restart vault; rm {drop}/ended.conf; systemctl daemon-reload
+"""
+    told = awaited("alarms | grep 'ended by a clock that jumped'", 30) + awaited("$lib/answers vault", 30)
+    step("an end by the clock is told", ended + told, "vault.service: was ended by a clock", seconds=90)
+    again = "systemctl restart vault; sleep 1; alarms | grep -c 'by a clock'"
+    step("and told once", again, "^[1-3]$")
+
+
 def others_port(step):
     """A start of a vault whose port another one has isn't told as one that went well."""
     both = ANOTHER.format(name="north") + ANOTHER.format(name="south") + "systemctl start vault@north"
