@@ -167,7 +167,8 @@ systemctl start vault-backup; systemctl start vault; systemctl start vault-backu
     told = r"(^vault: has a moment more than a day ahead of the clock: shop1\n){2}"
     step("a moment that is ahead is told", moved, told)
     back = """systemctl stop vault; rm /var/lib/vault/* $copies/*
-cp -a /srv/kept/. /var/lib/vault/; rm -r /srv/kept; systemctl start vault; systemctl start vault-backup; alarms | grep -c moment
+cp -a /srv/kept/. /var/lib/vault/; rm -r /srv/kept
+systemctl start vault; systemctl start vault-backup; alarms | grep -c moment
 """
     step("one that isn't is not", back, "^2$")
 
