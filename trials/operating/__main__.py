@@ -177,7 +177,7 @@ systemctl is-active vault
     says(tally, machine, "a copy doesn't end a service that waits for its start", on_its_way, r"^active$")
     killed = """systemctl reset-failed vault; before=$(systemctl show -p MainPID --value vault)
 kill -9 $before; sleep 1
-for turn in $(seq 140); do systemctl is-active -q vault && break; sleep 0.5; done
+for turn in $(seq 200); do systemctl is-active -q vault && break; sleep 0.5; done
 systemctl is-active vault; [ $(systemctl show -p MainPID --value vault) != $before ]
 """
     says(tally, machine, "after a kill it starts again", killed, r"^active$")

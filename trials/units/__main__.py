@@ -73,6 +73,7 @@ def main(program, repository, freezes="100", *words):
         restored.taken_again(step)
         restored.cut_off(step)
         services.jumped(step)
+        services.killed_frozen(step)
         services.others_port(step)
         services.hangs(step)
         disks.full(tally, machine, step)

@@ -36,6 +36,15 @@ systemctl daemon-reload; ! systemctl restart vault; rm {drop}/ended.conf; system
     step("and told once", again, "^[1-3]$")
 
 
+def killed_frozen(step):
+    """A service that is killed while it is frozen starts again, and its next copy is of one instant."""
+    kill = """systemctl freeze vault; kill -9 $(systemctl show -p MainPID --value vault); sleep 1
+$lib/thaw vault 2> /dev/null
+"""
+    copy = "systemctl start vault-backup; systemctl show -p FreezerState --value vault"
+    step("a frozen one that is killed", kill + awaited("$lib/answers vault", 120) + copy, "^running$", seconds=200)
+
+
 def others_port(step):
     """A start of a vault whose port another one has isn't told as one that went well."""
     both = ANOTHER.format(name="north") + ANOTHER.format(name="south") + "systemctl start vault@north"
