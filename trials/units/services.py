@@ -42,7 +42,8 @@ def killed_frozen(step):
 $lib/thaw vault 2> /dev/null
 """
     copy = "systemctl start vault-backup; systemctl show -p FreezerState --value vault"
-    step("a frozen one that is killed", kill + awaited("$lib/answers vault", 120) + copy, "^running$", seconds=200)
+    back = awaited("$lib/answers vault", 120)
+    step("a frozen one that is killed", kill + back + copy, "^running$", seconds=200)
 
 
 def others_port(step):
