@@ -56,25 +56,31 @@ def lines_of(out):
 @dataclass
 class Job:
     """A job: `words` come before the file and `after` behind it; `base` names the file that it begins with,
-    where it has one."""
+    where it has one. Where the file is absent it isn't there, and the job may make none."""
 
     name: str
     words: tuple
     after: tuple = ()
     given: bytes = b""
     base: str = ""
+    absent: bool = False
     wants: tuple = ()
     apart: tuple = ()
     parts: object = lines_of
     seen: list = field(default_factory=list)
 
+    @property
+    def has_file(self):
+        """Whether its words name a file."""
+        return bool(self.base) or self.absent
+
     def line(self, file):
         """All words, with the path of its file."""
-        return [*self.words, *((file,) if self.base else ()), *self.after]
+        return [*self.words, *((file,) if self.has_file else ()), *self.after]
 
     def may_say(self):
         """The lines that it may end with for want of memory."""
-        return (*self.wants, *(OPENING if self.base else ("stopped 20",)))
+        return (*self.wants, *(OPENING if self.has_file else ("stopped 20",)))
 
 
 def worked():
@@ -128,12 +134,14 @@ def all_jobs(folder):
         Job("pipe", ("pipe", *FIXED), given=worked(), **in_file),
         Job("stream", trial, given=stream(), wants=("stopped 64",), **over_messages),
         Job("batch", ("batch", *FIXED), ("till-1", "shop1"), rows(), "moved.db",
-            ("stopped 45", "stopped 43"), ("stopped 46",)),
-        Job("open", ("grant", *NOW), ("back", "shop1", "view"), b"", "moved.db", command),
+            wants=("stopped 45", "stopped 43"), apart=("stopped 46",)),
+        Job("open", ("grant", *NOW), ("back", "shop1", "view"), b"", "moved.db", wants=command),
         Job("check", ("check",), base="moved.db"),
+        Job("absent", ("check",), absent=True),
+        Job("unlisted", ("list",), absent=True),
         Job("migrate", ("migrate",), base="old.db"),
         Job("rights", ("rights", *NOW), (folder / "rights.toml",), b"", "moved.db",
-            (*command, "stopped 74")),
+            wants=(*command, "stopped 74")),
     )
 
 

@@ -6,7 +6,7 @@ import subprocess
 from memory import jobs
 from shared import messages
 from shared.files import copied, removed
-from shared.runs import SECONDS, Ran, run
+from shared.runs import HAS_LOG, SECONDS, Ran, run
 
 
 class Trial:
@@ -64,7 +64,14 @@ class Trial:
         else:
             return "another ending", f"{ran}, and the plain run: {self.plain}"
         opened = ran.told not in jobs.OPENING and self.job.name != "migrate"
-        return said, self.beginning(ran) or opened and self.unsound(file) or self.again(file)
+        wrong = self.beginning(ran) or self.job.absent and self.unfounded(ran, file)
+        return said, wrong or opened and self.unsound(file) or self.again(file)
+
+    def unfounded(self, ran, file):
+        """What a job made, or told of, where no file was and no log."""
+        if found := sorted(it.name for it in file.parent.glob(f"{file.name}*")):
+            return f"it made {found}"
+        return f"it tells of a log: {ran}" if HAS_LOG in ran.err else ""
 
     def beginning(self, ran):
         """What went out is whole answers or lines, and a beginning of those that are due."""
@@ -82,14 +89,14 @@ class Trial:
 
     def unsound(self, file):
         """What `check` says against the file that was left."""
-        if not self.job.base:
+        if not self.job.has_file:
             return ""
         checked = run(self.program, "check", file)
         return "" if checked.status == 0 else f"the file then: {checked}"
 
     def again(self, file):
         """With memory the same call over the file that was left is answered as the plain one."""
-        if not self.job.base:
+        if not self.job.has_file:
             return ""
         ran = run(self.program, *self.job.line(file), given=self.job.given)
         if not ran.is_like(self.plain):

@@ -7,5 +7,4 @@ mod running;
 mod sequence;
 mod streams;
 mod sweep;
-mod witness;
 mod words;

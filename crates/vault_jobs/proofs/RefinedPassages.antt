@@ -44,7 +44,6 @@ use Rattle.vault_jobs.specs.declared.stop.Stop.TheVariants.{Vault, Service, List
 use Rattle.vault_jobs.specs.declared.stop.Stop.TheVariants as stop
 use Rattle.vault_jobs.specs.declared.task.Outcome.{Outcome}
 use Rattle.vault_jobs.specs.declared.task.Outcome.TheVariants as outcome
-use Rattle.vault_jobs.specs.declared.task.Task.TheVariants.{Batch}
 
 -- of the first units this is known too
 first_as : {X : Type 0} {us rest : List X} {K L : List (Asked X) → Type 0}

@@ -9,7 +9,7 @@ use Rattle.std.proofs.lemmas.List.Elements.{All-nil}
 use Rattle.std.specs.Prelude.{All, IfErr, OnErr, OnOk}
 use Rattle.std.specs.Io.KnownBytes.{Appends, Consumes}
 use Rattle.vault_core.specs.Vault.{Vault as Content}
-use Rattle.vault_listen.specs.Live.{AreGiven, Continues, Fixes, Turns, pairs_of}
+use Rattle.vault_listen.specs.Live.{AreGiven, Continues, Turns, pairs_of}
 use Rattle.vault_listen.proofs.Turns.{given_first, none_given}
 use Rattle.vault_listen.specs.declared.live.LiveSource.{LiveSource}
 use Rattle.vault_wire.specs.Messages.{Reads, Request}
@@ -278,18 +278,10 @@ pub if_err_then : {X E : Type 0} (r : Result X E) (P : E → Type 0) (Q : Type 0
 if_err_then (Ok x) P Q then h = tt
 if_err_then (Err e) P Q then h = then e h
 
--- the pairs of a source that goes on from none have what is fixed
-pub fixed_pairs : {K G : Type 0} (tells : K → Turns) (old new : LiveSource K G) (time : K) (now : Option ℕ)
-    (digits : Option (List ℕ)) → pairs_of old ≡ [] → Fixes old time now digits → Continues tells old new
-    → AreGiven (tells time) now digits (pairs_of new)
-fixed_pairs tells old new time now digits none fixes goes =
-    (goes.fixed time now digits fixes).1
-    (subst (λ (ps : List Pair). AreGiven (tells time) now digits ps) (sym none) none_given)
-
--- and they are no more than it was to give
-pub few_pairs : {K G : Type 0} (tells : K → Turns) (old new : LiveSource K G) (most : ℕ)
-    → pairs_of old ≡ [] → old.left ≡ most → Continues tells old new → length (pairs_of new) ≤ most
-few_pairs tells old new most none left goes =
+-- the pairs of a source that goes on from none are no more than it was to give
+pub few_pairs : {Q G : Type 0} (tells : Q → Turns) (told : Q → ℕ) (old new : LiveSource Q G) (most : ℕ)
+    → pairs_of old ≡ [] → old.left ≡ most → Continues tells told old new → length (pairs_of new) ≤ most
+few_pairs tells told old new most none left goes =
     omega (arith, goes.counted, left, ap (λ (pairs : List Pair). length pairs) none)
 
 -- what stops the answering of an input is a beginning of a trial

@@ -2,27 +2,29 @@
 use Rattle.std.proofs.Common.{◌≡◌, ℕ, List, [], Option, subst}
 use Rattle.vault_engine.specs.Asking.{Pair}
 use Rattle.vault_engine.specs.Passing.{Passage}
-use Rattle.vault_listen.specs.Live.{Continues, Fixes, Turns, pairs_of}
+use Rattle.vault_listen.specs.Live.{Begins, Continues, Turns, pairs_of}
 use Rattle.vault_listen.specs.declared.live.LiveSource.{LiveSource}
+use Rattle.vault_listen.proofs.Turns.{given_since}
 use Rattle.vault_jobs.specs.Doing.{Along}
 use Rattle.vault_jobs.specs.Streams.{Streams}
-use Rattle.vault_jobs.proofs.Stops.{few_pairs, fixed_pairs}
+use Rattle.vault_jobs.proofs.Stops.{few_pairs}
 
 -- a source that gave nothing before and goes on
-pub along_live : {K G : Type 0} (tells : K → Turns) (time : K) (old new : LiveSource K G) (most : ℕ)
+pub along_live : {Q G : Type 0} (tells : Q → Turns) (told : Q → ℕ) (turns : Turns)
+    (old new : LiveSource Q G) (most : ℕ)
     (now : Option ℕ) (digits : Option (List ℕ)) (w : Passage) (s : Streams) (P : Passage → Type 0)
-    → pairs_of old ≡ [] → old.left ≡ most → Fixes old time now digits
-    → Continues tells old new
+    → pairs_of old ≡ [] → old.left ≡ most → Begins tells told turns now digits old
+    → Continues tells told old new
     → P (record w {
       given_old = pairs_of old;
       given_new = pairs_of new;
       sent_old = s.sent_old;
       sent_new = s.sent_new;
-    }) → Along (tells time) most now digits w s P
-along_live tells time old new most now digits w s P fresh left fixes goes h = (
+    }) → Along turns most now digits w s P
+along_live tells told turns old new most now digits w s P fresh left begins goes h = (
   pairs_of new,
-  few_pairs tells old new most fresh left goes,
-  fixed_pairs tells old new time now digits fresh fixes goes,
+  few_pairs tells told old new most fresh left goes,
+  given_since tells told turns now digits old new fresh begins goes,
   subst (λ (given : List Pair). P (record w {
     given_old = given;
     given_new = pairs_of new;

@@ -5,7 +5,7 @@ ghost use Rattle.vault_jobs.specs.Moments.{IsMomentOf, giver_of};
 use crate::stop::Stop;
 use vault_core::moment::Moment;
 use vault_http::fault::ServeFault;
-use vault_listen::time::Timekeeper;
+use vault_listen::time::{Questions, Timekeeper};
 
 /// Who gives the moment of a job.
 #[derive(Clone, Copy, Debug, PartialEq, Eq, Drop)]
@@ -39,7 +39,7 @@ pub fn moment<K: Timekeeper>(time: &K, fixed: Option<Moment>) -> Result<Moment, 
 {
     let found = match fixed {
         Some(moment) => Some(moment),
-        None => time.moment(0),
+        None => time.questions().moment(),
     };
     match found {
         Some(moment) => Ok(moment),

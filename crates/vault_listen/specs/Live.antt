@@ -32,24 +32,43 @@ pub record AreGiven (tells : Turns) (moment : Option ℕ) (digits : Option (List
   pub told : moment ≡ None → AreTold tells 0 pairs
 
 -- the pairs that it gave, in order
-abbrev pub pairs_of : {K G : Type 0} → LiveSource K G → List Pair
+abbrev pub pairs_of : {Q G : Type 0} → LiveSource Q G → List Pair
 pairs_of s = s.given.items
 
 -- it gave nothing yet, gives this many pairs, and never refused
-pub record IsFresh {K G : Type 0} (s : LiveSource K G) (times : ℕ) : Type 0 where
+pub record IsFresh {Q G : Type 0} (s : LiveSource Q G) (times : ℕ) : Type 0 where
   pub gave : pairs_of s ≡ []
   pub left_is : s.left ≡ times
   pub calm : s.refused ≡ false
 
--- its time, and the moment and the digits of its pairs, where they are fixed
-abbrev pub Fixes : {K G : Type 0} → LiveSource K G → K → Option ℕ → Option (List ℕ) → Type 0
-Fixes s time moment digits = (s.time.now ≡ time) × (s.moment ≡ moment) × (s.digits ≡ digits)
+-- its questions, and the moment and the digits of its pairs, where they are fixed
+abbrev pub Fixes : {Q G : Type 0} → LiveSource Q G → Q → Option ℕ → Option (List ℕ) → Type 0
+Fixes s questions moment digits = (s.questions ≡ questions) × (s.moment ≡ moment) × (s.digits ≡ digits)
 
--- The one source is the other one, some calls before: its time and what is fixed stay so, and where all pairs
--- were given so, so are all pairs later; each pair that was given is one fewer to give.
-pub record Continues {K G : Type 0} (tells : K → Turns) (old new : LiveSource K G) : Type 0 where
-  pub fixed : (time : K) → (moment : Option ℕ) → (digits : Option (List ℕ)) → Fixes old time moment digits
-      → Fixes new time moment digits
-      × (AreGiven (tells time) moment digits (pairs_of old)
-      → AreGiven (tells time) moment digits (pairs_of new))
+-- A source that began with these questions, and with this moment and these digits, where they are fixed: all
+-- its pairs were given so. Where no moment is fixed, it asked once for each pair that it gave, and no more,
+-- so for each once its message was read. That holds until it refuses.
+pub record IsFrom {Q G : Type 0} (tells : Q → Turns) (told : Q → ℕ) (began : Q) (moment : Option ℕ)
+    (digits : Option (List ℕ)) (s : LiveSource Q G) : Type 0 where
+  pub moment_is : s.moment ≡ moment
+  pub digits_is : s.digits ≡ digits
+  pub tells_so : (turn now : ℕ) → tells s.questions turn now → tells began turn now
+  pub given : AreGiven (tells began) moment digits (pairs_of s)
+  pub in_turn : moment ≡ None → s.refused ≡ false → told s.questions ≡ length (pairs_of s)
+
+-- The one source is the other one, some calls before: whatever it began with, all its pairs were given so
+-- later too; and each pair that was given is one fewer to give.
+pub record Continues {Q G : Type 0} (tells : Q → Turns) (told : Q → ℕ) (old new : LiveSource Q G)
+    : Type 0 where
+  pub goes_on : (began : Q) → (moment : Option ℕ) → (digits : Option (List ℕ))
+      → IsFrom tells told began moment digits old → IsFrom tells told began moment digits new
   pub counted : length (pairs_of new) + new.left ≡ length (pairs_of old) + old.left
+
+-- A source that begins with questions none of which was asked, and that tell what these turns do; and with
+-- this moment and these digits, where they are fixed.
+pub record Begins {Q G : Type 0} (tells : Q → Turns) (told : Q → ℕ) (turns : Turns) (moment : Option ℕ)
+    (digits : Option (List ℕ)) (s : LiveSource Q G) : Type 0 where
+  pub moment_is : s.moment ≡ moment
+  pub digits_is : s.digits ≡ digits
+  pub unasked : told s.questions ≡ 0
+  pub tells_so : (turn now : ℕ) → tells s.questions turn now → turns turn now

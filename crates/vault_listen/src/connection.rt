@@ -59,6 +59,6 @@ pub fn serve_connection<K: Timekeeper, G: Rng, R: Read, W: Write, T: Tables>(
     // an honest disk was honest before, and tables that can't fail don't
     ensures trusted { Trusts T.is_honest T.may_fail vault.old vault.new result }
 {
-    let mut source = LiveSource::ending(alloc, time, generator, MESSAGES, end);
+    let mut source = LiveSource::ending(alloc, time.questions(), generator, MESSAGES, end);
     serve_by(alloc, routes, reader, writer, vault, &mut source)
 }

@@ -1,9 +1,9 @@
 //! A source of moments that are told and of digits that are drawn.
-ghost use Rattle.std.specs.Prelude.{◌≡◌, Some, None, true, false};
-ghost use Rattle.std.specs.Prelude.{IfSome, length};
+ghost use Rattle.std.specs.Prelude.{◌≡◌, ◌+◌, Some, None, true, false};
+ghost use Rattle.std.specs.Prelude.{IfSome, OnSome, length};
 
 use crate::draw::drawn;
-use crate::time::Timekeeper;
+use crate::time::Questions;
 use rand_core::Rng;
 use std::alloc::Global;
 use std::time::Duration;
@@ -13,10 +13,10 @@ use vault_pan::draw::Digits;
 
 /// Gives the time and 300 digits that a generator draws, a number of times, and keeps the pairs that it gave.
 /// The moment, the digits or both may be fixed: then each pair has them. It may have an end, from which on it
-/// gives none.
+/// gives none. Once it had none to give it gives no more.
 #[derive(Drop)]
-pub struct LiveSource<'t, K, G> {
-    time: &'t K,
+pub struct LiveSource<Q, G> {
+    questions: Q,
     generator: G,
     moment: Option<Moment>,
     digits: Option<Digits>,
@@ -26,35 +26,35 @@ pub struct LiveSource<'t, K, G> {
     refused: bool,
 }
 
-impl<'t, K: Timekeeper, G: Rng> LiveSource<'t, K, G> {
+impl<Q: Questions, G: Rng> LiveSource<Q, G> {
     ghost use Rattle.vault_listen.specs.Live.{Fixes, IsFresh, pairs_of};
 
     /// A source that gives this many pairs. It takes no memory yet.
-    pub fn new(alloc: Global, time: &'t K, generator: G, times: u64) -> LiveSource<'t, K, G>
+    pub fn new(alloc: Global, questions: Q, generator: G, times: u64) -> LiveSource<Q, G>
         // it gave no pair yet, gives so many, and never refused
         ensures fresh { IsFresh result times }
-        // it has this time, and no moment and no digits are fixed
-        ensures free { Fixes result time.now None None }
+        // it has these questions, and no moment and no digits are fixed
+        ensures free { Fixes result questions None None }
     {
-        LiveSource::fixed(alloc, time, generator, times, None, None)
+        LiveSource::fixed(alloc, questions, generator, times, None, None)
     }
 
     /// A source that gives this many pairs, with this moment and these digits where there are some.
     pub fn fixed(
         alloc: Global,
-        time: &'t K,
+        questions: Q,
         generator: G,
         times: u64,
         moment: Option<Moment>,
         digits: Option<Digits>,
-    ) -> LiveSource<'t, K, G>
+    ) -> LiveSource<Q, G>
         // it gave no pair yet, gives so many, and never refused
         ensures fresh { IsFresh result times }
-        // its time, and what is fixed of its pairs, are what is handed in
-        ensures fixed { Fixes result time.now moment digits }
+        // its questions, and what is fixed of its pairs, are what is handed in
+        ensures fixed { Fixes result questions moment digits }
     {
         LiveSource {
-            time,
+            questions,
             generator,
             moment,
             digits,
@@ -69,18 +69,18 @@ impl<'t, K: Timekeeper, G: Rng> LiveSource<'t, K, G> {
     /// is one.
     pub fn ending(
         alloc: Global,
-        time: &'t K,
+        questions: Q,
         generator: G,
         times: u64,
         end: Option<Duration>,
-    ) -> LiveSource<'t, K, G>
+    ) -> LiveSource<Q, G>
         // it gave no pair yet, gives so many, and never refused
         ensures fresh { IsFresh result times }
-        // it has this time, and no moment and no digits are fixed
-        ensures free { Fixes result time.now None None }
+        // it has these questions, and no moment and no digits are fixed
+        ensures free { Fixes result questions None None }
     {
         LiveSource {
-            time,
+            questions,
             generator,
             moment: None,
             digits: None,
@@ -94,7 +94,7 @@ impl<'t, K: Timekeeper, G: Rng> LiveSource<'t, K, G> {
     // Whether it has come to its end, or can't tell.
     fn is_over(&self) -> bool {
         match self.end {
-            Some(end) => match self.time.passed() {
+            Some(end) => match self.questions.passed() {
                 Ok(now) => now >= end,
                 Err(_) => true,
             },
@@ -103,16 +103,24 @@ impl<'t, K: Timekeeper, G: Rng> LiveSource<'t, K, G> {
     }
 
     // The moment of the next pair.
-    fn moment(&self) -> Option<Moment>
+    fn moment(&mut self) -> Option<Moment>
         // where a moment is fixed, it is that one
-        ensures fixed { (now : _) → self.now.moment ≡ Some now → result ≡ Some now }
-        // where none is fixed, a moment that is given was told at the turn numbered by the pairs given before
-        ensures told { self.now.moment ≡ None
-            → IfSome result (K.tells self.now.time.now (length (pairs_of self.now))) }
+        ensures fixed { (now : _) → self.old.moment ≡ Some now → result ≡ Some now }
+        // where none is fixed, a moment that is given was told at the next question
+        ensures told { self.old.moment ≡ None
+            → IfSome result (Q.tells self.old.questions (Q.told self.old.questions)) }
+        // and it is one more that was told, and no more than one
+        ensures counts { self.old.moment ≡ None
+            → OnSome result (Q.told self.new.questions ≡ Q.told self.old.questions + 1) }
+        // what may be told from now on might have been before
+        ensures tells_so { (turn now : _) → Q.tells self.new.questions turn now
+            → Q.tells self.old.questions turn now }
+        // nothing changes but the questions
+        ensures same { self.new ≡ record self.old { questions = self.new.questions } }
     {
         match self.moment {
             Some(moment) => Some(moment),
-            None => self.time.moment(self.given.len() as u64),
+            None => self.questions.moment(),
         }
     }
 
@@ -130,7 +138,7 @@ impl<'t, K: Timekeeper, G: Rng> LiveSource<'t, K, G> {
     }
 }
 
-impl<'t, K: Timekeeper, G: Rng> Source for LiveSource<'t, K, G> {
+impl<Q: Questions, G: Rng> Source for LiveSource<Q, G> {
     ghost use Rattle.vault_listen.specs.Live.{Continues, pairs_of};
     ghost use Rattle.std.proofs.Common.{refl, ◌∙◌};
 
@@ -140,10 +148,10 @@ impl<'t, K: Timekeeper, G: Rng> Source for LiveSource<'t, K, G> {
 
     ghost has_refused = { λ s. s.refused };
 
-    ghost precedes = { Continues K.tells };
+    ghost precedes = { Continues Q.tells Q.told };
 
     fn next(&mut self) -> Result<(Moment, Digits), SourceFault> {
-        if self.left == 0 || self.is_over() {
+        if self.refused || self.left == 0 || self.is_over() {
             self.refused = true;
             return Err(SourceFault);
         }
@@ -168,13 +176,10 @@ impl<'t, K: Timekeeper, G: Rng> Source for LiveSource<'t, K, G> {
         self.refused
     }
 
-    ghost reflexive = { λ s. record { fixed = λ t m d f. (f, λ all. all); counted = refl } };
+    ghost reflexive = { λ s. record { goes_on = λ q m d from. from; counted = refl } };
 
     ghost transitive = { λ r s t p q. record {
-      fixed = λ k m d f. (
-        (q.fixed k m d (p.fixed k m d f).0).0,
-        λ all. (q.fixed k m d (p.fixed k m d f).0).1 ((p.fixed k m d f).1 all),
-      );
+      goes_on = λ k m d from. q.goes_on k m d (p.goes_on k m d from);
       counted = q.counted ∙ p.counted;
     } };
 }

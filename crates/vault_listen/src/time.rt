@@ -1,5 +1,5 @@
 //! The time, as contracts can speak of it.
-ghost use Rattle.std.specs.Prelude.{IfSome, IsTrue, ◌↔◌};
+ghost use Rattle.std.specs.Prelude.{◌≡◌, ◌+◌, IfNone, IfSome, IsTrue, OnSome, ◌↔◌};
 ghost use Rattle.vault_listen.specs.Clocks.{GoesAlong};
 
 use std::io;
@@ -9,23 +9,49 @@ use vault_core::moment::Moment;
 /// The most seconds by which a clock may be ahead of a steady one, or behind it.
 const MOST_DRIFT: u64 = 300;
 
-/// Tells the time.
+/// The questions of one source for the moment, asked one after the other.
 ///
-/// Contracts see which moment it tells at which turn, so that a moment told for one message serves no other.
-pub trait Timekeeper {
+/// Contracts see which moment may be told at which question, and how many were told. So a moment that is told
+/// for one message serves no other, and whoever gives one of them for each message asks for none ahead.
+pub trait Questions {
     ghost use Rattle.std.specs.Prelude.{ℕ};
 
-    // at this turn it may tell this moment
+    // at this question, counted from 0, it may tell this moment
     ghost tells: { Self → ℕ → ℕ → Type 0 };
 
-    /// The time in Unix seconds, where it can be read, is a moment and hasn't jumped. `turn` counts the
-    /// questions of one source from 0.
-    fn moment(&self, turn: u64) -> Option<Moment>
-        // a moment that is given was told at this turn
-        ensures { IfSome result (tells self.now turn) };
+    // how many moments were told
+    ghost told: { Self → ℕ };
+
+    /// The time in Unix seconds, where it can be read, is a moment and hasn't jumped.
+    fn moment(&mut self) -> Option<Moment>
+        // a moment that is given is told at the question behind those before
+        ensures tells { IfSome result (tells self.old (told self.old)) }
+        // with Some, one moment more was told
+        ensures counts { OnSome result (told self.new ≡ told self.old + 1) }
+        // with None, none was
+        ensures keeps { IfNone result (told self.new ≡ told self.old) }
+        // what may be told from now on might have been before
+        ensures same { (turn now : ℕ) → tells self.new turn now → tells self.old turn now };
 
     /// How much time has passed, by a clock that nobody sets.
     fn passed(&self) -> io::Result<Duration>;
+}
+
+/// Tells the time to sources, each of which has questions of its own.
+pub trait Timekeeper {
+    ghost use Rattle.std.specs.Prelude.{◌≡◌, ℕ};
+
+    type Questions: Questions + Drop;
+
+    // at this question of a source it may tell this moment
+    ghost tells: { Self → ℕ → ℕ → Type 0 };
+
+    /// The questions of one source, none of which was asked.
+    fn questions(&self) -> Self::Questions
+        // no moment was told
+        ensures fresh { Self.Questions.told result ≡ 0 }
+        // they tell what may be told at their turns
+        ensures same { (turn now : _) → Self.Questions.tells result turn now → tells self.now turn now };
 
     /// Whether the time has jumped since the start, as far as it can be read now; and always where it
     /// couldn't be read at the start, so that no moment is ever told.
@@ -88,12 +114,9 @@ impl<'c, C: Clock> ClockTime<'c, C> {
             start: Reading::of(clock),
         }
     }
-}
 
-impl<'c, C: Clock> Timekeeper for ClockTime<'c, C> {
-    ghost tells = { λ _ _ _. Unit {0} };
-
-    fn moment(&self, _turn: u64) -> Option<Moment> {
+    // The clock's second, where it is a moment and the clock went along with the steady one since the start.
+    fn moment(&self) -> Option<Moment> {
         let start = self.start?;
         let now = Reading::of(self.clock)?;
         if start.leads_to(&now) {
@@ -102,9 +125,19 @@ impl<'c, C: Clock> Timekeeper for ClockTime<'c, C> {
             None
         }
     }
+}
 
-    fn passed(&self) -> io::Result<Duration> {
-        self.clock.monotonic()
+impl<'c, C: Clock> Timekeeper for ClockTime<'c, C> {
+    type Questions = ClockQuestions<'c, C>;
+
+    ghost tells = { λ _ _ _. Unit {0} };
+
+    fn questions(&self) -> ClockQuestions<'c, C> {
+        let time = ClockTime {
+            clock: self.clock,
+            start: self.start,
+        };
+        ClockQuestions { time, told: 0 }
     }
 
     fn has_jumped(&self) -> bool {
@@ -115,5 +148,28 @@ impl<'c, C: Clock> Timekeeper for ClockTime<'c, C> {
             Some(now) => !start.leads_to(&now),
             None => false,
         }
+    }
+}
+
+/// The questions of one source to a clock.
+#[derive(Drop)]
+pub struct ClockQuestions<'c, C> {
+    time: ClockTime<'c, C>,
+    told: u64,
+}
+
+impl<'c, C: Clock> Questions for ClockQuestions<'c, C> {
+    ghost tells = { λ _ _ _. Unit {0} };
+
+    ghost told = { λ s. s.told };
+
+    fn moment(&mut self) -> Option<Moment> {
+        let now = self.time.moment()?;
+        self.told = self.told.checked_add(1)?;
+        Some(now)
+    }
+
+    fn passed(&self) -> io::Result<Duration> {
+        self.time.clock.monotonic()
     }
 }

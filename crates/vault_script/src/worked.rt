@@ -1,4 +1,4 @@
-//! The worked message, and answers byte for byte.
+//! The worked message, answers byte for byte, and runs of the program as lines.
 use std::alloc::{AllocError, Global};
 
 /// The worked message: a request for a single-use token.
@@ -17,4 +17,28 @@ pub fn answer(alloc: Global, status: &str, fields: &str, body: &str) -> Result<S
     format!(in alloc;
         "HTTP/1.1 {status}\r\nContent-Type: application/json\r\nContent-Length: {size}\r\n{fields}\r\n{body}"
     )
+}
+
+/// A run of the program: its words, its input, its status, its output, and its errors.
+pub type Step = (&'static str, &'static str, u8, &'static str, &'static str);
+
+/// A shop with a life of 60, at which `till-1` may ask for tokens.
+pub const SHOP: &str = "vault merchant --now 1000 FILE shop1 60 0
+vault grant --now 1000 FILE till-1 shop1 tokenize";
+
+/// What a check says on the errors of a file with a log.
+pub const HAS_LOG: &str = "vault: the file has a log, FILE-wal, and a copy needs both\n";
+
+/// The words of a line, with a space between two, with this file in place of `FILE`, and with a space in the
+/// name `shop_1`.
+pub fn words_of<'a>(alloc: Global, line: &'a str, file: &'a str) -> Vec<&'a str> {
+    let mut words = Vec::new(alloc);
+    for word in line.split(' ') {
+        let _ = words.push(match word {
+            "FILE" => file,
+            "shop_1" => "shop 1",
+            word => word,
+        });
+    }
+    words
 }

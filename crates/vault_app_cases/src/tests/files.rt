@@ -1,11 +1,10 @@
 //! The program on files of the tests' own folders.
 use super::running::{
-    HAS_LOG, NOT_OPENED, SHOP, Step, answer, are_done, are_said, end_so, is_folder_made,
-    is_missing, run_on, trial,
+    NOT_OPENED, answer, are_done, are_said, end_so, is_folder_made, is_missing, run_on, trial,
 };
 use std::net::TcpListener;
 use std::{fs, io};
-use vault_script::worked::{ANSWERED, ASKED};
+use vault_script::worked::{ANSWERED, ASKED, HAS_LOG, SHOP, Step};
 
 /// A repeat answers the first token of a shop.
 const REPEATED: [Step; 3] = [

@@ -9,10 +9,8 @@ use vault_listen::network::Loopback;
 use vault_listen::peer::Limits;
 use vault_listen::time::ClockTime;
 use vault_script::worked;
+use vault_script::worked::{Step, words_of};
 use vault_wire::watched::Watched;
-
-/// What a check says on the errors of a file with a log.
-pub const HAS_LOG: &str = "vault: the file has a log, FILE-wal, and a copy needs both\n";
 
 /// What a run of the program gave.
 #[derive(Drop)]
@@ -133,20 +131,6 @@ pub fn status_of(
     .0
 }
 
-/// The words of a line, with a space between two, with this file in place of `FILE`, and with a space in the
-/// name `shop_1`.
-pub fn words_of<'a>(alloc: Global, line: &'a str, file: &'a str) -> Vec<&'a str> {
-    let mut words = Vec::new(alloc);
-    for word in line.split(' ') {
-        let _ = words.push(match word {
-            "FILE" => file,
-            "shop_1" => "shop 1",
-            word => word,
-        });
-    }
-    words
-}
-
 /// Runs the program on the words of a line, with this file in place of `FILE`, and on bytes.
 pub fn run_on(rt: &HostRuntime, line: &str, file: &str, input: &[u8]) -> Ran {
     let words = words_of(rt.alloc(), line, file);
@@ -163,9 +147,6 @@ pub fn run_on(rt: &HostRuntime, line: &str, file: &str, input: &[u8]) -> Ran {
     }
 }
 
-/// A run of the program: its words, its input, its status, its output, and its errors.
-pub type Step = (&'static str, &'static str, u8, &'static str, &'static str);
-
 /// Whether each run on this file ends as it says; one that doesn't is printed.
 pub fn end_so(rt: &HostRuntime, file: &str, steps: &[Step]) -> bool {
     for (line, input, status, output, errors) in steps {
@@ -178,10 +159,6 @@ pub fn end_so(rt: &HostRuntime, file: &str, steps: &[Step]) -> bool {
     }
     true
 }
-
-/// A shop with a life of 60, at which `till-1` may ask for tokens.
-pub const SHOP: &str = "vault merchant --now 1000 FILE shop1 60 0
-vault grant --now 1000 FILE till-1 shop1 tokenize";
 
 /// Whether each run of these lines on this file says `done`; one that doesn't is printed.
 pub fn are_done(rt: &HostRuntime, file: &str, lines: &'static str) -> bool {

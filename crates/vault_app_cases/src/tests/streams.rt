@@ -1,6 +1,6 @@
 //! Readers and writers that fail.
-use super::running::{Input, Manner, Output, is_folder_made, status_of, words_of};
-use vault_script::worked::ASKED;
+use super::running::{Input, Manner, Output, is_folder_made, status_of};
+use vault_script::worked::{ASKED, words_of};
 use vault_wire::watched::Watched;
 
 /// The words of a trial of the worked message.

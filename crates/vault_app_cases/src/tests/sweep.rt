@@ -1,5 +1,6 @@
 //! Sweeps on files.
-use super::running::{HAS_LOG, SHOP, Step, are_done, are_said, end_so, is_folder_made, is_missing};
+use super::running::{are_done, are_said, end_so, is_folder_made, is_missing};
+use vault_script::worked::{HAS_LOG, SHOP, Step};
 
 /// The revocation of the third token, by `back`.
 const REVOKE: &str = "POST /v1/merchants/shop1/tokens/2222222222221111/revoke HTTP/1.1\r\n\

@@ -1,7 +1,8 @@
 //! Words that ask for no job, for help, or by a bad name.
-use super::running::{Output, Step, end_so, run_on};
+use super::running::{Output, end_so, run_on};
 use std::io::{Error, ErrorKind, Write};
 use vault_app::run::no_words;
+use vault_script::worked::Step;
 use vault_wire::watched::Watched;
 
 /// Words that ask for no job.

@@ -1,12 +1,16 @@
 //! A source over clocks and generators of the tests' own.
+ghost use Rattle.std.specs.Prelude.{◌≡◌, ◌+◌};
+
 use super::clocks::TestClock;
 use rand::SeedableRng;
 use rand::rngs::StdRng;
 use std::alloc::Global;
+use std::io;
+use std::time::Duration;
 use vault_core::moment::Moment;
 use vault_core::source::Source;
 use vault_listen::live::LiveSource;
-use vault_listen::time::{ClockTime, Timekeeper};
+use vault_listen::time::{ClockTime, Questions, Timekeeper};
 use vault_pan::draw::{Digits, candidate};
 use vault_pan::pan::Pan;
 use vault_pan::token::Token;
@@ -31,14 +35,75 @@ fn gives_two<S: Source>(source: &mut S) -> bool {
 fn it_gives_the_clocks_second_so_many_times(rt: HostRuntime) {
     let clock = TestClock::at(1000);
     let time = ClockTime::new(&clock);
-    let mut source = LiveSource::new(rt.alloc(), &time, StdRng::seed_from_u64(7), 2);
+    let mut source = LiveSource::new(rt.alloc(), time.questions(), StdRng::seed_from_u64(7), 2);
     assert!(rt; gives_two(&mut source));
+}
+
+/// The time in memory, which is a second later with each question of a source.
+#[derive(Drop)]
+struct CountedTime {
+    first: u64,
+}
+
+/// The questions of one source to it. Contracts see which moment each of them tells, and how many were told.
+#[derive(Drop)]
+struct CountedQuestions {
+    first: u64,
+    told: u64,
+}
+
+impl Timekeeper for CountedTime {
+    type Questions = CountedQuestions;
+
+    ghost tells = { λ s turn now. now ≡ s.first + turn };
+
+    fn questions(&self) -> CountedQuestions {
+        CountedQuestions {
+            first: self.first,
+            told: 0,
+        }
+    }
+
+    fn has_jumped(&self) -> bool {
+        false
+    }
+}
+
+impl Questions for CountedQuestions {
+    ghost tells = { λ s turn now. now ≡ s.first + turn };
+
+    ghost told = { λ s. s.told };
+
+    fn moment(&mut self) -> Option<Moment> {
+        let now = Moment::new(self.first.checked_add(self.told)?).ok()?;
+        self.told = self.told.checked_add(1)?;
+        Some(now)
+    }
+
+    fn passed(&self) -> io::Result<Duration> {
+        Ok(Duration::from_secs(self.told))
+    }
+}
+
+/// The moments of a source's first two pairs, and of the first of another over the same time.
+fn counted(alloc: Global) -> Option<(u64, u64, u64)> {
+    let time = CountedTime { first: 1000 };
+    let mut source = LiveSource::new(alloc, time.questions(), StdRng::seed_from_u64(7), 2);
+    let mut other = LiveSource::new(alloc, time.questions(), StdRng::seed_from_u64(7), 2);
+    let first = next_of(&mut source)?.0;
+    let second = next_of(&mut source)?.0;
+    Some((first, second, next_of(&mut other)?.0))
+}
+
+#[test]
+fn each_pair_has_the_moment_of_its_own_question(rt: HostRuntime) {
+    assert!(rt; counted(rt.alloc()) == Some((1000, 1001, 1000)));
 }
 
 /// Whether a source over this clock gives no pair and says so.
 fn gives_none(alloc: Global, clock: &TestClock<'_>) -> bool {
     let time = ClockTime::new(clock);
-    let mut source = LiveSource::new(alloc, &time, StdRng::seed_from_u64(7), 2);
+    let mut source = LiveSource::new(alloc, time.questions(), StdRng::seed_from_u64(7), 2);
     next_of(&mut source).is_none() && source.refused()
 }
 
@@ -60,7 +125,7 @@ fn given(
     let digits = digit.and_then(|digit| Digits::new(&[digit; 300]));
     let generator = StdRng::seed_from_u64(7);
     let time = ClockTime::new(clock);
-    let mut source = LiveSource::fixed(alloc, &time, generator, 2, moment, digits);
+    let mut source = LiveSource::fixed(alloc, time.questions(), generator, 2, moment, digits);
     let _ = next_of(&mut source)?;
     next_of(&mut source)
 }
@@ -96,9 +161,11 @@ const BEYOND: [&[(Option<u64>, u64)]; 2] = [
 fn asked(told: &[(Option<u64>, u64)]) -> (Option<u64>, bool, Option<u64>) {
     let clock = TestClock::telling(told);
     let time = ClockTime::new(&clock);
-    let first = time.moment(0).map(|moment| moment.seconds());
+    let mut questions = time.questions();
+    let first = questions.moment().map(|moment| moment.seconds());
     let jumped = time.has_jumped();
-    (first, jumped, time.moment(1).map(|moment| moment.seconds()))
+    let second = questions.moment().map(|moment| moment.seconds());
+    (first, jumped, second)
 }
 
 #[test]

@@ -9,7 +9,7 @@ use vault_core::name::{Caller, MerchantId};
 use vault_jobs::pipe::pipe;
 use vault_jobs::trial::{Trial, trial_vault};
 use vault_listen::live::LiveSource;
-use vault_listen::time::ClockTime;
+use vault_listen::time::{ClockTime, Timekeeper};
 use vault_wire::watched::Watched;
 
 /// The messages that ask for so many tokens of one number, each with a request number of its own; and then
@@ -45,7 +45,7 @@ fn answers(rt: &HostRuntime) -> Option<Vec<u8>> {
     let generator = StdRng::seed_from_u64(7);
     let clock = TestClock::at(1000);
     let time = ClockTime::new(&clock);
-    let mut pairs = LiveSource::fixed(alloc, &time, generator, 1002, Some(made), None);
+    let mut pairs = LiveSource::fixed(alloc, time.questions(), generator, 1002, Some(made), None);
     let input = requests(alloc, 1001).ok()?;
     let mut output = Vec::new(alloc);
     let mut reader = Watched::new(TestReader::Bytes(input.as_bytes()));

@@ -31,8 +31,9 @@ module _ (g : Over) (c : After-batch_input g) where
   along : (P : Passage → Type 0) → P whole
       → Along (g.K.Timekeeper.tells c.args.time.now) 100000 c.args.moment c.args.digits alone s P
   along P h =
-      along_live g.K.Timekeeper.tells c.args.time.now _ _ 100000 c.args.moment c.args.digits alone s P
-      c.in-Some.ensures.fresh.gave c.in-Some.ensures.fresh.left_is c.in-Some.ensures.fixed
+      along_live g.K.Questions.Questions.tells g.K.Questions.Questions.told
+      (g.K.Timekeeper.tells c.args.time.now) _ _ 100000 c.args.moment c.args.digits alone s P
+      c.in-Some.ensures.fresh.gave c.in-Some.ensures.fresh.left_is c.in-Some.ensures.begins
       c.batch_input.ensures.later h
 
   answered : (counts : Counts) → IsBatched s.left_old whole c.args.asker counts

@@ -12,9 +12,10 @@ returns-in-Ok-clause-does g c =
     let w = vault_passing g.T.Tables.is_honest g.T.Tables.holds g.T.Tables.leaves c.args.vault.now
     c.pipe.new.vault in (
       c.in-Ok.ensures.writer_ok,
-      along_live g.K.Timekeeper.tells c.args.time.now _ _ 1000 c.args.moment c.args.digits w s
+      along_live g.K.Questions.Questions.tells g.K.Questions.Questions.told
+          (g.K.Timekeeper.tells c.args.time.now) _ _ 1000 c.args.moment c.args.digits w s
           (IsPiped s.left_old s.left_new) c.in-Some.ensures.fresh.gave
-          c.in-Some.ensures.fresh.left_is c.in-Some.ensures.fixed c.pipe.ensures.later
+          c.in-Some.ensures.fresh.left_is c.in-Some.ensures.begins c.pipe.ensures.later
           c.in-Ok.ensures.served,
     )
 
@@ -25,7 +26,8 @@ returns-clause-does g c =
     let w = vault_passing g.T.Tables.is_honest g.T.Tables.holds g.T.Tables.leaves c.args.vault.now
     c.pipe.new.vault in
     let e = c.in-Err.fault in
-    inr (along_live g.K.Timekeeper.tells c.args.time.now _ _ 1000 c.args.moment c.args.digits w s
+    inr (along_live g.K.Questions.Questions.tells g.K.Questions.Questions.told
+    (g.K.Timekeeper.tells c.args.time.now) _ _ 1000 c.args.moment c.args.digits w s
     (λ q. StopsPiping s.left_old s.left_new q e) c.in-Some.ensures.fresh.gave
-    c.in-Some.ensures.fresh.left_is c.in-Some.ensures.fixed c.pipe.ensures.later
+    c.in-Some.ensures.fresh.left_is c.in-Some.ensures.begins c.pipe.ensures.later
     c.in-Err.ensures.stopped)

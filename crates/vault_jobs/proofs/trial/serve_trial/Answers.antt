@@ -6,7 +6,8 @@ use Rattle.vault_engine.specs.Passing.{Passage, passing}
 use Rattle.vault_jobs.specs.Streams.{Known}
 use Rattle.vault_jobs.specs.Trial.{IsCut, trial_vault}
 use Rattle.vault_jobs.specs.declared.trial.Trial.{Trial}
-use Rattle.vault_jobs.proofs.Stops.{cut_piping, fixed_pairs, if_err_then, nothing_cut, on_err, on_ok_then}
+use Rattle.vault_listen.proofs.Turns.{given_since}
+use Rattle.vault_jobs.proofs.Stops.{cut_piping, if_err_then, nothing_cut, on_err, on_ok_then}
 use Rattle.vault_jobs.proofs.Stops.{trial_of}
 use Rattle.vault_jobs.proofs.trial.serve_trial.Given.{Over}
 use Rattle.vault_jobs.proofs.trial.serve_trial.Goals.{Start, After-pipe}
@@ -49,9 +50,9 @@ module _ (g : Over) (c : After-pipe g) where
   fits : AreGiven (g.K.Timekeeper.tells c.args.time.now) c.args.trial.now.moment c.args.trial.now.digits
       (pairs_of c.pipe.new.source)
   fits =
-      fixed_pairs g.K.Timekeeper.tells c.in-Some.pairs c.pipe.new.source c.args.time.now
-      c.args.trial.now.moment c.args.trial.now.digits c.in-Some.ensures.fresh.gave
-      c.in-Some.ensures.fixed c.pipe.ensures.later
+      given_since g.K.Questions.Questions.tells g.K.Questions.Questions.told
+      (g.K.Timekeeper.tells c.args.time.now) c.args.trial.now.moment c.args.trial.now.digits c.in-Some.pairs
+      c.pipe.new.source c.in-Some.ensures.fresh.gave c.in-Some.ensures.begins c.pipe.ensures.later
 
 pub returns-clause-served : goal.returns-clause-served
 returns-clause-served g c =

@@ -1,10 +1,10 @@
-use Rattle.std.proofs.Common.{List, None, Result, Ok, Err, length, ap, arith, subst, sym}
+use Rattle.std.proofs.Common.{List, None, Result, Ok, Err, length, ap, arith, subst}
 use Rattle.std.specs.Prelude.{IfErr, IfOk, MatchResult}
 use Rattle.vault_engine.specs.Asking.{Pair}
 use Rattle.vault_engine.specs.Passing.{passing}
 use Rattle.vault_http.specs.Served.{IsServed, IsStopped}
-use Rattle.vault_listen.specs.Live.{AreGiven, pairs_of}
-use Rattle.vault_listen.proofs.Turns.{none_given}
+use Rattle.vault_listen.specs.Live.{pairs_of}
+use Rattle.vault_listen.proofs.Turns.{begun_with, given_since}
 use Rattle.vault_listen.proofs.connection.serve_connection.Goals as goal
 
 either_way : {X E : Type 0} (r : Result X E) (P : X → Type 0) (Q : E → Type 0) → IfOk r P → IfErr r Q
@@ -28,8 +28,12 @@ returns-clause-answered g c =
         c.ending-source.ensures.fresh.left_is,
         ap (λ (ps : List Pair). length ps) gave,
       ),
-      (c.serve_by.ensures.later.fixed c.args.time.now None None c.ending-source.ensures.free).1
-          (subst (AreGiven (g.K.Timekeeper.tells c.args.time.now) None None) (sym gave) none_given),
+      given_since g.K.Questions.Questions.tells g.K.Questions.Questions.told
+          (g.K.Timekeeper.tells c.args.time.now) None None c.ending-source.result c.serve_by.new.source gave
+          (begun_with g.K.Questions.Questions.tells g.K.Questions.Questions.told
+          (g.K.Timekeeper.tells c.args.time.now) c.questions.result None None c.ending-source.result
+          c.ending-source.ensures.free c.questions.ensures.fresh c.questions.ensures.same)
+          c.serve_by.ensures.later,
       subst
           (λ given. MatchResult c.serve_by.result (IsServed left rest (w given))
           (IsStopped left rest (w given)))

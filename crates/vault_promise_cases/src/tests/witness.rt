@@ -1,12 +1,14 @@
 //! Runs of the program one after the other over files in memory, with a stop after each.
-use super::running::{HAS_LOG, Input, Output, Ran, SHOP, Step, words_of};
 use vault_listen::network::Loopback;
 use vault_listen::peer::Limits;
 use vault_listen::time::ClockTime;
 use vault_promise::kept::KeptFiles;
 use vault_promise::twice::twice;
-use vault_script::worked::{ANSWERED, ASKED};
+use vault_script::worked::{ANSWERED, ASKED, HAS_LOG, SHOP, Step, words_of};
 use vault_wire::watched::Watched;
+
+/// What a run gave: its status, its output and its errors.
+type Ran = (u8, Vec<u8>, Vec<u8>);
 
 /// Runs the program on the words of a line and on bytes, over these files, and gives what it left of them.
 fn run_kept(
@@ -20,9 +22,9 @@ fn run_kept(
     let mut network = Loopback::new(rt, Limits::of_service());
     let mut output = Vec::new(rt.alloc());
     let mut errors = Vec::new(rt.alloc());
-    let mut reader = Watched::new(Input::of(input));
-    let mut writer = Watched::new(Output::to(&mut output));
-    let mut teller = Watched::new(Output::to(&mut errors));
+    let mut reader = Watched::new(input);
+    let mut writer = Watched::new(&mut output);
+    let mut teller = Watched::new(&mut errors);
     let (status, left) = kept.again(
         rt,
         &time,
@@ -32,12 +34,7 @@ fn run_kept(
         &mut writer,
         &mut teller,
     );
-    let ran = Ran {
-        status,
-        output,
-        errors,
-    };
-    (ran, left)
+    ((status, output, errors), left)
 }
 
 /// These files after runs, each over what a stop leaves of those that the one before it left; none, where one
@@ -47,7 +44,11 @@ fn kept_after(rt: &HostRuntime, kept: KeptFiles, steps: &[Step]) -> Option<KeptF
     for (line, input, status, output, errors) in steps {
         let (ran, left) = run_kept(rt, kept, line, input.as_bytes());
         let left = left?;
-        if !ran.is(*status, output, errors) {
+        let (ended, said, told) = ran;
+        let is_so = ended == *status
+            && said.as_slice() == output.as_bytes()
+            && told.as_slice() == errors.as_bytes();
+        if !is_so {
             return None;
         }
         kept = left.stopped();
@@ -120,10 +121,10 @@ fn sent_twice(rt: &HostRuntime, kept: KeptFiles) -> Option<Vec<u8>> {
     let mut network = Loopback::new(rt, Limits::of_service());
     let mut output = Vec::new(rt.alloc());
     let mut errors = Vec::new(rt.alloc());
-    let mut first = Watched::new(Input::of(ASKED.as_bytes()));
-    let mut second = Watched::new(Input::of(ASKED.as_bytes()));
-    let mut writer = Watched::new(Output::to(&mut output));
-    let mut teller = Watched::new(Output::to(&mut errors));
+    let mut first = Watched::new(ASKED.as_bytes());
+    let mut second = Watched::new(ASKED.as_bytes());
+    let mut writer = Watched::new(&mut output);
+    let mut teller = Watched::new(&mut errors);
     let (status, again, _left) = twice(
         rt,
         kept,
