@@ -2,6 +2,5 @@ pub mod Closed
 pub mod Leaving
 pub mod Moving
 pub mod Opening
-pub mod PageLemmas
 pub mod Reopened
 pub mod Whole

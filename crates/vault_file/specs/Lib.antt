@@ -2,7 +2,6 @@ pub mod Closed
 pub mod Faults
 pub mod Found
 pub mod Moved
-pub mod Page
 pub mod Paths
 pub mod Refused
 pub mod Reopened

@@ -1,10 +1,10 @@
 //! The paths of the host that the program runs on.
-use crate::blank::log::has_log;
-use crate::blank::make::{is_empty, make_blank};
 use crate::paths::{Paths, is_no_path};
 use sqlite::{Connection, FileFrom, FileStore, Start};
 use std::alloc::AllocError;
 use std::{fs, io};
+use vault_blank::log::has_log;
+use vault_blank::make::{is_empty, make_blank};
 use vault_recover::options::Cache;
 use vault_recover::reopen::open_path;
 

@@ -1,11 +1,9 @@
 //! The vault in the file at a path.
 #![tactic(auto)]
 
-pub mod blank;
 pub mod check;
 pub mod fault;
 pub mod host;
-pub mod last;
 pub mod migrate;
 pub mod open;
 pub mod paths;

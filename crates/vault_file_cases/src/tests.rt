@@ -6,7 +6,6 @@ mod fresh;
 mod missing;
 mod moved;
 mod over;
-mod reopened;
 mod rows;
 mod sent;
 mod sent_again;

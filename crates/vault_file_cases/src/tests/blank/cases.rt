@@ -6,7 +6,7 @@ use crate::tests::files::file::{holds, is_folder_made, is_written, there};
 use crate::tests::files::script::is_as_said;
 use std::fs;
 use std::io::ErrorKind;
-use vault_file::blank::make::{Made, make_blank};
+use vault_blank::make::{Made, make_blank};
 
 /// A new file is its owner's alone.
 const NEW: &str = "folder vault_blank_new = done

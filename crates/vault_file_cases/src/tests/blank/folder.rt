@@ -2,8 +2,8 @@
 use std::io::ErrorKind;
 use std::os::unix::fs::{MetadataExt, PermissionsExt};
 use std::{fs, io};
-use vault_file::blank::make::Made;
-use vault_file::blank::page::blank_page;
+use vault_blank::make::Made;
+use vault_blank::page::blank_page;
 
 /// Whether something has the name.
 pub fn is_there(rt: &HostRuntime, path: &str) -> bool {

@@ -7,7 +7,7 @@ use std::cell::Cell;
 use std::fs::OpenOptions;
 use std::io::{ErrorKind, Write};
 use std::{fs, io};
-use vault_file::blank::make::{Made, make_blank};
+use vault_blank::make::{Made, make_blank};
 
 /// More calls than one file takes.
 const CALLS: u32 = 40;

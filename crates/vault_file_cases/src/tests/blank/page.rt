@@ -1,6 +1,6 @@
 //! The numbers of the page, at the places that the format gives.
 use std::alloc::Global;
-use vault_file::blank::page::{blank_page, write_blank};
+use vault_blank::page::{blank_page, write_blank};
 
 /// The number in so many bytes at a place.
 fn number_at(page: &[u8], at: usize, width: usize) -> Option<u64> {

@@ -4,7 +4,7 @@ use super::stand_in::{Before, Call, StandIn};
 use crate::tests::files::file::{is_folder_made, mode};
 use std::cell::Cell;
 use std::{fs, io};
-use vault_file::blank::make::{Made, make_blank};
+use vault_blank::make::{Made, make_blank};
 
 /// Looks at the second name before each call.
 #[derive(Drop)]

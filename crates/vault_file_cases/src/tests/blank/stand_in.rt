@@ -3,7 +3,7 @@ use std::alloc::{Allocator, Global};
 use std::fs::{Files, Metadata, OpenFile, OpenOptions, Permissions};
 use std::io;
 use std::io::{Read, Seek, SeekFrom, Write};
-use vault_file::blank::lock::Lock;
+use vault_blank::lock::Lock;
 
 /// What a call is for.
 #[derive(Clone, Copy, Debug, PartialEq, Eq)]

@@ -2,7 +2,7 @@
 use super::folder::{brief, holds_page};
 use crate::tests::files::file::there;
 use std::fs;
-use vault_file::blank::make::{Made, make_blank};
+use vault_blank::make::{Made, make_blank};
 
 /// What a call that makes a file answers: `new`, `there`, or the kind of its error.
 pub fn made(rt: &HostRuntime, path: &str) -> String {

@@ -5,7 +5,7 @@ use crate::tests::files::file::is_folder_made;
 use std::cell::Cell;
 use std::io::ErrorKind;
 use std::{fs, io};
-use vault_file::blank::make::{Made, make_blank};
+use vault_blank::make::{Made, make_blank};
 
 /// More calls than one file takes.
 const CALLS: u32 = 40;

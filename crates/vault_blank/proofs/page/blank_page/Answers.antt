@@ -1,8 +1,8 @@
 use Rattle.std.proofs.Common.{◌≡◌, [], ◌∷◌, ◌++◌, refl}
 use Rattle.std.specs.Prelude.{codes}
 use Rattle.std.specs.List.{repeat}
-use Rattle.vault_file.proofs.PageLemmas.{page_with, page_with-put}
-use Rattle.vault_file.proofs.blank.page.blank_page.Goals as goal
+use Rattle.vault_blank.proofs.PageLemmas.{page_with, page_with-put}
+use Rattle.vault_blank.proofs.page.blank_page.Goals as goal
 
 pub returns-clause-bytes : goal.returns-clause-bytes
 returns-clause-bytes c =

@@ -8,10 +8,10 @@ ghost use Rattle.std.specs.Prelude.{◌≡◌, [], IsErrAnd};
 ghost use Rattle.std.specs.Fs.{permissions_mode};
 ghost use Rattle.std.specs.IoError.{error_kind};
 
-use crate::blank::lock::Lock;
-use crate::blank::log::has_log;
-use crate::blank::names::{folder_of, second_name};
-use crate::blank::page::write_blank;
+use crate::lock::Lock;
+use crate::log::has_log;
+use crate::names::{folder_of, second_name};
+use crate::page::write_blank;
 use std::alloc::{Alloc, AllocError};
 use std::fs::{Files, Metadata, OpenFile, OpenOptions, Permissions};
 use std::io::ErrorKind;

@@ -1,7 +1,7 @@
 //! The page of a new file.
 ghost use Rattle.std.specs.Prelude.{◌≡◌, ◌+◌, ◌≤◌, ◌++◌, length, take, drop, OnOk};
 ghost use Rattle.std.specs.Io.KnownBytes.{Appends};
-ghost use Rattle.vault_file.specs.Page.{blank_database};
+ghost use Rattle.vault_blank.specs.Page.{blank_database};
 
 use std::io;
 use std::io::Write;

@@ -1,5 +1,5 @@
 //! The log beside a file.
-use crate::blank::names::log_name;
+use crate::names::log_name;
 use std::alloc::{Alloc, AllocError};
 use std::fs::Files;
 use std::io::ErrorKind;
