@@ -85,8 +85,9 @@ def number_shown(walk):
     walk.tally.judge("the case is logged", unlike(told, ("detokenize", "chargeback 4711")))
     walk.browser.run("const now = Date.now; Date.now = () => now() - 3600000; arguments[0]()")
     time.sleep(0.5)
-    left = int(walk.browser.text("left"))
-    walk.tally.judge("a clock that is set back changes nothing", "" if left <= SHOWN else f"{left} s")
+    left = walk.browser.text("left")
+    is_so = left != "" and int(left) <= SHOWN
+    walk.tally.judge("a clock that is set back changes nothing", "" if is_so else f"'{left}' s")
     walk.browser.seen_as(media="print")
     display = walk.browser.value("getComputedStyle(shown).display")
     walk.browser.seen_as()
