@@ -1,5 +1,6 @@
 """An empty Debian that boots beside this machine, and a shell of its root."""
 
+import fcntl
 import os
 import re
 import subprocess
@@ -37,14 +38,16 @@ def mirrors():
 
 
 def made_base(folder):
-    """An empty Debian in a folder; several trials copy one in MACHINES, and the first one makes it."""
+    """An empty Debian in a folder; several trials copy one in MACHINES. The first one makes it, and others wait."""
     base = os.path.join(os.environ.get("MACHINES", os.path.dirname(folder)), "base")
-    if not os.path.exists(base):
-        part = f"{base}.part"
-        must("debootstrap", "--variant=minbase", f"--include={EMPTY}", SUITE, part, *mirrors())
-        must("chroot", part, "apt-get", "update")
-        must("chroot", part, "apt-get", "install", "-y", "--download-only", *FETCHED)
-        os.rename(part, base)
+    with open(f"{base}.lock", "w") as lock:
+        fcntl.flock(lock, fcntl.LOCK_EX)
+        if not os.path.exists(base):
+            part = f"{base}.part"
+            must("debootstrap", "--variant=minbase", f"--include={EMPTY}", SUITE, part, *mirrors())
+            must("chroot", part, "apt-get", "update")
+            must("chroot", part, "apt-get", "install", "-y", "--download-only", *FETCHED)
+            os.rename(part, base)
     return base
 
 
@@ -70,7 +73,7 @@ class Machine:
 
     def boot(self):
         self.console = open("console", "w")
-        named = {"FOLDER": self.folder, "NAME": "vault-trial", "SYSTEMD_NSPAWN_UNIFIED_HIERARCHY": "1"}
+        named = {"FOLDER": self.folder, "NAME": f"vault-trial-{os.getpid()}", "SYSTEMD_NSPAWN_UNIFIED_HIERARCHY": "1"}
         self.process = subprocess.Popen(
             ["sh", "-c", BEGIN, "sh", *self.groups],
             stdin=subprocess.DEVNULL,

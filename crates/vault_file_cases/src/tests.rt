@@ -1,14 +1,5 @@
-//! Vaults over databases: worked cases, stops, and files that were changed.
-mod blank;
-mod changed;
-mod files;
-mod fresh;
-mod missing;
-mod moved;
-mod over;
-mod rows;
-mod sent;
-mod sent_again;
-mod sessions;
-mod steps;
-mod stops;
+//! Vaults in files at paths, in folders of the tests' own: what is done with them, and what that tells.
+mod cases;
+mod file;
+mod older;
+mod script;

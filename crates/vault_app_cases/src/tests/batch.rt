@@ -1,5 +1,5 @@
 //! Batches on files, and the same ones over ordered maps.
-use super::running::{Input, Output, are_done, end_so, is_folder_made, is_missing};
+use super::running::{Input, Output, are_done, end_so, is_missing};
 use std::alloc::Global;
 use std::io::{Read, Write};
 use vault_batch::asker::Asker;
@@ -9,6 +9,7 @@ use vault_core::source::FixedSource;
 use vault_jobs::batch::batch_input;
 use vault_pan::draw::Digits;
 use vault_script::case::filled;
+use vault_script::paths::is_folder_made;
 use vault_script::worked::{HAS_LOG, Step};
 use vault_store::tables::Tables;
 use vault_store::vault::Vault;

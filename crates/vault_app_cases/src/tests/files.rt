@@ -1,9 +1,8 @@
 //! The program on files of the tests' own folders.
-use super::running::{
-    NOT_OPENED, answer, are_done, are_said, end_so, is_folder_made, is_missing, run_on, trial,
-};
+use super::running::{NOT_OPENED, answer, are_done, are_said, end_so, is_missing, run_on, trial};
 use std::net::TcpListener;
 use std::{fs, io};
+use vault_script::paths::is_folder_made;
 use vault_script::worked::{ANSWERED, ASKED, HAS_LOG, SHOP, Step};
 
 /// A repeat answers the first token of a shop.

@@ -1,6 +1,7 @@
 //! Rights files.
-use super::running::{are_done, end_so, is_folder_made, is_missing};
+use super::running::{are_done, end_so, is_missing};
 use std::fs;
+use vault_script::paths::is_folder_made;
 use vault_script::worked::Step;
 
 /// Whether a rights file is written, and the run on a vault's file ends so.

@@ -193,12 +193,6 @@ pub fn are_said(rt: &HostRuntime, file: &str, lines: &str) -> bool {
 /// What is said of a file that is no vault.
 pub const NOT_OPENED: &str = "vault: file not opened 34\n";
 
-/// Whether a folder is there and empty.
-pub fn is_folder_made(rt: &HostRuntime, folder: &str) -> bool {
-    let _ = fs::remove_dir_all(rt, folder);
-    fs::create_dir(rt, folder).is_ok()
-}
-
 /// Whether there is nothing by this name.
 pub fn is_missing(rt: &HostRuntime, file: &str) -> bool {
     fs::symlink_metadata(rt, file).is_err()

@@ -1,5 +1,6 @@
 //! Readers and writers that fail.
-use super::running::{Input, Manner, Output, is_folder_made, status_of};
+use super::running::{Input, Manner, Output, status_of};
+use vault_script::paths::is_folder_made;
 use vault_script::worked::{ASKED, words_of};
 use vault_wire::watched::Watched;
 

@@ -1,5 +1,6 @@
 //! Sweeps on files.
-use super::running::{are_done, are_said, end_so, is_folder_made, is_missing};
+use super::running::{are_done, are_said, end_so, is_missing};
+use vault_script::paths::is_folder_made;
 use vault_script::worked::{HAS_LOG, SHOP, Step};
 
 /// The revocation of the third token, by `back`.

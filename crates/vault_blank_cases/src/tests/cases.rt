@@ -1,12 +1,11 @@
 //! Files that are made, what is there already, and files that aren't made: steps as lines, with what each
 //! tells.
 use super::folder::brief;
-use super::steps::is_alone;
-use crate::tests::files::file::{holds, is_folder_made, is_written, there};
-use crate::tests::files::script::is_as_said;
+use super::steps::{is_alone, is_as_said};
 use std::fs;
 use std::io::ErrorKind;
 use vault_blank::make::{Made, make_blank};
+use vault_script::paths::{holds, is_folder_made, is_written, there};
 
 /// A new file is its owner's alone.
 const NEW: &str = "folder vault_blank_new = done

@@ -5,5 +5,5 @@ mod met;
 mod page;
 mod seen;
 mod stand_in;
-pub mod steps;
+mod steps;
 mod stopped;

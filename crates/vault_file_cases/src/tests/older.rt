@@ -1,6 +1,20 @@
 //! Files of schema 1.
 use super::file::changed_in;
-use crate::tests::moved::FIRST_TABLES;
+use vault_schema::v1::{
+    CREATE_COUNTS, CREATE_ENTRIES, CREATE_ENTRIES_NUMBER, CREATE_MERCHANTS, CREATE_RECORDS,
+    CREATE_RIGHTS, CREATE_VAULT,
+};
+
+/// The tables of schema 1.
+const TABLES: [&str; 7] = [
+    CREATE_VAULT,
+    CREATE_MERCHANTS,
+    CREATE_COUNTS,
+    CREATE_ENTRIES,
+    CREATE_ENTRIES_NUMBER,
+    CREATE_RECORDS,
+    CREATE_RIGHTS,
+];
 
 /// Two merchants: tokens of both uses, live, expired, revoked and purged, and numbers of 16 and 13 digits.
 const ROWS: &str = "INSERT INTO vault VALUES (1, 1);
@@ -19,10 +33,10 @@ INSERT INTO rights VALUES ('till-1', 'shop1', 1), ('back', 'shop2', 6)";
 
 /// Makes a file of schema 1 with these rows, and tells whether that was done.
 pub fn is_older_made(rt: &HostRuntime, path: &str) -> bool {
-    for sql in FIRST_TABLES {
-        if changed_in(rt, path, sql).as_str() != "changed" {
+    for sql in TABLES {
+        if changed_in(rt, path, sql) != "changed" {
             return false;
         }
     }
-    changed_in(rt, path, ROWS).as_str() == "changed"
+    changed_in(rt, path, ROWS) == "changed"
 }

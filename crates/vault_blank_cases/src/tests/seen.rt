@@ -1,10 +1,10 @@
 //! What is seen of a file while it is made.
 use super::folder::{brief, holds_page};
 use super::stand_in::{Before, Call, StandIn};
-use crate::tests::files::file::{is_folder_made, mode};
 use std::cell::Cell;
 use std::{fs, io};
 use vault_blank::make::{Made, make_blank};
+use vault_script::paths::{is_folder_made, mode};
 
 /// Looks at the second name before each call.
 #[derive(Drop)]

@@ -1,8 +1,8 @@
 //! Worked cases: each is done in a folder of its own.
 use super::file::refusal;
 use super::script::is_as_said;
-use crate::tests::changed::{ANY_FORM, ANY_ROWS};
 use vault_file::fault::NotOpened;
+use vault_script::changes::{ANY_FORM, ANY_ROWS};
 use vault_verdict::fault::OpenFault;
 
 /// Another program's file is refused.

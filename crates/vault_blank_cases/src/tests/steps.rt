@@ -1,11 +1,11 @@
-//! What is done with a new file, and what that tells.
+//! Steps over a new file as lines: what is done with it, `=`, and what that tells.
 use super::folder::{brief, holds_page};
-use crate::tests::files::file::there;
 use std::fs;
 use vault_blank::make::{Made, make_blank};
+use vault_script::paths::{done_told, is_said, path_told, step_of};
 
 /// What a call that makes a file answers: `new`, `there`, or the kind of its error.
-pub fn made(rt: &HostRuntime, path: &str) -> String {
+fn made(rt: &HostRuntime, path: &str) -> String {
     let alloc = rt.alloc();
     let told = match brief(&make_blank(rt, path)) {
         Ok(Made::New) => String::from_str(alloc, "new"),
@@ -15,20 +15,8 @@ pub fn made(rt: &HostRuntime, path: &str) -> String {
     told.unwrap_or(String::new(alloc))
 }
 
-/// What stands at a path, where it is a folder too.
-pub fn kind(rt: &HostRuntime, path: &str) -> &'static str {
-    match fs::symlink_metadata(rt, path) {
-        Ok(found) => if found.is_dir() {
-            "folder"
-        } else {
-            there(rt, path)
-        },
-        Err(_) => "nothing",
-    }
-}
-
 /// How many bytes a file has.
-pub fn size(rt: &HostRuntime, path: &str) -> String {
+fn size(rt: &HostRuntime, path: &str) -> String {
     let alloc = rt.alloc();
     match fs::metadata(rt, path) {
         Ok(found) => {
@@ -40,7 +28,7 @@ pub fn size(rt: &HostRuntime, path: &str) -> String {
 }
 
 /// Whether a file gets a second name, where both stand in one line.
-pub fn is_named_twice(rt: &HostRuntime, paths: &str) -> bool {
+fn is_named_twice(rt: &HostRuntime, paths: &str) -> bool {
     match paths.split_once(' ') {
         Some((one, other)) => fs::hard_link(rt, one, other).is_ok(),
         None => false,
@@ -53,4 +41,28 @@ pub fn is_alone(rt: &HostRuntime, path: &str) -> bool {
         Some((folder, _)) => holds_page(rt, folder, path, b""),
         None => false,
     }
+}
+
+/// What a step over a path tells.
+fn step_told(rt: &HostRuntime, step: &str, path: &str) -> String {
+    match step {
+        "make" => made(rt, path),
+        "size" => size(rt, path),
+        "hard" => done_told(rt.alloc(), is_named_twice(rt, path)),
+        "page" => done_told(rt.alloc(), is_alone(rt, path)),
+        _ => path_told(rt, step, path),
+    }
+}
+
+/// Whether each of these lines tells what it says.
+pub fn is_as_said(rt: &HostRuntime, lines: &str) -> bool {
+    for line in lines.lines() {
+        let Some((step, path)) = step_of(line) else {
+            return false;
+        };
+        if !is_said(rt, line, step_told(rt, step, path).as_str()) {
+            return false;
+        }
+    }
+    true
 }

@@ -1,11 +1,11 @@
 //! A stop before each call of the file system, and calls that fail.
 use super::folder::{brief, holds_page, is_page, is_there};
 use super::stand_in::{Before, Call, StandIn};
-use crate::tests::files::file::is_folder_made;
 use std::cell::Cell;
 use std::io::ErrorKind;
 use std::{fs, io};
 use vault_blank::make::{Made, make_blank};
+use vault_script::paths::is_folder_made;
 
 /// More calls than one file takes.
 const CALLS: u32 = 40;

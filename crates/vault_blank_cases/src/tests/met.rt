@@ -2,12 +2,12 @@
 use super::folder::{brief, holds_page, is_there};
 use super::stand_in::{Before, Call, StandIn};
 use super::stopped::Stop;
-use crate::tests::files::file::is_folder_made;
 use std::cell::Cell;
 use std::fs::OpenOptions;
 use std::io::{ErrorKind, Write};
 use std::{fs, io};
 use vault_blank::make::{Made, make_blank};
+use vault_script::paths::is_folder_made;
 
 /// More calls than one file takes.
 const CALLS: u32 = 40;

@@ -1,24 +1,16 @@
 //! What is done with the file at a path, in words.
-use crate::tests::over::changed;
 use sqlite::{Alter, Connection, Unknown};
 use std::alloc::Global;
 use std::fs;
-use std::os::unix::fs::{PermissionsExt, symlink};
 use vault_file::check::check_file;
 use vault_file::fault::NotOpened;
 use vault_file::host::HostPaths;
 use vault_file::migrate::migrate_file;
 use vault_file::open::open_vault;
-use vault_file::paths::Paths;
 use vault_file::reopen::close;
 use vault_recover::options::Cache;
 use vault_script::case::answer_told;
 use vault_script::told::text;
-
-/// `done`, or `not done`.
-pub fn told(alloc: Global, is_done: bool) -> String {
-    text(alloc, if is_done { "done" } else { "not done" })
-}
 
 /// A refusal in words.
 pub fn refusal(alloc: Global, fault: NotOpened) -> String {
@@ -92,66 +84,26 @@ pub fn answered(rt: &HostRuntime, path: &str, line: &str) -> String {
     }
 }
 
-/// Runs statements of SQL over a connection, and ends it.
-fn changed_last<S: Alter + Drop>(alloc: Global, conn: Connection<S>, sql: &str) -> String {
+/// Runs statements of SQL over a connection, ends it, and tells whether they were run.
+fn is_changed<S: Alter + Drop>(conn: Connection<S>, sql: &str) -> bool {
     let mut conn = conn;
-    changed(alloc, &mut conn, sql)
+    conn.execute_batch(sql).is_ok()
 }
 
-/// Runs statements of SQL in the database at a path.
-pub fn changed_in(rt: &HostRuntime, path: &str, sql: &str) -> String {
+/// Whether statements of SQL are run in the database at a path.
+fn is_changed_in(rt: &HostRuntime, path: &str, sql: &str) -> bool {
     match Connection::open(rt, path) {
-        Ok(conn) => changed_last(rt.alloc(), conn, sql),
-        Err(_) => text(rt.alloc(), "not opened"),
-    }
-}
-
-/// Makes an empty folder, and tells whether that was done.
-pub fn is_folder_made(rt: &HostRuntime, path: &str) -> bool {
-    let _ = fs::remove_dir_all(rt, path);
-    fs::create_dir(rt, path).is_ok()
-}
-
-/// Lets a file's owner read and write it and its group read it, and tells whether that was done.
-pub fn is_mode_set(rt: &HostRuntime, path: &str) -> bool {
-    fs::set_permissions(rt, path, fs::Permissions::from_mode(0o640)).is_ok()
-}
-
-/// Who may do what with a file.
-pub fn mode(rt: &HostRuntime, path: &str) -> String {
-    let alloc = rt.alloc();
-    match fs::metadata(rt, path) {
-        Ok(found) => {
-            let mode = found.permissions().mode() & 0o777;
-            format!(in alloc; "{mode:o}").unwrap_or(String::new(alloc))
-        }
-        Err(_) => text(alloc, "not there"),
-    }
-}
-
-/// What stands at a path: `link`, `file`, or `nothing`.
-pub fn there(rt: &HostRuntime, path: &str) -> &'static str {
-    match fs::symlink_metadata(rt, path) {
-        Ok(found) => if found.is_symlink() { "link" } else { "file" },
-        Err(_) => "nothing",
-    }
-}
-
-/// Makes a link that leads nowhere, and tells whether that was done.
-pub fn is_linked(rt: &HostRuntime, path: &str) -> bool {
-    symlink(rt, "nowhere", path).is_ok()
-}
-
-/// Writes this text to a file, or none, and tells whether that was done.
-pub fn is_written(rt: &HostRuntime, path: &str, bytes: &[u8]) -> bool {
-    fs::write(rt, path, bytes).is_ok()
-}
-
-/// Whether a file holds these bytes.
-pub fn holds(rt: &HostRuntime, path: &str, bytes: &[u8]) -> bool {
-    match HostPaths::new(Unknown).read(rt, path) {
-        Ok(found) => found.as_slice() == bytes,
+        Ok(conn) => is_changed(conn, sql),
         Err(_) => false,
+    }
+}
+
+/// Runs statements of SQL in the database at a path: `changed`, or `not changed`.
+pub fn changed_in(rt: &HostRuntime, path: &str, sql: &str) -> &'static str {
+    if is_changed_in(rt, path, sql) {
+        "changed"
+    } else {
+        "not changed"
     }
 }
 

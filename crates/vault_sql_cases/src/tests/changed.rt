@@ -3,6 +3,7 @@ use super::over::Step;
 use super::steps::are_told;
 use std::alloc::Global;
 use vault_schema::v1::CREATE_COUNTS;
+use vault_script::changes::{ANY_FORM, ANY_ROWS};
 
 /// A table of another program.
 pub const NOTES: &str = "CREATE TABLE notes (line TEXT)";
@@ -11,25 +12,6 @@ pub const NOTES: &str = "CREATE TABLE notes (line TEXT)";
 const VAULT: &str = "open till-1 shop1 60 100 1000 = done
 tokenize till-1 shop1 7 single 4111111111111111 0 1000 = 0000000000001111 1060
 tokenize till-1 shop1 8 multi 4111111111111111 1 1000 = 1111111111111111 1100";
-
-/// Statements that change the form of any vault, also of one without a row, and how it is refused then.
-pub const ANY_FORM: [(&str, &str); 2] = [
-    ("UPDATE vault SET version = 9", "30 9"),
-    ("DROP TABLE rights", "30 0"),
-];
-
-/// Statements that change the rows of any vault, and how it is refused then.
-pub const ANY_ROWS: [(&str, &str); 3] = [
-    ("DELETE FROM vault", "31 1"),
-    (
-        "INSERT INTO rights4 VALUES ('till-1', 'shop2', 6, NULL)",
-        "31 12",
-    ),
-    (
-        "INSERT INTO merchants3 VALUES ('shop2', 60, 0, 1000, 7)",
-        "31 14",
-    ),
-];
 
 /// Statements, and by which rule the rows are refused then.
 const RULES: [(&str, &str); 26] = [

@@ -1,11 +1,9 @@
 //! What is done with a connection, and what it tells.
 ghost use Rattle.std.specs.Prelude.{◌≡◌, false, None};
 
-use super::files::file::refusal;
 use super::sent::{rows_sent, stream_sent};
 use sqlite::{Alter, Connection, Error};
 use std::alloc::Global;
-use vault_file::fault::NotOpened;
 use vault_migrate::migrate::{migrate, migrate_all};
 use vault_recover::open::open;
 use vault_script::case::wrong;
@@ -47,6 +45,17 @@ pub fn changed<S: Alter>(alloc: Global, conn: &mut Connection<S>, sql: &str) -> 
     }
 }
 
+/// A refusal in words: its number and, after a space, the version or the rule.
+fn refusal(alloc: Global, fault: OpenFault) -> String {
+    let number = fault.refusal().number();
+    let told = match fault {
+        OpenFault::WrongSchema(version) => format!(in alloc; "{number} {version}"),
+        OpenFault::Damaged(rule) => format!(in alloc; "{number} {rule}"),
+        OpenFault::Memory | OpenFault::Store => format!(in alloc; "{number}"),
+    };
+    told.unwrap_or(String::new(alloc))
+}
+
 /// What the check says: the sizes of a sound vault, or how it refuses.
 fn checked<S: Alter>(alloc: Global, conn: &mut Connection<S>) -> String {
     match check(alloc, conn) {
@@ -55,7 +64,7 @@ fn checked<S: Alter>(alloc: Global, conn: &mut Connection<S>) -> String {
             let told = format!(in alloc; "sound {merchants} {entries} {records}");
             told.unwrap_or(String::new(alloc))
         }
-        Err(fault) => refusal(alloc, NotOpened::Fault(fault)),
+        Err(fault) => refusal(alloc, fault),
     }
 }
 
@@ -71,7 +80,7 @@ fn moved(alloc: Global, outcome: Result<i64, OpenFault>) -> String {
             let told = format!(in alloc; "schema {version}");
             told.unwrap_or(String::new(alloc))
         }
-        Err(fault) => refusal(alloc, NotOpened::Fault(fault)),
+        Err(fault) => refusal(alloc, fault),
     }
 }
 
@@ -137,7 +146,7 @@ fn asked<S: Alter + Drop>(
             let told = answered(alloc, &mut vault, question);
             (told, vault.into_tables().into_connection())
         }
-        Err((fault, conn)) => (refusal(alloc, NotOpened::Fault(fault)), conn),
+        Err((fault, conn)) => (refusal(alloc, fault), conn),
     }
 }
 
