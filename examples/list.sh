@@ -117,4 +117,36 @@ code=0
 serve none.toml
 wait "$service" || code=$?
 step "nor does one whose list isn't there" 'vault: stopped 80 4' "$(cat served errors) $code"
+
+# Merchants of a list are set, and none is removed.
+merchants() {
+    "$program" list vault.db | sed -n 's/^merchant \([^ ]* single [0-9]* multi [0-9]* lead [0-9]*\) .*/\1/p'
+}
+cat > merchants.toml << 'END_OF_MERCHANTS'
+[shop3]
+single = 5
+multi = 6
+[shop2]
+single = 60
+multi = 0
+lead = 8
+END_OF_MERCHANTS
+step "what a list of merchants would set is said" \
+    'merchant shop2 single 60 multi 0 lead 8|merchant shop3 single 5 multi 6 lead 6 (0)' \
+    "$(told "$program" merchants --dry-run vault.db merchants.toml)"
+step "and isn't set" '2' "$(merchants | wc -l)"
+step "of a file that isn't there nothing is said" 'vault: file not opened 34 (3)' \
+    "$(told "$program" merchants --dry-run none.db merchants.toml)"
+step "they are set" 'merchants set 2 (0)' "$(told "$program" merchants vault.db merchants.toml)"
+step "and one that isn't listed stays" \
+    'shop1 single 60 multi 120 lead 8
+shop2 single 60 multi 0 lead 8
+shop3 single 5 multi 6 lead 6' "$(merchants)"
+step "the same list again sets nothing" 'merchants set 0 (0)' \
+    "$(told "$program" merchants vault.db merchants.toml)"
+printf '[shop4]\nsingle = 3155760001\nmulti = 0\n' > long.toml
+step "a life out of range is refused" 'refused 76 (1)' "$(told "$program" merchants vault.db long.toml)"
+step "and nothing is set" '3' "$(merchants | wc -l)"
+step "a list that isn't there stops it" 'vault: stopped 80 (4)' \
+    "$(told "$program" merchants vault.db none.toml)"
 end

@@ -3,6 +3,7 @@ use Rattle.std.proofs.Common.{◌≡◌, ◌⊎◌, inl, inr, ℕ, ℤ, List, Bo
 use Rattle.std.proofs.Common.{arith, refl, sym, subst, true, false, Bor}
 use Rattle.std.specs.Prelude.{unwrap_or, if◌then◌else◌}
 use Rattle.std.specs.Global.{Vec}
+use Rattle.vault_merchants.specs.Listed.{Wanted}
 use Rattle.vault_rights.specs.Named.{Row}
 use Rattle.clap.specs.Words.{Text}
 use Rattle.sqlite_disk.specs.declared.Disk.{Ghosts}
@@ -12,8 +13,8 @@ use Rattle.vault_engine.specs.Passing.{Passage}
 use Rattle.vault_listen.specs.Live.{Turns}
 use Rattle.vault_verdict.specs.declared.sizes.Sizes.{Sizes}
 use Rattle.vault_words.specs.declared.jobs.Job.{Job}
-use Rattle.vault_words.specs.declared.jobs.Job.TheVariants.{Trial, Merchant, Grant, Withdraw, Rights, Pipe}
-use Rattle.vault_words.specs.declared.jobs.Job.TheVariants.{Batch, Serve, Sweep, List as Listing, Check}
+use Rattle.vault_words.specs.declared.jobs.Job.TheVariants.{Trial, Merchant, Merchants, Grant, Withdraw, Rights}
+use Rattle.vault_words.specs.declared.jobs.Job.TheVariants.{Pipe, Batch, Serve, Sweep, List as Listing, Check}
 use Rattle.vault_words.specs.declared.jobs.Job.TheVariants.{Migrate}
 use Rattle.vault_jobs.specs.Doing.{Works}
 use Rattle.vault_jobs.specs.Doing.{Does as Performs}
@@ -86,6 +87,13 @@ IsOfRows t = ⊥
 -- the words ask for such a task only by a batch
 batch_of : (world : World) (job : Job) (t : Task) → IsTaskOf world job t → IsOfRows t → IsBatch job
 batch_of world (Merchant j) t (name, (now, moment, same)) rows = absurd (subst IsOfRows same rows)
+batch_of world (Merchants j) t (given, now, listed, moment, same) rows =
+    absurd (no_rows j.dry_run given now (subst IsOfRows same rows))
+  where
+    no_rows : (dry_run : Bool) (given : Vec Wanted) (now : ℕ) → ¬ (IsOfRows
+        (if dry_run then task.Show (show.Settings given now) else task.SetMerchants given now))
+    no_rows true given now h = h
+    no_rows false given now h = h
 batch_of world (Grant j) t (names, (right, now, word, moment, same)) rows = absurd (subst IsOfRows same rows)
 batch_of world (Withdraw j) t (names, (right, now, word, moment, same)) rows =
     absurd (subst IsOfRows same rows)
@@ -119,6 +127,8 @@ module _ (tells : Turns) (unread unsent : Type 0) (s : Streams) where
   rows_of (task.Give rows now) w broken h = h
   rows_of (task.Settle rows now) w broken (inl (changes, of, h)) = h
   rows_of (task.Settle rows now) w broken (inr (f, is, silent, h)) = absurd (cc is)
+  rows_of (task.SetMerchants rows now) w broken (inl (cs, of, h)) = h
+  rows_of (task.SetMerchants rows now) w broken (inr (f, is, silent, h)) = absurd (cc is)
   rows_of (task.Sweep who now Words) w broken h = h
   rows_of (task.Sweep who now Clock) w broken (inl (near, h)) = h
   rows_of (task.Sweep who now Clock) w broken (inr (inl (is, silent, same, far))) = absurd (cc is)

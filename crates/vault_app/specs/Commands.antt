@@ -3,6 +3,7 @@ pub mod Batch
 pub mod Check
 pub mod Listing
 pub mod Merchant
+pub mod Merchants
 pub mod Migrate
 pub mod Pipe
 pub mod Rights

@@ -5,6 +5,7 @@ pub mod Endings
 pub mod Files
 pub mod Jobs
 pub mod Listed
+pub mod Merchants
 pub mod Plans
 pub mod Rights
 pub mod Saying

@@ -4,7 +4,7 @@ use Rattle.std.specs.Prelude.{ℕ, List}
 use Rattle.vault_core.specs.Proper.{AllProper}
 use Rattle.vault_core.specs.Scalar.{IsMoment}
 use Rattle.vault_engine.specs.declared.stop.Stop.TheVariants as service
-use Rattle.vault_jobs.specs.Grants.{grants_at}
+use Rattle.vault_changes.specs.Grants.{grants_at}
 use Rattle.vault_jobs.specs.Moments.{IsMomentOf}
 use Rattle.vault_jobs.specs.declared.stop.Stop.TheVariants as stop
 use Rattle.vault_jobs.specs.declared.task.Listed.{Listed}

@@ -5,8 +5,8 @@ use Rattle.clap.specs.Words.{Text}
 use Rattle.vault_core.specs.Scalar.{IsLife}
 use Rattle.vault_engine.specs.declared.stop.Stop.TheVariants as service
 use Rattle.vault_words.specs.declared.jobs.Job.{Job}
-use Rattle.vault_words.specs.declared.jobs.Job.TheVariants.{Trial, Merchant, Grant, Withdraw, Rights, Pipe}
-use Rattle.vault_words.specs.declared.jobs.Job.TheVariants.{Batch, Serve, Sweep, List as Listing, Check}
+use Rattle.vault_words.specs.declared.jobs.Job.TheVariants.{Trial, Merchant, Merchants, Grant, Withdraw, Rights}
+use Rattle.vault_words.specs.declared.jobs.Job.TheVariants.{Pipe, Batch, Serve, Sweep, List as Listing, Check}
 use Rattle.vault_words.specs.declared.jobs.Job.TheVariants.{Migrate}
 use Rattle.vault_jobs.specs.declared.stop.Stop.TheVariants as stop
 use Rattle.vault_jobs.specs.declared.task.Task.{Task}
@@ -15,6 +15,7 @@ use Rattle.vault_app.specs.Commands.Batch.{batch_says}
 use Rattle.vault_app.specs.Commands.Check.{check_says}
 use Rattle.vault_app.specs.Commands.Listing.{list_says}
 use Rattle.vault_app.specs.Commands.Merchant.{merchant_says}
+use Rattle.vault_app.specs.Commands.Merchants.{merchants_says}
 use Rattle.vault_app.specs.Commands.Migrate.{migrate_says}
 use Rattle.vault_app.specs.Commands.Pipe.{pipe_says}
 use Rattle.vault_app.specs.Commands.Rights.{grant_says, withdraw_says}
@@ -34,6 +35,7 @@ use Rattle.vault_app.specs.declared.plan.Plan.TheVariants as plan
 abbrev pub saying : Job → Saying
 saying (Trial j) = trial_says j
 saying (Merchant j) = merchant_says j
+saying (Merchants j) = merchants_says j
 saying (Grant j) = grant_says j
 saying (Withdraw j) = withdraw_says j
 saying (Rights j) = rights_says j

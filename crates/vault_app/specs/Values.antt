@@ -6,10 +6,11 @@ use Rattle.vault_core.specs.Named.{caller_of}
 use Rattle.vault_core.specs.Proper.{AllProper, IsProper}
 use Rattle.vault_core.specs.Scalar.{IsMoment}
 use Rattle.vault_core.specs.declared.command.Command.{Command}
-use Rattle.vault_jobs.specs.Grants.{grants_at}
+use Rattle.vault_changes.specs.Grants.{grants_at}
+use Rattle.vault_changes.specs.Settings.{wanted_at}
 use Rattle.vault_jobs.specs.declared.task.Task.{Task}
-use Rattle.vault_jobs.specs.declared.task.Task.TheVariants.{Change, Give, Settle, Sweep, Batch, Pipe, Serve}
-use Rattle.vault_jobs.specs.declared.task.Task.TheVariants.{Show}
+use Rattle.vault_jobs.specs.declared.task.Task.TheVariants.{Change, Give, Settle, SetMerchants, Sweep, Batch}
+use Rattle.vault_jobs.specs.declared.task.Task.TheVariants.{Pipe, Serve, Show}
 
 -- a command of no caller, which only the words of the program ask for: of a merchant or of a right
 abbrev pub IsOwn : Command → Type 0
@@ -21,6 +22,7 @@ abbrev pub AreValues : Task → Type 0
 AreValues (Change c) = IsOwn c × IsProper c
 AreValues (Give rights now) = AllProper (grants_at now rights.items)
 AreValues (Settle rights now) = IsMoment now × AllProper (grants_at now rights.items)
+AreValues (SetMerchants rows now) = AllProper (wanted_at now rows.items)
 AreValues (Sweep who now giver) = IsName who.caller × IsName who.merchant × IsMoment now
 AreValues (Batch who now digits) =
     IsName who.caller × IsName who.merchant × IfSome now IsMoment × IfSome digits IsDrawing

@@ -4,6 +4,7 @@ pub(crate) mod batch;
 pub(crate) mod check;
 pub(crate) mod list;
 pub(crate) mod merchant;
+pub(crate) mod merchants;
 pub(crate) mod migrate;
 pub(crate) mod pipe;
 pub(crate) mod rights;

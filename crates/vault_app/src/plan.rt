@@ -3,7 +3,9 @@ ghost use Rattle.std.specs.Prelude.{IfOk, MatchResult};
 ghost use Rattle.vault_app.specs.Plans.{EndsBefore, HasLives, IsPlanOf, IsProperPlan};
 ghost use Rattle.vault_app.specs.World.{World, world_at};
 
-use crate::commands::{batch, list, merchant, pipe, rights, rights_file, serve, sweep, trial};
+use crate::commands::{
+    batch, list, merchant, merchants, pipe, rights, rights_file, serve, sweep, trial,
+};
 use crate::ending::Ending;
 use vault_file::paths::Paths;
 use vault_jobs::task::Task;
@@ -43,6 +45,7 @@ pub(crate) fn plan_of<'a, P: Paths, K: Timekeeper>(
     match asked {
         Job::Trial(job) => Ok(Plan::Trial(trial::plan(time, job)?)),
         Job::Merchant(job) => Ok(Plan::Do(job.file, merchant::task(time, job)?)),
+        Job::Merchants(job) => Ok(Plan::Do(job.file, merchants::task(rt, paths, time, job)?)),
         Job::Grant(job) => Ok(Plan::Do(job.given.file, rights::grant(time, job)?)),
         Job::Withdraw(job) => Ok(Plan::Do(job.file, rights::withdraw(time, job)?)),
         Job::Rights(job) => Ok(Plan::Do(job.file, rights_file::task(rt, paths, time, job)?)),

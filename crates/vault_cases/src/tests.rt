@@ -12,6 +12,7 @@ mod fakes;
 mod help;
 mod intake;
 mod live;
+mod merchants;
 mod messages;
 mod refused;
 mod rights;

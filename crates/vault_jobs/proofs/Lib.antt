@@ -1,10 +1,7 @@
 pub mod Breaking
-pub mod Changing
 pub mod Flushing
-pub mod GivenRights
 pub mod Lines
 pub mod Listed
-pub mod Lists
 pub mod MerchantMoments
 pub mod Parts
 pub mod Purging

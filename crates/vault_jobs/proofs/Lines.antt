@@ -17,3 +17,7 @@ line_of t t1 t2 t3 t4 t5 t6 t7 t8 v p n n' q1 d1 q2 d2 q3 d3 d3' q4 d4 d4' q5 d5
 pub five : (a g g' b w w' c : List ℕ) → g ≡ g' → w ≡ w'
     → a ++ (g ++ (b ++ (w ++ (c ++ [])))) ≡ a ++ g' ++ b ++ w' ++ c
 five a g g' b w w' c first second = simp (first, second, append_assoc, append-nil)
+
+-- three parts, of which one is a number
+pub three : (a g g' c : List ℕ) → g ≡ g' → a ++ (g ++ (c ++ [])) ≡ a ++ g' ++ c
+three a g g' c same = simp (same, append_assoc, append-nil)

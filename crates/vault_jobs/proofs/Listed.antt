@@ -11,11 +11,11 @@ use Rattle.vault_rights.specs.Named.{Row}
 use Rattle.vault_store.specs.Applied.{Contains, tables_of}
 use Rattle.vault_store.specs.declared.vault.Vault.{Vault}
 use Rattle.vault_jobs.proofs.RefinedPassages.{serve_ends}
-use Rattle.vault_jobs.specs.Changes.{AreChangesOf}
+use Rattle.vault_changes.specs.Changes.{AreChangesOf}
 use Rattle.vault_jobs.specs.Doing.{ListedServeEnds, ServeEnds}
-use Rattle.vault_jobs.specs.Grants.{CarriesAll}
+use Rattle.vault_changes.specs.Grants.{CarriesAll}
 use Rattle.vault_jobs.specs.Streams.{Known}
-use Rattle.vault_jobs.specs.declared.changes.Changes.{Changes}
+use Rattle.vault_changes.specs.declared.changes.Changes.{Changes}
 use Rattle.vault_jobs.specs.declared.stop.Stop.{Stop}
 use Rattle.vault_jobs.specs.declared.task.Listed.{Listed}
 use Rattle.vault_jobs.specs.declared.task.Outcome.{Outcome}

@@ -10,25 +10,27 @@ use Rattle.vault_listen.specs.Peers.{Event, Link, events_of}
 use Rattle.vault_listen.proofs.ServedConnections.{none_then}
 use Rattle.vault_store.specs.declared.vault.Fault.{Fault}
 use Rattle.vault_jobs.specs.Causes.{IsCause, IsCauseOf}
-use Rattle.vault_jobs.specs.Carried.{Carries}
-use Rattle.vault_jobs.specs.Doing.{CommandsEnd, Does, ListEnds, ListedServeEnds, ServeEnds, SettleEnds}
-use Rattle.vault_jobs.specs.Doing.{ShowEnds, SweepEnds, TimedSweepEnds, Works, behind}
+use Rattle.vault_changes.specs.Carried.{Carries}
+use Rattle.vault_jobs.specs.Doing.{CommandsEnd, Does, ListEnds, ListedServeEnds, ServeEnds, SetEnds}
+use Rattle.vault_jobs.specs.Doing.{SettleEnds, ShowEnds, SweepEnds, TimedSweepEnds, Works, behind}
 use Rattle.vault_store.specs.declared.vault.Fault.TheVariants as vault
-use Rattle.vault_jobs.specs.Grants.{CarriesAll, grants_at}
+use Rattle.vault_changes.specs.Grants.{CarriesAll, grants_at}
 use Rattle.std.specs.Global.{Vec}
+use Rattle.vault_merchants.specs.Listed.{Wanted}
 use Rattle.vault_rights.specs.Named.{Row}
 use Rattle.vault_jobs.specs.Tasks.{BreaksBy, FailsStore, HasNoLinks, IsTaskBegun, granted_line}
 use Rattle.vault_core.specs.Vault.{Vault as Content}
 use Rattle.vault_jobs.specs.Listing.{shown_text}
 use Rattle.vault_jobs.specs.declared.task.Task.{Task}
-use Rattle.vault_jobs.specs.declared.task.Task.TheVariants.{Change, Give, Settle, Sweep, Serve, Show}
+use Rattle.vault_jobs.specs.declared.task.Task.TheVariants.{Change, Give, Settle, SetMerchants, Sweep, Serve}
+use Rattle.vault_jobs.specs.declared.task.Task.TheVariants.{Show}
 use Rattle.vault_jobs.specs.declared.task.Listed.{Listed}
 use Rattle.vault_jobs.specs.declared.clock.Giver.{Giver}
 use Rattle.vault_jobs.specs.declared.clock.Giver.TheVariants.{Words, Clock}
 use Rattle.vault_jobs.specs.declared.show.Shown.{Shown}
 use Rattle.vault_core.specs.declared.command.Command.{Command}
 use Rattle.vault_jobs.specs.Streams.{Known, Streams}
-use Rattle.vault_jobs.specs.Carried.{Verdict}
+use Rattle.vault_changes.specs.Carried.{Verdict}
 use Rattle.vault_jobs.specs.declared.stop.Stop.{Stop}
 use Rattle.vault_jobs.specs.declared.stop.Stop.TheVariants.{Vault, Service, Listener, Rights}
 use Rattle.vault_jobs.specs.declared.stop.Stop.TheVariants as stop
@@ -82,6 +84,12 @@ module _ (unsent : Type 0) (old new : Known) (s : Streams) where
   settle_caused now rows w broken r (inl (changes, of, h)) =
       commands_caused (CarriesAll changes.commands.items w broken) _ r h
   settle_caused now rows w broken r (inr (f, is, silent, h)) =
+      subst (λ e. IfErr e (λ stop. IsCauseOf stop s)) (sym is) tt
+
+  set_caused : (now : ℕ) (rows : List Wanted) (w : Passage) (broken : Bool) (r : Result Outcome Stop)
+      → SetEnds now rows w broken r unsent old new s.writer → IfErr r (λ stop. IsCauseOf stop s)
+  set_caused now rows w broken r (inl (cs, of, h)) = commands_caused (CarriesAll cs w broken) _ r h
+  set_caused now rows w broken r (inr (f, is, silent, h)) =
       subst (λ e. IfErr e (λ stop. IsCauseOf stop s)) (sym is) tt
 
   show_caused : (text : Content → List ℕ) (w : Passage) (broken : Bool) (r : Result Outcome Stop)
@@ -205,6 +213,21 @@ module _ {tells : Turns} {w : Passage} {broken : Bool} {r : Result Outcome Stop}
         begun = calm;
         alone = none;
         caused = settle_caused unsent s.sent_old s.sent_new s now rows.items w broken r works;
+        breaks = (breaks, λ _. inr tt);
+      }
+
+  pub set_done : (rows : Vec Wanted) (now : ℕ) (listed : List Wanted) → listed ≡ rows.items → unread
+      → s.links ≡ [] → (broken ≡ true → FailsStore r)
+      → SetEnds now listed w broken r unsent s.sent_old s.sent_new s.writer
+      → Does tells (SetMerchants rows now) w broken r unread unsent s
+  set_done rows now listed same calm none breaks h =
+      let works : Works tells (SetMerchants rows now) w broken r unread unsent s =
+      subst (λ xs. SetEnds now xs w broken r unsent s.sent_old s.sent_new s.writer) same h in
+      record {
+        works = works;
+        begun = calm;
+        alone = none;
+        caused = set_caused unsent s.sent_old s.sent_new s now rows.items w broken r works;
         breaks = (breaks, λ _. inr tt);
       }
 

@@ -1,8 +1,7 @@
 -- The number of a dead token is purged.
 use Rattle.std.proofs.Common.{◌≡◌, ℕ, Bool, true, false, cond, ◌&&◌, not, List, [], ◌∷◌, map, max, refl}
 use Rattle.std.proofs.Common.{Option, Some, None, sym, ap, ◌∙◌, subst, find, arith, is_some, inl, inr, ◌≢◌}
-use Rattle.std.proofs.Common.{Ok}
-use Rattle.std.proofs.Common.{Err}
+use Rattle.std.proofs.Common.{All, Ok, Err}
 use Rattle.std.specs.Option.{option_map_or}
 use Rattle.std.specs.Cmp.{IsTotalOrder, first_so, second_so, tied_itself}
 use Rattle.std.specs.FinMap as map
@@ -33,8 +32,10 @@ use Rattle.vault_core.proofs.Finds.{find-lookup, find-passes, some_same, true-T}
 use Rattle.vault_core.proofs.Maps.{bytes_exact, bytes_total, entry_exact, entry_total, get-insert_same}
 use Rattle.vault_core.proofs.Maps.{retained-yes, tied}
 use Rattle.vault_core.proofs.Walks.{by_token}
-use Rattle.vault_jobs.specs.Carried.{reply_of}
-use Rattle.vault_jobs.specs.Carried.{Verdict}
+use Rattle.vault_batch.specs.declared.asker.Asker.{Asker}
+use Rattle.vault_changes.proofs.Changing.{each_carried}
+use Rattle.vault_changes.specs.Carried.{IsCarriedOut, Verdict, reply_of}
+use Rattle.vault_jobs.specs.Sweeps.{purge_at, purges_at}
 
 -- what stands first among those that pass is what a search finds
 first_found : {X : Type 0} (p : X → Bool) (xs : List X) (x : X) (rest : List X) → filter p xs ≡ x ∷ rest
@@ -268,3 +269,11 @@ module _ (V : Content) (caller m token : Bytes) (now : ℕ) (rest : List Bytes)
       ended known entry is here (Kept number Live) found e = cc
       ended known entry is here (Kept number Revoked) found _ = without known entry is here
       ended known entry is here (Kept number Expired) found _ = without known entry is here
+
+-- each of the commands that purge these tokens is done or refused
+pub purges_carried : (who : Asker) (now : ℕ) (tokens : List Bytes)
+    → All IsCarriedOut (purges_at who now tokens)
+purges_carried who now = each_carried (purge_at who now) (λ token. record {
+  lives = tt;
+  verdict = purged_or_refused who.caller who.merchant token now;
+})

@@ -24,21 +24,24 @@ use Rattle.vault_listen.specs.Peers.{Link}
 use Rattle.vault_listen.specs.Service.{AllKept, Leaves}
 use Rattle.vault_listen.specs.declared.fault.ListenFault.{ListenFault}
 use Rattle.vault_listen.specs.declared.fault.ListenFault.TheVariants as listen
+use Rattle.vault_merchants.specs.Listed.{Wanted}
 use Rattle.vault_rights.specs.Named.{Row}
 use Rattle.vault_store.specs.declared.vault.Fault.{Fault}
 use Rattle.vault_store.specs.declared.vault.Fault.TheVariants.{Memory, Store, Reopen}
 use Rattle.vault_jobs.specs.Batched.{StopsBatch}
-use Rattle.vault_jobs.specs.Carried.{Carries}
-use Rattle.vault_jobs.specs.Doing.{CommandsEnd, FailsToRead, IsUntouched, ListEnds}
-use Rattle.vault_jobs.specs.Doing.{ServeEnds, SettleEnds, Settles, ShowEnds}
+use Rattle.vault_changes.specs.Carried.{Carries}
+use Rattle.vault_changes.proofs.Refining.{carries_all, over}
+use Rattle.vault_changes.specs.Settling.{FailsToRead, IsUntouched}
+use Rattle.vault_jobs.specs.Doing.{CommandsEnd, ListEnds}
+use Rattle.vault_changes.specs.Settling.{Settles}
+use Rattle.vault_jobs.specs.Doing.{ServeEnds, SetEnds, SettleEnds, ShowEnds}
 use Rattle.vault_jobs.specs.Doing.{SweepEnds, TimedSweepEnds}
-use Rattle.vault_jobs.specs.Grants.{CarriesAll}
 use Rattle.vault_jobs.specs.Piped.{IsPiped, StopsPiping}
 use Rattle.vault_jobs.specs.Streams.{Known}
 use Rattle.vault_jobs.specs.Sweeps.{Sweeps}
 use Rattle.vault_jobs.specs.declared.clock.Giver.{Giver}
 use Rattle.vault_jobs.specs.declared.clock.Giver.TheVariants.{Words, Clock}
-use Rattle.vault_jobs.specs.Carried.{Verdict}
+use Rattle.vault_changes.specs.Carried.{Verdict}
 use Rattle.vault_jobs.specs.declared.stop.Stop.{Stop}
 use Rattle.vault_jobs.specs.declared.stop.Stop.TheVariants.{Vault, Service, Listener, Rights}
 use Rattle.vault_jobs.specs.declared.stop.Stop.TheVariants as stop
@@ -49,11 +52,6 @@ use Rattle.vault_jobs.specs.declared.task.Outcome.TheVariants as outcome
 first_as : {X : Type 0} {us rest : List X} {K L : List (Asked X) → Type 0}
     → ((xs : List (Asked X)) → K xs → L xs) → FirstOf us rest K → FirstOf us rest L
 first_as up s = record { exchanges = s.exchanges; whole = s.whole; known = up s.exchanges s.known }
-
--- the passage over other things
-abbrev pub over : Type 0 → (Content → Type 0) → (Content → Type 0) → (Content → Content → Type 0)
-    → Passage → Passage
-over H O N L w = record w { honest = H; held_old = O; held_new = N; left_new = L }
 
 module _ (H : Type 0) (O N : Content → Type 0) (L : Content → Content → Type 0) (w : Passage)
     (was : (V : Content) → H → O V → IsBefore w V)
@@ -71,17 +69,6 @@ module _ (H : Type 0) (O N : Content → Type 0) (L : Content → Content → Ty
     λ is V b. let it = h.1 is V (was V b.0 b.1) in (it.0, kept b.0 _ it.1),
   )
   carries c broken (Err Reopen) h = absurd h
-
-  pub carries_all : (cs : List Command) (broken : Bool) (r : Result Verdict Fault) → CarriesAll cs w broken r
-      → CarriesAll cs (over H O N L w) broken r
-  carries_all cs broken (Ok (Ok done)) h = λ V b. let it = h V (was V b.0 b.1) in (it.0, kept b.0 _ it.1)
-  carries_all cs broken (Ok (Err n)) (k, below, h) =
-      (k, below, λ V b. let it = h V (was V b.0 b.1) in (it.0, kept b.0 _ it.1))
-  carries_all cs broken (Err Memory) (k, below, h) =
-      (k, below, λ V b. let it = h V (was V b.0 b.1) in (it.0, kept b.0 _ it.1))
-  carries_all cs broken (Err Store) (k, below, h) =
-      (k, below, λ V b. let it = h V (was V b.0 b.1) in (it.0, it.1, torn b.0 _ _ it.2))
-  carries_all cs broken (Err Reopen) h = absurd h
 
   sweeps : (who : Asker) (now : ℕ) (broken : Bool) (r : Result (Result ℕ ℕ) Fault) → Sweeps who now w broken r
       → Sweeps who now (over H O N L w) broken r
@@ -357,7 +344,7 @@ module _ (H : Type 0) (O N : Content → Type 0) (L : Content → Content → Ty
   settles : (now : ℕ) (rows : List Row) (broken : Bool) (r : Result Verdict Fault)
       → Settles now rows w broken r → Settles now rows (over H O N L w) broken r
   settles now rows broken r (changes, of, h) =
-      (changes, λ V b. of V (was V b.0 b.1), carries_all changes.commands.items broken r h)
+      (changes, λ V b. of V (was V b.0 b.1), carries_all H O N L w was kept torn changes.commands.items broken r h)
 
   pub settle_ends : (now : ℕ) (rows : List Row) (broken : Bool) (r : Result Outcome Stop) (unsent : Type 0)
       (old new : Known) (writer : Bool) → SettleEnds now rows w broken r unsent old new writer
@@ -365,9 +352,20 @@ module _ (H : Type 0) (O N : Content → Type 0) (L : Content → Content → Ty
   settle_ends now rows broken r unsent old new writer (inl (changes, of, h)) = inl (
     changes,
     λ V b. of V (was V b.0 b.1),
-    commands_end _ _ (carries_all changes.commands.items broken) _ r unsent old new writer h,
+    commands_end _ _ (carries_all H O N L w was kept torn changes.commands.items broken) _ r unsent old new writer h,
   )
   settle_ends now rows broken r unsent old new writer (inr (f, is, silent, h)) =
+      inr (f, is, silent, fails_to_read broken f h)
+
+  pub set_ends : (now : ℕ) (rows : List Wanted) (broken : Bool) (r : Result Outcome Stop) (unsent : Type 0)
+      (old new : Known) (writer : Bool) → SetEnds now rows w broken r unsent old new writer
+      → SetEnds now rows (over H O N L w) broken r unsent old new writer
+  set_ends now rows broken r unsent old new writer (inl (cs, of, h)) = inl (
+    cs,
+    λ V b. of V (was V b.0 b.1),
+    commands_end _ _ (carries_all H O N L w was kept torn cs broken) _ r unsent old new writer h,
+  )
+  set_ends now rows broken r unsent old new writer (inr (f, is, silent, h)) =
       inr (f, is, silent, fails_to_read broken f h)
 
   pub show_ends : (text : Content → List ℕ) (broken : Bool) (r : Result Outcome Stop) (unsent : Type 0)

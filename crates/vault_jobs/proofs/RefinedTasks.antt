@@ -10,7 +10,7 @@ use Rattle.vault_jobs.specs.Doing.{BatchEnds, Does}
 use Rattle.vault_jobs.specs.Doing.{ListedServeEnds, PipeEnds}
 use Rattle.vault_jobs.specs.Doing.{Works, behind}
 use Rattle.vault_jobs.specs.Listing.{shown_text}
-use Rattle.vault_jobs.specs.Grants.{grants_at}
+use Rattle.vault_changes.specs.Grants.{grants_at}
 use Rattle.vault_jobs.specs.Streams.{Known, Streams}
 use Rattle.vault_jobs.specs.declared.stop.Stop.{Stop}
 use Rattle.vault_jobs.specs.declared.stop.Stop.TheVariants.{Vault, Service, Listener, Rights}
@@ -18,12 +18,13 @@ use Rattle.vault_jobs.specs.declared.stop.Stop.TheVariants as stop
 use Rattle.vault_jobs.specs.declared.task.Outcome.{Outcome}
 use Rattle.vault_jobs.specs.declared.task.Outcome.TheVariants as outcome
 use Rattle.vault_jobs.specs.declared.task.Task.{Task}
-use Rattle.vault_jobs.specs.declared.task.Task.TheVariants.{Change, Give, Settle, Sweep, Batch, Pipe, Serve}
-use Rattle.vault_jobs.specs.declared.task.Task.TheVariants.{Show}
+use Rattle.vault_jobs.specs.declared.task.Task.TheVariants.{Change, Give, Settle, SetMerchants, Sweep, Batch}
+use Rattle.vault_jobs.specs.declared.task.Task.TheVariants.{Pipe, Serve, Show}
 use Rattle.vault_jobs.specs.declared.task.Listed.{Listed}
-use Rattle.vault_jobs.proofs.RefinedPassages.{batched, carries, carries_all, commands_end, list_ends, over}
+use Rattle.vault_changes.proofs.Refining.{carries_all, over}
+use Rattle.vault_jobs.proofs.RefinedPassages.{batched, carries, commands_end, list_ends}
 use Rattle.vault_jobs.proofs.RefinedPassages.{piped, serve_ends}
-use Rattle.vault_jobs.proofs.RefinedPassages.{settle_ends, show_ends, stops_batch, stops_piping}
+use Rattle.vault_jobs.proofs.RefinedPassages.{set_ends, settle_ends, show_ends, stops_batch, stops_piping}
 use Rattle.vault_jobs.proofs.RefinedPassages.{timed_sweep_ends, untouched}
 
 module _ (H : Type 0) (O N : Content → Type 0) (L : Content → Content → Type 0) (w : Passage)
@@ -95,6 +96,8 @@ module _ (H : Type 0) (O N : Content → Type 0) (L : Content → Content → Ty
       (carries_all H O N L w was kept torn (grants_at now rows.items) broken) _ r unsent _ _ _ h
   works tells (Settle rows now) broken r unread unsent h =
       settle_ends H O N L w was kept torn now rows.items broken r unsent _ _ _ h
+  works tells (SetMerchants rows now) broken r unread unsent h =
+      set_ends H O N L w was kept torn now rows.items broken r unsent _ _ _ h
   works tells (Sweep who now giver) broken r unread unsent h =
       timed_sweep_ends H O N L w was kept torn giver who now broken r unsent _ _ _ h
   works tells (Batch who now digits) broken r unread unsent h =

@@ -27,9 +27,9 @@ use Rattle.vault_store.specs.Applied.{Contains, breaks, is_broken, tables_of}
 use Rattle.vault_store.specs.Left.{LeavesBy}
 use Rattle.vault_store.specs.declared.vault.Fault.{Fault}
 use Rattle.vault_store.specs.declared.vault.Fault.TheVariants.{Memory, Store, Reopen}
-use Rattle.vault_jobs.specs.Grants.{AreDone, CarriesAll}
+use Rattle.vault_changes.specs.Grants.{AreDone, CarriesAll}
 use Rattle.vault_jobs.specs.Sweeps.{AreSwept, Begin, Sweeps, left_dead, purge_at, purges_at, swept_vault}
-use Rattle.vault_jobs.proofs.GivenRights.{replies_more, run_more}
+use Rattle.vault_changes.proofs.GivenRights.{replies_more, run_more}
 use Rattle.vault_jobs.proofs.Purging.{purged_first, refused_leaves}
 
 -- commands, and then others

@@ -7,7 +7,7 @@ use Rattle.vault_core.specs.Vault.{Vault as Content}
 use Rattle.vault_core.specs.declared.command.Command.{Command}
 use Rattle.vault_listen.specs.Live.{AreGiven, Turns}
 use Rattle.vault_engine.specs.Asking.{Pair}
-use Rattle.vault_engine.specs.Passing.{IsBefore, Keeps, Passage}
+use Rattle.vault_engine.specs.Passing.{IsBefore, Passage}
 use Rattle.vault_engine.specs.declared.stop.Stop.TheVariants as service
 use Rattle.vault_batch.specs.Stops.{IsBatched}
 use Rattle.vault_batch.specs.declared.asker.Asker.{Asker}
@@ -16,33 +16,37 @@ use Rattle.vault_batch.specs.declared.fault.BatchFault.TheVariants as row
 use Rattle.vault_listen.specs.Peers.{Link}
 use Rattle.vault_listen.specs.Service.{Leaves}
 use Rattle.vault_listen.specs.declared.fault.ListenFault.TheVariants as listener
+use Rattle.vault_merchants.specs.Listed.{Wanted}
 use Rattle.vault_rights.specs.Named.{Row}
+use Rattle.vault_store.specs.Listed.{merchant_rows}
 use Rattle.vault_store.specs.declared.vault.Fault.{Fault}
 use Rattle.vault_store.specs.declared.vault.Fault.TheVariants as vault
+use Rattle.vault_changes.specs.Settings.{settings_at}
+use Rattle.vault_changes.specs.Settling.{FailsToRead, IsUntouched, Settles}
 use Rattle.vault_jobs.specs.Ahead.{is_merchant_ahead, moment_ahead}
 use Rattle.vault_jobs.specs.Batched.{StopsBatch}
-use Rattle.vault_jobs.specs.Carried.{Carries}
+use Rattle.vault_changes.specs.Carried.{Carries}
 use Rattle.vault_jobs.specs.Causes.{IsCauseOf}
-use Rattle.vault_jobs.specs.Grants.{AreDone, CarriesAll, grants_at}
+use Rattle.vault_changes.specs.Grants.{AreDone, CarriesAll, grants_at}
 use Rattle.vault_jobs.specs.Outcomes.{ComesTo, no_outcome}
 use Rattle.vault_jobs.specs.Piped.{IsPiped, StopsPiping}
 use Rattle.vault_jobs.specs.Streams.{Known, Streams}
 use Rattle.vault_jobs.specs.Sweeps.{Sweeps}
 use Rattle.vault_jobs.specs.Tasks.{BreaksBy, HasNoLinks, IsTaskBegun, granted_line}
-use Rattle.vault_jobs.specs.Tasks.{listening_line, purged_line}
+use Rattle.vault_jobs.specs.Tasks.{listening_line, merchants_line, purged_line}
 use Rattle.vault_jobs.specs.declared.clock.Giver.{Giver}
 use Rattle.vault_jobs.specs.declared.clock.Giver.TheVariants.{Words, Clock}
-use Rattle.vault_jobs.specs.Carried.{Verdict}
+use Rattle.vault_changes.specs.Carried.{Verdict}
 use Rattle.vault_jobs.specs.declared.stop.Stop.{Stop}
 use Rattle.vault_jobs.specs.declared.stop.Stop.TheVariants.{Vault}
 use Rattle.vault_jobs.specs.declared.task.Outcome.{Outcome}
 use Rattle.vault_jobs.specs.declared.task.Outcome.TheVariants as outcome
 use Rattle.vault_jobs.specs.declared.task.Task.{Task}
-use Rattle.vault_jobs.specs.declared.task.Task.TheVariants.{Change, Give, Settle, Sweep, Batch, Pipe, Serve}
-use Rattle.vault_jobs.specs.declared.task.Task.TheVariants.{Show}
+use Rattle.vault_jobs.specs.declared.task.Task.TheVariants.{Change, Give, Settle, SetMerchants, Sweep, Batch}
+use Rattle.vault_jobs.specs.declared.task.Task.TheVariants.{Pipe, Serve, Show}
 use Rattle.vault_jobs.specs.declared.task.Listed.{Listed}
-use Rattle.vault_jobs.specs.declared.changes.Changes.{Changes}
-use Rattle.vault_jobs.specs.Changes.{AreChangesOf, settled_line}
+use Rattle.vault_changes.specs.declared.changes.Changes.{Changes}
+use Rattle.vault_changes.specs.Changes.{AreChangesOf, settled_line}
 use Rattle.vault_jobs.specs.Listing.{shown_text}
 
 -- the same passage of a vault, in which a writer took bytes too and a source gave these pairs
@@ -59,17 +63,6 @@ along w s pairs = record w {
 abbrev pub Along : Turns → ℕ → Option ℕ → Option (List ℕ) → Passage → Streams → (Passage → Type 0) → Type 0
 Along tells most now digits w s P = (pairs : List Pair) × (length pairs ≤ most)
     × AreGiven tells now digits pairs × P (along w s pairs)
-
--- the vault that was held is held, and a crash leaves it alone
-abbrev pub IsUntouched : Passage → Type 0
-IsUntouched w = (V : Content) → IsBefore w V → Keeps w V
-
--- A call that only reads failed: the vault that was held is held where memory was refused; where the store
--- failed the vault is broken, and a crash leaves the one that was held.
-abbrev pub FailsToRead : Passage → Bool → Fault → Type 0
-FailsToRead w broken vault.Memory = IsUntouched w
-FailsToRead w broken vault.Store = (broken ≡ true) × ((V : Content) → IsBefore w V → w.left_new V V)
-FailsToRead w broken vault.Reopen = ⊥
 
 -- How commands end that come to a verdict. Done: they came to done, and the line went out. Refused: they came
 -- to this refusal, and nothing went out. Stopped: by the vault, and nothing went out; or by the writer, and
@@ -147,13 +140,6 @@ ServeEnds tells port most w result unsent old new writer links = ComesTo (record
       ⊎ IsListening port old new × Leaves tells most links w (Err f);
 }) result
 
--- The rights become exactly those of a list, or the first commands are done that make them so: the changes
--- are those of the vault before.
-abbrev pub Settles : ℕ → List Row → Passage → Bool → Result Verdict Fault → Type 0
-Settles now rows w broken result = (changes : Changes)
-    × ((V : Content) → IsBefore w V → AreChangesOf true now rows V changes)
-    × CarriesAll changes.commands.items w broken result
-
 -- How a task ends that makes the rights exactly those of a list: its changes end as commands do, with a line
 -- that counts them; or the rights that are held weren't read, or there was no memory for the changes.
 abbrev pub SettleEnds : ℕ → List Row → Passage → Bool → Result Outcome Stop → Type 0 → Known → Known → Bool
@@ -162,6 +148,16 @@ SettleEnds now rows w broken result unsent old new writer =
     ((changes : Changes) × ((V : Content) → IsBefore w V → AreChangesOf true now rows V changes)
     × CommandsEnd (CarriesAll changes.commands.items w broken) (settled_line changes) result unsent old new
     writer)
+    ⊎ ((f : Fault) × (result ≡ Err (Vault f)) × unsent × FailsToRead w broken f)
+
+-- How a task ends that sets the merchants of a list: the settings that the vault lacks end as commands do,
+-- with a line that counts them; or the merchants that are held weren't read, or there was no memory for the
+-- settings.
+abbrev pub SetEnds : ℕ → List Wanted → Passage → Bool → Result Outcome Stop → Type 0 → Known → Known → Bool
+    → Type 0
+SetEnds now rows w broken result unsent old new writer =
+    ((cs : List Command) × ((V : Content) → IsBefore w V → cs ≡ settings_at now rows (merchant_rows V))
+    × CommandsEnd (CarriesAll cs w broken) (merchants_line (length cs)) result unsent old new writer)
     ⊎ ((f : Fault) × (result ≡ Err (Vault f)) × unsent × FailsToRead w broken f)
 
 -- How a task ends that says what the vault holds: with Done the text went out, which is one function of the
@@ -210,6 +206,8 @@ Works tells (Give rows now) w broken result unread unsent s =
     unsent s.sent_old s.sent_new s.writer
 Works tells (Settle rows now) w broken result unread unsent s =
     SettleEnds now rows.items w broken result unsent s.sent_old s.sent_new s.writer
+Works tells (SetMerchants rows now) w broken result unread unsent s =
+    SetEnds now rows.items w broken result unsent s.sent_old s.sent_new s.writer
 Works tells (Sweep who now giver) w broken result unread unsent s =
     TimedSweepEnds giver who now w broken result unsent s.sent_old s.sent_new s.writer
 Works tells (Batch who now digits) w broken result unread unsent s =

@@ -1,11 +1,8 @@
 pub mod Ahead
 pub mod Batched
-pub mod Carried
 pub mod Causes
-pub mod Changes
 pub mod Doing
 pub mod Failing
-pub mod Grants
 pub mod Listing
 pub mod Moments
 pub mod Outcomes

@@ -7,11 +7,12 @@ use Rattle.vault_core.specs.Vault.{Vault as Content}
 use Rattle.vault_core.specs.Words.{right_word}
 use Rattle.vault_core.specs.declared.row.MerchantRow.{MerchantRow}
 use Rattle.vault_store.specs.Listed.{merchant_rows}
-use Rattle.vault_jobs.specs.Changes.{Held, changes_at, changes_text, right_text, rights_of}
+use Rattle.vault_changes.specs.Changes.{Held, changes_at, changes_text, right_text, rights_of}
+use Rattle.vault_changes.specs.Settings.{settings_at}
 use Rattle.vault_jobs.specs.declared.show.Form.{Form}
 use Rattle.vault_jobs.specs.declared.show.Form.TheVariants.{Lines, Objects}
 use Rattle.vault_jobs.specs.declared.show.Shown.{Shown}
-use Rattle.vault_jobs.specs.declared.show.Shown.TheVariants.{Listing, Changes}
+use Rattle.vault_jobs.specs.declared.show.Shown.TheVariants.{Listing, Changes, Settings}
 
 -- a merchant: its lives, its lead, its moment, and its counts
 abbrev pub merchant_line : Form → Bytes × MerchantRow → List ℕ
@@ -45,3 +46,4 @@ list_text form V = flat_map (merchant_line form) (merchant_rows V) ++ flat_map (
 abbrev pub shown_text : Shown → Content → List ℕ
 shown_text (Listing form) V = list_text form V
 shown_text (Changes exact rows now) V = changes_text (changes_at exact now rows.items (rights_of V))
+shown_text (Settings rows now) V = changes_text (settings_at now rows.items (merchant_rows V))

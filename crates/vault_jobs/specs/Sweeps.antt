@@ -12,7 +12,7 @@ use Rattle.vault_batch.specs.declared.asker.Asker.{Asker}
 use Rattle.vault_engine.specs.Passing.{IsBefore, Keeps, Passage}
 use Rattle.vault_store.specs.declared.vault.Fault.{Fault}
 use Rattle.vault_store.specs.declared.vault.Fault.TheVariants.{Memory, Store, Reopen}
-use Rattle.vault_jobs.specs.Grants.{AreDone}
+use Rattle.vault_changes.specs.Grants.{AreDone}
 
 -- the command that purges a token's number
 abbrev pub purge_at : Asker → ℕ → Bytes → Command

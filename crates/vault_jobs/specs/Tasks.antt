@@ -1,7 +1,8 @@
 -- What is done with a vault.
-use Rattle.std.specs.Prelude.{◌≡◌, ◌⊎◌, ℕ, List, [], Bool, true, Some, Result, Ok, Err, ◌++◌}
+use Rattle.std.specs.Prelude.{◌≡◌, ◌⊎◌, ℕ, All, List, [], Bool, true, Some, Result, Ok, Err, ◌++◌}
 use Rattle.std.specs.Prelude.{codes, decimal}
 use Rattle.vault_core.specs.Proper.{HasLivesInRange}
+use Rattle.vault_changes.specs.Settings.{HasLives}
 use Rattle.vault_engine.specs.declared.stop.Stop.TheVariants as service
 use Rattle.vault_batch.specs.declared.fault.BatchFault.TheVariants as row
 use Rattle.vault_listen.specs.declared.fault.ListenFault.TheVariants as listener
@@ -14,7 +15,8 @@ use Rattle.vault_jobs.specs.declared.stop.Stop.TheVariants.{Vault, Service, List
 use Rattle.vault_jobs.specs.declared.stop.Stop.TheVariants as stop
 use Rattle.vault_jobs.specs.declared.task.Outcome.{Outcome}
 use Rattle.vault_jobs.specs.declared.task.Task.{Task}
-use Rattle.vault_jobs.specs.declared.task.Task.TheVariants.{Change, Give, Settle, Sweep, Batch, Pipe, Serve}
+use Rattle.vault_jobs.specs.declared.task.Task.TheVariants.{Change, Give, Settle, SetMerchants, Sweep, Batch}
+use Rattle.vault_jobs.specs.declared.task.Task.TheVariants.{Pipe, Serve}
 
 -- the line of a service that listens
 abbrev pub listening_line : ℕ → List ℕ
@@ -24,13 +26,18 @@ listening_line port = codes "listening " ++ decimal port ++ codes "\n"
 abbrev pub granted_line : ℕ → List ℕ
 granted_line count = codes "granted " ++ decimal count ++ codes "\n"
 
+-- the line of merchants that are set
+abbrev pub merchants_line : ℕ → List ℕ
+merchants_line count = codes "merchants set " ++ decimal count ++ codes "\n"
+
 -- the line of numbers that are purged
 abbrev pub purged_line : ℕ → List ℕ
 purged_line count = codes "purged " ++ decimal count ++ codes "\n"
 
--- the lives of its command are lives
+-- the lives of its command, or of its merchants, are lives
 abbrev pub IsProper : Task → Type 0
 IsProper (Change c) = HasLivesInRange c
+IsProper (SetMerchants rows now) = All HasLives rows.items
 IsProper task = Unit {0}
 
 -- it carries out commands of its own, which may be refused: so does a service that begins with rights
@@ -38,6 +45,7 @@ abbrev pub IsOfCommands : Task → Type 0
 IsOfCommands (Change c) = Unit {0}
 IsOfCommands (Give rows now) = Unit {0}
 IsOfCommands (Settle rows now) = Unit {0}
+IsOfCommands (SetMerchants rows now) = Unit {0}
 IsOfCommands (Sweep who now giver) = Unit {0}
 IsOfCommands (Serve port connections (Some listed)) = Unit {0}
 IsOfCommands task = ⊥

@@ -5,9 +5,9 @@ ghost use Rattle.vault_core.specs.Vault.{Vault as Content};
 ghost use Rattle.vault_store.specs.Applied.{is_broken, tables_of};
 ghost use Rattle.vault_engine.specs.Passing.{IsBefore, Keeps, Passage};
 ghost use Rattle.vault_listen.specs.Peers.{vault_passing};
-ghost use Rattle.vault_jobs.specs.Failing.{BreaksByStore};
+ghost use Rattle.vault_changes.specs.Failing.{BreaksByStore};
 ghost use Rattle.vault_jobs.specs.Ahead.{is_far_ahead, is_merchant_ahead, moment_among};
-ghost use Rattle.vault_jobs.specs.Doing.{FailsToRead};
+ghost use Rattle.vault_changes.specs.Settling.{FailsToRead};
 
 use vault_core::moment::Moment;
 use vault_core::name::MerchantId;

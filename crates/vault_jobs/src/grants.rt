@@ -3,11 +3,11 @@ ghost use Rattle.std.specs.Prelude.{◌≡◌, Err, false};
 ghost use Rattle.vault_store.specs.Applied.{is_broken, tables_of};
 ghost use Rattle.vault_engine.specs.Passing.{Passage};
 ghost use Rattle.vault_listen.specs.Peers.{vault_passing};
-ghost use Rattle.vault_jobs.specs.Failing.{BreaksByStore};
-ghost use Rattle.vault_jobs.specs.Grants.{CarriesAll, grants_at};
+ghost use Rattle.vault_changes.specs.Failing.{BreaksByStore};
+ghost use Rattle.vault_changes.specs.Grants.{CarriesAll, grants_at};
 
-use crate::carry::{Orders, carry_all};
-use crate::changes::ListedRight;
+use vault_changes::carry::{Orders, carry_all};
+use vault_changes::changes::ListedRight;
 use vault_core::command::Command;
 use vault_core::moment::Moment;
 use vault_store::tables::Tables;

@@ -4,15 +4,12 @@
 pub mod ahead;
 pub mod answer;
 pub mod batch;
-mod carry;
-pub mod change;
-pub mod changes;
 pub mod clock;
 pub mod grants;
 pub mod listening;
 pub mod pipe;
-mod settle;
 pub mod show;
+mod shown;
 pub mod source;
 pub mod stop;
 pub mod sweep;

@@ -1,19 +1,21 @@
 //! What a vault holds, in lines.
-ghost use Rattle.std.specs.Prelude.{◌≡◌, ◌++◌, IfOk, decimal};
+ghost use Rattle.std.specs.Prelude.{◌≡◌, ◌++◌, IfOk, codes, decimal};
 ghost use Rattle.std.specs.List.{flat_map};
 ghost use Rattle.vault_core.specs.Words.{right_word};
-ghost use Rattle.vault_jobs.specs.Changes.{change_line, changes_text as changes_text_of, right_text};
-ghost use Rattle.vault_jobs.specs.Changes.{until_text};
+ghost use Rattle.vault_changes.specs.Changes.{change_line, changes_text as changes_text_of, right_text};
+ghost use Rattle.vault_changes.specs.Changes.{setting_text, until_text};
 ghost use Rattle.vault_jobs.specs.Listing.{merchant_line, right_line, until_value};
 
-use crate::changes::ListedRight;
 use itoa::Buffer;
 use std::alloc::{AllocError, Global};
+use vault_changes::changes::ListedRight;
 use vault_core::command::Command;
 use vault_core::moment::Moment;
 use vault_core::name::MerchantId;
 use vault_core::right::Right;
 use vault_core::row::MerchantRow;
+use vault_merchants::read::ListedMerchant;
+use vault_pan::lead::Lead;
 use vault_store::listing::NamedRow;
 use vault_store::tables::RightRow;
 
@@ -34,6 +36,8 @@ pub enum Shown {
     /// What would change if the rights of a list were given at a moment, and, where the first is true, no
     /// others stayed.
     Changes(bool, Vec<ListedRight>, Moment),
+    /// What would be set if the merchants of a list were set at a moment.
+    Settings(Vec<ListedMerchant>, Moment),
 }
 
 /// The word of a right.
@@ -217,7 +221,25 @@ pub(crate) fn list_text(
     Ok(text)
 }
 
-/// The text with the line of a command behind it, if it gives or withdraws a right.
+/// The text with the line of a merchant that is set behind it.
+fn with_setting_line(
+    text: Vec<u8>,
+    name: &MerchantId,
+    single: u64,
+    multi: u64,
+    lead: Lead,
+) -> Result<Vec<u8>, AllocError>
+    ensures { IfOk result (λ v. v.items
+        ≡ text.items ++ (codes "merchant " ++ setting_text name.now single multi lead ++ codes "\n")) }
+{
+    let text = with(text, b"merchant ", name.bytes())?;
+    let text = with(text, b"", b" single ")?;
+    let text = numbered(text, single, b" multi ")?;
+    let text = numbered(text, multi, b" lead ")?;
+    numbered(text, lead.digits(), b"\n")
+}
+
+/// The text with the line of a command behind it, if it sets a merchant, or gives or withdraws a right.
 fn with_change(text: Vec<u8>, command: &Command) -> Result<Vec<u8>, AllocError>
     ensures { IfOk result (λ v. v.items ≡ text.items ++ change_line command.now) }
 {
@@ -235,6 +257,13 @@ fn with_change(text: Vec<u8>, command: &Command) -> Result<Vec<u8>, AllocError>
             right,
             ..
         } => ("withdraw ", caller, merchant, right, None),
+        Command::SetMerchant {
+            merchant,
+            single_life,
+            multi_life,
+            lead,
+            ..
+        } => return with_setting_line(text, &merchant, single_life, multi_life, lead),
         _ => return Ok(text),
     };
     let text = with(text, word.as_bytes(), b"")?;
@@ -242,7 +271,7 @@ fn with_change(text: Vec<u8>, command: &Command) -> Result<Vec<u8>, AllocError>
     with(text, b"\n", b"")
 }
 
-/// The lines of commands that give and withdraw rights.
+/// The lines of commands that set merchants, and give and withdraw rights.
 pub(crate) fn changes_text(alloc: Global, commands: &[Command]) -> Result<Vec<u8>, AllocError>
     ensures { IfOk result (λ v. v.items ≡ changes_text_of commands.now) }
 {

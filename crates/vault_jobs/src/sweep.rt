@@ -3,11 +3,11 @@ ghost use Rattle.std.specs.Prelude.{◌≡◌, Err, false};
 ghost use Rattle.vault_store.specs.Applied.{is_broken, tables_of};
 ghost use Rattle.vault_engine.specs.Passing.{Passage};
 ghost use Rattle.vault_listen.specs.Peers.{vault_passing};
-ghost use Rattle.vault_jobs.specs.Failing.{BreaksByStore};
+ghost use Rattle.vault_changes.specs.Failing.{BreaksByStore};
 ghost use Rattle.vault_jobs.specs.Sweeps.{Sweeps};
 
-use crate::carry::{Orders, carry_all};
 use vault_batch::asker::Asker;
+use vault_changes::carry::{Orders, carry_all};
 use vault_core::command::Command;
 use vault_core::limit::MOST_TOKENS;
 use vault_core::moment::Moment;

@@ -1,31 +1,30 @@
 //! What is done with a vault.
-ghost use Rattle.std.specs.Prelude.{◌≡◌, ◌++◌, IfErr, List, Option, codes, false, length, true};
+ghost use Rattle.std.specs.Prelude.{◌≡◌, ◌++◌, All, IfErr, List, Option, codes, false, length, true};
 ghost use Rattle.vault_core.specs.Proper.{HasLivesInRange};
 ghost use Rattle.vault_store.specs.Applied.{is_broken, tables_of};
 ghost use Rattle.vault_engine.specs.Passing.{Passage};
 ghost use Rattle.vault_listen.specs.Peers.{Event, Link, events_of, vault_passing};
-ghost use Rattle.vault_jobs.specs.Carried.{Carries};
+ghost use Rattle.vault_changes.specs.Carried.{Carries};
 ghost use Rattle.vault_wire.specs.Watching.{inner_of, is_stopped};
 ghost use Rattle.vault_jobs.specs.Causes.{IsCauseOf};
 ghost use Rattle.vault_jobs.specs.Streams.{Streams, streams, with_links};
 ghost use Rattle.vault_jobs.specs.Doing.{BatchEnds, CommandsEnd, Does, ListedServeEnds, PipeEnds};
-ghost use Rattle.vault_jobs.specs.Doing.{SettleEnds, ShowEnds, SweepEnds, TimedSweepEnds};
+ghost use Rattle.vault_jobs.specs.Doing.{SetEnds, SettleEnds, ShowEnds, SweepEnds, TimedSweepEnds};
 ghost use Rattle.vault_jobs.specs.Listing.{shown_text};
-ghost use Rattle.vault_jobs.specs.Grants.{CarriesAll, grants_at};
+ghost use Rattle.vault_changes.specs.Grants.{CarriesAll, grants_at};
+ghost use Rattle.vault_changes.specs.Settings.{HasLives};
 ghost use Rattle.vault_jobs.specs.Tasks.{BreaksBy, BreaksTask, IsProper, granted_line};
 ghost use Rattle.vault_jobs.specs.declared.task.Task.{Task};
 
 use crate::ahead::is_ahead;
 use crate::answer::{answer, answer_text};
 use crate::batch::batch_input;
-use crate::change::change;
-use crate::changes::ListedRight;
 use crate::clock::Giver;
 use crate::grants::give_all;
 use crate::listening::serve_at;
 use crate::pipe::pipe;
-use crate::settle::{settle, text_of};
 use crate::show::Shown;
+use crate::shown::text_of;
 use crate::source::{MOST_MESSAGES, MOST_ROWS, pairs};
 use crate::stop::Stop;
 use crate::sweep::sweep;
@@ -34,11 +33,16 @@ use std::alloc::Global;
 use std::io::{Read, Write};
 use vault_batch::asker::Asker;
 use vault_batch::fault::BatchFault;
+use vault_changes::change::change;
+use vault_changes::changes::ListedRight;
+use vault_changes::settings::set_merchants;
+use vault_changes::settle::settle;
 use vault_core::command::Command;
 use vault_core::moment::Moment;
 use vault_http::fault::ServeFault;
 use vault_listen::network::Network;
 use vault_listen::time::Timekeeper;
+use vault_merchants::read::ListedMerchant;
 use vault_pan::draw::Digits;
 use vault_refusal::refusal::Refusal;
 use vault_store::tables::Tables;
@@ -54,6 +58,8 @@ pub enum Task {
     Give(Vec<ListedRight>, Moment),
     /// Makes the rights exactly these at a moment, to the first change that is refused.
     Settle(Vec<ListedRight>, Moment),
+    /// Sets the merchants of a list at a moment, those that aren't so, to the first that is refused.
+    SetMerchants(Vec<ListedMerchant>, Moment),
     /// Purges the numbers of a merchant's dead tokens at a moment, until none is left or one is refused. At
     /// one that the clock told nothing is purged where the merchant's is far ahead of it.
     Sweep(Asker, Moment, Giver),
@@ -180,6 +186,42 @@ fn do_settle<W: Write, T: Tables>(
                 "\n",
             ];
             match answer(output, &parts) {
+                Ok(()) => Ok(Outcome::Done),
+                Err(fault) => Err(Stop::Service(fault)),
+            }
+        }
+        Ok((Err(number), _)) => Ok(Outcome::Refused(number)),
+        Err(fault) => Err(Stop::Vault(fault)),
+    }
+}
+
+/// Sets the merchants of a list that aren't so, and says how many.
+fn do_set_merchants<W: Write, T: Tables>(
+    alloc: Global,
+    vault: &mut Vault<T>,
+    rows: &[ListedMerchant],
+    now: Moment,
+    output: &mut Watched<W>,
+) -> Result<Outcome, Stop>
+    // the lives of the list are lives
+    requires lives { All HasLives rows.now }
+    requires unbroken { is_broken vault.old ≡ false }
+    // with Done the line went out; with Done or Write, on an honest disk, all are set; else nothing went out
+    ensures does { let w : Passage = vault_passing T.is_honest T.holds T.leaves vault.old vault.new in
+        SetEnds now rows.now w (is_broken vault.new) result (output.new ≡ output.old)
+        (W.contents (inner_of output.old)) (W.contents (inner_of output.new)) (is_stopped output.new) }
+    // the vault is broken only where the store failed
+    ensures breaks { BreaksTask vault.new result }
+    // a disk that is honest after the call was so before it
+    ensures disk_honest { T.is_honest (tables_of vault.new) → T.is_honest (tables_of vault.old) }
+{
+    match set_merchants(alloc, vault, rows, now) {
+        Ok((Ok(()), commands)) => {
+            let mut digits = Buffer::new();
+            match answer(
+                output,
+                &["merchants set ", digits.format(commands.len()), "\n"],
+            ) {
                 Ok(()) => Ok(Outcome::Done),
                 Err(fault) => Err(Stop::Service(fault)),
             }
@@ -401,7 +443,7 @@ pub fn do_task<K: Timekeeper, N: Network, R: Read, W: Write, T: Tables>(
     input: &mut Watched<R>,
     output: &mut Watched<W>,
 ) -> Result<Outcome, Stop>
-    // the lives that the command of a `Change` sets, if any, are in range
+    // the lives that the command of a `Change` sets, if any, and those of a list of merchants are in range
     requires proper { IsProper task.now }
     requires unbroken { is_broken vault.old ≡ false }
     // by how it ends: what it did to the vault, what it read and sent, and which connections the network
@@ -419,6 +461,9 @@ pub fn do_task<K: Timekeeper, N: Network, R: Read, W: Write, T: Tables>(
         Task::Change(ref command) => do_change(vault, command, output),
         Task::Give(ref rights, now) => do_give(vault, rights, now, output),
         Task::Settle(ref rights, now) => do_settle(rt.alloc(), vault, rights, now, output),
+        Task::SetMerchants(ref rows, now) => {
+            do_set_merchants(rt.alloc(), vault, rows, now, output)
+        }
         Task::Sweep(asker, now, giver) => do_sweep(vault, asker, now, giver, output),
         Task::Batch(asker, moment, digits) => {
             do_batch(rt, time, asker, moment, digits, vault, input, output)

@@ -4,7 +4,6 @@ use Rattle.std.specs.Prelude.{IfSome}
 use Rattle.vault_core.specs.Runs.{run}
 use Rattle.vault_core.specs.Vault.{Vault as Content}
 use Rattle.vault_core.specs.declared.command.Command.{Command}
-use Rattle.vault_engine.specs.Answered.{pairs_of}
 use Rattle.vault_engine.specs.Asking.{Asked}
 use Rattle.vault_wire.specs.Parts.{Parts}
 use Rattle.vault_listen.specs.Live.{Turns}
@@ -47,6 +46,7 @@ module _ (tells more : Turns) (so : (turn now : ℕ) → tells turn now → more
   tells_more (task.Change c) V cs s told = told
   tells_more (task.Give rights now) V cs s told = told
   tells_more (task.Settle rights now) V cs s told = told
+  tells_more (task.SetMerchants rows now) V cs s told = told
   tells_more (task.Sweep who now giver) V cs s told = told
   tells_more (task.Batch who now digits) V cs s (asked, own, are, read, went) = (
     asked,
@@ -76,6 +76,7 @@ module _ (tells more : Turns) (so : (turn now : ℕ) → tells turn now → more
   next_more (task.Change c) V cs s x next = next
   next_more (task.Give rights now) V cs s x next = next
   next_more (task.Settle rights now) V cs s x next = next
+  next_more (task.SetMerchants rows now) V cs s x next = next
   next_more (task.Sweep who now giver) V cs s x next = next
   next_more (task.Batch who now digits) V cs s x next = next
   next_more (task.Pipe now digits) V cs s x next = asked_more now digits s cs x next

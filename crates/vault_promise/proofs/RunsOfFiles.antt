@@ -38,7 +38,7 @@ use Rattle.vault_words.specs.Jobs.{IsAsked}
 use Rattle.vault_words.specs.declared.jobs.Job.{Job}
 use Rattle.vault_words.specs.declared.jobs.Job.TheVariants as job
 use Rattle.vault_app.specs.Jobs.{Does as DoesWords, DoesPlan, IsChecked, IsMoved}
-use Rattle.vault_app.specs.Plans.{IsPlanOf, IsProperPlan, IsTaskOf, saying}
+use Rattle.vault_app.specs.Plans.{IsProperPlan, IsTaskOf, saying}
 use Rattle.vault_app.specs.Asked.{AsksFor, schema_line, sound_line}
 use Rattle.vault_app.specs.Values.{AreValues}
 use Rattle.vault_app.specs.World.{World, world_of}
@@ -56,6 +56,7 @@ use Rattle.vault_promise.proofs.MoreTold.{some_more, tells_more}
 use Rattle.vault_promise.proofs.OneKind.{only_move}
 use Rattle.vault_promise.proofs.PipedMessages.{pipe_works}
 use Rattle.vault_promise.proofs.RunHistories.{perhaps_sound}
+use Rattle.vault_promise.proofs.ListedMerchants.{set_works}
 use Rattle.vault_promise.proofs.SettledRights.{listed_serve_works, settle_works, show_works}
 use Rattle.vault_promise.proofs.Spared.{early_free, left_alone, line_free, beside_free, new_spared, no_task}
 use Rattle.vault_promise.proofs.Spared.{none_checked, none_moved, spared_by, trial_free, unasked_free}
@@ -63,7 +64,7 @@ use Rattle.vault_promise.proofs.Sweeping.{timed_sweep_works}
 use Rattle.vault_promise.proofs.TaskAnswers.{Works, change_works, give_works}
 use Rattle.vault_promise.proofs.Unplanned.{Fits, IsAt, any_early, fits, found_at, unasked}
 use Rattle.vault_promise.specs.Runs.{AreNew, AreOf, AsksMove, Bear, Comes, EveryRunIsOne, IsFound, IsRun}
-use Rattle.vault_promise.specs.Runs.{IsSpared, Leads, Leaves, Moments, Spared, file_of, Rests, Run, Work}
+use Rattle.vault_promise.specs.Runs.{IsSpared, Leads, Leaves, Moments, Spared, Rests, Run, Work}
 use Rattle.vault_promise.specs.Runs.{at_moments, perhaps, told_by}
 use Rattle.vault_promise.specs.Told.{IsNext, IsQuiet, Tells}
 
@@ -83,6 +84,8 @@ works tells (task.Give rights now) w V b sound s broken r unread unsent still qu
     give_works tells w V b s unsent quiet F rights now values broken r fin h.works
 works tells (task.Settle rights now) w V b sound s broken r unread unsent still quiet values F fin h =
     settle_works tells w V b sound s unsent quiet F rights now values.0 values.1 broken r fin h.works
+works tells (task.SetMerchants rows now) w V b sound s broken r unread unsent still quiet values F fin h =
+    set_works tells w V b sound s unsent quiet F rows now values broken r fin h.works
 works tells (task.Sweep who now giver) w V b sound s broken r unread unsent still quiet values F fin h =
     timed_sweep_works who now values.0 values.1 values.2 tells w V b sound s unsent quiet F giver broken r fin
     h.works

@@ -147,6 +147,7 @@ module _ (due : OnlyDueIsGiven) (texts : EachIsDue) (faults : FaultsTellNoNumber
   are_due tells (task.Change c) W cs s it = tt
   are_due tells (task.Give rights now) W cs s it = tt
   are_due tells (task.Settle rights now) W cs s it = tt
+  are_due tells (task.SetMerchants rows now) W cs s it = tt
   are_due tells (task.Sweep who now giver) W cs s it = tt
   are_due tells (task.Batch who now digits) W cs s it = λ first more row x is wanted number replied.
       let gives = it.each first more row x is wanted number replied in

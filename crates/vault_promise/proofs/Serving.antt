@@ -16,7 +16,8 @@ use Rattle.vault_listen.specs.Live.{Turns}
 use Rattle.vault_listen.specs.Peers.{Link}
 use Rattle.vault_listen.specs.Service.{AllKept, AllLead, Leads, OneUndecided, link_from}
 use Rattle.vault_listen.specs.declared.fault.ListenFault.TheVariants as listener
-use Rattle.vault_jobs.specs.Doing.{IsUntouched, ServeEnds}
+use Rattle.vault_changes.specs.Settling.{IsUntouched}
+use Rattle.vault_jobs.specs.Doing.{ServeEnds}
 use Rattle.vault_jobs.specs.Streams.{Streams}
 use Rattle.vault_jobs.specs.declared.stop.Stop.{Stop}
 use Rattle.vault_jobs.specs.declared.stop.Stop.TheVariants as stop

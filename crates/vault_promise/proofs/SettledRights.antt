@@ -22,14 +22,15 @@ use Rattle.vault_rights.specs.Named.{Row}
 use Rattle.vault_rows.proofs.Dead.{has_found}
 use Rattle.vault_store.specs.declared.vault.Fault.{Fault}
 use Rattle.vault_store.specs.declared.vault.Fault.TheVariants.{Memory, Store, Reopen}
-use Rattle.vault_jobs.specs.Changes.{AreChangesOf, Held, changes_at, is_held, is_listed, missing_rows}
-use Rattle.vault_jobs.specs.Changes.{rights_of, surplus_rights, withdrawals_at, settled_line}
-use Rattle.vault_jobs.specs.Doing.{FailsToRead, ListEnds, ListedServeEnds, SettleEnds, ShowEnds}
+use Rattle.vault_changes.specs.Changes.{AreChangesOf, Held, changes_at, is_held, is_listed, missing_rows}
+use Rattle.vault_changes.specs.Changes.{rights_of, surplus_rights, withdrawals_at, settled_line}
+use Rattle.vault_changes.specs.Settling.{FailsToRead}
+use Rattle.vault_jobs.specs.Doing.{ListEnds, ListedServeEnds, SettleEnds, ShowEnds}
 use Rattle.vault_jobs.specs.Doing.{behind}
-use Rattle.vault_jobs.specs.Grants.{AreDone, grants_at}
+use Rattle.vault_changes.specs.Grants.{AreDone, grants_at}
 use Rattle.vault_jobs.specs.Listing.{shown_text}
 use Rattle.vault_jobs.specs.Streams.{Streams}
-use Rattle.vault_jobs.specs.declared.changes.Changes.{Changes}
+use Rattle.vault_changes.specs.declared.changes.Changes.{Changes}
 use Rattle.vault_jobs.specs.declared.show.Shown.{Shown}
 use Rattle.vault_jobs.specs.declared.stop.Stop.{Stop}
 use Rattle.vault_jobs.specs.declared.stop.Stop.TheVariants as stop
@@ -43,7 +44,7 @@ use Rattle.vault_promise.proofs.Proper.{proper-append}
 use Rattle.vault_promise.proofs.Serving.{serve_works}
 use Rattle.vault_promise.proofs.TaskAnswers.{Works, commands_works, first_proper, one_more}
 use Rattle.vault_promise.specs.Runs.{perhaps}
-use Rattle.vault_jobs.proofs.GivenRights.{run_more}
+use Rattle.vault_changes.proofs.GivenRights.{run_more}
 use Rattle.vault_app.specs.Values.{AreValues}
 use Rattle.vault_promise.specs.Told.{AllAnswer, IsQuiet, Tells}
 

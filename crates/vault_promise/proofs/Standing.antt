@@ -17,7 +17,7 @@ use Rattle.vault_engine.specs.Asking.{Asked, commands_in, commands_of}
 use Rattle.vault_recover.specs.Histories.{Answered, IsHistory, Step, last}
 use Rattle.vault_listen.specs.Live.{Turns}
 use Rattle.vault_listen.specs.Peers.{Link}
-use Rattle.vault_jobs.specs.Changes.{changes_at, rights_of}
+use Rattle.vault_changes.specs.Changes.{changes_at, rights_of}
 use Rattle.vault_jobs.specs.Streams.{Streams}
 use Rattle.vault_jobs.specs.declared.task.Task.{Task}
 use Rattle.vault_jobs.specs.declared.task.Task.TheVariants as task

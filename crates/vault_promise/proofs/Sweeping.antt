@@ -20,11 +20,11 @@ use Rattle.vault_batch.specs.declared.asker.Asker.{Asker}
 use Rattle.vault_engine.specs.Passing.{IsBefore, Passage}
 use Rattle.vault_store.specs.declared.vault.Fault.TheVariants.{Memory, Store, Reopen}
 use Rattle.vault_listen.specs.Live.{Turns}
-use Rattle.vault_jobs.proofs.GivenRights.{run_more}
+use Rattle.vault_changes.proofs.GivenRights.{run_more}
 use Rattle.vault_jobs.proofs.Purging.{first_dead, purged_first}
 use Rattle.vault_jobs.specs.Ahead.{MaySweep}
 use Rattle.vault_jobs.specs.Doing.{SweepEnds, TimedSweepEnds}
-use Rattle.vault_jobs.specs.Grants.{AreDone}
+use Rattle.vault_changes.specs.Grants.{AreDone}
 use Rattle.vault_jobs.specs.Streams.{Streams}
 use Rattle.vault_jobs.specs.Sweeps.{AreSwept, Begin, left_dead, purge_at, purges_at, swept_vault}
 use Rattle.vault_jobs.specs.declared.clock.Giver.{Giver}

@@ -21,13 +21,13 @@ use Rattle.vault_engine.specs.Passing.{IsBefore, Passage}
 use Rattle.vault_store.specs.declared.vault.Fault.{Fault}
 use Rattle.vault_store.specs.declared.vault.Fault.TheVariants.{Memory, Store, Reopen}
 use Rattle.vault_listen.specs.Live.{Turns}
-use Rattle.vault_jobs.proofs.GivenRights.{run_more}
-use Rattle.vault_jobs.specs.Carried.{Carries, reply_of}
+use Rattle.vault_changes.proofs.GivenRights.{run_more}
+use Rattle.vault_changes.specs.Carried.{Carries, reply_of}
 use Rattle.vault_jobs.specs.Doing.{CommandsEnd}
-use Rattle.vault_jobs.specs.Grants.{AreDone, CarriesAll, grants_at}
+use Rattle.vault_changes.specs.Grants.{AreDone, CarriesAll, grants_at}
 use Rattle.vault_jobs.specs.Streams.{Streams}
 use Rattle.vault_jobs.specs.Tasks.{granted_line}
-use Rattle.vault_jobs.specs.Carried.{Verdict}
+use Rattle.vault_changes.specs.Carried.{Verdict}
 use Rattle.vault_jobs.specs.declared.stop.Stop.{Stop}
 use Rattle.vault_jobs.specs.declared.stop.Stop.TheVariants as stop
 use Rattle.vault_jobs.specs.declared.task.Outcome.{Outcome as Ended}

@@ -53,6 +53,8 @@ module _ (world : World) (moments : Moments)
       (names, (right, now, word, so_moment j.now now moment, same))
   so_task (job.Rights j) t (rows, now, (text, document, said, is, proper, listed), moment, same) =
       (rows, now, (text, document, tt, is, proper, listed), so_moment j.now now moment, same)
+  so_task (job.Merchants j) t (rows, now, (text, said, listed), moment, same) =
+      (rows, now, (text, tt, listed), so_moment j.now now moment, same)
   so_task (job.Serve j) t is = so_serve j.port (unwrap_or j.connections without_end) j.rights t is
   so_task (job.Sweep j) t (names, (who, now, caller, merchant, moment, same)) =
       (names, (who, now, caller, merchant, so_moment j.now now moment, same))
@@ -74,6 +76,8 @@ module _ (world : World) (moments : Moments)
 any_refusal : (world : World) (job : Job) (n : ℕ) → (saying job).refused world n
     → (saying job).refused anything n
 any_refusal world (job.Rights j) n (text, fault, said, is, same, other) = (text, fault, tt, is, same, other)
+any_refusal world (job.Merchants j) n (text, fault, said, is, same, other) =
+    (text, fault, tt, is, same, other)
 any_refusal world (job.Serve j) n h = any_at j.rights h
   where
     any_at : (o : Option (Bor (List ℕ))) → IsRefusedAt world o n → IsRefusedAt anything o n

@@ -8,7 +8,7 @@ use Rattle.vault_core.specs.declared.command.Command.{Command}
 use Rattle.vault_engine.specs.Asking.{Asked, commands_in, commands_of}
 use Rattle.vault_listen.specs.Live.{Turns}
 use Rattle.vault_listen.specs.Peers.{Link}
-use Rattle.vault_jobs.specs.Changes.{changes_at, rights_of}
+use Rattle.vault_changes.specs.Changes.{changes_at, rights_of}
 use Rattle.vault_jobs.specs.Streams.{Streams}
 use Rattle.vault_jobs.specs.declared.task.Task.{Task}
 use Rattle.vault_jobs.specs.declared.task.Task.TheVariants as task
@@ -77,6 +77,9 @@ went_out tells (task.Give rights now) W cs s Is each (inl (quiet, first)) = (inl
 went_out tells (task.Give rights now) W cs s Is each (inr (is, done)) = (inr (is, done), all_first cs _ is)
 went_out tells (task.Settle rights now) W cs s Is each (inl (quiet, first)) = (inl quiet, first)
 went_out tells (task.Settle rights now) W cs s Is each (inr (is, done)) = (inr (is, done), all_first cs _ is)
+went_out tells (task.SetMerchants rows now) W cs s Is each (inl (quiet, first)) = (inl quiet, first)
+went_out tells (task.SetMerchants rows now) W cs s Is each (inr (is, done)) =
+    (inr (is, done), all_first cs _ is)
 went_out tells (task.Sweep who now giver) W cs s Is each (tokens, is, swept, inl quiet, inl (few, calm)) =
     (inl quiet, (tokens, is, swept, inl few))
 went_out tells (task.Sweep who now giver) W cs s Is each (tokens, is, swept, inl quiet, inr may) =

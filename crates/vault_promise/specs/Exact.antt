@@ -7,8 +7,8 @@ use Rattle.vault_core.specs.Runs.{run}
 use Rattle.vault_core.specs.Vault.{Vault as Content, right_at}
 use Rattle.vault_core.specs.declared.right.Right.{Right}
 use Rattle.vault_rights.specs.Named.{Row, row_cmp}
-use Rattle.vault_jobs.specs.Changes.{Key, changes_at, right_of, rights_of}
-use Rattle.vault_jobs.specs.Grants.{AreDone}
+use Rattle.vault_changes.specs.Changes.{Key, changes_at, right_of, rights_of}
+use Rattle.vault_changes.specs.Grants.{AreDone}
 
 -- the end of a right in a list, where it is listed
 abbrev pub listed_end : List Row → Key → Option (Option ℕ)

@@ -28,15 +28,17 @@ use Rattle.vault_wire.specs.Parts.{Parts}
 use Rattle.vault_engine.specs.Asking.{Asked, text_at, texts, vault_after}
 use Rattle.vault_listen.specs.Live.{Turns}
 use Rattle.vault_listen.specs.Peers.{Link}
-use Rattle.vault_jobs.specs.Changes.{changes_at, rights_of}
-use Rattle.vault_jobs.specs.Grants.{AreDone, grants_at}
+use Rattle.vault_changes.specs.Changes.{changes_at, rights_of}
+use Rattle.vault_changes.specs.Grants.{AreDone, grants_at}
+use Rattle.vault_changes.specs.Settings.{settings_at}
+use Rattle.vault_store.specs.Listed.{merchant_rows}
 use Rattle.vault_jobs.specs.Listing.{shown_text}
 use Rattle.vault_jobs.specs.Ahead.{MaySweep}
 use Rattle.vault_jobs.specs.Streams.{Streams}
 use Rattle.vault_jobs.specs.Sweeps.{AreSwept, purges_at}
 use Rattle.vault_jobs.specs.declared.task.Task.{Task}
 use Rattle.vault_jobs.specs.declared.task.Task.TheVariants.{Batch, Change, Give, Pipe, Serve}
-use Rattle.vault_jobs.specs.declared.task.Task.TheVariants.{Settle, Show, Sweep}
+use Rattle.vault_jobs.specs.declared.task.Task.TheVariants.{SetMerchants, Settle, Show, Sweep}
 use Rattle.clap.specs.Words.{Text}
 use Rattle.vault_app.specs.Asked.{AsksFor, AsksHelp}
 use Rattle.vault_app.specs.Plans.{IsTaskOf}
@@ -141,6 +143,8 @@ WentOut tells (Give rights now) W cs s Is =
     (IsQuiet s ⊎ AllDone (Give rights now) W cs) × AreFirst cs (grants_at now rights.items)
 WentOut tells (Settle rights now) W cs s Is = (IsQuiet s ⊎ AllDone (Settle rights now) W cs)
     × AreFirst cs (changes_at true now rights.items (rights_of W))
+WentOut tells (SetMerchants rows now) W cs s Is = (IsQuiet s ⊎ AllDone (SetMerchants rows now) W cs)
+    × AreFirst cs (settings_at now rows.items (merchant_rows W))
 
 -- of each command that a run answered this is true, at the vault that those before it leave
 abbrev pub EachAnswered : {V : Content} {c : Option Command} {r : Run} → Work V c r

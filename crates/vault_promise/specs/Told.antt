@@ -24,14 +24,16 @@ use Rattle.vault_engine.specs.Asking as engine
 use Rattle.vault_batch.specs.Rows.{AreRecordsOf, BeginRecordsOf, Fields, fields_in, records_with}
 use Rattle.vault_listen.specs.Peers.{Link}
 use Rattle.vault_jobs.specs.Ahead.{MaySweep}
-use Rattle.vault_jobs.specs.Changes.{changes_at, rights_of}
-use Rattle.vault_jobs.specs.Grants.{AreDone, grants_at}
+use Rattle.vault_changes.specs.Changes.{changes_at, rights_of}
+use Rattle.vault_changes.specs.Grants.{AreDone, grants_at}
+use Rattle.vault_changes.specs.Settings.{settings_at}
+use Rattle.vault_store.specs.Listed.{merchant_rows}
 use Rattle.vault_jobs.specs.Listing.{shown_text}
 use Rattle.vault_jobs.specs.Streams.{Streams}
 use Rattle.vault_jobs.specs.Sweeps.{AreSwept, Begin, left_dead, purge_at, purges_at}
 use Rattle.vault_jobs.specs.declared.task.Task.{Task}
-use Rattle.vault_jobs.specs.declared.task.Task.TheVariants.{Change, Give, Settle, Sweep, Batch, Pipe, Serve}
-use Rattle.vault_jobs.specs.declared.task.Task.TheVariants.{Show}
+use Rattle.vault_jobs.specs.declared.task.Task.TheVariants.{Change, Give, Settle, SetMerchants, Sweep, Batch}
+use Rattle.vault_jobs.specs.declared.task.Task.TheVariants.{Pipe, Serve, Show}
 
 -- nothing went out
 abbrev pub IsQuiet : Streams → Type 0
@@ -67,12 +69,15 @@ pub record AreRead (tells : Turns) (now : Option ℕ) (digits : Option (List ℕ
   pub given : AreGiven tells now digits (pairs_of rows)
 
 -- what a task tells by being done: its command is done, or all its rights are given, or all changes are done
--- that make the rights those of its list, or no dead token is left and the sweep of them might begin
+-- that make the rights those of its list, or all settings that its merchants lack; or no dead token is left
+-- and the sweep of them might begin
 abbrev pub AllDone : Task → Content → List Command → Type 0
 AllDone (Change c) V cs = (cs ≡ c ∷ []) × (reply V c ≡ Done)
 AllDone (Give rights now) V cs = (cs ≡ grants_at now rights.items) × AreDone (length cs) cs V
 AllDone (Settle rights now) V cs =
     (cs ≡ changes_at true now rights.items (rights_of V)) × AreDone (length cs) cs V
+AllDone (SetMerchants rows now) V cs =
+    (cs ≡ settings_at now rows.items (merchant_rows V)) × AreDone (length cs) cs V
 AllDone (Sweep who now giver) V cs = MaySweep giver V who.merchant now
     × ((tokens : List Bytes) × (cs ≡ purges_at who now tokens) × (left_dead who now tokens V ≡ []))
 AllDone (Show it) V cs = cs ≡ []
@@ -111,7 +116,7 @@ abbrev pub AreFirst : List Command → List Command → Type 0
 AreFirst cs all = (k : ℕ) × (cs ≡ take k all)
 
 -- Commands were answered from the vault V, one after the other, and what went out tells of these alone. A
--- line of `done`, of rights or of numbers that are purged, or a part of it, says that all are done; where a
+-- line of `done`, of rights, of merchants or of numbers that are purged, or a part of it, says that all are done; where a
 -- sweep may not begin, no number is purged, and none of that line went out. Lines of rows and texts of
 -- messages, which were read, are those that answer them, or the first bytes of these; and so are the texts of
 -- each connection of a service. Where that begins with a list of rights, the first commands are those that
@@ -124,6 +129,9 @@ Tells tells (Give rights now) V cs s = IsQuiet s × AreFirst cs (grants_at now r
 Tells tells (Settle rights now) V cs s =
     IsQuiet s × AreFirst cs (changes_at true now rights.items (rights_of V))
     ⊎ (cs ≡ changes_at true now rights.items (rights_of V)) × AreDone (length cs) cs V
+Tells tells (SetMerchants rows now) V cs s =
+    IsQuiet s × AreFirst cs (settings_at now rows.items (merchant_rows V))
+    ⊎ (cs ≡ settings_at now rows.items (merchant_rows V)) × AreDone (length cs) cs V
 Tells tells (Sweep who now giver) V cs s = (tokens : List Bytes) × (cs ≡ purges_at who now tokens)
     × AreSwept who now tokens V × (IsQuiet s ⊎ (left_dead who now tokens V ≡ []))
     × ((tokens ≡ []) × IsQuiet s ⊎ MaySweep giver V who.merchant now)
@@ -159,6 +167,8 @@ IsNext tells (Change c) V cs s x = x ≡ c
 IsNext tells (Give rights now) V cs s x = AreFirst (cs ++ x ∷ []) (grants_at now rights.items)
 IsNext tells (Settle rights now) V cs s x =
     AreFirst (cs ++ x ∷ []) (changes_at true now rights.items (rights_of V))
+IsNext tells (SetMerchants rows now) V cs s x =
+    AreFirst (cs ++ x ∷ []) (settings_at now rows.items (merchant_rows V))
 IsNext tells (Sweep who now giver) V cs s x = (tokens : List Bytes) × (token : Bytes)
     × (cs ≡ purges_at who now tokens) × (x ≡ purge_at who now token)
     × Begin (token ∷ []) (left_dead who now tokens V)

@@ -108,19 +108,22 @@ pub enum Refusal {
     ServiceStore = 63,
     /// Memory was refused for a message.
     ServiceMemory = 64,
-    /// The rights file is no TOML document in UTF-8.
+    /// A list of rights or of merchants is no TOML document in UTF-8.
     NotToml = 70,
     /// The word of an item in it, or of a command, is no right.
     UnknownRight = 71,
     /// A key in it is no name of a caller or a merchant.
     BadKey = 72,
-    /// A caller has no table, a merchant no array, or an item is of another shape.
+    /// A value in it is of another shape: of rights, a caller's no table, a merchant's no array, or an item
+    /// another one; of merchants, no table of `single`, `multi` and perhaps `lead`, each a whole number.
     WrongType = 73,
-    /// Memory was refused while the rights file was read.
+    /// Memory was refused while it was read.
     RightsMemory = 74,
     /// The end of an item in it isn't 0 to 253402300799.
     BadEnd = 75,
-    /// Listening or accepting was refused, or a rights file can't be read.
+    /// A life in a list of merchants isn't 0 to 3155760000, or a lead neither 6 nor 8.
+    BadLives = 76,
+    /// Listening or accepting was refused, or a list can't be read.
     Accept = 80,
     /// A sweep by the clock, and the merchant's moment is over a day ahead of it.
     MomentAhead = 81,
@@ -179,6 +182,7 @@ impl Refusal {
             | Refusal::BadKey
             | Refusal::WrongType
             | Refusal::BadEnd
+            | Refusal::BadLives
             | Refusal::MomentAhead => Some(1),
             Refusal::WrongSchema
             | Refusal::Damaged
@@ -266,6 +270,7 @@ impl Refusal {
             Refusal::WrongType => "a value of the wrong type",
             Refusal::RightsMemory => "memory was refused",
             Refusal::BadEnd => "not an end",
+            Refusal::BadLives => "not lives, or not a lead",
             Refusal::Accept => "listening or accepting was refused",
             Refusal::MomentAhead => "the merchant's time is far ahead of the clock",
         }

@@ -16,7 +16,6 @@ use Rattle.vault_core.specs.Keys.{Bytes, bytes_cmp}
 use Rattle.vault_rights.specs.Faults.{IsFirstFault}
 use Rattle.vault_rights.specs.Named.{Row, row_cmp, IsExtendedBy}
 use Rattle.vault_rights.specs.Proper.{EachMember}
-use Rattle.vault_rights.specs.declared.fault.RightsFault.{RightsFault}
 use Rattle.vault_rights.proofs.Lists.{extended-join, extended-same}
 
 abbrev pub Ascend : List Entry → Type 0
@@ -141,9 +140,9 @@ each-member P (x ∷ es) h key value found =
       | inr on ↦ each-member P es h.1 key value (sym (on _ _) ∙ found)
     ]
 
-pub first-fault : (Good : Bytes → Data → Type 0) (Bad : Bytes → Data → RightsFault → Type 0)
+pub first-fault : {F : Type 0} (Good : Bytes → Data → Type 0) (Bad : Bytes → Data → F → Type 0)
     (done : List Entry) (e : Entry)
-    (more : List Entry) (fault : RightsFault) → Ascend (done ++ e ∷ more) → EachEntry Good done
+    (more : List Entry) (fault : F) → Ascend (done ++ e ∷ more) → EachEntry Good done
     → Bad (string_bytes e.0) (view e.1) fault → IsFirstFault Good Bad (members_view (done ++ e ∷ more)) fault
 first-fault Good Bad done e more fault h good bad = (
   string_bytes e.0,

@@ -61,8 +61,8 @@ IsMerchantFault merchant value fault =
     ⊎ (IsName merchant × ((items : Items) × (value ≡ array items) × IsFirstItemFault items fault)))
 
 -- a key has the fault, and each key before it in byte order is proper
-abbrev pub IsFirstFault : (Bytes → Data → Type 0) → (Bytes → Data → RightsFault → Type 0) → Members
-    → RightsFault → Type 0
+abbrev pub IsFirstFault : {F : Type 0} → (Bytes → Data → Type 0) → (Bytes → Data → F → Type 0) → Members
+    → F → Type 0
 IsFirstFault IsGood IsBad members fault =
     (key : Bytes) × (value : Data) × (get_member key members ≡ Some value) × IsBad key value fault
     × ((before : Bytes) (earlier : Data) → bytes_cmp before key ≡ Less

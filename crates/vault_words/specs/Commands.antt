@@ -3,6 +3,7 @@ pub mod Batch
 pub mod Check
 pub mod Listing
 pub mod Merchant
+pub mod Merchants
 pub mod Migrate
 pub mod Pipe
 pub mod Rights
@@ -16,6 +17,7 @@ use Rattle.vault_words.specs.Commands.Batch.{AsksBatch, batch_app}
 use Rattle.vault_words.specs.Commands.Check.{AsksCheck, check_app}
 use Rattle.vault_words.specs.Commands.Listing.{AsksList, list_app}
 use Rattle.vault_words.specs.Commands.Merchant.{AsksMerchant, merchant_app}
+use Rattle.vault_words.specs.Commands.Merchants.{AsksMerchants, merchants_app}
 use Rattle.vault_words.specs.Commands.Migrate.{AsksMigrate, migrate_app}
 use Rattle.vault_words.specs.Commands.Pipe.{AsksPipe, pipe_app}
 use Rattle.vault_words.specs.Commands.Rights.{AsksGrant, AsksRight, grant_app, withdraw_app}
@@ -46,13 +48,14 @@ root_app =
 -- the program
 abbrev pub program_app : App
 program_app = with_subcommands root_app
-    (trial_app ∷ merchant_app ∷ grant_app ∷ withdraw_app ∷ rights_app ∷ pipe_app ∷ batch_app
-    ∷ serve_app ∷ sweep_app ∷ list_app ∷ check_app ∷ migrate_app ∷ [])
+    (trial_app ∷ merchant_app ∷ merchants_app ∷ grant_app ∷ withdraw_app ∷ rights_app ∷ pipe_app
+    ∷ batch_app ∷ serve_app ∷ sweep_app ∷ list_app ∷ check_app ∷ migrate_app ∷ [])
 
 -- the subcommand of this name, with these values, asks for the job
 abbrev pub Asks : Text → List Row → Job → Type 0
 Asks name rows (job.Trial j) = (name ≡ codes "trial") × AsksTrial rows j
 Asks name rows (job.Merchant j) = (name ≡ codes "merchant") × AsksMerchant rows j
+Asks name rows (job.Merchants j) = (name ≡ codes "merchants") × AsksMerchants rows j
 Asks name rows (job.Grant j) = (name ≡ codes "grant") × AsksGrant rows j
 Asks name rows (job.Withdraw j) = (name ≡ codes "withdraw") × AsksRight rows j
 Asks name rows (job.Rights j) = (name ≡ codes "rights") × AsksRights rows j

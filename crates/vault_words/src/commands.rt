@@ -4,6 +4,7 @@ pub mod batch;
 pub mod check;
 pub mod list;
 pub mod merchant;
+pub mod merchants;
 pub mod migrate;
 pub mod pipe;
 pub mod rights;

@@ -4,6 +4,7 @@ use crate::commands::batch::BatchJob;
 use crate::commands::check::CheckJob;
 use crate::commands::list::ListJob;
 use crate::commands::merchant::MerchantJob;
+use crate::commands::merchants::MerchantsJob;
 use crate::commands::migrate::MigrateJob;
 use crate::commands::pipe::PipeJob;
 use crate::commands::rights::{GrantJob, RightJob};
@@ -35,6 +36,8 @@ pub enum Job<'a> {
     Trial(TrialJob<'a>),
     /// A merchant is set.
     Merchant(MerchantJob<'a>),
+    /// The merchants that a list has are set.
+    Merchants(MerchantsJob<'a>),
     /// A caller is given a right.
     Grant(GrantJob<'a>),
     /// A right is taken from a caller.

@@ -10,6 +10,7 @@ use crate::commands::batch::{BatchJob, batch};
 use crate::commands::check::{CheckJob, check};
 use crate::commands::list::{ListJob, list};
 use crate::commands::merchant::{MerchantJob, merchant};
+use crate::commands::merchants::{MerchantsJob, merchants};
 use crate::commands::migrate::{MigrateJob, migrate};
 use crate::commands::pipe::{PipeJob, pipe};
 use crate::commands::rights::{GrantJob, RightJob, grant, withdraw};
@@ -30,6 +31,7 @@ macro_rules! subcommands {
             $($given),+;
             "trial" trial TrialJob Trial,
             "merchant" merchant MerchantJob Merchant,
+            "merchants" merchants MerchantsJob Merchants,
             "grant" grant GrantJob Grant,
             "withdraw" withdraw RightJob Withdraw,
             "rights" rights RightsFileJob Rights,

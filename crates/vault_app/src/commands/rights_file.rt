@@ -9,9 +9,9 @@ ghost use Rattle.vault_app.specs.Values.{AreValues};
 
 use crate::ending::Ending;
 use std::io::ErrorKind;
+use vault_changes::changes::ListedRight;
 use vault_core::moment::Moment;
 use vault_file::paths::Paths;
-use vault_jobs::changes::ListedRight;
 use vault_jobs::clock::moment;
 use vault_jobs::show::Shown;
 use vault_jobs::stop::Stop;

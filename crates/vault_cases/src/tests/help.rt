@@ -11,19 +11,20 @@ Keeps card numbers, and gives tokens for them
 Usage: vault <COMMAND>
 
 Commands:
-  trial     Answers messages from standard input by a vault in memory
-  merchant  Sets how long a merchant's tokens live, and what its masks show
-  grant     Gives a caller a right at a merchant
-  withdraw  Takes a right at a merchant from a caller
-  rights    Grants what a rights file lists
-  pipe      Answers messages from standard input by the vault in FILE
-  batch     Answers a CSV batch on standard input with tokens
-  serve     Answers messages of connections by the vault in FILE
-  sweep     Purges the card numbers of a merchant's dead tokens
-  list      Lists the merchants and the rights that FILE holds
-  check     Checks that FILE holds a sound vault
-  migrate   Moves FILE to the newest schema
-  help      Print this message or the help of the given subcommand(s)
+  trial      Answers messages from standard input by a vault in memory
+  merchant   Sets how long a merchant's tokens live, and what its masks show
+  merchants  Sets the merchants that a list has
+  grant      Gives a caller a right at a merchant
+  withdraw   Takes a right at a merchant from a caller
+  rights     Grants what a rights file lists
+  pipe       Answers messages from standard input by the vault in FILE
+  batch      Answers a CSV batch on standard input with tokens
+  serve      Answers messages of connections by the vault in FILE
+  sweep      Purges the card numbers of a merchant's dead tokens
+  list       Lists the merchants and the rights that FILE holds
+  check      Checks that FILE holds a sound vault
+  migrate    Moves FILE to the newest schema
+  help       Print this message or the help of the given subcommand(s)
 
 Options:
   -h, --help     Print help
@@ -50,6 +51,33 @@ Options:
 No token lives longer than 3155760000 seconds, 100 years. A mask shows a card
 number's last four digits, and at the left up to 6 of those before the last
 ten, or with --lead 8 up to 8 of those before the last eight.
+";
+
+/// `vault help merchants`
+const MERCHANTS: &str = "\
+Sets the merchants that a list has
+
+Usage: vault merchants [OPTIONS] <FILE> <LIST>
+
+Arguments:
+  <FILE>  The vault's file; it is made if it isn't there
+  <LIST>  The list of merchants, in TOML
+
+Options:
+      --now <T>  The moment, in seconds since 1970, in place of the clock's
+      --dry-run  Says what would change, and changes nothing
+  -h, --help     Print help
+
+A list of merchants has a table for each, of whole numbers: how many seconds
+its single-use and its multi-use tokens live, where 0 offers none, and perhaps
+how many digits its masks show at the left, 6 or 8; 6, if left out:
+
+  [shop1]
+  single = 86400
+  multi = 31536000
+  lead = 8
+
+Merchants that it doesn't have stay as they are.
 ";
 
 /// `vault help grant`
@@ -188,12 +216,13 @@ right, by caller, merchant and right. No card number and no token is shown.
 ";
 
 /// Words that ask for help, and the text that they get.
-const TEXTS: [(&str, &str); 18] = [
+const TEXTS: [(&str, &str); 19] = [
     ("vault --help", PROGRAM),
     ("vault -h", PROGRAM),
     ("vault help", PROGRAM),
     ("vault merchant --help", MERCHANT),
     ("vault help merchant", MERCHANT),
+    ("vault help merchants", MERCHANTS),
     ("vault grant -h", GRANT),
     ("vault help grant", GRANT),
     ("vault rights -h", RIGHTS),
@@ -210,10 +239,11 @@ const TEXTS: [(&str, &str); 18] = [
 ];
 
 /// All commands' helps.
-const HELPS: [&str; 13] = [
+const HELPS: [&str; 14] = [
     "vault help",
     "vault help trial",
     "vault help merchant",
+    "vault help merchants",
     "vault help grant",
     "vault help withdraw",
     "vault help rights",

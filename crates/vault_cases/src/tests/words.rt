@@ -14,7 +14,7 @@ use vault_words::jobs::Job;
 const TWO_GROUPS: &str = "411111111111000000000000000000";
 
 /// Words with options, and the jobs that they ask for.
-const WITH_OPTIONS: [(&str, &str); 19] = [
+const WITH_OPTIONS: [(&str, &str); 21] = [
     (
         "vault trial --now 1000 till-1 shop1 60",
         "Trial(TrialJob { now: Some(Moment { seconds: 1000 }), digits: None, \
@@ -71,6 +71,16 @@ const WITH_OPTIONS: [(&str, &str); 19] = [
         "vault rights v.db --exact rights.toml",
         "Rights(RightsFileJob { now: None, exact: true, dry_run: false, file: \"v.db\", \
          rights: \"rights.toml\" })",
+    ),
+    (
+        "vault merchants --now 10 v.db merchants.toml",
+        "Merchants(MerchantsJob { now: Some(Moment { seconds: 10 }), dry_run: false, \
+         file: \"v.db\", list: \"merchants.toml\" })",
+    ),
+    (
+        "vault merchants v.db merchants.toml --dry-run",
+        "Merchants(MerchantsJob { now: None, dry_run: true, file: \"v.db\", \
+         list: \"merchants.toml\" })",
     ),
     (
         "vault pipe v.db --now 0",

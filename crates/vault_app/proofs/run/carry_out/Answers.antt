@@ -3,8 +3,12 @@ use Rattle.vault_file.specs.declared.fault.NotOpened.TheVariants as file
 use Rattle.vault_verdict.specs.declared.fault.OpenFault.TheVariants.{Memory}
 use Rattle.vault_jobs.proofs.Parts.{unlinked}
 use Rattle.vault_app.proofs.Files.{checked, if_ok, moved}
+use Rattle.vault_app.proofs.Values.{has_lives}
 use Rattle.vault_app.specs.World.{World, world_at}
 use Rattle.vault_app.proofs.run.carry_out.Goals as goal
+
+pub do_on_file-requires : goal.do_on_file-requires
+do_on_file-requires g c = record { proper = has_lives c.in-Do.task (rw c.in-Do.is at c.requires) }
 
 pub returns-in-Ok : goal.returns-in-Ok
 returns-in-Ok g c =

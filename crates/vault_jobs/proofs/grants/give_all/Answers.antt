@@ -1,4 +1,4 @@
-use Rattle.vault_jobs.proofs.Changing.{grants_carried}
+use Rattle.vault_changes.proofs.Changing.{grants_carried}
 use Rattle.vault_jobs.proofs.grants.give_all.Goals as goal
 
 pub carry_all-requires-clause-carried : goal.carry_all-requires-clause-carried

@@ -2,8 +2,8 @@ use Rattle.std.proofs.Common.{◌≡◌, ◌≤◌, ◌∙◌, Err, ap, arith, l
 use Rattle.std.proofs.lemmas.Grind.{common_steps}
 use Rattle.std.proofs.lemmas.Bool.Decides.{nat_tests}
 use Rattle.vault_store.specs.Applied.{is_broken}
-use Rattle.vault_jobs.proofs.Changing.{purges_carried}
-use Rattle.vault_jobs.proofs.GivenRights.{unbroken}
+use Rattle.vault_jobs.proofs.Purging.{purges_carried}
+use Rattle.vault_changes.proofs.GivenRights.{unbroken}
 use Rattle.vault_jobs.proofs.Sweeping.{all_swept, never_ends, none_yet, page_refused, page_stopped}
 use Rattle.vault_jobs.proofs.Sweeping.{page_swept, unread}
 use Rattle.vault_jobs.proofs.sweep.sweep.Goals as goal

@@ -3,7 +3,7 @@ use Rattle.std.specs.Prelude.{true}
 use Rattle.vault_store.specs.Applied.{is_broken}
 use Rattle.vault_listen.proofs.ServedConnections.{none_then}
 use Rattle.vault_jobs.proofs.Listed.{serves_then}
-use Rattle.vault_jobs.specs.Changes.{AreChangesOf}
+use Rattle.vault_changes.specs.Changes.{AreChangesOf}
 use Rattle.vault_jobs.proofs.task.do_serve.Goals as goal
 
 pub returns-in-Ok-Ok-default-clause-does : goal.returns-in-Ok-Ok-default-clause-does

@@ -1,6 +1,8 @@
-use Rattle.std.proofs.Common.{refl}
-use Rattle.vault_jobs.proofs.Parts.{change_done, give_done, serve_done, settle_done, show_done, sweep_done}
-use Rattle.vault_jobs.proofs.Parts.{task_done, unlinked}
+use Rattle.std.proofs.Common.{refl, subst, sym}
+use Rattle.std.specs.Prelude.{All}
+use Rattle.vault_changes.specs.Settings.{HasLives}
+use Rattle.vault_jobs.proofs.Parts.{change_done, give_done, serve_done, set_done, settle_done, show_done}
+use Rattle.vault_jobs.proofs.Parts.{sweep_done, task_done, unlinked}
 use Rattle.vault_jobs.proofs.task.do_task.Goals as goal
 
 pub returns-in-Change-clause-does : goal.returns-in-Change-clause-does
@@ -44,6 +46,17 @@ returns-in-Settle-clause-does g c =
     (settle_done c.in-Settle.rights c.in-Settle.now c.deref-in-Settle.result.now
     c.deref-in-Settle.ensures.value refl refl c.do_settle.ensures.breaks
     (rw c.in-Settle.is at c.do_settle.ensures.does)))
+
+pub returns-in-SetMerchants-clause-does : goal.returns-in-SetMerchants-clause-does
+returns-in-SetMerchants-clause-does g c =
+    rw c.in-SetMerchants.is (unlinked (g.N.Network.tells c.args.network.now) _
+    (set_done c.in-SetMerchants.rows c.in-SetMerchants.now c.deref-in-SetMerchants.result.now
+    c.deref-in-SetMerchants.ensures.value refl refl c.do_set_merchants.ensures.breaks
+    (rw c.in-SetMerchants.is at c.do_set_merchants.ensures.does)))
+
+pub do_set_merchants-requires-clause-lives : goal.do_set_merchants-requires-clause-lives
+do_set_merchants-requires-clause-lives g c =
+    subst (All HasLives) (sym c.deref-in-SetMerchants.ensures.value) (rw c.in-SetMerchants.is at c.requires.proper)
 
 pub returns-in-Show-clause-does : goal.returns-in-Show-clause-does
 returns-in-Show-clause-does g c =

@@ -7,12 +7,12 @@ returns-in-Err c =
     let rows = rows_of (found_of c.args.matches.now) in
     no_trial c.args.name.now rows c.in-trial.is c.in-Err.ensures
 
-pub returns-in-Err-read-5 : goal.returns-in-Err-read-5
-returns-in-Err-read-5 c =
-    let rows = rows_of (found_of c.args.matches.now) in
-    no_pipe c.args.name.now rows c.in-pipe.is c.in-Err-read-5.ensures
-
 pub returns-in-Err-read-6 : goal.returns-in-Err-read-6
 returns-in-Err-read-6 c =
     let rows = rows_of (found_of c.args.matches.now) in
-    no_batch c.args.name.now rows c.in-batch.is c.in-Err-read-6.ensures
+    no_pipe c.args.name.now rows c.in-pipe.is c.in-Err-read-6.ensures
+
+pub returns-in-Err-read-7 : goal.returns-in-Err-read-7
+returns-in-Err-read-7 c =
+    let rows = rows_of (found_of c.args.matches.now) in
+    no_batch c.args.name.now rows c.in-batch.is c.in-Err-read-7.ensures

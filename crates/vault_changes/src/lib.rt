@@ -1,0 +1,9 @@
+//! Commands carried out in their order, and those that make a vault's rights and merchants a list's.
+#![tactic(auto)]
+
+pub mod carry;
+pub mod change;
+pub mod changes;
+pub mod laws;
+pub mod settings;
+pub mod settle;

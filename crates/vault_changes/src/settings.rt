@@ -1,0 +1,158 @@
+//! What makes the merchants of a list those of a vault. No merchant is ever removed.
+ghost use Rattle.std.specs.Prelude.{◌≡◌, ◌++◌, All, Err, IfErr, IfOk, Ok, OnOk, false, true};
+ghost use Rattle.vault_core.specs.Vault.{Vault as Content};
+ghost use Rattle.vault_store.specs.Applied.{is_broken, tables_of};
+ghost use Rattle.vault_store.specs.Listed.{merchant_rows};
+ghost use Rattle.vault_engine.specs.Passing.{IsBefore, Keeps, Passage};
+ghost use Rattle.vault_listen.specs.Peers.{vault_passing};
+ghost use Rattle.vault_changes.specs.Carried.{IsCarriedOut};
+ghost use Rattle.vault_changes.specs.Failing.{BreaksByStore};
+ghost use Rattle.vault_changes.specs.Grants.{CarriesAll};
+ghost use Rattle.vault_changes.specs.Settings.{HasLives, Sets, is_set as is_set_in, setting_for};
+ghost use Rattle.vault_changes.specs.Settings.{settings_at, stands_in};
+ghost use Rattle.vault_changes.specs.Settling.{FailsToRead};
+
+use crate::carry::carry_all;
+use crate::settle::AsTheyStand;
+use std::alloc::{AllocError, Global};
+use vault_core::command::Command;
+use vault_core::moment::Moment;
+use vault_core::row::Lives;
+use vault_merchants::read::ListedMerchant;
+use vault_store::listing::NamedRow;
+use vault_store::tables::Tables;
+use vault_store::vault::{Fault, Vault};
+
+/// Whether the merchant that is held is the one that the row lists, with its lives and its lead.
+fn is_set(held: &NamedRow, row: &ListedMerchant) -> bool
+    ensures { result ≡ is_set_in held.now row.now }
+{
+    held.0.cmp(&row.0).is_eq()
+        && held.1.single_life == row.1
+        && held.1.multi_life == row.2
+        && held.1.lead.digits() == row.3.digits()
+}
+
+/// Whether one of those that are held is.
+fn stands(held: &[NamedRow], row: &ListedMerchant) -> bool
+    ensures { result ≡ stands_in held.now row.now }
+{
+    for it in held {
+        if is_set(it, row) {
+            return true;
+        }
+    }
+    false
+}
+
+/// The command that sets a merchant at a moment, unless it is held so.
+fn setting(held: &[NamedRow], row: &ListedMerchant, now: Moment) -> Option<Command>
+    ensures { result ≡ setting_for held.now row.now now }
+{
+    if stands(held, row) {
+        return None;
+    }
+    Some(Command::setting(row.0, Lives::new(row.1, row.2, row.3, now)))
+}
+
+/// Adds the commands that set, at a moment, the merchants of the rows that aren't held so.
+fn push_settings(
+    commands: &mut Vec<Command>,
+    rows: &[ListedMerchant],
+    held: &[NamedRow],
+    now: Moment,
+) -> Result<(), AllocError>
+    ensures { OnOk result (commands.new.items ≡ commands.old.items ++ settings_at now rows.now held.now) }
+{
+    for row in rows {
+        if let Some(command) = setting(held, row, now) {
+            commands.push(command)?;
+        }
+    }
+    Ok(())
+}
+
+/// The commands that set, at a moment, the merchants of the rows that aren't held so.
+fn settings_of(
+    alloc: Global,
+    rows: &[ListedMerchant],
+    held: &[NamedRow],
+    now: Moment,
+) -> Result<Vec<Command>, AllocError>
+    ensures { IfOk result (λ commands. commands.items ≡ settings_at now rows.now held.now) }
+{
+    let mut commands = Vec::new(alloc);
+    push_settings(&mut commands, rows, held, now)?;
+    Ok(commands)
+}
+
+/// What has to be set so that the merchants of a list are the vault's. Nothing changes by the call.
+///
+/// 20 Memory: memory was refused. 21 Store: the store failed.
+pub fn settings_to<T: Tables>(
+    alloc: Global,
+    vault: &mut Vault<T>,
+    rows: &[ListedMerchant],
+    now: Moment,
+) -> Result<Vec<Command>, Fault>
+    // the vault isn't broken
+    requires { is_broken vault.old ≡ false }
+    // with Ok, on an honest disk, these set what each vault that was held lacks, and that one is kept
+    ensures found { let w : Passage = vault_passing T.is_honest T.holds T.leaves vault.old vault.new in
+        IfOk result (λ it. (V : Content) → IsBefore w V
+        → (it.items ≡ settings_at now rows.now (merchant_rows V)) × Keeps w V) }
+    // with Ok, where the lives of the list are lives, every vault replies to each command by done or a
+    // refusal, and lives that it sets are in range
+    ensures carried { All HasLives rows.now → IfOk result (λ it. All IsCarriedOut it.items) }
+    // on an honest disk, Memory keeps a vault that was held, and Store breaks it, but a crash leaves it;
+    // Reopen never comes
+    ensures failed { let w : Passage = vault_passing T.is_honest T.holds T.leaves vault.old vault.new in
+        IfErr result (FailsToRead w (is_broken vault.new)) }
+    // the vault is broken after Store only
+    ensures broken { BreaksByStore vault.new result }
+    // a disk that is honest after the call was so before it
+    ensures disk_honest { T.is_honest (tables_of vault.new) → T.is_honest (tables_of vault.old) }
+{
+    let held = vault.merchants()?;
+    match settings_of(alloc, rows, held.as_slice(), now) {
+        Ok(commands) => Ok(commands),
+        Err(_) => Err(Fault::Memory),
+    }
+}
+
+/// Sets the merchants of a list: those that a vault hasn't, and those that it has with other lives or another
+/// lead, in the list's order. It ends with the first that is refused: by 18 where there are as many merchants
+/// as there may be. The commands are handed out.
+///
+/// 20 Memory: memory was refused. 21 Store: the store failed.
+pub fn set_merchants<T: Tables>(
+    alloc: Global,
+    vault: &mut Vault<T>,
+    rows: &[ListedMerchant],
+    now: Moment,
+) -> Result<(Result<(), u8>, Vec<Command>), Fault>
+    // the lives of the list are lives
+    requires lives { All HasLives rows.now }
+    requires unbroken { is_broken vault.old ≡ false }
+    // with Ok, on an honest disk, these set what each vault that was held lacks
+    ensures changes { let w : Passage = vault_passing T.is_honest T.holds T.leaves vault.old vault.new in
+        IfOk result (λ it. (V : Content) → IsBefore w V
+        → it.1.items ≡ settings_at now rows.now (merchant_rows V)) }
+    // with Ok, on an honest disk, all are done up to one that is refused, and the vault that they leave is kept
+    ensures carried { let w : Passage = vault_passing T.is_honest T.holds T.leaves vault.old vault.new in
+        IfOk result (λ it. CarriesAll it.1.items w (is_broken vault.new) (Ok it.0)) }
+    // on an honest disk, what was done is kept, and after Store a crash decides on the next; or the merchants
+    // weren't read
+    ensures failed { let w : Passage = vault_passing T.is_honest T.holds T.leaves vault.old vault.new in
+        IfErr result (Sets now rows.now w (is_broken vault.new)) }
+    // the vault is broken after Store only
+    ensures broken { BreaksByStore vault.new result }
+    // a disk that is honest after the call was so before it
+    ensures disk_honest { T.is_honest (tables_of vault.new) → T.is_honest (tables_of vault.old) }
+{
+    let commands = settings_to(alloc, vault, rows, now)?;
+    match carry_all(vault, &AsTheyStand, commands.as_slice()) {
+        Ok(verdict) => Ok((verdict, commands)),
+        Err(fault) => Err(fault),
+    }
+}
