@@ -13,9 +13,9 @@ use Rattle.vault_engine.specs.Passing.{Passage}
 use Rattle.vault_listen.specs.Live.{Turns}
 use Rattle.vault_verdict.specs.declared.sizes.Sizes.{Sizes}
 use Rattle.vault_words.specs.declared.jobs.Job.{Job}
-use Rattle.vault_words.specs.declared.jobs.Job.TheVariants.{Trial, Merchant, Merchants, Grant, Withdraw, Rights}
-use Rattle.vault_words.specs.declared.jobs.Job.TheVariants.{Pipe, Batch, Serve, Sweep, List as Listing, Check}
-use Rattle.vault_words.specs.declared.jobs.Job.TheVariants.{Migrate}
+use Rattle.vault_words.specs.declared.jobs.Job.TheVariants.{Trial, Merchant, Merchants, Grant, Withdraw}
+use Rattle.vault_words.specs.declared.jobs.Job.TheVariants.{Rights, Pipe, Batch, Serve, Sweep, List as Listing}
+use Rattle.vault_words.specs.declared.jobs.Job.TheVariants.{Check, Migrate}
 use Rattle.vault_jobs.specs.Doing.{Works}
 use Rattle.vault_jobs.specs.Doing.{Does as Performs}
 use Rattle.vault_jobs.specs.Streams.{Known, Streams}

@@ -5,9 +5,9 @@ use Rattle.clap.specs.Words.{Text}
 use Rattle.vault_core.specs.Scalar.{IsLife}
 use Rattle.vault_engine.specs.declared.stop.Stop.TheVariants as service
 use Rattle.vault_words.specs.declared.jobs.Job.{Job}
-use Rattle.vault_words.specs.declared.jobs.Job.TheVariants.{Trial, Merchant, Merchants, Grant, Withdraw, Rights}
-use Rattle.vault_words.specs.declared.jobs.Job.TheVariants.{Pipe, Batch, Serve, Sweep, List as Listing, Check}
-use Rattle.vault_words.specs.declared.jobs.Job.TheVariants.{Migrate}
+use Rattle.vault_words.specs.declared.jobs.Job.TheVariants.{Trial, Merchant, Merchants, Grant, Withdraw}
+use Rattle.vault_words.specs.declared.jobs.Job.TheVariants.{Rights, Pipe, Batch, Serve, Sweep, List as Listing}
+use Rattle.vault_words.specs.declared.jobs.Job.TheVariants.{Check, Migrate}
 use Rattle.vault_jobs.specs.declared.stop.Stop.TheVariants as stop
 use Rattle.vault_jobs.specs.declared.task.Task.{Task}
 use Rattle.vault_app.specs.Asked.{AsksFor, Unasked}

@@ -138,7 +138,8 @@ pub fn set_merchants<T: Tables>(
     ensures changes { let w : Passage = vault_passing T.is_honest T.holds T.leaves vault.old vault.new in
         IfOk result (λ it. (V : Content) → IsBefore w V
         → it.1.items ≡ settings_at now rows.now (merchant_rows V)) }
-    // with Ok, on an honest disk, all are done up to one that is refused, and the vault that they leave is kept
+    // with Ok, on an honest disk, all are done up to one that is refused, and the vault that they leave is
+    // kept
     ensures carried { let w : Passage = vault_passing T.is_honest T.holds T.leaves vault.old vault.new in
         IfOk result (λ it. CarriesAll it.1.items w (is_broken vault.new) (Ok it.0)) }
     // on an honest disk, what was done is kept, and after Store a crash decides on the next; or the merchants

@@ -18,7 +18,8 @@ pub enum Stop {
     Service(ServeFault),
     /// 60, 63, 64 or 80: connections weren't all served.
     Listener(ListenFault),
-    /// The list of rights or of merchants wasn't read: 74 where memory was refused, 80 where the host refuses the file.
+    /// The list of rights or of merchants wasn't read: 74 where memory was refused, 80 where the host refuses
+    /// the file.
     Rights(ErrorKind),
     /// 40 to 46: rows weren't all answered.
     Batch(BatchFault),

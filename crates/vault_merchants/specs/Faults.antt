@@ -1,4 +1,5 @@
--- The fault of a list of merchants: that of its first faulty place, in the order in which faults are looked for.
+-- The fault of a list of merchants: that of its first faulty place, in the order in which faults are looked
+-- for.
 use Rattle.std.specs.Prelude.{◌≡◌, ◌⊎◌, ℕ, ℤ, List, Option}
 use Rattle.toml.specs.Data.{Data, Members}
 use Rattle.vault_pan.specs.declared.lead.Lead.{Lead}

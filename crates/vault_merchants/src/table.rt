@@ -44,7 +44,8 @@ fn number_at(members: &Table, key: &str) -> Option<i64>
     Some(number)
 }
 
-/// The whole number that a table says its lead is, or that it says none; nothing, where it says something else.
+/// The whole number that a table says its lead is, or that it says none; nothing, where it says something
+/// else.
 fn lead_at(members: &Table) -> Option<Option<i64>>
     // a number that is given stands there, or nothing does
     ensures stands { IfSome result

@@ -116,12 +116,12 @@ abbrev pub AreFirst : List Command → List Command → Type 0
 AreFirst cs all = (k : ℕ) × (cs ≡ take k all)
 
 -- Commands were answered from the vault V, one after the other, and what went out tells of these alone. A
--- line of `done`, of rights, of merchants or of numbers that are purged, or a part of it, says that all are done; where a
--- sweep may not begin, no number is purged, and none of that line went out. Lines of rows and texts of
--- messages, which were read, are those that answer them, or the first bytes of these; and so are the texts of
--- each connection of a service. Where that begins with a list of rights, the first commands are those that
--- make the rights the list's, and no connection is answered before they are done. What a vault is said to
--- hold is the text of it, or the first bytes of that.
+-- line of `done`, of rights, of merchants or of numbers that are purged, or a part of it, says that all are
+-- done; where a sweep may not begin, no number is purged, and none of that line went out. Lines of rows and
+-- texts of messages, which were read, are those that answer them, or the first bytes of these; and so are
+-- the texts of each connection of a service. Where that begins with a list of rights, the first commands
+-- are those that make the rights the list's, and no connection is answered before they are done. What a
+-- vault is said to hold is the text of it, or the first bytes of that.
 abbrev pub Tells : Turns → Task → Content → List Command → Streams → Type 0
 Tells tells (Change c) V cs s = IsQuiet s × AreFirst cs (c ∷ []) ⊎ (cs ≡ c ∷ []) × (reply V c ≡ Done)
 Tells tells (Give rights now) V cs s = IsQuiet s × AreFirst cs (grants_at now rights.items)

@@ -1,5 +1,5 @@
-//! Commands, replies and faults, and steps over paths, as lines of words, so that a case of a test reads as text: what is asked,
-//! ` = `, and the answer.
+//! Commands, replies and faults, and steps over paths, as lines of words, so that a case of a test reads as
+//! text: what is asked, ` = `, and the answer.
 #![tactic(auto)]
 
 pub mod case;

@@ -16,7 +16,8 @@ abbrev pub merchants_task : MerchantsJob → Vec Wanted → ℕ → Task
 merchants_task j rows now =
     if j.dry_run then task.Show (show.Settings rows now) else task.SetMerchants rows now
 
--- the task of the merchants that its file lists, at the moment that the words fix, or else at one that was told
+-- the task of the merchants that its file lists, at the moment that the words fix, or else at one that was
+-- told
 abbrev pub IsTaskOfMerchants : MerchantsJob → World → Task → Type 0
 IsTaskOfMerchants j world t = (rows : Vec Wanted) × (now : ℕ)
     × AreMerchantsOf (world.says j.list.now) rows.items × IsMomentOf world.tells j.now now

@@ -52,8 +52,8 @@ fn task_of(job: &MerchantsJob<'_>, rows: Vec<ListedMerchant>, now: Moment) -> Ta
     }
 }
 
-/// The merchants that a file lists are set, those that the vault hasn't so, up to the first that is refused: by
-/// 18 where there are as many merchants as there may be. Or it is only said what would change. The vault's
+/// The merchants that a file lists are set, those that the vault hasn't so, up to the first that is refused:
+/// by 18 where there are as many merchants as there may be. Or it is only said what would change. The vault's
 /// file isn't touched where the list isn't read.
 pub(crate) fn task<P: Paths, K: Timekeeper>(
     rt: &HostRuntime,
