@@ -2,6 +2,7 @@
 mod answers;
 mod batch;
 mod files;
+mod paths;
 mod rights;
 mod running;
 mod sequence;

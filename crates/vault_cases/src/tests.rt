@@ -3,6 +3,7 @@
 mod ahead;
 mod answers;
 mod batches;
+mod blank;
 mod bodies;
 mod breaking;
 mod clocks;
