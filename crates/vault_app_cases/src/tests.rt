@@ -2,7 +2,6 @@
 mod answers;
 mod batch;
 mod files;
-mod paths;
 mod rights;
 mod running;
 mod sequence;

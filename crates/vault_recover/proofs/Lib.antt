@@ -1,4 +1,3 @@
-pub mod LeftBy
 pub mod NumbersGiven
 pub mod OneEntry
 pub mod OneToken

@@ -1,8 +1,7 @@
-//! A vault's file is opened, and opened again after a stop.
+//! Files of a vault are opened, and opened again after a stop.
 #![tactic(auto)]
 
 mod cached;
 pub mod laws;
-pub mod open;
 pub mod options;
 pub mod reopen;

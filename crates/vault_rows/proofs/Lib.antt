@@ -5,6 +5,7 @@ pub mod JoinedEntries
 pub mod Kept
 pub mod Listed
 pub mod Lookups
+pub mod Making
 pub mod PointingRow
 pub mod Raised
 pub mod ShownCards

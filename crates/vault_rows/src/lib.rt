@@ -1,4 +1,4 @@
-//! The rows of a vault's tables in SQLite: what one statement reads or writes of each table.
+//! A vault's tables in SQLite: all of them made, and what one statement reads or writes of each.
 #![tactic(auto)]
 
 mod cards;
@@ -7,3 +7,4 @@ pub mod entries;
 pub mod merchants;
 pub mod records;
 pub mod rights;
+pub mod schema;

@@ -1,5 +1,4 @@
 pub mod Gathered
 pub mod ListedShown
-pub mod Making
 pub mod Places
 pub mod WrittenPlus

@@ -8,7 +8,7 @@ use Rattle.vault_migrate.proofs.migrate.make_or_check.Goals as goal
 use Rattle.sqlite.specs.State.{HasCleanDisk}
 use Rattle.sql_maps.specs.Transactions.{KeepsDoubts}
 use Rattle.sql_maps.specs.States.{LeavesNoMore}
-use Rattle.vault_sql.specs.declared.schema.SchemaFault.TheVariants.{Taken}
+use Rattle.vault_rows.specs.declared.schema.SchemaFault.TheVariants.{Taken}
 use Rattle.vault_verdict.specs.Opened.{LeavesFound}
 
 -- a database with tables is checked as it was found

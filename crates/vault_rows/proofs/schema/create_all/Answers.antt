@@ -10,9 +10,9 @@ use Rattle.vault_schema.specs.Making.{IsBegun, IsReady}
 use Rattle.vault_schema.specs.Stands.{lookups_of}
 use Rattle.vault_schema.specs.Stands.{newest}
 use Rattle.vault_rows.proofs.Calls.{held_after, ours}
-use Rattle.vault_sql.proofs.Making.{begun_blank}
-use Rattle.vault_sql.proofs.schema.create_all.Given.{Over}
-use Rattle.vault_sql.proofs.schema.create_all.Goals as goal
+use Rattle.vault_rows.proofs.Making.{begun_blank}
+use Rattle.vault_rows.proofs.schema.create_all.Given.{Over}
+use Rattle.vault_rows.proofs.schema.create_all.Goals as goal
 
 -- what is left is what was committed
 left_is : (g : Over) (c : goal.After-conn-2-1 g) → c.commit.new.self.0 ≡ c.conn-2-1.given.0

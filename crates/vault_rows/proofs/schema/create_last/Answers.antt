@@ -2,8 +2,8 @@ use Rattle.std.proofs.Common.{◌≡◌, ◌∙◌, ◌<◌, ℕ, List, [], Bor,
 use Rattle.std.proofs.lemmas.List.{get_or-map}
 use Rattle.sqlite.specs.Held.{state}
 use Rattle.vault_schema.proofs.Newest.{later_texts}
-use Rattle.vault_sql.proofs.Making.{AreMade, later_more, version_put}
-use Rattle.vault_sql.proofs.schema.create_last.Goals as goal
+use Rattle.vault_rows.proofs.Making.{AreMade, later_more, version_put}
+use Rattle.vault_rows.proofs.schema.create_last.Goals as goal
 
 -- a text of a list is at the same place among what the texts are
 text_at : (i : ℕ) (texts : List (Bor (List ℕ))) (text : Bor (List ℕ)) → i < length texts

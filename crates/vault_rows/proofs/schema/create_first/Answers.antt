@@ -1,6 +1,6 @@
 use Rattle.vault_schema.proofs.Version1.Making.{makes_first as texts}
-use Rattle.vault_sql.proofs.Making.{all_tables, first_made, index_made, table_made}
-use Rattle.vault_sql.proofs.schema.create_first.Goals as goal
+use Rattle.vault_rows.proofs.Making.{all_tables, first_made, index_made, table_made}
+use Rattle.vault_rows.proofs.schema.create_first.Goals as goal
 
 pub returns-clause-done : goal.returns-clause-done
 returns-clause-done g c =

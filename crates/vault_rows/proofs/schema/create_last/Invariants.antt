@@ -1,7 +1,7 @@
 use Rattle.std.proofs.Common.{◌≡◌}
 use Rattle.sqlite.specs.Held.{state}
-use Rattle.vault_sql.proofs.Making.{AreMade}
-use Rattle.vault_sql.proofs.schema.create_last.Given as goal
+use Rattle.vault_rows.proofs.Making.{AreMade}
+use Rattle.vault_rows.proofs.schema.create_last.Given as goal
 
 abbrev pub invariant-loop-text : goal.invariant-loop-text
 invariant-loop-text g l =

@@ -5,7 +5,7 @@ use Rattle.vault_verdict.proofs.Judged.{no_refusal}
 use Rattle.vault_schema.specs.Left.{left_after}
 use Rattle.vault_verdict.proofs.Opening.{apart, opens_vault}
 use Rattle.vault_verdict.proofs.Versioned.{wrong_mixed, wrong_other}
-use Rattle.vault_recover.proofs.open.ready.Goals as goal
+use Rattle.vault_sql.proofs.open.ready.Goals as goal
 
 pub returns-in-Ok-newest_verdict-clause-opens : goal.returns-in-Ok-newest_verdict-clause-opens
 returns-in-Ok-newest_verdict-clause-opens g c clean =

@@ -1,6 +1,6 @@
 use Rattle.std.proofs.Common.{◌∙◌, sym, Err}
 use Rattle.vault_verdict.proofs.Results.{one_fault}
-use Rattle.vault_recover.proofs.open.open.Goals as goal
+use Rattle.vault_sql.proofs.open.open.Goals as goal
 
 pub returns-in-Ok-clause-strange : goal.returns-in-Ok-clause-strange
 returns-in-Ok-clause-strange g c foreign unversioned whole =

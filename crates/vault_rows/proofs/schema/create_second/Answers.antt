@@ -1,6 +1,6 @@
 use Rattle.vault_schema.proofs.Version2.Making.{makes_second as texts}
-use Rattle.vault_sql.proofs.Making.{as_begun, last_index, table_made}
-use Rattle.vault_sql.proofs.schema.create_second.Goals as goal
+use Rattle.vault_rows.proofs.Making.{as_begun, last_index, table_made}
+use Rattle.vault_rows.proofs.schema.create_second.Goals as goal
 
 pub returns-clause-done : goal.returns-clause-done
 returns-clause-done g c clean =

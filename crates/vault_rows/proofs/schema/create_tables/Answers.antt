@@ -2,7 +2,7 @@ use Rattle.std.proofs.Common.{arith}
 use Rattle.sqlite.specs.Held.{state}
 use Rattle.sqlite.specs.State.{HasCleanDisk}
 use Rattle.sql_maps.proofs.Calls.{on_ok}
-use Rattle.vault_sql.proofs.schema.create_tables.Goals as goal
+use Rattle.vault_rows.proofs.schema.create_tables.Goals as goal
 
 -- the tables of schema 1, and over them those that the later ones have besides
 pub returns-clause-done : goal.returns-clause-done

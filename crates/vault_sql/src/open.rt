@@ -14,10 +14,10 @@ ghost use Rattle.vault_verdict.specs.Refusals.{WhereStrange};
 ghost use Rattle.vault_sql.specs.Held.{AreFresh};
 ghost use Rattle.vault_store.specs.Applied.{is_broken, tables_of};
 
+use crate::tables::SqlTables;
 use sqlite::{Alter, Connection};
 use std::alloc::Global;
-use vault_sql::schema::make_schema;
-use vault_sql::tables::SqlTables;
+use vault_rows::schema::make_schema;
 use vault_store::vault::Vault;
 use vault_verdict::fault::OpenFault;
 use vault_verdict::names::{Holder, holder_in};
