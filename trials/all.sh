@@ -37,6 +37,7 @@ try damage.sh all
 try memory.sh all
 try bytes.sh --streams 3000
 try units.sh 2000 all
+try outages.sh
 for script in front haproxy office exporter logs batch spread; do
     try "$script.sh"
 done

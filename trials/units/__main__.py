@@ -1,4 +1,4 @@
-"""The whole trial: python3 -m units PROGRAM REPOSITORY HOW-MANY-FREEZES [all]"""
+"""One of its two parts: python3 -m units PROGRAM REPOSITORY copies [HOW-MANY-FREEZES] [all], or .. outages"""
 
 import functools
 import os
@@ -55,30 +55,46 @@ def killed(tally):
     tally.judge("a trial that is killed leaves no machine", "" if gone else f"{leader} is there still")
 
 
-def main(program, repository, freezes="100", *words):
-    tally = Tally()
+def shop(step):
+    """The shop that the units serve."""
+    step("the first merchant", SHOP + "systemctl enable --now vault", "")
+
+
+def of_copies(tally, machine, step, freezes="100", *words):
+    """Copies under load, copies that are ended, and restores."""
     killed(tally)
+    shop(step)
+    copies.timers(step)
+    copies.under_load(tally, machine, step, int(freezes))
+    copies.ended(tally, machine, step, every="all" in words)
+    copies.too_long(step)
+    copies.fewer(step)
+    copies.ahead(step)
+    restored.looked_at(step)
+    restored.taken_again(step)
+    restored.cut_off(step)
+
+
+def of_outages(tally, machine, step):
+    """What takes the service away: its file, the clock, a port, a hang, its volume."""
+    disks.no_file(step)
+    shop(step)
+    services.jumped(step)
+    # a copy is made of a service that has been frozen
+    services.killed_frozen(step)
+    services.others_port(step)
+    services.hangs(step)
+    disks.full(tally, machine, step)
+    disks.read_only(step)
+    disks.no_inode(step)
+
+
+def main(program, repository, part, *words):
+    tally = Tally()
     with Machine(f"{os.getcwd()}/machine") as machine:
         installed(tally, machine, program, os.path.abspath(repository))
         step = functools.partial(says, tally, machine)
-        disks.no_file(step)
-        step("the first merchant", SHOP + "systemctl enable --now vault", "")
-        copies.timers(step)
-        copies.under_load(tally, machine, step, int(freezes))
-        copies.ended(tally, machine, step, every="all" in words)
-        copies.too_long(step)
-        copies.fewer(step)
-        copies.ahead(step)
-        restored.looked_at(step)
-        restored.taken_again(step)
-        restored.cut_off(step)
-        services.jumped(step)
-        services.killed_frozen(step)
-        services.others_port(step)
-        services.hangs(step)
-        disks.full(tally, machine, step)
-        disks.read_only(step)
-        disks.no_inode(step)
+        {"copies": of_copies, "outages": of_outages}[part](tally, machine, step, *words)
     tally.end()
 
 

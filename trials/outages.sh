@@ -1,0 +1,10 @@
+#!/bin/sh
+# What takes the package's service away, on such a machine: volumes that fill up, turn read-only or aren't
+# there; a port that another vault has, a clock that jumped, and a service that hangs. sh trials/outages.sh
+# [PROGRAM]
+set -eu
+. "$(dirname "$0")/shared/begin.sh"
+wants_root "who boots a machine"
+wants debootstrap
+wants systemd-nspawn systemd-container
+python3 -m units "$program" "$here/.." outages
