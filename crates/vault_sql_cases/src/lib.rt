@@ -1,4 +1,4 @@
-//! Worked cases of vaults in databases: this crate holds tests alone, so that each takes the
+//! Worked cases of vaults in databases and in files: this crate holds tests alone, so that each takes the
 //! libraries as they are proved.
 #![tactic(auto)]
 

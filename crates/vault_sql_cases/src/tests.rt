@@ -4,6 +4,7 @@ mod fresh;
 mod missing;
 mod moved;
 mod over;
+mod paths;
 mod rows;
 mod sent;
 mod sent_again;

@@ -1,6 +1,0 @@
-//! Worked cases of vaults in files at paths: this crate holds tests alone, so that each takes the
-//! libraries as they are proved.
-#![tactic(auto)]
-
-#[cfg(test)]
-mod tests;
